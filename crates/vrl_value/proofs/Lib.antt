@@ -1,0 +1,4 @@
+pub mod Copies
+pub mod Find
+pub mod Put
+pub mod Members

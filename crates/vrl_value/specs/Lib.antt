@@ -1,0 +1,4 @@
+pub mod Moment
+pub mod Tag
+pub mod Tree
+pub mod View

@@ -1,0 +1,6 @@
+-- The range of moments, in nanoseconds since 1970-01-01T00:00:00Z.
+use Rattle.std.specs.Prelude.{ℤ, pos, negsuc, ◌≤ℤ◌}
+
+-- from 0000-01-01T00:00:00Z to the last nanosecond of 9999-12-29
+abbrev pub IsInRange : ℤ → Type 0
+IsInRange nanos = (negsuc 62167219199999999999 ≤ℤ nanos) × (nanos ≤ℤ pos 253402127999999999999)

@@ -1,0 +1,66 @@
+-- A value as a tree. An object has each key once, and its members stand in the order of their keys' bytes.
+use Rattle.std.specs.Prelude.{ℕ, ℤ, Bool, true, false, ◌&&◌, List, Option, Some, None}
+use Rattle.std.specs.Ordering.{nat_cmp, match_ordering}
+use Rattle.std.specs.Cmp.Lexicographic.{slice_cmp}
+
+mutual
+  pub data Tree : Type 0 where
+    -- the bytes of a text
+    string : List ℕ → Tree
+    integer : ℤ → Tree
+    boolean : Bool → Tree
+    null : Tree
+    -- nanoseconds since 1970
+    timestamp : ℤ → Tree
+    -- the number of a literal
+    regex : ℕ → Tree
+    array : Items → Tree
+    object : Members → Tree
+
+  pub data Items : Type 0 where
+    no_items : Items
+    item : Tree → Items → Items
+
+  pub data Members : Type 0 where
+    no_members : Members
+    member : List ℕ → Tree → Members → Members
+
+-- the members with t at the key k, and at every other key what was there
+abbrev pub put : List ℕ → Tree → Members → Members
+put k t no_members = member k t no_members
+put k t (member l u ms) = match_ordering (slice_cmp nat_cmp k l) (member k t (member l u ms)) (member l t ms) (member l u (put k t ms))
+
+-- what stands at the key k
+abbrev pub find : List ℕ → Members → Option Tree
+find k no_members = None
+find k (member l u ms) = match_ordering (slice_cmp nat_cmp k l) (find k ms) (Some u) (find k ms)
+
+-- the tree has neither a timestamp nor a regex in it, so JSON reads and writes each part of it as it is
+abbrev mutual
+  pub is_json : Tree → Bool
+  is_json (string s) = true
+  is_json (integer n) = true
+  is_json (boolean b) = true
+  is_json null = true
+  is_json (timestamp nanos) = false
+  is_json (regex n) = false
+  is_json (array ts) = items_are_json ts
+  is_json (object ms) = members_are_json ms
+
+  pub items_are_json : Items → Bool
+  items_are_json no_items = true
+  items_are_json (item t ts) = is_json t && items_are_json ts
+
+  pub members_are_json : Members → Bool
+  members_are_json no_members = true
+  members_are_json (member k t ms) = is_json t && members_are_json ms
+
+abbrev pub is_object : Tree → Bool
+is_object (string s) = false
+is_object (integer n) = false
+is_object (boolean b) = false
+is_object null = false
+is_object (timestamp nanos) = false
+is_object (regex n) = false
+is_object (array ts) = false
+is_object (object ms) = true

@@ -1,0 +1,16 @@
+//! The values of events: texts, whole numbers, booleans, null, moments, patterns, arrays and objects.
+//!
+//! A contract sees a [`Value`] as its tree, by the one function `tree_of`.
+#![tactic(auto)]
+
+mod lists;
+mod memory;
+mod moment;
+#[cfg(test)]
+mod tests;
+mod value;
+
+pub use lists::{Bytes, Chars, Names};
+pub use memory::Memory;
+pub use moment::Moment;
+pub use value::{Fields, Items, Tag, Value};

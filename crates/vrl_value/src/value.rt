@@ -1,0 +1,186 @@
+ghost use Rattle.std.specs.Prelude.{◌≡◌, IfOk, IsTrue, OnErr, OnOk, option_map};
+ghost use Rattle.vrl_value.specs.Tag.{tag_of};
+ghost use Rattle.vrl_value.specs.Tree.{find, is_json, members_are_json, put};
+ghost use Rattle.vrl_value.specs.View.{items_of, items_view, members_of, members_view, tree_of};
+
+use crate::lists::Chars;
+use crate::memory::Memory;
+use crate::moment::Moment;
+use std::alloc::Global;
+use std::collections::BTreeMap;
+
+/// A value of an event, a variable or an expression. A contract sees `tree_of` it.
+#[cycle(value)]
+#[derive(Drop)]
+pub enum Value {
+    /// A string.
+    Text(Chars),
+    /// A whole number.
+    Int(i64),
+    /// A boolean.
+    Bool(bool),
+    /// Null.
+    Null,
+    /// A timestamp.
+    Time(Moment),
+    /// A regex: the number of its literal among the regex literals of the script, from 0.
+    Pattern(u32),
+    /// An array.
+    List(Items),
+    /// An object.
+    Object(Fields),
+}
+
+impl Value {
+    /// The sort of the value.
+    pub fn tag(&self) -> Tag
+        ensures { result ≡ tag_of (tree_of self.now) }
+    {
+        match self {
+            Value::Text(_) => Tag::Text,
+            Value::Int(_) => Tag::Int,
+            Value::Bool(_) => Tag::Bool,
+            Value::Null => Tag::Null,
+            Value::Time(_) => Tag::Time,
+            Value::Pattern(_) => Tag::Pattern,
+            Value::List(_) => Tag::List,
+            Value::Object(_) => Tag::Object,
+        }
+    }
+
+    /// An equal value, with all that is in it.
+    #[cycle(copy)]
+    pub fn copy(&self, alloc: Global) -> Result<Value, Memory>
+        ensures { IfOk result (λ copy. tree_of copy ≡ tree_of self.now) }
+    {
+        match self {
+            Value::Text(text) => Ok(Value::Text(text.copy(alloc)?)),
+            Value::Int(number) => Ok(Value::Int(*number)),
+            Value::Bool(truth) => Ok(Value::Bool(*truth)),
+            Value::Null => Ok(Value::Null),
+            Value::Time(moment) => Ok(Value::Time(*moment)),
+            Value::Pattern(literal) => Ok(Value::Pattern(*literal)),
+            Value::List(items) => Ok(Value::List(items.copy(alloc)?)),
+            Value::Object(fields) => Ok(Value::Object(fields.copy(alloc)?)),
+        }
+    }
+}
+
+/// What a kind tells apart at a place: the eight sorts of value, and that nothing is there.
+#[derive(Clone, Copy, Debug, PartialEq, Eq)]
+pub enum Tag {
+    Text,
+    Int,
+    Bool,
+    Null,
+    Time,
+    Pattern,
+    List,
+    Object,
+    Absent,
+}
+
+/// The parts of an array, in order.
+#[cycle(value)]
+#[derive(Drop)]
+pub struct Items {
+    items: Vec<Value>,
+}
+
+impl Items {
+    /// These values, which it keeps.
+    pub fn new(items: Vec<Value>) -> Items
+        ensures { items_of result ≡ items_view items.items }
+    {
+        Items { items }
+    }
+
+    /// The values, borrowed.
+    pub fn as_slice(&self) -> &[Value]
+        ensures { items_view result.now ≡ items_of self.now }
+    {
+        &self.items
+    }
+
+    /// The vector that holds the values.
+    pub fn into_vec(self) -> Vec<Value>
+        ensures { items_view result.items ≡ items_of self }
+    {
+        self.items
+    }
+
+    /// Equal values, in the same order.
+    #[cycle(copy)]
+    pub fn copy(&self, alloc: Global) -> Result<Items, Memory>
+        ensures { IfOk result (λ copy. items_of copy ≡ items_of self.now) }
+    {
+        let mut copies = Vec::with_capacity(alloc, self.items.len())?;
+        for item in &self.items {
+            copies.push(item.copy(alloc)?)?;
+        }
+        Ok(Items::new(copies))
+    }
+}
+
+/// The fields of an object, in the order of their names' bytes. No name comes twice.
+#[cycle(value)]
+#[derive(Drop)]
+pub struct Fields {
+    map: BTreeMap<String, Value>,
+}
+
+impl Fields {
+    /// The entries of a map, which it keeps.
+    pub fn new(map: BTreeMap<String, Value>) -> Fields
+        ensures { members_of result ≡ members_view map.entries }
+    {
+        Fields { map }
+    }
+
+    /// The map, borrowed.
+    pub fn as_map(&self) -> &BTreeMap<String, Value>
+        ensures { members_view result.now.entries ≡ members_of self.now }
+    {
+        &self.map
+    }
+
+    /// The value at a name. `None` where no field has the name.
+    pub fn get(&self, name: &str) -> Option<&Value>
+        ensures { option_map (λ value. tree_of value.now) result
+            ≡ find name.now (members_of self.now) }
+    {
+        self.map.get(name)
+    }
+
+    /// Equal fields.
+    #[cycle(copy)]
+    pub fn copy(&self, alloc: Global) -> Result<Fields, Memory>
+        ensures { IfOk result (λ copy. members_of copy ≡ members_of self.now) }
+    {
+        let mut copies = BTreeMap::new(alloc);
+        for (name, value) in self.map.iter() {
+            let key = String::from_str(alloc, name.as_str())?;
+            drop(copies.insert(key, value.copy(alloc)?)?);
+        }
+        Ok(Fields::new(copies))
+    }
+
+    /// Puts a value at a name, in place of what stood there. Out of memory the fields stay as they were.
+    pub fn insert(&mut self, name: Chars, value: Value) -> Result<(), Memory>
+        ensures ok { OnOk result (members_of self.new ≡ put name (tree_of value) (members_of self.old)) }
+        ensures err { OnErr result (members_of self.new ≡ members_of self.old) }
+        ensures json { IsTrue (is_json (tree_of value))
+            → IsTrue (members_are_json (members_of self.old))
+            → IsTrue (members_are_json (members_of self.new)) }
+    {
+        self.map.insert(name.into_string(), value)?;
+        Ok(())
+    }
+
+    /// The map that holds the fields.
+    pub fn into_map(self) -> BTreeMap<String, Value>
+        ensures { members_view result.entries ≡ members_of self }
+    {
+        self.map
+    }
+}
