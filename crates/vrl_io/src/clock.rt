@@ -1,0 +1,14 @@
+ghost use Rattle.std.specs.Prelude.{ℕ, ℤ, Option};
+ghost use Rattle.vrl_io.specs.Moments.{Advances};
+
+use vrl_value::Moment;
+
+/// Tells the time.
+pub trait Clock {
+    /// The moments to come, from the next on, where it tells them.
+    ghost ahead: { Self → Option (ℕ → ℤ) };
+
+    /// The next moment.
+    fn moment(&mut self) -> Moment
+        ensures { Advances (ahead self.old) result (ahead self.new) };
+}

@@ -1,0 +1,43 @@
+ghost use Rattle.std.specs.Prelude.{◌≡◌, pos, min, None};
+ghost use Rattle.std.specs.Duration.{as_nanos};
+
+use crate::clock::Clock;
+use std::rt;
+use std::time::Duration;
+use vrl_value::Moment;
+
+// Nanoseconds from 1970 to the end of 9999-12-29, the last moment.
+const LAST_NANOS: u128 = 253_402_127_999_999_999_999;
+
+/// The clock of a runtime. It does not tell the moments to come.
+#[derive(Drop)]
+pub struct SystemClock<R> {
+    rt: R,
+}
+
+impl<R> SystemClock<R> {
+    /// The clock of this runtime.
+    pub fn new(rt: R) -> SystemClock<R> {
+        SystemClock { rt }
+    }
+}
+
+/// The moment that comes this long after 1970, or the last one, where that is later.
+fn moment_after(since_1970: Duration) -> Moment
+    ensures { result ≡ pos (min (as_nanos since_1970) LAST_NANOS) }
+{
+    let nanos = since_1970.as_nanos().min(LAST_NANOS);
+    Moment::new(nanos as i128).unwrap_or(Moment::epoch())
+}
+
+impl<R: rt::Clock> Clock for SystemClock<R> {
+    ghost ahead = { λ _. None };
+
+    /// The time now, the last moment where it is later, and 1970 where the clock can't be read.
+    fn moment(&mut self) -> Moment {
+        match self.rt.since_1970() {
+            Ok(since_1970) => moment_after(since_1970),
+            Err(_) => Moment::epoch(),
+        }
+    }
+}

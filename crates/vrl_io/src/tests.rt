@@ -1,0 +1,221 @@
+ghost use Rattle.std.specs.Prelude.{◌≤◌, IfOk};
+
+use crate::*;
+use std::alloc::{AllocError, Global};
+use std::io::{self, ErrorKind, Read, Write};
+use std::test::Fail;
+use std::time::Duration;
+use std::vec::IntoIter;
+use std::{env, fs, process, rt};
+use vrl_value::{Bytes, Chars, Moment};
+
+/// What one take into the buffer gave; `None`: it failed.
+fn take_piece<'a, S: Source>(source: &mut S, buffer: &'a mut [u8]) -> Option<&'a [u8]> {
+    let count = source.take(buffer).ok()?;
+    Some(&buffer[..count])
+}
+
+#[test]
+fn memory_source_gives_its_pieces(rt: HostRuntime) -> Result<(), Fail> {
+    let bytes = b"abcdefgh".to_vec(rt.alloc())?;
+    let pieces = vec![in rt.alloc(); 2, 0, 100]?;
+    let mut source = MemorySource::new(bytes, pieces, vec![in rt.alloc(); 1, 3]?);
+    let rows = [
+        Some("ab"),
+        None,
+        Some("c"),
+        None,
+        Some("defg"),
+        Some("h"),
+        Some(""),
+        Some(""),
+    ];
+    for row in rows {
+        assert_eq!(rt; take_piece(&mut source, &mut []), Some(b"".as_slice()));
+        assert_eq!(rt;
+            take_piece(&mut source, &mut [0; 4]),
+            row.map(|text| text.as_bytes())
+        );
+    }
+    Ok(())
+}
+
+#[test]
+fn memory_sink_keeps_what_is_given(rt: HostRuntime) -> Result<(), Fail> {
+    let mut sink = MemorySink::new(rt.alloc(), vec![in rt.alloc(); 1]?);
+    assert_eq!(rt; sink.give(b"ab"), Ok(2));
+    assert_eq!(rt; sink.give(b""), Ok(0));
+    assert_eq!(rt; sink.give(b"cd"), Err(Failed));
+    assert_eq!(rt; sink.give(b"ef"), Ok(2));
+    assert_eq!(rt; sink.written(), b"abef".as_slice());
+    Ok(())
+}
+
+/// What a load of the name gives, up to three bytes.
+fn load_three<S: Store>(store: &mut S, name: &str) -> Result<Bytes, LoadFault> {
+    store.load(name, 3)
+}
+
+/// An entry of a store.
+fn entry(alloc: Global, name: &str, bytes: &[u8]) -> Result<(Chars, Bytes), AllocError> {
+    Ok((
+        Chars::new(String::from_str(alloc, name)?),
+        Bytes::new(bytes.to_vec(alloc)?),
+    ))
+}
+
+#[test]
+fn memory_store_loads_by_name(rt: HostRuntime) -> Result<(), Fail> {
+    let alloc = rt.alloc();
+    let held = vec![in alloc;
+        entry(alloc, "a", b"first")?,
+        entry(alloc, "a", b"second")?,
+        entry(alloc, "b", b"x")?,
+    ]?;
+    let mut store = MemoryStore::new(alloc, held, vec![in alloc; 2]?);
+    assert_eq!(rt; load_three(&mut store, "a")?.as_slice(), b"fir".as_slice());
+    assert_eq!(rt; load_three(&mut store, "c").err(), Some(LoadFault::Failed));
+    assert_eq!(rt; load_three(&mut store, "a").err(), Some(LoadFault::Failed));
+    assert_eq!(rt; load_three(&mut store, "b")?.as_slice(), b"x".as_slice());
+    assert_eq!(rt; store.failures().len(), 2);
+    assert_eq!(rt; store.failures()[0].as_str(), "c");
+    assert_eq!(rt; store.failures()[1].as_str(), "a");
+    Ok(())
+}
+
+/// The nanoseconds of the next moment.
+fn next_nanos<C: Clock>(clock: &mut C) -> i128 {
+    clock.moment().nanos()
+}
+
+#[test]
+fn memory_clock_tells_its_moments(rt: HostRuntime) -> Result<(), Fail> {
+    let mut moments = Vec::new(rt.alloc());
+    for nanos in [5, -7] {
+        moments.push(Moment::new(nanos).ok_or("out of range")?)?;
+    }
+    let mut clock = MemoryClock::new(moments);
+    assert_eq!(rt; next_nanos(&mut clock), 5);
+    assert_eq!(rt; next_nanos(&mut clock), -7);
+    assert_eq!(rt; next_nanos(&mut clock), 0);
+    Ok(())
+}
+
+/// A device whose calls have these outcomes: the number of bytes that it takes or gives, each the letter
+/// `x`, or how it fails; after the last it is at its end.
+#[derive(Drop)]
+struct Scripted {
+    outcomes: IntoIter<Result<usize, ErrorKind>>,
+}
+
+impl Scripted {
+    fn next(&mut self, most: usize) -> io::Result<usize>
+        ensures { IfOk result (λ n. n ≤ most) }
+    {
+        match self.outcomes.next() {
+            Some(Ok(count)) => Ok(count.min(most)),
+            Some(Err(kind)) => Err(io::Error::from(kind)),
+            None => Ok(0),
+        }
+    }
+}
+
+impl Read for Scripted {
+    fn read(&mut self, buffer: &mut [u8]) -> io::Result<usize> {
+        let count = self.next(buffer.len())?;
+        buffer[..count].fill(b'x');
+        Ok(count)
+    }
+}
+
+impl Write for Scripted {
+    fn write(&mut self, bytes: &[u8]) -> io::Result<usize> {
+        self.next(bytes.len())
+    }
+
+    fn flush(&mut self) -> io::Result<()> {
+        Ok(())
+    }
+}
+
+/// Interrupted once, then 2, then a failure, then 1.
+fn make_scripted(alloc: Global) -> Result<Scripted, AllocError> {
+    let outcomes = vec![in alloc;
+        Err(ErrorKind::Interrupted),
+        Ok(2),
+        Err(ErrorKind::Other),
+        Ok(1),
+    ]?;
+    Ok(Scripted {
+        outcomes: outcomes.into_iter(),
+    })
+}
+
+#[test]
+fn std_source_reads(rt: HostRuntime) -> Result<(), Fail> {
+    let mut source = StdSource::new(make_scripted(rt.alloc())?);
+    let rows = [Some("xx"), None, Some("x"), Some(""), Some("")];
+    for row in rows {
+        assert_eq!(rt;
+            take_piece(&mut source, &mut [0; 4]),
+            row.map(|text| text.as_bytes())
+        );
+    }
+    Ok(())
+}
+
+#[test]
+fn std_sink_writes(rt: HostRuntime) -> Result<(), Fail> {
+    let mut sink = StdSink::new(make_scripted(rt.alloc())?);
+    let rows = [Ok(2), Err(Failed), Ok(1), Err(Failed)];
+    for row in rows {
+        assert_eq!(rt; sink.give(b"abc"), row);
+    }
+    Ok(())
+}
+
+#[test]
+fn file_store_loads_files(rt: HostRuntime) -> Result<(), Fail> {
+    let alloc = rt.alloc();
+    let folder = env::temp_dir(&rt)?;
+    let number = process::id(rt.process());
+    let path = format!(in alloc; "{}/vrl_io-{number}", folder.display())?;
+    fs::write(&rt, path.as_str(), b"abcde")?;
+    let mut store = FileStore::new(&rt, alloc);
+    let loaded = load_three(&mut store, path.as_str());
+    fs::remove_file(&rt, path.as_str())?;
+    assert_eq!(rt; loaded?.as_slice(), b"abc".as_slice());
+    assert_eq!(rt;
+        load_three(&mut store, path.as_str()).err(),
+        Some(LoadFault::Failed)
+    );
+    assert_eq!(rt; store.failures().len(), 1);
+    assert_eq!(rt; store.failures()[0].as_str(), path.as_str());
+    Ok(())
+}
+
+/// A clock that tells one time; `None`: it can't be read.
+#[derive(Drop)]
+struct Fixed(Option<Duration>);
+
+impl rt::Clock for Fixed {
+    fn monotonic(&self) -> io::Result<Duration> {
+        self.since_1970()
+    }
+
+    fn since_1970(&self) -> io::Result<Duration> {
+        self.0.ok_or(io::Error::from(ErrorKind::Other))
+    }
+}
+
+#[test]
+fn system_clock_keeps_to_the_range(rt: HostRuntime) {
+    let rows = [
+        (Some(Duration::from_millis(1500)), 1_500_000_000),
+        (Some(Duration::MAX), 253_402_127_999_999_999_999),
+        (None, 0),
+    ];
+    for (time, nanos) in rows {
+        assert_eq!(rt; next_nanos(&mut SystemClock::new(Fixed(time))), nanos);
+    }
+}
