@@ -1,0 +1,44 @@
+use super::*;
+use std::test::Fail;
+
+#[test]
+fn kinds_have_their_tags(rt: HostRuntime) -> Result<(), Fail> {
+    let alloc = rt.alloc();
+    let json = Kind::json(alloc)?;
+    let any = Kind::any(alloc)?;
+    let never = Kind::never(alloc)?;
+    let rows = [
+        (Tag::Text, true, true),
+        (Tag::Int, true, true),
+        (Tag::Bool, true, true),
+        (Tag::Null, true, true),
+        (Tag::Time, false, true),
+        (Tag::Pattern, false, true),
+        (Tag::List, true, true),
+        (Tag::Object, true, true),
+        (Tag::Absent, false, false),
+    ];
+    assert_eq!(rt; rows.len(), TAGS.len());
+    for (tag, in_json, in_any) in rows {
+        assert_eq!(rt; Kind::has(&json, tag), in_json, "json, {tag:?}");
+        assert_eq!(rt; Kind::has(&any, tag), in_any, "any, {tag:?}");
+        assert!(rt; !Kind::has(&never, tag), "never, {tag:?}");
+    }
+    Ok(())
+}
+
+#[test]
+fn kinds_are_compared(rt: HostRuntime) -> Result<(), Fail> {
+    let alloc = rt.alloc();
+    let text = Kind::of(alloc, Tag::Text)?;
+    let null = Kind::of(alloc, Tag::Null)?;
+    let either = Kind::join(alloc, &text, &null)?;
+    let rest = Kind::without(alloc, &either, Tag::Null)?;
+    let same = either.copy(alloc)?;
+    assert!(rt; Kind::within(&text, &same) && Kind::within(&null, &same));
+    assert!(rt; !Kind::within(&same, &text));
+    assert!(rt; Kind::within(&rest, &text) && Kind::within(&text, &rest));
+    assert!(rt; Kind::disjoint(&rest, &null));
+    assert!(rt; !Kind::disjoint(&same, &null));
+    Ok(())
+}
