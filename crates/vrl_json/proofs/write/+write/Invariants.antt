@@ -1,0 +1,31 @@
+use Rattle.std.proofs.Common.{◌≡◌, ◌++◌, ◌≤◌, drop}
+use Rattle.vrl_value.specs.View.{tree_of, items_of, members_of, items_view, members_view}
+use Rattle.vrl_json.specs.Tokens.{items_tokens, members_tokens}
+use Rattle.vrl_json.proofs.Sizes.{size_of, items_size, members_size}
+use Rattle.vrl_json.proofs.write.+write.Given as goal
+
+abbrev pub decreases-write_value : goal.decreases-write_value
+decreases-write_value l = size_of (tree_of l.value.now)
+
+abbrev pub decreases-write_items : goal.decreases-write_items
+decreases-write_items l = items_size (items_of l.items.now)
+
+abbrev pub decreases-write_members : goal.decreases-write_members
+decreases-write_members l = members_size (members_of l.fields.now)
+
+-- what is written, and then what is left, is the whole
+abbrev pub invariant-write_items-loop-item : goal.invariant-write_items-loop-item
+invariant-write_items-loop-item l =
+    let left = items_view (drop l.item-index l.item-items) in record {
+      before : l.out.before ≡ l.initial.out.before;
+      whole : l.out.tokens ++ items_tokens left ≡ l.initial.out.tokens ++ items_tokens (items_of l.items);
+      fewer : items_size left ≤ items_size (items_of l.items);
+    }
+
+abbrev pub invariant-write_members-loop-name : goal.invariant-write_members-loop-name
+invariant-write_members-loop-name l =
+    let left = members_view l.name-iterator in record {
+      before : l.out.before ≡ l.initial.out.before;
+      whole : l.out.tokens ++ members_tokens left ≡ l.initial.out.tokens ++ members_tokens (members_of l.fields);
+      fewer : members_size left ≤ members_size (members_of l.fields);
+    }

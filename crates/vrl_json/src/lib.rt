@@ -1,0 +1,14 @@
+//! Lines of JSON: a line's bytes to its value, and a value to its line.
+//!
+//! What a text stands for, and which text a value has, is `serde_json`'s own definition.
+#![tactic(auto)]
+
+mod fault;
+mod read;
+#[cfg(test)]
+mod tests;
+mod write;
+
+pub use fault::JsonFault;
+pub use read::{from_line, lines_are_objects};
+pub use write::to_line;
