@@ -1,0 +1,5 @@
+use Rattle.vrl_compile.proofs.ScriptSound.{script_is_sound}
+use Rattle.vrl_compile.proofs.soundness.scripts_are_sound.Goals as goal
+
+pub returns : goal.returns
+returns c = script_is_sound

@@ -1,0 +1,22 @@
+-- What the values of a run stand for.
+use Rattle.std.specs.Prelude.{◌++◌, codes}
+use Rattle.vrl_value.specs.Tree.{Tree}
+use Rattle.vrl_value.specs.View.{tree_of, members_of}
+use Rattle.vrl_compile.specs.Meaning.{Store, Outcome, value, error, sum_of, word_of}
+use Rattle.vrl_compile.specs.declared.execution.Store.{Store as CodeStore}
+use Rattle.vrl_compile.specs.declared.execution.Outcome.{Outcome as CodeOutcome}
+use Rattle.vrl_compile.specs.declared.execution.Outcome.TheVariants as code
+
+-- the event and the variables as trees
+abbrev pub store_view : CodeStore → Store
+store_view store = record { event = tree_of store.event; variables = members_of store.variables }
+
+-- a value as its tree, and an error as its text
+abbrev pub outcome_view : CodeOutcome → Outcome
+outcome_view (code.Value v) = value (tree_of v)
+outcome_view (code.CannotAdd left right) = error (codes "cannot apply + to " ++ (word_of left ++ (codes " and " ++ word_of right)))
+
+-- the sum of what came before and a value; an error stays
+abbrev pub sum_with : Outcome → Tree → Outcome
+sum_with (value v) w = sum_of v w
+sum_with (error text) w = error text

@@ -1,0 +1,15 @@
+pub mod Addition
+pub mod Answer
+pub mod Environment
+pub mod Execution
+pub mod Judged
+pub mod Judgement
+pub mod Lexical
+pub mod Lines
+pub mod Meaning
+pub mod Program
+pub mod Scan
+pub mod Script
+pub mod Soundness
+pub mod Syntax
+pub mod Token

@@ -1,0 +1,21 @@
+//! Scripts: what a text says, whether it is accepted, and what an accepted script does to an event.
+#![tactic(auto)]
+
+mod addition;
+mod chain;
+mod diagnostic;
+mod environment;
+mod execution;
+mod judgement;
+mod parsing;
+mod scan;
+mod script;
+mod soundness;
+mod syntax;
+mod token;
+
+pub use diagnostic::{Diagnostic, Diagnostics, Span};
+pub use execution::run;
+pub use script::{Compiled, Program, compile};
+pub use soundness::{expressions_are_sound, scripts_are_sound};
+pub use syntax::{Chain, Form, Item, Operand, Operator, Place};

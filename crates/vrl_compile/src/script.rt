@@ -1,0 +1,61 @@
+ghost use Rattle.std.specs.Prelude.{◌≡◌, ◌≤◌, IfOk, length};
+ghost use Rattle.std.specs.List.{list_any};
+ghost use Rattle.vrl_compile.specs.Answer.{IsAnswer, not_built};
+ghost use Rattle.vrl_compile.specs.Judgement.{is_error};
+
+use crate::diagnostic::{Diagnostic, Diagnostics, Span};
+use crate::judgement::diagnostics_of;
+use crate::parsing::parse;
+use crate::syntax::Item;
+use std::alloc::Global;
+use vrl_value::Memory;
+
+/// An accepted script: its items in order, of which a contract sees the list.
+#[derive(Drop)]
+pub struct Program {
+    pub(crate) items: Vec<Item>,
+}
+
+/// What a text is as a script.
+#[derive(Drop)]
+pub enum Compiled {
+    /// A script that runs, and the warnings about it.
+    Accepted(Program, Diagnostics),
+    /// What is wrong with it.
+    Refused(Diagnostics),
+}
+
+/// Reads and judges a script of at most 65,536 bytes.
+pub fn compile(alloc: Global, text: &str) -> Result<Compiled, Memory>
+    requires { length text.now ≤ 65536 }
+    ensures { IfOk result (IsAnswer text.now) }
+{
+    let Some(items) = parse(alloc, text)? else {
+        return Ok(Compiled::Refused(Diagnostics::new(not_built(alloc)?)));
+    };
+    let diagnostics = diagnostics_of(alloc, &items)?;
+    if has_error(&diagnostics) {
+        Ok(Compiled::Refused(Diagnostics::new(diagnostics)))
+    } else {
+        Ok(Compiled::Accepted(Program { items }, Diagnostics::new(diagnostics)))
+    }
+}
+
+// What is wrong with a text of no form that is built.
+fn not_built(alloc: Global) -> Result<Vec<Diagnostic>, Memory>
+    ensures { IfOk result (λ diagnostics. diagnostics.items ≡ not_built) }
+{
+    let mut diagnostics = Vec::new(alloc);
+    diagnostics.push(Diagnostic {
+        code: 1099,
+        span: Span { start: 0, end: 0 },
+    })?;
+    Ok(diagnostics)
+}
+
+// Whether some diagnostic is an error: each but 651 is.
+fn has_error(diagnostics: &[Diagnostic]) -> bool
+    ensures { result ≡ list_any is_error diagnostics.now }
+{
+    diagnostics.iter().any(|d| d.code != 651)
+}

@@ -1,0 +1,11 @@
+ghost use Rattle.vrl_compile.specs.Soundness.{ExpressionsAreSound, ScriptsAreSound};
+
+/// What the judgement says of expressions holds of their meaning.
+pub fn expressions_are_sound()
+    ensures { ExpressionsAreSound }
+{}
+
+/// A script without an error code ends with a value over every event of the declared kind.
+pub fn scripts_are_sound()
+    ensures { ScriptsAreSound }
+{}
