@@ -1,0 +1,92 @@
+-- How the parts of an answer make the whole of it.
+use Rattle.std.proofs.Common.{◌≡◌, ℕ, ◌≤◌, List, [], length, map, Option, Some, None, Result, Ok, Err, IfSome, IfOk, unwrap_or, ◌⊎◌, refl, arith, sym, ap, ◌∙◌, subst}
+use Rattle.std.specs.Str.{IsUtf8}
+use Rattle.vrl_compile.specs.Answer.{IsAnswer}
+use Rattle.vrl_compile.specs.declared.syntax.Item.{Item}
+use Rattle.vrl_compile.specs.declared.diagnostic.Diagnostic.{Diagnostic}
+use Rattle.vrl_compile.specs.declared.script.Compiled.{Compiled}
+use Rattle.vrl_compile.specs.declared.script.Compiled.TheVariants as compiled
+use Rattle.vrl_value.specs.declared.memory.Memory.{Memory as WantOfMemory}
+use Rattle.remap_tool.specs.Answer.{answer_to, run_of, line_result, LineResult}
+use Rattle.remap_tool.specs.Lines.{event_lines}
+use Rattle.remap_tool.specs.Places.{diagnostic_lines}
+use Rattle.remap_tool.specs.Request.{Held, Asks, AsksByScript, IsRunOf, IsScriptAnswer, IsRefused, IsAccepted, IsLoaded, Request, has_error, bad_words, bad_script, run}
+use Rattle.remap_tool.specs.Results.{IsRun, answer_of}
+use Rattle.remap_tool.specs.Sinks.{IsAsked, IsWhole, IsAnswer as IsAnswerStatus}
+use Rattle.remap_tool.specs.Words.{Command, usage, script}
+use Rattle.remap_tool.specs.declared.results.Results.{Results}
+use Rattle.remap_tool.specs.declared.status.Status.{Status}
+use Rattle.remap_tool.specs.declared.status.Status.TheVariants.{Done, Refused, Usage, ReadFault, WriteFault, Memory, Marked, TooMuch}
+
+-- a text of at most the limit is a script exactly where it compiles
+pub script_answer : (text : List ℕ) (r : Result Compiled WantOfMemory) → length text ≤ 65536 → IsUtf8 text → IfOk r (IsAnswer text) → IfOk r (IsScriptAnswer text)
+script_answer text (Err e) within utf8 is = is
+script_answer text (Ok (compiled.Accepted program warnings)) within utf8 is = record { is_text = (within, utf8); is_script = is.0; no_error = is.1; ordered = is.2 }
+script_answer text (Ok (compiled.Refused diagnostics)) within utf8 is = has_error (within, utf8) is.0 is.1
+
+-- what a source that tells nothing may have held
+pub some_input : (left : Option (List ℕ)) → IfSome left (λ bytes. bytes ≡ unwrap_or left [])
+some_input None = tt
+some_input (Some bytes) = refl
+
+-- joined results are the answer to a run
+pub answer_of-run : (warnings : List ℕ) (r : Results) (results : List LineResult) → IsRun warnings r results → answer_of r ≡ run_of warnings results
+answer_of-run warnings r results is = rw (is.marked, is.output, is.report) refl
+
+abbrev pub asked_run : (text : List ℕ) (items : List Item) (diagnostics : List Diagnostic) (warnings : List ℕ) (left : Option (List ℕ)) (input : List ℕ) (r : Results) → warnings ≡ diagnostic_lines text diagnostics → IfSome left (λ bytes. bytes ≡ input) → IsRun warnings r (map (line_result items) (event_lines input)) → IsAsked (IsRunOf text items diagnostics) left (answer_of r)
+asked_run text items diagnostics warnings left input r told is_left is = record {
+  request = run text items diagnostics;
+  asked = refl;
+  input = input;
+  is_left = is_left;
+  answered = answer_of-run warnings r _ is ∙ ap (λ w. run_of w (map (line_result items) (event_lines input))) told;
+}
+
+-- what is whole for one question is so for another that has each of its requests
+pub is_whole-by : (asks asks_too : Request → Type 0) (left : Option (List ℕ)) (taken taken_after : ℕ) (status : Status) (written written_after reported reported_after : Option (List ℕ))
+    → ((request : Request) → asks request → asks_too request) → IsWhole asks left taken taken_after status written written_after reported reported_after → IsWhole asks_too left taken taken_after status written written_after reported reported_after
+is_whole-by asks asks_too left taken taken_after status written written_after reported reported_after has whole =
+    let asked = whole.asked in
+    record {
+      answer = whole.answer;
+      asked = record { request = asked.request; asked = has asked.request asked.asked; input = asked.input; is_left = asked.is_left; answered = asked.answered };
+      status_is = whole.status_is;
+      taken_is = whole.taken_is;
+      output = whole.output;
+      report = whole.report;
+    }
+
+-- a run that was accepted is what its text asks
+pub asks_run : (text : List ℕ) (items : List Item) (warnings : List Diagnostic) → IsAccepted text items warnings → (request : Request) → IsRunOf text items warnings request → AsksByScript text request
+asks_run text items warnings accepted request is = subst (AsksByScript text) (sym is) (refl, accepted)
+
+-- and what a text asks that was loaded is what its name asks
+pub asks_named : (held : Held) (command : Command) (name text : List ℕ) → command ≡ script name → IsLoaded held name text → (request : Request) → AsksByScript text request → Asks held command request
+asks_named held command name text is loaded request asks = subst (λ c. Asks held c request) (sym is) (text, loaded, asks)
+
+pub asked_script : (text : List ℕ) (diagnostics : List Diagnostic) (left : Option (List ℕ)) → IsRefused text diagnostics → IsAsked (AsksByScript text) left (answer_to (bad_script text diagnostics) [])
+asked_script text diagnostics left refused = record { request = bad_script text diagnostics; asked = (refl, refused); input = unwrap_or left []; is_left = some_input left; answered = refl }
+
+pub asked_words : (held : Held) (command : Command) (left : Option (List ℕ)) → command ≡ usage → IsAsked (Asks held command) left (answer_to bad_words [])
+asked_words held command left is = record { request = bad_words; asked = subst (λ c. Asks held c bad_words) (sym is) refl; input = unwrap_or left []; is_left = some_input left; answered = refl }
+
+-- a refusal that is an answer is the status of the refusal
+pub refused_only : (s : Status) → (s ≡ Refused) ⊎ (s ≡ WriteFault) ⊎ (s ≡ Memory) → IsAnswerStatus s → s ≡ Refused
+refused_only Done either answered = grind arith
+refused_only Refused either answered = refl
+refused_only Usage either answered = grind arith
+refused_only ReadFault either answered = absurd answered
+refused_only WriteFault either answered = absurd answered
+refused_only Memory either answered = absurd answered
+refused_only Marked either answered = grind arith
+refused_only TooMuch either answered = absurd answered
+
+pub usage_only : (s : Status) → (s ≡ Usage) ⊎ (s ≡ WriteFault) → IsAnswerStatus s → s ≡ Usage
+usage_only Done either answered = grind arith
+usage_only Refused either answered = grind arith
+usage_only Usage either answered = refl
+usage_only ReadFault either answered = absurd answered
+usage_only WriteFault either answered = absurd answered
+usage_only Memory either answered = absurd answered
+usage_only Marked either answered = grind arith
+usage_only TooMuch either answered = absurd answered

@@ -1,0 +1,6 @@
+pub mod AnswerLemmas
+pub mod Fronts
+pub mod Gathering
+pub mod LineLemmas
+pub mod RunLemmas
+pub mod SinkLemmas

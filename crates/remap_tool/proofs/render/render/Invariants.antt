@@ -1,0 +1,7 @@
+use Rattle.std.proofs.Common.{◌≡◌, take}
+use Rattle.remap_tool.specs.Places.{diagnostic_lines}
+use Rattle.remap_tool.proofs.render.render.Given as goal
+
+-- the lines of the diagnostics so far
+abbrev pub invariant-loop-diagnostic : goal.invariant-loop-diagnostic
+invariant-loop-diagnostic l = l.lines.items ≡ diagnostic_lines l.text (take l.diagnostic-index l.diagnostics)

@@ -1,0 +1,28 @@
+use Rattle.std.proofs.Common.{subst, [], inr}
+use Rattle.remap_tool.specs.Sinks.{IsOfLines}
+use Rattle.remap_tool.proofs.AnswerLemmas.{asked_words, asks_named, is_whole-by, usage_only}
+use Rattle.remap_tool.proofs.SinkLemmas.{appends-nil, appends_front-nil}
+use Rattle.remap_tool.proofs.tool.remap.Goals as goal
+
+pub returns-in-None-clause-whole : goal.returns-in-None-clause-whole
+returns-in-None-clause-whole g c answered =
+    let refused = usage_only c.refuse_words.result c.refuse_words.ensures.either answered in
+    record {
+      answer = _;
+      asked = asked_words _ _ _ c.in-None.ensures;
+      status_is = refused;
+      taken_is = λ lines. absurd (subst IsOfLines refused lines);
+      output = appends-nil _;
+      report = c.refuse_words.ensures.whole refused;
+    }
+
+pub returns-in-None-clause-front : goal.returns-in-None-clause-front
+returns-in-None-clause-front g c = inr (record {
+  answer = _;
+  asked = asked_words _ _ _ c.in-None.ensures;
+  output = appends_front-nil _ [];
+  report = c.refuse_words.ensures.front;
+})
+
+pub returns-in-Ok-clause-whole : goal.returns-in-Ok-clause-whole
+returns-in-Ok-clause-whole g c answered = is_whole-by _ _ _ _ _ _ _ _ _ _ (asks_named _ _ c.in-Some.name.now c.in-Ok.script c.in-Some.ensures c.in-Ok.ensures.bytes) (rw c.as_slice.ensures at (c.run_script.ensures.whole answered))

@@ -1,0 +1,28 @@
+-- The lines of an input.
+use Rattle.std.specs.Prelude.{ℕ, List, [], ◌∷◌, ◌==◌, ◌||◌, if◌then◌else◌, Bool, not, filter}
+use Rattle.std.specs.List.{enumerate_from, list_all}
+
+-- the byte goes before the first line
+abbrev pub before_first : ℕ → List (List ℕ) → List (List ℕ)
+before_first b [] = (b ∷ []) ∷ []
+before_first b (line ∷ lines) = (b ∷ line) ∷ lines
+
+-- what stands before each newline, and what stands behind the last one, unless that is nothing
+abbrev pub lines_of : List ℕ → List (List ℕ)
+lines_of [] = []
+lines_of (b ∷ bs) = if b == 10 then [] ∷ lines_of bs else before_first b (lines_of bs)
+
+-- space, tab or carriage return
+abbrev pub is_blank_byte : ℕ → Bool
+is_blank_byte b = (b == 32) || (b == 9) || (b == 13)
+
+abbrev pub is_blank : List ℕ → Bool
+is_blank line = list_all is_blank_byte line
+
+-- the lines that aren't blank, each with its number, where the first line of all has the number n
+abbrev pub event_lines_from : ℕ → List ℕ → List (ℕ × List ℕ)
+event_lines_from n input = filter (λ l. not (is_blank l.1)) (enumerate_from n (lines_of input))
+
+-- the lines of an input that aren't blank, each with its number, from 1
+abbrev pub event_lines : List ℕ → List (ℕ × List ℕ)
+event_lines = event_lines_from 1

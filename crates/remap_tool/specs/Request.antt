@@ -1,0 +1,73 @@
+-- What a call asks: the words tell it, and the script that they name.
+use Rattle.std.specs.Prelude.{◌≡◌, ℕ, ◌≤◌, List, length, take, Option, Some, option_map, IfSome, true}
+use Rattle.std.specs.List.{list_any}
+use Rattle.std.specs.Str.{IsUtf8}
+use Rattle.vrl_compile.specs.Answer.{not_built, AreDiagnostics, AreOrdered}
+use Rattle.vrl_compile.specs.Judgement.{judge_script, is_error}
+use Rattle.vrl_compile.specs.Program.{items_of}
+use Rattle.vrl_compile.specs.Script.{IsScript}
+use Rattle.vrl_compile.specs.Soundness.{HasNoError}
+use Rattle.vrl_compile.specs.declared.diagnostic.Diagnostic.{Diagnostic}
+use Rattle.vrl_compile.specs.declared.syntax.Item.{Item}
+use Rattle.vrl_compile.specs.declared.script.Compiled.{Compiled}
+use Rattle.vrl_compile.specs.declared.script.Compiled.TheVariants.{Accepted, Refused}
+use Rattle.remap_tool.specs.Words.{Command, usage, script}
+
+-- what a store may tell: the bytes that a name holds
+abbrev pub Held : Type 0
+Held = Option (List ℕ → Option (List ℕ))
+
+-- a script has at most this many bytes
+abbrev pub script_limit : ℕ
+script_limit = 65536
+
+-- the bytes may be a script's: they are a text of at most the limit
+abbrev pub IsScriptText : List ℕ → Type 0
+IsScriptText text = (length text ≤ script_limit) × IsUtf8 text
+
+-- the bytes are those of a script that is accepted: its items, of which no diagnostic is an error, and its warnings
+pub record IsAccepted (text : List ℕ) (items : List Item) (warnings : List Diagnostic) : Type 0 where
+  pub is_text : IsScriptText text
+  pub is_script : IsScript text items
+  pub no_error : HasNoError (judge_script items).codes
+  pub ordered : AreOrdered (judge_script items).codes warnings
+
+-- the bytes are those of a script that is refused, with these diagnostics
+pub data IsRefused (text : List ℕ) (diagnostics : List Diagnostic) : Type 0 where
+  no_text : ¬ IsScriptText text → diagnostics ≡ not_built → IsRefused text diagnostics
+  has_error : IsScriptText text → AreDiagnostics text diagnostics → list_any is_error diagnostics ≡ true → IsRefused text diagnostics
+
+-- what compiling the bytes of a script answers
+abbrev pub IsScriptAnswer : List ℕ → Compiled → Type 0
+IsScriptAnswer text (Accepted program warnings) = IsAccepted text (items_of program) warnings
+IsScriptAnswer text (Refused diagnostics) = IsRefused text diagnostics
+
+-- the bytes were loaded from the name: they are what it holds, and no more of it than one byte over the limit
+abbrev pub IsLoaded : Held → List ℕ → List ℕ → Type 0
+IsLoaded held name text = IfSome held (λ h. option_map (take 65537) (h name) ≡ Some text)
+
+pub data Request : Type 0 where
+  -- the words are refused
+  bad_words : Request
+  -- the script is refused: its text, and what is wrong with it
+  bad_script : List ℕ → List Diagnostic → Request
+  -- the script runs over the input: its text, its items and its warnings
+  run : List ℕ → List Item → List Diagnostic → Request
+
+abbrev pub AsksByScript : List ℕ → Request → Type 0
+AsksByScript text bad_words = ⊥
+AsksByScript text (bad_script told diagnostics) = (told ≡ text) × IsRefused text diagnostics
+AsksByScript text (run told items warnings) = (told ≡ text) × IsAccepted text items warnings
+
+-- a call with this command asks this, over a store that holds this
+abbrev pub Asks : Held → Command → Request → Type 0
+Asks held usage request = request ≡ bad_words
+Asks held (script name) request = (text : List ℕ) × IsLoaded held name text × AsksByScript text request
+
+-- a script was loaded and accepted
+abbrev pub IsScriptAccepted : Held → Command → Type 0
+IsScriptAccepted held command = (text : List ℕ) × (items : List Item) × (warnings : List Diagnostic) × Asks held command (run text items warnings)
+
+-- the request to run this script
+abbrev pub IsRunOf : List ℕ → List Item → List Diagnostic → Request → Type 0
+IsRunOf text items warnings request = request ≡ run text items warnings

@@ -1,0 +1,49 @@
+//! `remap SCRIPT < events.jsonl`: runs a script over lines of JSON.
+#![tactic(auto)]
+
+mod gather;
+mod give;
+mod lines;
+mod render;
+mod results;
+mod status;
+#[cfg(test)]
+mod tests;
+mod tool;
+mod words;
+
+pub use status::Status;
+use std::process::ExitCode;
+use std::rt::Env;
+use std::{env, io};
+pub use tool::remap;
+use vrl_io::{FileStore, StdSink, StdSource, SystemClock};
+
+fn main(rt: HostRuntime) -> ExitCode {
+    let words = match words_of(&rt) {
+        Ok(words) => words,
+        // A word that is no text is refused as no words are.
+        Err(fault) if fault.kind() == io::ErrorKind::InvalidData => Vec::new(rt.alloc()),
+        Err(_) => return ExitCode::from(Status::Memory as u8),
+    };
+    let status = remap(
+        &rt,
+        rt.alloc(),
+        &words,
+        &mut FileStore::new(&rt, rt.alloc()),
+        &mut StdSource::new(rt.stdin()),
+        &mut StdSink::new(rt.stdout()),
+        &mut StdSink::new(rt.stderr()),
+        &mut SystemClock::new(&rt),
+    );
+    ExitCode::from(status as u8)
+}
+
+// The words behind the program's name.
+fn words_of<R: Env + Alloc>(rt: &R) -> io::Result<Vec<String<R::A>, R::A>> {
+    let mut words = Vec::new(rt.alloc());
+    for word in env::args(rt)?.skip(1) {
+        words.push(word)?;
+    }
+    Ok(words)
+}

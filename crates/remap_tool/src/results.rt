@@ -1,0 +1,118 @@
+ghost use Rattle.std.specs.Prelude.{◌≡◌, IfOk, OnOk, length, map};
+ghost use Rattle.vrl_value.specs.View.{tree_of};
+ghost use Rattle.vrl_compile.specs.Judgement.{judge_script};
+ghost use Rattle.vrl_compile.specs.Meaning.{run_script};
+ghost use Rattle.vrl_compile.specs.Program.{items_of};
+ghost use Rattle.vrl_compile.specs.Soundness.{HasNoError, IsDeclared};
+ghost use Rattle.remap_tool.specs.Lines.{event_lines};
+ghost use Rattle.remap_tool.specs.Answer.{line_result, refused_line, result_of_end};
+ghost use Rattle.remap_tool.specs.Sinks.{MovesOn};
+ghost use Rattle.remap_tool.specs.Results.{IsRun, AddsResult};
+
+use crate::lines::{is_blank, split_line};
+use std::alloc::Global;
+use vrl_compile::{Program, run, scripts_are_sound};
+use vrl_io::Clock;
+use vrl_json::{JsonFault, from_line, to_line};
+use vrl_value::{Memory, Value};
+
+/// The most bytes of a line, its newline not counted.
+const LINE_LIMIT: usize = 1_048_576;
+
+/// What a run writes.
+#[derive(Drop)]
+pub struct Results {
+    /// The events, a line each.
+    pub output: Vec<u8>,
+    /// The reports on lines.
+    pub report: Vec<u8>,
+    /// Whether a line was refused.
+    pub marked: bool,
+}
+
+/// The results of all lines of an input, behind what the report begins with. One moment is read for each
+/// line that is not blank.
+pub fn run_lines<C: Clock>(
+    alloc: Global,
+    program: &Program,
+    report: Vec<u8>,
+    input: &[u8],
+    clock: &mut C,
+) -> Result<Results, Memory>
+    requires { HasNoError (judge_script (items_of program.now)).codes }
+    ensures results { IfOk result (λ r. IsRun report.items r
+        (map (line_result (items_of program.now)) (event_lines input.now))) }
+    ensures clock { OnOk result (MovesOn (C.ahead clock.old) (length (event_lines input.now))
+        (C.ahead clock.new)) }
+{
+    let mut results = Results {
+        output: Vec::new(alloc),
+        report,
+        marked: false,
+    };
+    let mut rest = input;
+    let mut number = 0;
+    while !rest.is_empty() {
+        let (line, behind) = split_line(rest);
+        number += 1;
+        if !is_blank(line) {
+            let _moment = clock.moment();
+            add_line(alloc, program, number, line, &mut results)?;
+        }
+        rest = behind;
+    }
+    Ok(results)
+}
+
+// Adds the result of a line that is not blank.
+fn add_line(
+    alloc: Global,
+    program: &Program,
+    number: usize,
+    line: &[u8],
+    results: &mut Results,
+) -> Result<(), Memory>
+    requires { HasNoError (judge_script (items_of program.now)).codes }
+    ensures { OnOk result (AddsResult results.old results.new
+        (line_result (items_of program.now) (number, line.now))) }
+{
+    if line.len() > LINE_LIMIT {
+        return add_refused(alloc, number, results);
+    }
+    match from_line(alloc, line) {
+        Ok(event) => add_event(alloc, program, event, results),
+        Err(JsonFault::NotBuilt) => add_refused(alloc, number, results),
+        Err(JsonFault::Memory) => Err(Memory),
+    }
+}
+
+// Adds the result of a line that is an event of the declared kind.
+fn add_event(
+    alloc: Global,
+    program: &Program,
+    event: Value,
+    results: &mut Results,
+) -> Result<(), Memory>
+    requires no_error { HasNoError (judge_script (items_of program.now)).codes }
+    requires declared { IsDeclared (tree_of event) }
+    ensures { let ended = run_script (items_of program.now) (tree_of event) in OnOk result
+        (AddsResult results.old results.new (result_of_end ended.outcome ended.store.event)) }
+{
+    // An accepted script handles each of its errors.
+    scripts_are_sound();
+    let event = run(alloc, program, event)?;
+    let line = to_line(alloc, &event, &[])?;
+    results.output.extend_from_slice(line.as_slice())?;
+    results.output.push(b'\n')?;
+    Ok(())
+}
+
+// Adds the result of a line that is refused.
+fn add_refused(alloc: Global, number: usize, results: &mut Results) -> Result<(), Memory>
+    ensures { OnOk result (AddsResult results.old results.new (refused_line number)) }
+{
+    let line = format!(in alloc; "line {number}: refused: not built yet\n")?;
+    results.report.extend_from_slice(line.as_bytes())?;
+    results.marked = true;
+    Ok(())
+}

@@ -1,0 +1,275 @@
+ghost use Rattle.std.specs.Prelude.{◌≡◌, ◌⊎◌, ◌≤◌, Some, IfOk, IfSome, IsSomeAnd, IsTrue, List, ℕ, length, map, string_bytes};
+ghost use Rattle.vrl_io.specs.Faults.{HasRisen};
+ghost use Rattle.vrl_json.specs.Line.{line_tree};
+ghost use Rattle.vrl_value.specs.Tree.{Tree};
+ghost use Rattle.vrl_compile.specs.Judgement.{judge_script};
+ghost use Rattle.vrl_compile.specs.Program.{items_of};
+ghost use Rattle.vrl_compile.specs.Soundness.{HasNoError, IsSoundOver};
+ghost use Rattle.vrl_compile.specs.declared.diagnostic.Diagnostic.{Diagnostic as SpecDiagnostic};
+ghost use Rattle.vrl_compile.specs.declared.syntax.Item.{Item};
+ghost use Rattle.remap_tool.specs.Words.{command_of, usage};
+ghost use Rattle.remap_tool.specs.Lines.{event_lines};
+ghost use Rattle.remap_tool.specs.Places.{diagnostic_lines};
+ghost use Rattle.remap_tool.specs.Answer.{usage_line};
+ghost use Rattle.remap_tool.specs.Gathered.{input_limit};
+ghost use Rattle.remap_tool.specs.Request.{Asks, AsksByScript, IsAccepted, IsScriptAccepted, IsRunOf, IsScriptAnswer, run as run_request};
+ghost use Rattle.remap_tool.specs.Results.{answer_of};
+ghost use Rattle.remap_tool.specs.Sinks.{IsAnswer, IsOfLines, IsWhole, IsFront, IsNothing, Appends, AppendsFront, IsLoadFailed, IsWithinLimit, MovesOn};
+
+use crate::gather::{GatherFault, gather};
+use crate::give::give_all;
+use crate::render::render;
+use crate::results::{Results, run_lines};
+use crate::status::Status;
+use crate::words::script_name;
+use std::alloc::Global;
+use std::thread::Threads;
+use vrl_compile::{Compiled, Diagnostic, Diagnostics, Program, Span, compile, scripts_are_sound};
+use vrl_io::{Clock, LoadFault, Sink, Source, Store};
+use vrl_json::lines_are_objects;
+use vrl_value::Memory;
+
+/// The most bytes of a script.
+const SCRIPT_LIMIT: usize = 65_536;
+
+// An accepted script: its text, what it does, and the warnings about it.
+#[derive(Drop)]
+struct Script<'a> {
+    text: &'a [u8],
+    program: &'a Program,
+    warnings: &'a [Diagnostic],
+}
+
+/// What is reported where the words are refused.
+const USAGE_LINE: &str = "usage: remap SCRIPT\n";
+
+/// All that the program does: reads the words, loads the script that they name, and runs it over the lines
+/// of the input. Events go to `output`; diagnostics, and reports on lines, go to `report`.
+pub fn remap<R: Threads + Sync, F: Store, S: Source, O: Sink, E: Sink, C: Clock>(
+    _rt: &R,
+    alloc: Global,
+    words: &[String],
+    files: &mut F,
+    input: &mut S,
+    output: &mut O,
+    report: &mut E,
+    clock: &mut C,
+) -> Status
+    // An answer comes with all its bytes, and is the answer to what was asked.
+    ensures whole { IsAnswer result → IsWhole (Asks (F.held files.old)
+        (command_of (map (λ w. string_bytes w) words.now))) (S.left input.old)
+        (S.taken input.old) (S.taken input.new) result
+        (O.written output.old) (O.written output.new) (E.written report.old) (E.written report.new) }
+    // Whatever the status, nothing is written but a front of that answer.
+    ensures front { IsNothing (O.written output.old) (O.written output.new) (E.written report.old)
+        (E.written report.new) ⊎ IsFront (Asks (F.held files.old)
+        (command_of (map (λ w. string_bytes w) words.now))) (S.left input.old)
+        (O.written output.old) (O.written output.new) (E.written report.old) (E.written report.new) }
+
+    // The input and the clock are asked once the script is accepted, and lines answer at the input's end.
+    ensures accepted_first { ((input.new ≡ input.old) × (clock.new ≡ clock.old))
+        ⊎ IsScriptAccepted (F.held files.old) (command_of (map (λ w. string_bytes w) words.now)) }
+    ensures end { IsOfLines result → IsTrue (S.ended input.new) }
+    ensures clock { IsOfLines result → IfSome (S.left input.old)
+        (λ bytes. MovesOn (C.ahead clock.old) (length (event_lines bytes)) (C.ahead clock.new)) }
+
+    // A script that runs ends with a value over the event of each line, never with an error that it did not
+    // handle; that value, the variables and the event's fields are of their kinds.
+    ensures sound { (text : List ℕ) (items : List Item) (warnings : List SpecDiagnostic)
+        → Asks (F.held files.old) (command_of (map (λ w. string_bytes w) words.now))
+        (run_request text items warnings) → (line : List ℕ) (event : Tree)
+        → line_tree line ≡ Some event → IsSoundOver items event }
+
+    // Why each other status comes.
+    ensures read_fault { result ≡ Status.ReadFault
+        → IsLoadFailed (command_of (map (λ w. string_bytes w) words.now)) (F.failures files.old)
+        (F.failures files.new) ⊎ HasRisen (S.faults input.old) (S.faults input.new) }
+    ensures write_fault { result ≡ Status.WriteFault
+        → HasRisen (O.faults output.old) (O.faults output.new)
+        ⊎ HasRisen (E.faults report.old) (E.faults report.new) }
+    ensures too_much { IsWithinLimit result (S.left input.old) (S.taken input.old) (S.taken input.new) }
+
+    // Where nothing fails, the answer comes, or memory is wanted.
+    ensures usage { command_of (map (λ w. string_bytes w) words.now) ≡ usage
+        → (result ≡ Status.Usage) ⊎ (result ≡ Status.WriteFault) }
+    ensures complete { F.failures files.new ≡ F.failures files.old
+        → ¬ HasRisen (S.faults input.old) (S.faults input.new)
+        → ¬ HasRisen (O.faults output.old) (O.faults output.new)
+        → ¬ HasRisen (E.faults report.old) (E.faults report.new)
+        → IsSomeAnd (S.left input.old) (λ bytes. length bytes ≤ input_limit)
+        → IsAnswer result ⊎ (result ≡ Status.Memory) }
+{
+    scripts_are_sound();
+    lines_are_objects();
+    let name = match script_name(words) {
+        Some(name) => name,
+        None => return refuse_words(report),
+    };
+    match files.load(name, SCRIPT_LIMIT + 1) {
+        Ok(script) => run_script(alloc, script.as_slice(), input, output, report, clock),
+        Err(LoadFault::Failed) => Status::ReadFault,
+        Err(LoadFault::Memory) => Status::Memory,
+    }
+}
+
+// Compiles the bytes of a script, and runs it over the input.
+fn run_script<S: Source, O: Sink, E: Sink, C: Clock>(
+    alloc: Global,
+    text: &[u8],
+    input: &mut S,
+    output: &mut O,
+    report: &mut E,
+    clock: &mut C,
+) -> Status
+    requires { length text.now ≤ 65537 }
+    ensures whole { IsAnswer result → IsWhole (AsksByScript text.now) (S.left input.old)
+        (S.taken input.old) (S.taken input.new) result
+        (O.written output.old) (O.written output.new) (E.written report.old) (E.written report.new) }
+    ensures front { IsNothing (O.written output.old) (O.written output.new) (E.written report.old)
+        (E.written report.new) ⊎ IsFront (AsksByScript text.now) (S.left input.old)
+        (O.written output.old) (O.written output.new) (E.written report.old) (E.written report.new) }
+    ensures accepted_first { ((input.new ≡ input.old) × (clock.new ≡ clock.old))
+        ⊎ ((items : List Item) × (warnings : List SpecDiagnostic) × IsAccepted text.now items warnings) }
+    ensures end { IsOfLines result → IsTrue (S.ended input.new) }
+    ensures clock { IsOfLines result → IfSome (S.left input.old)
+        (λ bytes. MovesOn (C.ahead clock.old) (length (event_lines bytes)) (C.ahead clock.new)) }
+    ensures read_fault { result ≡ Status.ReadFault → HasRisen (S.faults input.old) (S.faults input.new) }
+    ensures write_fault { result ≡ Status.WriteFault
+        → HasRisen (O.faults output.old) (O.faults output.new)
+        ⊎ HasRisen (E.faults report.old) (E.faults report.new) }
+    ensures too_much { IsWithinLimit result (S.left input.old) (S.taken input.old) (S.taken input.new) }
+{
+    match compile_bytes(alloc, text) {
+        Ok(Compiled::Accepted(program, warnings)) => {
+            let script = Script {
+                text,
+                program: &program,
+                warnings: warnings.as_slice(),
+            };
+            run_program(alloc, &script, input, output, report, clock)
+        }
+        Ok(Compiled::Refused(diagnostics)) => {
+            refuse_script(alloc, text, diagnostics.as_slice(), report)
+        }
+        Err(Memory) => Status::Memory,
+    }
+}
+
+// What the bytes of a script are: a text of at most the limit is compiled, and anything else is no built form.
+fn compile_bytes(alloc: Global, text: &[u8]) -> Result<Compiled, Memory>
+    requires { length text.now ≤ 65537 }
+    ensures { IfOk result (IsScriptAnswer text.now) }
+{
+    if text.len() <= SCRIPT_LIMIT
+        && let Ok(text) = str::from_utf8(text)
+    {
+        return compile(alloc, text);
+    }
+    let diagnostic = Diagnostic {
+        code: 1099,
+        span: Span { start: 0, end: 0 },
+    };
+    Ok(Compiled::Refused(Diagnostics::new(vec![in alloc; diagnostic]?)))
+}
+
+// Runs a script over the lines of the input.
+fn run_program<S: Source, O: Sink, E: Sink, C: Clock>(
+    alloc: Global,
+    script: &Script,
+    input: &mut S,
+    output: &mut O,
+    report: &mut E,
+    clock: &mut C,
+) -> Status
+    requires { HasNoError (judge_script (items_of script.now.program.now)).codes }
+    ensures whole { IsAnswer result → IsWhole
+        (IsRunOf script.now.text.now (items_of script.now.program.now) script.now.warnings.now)
+        (S.left input.old)
+        (S.taken input.old) (S.taken input.new) result
+        (O.written output.old) (O.written output.new) (E.written report.old) (E.written report.new) }
+    ensures front { IsNothing (O.written output.old) (O.written output.new) (E.written report.old)
+        (E.written report.new) ⊎ IsFront
+        (IsRunOf script.now.text.now (items_of script.now.program.now) script.now.warnings.now)
+        (S.left input.old)
+        (O.written output.old) (O.written output.new) (E.written report.old) (E.written report.new) }
+    ensures end { IsOfLines result → IsTrue (S.ended input.new) }
+    ensures clock { IsOfLines result → IfSome (S.left input.old)
+        (λ bytes. MovesOn (C.ahead clock.old) (length (event_lines bytes)) (C.ahead clock.new)) }
+    ensures read_fault { result ≡ Status.ReadFault → HasRisen (S.faults input.old) (S.faults input.new) }
+    ensures write_fault { result ≡ Status.WriteFault
+        → HasRisen (O.faults output.old) (O.faults output.new)
+        ⊎ HasRisen (E.faults report.old) (E.faults report.new) }
+    ensures too_much { IsWithinLimit result (S.left input.old) (S.taken input.old) (S.taken input.new) }
+{
+    let warnings = match render(alloc, script.text, script.warnings) {
+        Ok(warnings) => warnings,
+        Err(Memory) => return Status::Memory,
+    };
+    match gather(alloc, input) {
+        Ok(bytes) => match run_lines(alloc, script.program, warnings, &bytes, clock) {
+            Ok(results) => write_results(&results, output, report),
+            Err(Memory) => Status::Memory,
+        },
+        Err(GatherFault::Read) => Status::ReadFault,
+        Err(GatherFault::TooMuch) => Status::TooMuch,
+        Err(GatherFault::Memory) => Status::Memory,
+    }
+}
+
+// Writes what a run wrote.
+fn write_results<O: Sink, E: Sink>(results: &Results, output: &mut O, report: &mut E) -> Status
+    ensures whole { IsAnswer result → (result ≡ (answer_of results.now).status)
+        × Appends (O.written output.old) (O.written output.new) results.now.output.items
+        × Appends (E.written report.old) (E.written report.new) results.now.report.items }
+    ensures front { AppendsFront (O.written output.old) (O.written output.new) results.now.output.items
+        × AppendsFront (E.written report.old) (E.written report.new) results.now.report.items }
+    ensures either { IsOfLines result ⊎ (result ≡ Status.WriteFault) }
+    ensures cause { result ≡ Status.WriteFault
+        → HasRisen (O.faults output.old) (O.faults output.new)
+        ⊎ HasRisen (E.faults report.old) (E.faults report.new) }
+{
+    if give_all(output, &results.output).is_err() || give_all(report, &results.report).is_err() {
+        return Status::WriteFault;
+    }
+    if results.marked {
+        Status::Marked
+    } else {
+        Status::Done
+    }
+}
+
+// Reports how the words go.
+fn refuse_words<E: Sink>(report: &mut E) -> Status
+    ensures whole { result ≡ Status.Usage → Appends (E.written report.old) (E.written report.new) usage_line }
+    ensures front { AppendsFront (E.written report.old) (E.written report.new) usage_line }
+    ensures either { (result ≡ Status.Usage) ⊎ (result ≡ Status.WriteFault) }
+    ensures cause { result ≡ Status.WriteFault → HasRisen (E.faults report.old) (E.faults report.new) }
+{
+    match give_all(report, USAGE_LINE.as_bytes()) {
+        Ok(()) => Status::Usage,
+        Err(_) => Status::WriteFault,
+    }
+}
+
+// Reports what is wrong with a script.
+fn refuse_script<E: Sink>(
+    alloc: Global,
+    text: &[u8],
+    diagnostics: &[Diagnostic],
+    report: &mut E,
+) -> Status
+    ensures whole { result ≡ Status.Refused → Appends (E.written report.old) (E.written report.new)
+        (diagnostic_lines text.now diagnostics.now) }
+    ensures front { AppendsFront (E.written report.old) (E.written report.new)
+        (diagnostic_lines text.now diagnostics.now) }
+    ensures either { (result ≡ Status.Refused) ⊎ (result ≡ Status.WriteFault) ⊎ (result ≡ Status.Memory) }
+    ensures cause { result ≡ Status.WriteFault → HasRisen (E.faults report.old) (E.faults report.new) }
+{
+    match render(alloc, text, diagnostics) {
+        Ok(lines) => match give_all(report, &lines) {
+            Ok(()) => Status::Refused,
+            Err(_) => Status::WriteFault,
+        },
+        Err(Memory) => Status::Memory,
+    }
+}
