@@ -84,7 +84,8 @@ fn take_onto<S: Source>(
         (S.left source.new) (S.taken source.old) (S.taken source.new)) }
     ensures within { IfOk result (λ count. count ≤ length buffer.old) }
     ensures end { IfOk result (λ count. count ≡ 0 → IsTrue (S.ended source.new)) }
-    ensures end_empty { IsTrue (S.ended source.new) → IfSome (S.left source.new) (λ left. left ≡ []) }
+    ensures end_empty { IsTrue (S.ended source.new)
+        → IfSome (S.left source.new) (λ left. left ≡ []) }
     ensures cause { IfErr result (HasPieceCause (length buffer.old) (S.faults source.old)
         (S.faults source.new) (S.taken source.old) (S.taken source.new)) }
     ensures count { S.faults source.old ≤ S.faults source.new }

@@ -59,12 +59,14 @@ pub fn remap<R: Threads + Sync, F: Store, S: Source, O: Sink, E: Sink, C: Clock>
     ensures whole { IsAnswer result → IsWhole (Asks (F.held files.old)
         (command_of (map (λ w. string_bytes w) words.now))) (S.left input.old)
         (S.taken input.old) (S.taken input.new) result
-        (O.written output.old) (O.written output.new) (E.written report.old) (E.written report.new) }
+        (O.written output.old) (O.written output.new) (E.written report.old)
+        (E.written report.new) }
     // Whatever the status, nothing is written but a front of that answer.
     ensures front { IsNothing (O.written output.old) (O.written output.new) (E.written report.old)
         (E.written report.new) ⊎ IsFront (Asks (F.held files.old)
         (command_of (map (λ w. string_bytes w) words.now))) (S.left input.old)
-        (O.written output.old) (O.written output.new) (E.written report.old) (E.written report.new) }
+        (O.written output.old) (O.written output.new) (E.written report.old)
+        (E.written report.new) }
 
     // The input and the clock are asked once the script is accepted, and lines answer at the input's end.
     ensures accepted_first { ((input.new ≡ input.old) × (clock.new ≡ clock.old))
@@ -87,7 +89,8 @@ pub fn remap<R: Threads + Sync, F: Store, S: Source, O: Sink, E: Sink, C: Clock>
     ensures write_fault { result ≡ Status.WriteFault
         → HasRisen (O.faults output.old) (O.faults output.new)
         ⊎ HasRisen (E.faults report.old) (E.faults report.new) }
-    ensures too_much { IsWithinLimit result (S.left input.old) (S.taken input.old) (S.taken input.new) }
+    ensures too_much { IsWithinLimit result (S.left input.old) (S.taken input.old)
+        (S.taken input.new) }
 
     // Where nothing fails, the answer comes, or memory is wanted.
     ensures usage { command_of (map (λ w. string_bytes w) words.now) ≡ usage
@@ -124,20 +127,24 @@ fn run_script<S: Source, O: Sink, E: Sink, C: Clock>(
     requires { length text.now ≤ 65537 }
     ensures whole { IsAnswer result → IsWhole (AsksByScript text.now) (S.left input.old)
         (S.taken input.old) (S.taken input.new) result
-        (O.written output.old) (O.written output.new) (E.written report.old) (E.written report.new) }
+        (O.written output.old) (O.written output.new) (E.written report.old)
+        (E.written report.new) }
     ensures front { IsNothing (O.written output.old) (O.written output.new) (E.written report.old)
         (E.written report.new) ⊎ IsFront (AsksByScript text.now) (S.left input.old)
-        (O.written output.old) (O.written output.new) (E.written report.old) (E.written report.new) }
+        (O.written output.old) (O.written output.new) (E.written report.old)
+        (E.written report.new) }
     ensures accepted_first { ((input.new ≡ input.old) × (clock.new ≡ clock.old))
         ⊎ ((items : List Item) × (warnings : List SpecDiagnostic) × IsAccepted text.now items warnings) }
     ensures end { IsOfLines result → IsTrue (S.ended input.new) }
     ensures clock { IsOfLines result → IfSome (S.left input.old)
         (λ bytes. MovesOn (C.ahead clock.old) (length (event_lines bytes)) (C.ahead clock.new)) }
-    ensures read_fault { result ≡ Status.ReadFault → HasRisen (S.faults input.old) (S.faults input.new) }
+    ensures read_fault { result ≡ Status.ReadFault
+        → HasRisen (S.faults input.old) (S.faults input.new) }
     ensures write_fault { result ≡ Status.WriteFault
         → HasRisen (O.faults output.old) (O.faults output.new)
         ⊎ HasRisen (E.faults report.old) (E.faults report.new) }
-    ensures too_much { IsWithinLimit result (S.left input.old) (S.taken input.old) (S.taken input.new) }
+    ensures too_much { IsWithinLimit result (S.left input.old) (S.taken input.old)
+        (S.taken input.new) }
 {
     match compile_bytes(alloc, text) {
         Ok(Compiled::Accepted(program, warnings)) => {
@@ -186,20 +193,24 @@ fn run_program<S: Source, O: Sink, E: Sink, C: Clock>(
         (IsRunOf script.now.text.now (items_of script.now.program.now) script.now.warnings.now)
         (S.left input.old)
         (S.taken input.old) (S.taken input.new) result
-        (O.written output.old) (O.written output.new) (E.written report.old) (E.written report.new) }
+        (O.written output.old) (O.written output.new) (E.written report.old)
+        (E.written report.new) }
     ensures front { IsNothing (O.written output.old) (O.written output.new) (E.written report.old)
         (E.written report.new) ⊎ IsFront
         (IsRunOf script.now.text.now (items_of script.now.program.now) script.now.warnings.now)
         (S.left input.old)
-        (O.written output.old) (O.written output.new) (E.written report.old) (E.written report.new) }
+        (O.written output.old) (O.written output.new) (E.written report.old)
+        (E.written report.new) }
     ensures end { IsOfLines result → IsTrue (S.ended input.new) }
     ensures clock { IsOfLines result → IfSome (S.left input.old)
         (λ bytes. MovesOn (C.ahead clock.old) (length (event_lines bytes)) (C.ahead clock.new)) }
-    ensures read_fault { result ≡ Status.ReadFault → HasRisen (S.faults input.old) (S.faults input.new) }
+    ensures read_fault { result ≡ Status.ReadFault
+        → HasRisen (S.faults input.old) (S.faults input.new) }
     ensures write_fault { result ≡ Status.WriteFault
         → HasRisen (O.faults output.old) (O.faults output.new)
         ⊎ HasRisen (E.faults report.old) (E.faults report.new) }
-    ensures too_much { IsWithinLimit result (S.left input.old) (S.taken input.old) (S.taken input.new) }
+    ensures too_much { IsWithinLimit result (S.left input.old) (S.taken input.old)
+        (S.taken input.new) }
 {
     let warnings = match render(alloc, script.text, script.warnings) {
         Ok(warnings) => warnings,
@@ -221,7 +232,8 @@ fn write_results<O: Sink, E: Sink>(results: &Results, output: &mut O, report: &m
     ensures whole { IsAnswer result → (result ≡ (answer_of results.now).status)
         × Appends (O.written output.old) (O.written output.new) results.now.output.items
         × Appends (E.written report.old) (E.written report.new) results.now.report.items }
-    ensures front { AppendsFront (O.written output.old) (O.written output.new) results.now.output.items
+    ensures front { AppendsFront (O.written output.old) (O.written output.new)
+        results.now.output.items
         × AppendsFront (E.written report.old) (E.written report.new) results.now.report.items }
     ensures either { IsOfLines result ⊎ (result ≡ Status.WriteFault) }
     ensures cause { result ≡ Status.WriteFault
@@ -240,10 +252,12 @@ fn write_results<O: Sink, E: Sink>(results: &Results, output: &mut O, report: &m
 
 // Reports how the words go.
 fn refuse_words<E: Sink>(report: &mut E) -> Status
-    ensures whole { result ≡ Status.Usage → Appends (E.written report.old) (E.written report.new) usage_line }
+    ensures whole { result ≡ Status.Usage
+        → Appends (E.written report.old) (E.written report.new) usage_line }
     ensures front { AppendsFront (E.written report.old) (E.written report.new) usage_line }
     ensures either { (result ≡ Status.Usage) ⊎ (result ≡ Status.WriteFault) }
-    ensures cause { result ≡ Status.WriteFault → HasRisen (E.faults report.old) (E.faults report.new) }
+    ensures cause { result ≡ Status.WriteFault
+        → HasRisen (E.faults report.old) (E.faults report.new) }
 {
     match give_all(report, USAGE_LINE.as_bytes()) {
         Ok(()) => Status::Usage,
@@ -262,8 +276,10 @@ fn refuse_script<E: Sink>(
         (diagnostic_lines text.now diagnostics.now) }
     ensures front { AppendsFront (E.written report.old) (E.written report.new)
         (diagnostic_lines text.now diagnostics.now) }
-    ensures either { (result ≡ Status.Refused) ⊎ (result ≡ Status.WriteFault) ⊎ (result ≡ Status.Memory) }
-    ensures cause { result ≡ Status.WriteFault → HasRisen (E.faults report.old) (E.faults report.new) }
+    ensures either { (result ≡ Status.Refused) ⊎ (result ≡ Status.WriteFault)
+        ⊎ (result ≡ Status.Memory) }
+    ensures cause { result ≡ Status.WriteFault
+        → HasRisen (E.faults report.old) (E.faults report.new) }
 {
     match render(alloc, text, diagnostics) {
         Ok(lines) => match give_all(report, &lines) {

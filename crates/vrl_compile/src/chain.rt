@@ -23,7 +23,8 @@ pub(crate) fn offset_of(rest: &str, end: u32) -> u32
 
 /// The operand that is spelled so, from `start` up to and without `end`.
 fn operand(alloc: Global, token: Token<'_>, start: u32, end: u32) -> Result<Operand, Memory>
-    ensures { IfOk result (λ o. (o.form ≡ form_of token.entry) × (o.span.start ≡ start) × (o.span.end ≡ end)) }
+    ensures { IfOk result (λ o. (o.form ≡ form_of token.entry) × (o.span.start ≡ start)
+        × (o.span.end ≡ end)) }
 {
     Ok(Operand {
         span: Span { start, end },

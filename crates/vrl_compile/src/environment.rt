@@ -39,7 +39,8 @@ impl Environment {
 
     /// The kind of a variable, if an item wrote it.
     pub(crate) fn variable(&self, alloc: Global, name: &str) -> Result<Option<Kind>, Memory>
-        ensures { IfOk result (λ found. variable_kind found ≡ (known_of self.now).variables name.now) }
+        ensures { IfOk result (λ found. variable_kind found
+            ≡ (known_of self.now).variables name.now) }
     {
         match self.variables.get(name) {
             Some(kind) => Ok(Some(kind.copy(alloc)?)),
@@ -49,7 +50,8 @@ impl Environment {
 
     /// Writes a kind at a place.
     pub(crate) fn write(&mut self, alloc: Global, place: &Place, kind: Kind) -> Result<(), Memory>
-        ensures { OnOk result (known_of self.new ≡ write_known place.now (tags_of kind) (known_of self.old)) }
+        ensures { OnOk result (known_of self.new
+            ≡ write_known place.now (tags_of kind) (known_of self.old)) }
     {
         match place {
             Place::Field(name) => {

@@ -42,7 +42,8 @@ enum Outcome {
 impl Outcome {
     /// The sum of what came before and a value; an error stays.
     fn plus(self, right: Value) -> Result<Outcome, Memory>
-        ensures { IfOk result (λ sum. outcome_view sum ≡ sum_with (outcome_view self) (tree_of right)) }
+        ensures { IfOk result (λ sum. outcome_view sum
+            ≡ sum_with (outcome_view self) (tree_of right)) }
     {
         match self {
             Outcome::Value(left) => sum(left, right),
@@ -82,7 +83,8 @@ struct Store {
 impl Store {
     /// What stands at a place, if anything does.
     fn find(&self, place: &Place) -> Option<&Value>
-        ensures { unwrap_or (option_map (λ value. tree_of value.now) result) null ≡ read place.now (store_view self.now) }
+        ensures { unwrap_or (option_map (λ value. tree_of value.now) result) null
+            ≡ read place.now (store_view self.now) }
     {
         match (place, &self.event) {
             (Place::Field(name), Value::Object(fields)) => fields.get(name.as_str()),
@@ -93,7 +95,8 @@ impl Store {
 
     /// The value that an operand has.
     fn value_of(&self, alloc: Global, form: &Form) -> Result<Value, Memory>
-        ensures { IfOk result (λ value. tree_of value ≡ value_of_form form.now (store_view self.now)) }
+        ensures { IfOk result (λ value. tree_of value
+            ≡ value_of_form form.now (store_view self.now)) }
     {
         match form {
             Form::Number(number) => Ok(Value::Int(*number)),
@@ -124,7 +127,8 @@ impl Store {
 
     /// Puts a value at a place. An event that isn't an object is replaced by one.
     fn write(&mut self, alloc: Global, place: &Place, value: Value) -> Result<(), Memory>
-        ensures { OnOk result (store_view self.new ≡ write place.now (tree_of value) (store_view self.old)) }
+        ensures { OnOk result (store_view self.new
+            ≡ write place.now (tree_of value) (store_view self.old)) }
     {
         match place {
             Place::Field(name) => {
@@ -145,7 +149,8 @@ impl Store {
     /// Runs an item that ends with a value. An expression writes nothing, so it is left out.
     fn run_item(&mut self, alloc: Global, item: &Item) -> Result<(), Memory>
         requires { ¬ IsUnhandled (run_item item.now (store_view self.old)).outcome }
-        ensures { OnOk result (store_view self.new ≡ (run_item item.now (store_view self.old)).store) }
+        ensures { OnOk result (store_view self.new
+            ≡ (run_item item.now (store_view self.old)).store) }
     {
         match item {
             Item::Assign(_, place, chain) => match self.evaluate(alloc, chain)? {

@@ -47,7 +47,8 @@ struct Ending {
 
 /// What is wrong with the items of a script, in order.
 pub(crate) fn diagnostics_of(alloc: Global, items: &[Item]) -> Result<Vec<Diagnostic>, Memory>
-    ensures { IfOk result (λ diagnostics. AreOrdered (judge_script items.now).codes diagnostics.items) }
+    ensures { IfOk result (λ diagnostics.
+        AreOrdered (judge_script items.now).codes diagnostics.items) }
 {
     let mut environment = Environment::new(alloc);
     let mut alive = true;
@@ -68,7 +69,8 @@ fn end_of(
     alive: bool,
     environment: &mut Environment,
 ) -> Result<Ending, Memory>
-    ensures { IfOk result (IsEnding (known_of environment.new) (judge_item item.now (state_at alive (known_of environment.old)))) }
+    ensures { IfOk result (IsEnding (known_of environment.new)
+        (judge_item item.now (state_at alive (known_of environment.old)))) }
 {
     if alive {
         end_of_reached(alloc, item, environment)
@@ -86,7 +88,8 @@ fn end_of_reached(
     item: &Item,
     environment: &mut Environment,
 ) -> Result<Ending, Memory>
-    ensures { IfOk result (IsEnding (known_of environment.new) (judge_item item.now (alive (known_of environment.old)))) }
+    ensures { IfOk result (IsEnding (known_of environment.new)
+        (judge_item item.now (alive (known_of environment.old)))) }
 {
     match item {
         Item::Assign(span, place, chain) => {
@@ -126,7 +129,8 @@ fn with_code(
 
 // The judgement of an expression where an environment is known.
 fn judge_chain(alloc: Global, chain: &Chain, environment: &Environment) -> Result<Judged, Memory>
-    ensures { IfOk result (IsJudged (known_of environment.now) (span_of (expr_of chain.now)) (judge (expr_of chain.now) (alive (known_of environment.now)))) }
+    ensures { IfOk result (IsJudged (known_of environment.now) (span_of (expr_of chain.now))
+        (judge (expr_of chain.now) (alive (known_of environment.now)))) }
 {
     let sum = judge_operand(alloc, &chain.first, environment, true)?;
     let mut part = Part { left: None, sum };
@@ -144,8 +148,10 @@ fn read_on(
     right: &Operand,
     environment: &Environment,
 ) -> Result<Part, Memory>
-    ensures { (left : SpecOption Expr) (sum : Expr) → IsPart (known_of environment.now) left sum part
-        → IfOk result (IsPart (known_of environment.now) (next_left left sum operator) (next_sum sum operator right.now)) }
+    ensures { (left : SpecOption Expr) (sum : Expr)
+        → IsPart (known_of environment.now) left sum part
+        → IfOk result (IsPart (known_of environment.now) (next_left left sum operator)
+        (next_sum sum operator right.now)) }
 {
     match operator {
         Operator::Plus => {
@@ -170,7 +176,8 @@ fn read_on(
 // The judgement of a part as a whole expression.
 fn whole(alloc: Global, part: Part) -> Result<Judged, Memory>
     ensures { (known : Known) (left : SpecOption Expr) (sum : Expr) → IsPart known left sum part
-        → IfOk result (IsJudged known (span_of (with_left left sum)) (judge (with_left left sum) (alive known))) }
+        → IfOk result (IsJudged known (span_of (with_left left sum))
+        (judge (with_left left sum) (alive known))) }
 {
     let Part { left, sum } = part;
     match left {
@@ -181,7 +188,9 @@ fn whole(alloc: Global, part: Part) -> Result<Judged, Memory>
 
 // The judgement of `??` between two expressions.
 fn coalesce(alloc: Global, left: Judged, right: Judged) -> Result<Judged, Memory>
-    ensures { (known : Known) → IfOk result (IsJudged known (across left.span right.span) (judge_coalesce (across left.span right.span) (judgement_of left known) (judgement_of right known))) }
+    ensures { (known : Known) → IfOk result (IsJudged known (across left.span right.span)
+        (judge_coalesce (across left.span right.span)
+        (judgement_of left known) (judgement_of right known))) }
 {
     let span = across(left.span, right.span);
     let poisoned = either(left.poisoned, right.poisoned);
@@ -209,14 +218,16 @@ fn coalesce_fails(poisoned: bool, right: &Judged) -> bool
 
 // Whether the right side of `??` is reached: where the left one ends with an error.
 fn reaches_right(left: &Judged) -> bool
-    ensures { (known : Known) → state_at result known ≡ start_of_right (judgement_of left.now known) }
+    ensures { (known : Known) → state_at result known
+        ≡ start_of_right (judgement_of left.now known) }
 {
     !left.poisoned && left.fail
 }
 
 // The judgement of `+` between two expressions.
 fn add(alloc: Global, left: Judged, right: Judged) -> Result<Judged, Memory>
-    ensures { (known : Known) → IfOk result (IsJudged known (across left.span right.span) (judge_plus (judgement_of left known) (judgement_of right known))) }
+    ensures { (known : Known) → IfOk result (IsJudged known (across left.span right.span)
+        (judge_plus (judgement_of left known) (judgement_of right known))) }
 {
     let poisoned = either(left.poisoned, right.poisoned);
     let kind = kind_of_addition(alloc, poisoned, &left.kind, &right.kind)?;
@@ -234,14 +245,16 @@ fn add(alloc: Global, left: Judged, right: Judged) -> Result<Judged, Memory>
 
 // Whether a `+` may end with a value.
 fn sum_gives(poisoned: bool, left: &Judged, right: &Judged) -> bool
-    ensures { result ≡ (right.now.ok && (poisoned || plus_may_succeed (tags_of left.now.kind) (tags_of right.now.kind))) }
+    ensures { result ≡ (right.now.ok && (poisoned || plus_may_succeed (tags_of left.now.kind)
+        (tags_of right.now.kind))) }
 {
     right.ok && (poisoned || may_succeed(&left.kind, &right.kind))
 }
 
 // Whether a `+` may end with an error: one of its sides, or its own.
 fn sum_fails(poisoned: bool, left: &Judged, right: &Judged) -> bool
-    ensures { result ≡ (not poisoned && ((left.now.fail || right.now.fail) || (right.now.ok && plus_may_fail (tags_of left.now.kind) (tags_of right.now.kind)))) }
+    ensures { result ≡ (not poisoned && ((left.now.fail || right.now.fail) ||
+        (right.now.ok && plus_may_fail (tags_of left.now.kind) (tags_of right.now.kind)))) }
 {
     !poisoned && (left.fail || right.fail || (right.ok && may_fail(&left.kind, &right.kind)))
 }
@@ -277,7 +290,8 @@ fn judge_operand(
     environment: &Environment,
     alive: bool,
 ) -> Result<Judged, Memory>
-    ensures { IfOk result (IsJudged (known_of environment.now) read.now.span (judge (operand read.now) (state_at alive (known_of environment.now)))) }
+    ensures { IfOk result (IsJudged (known_of environment.now) read.now.span
+        (judge (operand read.now) (state_at alive (known_of environment.now)))) }
 {
     if alive {
         judge_reached(alloc, read.span, &read.form, environment)
@@ -300,7 +314,8 @@ fn judge_reached(
     form: &Form,
     environment: &Environment,
 ) -> Result<Judged, Memory>
-    ensures { IfOk result (IsJudged (known_of environment.now) span (judge_form span form.now (known_of environment.now))) }
+    ensures { IfOk result (IsJudged (known_of environment.now) span
+        (judge_form span form.now (known_of environment.now))) }
 {
     match form {
         Form::Number(_) => Ok(sure(alloc, span, Kind::of(alloc, Tag::Int)?)),
@@ -316,7 +331,8 @@ fn judge_read(
     place: &Place,
     environment: &Environment,
 ) -> Result<Judged, Memory>
-    ensures { IfOk result (IsJudged (known_of environment.now) span (judge_form span (Form.Read place.now) (known_of environment.now))) }
+    ensures { IfOk result (IsJudged (known_of environment.now) span
+        (judge_form span (Form.Read place.now) (known_of environment.now))) }
 {
     match place {
         Place::Field(name) => {
@@ -331,7 +347,8 @@ fn judge_read(
 
 // The judgement of a variable, by the kind that is known of it.
 fn judge_variable(alloc: Global, span: Span, known: Option<Kind>) -> Result<Judged, Memory>
-    ensures { (environment : Known) → IfOk result (IsJudged environment span (judge_variable span environment (variable_kind known))) }
+    ensures { (environment : Known) → IfOk result (IsJudged environment span
+        (judge_variable span environment (variable_kind known))) }
 {
     match known {
         Some(kind) => Ok(sure(alloc, span, kind)),
@@ -375,7 +392,8 @@ fn kind_of_read(alloc: Global, kind: &Kind) -> Result<Kind, Memory>
 
 // The kind of a `+`: any where an error code stands in it.
 fn kind_of_addition(alloc: Global, poisoned: bool, a: &Kind, b: &Kind) -> Result<Kind, Memory>
-    ensures { IfOk result (λ kind. tags_of kind ≡ (if poisoned then any else plus_kind (tags_of a.now) (tags_of b.now))) }
+    ensures { IfOk result (λ kind. tags_of kind
+        ≡ (if poisoned then any else plus_kind (tags_of a.now) (tags_of b.now))) }
 {
     if poisoned {
         Kind::any(alloc)
@@ -386,7 +404,8 @@ fn kind_of_addition(alloc: Global, poisoned: bool, a: &Kind, b: &Kind) -> Result
 
 // The kind of a `??`: any where an error code stands in it.
 fn kind_of_either(alloc: Global, poisoned: bool, a: &Kind, b: &Kind) -> Result<Kind, Memory>
-    ensures { IfOk result (λ kind. tags_of kind ≡ (if poisoned then any else union (tags_of a.now) (tags_of b.now))) }
+    ensures { IfOk result (λ kind. tags_of kind
+        ≡ (if poisoned then any else union (tags_of a.now) (tags_of b.now))) }
 {
     if poisoned {
         Kind::any(alloc)

@@ -12,6 +12,8 @@ mod scan;
 mod script;
 mod soundness;
 mod syntax;
+#[cfg(test)]
+mod tests;
 mod token;
 
 pub use diagnostic::{Diagnostic, Diagnostics, Span};
