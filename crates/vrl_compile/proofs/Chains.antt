@@ -15,7 +15,7 @@ use Rattle.vrl_compile.specs.declared.syntax.Operator.{Operator}
 use Rattle.vrl_compile.specs.declared.syntax.Operator.TheVariants.{Plus, Coalesce}
 use Rattle.vrl_compile.proofs.Classes.{blank_no_name_part, plus_no_name_part, question_no_name_part}
 use Rattle.vrl_compile.proofs.Runs.{outside_end, outside_run, same_longest_run}
-use Rattle.vrl_compile.proofs.Tokens.{outside_blank, same_end, same_operand_place}
+use Rattle.vrl_compile.proofs.Tokens.{outside_blank, same_form, same_operator}
 
 -- ---- what stands behind an operand
 
@@ -78,23 +78,27 @@ next_is end operator o form more {text} {spelled} {rest} fits joins begins spann
     }
 
 -- an operator and an operand at the start of a text, and others behind them
-record IsCut (end : ℕ) (text : List ℕ) (operator : Operator) (o : Operand) (more : List (Operator × Operand)) : Type 0 where
-  spelled : List ℕ
-  rest : List ℕ
-  joins : BeginsWithOperator text operator spelled
-  begins : BeginsWithForm spelled o.form rest
-  others : AreOthers more (end - length rest) rest
+pub record IsCut (end : ℕ) (text : List ℕ) (operator : Operator) (o : Operand) (more : List (Operator × Operand)) : Type 0 where
+  pub spelled : List ℕ
+  pub rest : List ℕ
+  pub joins : BeginsWithOperator text operator spelled
+  pub begins : BeginsWithForm spelled o.form rest
+  pub spanned : IsSpanned o o.form (end - length spelled) (end - length rest)
+  pub others : AreOthers more (end - length rest) rest
 
-cut : (end : ℕ) (operator : Operator) (o : Operand) (more : List (Operator × Operand)) (text : List ℕ) → length text ≤ end → AreOthers ((operator, o) ∷ more) (end - length text) text → IsCut end text operator o more
+pub cut : (end : ℕ) (operator : Operator) (o : Operand) (more : List (Operator × Operand)) (text : List ℕ) → length text ≤ end → AreOthers ((operator, o) ∷ more) (end - length text) text → IsCut end text operator o more
 cut end operator o more text fits are =
     let long = simp length-append at (ap length are.parts) in
     let begins : BeginsWithForm (are.spelling ++ are.behind) o.form are.behind = begins_with_operand refl are.operand (others_outside more _ are.behind are.others) in
     let behind : (end - length text) + length are.gap + length (spelling_of operator) + length are.second_gap + length are.spelling ≡ end - length are.behind = omega arith in
+    let spelled = length-append are.spelling are.behind in
+    let start : (end - length text) + length are.gap + length (spelling_of operator) + length are.second_gap ≡ end - length (are.spelling ++ are.behind) = omega arith in
     record {
       spelled = are.spelling ++ are.behind;
       rest = are.behind;
       joins = record { gap = are.gap; second_gap = are.second_gap; parts = are.parts; gap_is_blank = are.gap_is_blank; second_gap_is_blank = are.second_gap_is_blank; ends = outside_blank begins };
       begins = begins;
+      spanned = (refl, are.operand.start ∙ start, are.operand.end ∙ behind);
       others = subst (λ at. AreOthers more at are.behind) behind are.others;
     }
 
@@ -116,8 +120,8 @@ next_only : (end : ℕ) (text spelled rest : List ℕ) (operator : Operator) (fo
 next_only end text spelled rest operator form fits some joins begins [] are = absurd (some are)
 next_only end text spelled rest operator form fits some joins begins (other ∷ more) are =
     let own = cut end other.0 other.1 more text fits are in
-    let place : own.spelled ≡ spelled = same_operand_place own.joins joins in
-    let behind : own.rest ≡ rest = same_end (subst (λ t. BeginsWithForm t other.1.form own.rest) place own.begins) begins in
+    let place : own.spelled ≡ spelled = (same_operator own.joins joins).1 in
+    let behind : own.rest ≡ rest = (same_form (subst (λ t. BeginsWithForm t other.1.form own.rest) place own.begins) begins).1 in
     (more, subst (λ r. AreOthers more (end - length r) r) behind own.others)
 
 pub read_more : (end : ℕ) (text : List ℕ) (others : List (Operator × Operand)) (rest : List ℕ) (operator : Operator) (o : Operand) (form : Form) {spelled behind : List ℕ}
@@ -173,7 +177,7 @@ no_others_without_operand end text others rest {operator} {spelled} fits read so
     refused [] short are = some are
     refused (other ∷ more) short are =
         let own = cut end other.0 other.1 more rest short are in
-        let place : own.spelled ≡ spelled = same_operand_place own.joins joins in
+        let place : own.spelled ≡ spelled = (same_operator own.joins joins).1 in
         none other.1.form own.rest (subst (λ t. BeginsWithForm t other.1.form own.rest) place own.begins)
 
 -- ---- chains
@@ -181,7 +185,11 @@ no_others_without_operand end text others rest {operator} {spelled} fits read so
 pub record IsChainCut (end : ℕ) (text : List ℕ) (chain : Chain) : Type 0 where
   pub rest : List ℕ
   pub begins : BeginsWithForm text chain.first.form rest
+  pub spanned : IsSpanned chain.first chain.first.form (end - length text) (end - length rest)
   pub others : AreOthers chain.others.items (end - length rest) rest
+
+pub first_operand : {at : ℕ} {text : List ℕ} {chain : Chain} → (is : IsChain at text chain) → BeginsWithForm text chain.first.form is.behind
+first_operand {at} {text} {chain} is = begins_with_operand is.parts is.first (others_outside chain.others.items _ is.behind is.others)
 
 pub chain_cut : (end : ℕ) (text : List ℕ) (chain : Chain) → length text ≤ end → IsChain (end - length text) text chain → IsChainCut end text chain
 chain_cut end text chain fits is =
@@ -189,12 +197,13 @@ chain_cut end text chain fits is =
     let behind : (end - length text) + length is.spelling ≡ end - length is.behind = omega arith in
     record {
       rest = is.behind;
-      begins = begins_with_operand is.parts is.first (others_outside chain.others.items _ is.behind is.others);
+      begins = first_operand is;
+      spanned = (refl, is.first.start, is.first.end ∙ behind);
       others = subst (λ at. AreOthers chain.others.items at is.behind) behind is.others;
     }
 
-pub chain_outside_blank : (end : ℕ) (text : List ℕ) (chain : Chain) → length text ≤ end → IsChain (end - length text) text chain → BeginsOutside IsBlank text
-chain_outside_blank end text chain fits is = let own = chain_cut end text chain fits is in outside_blank {rest = own.rest} own.begins
+chain_outside_blank : {at : ℕ} {text : List ℕ} {chain : Chain} → IsChain at text chain → BeginsOutside IsBlank text
+chain_outside_blank is = outside_blank {rest = is.behind} (first_operand is)
 
 pub no_chain_without_first : (end : ℕ) (text : List ℕ) → length text ≤ end → ((form : Form) (rest : List ℕ) → ¬ BeginsWithForm text form rest) → (chain : Chain) → ¬ IsChain (end - length text) text chain
 no_chain_without_first end text fits none chain is = let own = chain_cut end text chain fits is in none chain.first.form own.rest own.begins
@@ -203,7 +212,7 @@ pub no_chain_without_others : (end : ℕ) (text : List ℕ) {form : Form} {rest 
     → (chain : Chain) → ¬ IsChain (end - length text) text chain
 no_chain_without_others end text {form} {rest} fits begins none chain is =
     let own = chain_cut end text chain fits is in
-    none chain.others.items (subst (λ r. AreOthers chain.others.items (end - length r) r) (same_end own.begins begins) own.others)
+    none chain.others.items (subst (λ r. AreOthers chain.others.items (end - length r) r) (same_form own.begins begins).1 own.others)
 
 pub chain_is : (end : ℕ) (text : List ℕ) (chain : Chain) (form : Form) {rest : List ℕ} → length text ≤ end → BeginsWithForm text form rest → IsSpanned chain.first form (end - length text) (end - length rest) → AreOthers chain.others.items (end - length rest) rest
     → IsChain (end - length text) text chain
@@ -230,18 +239,18 @@ expression_is end text chain {gap} {unspaced} fits run is =
       chain_is = subst (λ at. IsChain at unspaced chain) (sym behind) is;
     }
 
--- the chain of an expression stands behind all the blanks
-pub chain_behind : (end : ℕ) (text : List ℕ) (chain : Chain) {gap unspaced : List ℕ} → length text ≤ end → IsLongestRun IsBlank text gap unspaced → IsExpression (end - length text) text chain → IsChain (end - length unspaced) unspaced chain
-chain_behind end text chain {gap} {unspaced} fits run is =
+-- an expression stands behind all the blanks
+pub expression_run : (end : ℕ) (text : List ℕ) (chain : Chain) → length text ≤ end → (is : IsExpression (end - length text) text chain) → IsLongestRun IsBlank text is.gap is.rest × IsChain (end - length is.rest) is.rest chain
+expression_run end text chain fits is =
     let long = simp length-append at (ap length is.parts) in
     let behind : (end - length text) + length is.gap ≡ end - length is.rest = omega arith in
     let at : IsChain (end - length is.rest) is.rest chain = subst (λ at. IsChain at is.rest chain) behind is.chain_is in
-    let own : IsLongestRun IsBlank text is.gap is.rest = record {
-      parts = is.parts;
-      passes = is.gap_is_blank;
-      ends = chain_outside_blank end is.rest chain (omega arith) at;
-    } in
-    subst (λ r. IsChain (end - length r) r chain) (same_longest_run own run).1 at
+    (record { parts = is.parts; passes = is.gap_is_blank; ends = chain_outside_blank at }, at)
+
+pub chain_behind : (end : ℕ) (text : List ℕ) (chain : Chain) {gap unspaced : List ℕ} → length text ≤ end → IsLongestRun IsBlank text gap unspaced → IsExpression (end - length text) text chain → IsChain (end - length unspaced) unspaced chain
+chain_behind end text chain {gap} {unspaced} fits run is =
+    let own = expression_run end text chain fits is in
+    subst (λ r. IsChain (end - length r) r chain) (same_longest_run own.0 run).1 own.1
 
 -- ---- the span of a chain
 

@@ -15,15 +15,12 @@ use Rattle.vrl_compile.specs.declared.syntax.Operand.{Operand}
 use Rattle.vrl_compile.specs.declared.syntax.Operator.{Operator}
 use Rattle.vrl_compile.specs.declared.syntax.Operator.TheVariants.{Plus, Coalesce}
 use Rattle.vrl_compile.specs.declared.syntax.Place.{Place}
-use Rattle.vrl_compile.proofs.Chains.{chain_behind, chain_cut}
+use Rattle.vrl_compile.proofs.Chains.{chain_behind, chain_cut, first_operand}
 use Rattle.vrl_compile.proofs.Classes.{equals_no_blank, plus_no_blank, question_no_blank}
-use Rattle.vrl_compile.proofs.Runs.{passes_behind, same_longest_run}
-use Rattle.vrl_compile.proofs.Tokens.{not_blank, outside_blank, place_before_sign, same_end, same_value}
+use Rattle.vrl_compile.proofs.Runs.{heads, passes_behind, same_longest_run}
+use Rattle.vrl_compile.proofs.Tokens.{not_blank, outside_blank, place_before_sign, same_form, same_target}
 
 -- ---- `=` behind a place
-
-heads : {a b : ℕ} {xs ys : List ℕ} → a ∷ xs ≡ b ∷ ys → a ≡ b
-heads same = cc
 
 -- no operator and no end of a line is `=`
 others_no_sign : (others : List (Operator × Operand)) (at : ℕ) (gap rest : List ℕ) → AllByRecursion IsBlank gap → ¬ AreOthers others at (gap ++ 61 ∷ rest)
@@ -37,29 +34,35 @@ others_no_sign ((Coalesce, o) ∷ others) at gap rest blank are =
     let question : IsLongestRun IsBlank (gap ++ 61 ∷ rest) are.gap (63 ∷ (63 ∷ (are.second_gap ++ (are.spelling ++ are.behind)))) = record { parts = are.parts; passes = are.gap_is_blank; ends = question_no_blank } in
     absurd (omega (arith, heads (same_longest_run sign question).1))
 
-chain_no_sign : (end : ℕ) (text : List ℕ) (chain : Chain) {place : Place} {rest : List ℕ} → length text ≤ end → BeginsWithTarget text place rest → ¬ IsChain (end - length text) text chain
+pub chain_no_sign : (end : ℕ) (text : List ℕ) (chain : Chain) {place : Place} {rest : List ℕ} → length text ≤ end → BeginsWithTarget text place rest → ¬ IsChain (end - length text) text chain
 chain_no_sign end text chain {place} {rest} fits is chained =
     let own = chain_cut end text chain fits chained in
-    let behind = same_end own.begins (place_before_sign is) in
+    let behind = (same_form own.begins (place_before_sign is)).1 in
     others_no_sign chain.others.items (end - length own.rest) is.gap rest is.gap_is_blank (subst (AreOthers chain.others.items (end - length own.rest)) behind own.others)
 
 -- ---- assignments
 
--- an assignment behind the blanks of its line
-record IsAssignCut (end : ℕ) (unspaced : List ℕ) (place : Place) (chain : Chain) : Type 0 where
-  value : List ℕ
-  begins : BeginsWithTarget unspaced place value
-  expression : IsExpression (end - length value) value chain
+-- the place of an assignment stands behind all the blanks of its line
+pub assign_run : {at : ℕ} {line : List ℕ} {span : Span} {place : Place} {chain : Chain} → (is : IsAssign at line span place chain)
+    → BeginsWithTarget (is.target ++ (is.second_gap ++ 61 ∷ is.rest)) place is.rest × IsLongestRun IsBlank line is.gap (is.target ++ (is.second_gap ++ 61 ∷ is.rest))
+assign_run {place = place} is =
+    let begins : BeginsWithTarget (is.target ++ (is.second_gap ++ 61 ∷ is.rest)) place is.rest = record { target = is.target; gap = is.second_gap; parts = refl; is_place = is.target_is; gap_is_blank = is.second_gap_is_blank } in
+    (begins, record { parts = is.parts; passes = is.gap_is_blank; ends = outside_blank (place_before_sign begins) })
 
-assign_cut : (end : ℕ) (line : List ℕ) (span : Span) (place : Place) (chain : Chain) {gap unspaced : List ℕ} → length line ≤ end → IsLongestRun IsBlank line gap unspaced → IsAssign (end - length line) line span place chain → IsAssignCut end unspaced place chain
+-- an assignment behind the blanks of its line
+pub record IsAssignCut (end : ℕ) (unspaced : List ℕ) (place : Place) (chain : Chain) : Type 0 where
+  pub value : List ℕ
+  pub begins : BeginsWithTarget unspaced place value
+  pub expression : IsExpression (end - length value) value chain
+
+pub assign_cut : (end : ℕ) (line : List ℕ) (span : Span) (place : Place) (chain : Chain) {gap unspaced : List ℕ} → length line ≤ end → IsLongestRun IsBlank line gap unspaced → IsAssign (end - length line) line span place chain → IsAssignCut end unspaced place chain
 assign_cut end line span place chain {gap} {unspaced} fits run is =
     let long = simp length-append at (ap length is.parts) in
     let behind : (end - length line) + length is.gap + length is.target + length is.second_gap + 1 ≡ end - length is.rest = omega arith in
-    let begins : BeginsWithTarget (is.target ++ (is.second_gap ++ 61 ∷ is.rest)) place is.rest = record { target = is.target; gap = is.second_gap; parts = refl; is_place = is.target_is; gap_is_blank = is.second_gap_is_blank } in
-    let own : IsLongestRun IsBlank line is.gap (is.target ++ (is.second_gap ++ 61 ∷ is.rest)) = record { parts = is.parts; passes = is.gap_is_blank; ends = outside_blank (place_before_sign begins) } in
+    let own = assign_run is in
     record {
       value = is.rest;
-      begins = subst (λ t. BeginsWithTarget t place is.rest) (same_longest_run own run).1 begins;
+      begins = subst (λ t. BeginsWithTarget t place is.rest) (same_longest_run own.1 run).1 own.0;
       expression = subst (λ at. IsExpression at is.rest chain) behind is.value;
     }
 
@@ -97,7 +100,7 @@ pub no_item_without_value : (end : ℕ) (line : List ℕ) {gap unspaced value : 
     → ((chain : Chain) → ¬ IsExpression (end - length value) value chain) → (item : Item) → ¬ IsItem (end - length line) line item
 no_item_without_value end line fits run begins none (Assign span place chain) is =
     let own = assign_cut end line span place chain fits run is in
-    none chain (subst (λ v. IsExpression (end - length v) v chain) (same_value own.begins begins) own.expression)
+    none chain (subst (λ v. IsExpression (end - length v) v chain) (same_target own.begins begins).1 own.expression)
 no_item_without_value end line {gap = gap} {unspaced = unspaced} fits run begins none (Expression chain) is =
     let long = simp length-append at (ap length run.parts) in
     chain_no_sign end unspaced chain (omega arith) begins (chain_behind end line chain fits run is)
@@ -109,12 +112,8 @@ no_item_without_target end line fits run untargeted none (Assign span place chai
 no_item_without_target end line fits run untargeted none (Expression chain) is = none chain is
 
 -- no item is blank
-pub item_not_blank : (end : ℕ) (line : List ℕ) (item : Item) → length line ≤ end → IsItem (end - length line) line item → ¬ AllByRecursion IsBlank line
-item_not_blank end line (Assign span place chain) fits is blank =
-    let begins : BeginsWithTarget (is.target ++ (is.second_gap ++ 61 ∷ is.rest)) place is.rest = record { target = is.target; gap = is.second_gap; parts = refl; is_place = is.target_is; gap_is_blank = is.second_gap_is_blank } in
-    not_blank (place_before_sign begins) (passes_behind IsBlank is.gap _ (subst (AllByRecursion IsBlank) is.parts blank))
-item_not_blank end line (Expression chain) fits is blank =
-    let long = simp length-append at (ap length is.parts) in
-    let behind : (end - length line) + length is.gap ≡ end - length is.rest = omega arith in
-    let own = chain_cut end is.rest chain (omega arith) (subst (λ at. IsChain at is.rest chain) behind is.chain_is) in
-    not_blank {rest = own.rest} own.begins (passes_behind IsBlank is.gap is.rest (subst (AllByRecursion IsBlank) is.parts blank))
+pub item_not_blank : (at : ℕ) (line : List ℕ) (item : Item) → IsItem at line item → ¬ AllByRecursion IsBlank line
+item_not_blank at line (Assign span place chain) is blank = not_blank (place_before_sign (assign_run is).0) (passes_behind IsBlank is.gap _ (subst (AllByRecursion IsBlank) is.parts blank))
+item_not_blank at line (Expression chain) is blank =
+    let begins = first_operand is.chain_is in
+    not_blank {rest = is.chain_is.behind} begins (passes_behind IsBlank is.gap is.rest (subst (AllByRecursion IsBlank) is.parts blank))

@@ -2,6 +2,7 @@ pub mod Additions
 pub mod Chains
 pub mod Classes
 pub mod Compiling
+pub mod Determined
 pub mod Environments
 pub mod Evaluation
 pub mod ExpressionSound
@@ -14,7 +15,9 @@ pub mod Lines
 pub mod Numerals
 pub mod Outcomes
 pub mod PlusSound
+pub mod Readings
 pub mod Running
 pub mod Runs
 pub mod ScriptSound
+pub mod Sorting
 pub mod Tokens

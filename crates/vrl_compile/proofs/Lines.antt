@@ -37,12 +37,9 @@ behind_blank text items line lines at blank read = record {
       let left = read.only all are in
       elim left.1 [
         | inl rest ↦ (left.0, rest.1)
-        | inr has ↦ absurd (item_at line at has.item has.item_is blank)
+        | inr has ↦ absurd (item_not_blank at line has.item has.item_is blank)
       ];
 }
-  where
-    item_at : (line : List ℕ) (at : ℕ) (item : Item) → IsItem at line item → ¬ AllByRecursion IsBlank line
-    item_at line at item is = let start : (at + length line) - length line ≡ at = omega arith in item_not_blank (at + length line) line item (omega arith) (subst (λ n. IsItem n line item) (sym start) is)
 
 behind_item : (text : List ℕ) (items : List Item) (line : List ℕ) (lines : List (List ℕ)) (at : ℕ) (item : Item) → ¬ AllByRecursion IsBlank line → IsItem at line item → IsReadTo text items (line ∷ lines) at
     → IsReadTo text (items ++ item ∷ []) lines (at + length line + 1)

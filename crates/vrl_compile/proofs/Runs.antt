@@ -90,3 +90,6 @@ apart_from_mark mark (b ∷ bs) none =
 pub passes_behind : (P : ℕ → Type 0) (run rest : List ℕ) → AllByRecursion P (run ++ rest) → AllByRecursion P rest
 passes_behind P [] rest all = all
 passes_behind P (x ∷ xs) rest all = passes_behind P xs rest all.1
+
+pub heads : {a b : ℕ} {xs ys : List ℕ} → a ∷ xs ≡ b ∷ ys → a ≡ b
+heads same = cc

@@ -14,7 +14,7 @@ use Rattle.vrl_compile.specs.declared.syntax.Place.{Place}
 use Rattle.vrl_compile.specs.declared.syntax.Place.TheVariants.{Field, Variable}
 use Rattle.vrl_compile.proofs.Classes.{blank_no_name_part, equals_no_blank, equals_no_name_part, plus_no_blank, question_no_blank}
 use Rattle.vrl_compile.proofs.Numerals.{same_numeral}
-use Rattle.vrl_compile.proofs.Runs.{all_weaker, outside_run, same_longest_run}
+use Rattle.vrl_compile.proofs.Runs.{all_weaker, heads, outside_run, passes_behind, same_longest_run}
 
 -- ---- texts in quotes
 
@@ -165,36 +165,37 @@ one_form (Read (Variable name)) (Read (Variable other)) b one two = tt
 numeral : {text rest : List ℕ} {n : ℤ} → BeginsWithForm text (Number n) rest → BeginsWithNumeral text n rest
 numeral is = record { numeral = is.spelling; parts = is.parts; is_numeral = is.is_form; ends = is.ends }
 
-same_end_of_one : (form other : Form) {text rest last : List ℕ} → IsOneForm form other → BeginsWithForm text form rest → BeginsWithForm text other last → rest ≡ last
-same_end_of_one (Number n) (Number m) same one two = (same_numeral (numeral one) (numeral two)).1
-same_end_of_one (Text s) (Text t) {text} {rest} {last} same one two =
+same_form_of_one : (form other : Form) {text rest last : List ℕ} → IsOneForm form other → BeginsWithForm text form rest → BeginsWithForm text other last → (form ≡ other) × (rest ≡ last)
+same_form_of_one (Number n) (Number m) same one two = let numbers = same_numeral (numeral one) (numeral two) in (ap (λ k. Number k) numbers.0, numbers.1)
+same_form_of_one (Text s) (Text t) {text} {rest} {last} same one two =
     let opens = quoted_parts one in
-    let ends = (same_longest_run (quoted_run opens one) (quoted_run opens two)).1 in
-    cc
-same_end_of_one (Read (Field name)) (Read (Field other)) {text} {rest} {last} same one two =
+    let runs = same_longest_run (quoted_run opens one) (quoted_run opens two) in
+    (ap (λ k. Text k) runs.0, let ends = runs.1 in cc)
+same_form_of_one (Read (Field name)) (Read (Field other)) {text} {rest} {last} same one two =
     let dot = one.parts ∙ ap (λ s. s ++ rest) one.is_form.0 in
-    (same_longest_run (field_run dot one) (field_run dot two)).1
-same_end_of_one (Read (Variable name)) (Read (Variable other)) same one two = (same_longest_run (variable_run one) (variable_run two)).1
-same_end_of_one (Number n) (Text t) same one two = absurd same
-same_end_of_one (Number n) (Read (Field other)) same one two = absurd same
-same_end_of_one (Number n) (Read (Variable other)) same one two = absurd same
-same_end_of_one (Text s) (Number m) same one two = absurd same
-same_end_of_one (Text s) (Read (Field other)) same one two = absurd same
-same_end_of_one (Text s) (Read (Variable other)) same one two = absurd same
-same_end_of_one (Read (Field name)) (Number m) same one two = absurd same
-same_end_of_one (Read (Field name)) (Text t) same one two = absurd same
-same_end_of_one (Read (Field name)) (Read (Variable other)) same one two = absurd same
-same_end_of_one (Read (Variable name)) (Number m) same one two = absurd same
-same_end_of_one (Read (Variable name)) (Text t) same one two = absurd same
-same_end_of_one (Read (Variable name)) (Read (Field other)) same one two = absurd same
+    let runs = same_longest_run (field_run dot one) (field_run dot two) in
+    (ap (λ k. Read (Field k)) runs.0, runs.1)
+same_form_of_one (Read (Variable name)) (Read (Variable other)) same one two = let runs = same_longest_run (variable_run one) (variable_run two) in (ap (λ k. Read (Variable k)) runs.0, runs.1)
+same_form_of_one (Number n) (Text t) same one two = absurd same
+same_form_of_one (Number n) (Read (Field other)) same one two = absurd same
+same_form_of_one (Number n) (Read (Variable other)) same one two = absurd same
+same_form_of_one (Text s) (Number m) same one two = absurd same
+same_form_of_one (Text s) (Read (Field other)) same one two = absurd same
+same_form_of_one (Text s) (Read (Variable other)) same one two = absurd same
+same_form_of_one (Read (Field name)) (Number m) same one two = absurd same
+same_form_of_one (Read (Field name)) (Text t) same one two = absurd same
+same_form_of_one (Read (Field name)) (Read (Variable other)) same one two = absurd same
+same_form_of_one (Read (Variable name)) (Number m) same one two = absurd same
+same_form_of_one (Read (Variable name)) (Text t) same one two = absurd same
+same_form_of_one (Read (Variable name)) (Read (Field other)) same one two = absurd same
 
--- the operand that a text begins with ends at one place
-pub same_end : {form other : Form} {text rest last : List ℕ} → BeginsWithForm text form rest → BeginsWithForm text other last → rest ≡ last
-same_end {form} {other} {text} {rest} {last} one two =
+-- a text begins with one operand
+pub same_form : {form other : Form} {text rest last : List ℕ} → BeginsWithForm text form rest → BeginsWithForm text other last → (form ≡ other) × (rest ≡ last)
+same_form {form} {other} {text} {rest} {last} one two =
     let has = has_lead form one in
     let too = has_lead other two in
     let same : has.lead ≡ too.lead = cc (has.parts, too.parts) in
-    same_end_of_one form other (one_form form other too.lead (subst (Leads form) same has.leads) too.leads) one two
+    same_form_of_one form other (one_form form other too.lead (subst (Leads form) same has.leads) too.leads) one two
 
 pub no_token : {text : List ℕ} → ((inner rest : List ℕ) → ¬ BeginsWithForm text (Text inner) rest) → ((place : Place) (rest : List ℕ) → ¬ BeginsWithForm text (Read place) rest) → ((n : ℤ) (rest : List ℕ) → ¬ BeginsWithNumeral text n rest)
     → (form : Form) (rest : List ℕ) → ¬ BeginsWithForm text form rest
@@ -228,18 +229,23 @@ operator_run {text} {rest} {operator} is = record {
 pub no_operator : {text gap unspaced : List ℕ} → IsLongestRun IsBlank text gap unspaced → ((operator : Operator) (joined : List ℕ) → unspaced ≢ spelling_of operator ++ joined) → (operator : Operator) (rest : List ℕ) → ¬ BeginsWithOperator text operator rest
 no_operator run none operator rest is = let own = operator_run is in none operator own.joined (same_longest_run run own.before).1
 
--- the operand behind the operator that a text begins with stands at one place
-pub same_operand_place : {text rest last : List ℕ} {operator other : Operator} → BeginsWithOperator text operator rest → BeginsWithOperator text other last → rest ≡ last
-same_operand_place {text} {rest} {last} {operator} {other} one two =
+-- no text that begins with an operator is blank
+pub operator_not_blank : {text rest : List ℕ} (operator : Operator) → BeginsWithOperator text operator rest → ¬ AllByRecursion IsBlank text
+operator_not_blank Plus is blank = plus_no_blank (passes_behind IsBlank is.gap _ (subst (AllByRecursion IsBlank) is.parts blank)).0
+operator_not_blank Coalesce is blank = question_no_blank (passes_behind IsBlank is.gap _ (subst (AllByRecursion IsBlank) is.parts blank)).0
+
+-- a text begins with one operator, and the operand behind it stands at one place
+pub same_operator : {text rest last : List ℕ} {operator other : Operator} → BeginsWithOperator text operator rest → BeginsWithOperator text other last → (operator ≡ other) × (rest ≡ last)
+same_operator {text} {rest} {last} {operator} {other} one two =
     let first = operator_run one in
     let second = operator_run two in
     joined operator other first second (same_longest_run first.before second.before).1
   where
-    joined : (operator other : Operator) (first : IsOperatorRun text operator rest) (second : IsOperatorRun text other last) → spelling_of operator ++ first.joined ≡ spelling_of other ++ second.joined → rest ≡ last
-    joined Plus Plus first second same = let whole : first.joined ≡ second.joined = cc in (same_longest_run (subst (λ t. IsLongestRun IsBlank t first.second_gap rest) whole first.behind) second.behind).1
-    joined Coalesce Coalesce first second same = let whole : first.joined ≡ second.joined = cc in (same_longest_run (subst (λ t. IsLongestRun IsBlank t first.second_gap rest) whole first.behind) second.behind).1
-    joined Plus Coalesce first second same = cc
-    joined Coalesce Plus first second same = cc
+    joined : (operator other : Operator) (first : IsOperatorRun text operator rest) (second : IsOperatorRun text other last) → spelling_of operator ++ first.joined ≡ spelling_of other ++ second.joined → (operator ≡ other) × (rest ≡ last)
+    joined Plus Plus first second same = let whole : first.joined ≡ second.joined = cc in (refl, (same_longest_run (subst (λ t. IsLongestRun IsBlank t first.second_gap rest) whole first.behind) second.behind).1)
+    joined Coalesce Coalesce first second same = let whole : first.joined ≡ second.joined = cc in (refl, (same_longest_run (subst (λ t. IsLongestRun IsBlank t first.second_gap rest) whole first.behind) second.behind).1)
+    joined Plus Coalesce first second same = absurd (omega (arith, heads same))
+    joined Coalesce Plus first second same = absurd (omega (arith, heads same))
 
 -- ---- places and `=`
 
@@ -254,19 +260,20 @@ place_before_sign {text} {rest} {place} is = record {
 sign_run : {text rest : List ℕ} {place : Place} → (is : BeginsWithTarget text place rest) → IsLongestRun IsBlank (is.gap ++ 61 ∷ rest) is.gap (61 ∷ rest)
 sign_run is = record { parts = refl; passes = is.gap_is_blank; ends = equals_no_blank }
 
--- what follows the `=` behind a place stands at one place
-pub same_value : {text rest last : List ℕ} {place other : Place} → BeginsWithTarget text place rest → BeginsWithTarget text other last → rest ≡ last
-same_value {text} {rest} {last} {place} {other} one two =
-    let behind = same_end (place_before_sign one) (place_before_sign two) in
-    let sign = (same_longest_run (subst (λ t. IsLongestRun IsBlank t one.gap (61 ∷ rest)) behind (sign_run one)) (sign_run two)).1 in
-    cc
+-- a text begins with one place before `=`, and what follows the `=` stands at one place
+pub same_target : {text rest last : List ℕ} {place other : Place} → BeginsWithTarget text place rest → BeginsWithTarget text other last → (place ≡ other) × (rest ≡ last)
+same_target {text} {rest} {last} {place} {other} one two =
+    let forms = same_form (place_before_sign one) (place_before_sign two) in
+    let sign = (same_longest_run (subst (λ t. IsLongestRun IsBlank t one.gap (61 ∷ rest)) forms.1 (sign_run one)) (sign_run two)).1 in
+    let places : Read place ≡ Read other = forms.0 in
+    (cc, cc)
 
 pub no_target_without_place : {text : List ℕ} → ((place : Place) (rest : List ℕ) → ¬ BeginsWithForm text (Read place) rest) → (place : Place) (rest : List ℕ) → ¬ BeginsWithTarget text place rest
 no_target_without_place none place rest is = none place _ (place_before_sign is)
 
 pub no_target_without_sign : {text behind gap sign : List ℕ} {place : Place} → BeginsWithForm text (Read place) behind → IsLongestRun IsBlank behind gap sign → ((rest : List ℕ) → sign ≢ 61 ∷ rest) → (other : Place) (rest : List ℕ) → ¬ BeginsWithTarget text other rest
 no_target_without_sign {gap = gap} {sign = sign} begins run none other rest is =
-    let behind = same_end begins (place_before_sign is) in
+    let behind = (same_form begins (place_before_sign is)).1 in
     none rest (same_longest_run (subst (λ t. IsLongestRun IsBlank t gap sign) behind run) (sign_run is)).1
 
 pub target : {text behind gap sign rest : List ℕ} {place : Place} → BeginsWithForm text (Read place) behind → IsLongestRun IsBlank behind gap sign → sign ≡ 61 ∷ rest → BeginsWithTarget text place rest

@@ -8,6 +8,7 @@ pub mod Lexical
 pub mod Lines
 pub mod Meaning
 pub mod Program
+pub mod Reading
 pub mod Scan
 pub mod Script
 pub mod Soundness

@@ -1,0 +1,5 @@
+use Rattle.vrl_compile.proofs.Determined.{determined}
+use Rattle.vrl_compile.proofs.reading.diagnostics_are_determined.Goals as goal
+
+pub returns : goal.returns
+returns c = determined
