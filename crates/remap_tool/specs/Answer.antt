@@ -1,5 +1,5 @@
 -- What answers a request: the status, and the bytes that belong to it.
-use Rattle.std.specs.Prelude.{ℕ, List, [], ◌∷◌, ◌++◌, length, map, nat_lt, Bool, true, false, if◌then◌else◌, Option, Some, None, codes, decimal}
+use Rattle.std.specs.Prelude.{◌≡◌, ℕ, List, [], ◌∷◌, ◌++◌, length, map, nat_lt, Bool, true, false, if◌then◌else◌, Option, Some, None, codes, decimal}
 use Rattle.std.specs.List.{flat_map, list_any}
 use Rattle.vrl_json.specs.Line.{line_tree, line_text}
 use Rattle.vrl_value.specs.Tree.{Tree}
@@ -65,3 +65,7 @@ abbrev pub answer_to : Request → List ℕ → Answer
 answer_to bad_words input = record { status = Usage; output = []; report = usage_line }
 answer_to (bad_script text diagnostics) input = record { status = Refused; output = []; report = diagnostic_lines text diagnostics }
 answer_to (run text items warnings) input = run_of (diagnostic_lines text warnings) (map (line_result items) (event_lines input))
+
+-- all that is asked has one answer, over each input
+abbrev pub HasOneAnswer : (Request → Type 0) → Type 0
+HasOneAnswer asks = (a b : Request) → asks a → asks b → (input : List ℕ) → answer_to a input ≡ answer_to b input

@@ -29,6 +29,17 @@ IsOfLines Memory = ⊥
 IsOfLines Marked = ⊤
 IsOfLines TooMuch = ⊥
 
+-- the script was refused, or a fault or want of memory came before it could be
+abbrev pub IsRefusal : Status → Type 0
+IsRefusal Done = ⊥
+IsRefusal Refused = ⊤
+IsRefusal Usage = ⊥
+IsRefusal ReadFault = ⊤
+IsRefusal WriteFault = ⊤
+IsRefusal Memory = ⊤
+IsRefusal Marked = ⊥
+IsRefusal TooMuch = ⊥
+
 -- the sink holds what it held and then these bytes, if it tells what it holds
 abbrev pub Appends : Option (List ℕ) → Option (List ℕ) → List ℕ → Type 0
 Appends old new bytes = new ≡ option_map (λ before. before ++ bytes) old

@@ -1,4 +1,4 @@
-ghost use Rattle.std.specs.Prelude.{◌≡◌, ◌⊎◌, ◌≤◌, Some, IfOk, IfSome, IsSomeAnd, IsTrue, List, ℕ, length, map, string_bytes};
+ghost use Rattle.std.specs.Prelude.{◌≡◌, ◌⊎◌, ◌≤◌, Some, IfOk, IfSome, IsSome, IsSomeAnd, IsTrue, List, ℕ, length, map, string_bytes};
 ghost use Rattle.vrl_io.specs.Faults.{HasRisen};
 ghost use Rattle.vrl_json.specs.Line.{line_tree};
 ghost use Rattle.vrl_value.specs.Tree.{Tree};
@@ -10,11 +10,11 @@ ghost use Rattle.vrl_compile.specs.declared.syntax.Item.{Item};
 ghost use Rattle.remap_tool.specs.Words.{command_of, usage};
 ghost use Rattle.remap_tool.specs.Lines.{event_lines};
 ghost use Rattle.remap_tool.specs.Places.{diagnostic_lines};
-ghost use Rattle.remap_tool.specs.Answer.{usage_line};
+ghost use Rattle.remap_tool.specs.Answer.{HasOneAnswer, usage_line};
 ghost use Rattle.remap_tool.specs.Gathered.{input_limit};
-ghost use Rattle.remap_tool.specs.Request.{Asks, AsksByScript, IsAccepted, IsScriptAccepted, IsRunOf, IsScriptAnswer, run as run_request};
+ghost use Rattle.remap_tool.specs.Request.{Asks, AsksByScript, IsAccepted, IsScriptAccepted, IsRunOf, IsScriptAnswer, bad_script, run as run_request};
 ghost use Rattle.remap_tool.specs.Results.{answer_of};
-ghost use Rattle.remap_tool.specs.Sinks.{IsAnswer, IsOfLines, IsWhole, IsFront, IsNothing, Appends, AppendsFront, IsLoadFailed, IsWithinLimit, MovesOn};
+ghost use Rattle.remap_tool.specs.Sinks.{IsAnswer, IsOfLines, IsRefusal, IsWhole, IsFront, IsNothing, Appends, AppendsFront, IsLoadFailed, IsWithinLimit, MovesOn};
 
 use crate::gather::{GatherFault, gather};
 use crate::give::give_all;
@@ -24,7 +24,10 @@ use crate::status::Status;
 use crate::words::script_name;
 use std::alloc::Global;
 use std::thread::Threads;
-use vrl_compile::{Compiled, Diagnostic, Diagnostics, Program, Span, compile, scripts_are_sound};
+use vrl_compile::{
+    Compiled, Diagnostic, Diagnostics, Program, Span, compile, diagnostics_are_determined,
+    scripts_are_sound, scripts_have_one_reading,
+};
 use vrl_io::{Clock, LoadFault, Sink, Source, Store};
 use vrl_json::lines_are_objects;
 use vrl_value::Memory;
@@ -68,6 +71,13 @@ pub fn remap<R: Threads + Sync, F: Store, S: Source, O: Sink, E: Sink, C: Clock>
         (O.written output.old) (O.written output.new) (E.written report.old)
         (E.written report.new) }
 
+    // Where the store tells what it holds, one answer fits what is asked; a script that is refused is told so.
+    ensures one_answer { IsSome (F.held files.old) → HasOneAnswer (Asks (F.held files.old)
+        (command_of (map (λ w. string_bytes w) words.now))) }
+    ensures refused { IsSome (F.held files.old) → (text : List ℕ) (diagnostics : List SpecDiagnostic)
+        → Asks (F.held files.old) (command_of (map (λ w. string_bytes w) words.now))
+        (bad_script text diagnostics) → IsRefusal result }
+
     // The input and the clock are asked once the script is accepted, and lines answer at the input's end.
     ensures accepted_first { ((input.new ≡ input.old) × (clock.new ≡ clock.old))
         ⊎ IsScriptAccepted (F.held files.old) (command_of (map (λ w. string_bytes w) words.now)) }
@@ -103,6 +113,8 @@ pub fn remap<R: Threads + Sync, F: Store, S: Source, O: Sink, E: Sink, C: Clock>
         → IsAnswer result ⊎ (result ≡ Status.Memory) }
 {
     scripts_are_sound();
+    scripts_have_one_reading();
+    diagnostics_are_determined();
     lines_are_objects();
     let name = match script_name(words) {
         Some(name) => name,
@@ -133,6 +145,8 @@ fn run_script<S: Source, O: Sink, E: Sink, C: Clock>(
         (E.written report.new) ⊎ IsFront (AsksByScript text.now) (S.left input.old)
         (O.written output.old) (O.written output.new) (E.written report.old)
         (E.written report.new) }
+    ensures refused { IsRefusal result
+        ⊎ ((items : List Item) × (warnings : List SpecDiagnostic) × IsAccepted text.now items warnings) }
     ensures accepted_first { ((input.new ≡ input.old) × (clock.new ≡ clock.old))
         ⊎ ((items : List Item) × (warnings : List SpecDiagnostic) × IsAccepted text.now items warnings) }
     ensures end { IsOfLines result → IsTrue (S.ended input.new) }

@@ -1,6 +1,7 @@
 use Rattle.std.proofs.Common.{subst, [], inr}
 use Rattle.remap_tool.specs.Sinks.{IsOfLines}
 use Rattle.remap_tool.proofs.AnswerLemmas.{asked_words, asks_named, is_whole-by, usage_only}
+use Rattle.remap_tool.proofs.OneAnswer.{is_refusal, one_answer}
 use Rattle.remap_tool.proofs.SinkLemmas.{appends-nil, appends_front-nil}
 use Rattle.remap_tool.proofs.tool.remap.Goals as goal
 
@@ -26,3 +27,16 @@ returns-in-None-clause-front g c = inr (record {
 
 pub returns-in-Ok-clause-whole : goal.returns-in-Ok-clause-whole
 returns-in-Ok-clause-whole g c answered = is_whole-by _ _ _ _ _ _ _ _ _ _ (asks_named _ _ c.in-Some.name.now c.in-Ok.script c.in-Some.ensures c.in-Ok.ensures.bytes) (rw c.as_slice.ensures at (c.run_script.ensures.whole answered))
+
+pub returns-in-Ok-clause-one_answer : goal.returns-in-Ok-clause-one_answer
+returns-in-Ok-clause-one_answer g c told = one_answer c.scripts_have_one_reading.ensures c.diagnostics_are_determined.ensures _ _ told
+
+pub returns-in-Err-Failed-clause-one_answer : goal.returns-in-Err-Failed-clause-one_answer
+returns-in-Err-Failed-clause-one_answer g c told = one_answer c.scripts_have_one_reading.ensures c.diagnostics_are_determined.ensures _ _ told
+
+pub returns-in-Err-Memory-clause-one_answer : goal.returns-in-Err-Memory-clause-one_answer
+returns-in-Err-Memory-clause-one_answer g c told = one_answer c.scripts_have_one_reading.ensures c.diagnostics_are_determined.ensures _ _ told
+
+pub returns-in-Ok-clause-refused : goal.returns-in-Ok-clause-refused
+returns-in-Ok-clause-refused g c told text diagnostics asks =
+    is_refusal c.diagnostics_are_determined.ensures _ _ c.in-Some.name.now c.in-Ok.script c.run_script.result c.in-Some.ensures c.in-Ok.ensures.bytes (rw c.as_slice.ensures at c.run_script.ensures.refused) told text diagnostics asks
