@@ -12,7 +12,7 @@ use Rattle.remap_tool.specs.Lines.{event_lines}
 use Rattle.remap_tool.specs.Places.{diagnostic_lines}
 use Rattle.remap_tool.specs.Request.{Held, Asks, AsksByScript, IsRunOf, IsScriptAnswer, IsRefused, IsAccepted, IsLoaded, Request, has_error, bad_words, bad_script, run}
 use Rattle.remap_tool.specs.Results.{IsRun, answer_of}
-use Rattle.remap_tool.specs.Sinks.{IsAsked, IsWhole, IsAnswer as IsAnswerStatus}
+use Rattle.remap_tool.specs.Devices.{Devices, IsAsked, IsWhole, IsAnswer as IsAnswerStatus}
 use Rattle.remap_tool.specs.Words.{Command, usage, script}
 use Rattle.remap_tool.specs.declared.results.Results.{Results}
 use Rattle.remap_tool.specs.declared.status.Status.{Status}
@@ -43,17 +43,17 @@ asked_run text items diagnostics warnings left input r told is_left is = record 
 }
 
 -- what is whole for one question is so for another that has each of its requests
-pub is_whole-by : (asks asks_too : Request → Type 0) (left : Option (List ℕ)) (taken taken_after : ℕ) (status : Status) (written written_after reported reported_after : Option (List ℕ))
-    → ((request : Request) → asks request → asks_too request) → IsWhole asks left taken taken_after status written written_after reported reported_after → IsWhole asks_too left taken taken_after status written written_after reported reported_after
-is_whole-by asks asks_too left taken taken_after status written written_after reported reported_after has whole =
+pub is_whole-by : (asks asks_too : Request → Type 0) (status : Status) (before after : Devices) → ((request : Request) → asks request → asks_too request) → IsWhole asks status before after → IsWhole asks_too status before after
+is_whole-by asks asks_too status before after has whole =
     let asked = whole.asked in
     record {
       answer = whole.answer;
       asked = record { request = asked.request; asked = has asked.request asked.asked; input = asked.input; is_left = asked.is_left; answered = asked.answered };
       status_is = whole.status_is;
-      taken_is = whole.taken_is;
       output = whole.output;
       report = whole.report;
+      taken_is = whole.taken_is;
+      clock_is = whole.clock_is;
     }
 
 -- a run that was accepted is what its text asks

@@ -13,7 +13,7 @@ use Rattle.vrl_compile.specs.declared.syntax.Item.{Item}
 use Rattle.remap_tool.specs.Answer.{HasOneAnswer, answer_to, line_limit, line_result, refused_line, result_of_end, result_of_event}
 use Rattle.remap_tool.specs.Lines.{event_lines}
 use Rattle.remap_tool.specs.Request.{Asks, AsksByScript, Held, IsAccepted, IsLoaded, IsRefused, bad_script, bad_words, has_error, no_text, run}
-use Rattle.remap_tool.specs.Sinks.{IsRefusal}
+use Rattle.remap_tool.specs.Devices.{IsRefusal}
 use Rattle.remap_tool.specs.Words.{Command, script, usage}
 use Rattle.remap_tool.specs.declared.status.Status.{Status}
 

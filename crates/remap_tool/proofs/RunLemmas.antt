@@ -7,7 +7,7 @@ use Rattle.vrl_io.specs.Moments.{Advances}
 use Rattle.remap_tool.specs.Answer.{LineResult, line_result}
 use Rattle.remap_tool.specs.Lines.{lines_of, is_blank, event_lines_from, event_lines}
 use Rattle.remap_tool.specs.Results.{IsRun, AddsResult}
-use Rattle.remap_tool.specs.Sinks.{MovesOn}
+use Rattle.remap_tool.specs.Devices.{MovesOn}
 use Rattle.remap_tool.specs.declared.results.Results.{Results}
 
 -- these results are done, and those of the rest of the input are left

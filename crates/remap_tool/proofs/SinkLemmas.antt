@@ -1,7 +1,7 @@
 -- What a sink holds after pieces.
 use Rattle.std.proofs.Common.{ℕ, List, [], ◌++◌, Option, Some, None, option_map, refl, sym, ap, ◌∙◌, append_assoc}
 use Rattle.std.proofs.lemmas.List.{append-nil}
-use Rattle.remap_tool.specs.Sinks.{Appends, AppendsFront}
+use Rattle.remap_tool.specs.Devices.{Appends, AppendsFront}
 
 -- two pieces one after another are one
 pub appends_both : (old middle new : Option (List ℕ)) (first second : List ℕ) → Appends old middle first → Appends middle new second → Appends old new (first ++ second)

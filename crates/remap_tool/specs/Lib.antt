@@ -1,8 +1,8 @@
 pub mod Answer
+pub mod Devices
 pub mod Gathered
 pub mod Lines
 pub mod Places
 pub mod Request
 pub mod Results
-pub mod Sinks
 pub mod Words

@@ -1,5 +1,6 @@
 -- What the words of the command line mean.
-use Rattle.std.specs.Prelude.{ℕ, List, [], ◌∷◌, ◌==◌, if◌then◌else◌}
+use Rattle.std.specs.Prelude.{ℕ, List, [], ◌∷◌, ◌==◌, if◌then◌else◌, map, String, string_bytes}
+use Rattle.std.specs.declared.alloc.Global.{Global}
 
 pub data Command : Type 0 where
   -- the words are refused
@@ -17,3 +18,7 @@ abbrev pub command_of : List (List ℕ) → Command
 command_of [] = usage
 command_of (word ∷ []) = command_of_word word
 command_of (word ∷ second ∷ others) = usage
+
+-- the command of the words that a call is given
+abbrev pub command : List (String Global) → Command
+command words = command_of (map (λ word. string_bytes word) words)

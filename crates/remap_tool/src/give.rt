@@ -1,6 +1,6 @@
 ghost use Rattle.std.specs.Prelude.{◌≤◌, OnOk, OnErr};
 ghost use Rattle.vrl_io.specs.Faults.{HasRisen};
-ghost use Rattle.remap_tool.specs.Sinks.{Appends, AppendsFront};
+ghost use Rattle.remap_tool.specs.Devices.{Appends, AppendsFront};
 
 use vrl_io::{Failed, Sink};
 

@@ -6,7 +6,7 @@ ghost use Rattle.vrl_compile.specs.Program.{items_of};
 ghost use Rattle.vrl_compile.specs.Soundness.{HasNoError, IsDeclared};
 ghost use Rattle.remap_tool.specs.Lines.{event_lines};
 ghost use Rattle.remap_tool.specs.Answer.{line_result, refused_line, result_of_end};
-ghost use Rattle.remap_tool.specs.Sinks.{MovesOn};
+ghost use Rattle.remap_tool.specs.Devices.{MovesOn};
 ghost use Rattle.remap_tool.specs.Results.{IsRun, AddsResult};
 
 use crate::lines::{is_blank, split_line};

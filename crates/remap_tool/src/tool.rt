@@ -7,14 +7,13 @@ ghost use Rattle.vrl_compile.specs.Program.{items_of};
 ghost use Rattle.vrl_compile.specs.Soundness.{HasNoError, IsSoundOver};
 ghost use Rattle.vrl_compile.specs.declared.diagnostic.Diagnostic.{Diagnostic as SpecDiagnostic};
 ghost use Rattle.vrl_compile.specs.declared.syntax.Item.{Item};
-ghost use Rattle.remap_tool.specs.Words.{command_of, usage};
-ghost use Rattle.remap_tool.specs.Lines.{event_lines};
+ghost use Rattle.remap_tool.specs.Words.{command, usage};
 ghost use Rattle.remap_tool.specs.Places.{diagnostic_lines};
 ghost use Rattle.remap_tool.specs.Answer.{HasOneAnswer, usage_line};
 ghost use Rattle.remap_tool.specs.Gathered.{input_limit};
 ghost use Rattle.remap_tool.specs.Request.{Asks, AsksByScript, IsAccepted, IsScriptAccepted, IsRunOf, IsScriptAnswer, bad_script, run as run_request};
 ghost use Rattle.remap_tool.specs.Results.{answer_of};
-ghost use Rattle.remap_tool.specs.Sinks.{IsAnswer, IsOfLines, IsRefusal, IsWhole, IsFront, IsNothing, Appends, AppendsFront, IsLoadFailed, IsWithinLimit, MovesOn};
+ghost use Rattle.remap_tool.specs.Devices.{devices, IsAnswer, IsOfLines, IsUnread, IsRefusal, IsWhole, IsAtMostFront, Appends, AppendsFront, IsLoadFailed, IsWithinLimit};
 
 use crate::gather::{GatherFault, gather};
 use crate::give::give_all;
@@ -60,50 +59,52 @@ pub fn remap<R: Threads + Sync, F: Store, S: Source, O: Sink, E: Sink, C: Clock>
 ) -> Status
     // An answer comes with all its bytes, and is the answer to what was asked.
     ensures whole { IsAnswer result → IsWhole (Asks (F.held files.old)
-        (command_of (map (λ w. string_bytes w) words.now))) (S.left input.old)
-        (S.taken input.old) (S.taken input.new) result
-        (O.written output.old) (O.written output.new) (E.written report.old)
-        (E.written report.new) }
+        (command words.now)) result
+        (devices (S.left input.old) (S.taken input.old) (C.ahead clock.old)
+        (O.written output.old) (E.written report.old))
+        (devices (S.left input.new) (S.taken input.new) (C.ahead clock.new)
+        (O.written output.new) (E.written report.new)) }
     // Whatever the status, nothing is written but a front of that answer.
-    ensures front { IsNothing (O.written output.old) (O.written output.new) (E.written report.old)
-        (E.written report.new) ⊎ IsFront (Asks (F.held files.old)
-        (command_of (map (λ w. string_bytes w) words.now))) (S.left input.old)
-        (O.written output.old) (O.written output.new) (E.written report.old)
-        (E.written report.new) }
+    ensures front { IsAtMostFront (Asks (F.held files.old) (command words.now))
+        (devices (S.left input.old) (S.taken input.old) (C.ahead clock.old)
+        (O.written output.old) (E.written report.old))
+        (devices (S.left input.new) (S.taken input.new) (C.ahead clock.new)
+        (O.written output.new) (E.written report.new)) }
 
     // Where the store tells what it holds, one answer fits what is asked; a script that is refused is told so.
     ensures one_answer { IsSome (F.held files.old) → HasOneAnswer (Asks (F.held files.old)
-        (command_of (map (λ w. string_bytes w) words.now))) }
+        (command words.now)) }
     ensures refused { IsSome (F.held files.old) → (text : List ℕ) (diagnostics : List SpecDiagnostic)
-        → Asks (F.held files.old) (command_of (map (λ w. string_bytes w) words.now))
+        → Asks (F.held files.old) (command words.now)
         (bad_script text diagnostics) → IsRefusal result }
 
     // The input and the clock are asked once the script is accepted, and lines answer at the input's end.
     ensures accepted_first { ((input.new ≡ input.old) × (clock.new ≡ clock.old))
-        ⊎ IsScriptAccepted (F.held files.old) (command_of (map (λ w. string_bytes w) words.now)) }
+        ⊎ IsScriptAccepted (F.held files.old) (command words.now) }
+    ensures unread { IsUnread result → (input.new ≡ input.old) × (clock.new ≡ clock.old) }
     ensures end { IsOfLines result → IsTrue (S.ended input.new) }
-    ensures clock { IsOfLines result → IfSome (S.left input.old)
-        (λ bytes. MovesOn (C.ahead clock.old) (length (event_lines bytes)) (C.ahead clock.new)) }
 
     // A script that runs ends with a value over the event of each line, never with an error that it did not
     // handle; that value, the variables and the event's fields are of their kinds.
     ensures sound { (text : List ℕ) (items : List Item) (warnings : List SpecDiagnostic)
-        → Asks (F.held files.old) (command_of (map (λ w. string_bytes w) words.now))
+        → Asks (F.held files.old) (command words.now)
         (run_request text items warnings) → (line : List ℕ) (event : Tree)
         → line_tree line ≡ Some event → IsSoundOver items event }
 
     // Why each other status comes.
     ensures read_fault { result ≡ Status.ReadFault
-        → IsLoadFailed (command_of (map (λ w. string_bytes w) words.now)) (F.failures files.old)
+        → IsLoadFailed (command words.now) (F.failures files.old)
         (F.failures files.new) ⊎ HasRisen (S.faults input.old) (S.faults input.new) }
     ensures write_fault { result ≡ Status.WriteFault
         → HasRisen (O.faults output.old) (O.faults output.new)
         ⊎ HasRisen (E.faults report.old) (E.faults report.new) }
-    ensures too_much { IsWithinLimit result (S.left input.old) (S.taken input.old)
-        (S.taken input.new) }
+    ensures too_much { IsWithinLimit result (devices (S.left input.old) (S.taken input.old) (C.ahead clock.old)
+        (O.written output.old) (E.written report.old))
+        (devices (S.left input.new) (S.taken input.new) (C.ahead clock.new)
+        (O.written output.new) (E.written report.new)) }
 
     // Where nothing fails, the answer comes, or memory is wanted.
-    ensures usage { command_of (map (λ w. string_bytes w) words.now) ≡ usage
+    ensures usage { command words.now ≡ usage
         → (result ≡ Status.Usage) ⊎ (result ≡ Status.WriteFault) }
     ensures complete { F.failures files.new ≡ F.failures files.old
         → ¬ HasRisen (S.faults input.old) (S.faults input.new)
@@ -137,28 +138,31 @@ fn run_script<S: Source, O: Sink, E: Sink, C: Clock>(
     clock: &mut C,
 ) -> Status
     requires { length text.now ≤ 65537 }
-    ensures whole { IsAnswer result → IsWhole (AsksByScript text.now) (S.left input.old)
-        (S.taken input.old) (S.taken input.new) result
-        (O.written output.old) (O.written output.new) (E.written report.old)
-        (E.written report.new) }
-    ensures front { IsNothing (O.written output.old) (O.written output.new) (E.written report.old)
-        (E.written report.new) ⊎ IsFront (AsksByScript text.now) (S.left input.old)
-        (O.written output.old) (O.written output.new) (E.written report.old)
-        (E.written report.new) }
+    ensures whole { IsAnswer result → IsWhole (AsksByScript text.now) result
+        (devices (S.left input.old) (S.taken input.old) (C.ahead clock.old)
+        (O.written output.old) (E.written report.old))
+        (devices (S.left input.new) (S.taken input.new) (C.ahead clock.new)
+        (O.written output.new) (E.written report.new)) }
+    ensures front { IsAtMostFront (AsksByScript text.now)
+        (devices (S.left input.old) (S.taken input.old) (C.ahead clock.old)
+        (O.written output.old) (E.written report.old))
+        (devices (S.left input.new) (S.taken input.new) (C.ahead clock.new)
+        (O.written output.new) (E.written report.new)) }
     ensures refused { IsRefusal result
         ⊎ ((items : List Item) × (warnings : List SpecDiagnostic) × IsAccepted text.now items warnings) }
     ensures accepted_first { ((input.new ≡ input.old) × (clock.new ≡ clock.old))
         ⊎ ((items : List Item) × (warnings : List SpecDiagnostic) × IsAccepted text.now items warnings) }
+    ensures unread { IsUnread result → (input.new ≡ input.old) × (clock.new ≡ clock.old) }
     ensures end { IsOfLines result → IsTrue (S.ended input.new) }
-    ensures clock { IsOfLines result → IfSome (S.left input.old)
-        (λ bytes. MovesOn (C.ahead clock.old) (length (event_lines bytes)) (C.ahead clock.new)) }
     ensures read_fault { result ≡ Status.ReadFault
         → HasRisen (S.faults input.old) (S.faults input.new) }
     ensures write_fault { result ≡ Status.WriteFault
         → HasRisen (O.faults output.old) (O.faults output.new)
         ⊎ HasRisen (E.faults report.old) (E.faults report.new) }
-    ensures too_much { IsWithinLimit result (S.left input.old) (S.taken input.old)
-        (S.taken input.new) }
+    ensures too_much { IsWithinLimit result (devices (S.left input.old) (S.taken input.old) (C.ahead clock.old)
+        (O.written output.old) (E.written report.old))
+        (devices (S.left input.new) (S.taken input.new) (C.ahead clock.new)
+        (O.written output.new) (E.written report.new)) }
 {
     match compile_bytes(alloc, text) {
         Ok(Compiled::Accepted(program, warnings)) => {
@@ -205,26 +209,27 @@ fn run_program<S: Source, O: Sink, E: Sink, C: Clock>(
     requires { HasNoError (judge_script (items_of script.now.program.now)).codes }
     ensures whole { IsAnswer result → IsWhole
         (IsRunOf script.now.text.now (items_of script.now.program.now) script.now.warnings.now)
-        (S.left input.old)
-        (S.taken input.old) (S.taken input.new) result
-        (O.written output.old) (O.written output.new) (E.written report.old)
-        (E.written report.new) }
-    ensures front { IsNothing (O.written output.old) (O.written output.new) (E.written report.old)
-        (E.written report.new) ⊎ IsFront
+        result
+        (devices (S.left input.old) (S.taken input.old) (C.ahead clock.old)
+        (O.written output.old) (E.written report.old))
+        (devices (S.left input.new) (S.taken input.new) (C.ahead clock.new)
+        (O.written output.new) (E.written report.new)) }
+    ensures front { IsAtMostFront
         (IsRunOf script.now.text.now (items_of script.now.program.now) script.now.warnings.now)
-        (S.left input.old)
-        (O.written output.old) (O.written output.new) (E.written report.old)
-        (E.written report.new) }
+        (devices (S.left input.old) (S.taken input.old) (C.ahead clock.old)
+        (O.written output.old) (E.written report.old))
+        (devices (S.left input.new) (S.taken input.new) (C.ahead clock.new)
+        (O.written output.new) (E.written report.new)) }
     ensures end { IsOfLines result → IsTrue (S.ended input.new) }
-    ensures clock { IsOfLines result → IfSome (S.left input.old)
-        (λ bytes. MovesOn (C.ahead clock.old) (length (event_lines bytes)) (C.ahead clock.new)) }
     ensures read_fault { result ≡ Status.ReadFault
         → HasRisen (S.faults input.old) (S.faults input.new) }
     ensures write_fault { result ≡ Status.WriteFault
         → HasRisen (O.faults output.old) (O.faults output.new)
         ⊎ HasRisen (E.faults report.old) (E.faults report.new) }
-    ensures too_much { IsWithinLimit result (S.left input.old) (S.taken input.old)
-        (S.taken input.new) }
+    ensures too_much { IsWithinLimit result (devices (S.left input.old) (S.taken input.old) (C.ahead clock.old)
+        (O.written output.old) (E.written report.old))
+        (devices (S.left input.new) (S.taken input.new) (C.ahead clock.new)
+        (O.written output.new) (E.written report.new)) }
 {
     let warnings = match render(alloc, script.text, script.warnings) {
         Ok(warnings) => warnings,

@@ -1,10 +1,10 @@
-ghost use Rattle.std.specs.Prelude.{◌≡◌, map, string_bytes, MatchOption};
-ghost use Rattle.remap_tool.specs.Words.{command_of, usage, script};
+ghost use Rattle.std.specs.Prelude.{◌≡◌, MatchOption};
+ghost use Rattle.remap_tool.specs.Words.{command, usage, script};
 
 /// The name of the script, where the words are one word that is not empty and does not begin with `-`.
 pub fn script_name(words: &[String]) -> Option<&str>
-    ensures { MatchOption result (command_of (map (λ w. string_bytes w) words.now) ≡ usage)
-        (λ name. command_of (map (λ w. string_bytes w) words.now) ≡ script name.now) }
+    ensures { MatchOption result (command words.now ≡ usage)
+        (λ name. command words.now ≡ script name.now) }
 {
     match words {
         [word] => {

@@ -1,6 +1,6 @@
 use Rattle.std.proofs.Common.{◌++◌, take, drop, length-drop, sym, ap, ◌∙◌, subst, arith}
 use Rattle.std.proofs.lemmas.List.{take-append-drop}
-use Rattle.remap_tool.specs.Sinks.{Appends}
+use Rattle.remap_tool.specs.Devices.{Appends}
 use Rattle.remap_tool.proofs.Fronts.{take-more, rest_is}
 use Rattle.remap_tool.proofs.SinkLemmas.{appends_both}
 use Rattle.remap_tool.proofs.give.give_all.Goals as goal

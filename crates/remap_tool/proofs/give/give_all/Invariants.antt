@@ -1,5 +1,5 @@
 use Rattle.std.proofs.Common.{◌-◌, ◌≤◌, length, take}
-use Rattle.remap_tool.specs.Sinks.{Appends}
+use Rattle.remap_tool.specs.Devices.{Appends}
 use Rattle.remap_tool.proofs.give.give_all.Given as goal
 
 -- the front up to `given` was taken, and the count has not fallen

@@ -1,5 +1,5 @@
 use Rattle.std.proofs.Common.{subst, [], inr}
-use Rattle.remap_tool.specs.Sinks.{IsOfLines}
+use Rattle.remap_tool.specs.Devices.{IsOfLines}
 use Rattle.remap_tool.proofs.AnswerLemmas.{asked_words, asks_named, is_whole-by, usage_only}
 use Rattle.remap_tool.proofs.OneAnswer.{is_refusal, one_answer}
 use Rattle.remap_tool.proofs.SinkLemmas.{appends-nil, appends_front-nil}
@@ -12,9 +12,10 @@ returns-in-None-clause-whole g c answered =
       answer = _;
       asked = asked_words _ _ _ c.in-None.ensures;
       status_is = refused;
-      taken_is = λ lines. absurd (subst IsOfLines refused lines);
       output = appends-nil _;
       report = c.refuse_words.ensures.whole refused;
+      taken_is = λ lines. absurd (subst IsOfLines refused lines);
+      clock_is = λ lines. absurd (subst IsOfLines refused lines);
     }
 
 pub returns-in-None-clause-front : goal.returns-in-None-clause-front
@@ -26,7 +27,7 @@ returns-in-None-clause-front g c = inr (record {
 })
 
 pub returns-in-Ok-clause-whole : goal.returns-in-Ok-clause-whole
-returns-in-Ok-clause-whole g c answered = is_whole-by _ _ _ _ _ _ _ _ _ _ (asks_named _ _ c.in-Some.name.now c.in-Ok.script c.in-Some.ensures c.in-Ok.ensures.bytes) (rw c.as_slice.ensures at (c.run_script.ensures.whole answered))
+returns-in-Ok-clause-whole g c answered = is_whole-by _ _ _ _ _ (asks_named _ _ c.in-Some.name.now c.in-Ok.script c.in-Some.ensures c.in-Ok.ensures.bytes) (rw c.as_slice.ensures at (c.run_script.ensures.whole answered))
 
 pub returns-in-Ok-clause-one_answer : goal.returns-in-Ok-clause-one_answer
 returns-in-Ok-clause-one_answer g c told = one_answer c.scripts_have_one_reading.ensures c.diagnostics_are_determined.ensures _ _ told

@@ -10,9 +10,10 @@ returns-in-Ok-run_lines-clause-whole g c answered =
       answer = answer_of c.in-Ok-run_lines.results;
       asked = asked_run _ _ _ _ _ c.in-Ok-gather.bytes.items _ c.in-Ok.ensures c.in-Ok-gather.ensures.bytes.is_left (rw c.deref.ensures.value at c.in-Ok-run_lines.ensures.results);
       status_is = written.0;
-      taken_is = λ lines. c.in-Ok-gather.ensures.bytes.counted;
       output = written.1;
       report = written.2;
+      taken_is = λ lines. c.in-Ok-gather.ensures.bytes.counted;
+      clock_is = λ lines. rw c.deref.ensures.value at c.in-Ok-run_lines.ensures.clock;
     }
 
 pub returns-in-Ok-run_lines-clause-front : goal.returns-in-Ok-run_lines-clause-front

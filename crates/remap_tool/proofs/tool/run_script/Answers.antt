@@ -1,5 +1,5 @@
 use Rattle.std.proofs.Common.{subst, [], inr}
-use Rattle.remap_tool.specs.Sinks.{IsOfLines}
+use Rattle.remap_tool.specs.Devices.{IsOfLines}
 use Rattle.remap_tool.proofs.AnswerLemmas.{asked_script, asks_run, is_whole-by, refused_only}
 use Rattle.remap_tool.proofs.SinkLemmas.{appends-nil, appends_front-nil}
 use Rattle.remap_tool.proofs.tool.run_script.Goals as goal
@@ -11,9 +11,10 @@ returns-in-Ok-Refused-clause-whole g c answered =
       answer = _;
       asked = asked_script c.args.text.now c.in-Ok-Refused.diagnostics _ (rw c.in-Ok-Refused.field-0-is at c.in-Ok-Refused.ensures);
       status_is = refused;
-      taken_is = λ lines. absurd (subst IsOfLines refused lines);
       output = appends-nil _;
       report = rw c.as_slice-in-Ok-Refused.ensures at (c.refuse_script.ensures.whole refused);
+      taken_is = λ lines. absurd (subst IsOfLines refused lines);
+      clock_is = λ lines. absurd (subst IsOfLines refused lines);
     }
 
 pub returns-in-Ok-Refused-clause-front : goal.returns-in-Ok-Refused-clause-front
@@ -27,4 +28,4 @@ returns-in-Ok-Refused-clause-front g c = inr (record {
 pub returns-in-Ok-Accepted-clause-whole : goal.returns-in-Ok-Accepted-clause-whole
 returns-in-Ok-Accepted-clause-whole g c answered =
     let accepted = rw c.in-Ok-Accepted.field-0-is at c.in-Ok-Accepted.ensures in
-    is_whole-by _ _ _ _ _ _ _ _ _ _ (asks_run _ _ _ accepted) (rw c.as_slice.ensures at (c.run_program.ensures.whole answered))
+    is_whole-by _ _ _ _ _ (asks_run _ _ _ accepted) (rw c.as_slice.ensures at (c.run_program.ensures.whole answered))

@@ -1,0 +1,129 @@
+-- What a call leaves in its devices, by its status.
+use Rattle.std.specs.Prelude.{◌≡◌, ℕ, ◌+◌, ◌<◌, ◌≤◌, List, [], ◌∷◌, ◌++◌, length, ℤ, Option, Some, None, option_map, IfSome, IsSomeAnd, ⊤, ◌⊎◌}
+use Rattle.remap_tool.specs.Answer.{Answer, answer_to}
+use Rattle.remap_tool.specs.Gathered.{input_limit}
+use Rattle.remap_tool.specs.Lines.{event_lines}
+use Rattle.remap_tool.specs.Request.{Request}
+use Rattle.remap_tool.specs.Words.{Command, usage, script}
+use Rattle.remap_tool.specs.declared.status.Status.{Status}
+use Rattle.remap_tool.specs.declared.status.Status.TheVariants.{Done, Refused, Usage, ReadFault, WriteFault, Memory, Marked, TooMuch}
+
+-- the status is an answer, and tells of no fault, limit or want of memory
+abbrev pub IsAnswer : Status → Type 0
+IsAnswer Done = ⊤
+IsAnswer Refused = ⊤
+IsAnswer Usage = ⊤
+IsAnswer ReadFault = ⊥
+IsAnswer WriteFault = ⊥
+IsAnswer Memory = ⊥
+IsAnswer Marked = ⊤
+IsAnswer TooMuch = ⊥
+
+-- the lines of the input were read
+abbrev pub IsOfLines : Status → Type 0
+IsOfLines Done = ⊤
+IsOfLines Refused = ⊥
+IsOfLines Usage = ⊥
+IsOfLines ReadFault = ⊥
+IsOfLines WriteFault = ⊥
+IsOfLines Memory = ⊥
+IsOfLines Marked = ⊤
+IsOfLines TooMuch = ⊥
+
+-- the words or the script were refused
+abbrev pub IsUnread : Status → Type 0
+IsUnread Done = ⊥
+IsUnread Refused = ⊤
+IsUnread Usage = ⊤
+IsUnread ReadFault = ⊥
+IsUnread WriteFault = ⊥
+IsUnread Memory = ⊥
+IsUnread Marked = ⊥
+IsUnread TooMuch = ⊥
+
+-- the script was refused, or a fault or want of memory came before it could be
+abbrev pub IsRefusal : Status → Type 0
+IsRefusal Done = ⊥
+IsRefusal Refused = ⊤
+IsRefusal Usage = ⊥
+IsRefusal ReadFault = ⊤
+IsRefusal WriteFault = ⊤
+IsRefusal Memory = ⊤
+IsRefusal Marked = ⊥
+IsRefusal TooMuch = ⊥
+
+-- the clock has told this many moments, if it tells those to come
+abbrev pub MovesOn : Option (ℕ → ℤ) → ℕ → Option (ℕ → ℤ) → Type 0
+MovesOn None count after = after ≡ None
+MovesOn (Some ahead) count after = IsSomeAnd after (λ later. (i : ℕ) → later i ≡ ahead (count + i))
+
+-- what the devices of a call tell at a time: of the input what is left and how much was taken, of the clock the moments to
+-- come, and of the sinks what they hold
+pub record Devices : Type 0 where
+  pub left : Option (List ℕ)
+  pub taken : ℕ
+  pub ahead : Option (ℕ → ℤ)
+  pub output : Option (List ℕ)
+  pub report : Option (List ℕ)
+
+abbrev pub devices : Option (List ℕ) → ℕ → Option (ℕ → ℤ) → Option (List ℕ) → Option (List ℕ) → Devices
+devices left taken ahead output report = record { left = left; taken = taken; ahead = ahead; output = output; report = report }
+
+-- the sink holds what it held and then these bytes, if it tells what it holds
+abbrev pub Appends : Option (List ℕ) → Option (List ℕ) → List ℕ → Type 0
+Appends old new bytes = new ≡ option_map (λ before. before ++ bytes) old
+
+-- the sink holds what it held and then a front of these bytes, if it tells what it holds
+abbrev pub AppendsFront : Option (List ℕ) → Option (List ℕ) → List ℕ → Type 0
+AppendsFront old new bytes = (front : List ℕ) × (rest : List ℕ) × (bytes ≡ front ++ rest) × Appends old new front
+
+-- A call that asks one of these requests has this answer, for the bytes of the input, as far as its source tells them.
+pub record IsAsked (asks : Request → Type 0) (left : Option (List ℕ)) (answer : Answer) : Type 0 where
+  pub request : Request
+  pub asked : asks request
+  pub input : List ℕ
+  pub is_left : IfSome left (λ bytes. bytes ≡ input)
+  pub answered : answer ≡ answer_to request input
+
+-- The sinks hold the whole of the answer, and the status is its own. Where lines were read, just their bytes were taken,
+-- and a moment for each of them that isn't blank.
+pub record IsWhole (asks : Request → Type 0) (status : Status) (before after : Devices) : Type 0 where
+  pub answer : Answer
+  pub asked : IsAsked asks before.left answer
+  pub status_is : status ≡ answer.status
+  pub output : Appends before.output after.output answer.output
+  pub report : Appends before.report after.report answer.report
+  pub taken_is : IsOfLines status → after.taken ≡ before.taken + length asked.input
+  pub clock_is : IsOfLines status → MovesOn before.ahead (length (event_lines asked.input)) after.ahead
+
+-- the sinks hold a front of the answer
+pub record IsFront (asks : Request → Type 0) (before after : Devices) : Type 0 where
+  pub answer : Answer
+  pub asked : IsAsked asks before.left answer
+  pub output : AppendsFront before.output after.output answer.output
+  pub report : AppendsFront before.report after.report answer.report
+
+-- nothing was written
+abbrev pub IsNothing : (before after : Devices) → Type 0
+IsNothing before after = (after.output ≡ before.output) × (after.report ≡ before.report)
+
+-- nothing was written but a front of the answer
+abbrev pub IsAtMostFront : (asks : Request → Type 0) (before after : Devices) → Type 0
+IsAtMostFront asks before after = IsNothing before after ⊎ IsFront asks before after
+
+-- the name of the script was added to the failures
+abbrev pub IsLoadFailed : Command → List (List ℕ) → List (List ℕ) → Type 0
+IsLoadFailed usage failures failures_after = ⊥
+IsLoadFailed (script name) failures failures_after = failures_after ≡ failures ++ name ∷ []
+
+-- Of the input no more bytes than the limit were taken, but for the status that says so: one more was, and more than the
+-- limit stood there.
+abbrev pub IsWithinLimit : Status → (before after : Devices) → Type 0
+IsWithinLimit Done before after = after.taken ≤ before.taken + input_limit
+IsWithinLimit Refused before after = after.taken ≤ before.taken + input_limit
+IsWithinLimit Usage before after = after.taken ≤ before.taken + input_limit
+IsWithinLimit ReadFault before after = after.taken ≤ before.taken + input_limit
+IsWithinLimit WriteFault before after = after.taken ≤ before.taken + input_limit
+IsWithinLimit Memory before after = after.taken ≤ before.taken + input_limit
+IsWithinLimit Marked before after = after.taken ≤ before.taken + input_limit
+IsWithinLimit TooMuch before after = (after.taken ≡ before.taken + (input_limit + 1)) × IfSome before.left (λ bytes. input_limit < length bytes)
