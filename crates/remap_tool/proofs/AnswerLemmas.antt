@@ -9,7 +9,7 @@ use Rattle.vrl_compile.specs.declared.script.Compiled.TheVariants as compiled
 use Rattle.vrl_value.specs.declared.memory.Memory.{Memory as WantOfMemory}
 use Rattle.remap_tool.specs.Answer.{answer_to, run_of, line_result, LineResult}
 use Rattle.remap_tool.specs.Lines.{event_lines}
-use Rattle.remap_tool.specs.Places.{diagnostic_lines}
+use Rattle.remap_tool.specs.Rendering.{diagnostic_lines}
 use Rattle.remap_tool.specs.Request.{Held, Asks, AsksByScript, IsRunOf, IsScriptAnswer, IsRefused, IsAccepted, IsLoaded, Request, has_error, bad_words, bad_script, run}
 use Rattle.remap_tool.specs.Results.{IsRun, answer_of}
 use Rattle.remap_tool.specs.Devices.{Devices, IsAsked, IsWhole, IsAnswer as IsAnswerStatus}

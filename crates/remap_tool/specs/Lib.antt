@@ -2,7 +2,9 @@ pub mod Answer
 pub mod Devices
 pub mod Gathered
 pub mod Lines
-pub mod Places
+pub mod Position
+pub mod Rendering
 pub mod Request
 pub mod Results
+pub mod Status
 pub mod Words

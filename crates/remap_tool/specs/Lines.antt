@@ -1,16 +1,11 @@
 -- The lines of an input.
 use Rattle.std.specs.Prelude.{ℕ, List, [], ◌∷◌, ◌==◌, ◌||◌, if◌then◌else◌, Bool, not, filter}
-use Rattle.std.specs.List.{enumerate_from, list_all}
-
--- the byte goes before the first line
-abbrev pub before_first : ℕ → List (List ℕ) → List (List ℕ)
-before_first b [] = (b ∷ []) ∷ []
-before_first b (line ∷ lines) = (b ∷ line) ∷ lines
+use Rattle.std.specs.List.{enumerate_from, list_all, onto_first}
 
 -- what stands before each newline, and what stands behind the last one, unless that is nothing
 abbrev pub lines_of : List ℕ → List (List ℕ)
 lines_of [] = []
-lines_of (b ∷ bs) = if b == 10 then [] ∷ lines_of bs else before_first b (lines_of bs)
+lines_of (b ∷ bs) = if b == 10 then [] ∷ lines_of bs else onto_first b (lines_of bs)
 
 -- space, tab or carriage return
 abbrev pub is_blank_byte : ℕ → Bool

@@ -4,6 +4,7 @@
 mod gather;
 mod give;
 mod lines;
+mod position;
 mod render;
 mod results;
 mod status;
@@ -24,7 +25,7 @@ fn main(rt: HostRuntime) -> ExitCode {
         Ok(words) => words,
         // A word that is no text is refused as no words are.
         Err(fault) if fault.kind() == io::ErrorKind::InvalidData => Vec::new(rt.alloc()),
-        Err(_) => return ExitCode::from(Status::Memory as u8),
+        Err(_) => return Status::Memory.exit_code(),
     };
     let status = remap(
         &rt,
@@ -36,7 +37,7 @@ fn main(rt: HostRuntime) -> ExitCode {
         &mut StdSink::new(rt.stderr()),
         &mut SystemClock::new(&rt),
     );
-    ExitCode::from(status as u8)
+    status.exit_code()
 }
 
 // The words behind the program's name.

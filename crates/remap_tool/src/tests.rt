@@ -2,7 +2,7 @@
 use crate::status::Status;
 use crate::tool::remap;
 use std::alloc::Global;
-use std::process::Abort;
+use std::process::{Abort, ExitCode};
 use std::test::Fail;
 use std::thread::Threads;
 use vrl_io::{MemoryClock, MemorySink, MemorySource, MemoryStore};
@@ -46,7 +46,14 @@ fn call<R: Threads + Sync>(
     input: &str,
     faults: Faults,
 ) -> Result<Answer, Fail> {
-    call_with(rt, alloc, &["s"], script, input, faults)
+    call_with(
+        rt,
+        alloc,
+        &["s"],
+        script.as_bytes(),
+        input.as_bytes(),
+        faults,
+    )
 }
 
 // Calls `remap` over a store that holds the script under the name `s`.
@@ -54,14 +61,14 @@ fn call_with<R: Threads + Sync>(
     rt: &R,
     alloc: Global,
     words: &[&str],
-    script: &str,
-    input: &str,
+    script: &[u8],
+    input: &[u8],
     faults: Faults,
 ) -> Result<Answer, Fail> {
     let held = vec![in alloc;
         (
             Chars::copy_of(alloc, "s")?,
-            Bytes::new(script.as_bytes().to_vec(alloc)?)
+            Bytes::new(script.to_vec(alloc)?)
         ),
     ]?;
     let mut strings = Vec::new(alloc);
@@ -75,7 +82,7 @@ fn call_with<R: Threads + Sync>(
         alloc,
         &strings,
         &mut MemoryStore::new(alloc, held, faults.store),
-        &mut MemorySource::new(input.as_bytes().to_vec(alloc)?, faults.pieces, faults.input),
+        &mut MemorySource::new(input.to_vec(alloc)?, faults.pieces, faults.input),
         &mut output,
         &mut report,
         &mut MemoryClock::new(Vec::new(alloc)),
@@ -159,6 +166,27 @@ fn assignments(rt: HostRuntime) -> Result<(), Fail> {
                 Status::Done,
                 "{\"a\":\"b\",\"x\":1}\n",
                 "",
+            ),
+            (
+                ".x = 1",
+                "{\"p\":1.5}\n{\n\n{\"a\":1}\n{",
+                Status::Marked,
+                "{\"a\":1,\"x\":1}\n",
+                "line 1: refused: not built yet\nline 2: refused: not built yet\nline 5: refused: not built yet\n",
+            ),
+            (
+                ".n = -9223372036854775808",
+                "{}",
+                Status::Done,
+                "{\"n\":-9223372036854775808}\n",
+                "",
+            ),
+            (
+                ".n = 9223372036854775808",
+                "{}",
+                Status::Refused,
+                "",
+                "error[E1099] 1:1 form not built yet\n",
             ),
             (".x = 1", "", Status::Done, "", ""),
             (
@@ -251,6 +279,20 @@ fn expressions_that_fail(rt: HostRuntime) -> Result<(), Fail> {
                 "error[E701] 3:12 undefined variable\n",
             ),
             (
+                ".y = \"\u{e9}\" + q",
+                "{}",
+                Status::Refused,
+                "",
+                "error[E701] 1:12 undefined variable\n",
+            ),
+            (
+                ".y = 1 ?? q",
+                "{}",
+                Status::Done,
+                "{\"y\":1}\n",
+                "warning[E651] 1:6 unnecessary error coalescing\n",
+            ),
+            (
                 ".y = \"a\" + 1 ?? q",
                 "{}",
                 Status::Refused,
@@ -299,11 +341,20 @@ fn each_give_fails(rt: HostRuntime) -> Result<(), Fail> {
     let mut faults = Faults::none(alloc);
     faults.output = vec![in alloc; 0]?;
     let answer = call(&rt, alloc, ".x = 1", INPUT, faults)?;
-    expect_front(&rt, &answer, Status::WriteFault, OUTPUT, REPORT);
+    expect(&rt, &answer, Status::WriteFault, "", "");
     let mut faults = Faults::none(alloc);
     faults.report = vec![in alloc; 0]?;
     let answer = call(&rt, alloc, ".x = 1", INPUT, faults)?;
-    expect_front(&rt, &answer, Status::WriteFault, OUTPUT, REPORT);
+    expect(&rt, &answer, Status::WriteFault, OUTPUT, "");
+    // The diagnostics of a script, and the usage line.
+    let mut faults = Faults::none(alloc);
+    faults.report = vec![in alloc; 0]?;
+    let answer = call(&rt, alloc, ".x = y", INPUT, faults)?;
+    expect(&rt, &answer, Status::WriteFault, "", "");
+    let mut faults = Faults::none(alloc);
+    faults.report = vec![in alloc; 0]?;
+    let answer = call_with(&rt, alloc, &[], b"", b"", faults)?;
+    expect(&rt, &answer, Status::WriteFault, "", "");
     Ok(())
 }
 
@@ -320,12 +371,112 @@ fn the_store_fails(rt: HostRuntime) -> Result<(), Fail> {
 #[test]
 fn words(rt: HostRuntime) -> Result<(), Fail> {
     let alloc = rt.alloc();
-    let refused: [&[&str]; 5] = [&[], &[""], &["-"], &["--check"], &["s", "t"]];
+    let refused: [&[&str]; 6] = [
+        &[],
+        &[""],
+        &["-"],
+        &["--check"],
+        &["s", "t"],
+        &["s", "--jobs", "0"],
+    ];
     for words in refused {
-        let answer = call_with(&rt, alloc, words, ".x = 1", "{}", Faults::none(alloc))?;
+        let answer = call_with(&rt, alloc, words, b".x = 1", b"{}", Faults::none(alloc))?;
         expect(&rt, &answer, Status::Usage, "", "usage: remap SCRIPT\n");
     }
-    let answer = call_with(&rt, alloc, &["t"], ".x = 1", "{}", Faults::none(alloc))?;
+    let answer = call_with(&rt, alloc, &["t"], b".x = 1", b"{}", Faults::none(alloc))?;
     expect(&rt, &answer, Status::ReadFault, "", "");
     Ok(())
+}
+
+// Appends so many of these bytes.
+fn pad(bytes: &mut Vec<u8>, byte: u8, count: usize) -> Result<(), Fail> {
+    for _ in 0..count {
+        bytes.push(byte)?;
+    }
+    Ok(())
+}
+
+// A script of this many bytes: an assignment, and blanks behind it.
+fn script_of_length(alloc: Global, length: usize) -> Result<Vec<u8>, Fail> {
+    let mut script = b".x = 1".to_vec(alloc)?;
+    pad(&mut script, b' ', length.saturating_sub(6))?;
+    Ok(script)
+}
+
+// An event of this many bytes: an object with one text.
+fn event_of_length(alloc: Global, length: usize) -> Result<Vec<u8>, Fail> {
+    let mut event = b"{\"a\":\"".to_vec(alloc)?;
+    pad(&mut event, b'z', length.saturating_sub(8))?;
+    event.extend_from_slice(b"\"}")?;
+    Ok(event)
+}
+
+#[test]
+fn scripts_at_the_limit(rt: HostRuntime) -> Result<(), Fail> {
+    let alloc = rt.alloc();
+    let script = script_of_length(alloc, 65_536)?;
+    let answer = call_with(&rt, alloc, &["s"], &script, b"{}", Faults::none(alloc))?;
+    expect(&rt, &answer, Status::Done, "{\"x\":1}\n", "");
+    let script = script_of_length(alloc, 65_537)?;
+    let answer = call_with(&rt, alloc, &["s"], &script, b"{}", Faults::none(alloc))?;
+    expect(
+        &rt,
+        &answer,
+        Status::Refused,
+        "",
+        "error[E1099] 1:1 form not built yet\n",
+    );
+    // A byte that no UTF-8 has.
+    let answer = call_with(
+        &rt,
+        alloc,
+        &["s"],
+        b".x = \"\xff\"",
+        b"{}",
+        Faults::none(alloc),
+    )?;
+    expect(
+        &rt,
+        &answer,
+        Status::Refused,
+        "",
+        "error[E1099] 1:1 form not built yet\n",
+    );
+    Ok(())
+}
+
+#[test]
+fn lines_at_the_limit(rt: HostRuntime) -> Result<(), Fail> {
+    let alloc = rt.alloc();
+    let mut input = event_of_length(alloc, 1_048_577)?;
+    input.extend_from_slice(b"\n{}")?;
+    let answer = call_with(&rt, alloc, &["s"], b".a = 1", &input, Faults::none(alloc))?;
+    expect(
+        &rt,
+        &answer,
+        Status::Marked,
+        "{\"a\":1}\n",
+        "line 1: refused: not built yet\n",
+    );
+    let input = event_of_length(alloc, 1_048_576)?;
+    let answer = call_with(&rt, alloc, &["s"], b".a = 1", &input, Faults::none(alloc))?;
+    expect(&rt, &answer, Status::Done, "{\"a\":1}\n", "");
+    Ok(())
+}
+
+#[test]
+fn exit_codes(rt: HostRuntime) {
+    let numbers = [
+        (Status::Done, 0u8),
+        (Status::Refused, 1),
+        (Status::Usage, 2),
+        (Status::ReadFault, 3),
+        (Status::WriteFault, 4),
+        (Status::Memory, 5),
+        (Status::Marked, 7),
+        (Status::TooMuch, 8),
+    ];
+    for (status, number) in numbers {
+        assert_eq!(&rt; status.exit_code(), ExitCode::from(number));
+    }
 }

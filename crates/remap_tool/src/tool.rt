@@ -8,7 +8,7 @@ ghost use Rattle.vrl_compile.specs.Soundness.{HasNoError, IsSoundOver};
 ghost use Rattle.vrl_compile.specs.declared.diagnostic.Diagnostic.{Diagnostic as SpecDiagnostic};
 ghost use Rattle.vrl_compile.specs.declared.syntax.Item.{Item};
 ghost use Rattle.remap_tool.specs.Words.{command, usage};
-ghost use Rattle.remap_tool.specs.Places.{diagnostic_lines};
+ghost use Rattle.remap_tool.specs.Rendering.{diagnostic_lines};
 ghost use Rattle.remap_tool.specs.Answer.{HasOneAnswer, usage_line};
 ghost use Rattle.remap_tool.specs.Gathered.{input_limit};
 ghost use Rattle.remap_tool.specs.Request.{Asks, AsksByScript, IsAccepted, IsScriptAccepted, IsRunOf, IsScriptAnswer, bad_script, run as run_request};

@@ -1,7 +1,8 @@
 use Rattle.std.proofs.Common.{◌≡◌, take}
-use Rattle.remap_tool.specs.Places.{diagnostic_lines}
+use Rattle.remap_tool.specs.Position.{IsIn}
+use Rattle.remap_tool.specs.Rendering.{diagnostic_lines}
 use Rattle.remap_tool.proofs.render.render.Given as goal
 
--- the lines of the diagnostics so far
+-- the lines of the diagnostics so far, and a position of the text
 abbrev pub invariant-loop-diagnostic : goal.invariant-loop-diagnostic
-invariant-loop-diagnostic l = l.lines.items ≡ diagnostic_lines l.text (take l.diagnostic-index l.diagnostics)
+invariant-loop-diagnostic l = (l.lines.items ≡ diagnostic_lines l.text (take l.diagnostic-index l.diagnostics)) × IsIn l.text l.position

@@ -27,12 +27,12 @@ title_of code =
 
 -- an error refuses the script, and a warning doesn't
 abbrev pub severity_of : Diagnostic → List ℕ
-severity_of d = if is_error d then codes "error[E" else codes "warning[E"
+severity_of d = if is_error d then codes "error" else codes "warning"
 
 -- the line that tells a diagnostic of the text, without its newline
 abbrev pub diagnostic_line : List ℕ → Diagnostic → List ℕ
 diagnostic_line text d = let before = take d.span.start text in
-    severity_of d ++ (decimal d.code ++ (codes "] " ++ (decimal (line_number before) ++ (codes ":" ++ (decimal (column_number before) ++ (codes " " ++ title_of d.code))))))
+    severity_of d ++ (codes "[E" ++ (decimal d.code ++ (codes "] " ++ (decimal (line_number before) ++ (codes ":" ++ (decimal (column_number before) ++ (codes " " ++ title_of d.code)))))))
 
 -- the lines that tell the diagnostics
 abbrev pub diagnostic_lines : List ℕ → List Diagnostic → List ℕ
