@@ -5,7 +5,8 @@ use Rattle.std.proofs.lemmas.List.{append-nil}
 use Rattle.vrl_compile.specs.Lexical.{IsBlank, IsDigit, IsNamePart}
 use Rattle.vrl_compile.specs.Scan.{BeginsOutside, IsLongestRun}
 use Rattle.vrl_compile.specs.Script.{AreOthers, IsChain, IsExpression, IsOperand, spelling_of}
-use Rattle.vrl_compile.specs.Syntax.{Expr, operand, plus, expr_of, grouped, span_of, with_left}
+use Rattle.vrl_compile.specs.Judged.{with_left}
+use Rattle.vrl_compile.specs.Syntax.{Expr, operand, plus, expr_of, span_of}
 use Rattle.vrl_compile.specs.Token.{BeginsWithForm, BeginsWithOperator, IsBehind}
 use Rattle.vrl_compile.specs.declared.syntax.Chain.{Chain}
 use Rattle.vrl_compile.specs.declared.syntax.Form.{Form}
@@ -14,6 +15,7 @@ use Rattle.vrl_compile.specs.declared.syntax.Operand.{Operand}
 use Rattle.vrl_compile.specs.declared.syntax.Operator.{Operator}
 use Rattle.vrl_compile.specs.declared.syntax.Operator.TheVariants.{Plus, Coalesce}
 use Rattle.vrl_compile.proofs.Classes.{blank_no_name_part, plus_no_name_part, question_no_name_part}
+use Rattle.vrl_compile.proofs.Grouping.{grouped, grouped-expr_of}
 use Rattle.vrl_compile.proofs.Runs.{outside_end, outside_run, same_longest_run}
 use Rattle.vrl_compile.proofs.Tokens.{outside_blank, same_form, same_operator}
 
@@ -275,4 +277,7 @@ last_end_at e (other ∷ next ∷ others) last is =
 
 -- a chain ends with the last of its others
 pub end_of_chain : (chain : Chain) (last : Operator × Operand) → Some last ≡ slice_get chain.others.items (length chain.others.items - 1) → last.1.span.end ≡ (span_of (expr_of chain)).end
-end_of_chain chain last is = last_end_at chain.first.span.end chain.others.items last is ∙ sym (end_of_grouped None (operand chain.first) chain.others.items)
+end_of_chain chain last is =
+    last_end_at chain.first.span.end chain.others.items last is
+    ∙ sym (end_of_grouped None (operand chain.first) chain.others.items)
+    ∙ ap (λ e. (span_of e).end) (grouped-expr_of chain)

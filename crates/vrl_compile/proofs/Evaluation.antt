@@ -7,7 +7,9 @@ use Rattle.vrl_compile.specs.declared.syntax.Operator.{Operator}
 use Rattle.vrl_compile.specs.declared.syntax.Operator.TheVariants.{Plus, Coalesce}
 use Rattle.vrl_compile.specs.Execution.{sum_with}
 use Rattle.vrl_compile.specs.Meaning.{Store, Outcome, value, error, Ended, IsUnhandled, eval, on_value, on_error, sum_of, value_of_form}
-use Rattle.vrl_compile.specs.Syntax.{Expr, operand, plus, coalesce, with_left, grouped, expr_of}
+use Rattle.vrl_compile.specs.Judged.{with_left}
+use Rattle.vrl_compile.specs.Syntax.{Expr, operand, plus, coalesce, expr_of}
+use Rattle.vrl_compile.proofs.Grouping.{grouped, grouped-expr_of}
 
 on_value-store : (o : Outcome) (s t : Store) (next : Tree → Store → Ended) → s ≡ t → ((v : Tree) → (next v s).store ≡ t) → (on_value o s next).store ≡ t
 on_value-store (value v) s t next is then = then v
@@ -85,4 +87,4 @@ grouped-outcome left sum ((Coalesce, x) ∷ others) store fails =
 
 -- of a whole chain
 pub expr_of-outcome : (chain : Chain) (store : Store) → (eval (expr_of chain) store).outcome ≡ end_of store (value (value_of_form chain.first.form store)) chain.others.items
-expr_of-outcome chain store = grouped-outcome None (operand chain.first) chain.others.items store tt
+expr_of-outcome chain store = ap (λ e. (eval e store).outcome) (sym (grouped-expr_of chain)) ∙ grouped-outcome None (operand chain.first) chain.others.items store tt

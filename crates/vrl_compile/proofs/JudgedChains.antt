@@ -10,9 +10,10 @@ use Rattle.vrl_compile.specs.declared.syntax.Chain.{Chain}
 use Rattle.vrl_compile.specs.declared.syntax.Operand.{Operand}
 use Rattle.vrl_compile.specs.declared.syntax.Operator.{Operator}
 use Rattle.vrl_compile.specs.declared.syntax.Operator.TheVariants.{Plus, Coalesce}
-use Rattle.vrl_compile.specs.Judged.{IsJudged, IsLeft, IsPart, across, judgement_of, next_left, next_sum, start_of_sum, state_at}
+use Rattle.vrl_compile.specs.Judged.{IsJudged, IsLeft, IsPart, across, judgement_of, next_left, next_sum, start_of_sum, state_at, with_left}
 use Rattle.vrl_compile.specs.Judgement.{Known, State, alive, judge, judge_plus, judge_coalesce, start_of_right}
-use Rattle.vrl_compile.specs.Syntax.{Expr, operand, plus, coalesce, span_of, with_left, grouped, expr_of}
+use Rattle.vrl_compile.specs.Syntax.{Expr, operand, plus, coalesce, span_of, expr_of}
+use Rattle.vrl_compile.proofs.Grouping.{grouped, grouped-expr_of}
 use Rattle.vrl_compile.proofs.Judgements.{judge-plus}
 
 -- ---- one operator
@@ -77,7 +78,7 @@ grouped-step left sum Plus o others = refl
 grouped-step left sum Coalesce o others = refl
 
 pub read_to_start : (known : Known) (chain : Chain) (sum : Judged) → IsJudged known chain.first.span (judge (operand chain.first) (alive known)) sum → IsReadTo known chain 0 (record { left = None; sum = sum })
-read_to_start known chain sum is = record { left = None; sum = operand chain.first; reads = refl; part_is = record { left_is = tt; sum_is = is } }
+read_to_start known chain sum is = record { left = None; sum = operand chain.first; reads = grouped-expr_of chain; part_is = record { left_is = tt; sum_is = is } }
 
 pub read_to_more : (known : Known) (chain : Chain) (n : ℕ) (part after : Part) (next : Operator × Operand) → n < length chain.others.items → next ≡ get_or chain.others.items n next → IsReadTo known chain n part
     → ((left : Option Expr) (sum : Expr) → IsPart known left sum part → IsPart known (next_left left sum next.0) (next_sum sum next.0 next.1) after)

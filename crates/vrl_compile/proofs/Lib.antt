@@ -7,6 +7,7 @@ pub mod Environments
 pub mod Evaluation
 pub mod ExpressionSound
 pub mod Fitting
+pub mod Grouping
 pub mod Items
 pub mod JudgedChains
 pub mod JudgedItems

@@ -9,7 +9,7 @@ use Rattle.vrl_compile.specs.declared.judgement.Part.{Part}
 use Rattle.vrl_compile.specs.declared.syntax.Operand.{Operand}
 use Rattle.vrl_compile.specs.declared.syntax.Operator.{Operator}
 use Rattle.vrl_compile.specs.declared.syntax.Operator.TheVariants.{Plus, Coalesce}
-use Rattle.vrl_compile.specs.Syntax.{Expr, operand, plus, span_of, with_left}
+use Rattle.vrl_compile.specs.Syntax.{Expr, operand, plus, coalesce, span_of}
 use Rattle.vrl_compile.specs.Judgement.{Known, State, dead, alive, Judgement, judge, start_of_right, at_span}
 
 -- the state in which this is known, or the dead one
@@ -36,7 +36,12 @@ pub record IsJudged (known : Known) (span : Span) (judgement : Judgement) (judge
 abbrev pub across : Span → Span → Span
 across l r = record { start = l.start; end = r.end }
 
--- ---- chains
+-- ---- chains, of which the code keeps the sum so far and what stands before the `??` on its left
+
+-- the two as one expression
+abbrev pub with_left : Option Expr → Expr → Expr
+with_left None sum = sum
+with_left (Some left) sum = coalesce left sum
 
 -- the state in which a sum is judged, by what stands before the `??` on its left
 abbrev pub start_of_sum : Known → Option Expr → State

@@ -1,5 +1,5 @@
 -- The tree of an expression: `+` binds closer than `??`, and both group to the left.
-use Rattle.std.specs.Prelude.{List, [], ◌∷◌, Option, Some, None}
+use Rattle.std.specs.Prelude.{List, [], ◌∷◌, fold}
 use Rattle.vrl_compile.specs.declared.diagnostic.Span.{Span}
 use Rattle.vrl_compile.specs.declared.syntax.Operand.{Operand}
 use Rattle.vrl_compile.specs.declared.syntax.Operator.{Operator}
@@ -17,16 +17,22 @@ span_of (operand o) = o.span
 span_of (plus l r) = record { start = (span_of l).start; end = (span_of r).end }
 span_of (coalesce l r) = record { start = (span_of l).start; end = (span_of r).end }
 
--- a sum, and what stands before the `??` on its left, if one does
-abbrev pub with_left : Option Expr → Expr → Expr
-with_left None sum = sum
-with_left (Some left) sum = coalesce left sum
+-- the operands that are added, up to the first `??`
+abbrev pub summands : List (Operator × Operand) → List Operand
+summands [] = []
+summands ((Plus, o) ∷ others) = o ∷ summands others
+summands ((Coalesce, o) ∷ others) = []
 
--- what stands before the last `??` so far, the sum so far, and the operators and operands that are left
-abbrev pub grouped : Option Expr → Expr → List (Operator × Operand) → Expr
-grouped left sum [] = with_left left sum
-grouped left sum ((Plus, o) ∷ others) = grouped left (plus sum (operand o)) others
-grouped left sum ((Coalesce, o) ∷ others) = grouped (Some (with_left left sum)) (operand o) others
+-- an operand and what is added to it, from the left
+abbrev pub with_summands : Operand → List (Operator × Operand) → Expr
+with_summands first others = fold (λ sum o. plus sum (operand o)) (operand first) (summands others)
 
+-- the sum behind each `??`
+abbrev pub fallbacks : List (Operator × Operand) → List Expr
+fallbacks [] = []
+fallbacks ((Plus, o) ∷ others) = fallbacks others
+fallbacks ((Coalesce, o) ∷ others) = with_summands o others ∷ fallbacks others
+
+-- the first sum and the sum behind each `??`, joined by `??` from the left
 abbrev pub expr_of : Chain → Expr
-expr_of chain = grouped None (operand chain.first) chain.others.items
+expr_of chain = fold coalesce (with_summands chain.first chain.others.items) (fallbacks chain.others.items)

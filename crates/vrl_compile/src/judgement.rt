@@ -3,9 +3,9 @@ ghost use Rattle.vrl_kind.specs.Tags.{any, union};
 ghost use Rattle.vrl_kind.specs.View.{tags_of};
 ghost use Rattle.vrl_compile.specs.Answer.{AreOrdered};
 ghost use Rattle.vrl_compile.specs.Environment.{known_of, variable_kind};
-ghost use Rattle.vrl_compile.specs.Judged.{IsEnding, IsJudged, IsPart, across, judgement_of, next_left, next_sum, state_at, with_code};
+ghost use Rattle.vrl_compile.specs.Judged.{IsEnding, IsJudged, IsPart, across, judgement_of, next_left, next_sum, state_at, with_code, with_left};
 ghost use Rattle.vrl_compile.specs.Judgement.{Known, alive, gives, judge, judge_coalesce, judge_form, judge_item, judge_plus, judge_script, judge_variable, nothing, plus_kind, plus_may_fail, plus_may_succeed, read_kind, start_of_right};
-ghost use Rattle.vrl_compile.specs.Syntax.{Expr, expr_of, operand, span_of, with_left};
+ghost use Rattle.vrl_compile.specs.Syntax.{Expr, expr_of, operand, span_of};
 
 use crate::addition::{kind_of_sum, kind_where, may_fail, may_succeed};
 use crate::diagnostic::{Diagnostic, Span};

@@ -1,6 +1,5 @@
 use Rattle.vrl_compile.specs.Environment.{known_of}
-use Rattle.vrl_compile.specs.Judged.{start_of_sum}
-use Rattle.vrl_compile.specs.Syntax.{with_left}
+use Rattle.vrl_compile.specs.Judged.{start_of_sum, with_left}
 use Rattle.vrl_compile.proofs.JudgedChains.{sum_read, right_read}
 use Rattle.vrl_compile.proofs.judgement.read_on.Goals as goal
 
