@@ -1,38 +1,25 @@
 -- What the classes of characters are to each other.
 use Rattle.std.proofs.Common.{ℕ, ◌<◌, arith}
 use Rattle.vrl_compile.specs.Scan.{IsIn}
-use Rattle.vrl_compile.specs.Lexical.{IsBlank, IsDigit, IsNamePart, IsSpace}
+use Rattle.vrl_compile.specs.Lexical.{IsBlank, IsNamePart}
 use Rattle.vrl_compile.specs.declared.scan.Class.{Class}
-use Rattle.vrl_compile.specs.declared.scan.Class.TheVariants.{Blank, Space, Digit, NameStart, NamePart}
+use Rattle.vrl_compile.specs.declared.scan.Class.TheVariants.{Blank, Digit, NameStart, NamePart}
 
 -- each is ASCII
 pub in_ascii : (class : Class) (b : ℕ) → IsIn class b → b < 128
 in_ascii Blank b h = grind (arith, h)
-in_ascii Space b h = grind (arith, h)
 in_ascii Digit b h = grind (arith, h)
 in_ascii NameStart b h = grind (arith, h)
 in_ascii NamePart b h = grind (arith, h)
 
-pub space_no_digit : (b : ℕ) → IsSpace b → ¬ IsDigit b
-space_no_digit b p q = grind (arith, p, q)
-
 pub blank_no_name_part : (b : ℕ) → IsBlank b → ¬ IsNamePart b
 blank_no_name_part b p q = grind (arith, p, q)
-
-pub digit_no_blank : (b : ℕ) → IsDigit b → ¬ IsBlank b
-digit_no_blank b p q = grind (arith, p, q)
-
-pub dot_no_space : ¬ IsSpace 46
-dot_no_space p = grind (arith, p)
 
 pub equals_no_blank : ¬ IsBlank 61
 equals_no_blank p = grind (arith, p)
 
 pub equals_no_name_part : ¬ IsNamePart 61
 equals_no_name_part p = grind (arith, p)
-
-pub minus_no_blank : ¬ IsBlank 45
-minus_no_blank p = grind (arith, p)
 
 pub plus_no_blank : ¬ IsBlank 43
 plus_no_blank p = grind (arith, p)

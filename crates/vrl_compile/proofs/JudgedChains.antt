@@ -50,11 +50,6 @@ pub whole_read : (known : Known) (left : Option Expr) (sum : Expr) (l r : Judged
 whole_read known None sum l r answer left_is right_is both = absurd left_is
 whole_read known (Some left) sum l r answer left_is right_is both = IfOk-weaker answer _ _ (λ whole is. coalesce_read known left sum l r whole left_is right_is is) both
 
-pub sum_alone : (known : Known) (left : Option Expr) (sum : Expr) (r : Judged) → IsLeft known left None → IsJudged known (span_of sum) (judge sum (start_of_sum known left)) r
-    → IsJudged known (span_of (with_left left sum)) (judge (with_left left sum) (alive known)) r
-sum_alone known None sum r left_is right_is = right_is
-sum_alone known (Some left) sum r left_is right_is = absurd left_is
-
 pub right_read : (known : Known) (whole : Expr) (o : Operand) (l r : Judged) (reached : Bool) → IsJudged known (span_of whole) (judge whole (alive known)) l
     → state_at reached known ≡ start_of_right (judgement_of l known)
     → IsJudged known o.span (judge (operand o) (state_at reached known)) r

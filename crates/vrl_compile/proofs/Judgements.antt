@@ -1,5 +1,6 @@
 -- Judgements whose states are all one, or dead.
 use Rattle.std.proofs.Common.{◌≡◌, Bool, true, false, ◌||◌, ◌&&◌, not, List, ◌++◌, Option, Some, None, if◌then◌else◌, refl, sym, ap, ◌∙◌, append-nil}
+use Rattle.std.proofs.Math.Bool.{and-false}
 use Rattle.std.proofs.Math.Path.{fun_ext}
 use Rattle.vrl_value.specs.declared.value.Tag.{Tag}
 use Rattle.vrl_value.specs.declared.value.Tag.TheVariants as tag
@@ -115,10 +116,6 @@ reached known false fail = refl
 null_where_absent : (b : Bool) → (b && true) ≡ (true && b)
 null_where_absent true = refl
 null_where_absent false = refl
-
-and-false : (a : Bool) → (a && false) ≡ false
-and-false true = refl
-and-false false = refl
 
 read_kind-at : (K : Tags) (t : Tag) → union (without K tag.Absent) (only_where (K tag.Absent) tag.Null) t ≡ read_kind K t
 read_kind-at K tag.Text = ap (λ b. without K tag.Absent tag.Text || b) (and-false (K tag.Absent))

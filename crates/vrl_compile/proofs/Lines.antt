@@ -1,5 +1,5 @@
 -- The lines of a script: how a reading from the first line on comes to the one reading of a text.
-use Rattle.std.proofs.Common.{◌≡◌, ◌≢◌, ℕ, ◌+◌, ◌-◌, ◌≤◌, ◌<◌, List, [], ◌∷◌, ◌++◌, length, Option, Some, None, inl, inr, refl, sym, ap, ◌∙◌, subst, append_assoc, length-append, arith}
+use Rattle.std.proofs.Common.{◌≡◌, ◌≢◌, ℕ, ◌+◌, ◌-◌, ◌≤◌, List, [], ◌∷◌, ◌++◌, length, Option, Some, None, inl, inr, refl, sym, ap, ◌∙◌, subst, append_assoc, length-append, arith}
 use denote.Ref.{Bor}
 use Rattle.std.specs.List.{AllByRecursion}
 use Rattle.std.proofs.lemmas.Bool.{ne_eqb}
@@ -117,8 +117,3 @@ no_script text items rest line behind end before run ends some none all is =
       | inl blank ↦ some blank.0
       | inr has ↦ none has.item (subst (λ at. IsItem at line has.item) (sym start) has.item_is)
     ]
-
--- each line makes what is left shorter
-pub left_shorter : (rest : Bor (List ℕ)) (line : List ℕ) (behind : Option (Bor (List ℕ))) → IsLongestRun (λ b. b ≢ 10) rest.now line (behind_line behind) → left_length behind < left_length (Some rest)
-left_shorter rest line None run = omega arith
-left_shorter rest line (Some last) run = let long = simp length-append at (ap length run.parts) in omega arith

@@ -25,15 +25,7 @@ step : (o : Outcome) (s : Store) (items : List Item) → ¬ IsUnhandled (on_valu
 step (value v) s items handled = (v, refl)
 step (error text) s items handled = absurd (handled tt)
 
-handled_at : (o : Outcome) (s : Store) (items : List Item) → ¬ IsUnhandled (on_value o s (λ v after. run_items v items after)).outcome → ¬ IsUnhandled o
-handled_at (value v) s items handled = λ fails. fails
-handled_at (error text) s items handled = handled
-
--- where a run handles each error, so does its first item
-pub handled_first : (last : Tree) (item : Item) (items : List Item) (store : Store) → ¬ IsUnhandled (run_items last (item ∷ items) store).outcome → ¬ IsUnhandled (run_item item store).outcome
-handled_first last item items store handled = handled_at (run_item item store).outcome (run_item item store).store items handled
-
--- and what the run does is what the items after it do
+-- where a run handles each error, what it does is what the items after the first do
 pub run_items-next : (last : Tree) (item : Item) (items : List Item) (store : Store) → ¬ IsUnhandled (run_items last (item ∷ items) store).outcome
     → (v : Tree) × (run_items last (item ∷ items) store ≡ run_items v items (run_item item store).store)
 run_items-next last item items store handled = step (run_item item store).outcome (run_item item store).store items handled

@@ -29,9 +29,6 @@ quoted_run {text} {behind} {inner} {rest} opens is = record {
   ends = λ p. p refl;
 }
 
-pub unquoted : {text : List ℕ} → ((behind : List ℕ) → text ≢ 34 ∷ behind) → (inner rest : List ℕ) → ¬ BeginsWithForm text (Text inner) rest
-unquoted none inner rest is = none _ (quoted_parts is)
-
 pub unclosed : {text behind : List ℕ} → text ≡ 34 ∷ behind → ((before rest : List ℕ) → behind ≢ before ++ 34 ∷ rest) → (inner rest : List ℕ) → ¬ BeginsWithForm text (Text inner) rest
 unclosed opens none inner rest is = none inner rest (quoted_run opens is).parts
 
@@ -47,14 +44,6 @@ pub misquoted : {text behind inner rest : List ℕ} → text ≡ 34 ∷ behind �
 misquoted opens run bad other last is = bad (subst (AllByRecursion IsTextByte) (same_longest_run (quoted_run opens is) run).0 is.is_form.1)
 
 -- ---- places
-
-pub dotted : {text behind name rest : List ℕ} → text ≡ 46 ∷ behind → IsName name → IsLongestRun IsNamePart behind name rest → BeginsWithForm text (Read (Field name)) rest
-dotted {text} {behind} {name} {rest} dot is_name run = record {
-  spelling = 46 ∷ name;
-  parts = dot ∙ ap (λ t. 46 ∷ t) run.parts;
-  is_form = (refl, is_name);
-  ends = run.ends;
-}
 
 pub bare : {text name rest : List ℕ} → IsName name → IsLongestRun IsNamePart text name rest → ¬ Contains keywords name → BeginsWithForm text (Read (Variable name)) rest
 bare {text} {name} {rest} is_name run free = record {

@@ -7,10 +7,6 @@ use Rattle.std.specs.Int.{w64}
 abbrev pub IsBlank : ℕ → Type 0
 IsBlank b = (b ≡ 32) ⊎ (b ≡ 9) ⊎ (b ≡ 13)
 
--- a blank or a newline
-abbrev pub IsSpace : ℕ → Type 0
-IsSpace b = IsBlank b ⊎ (b ≡ 10)
-
 abbrev pub IsDigit : ℕ → Type 0
 IsDigit b = (48 ≤ b) × (b ≤ 57)
 

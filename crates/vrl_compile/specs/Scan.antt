@@ -1,14 +1,13 @@
 -- Words for cutting a text into tokens.
 use Rattle.std.specs.Prelude.{◌≡◌, ◌≢◌, ℕ, ℤ, pos, neg_ℤ, Bool, true, false, List, [], ◌∷◌, ◌++◌}
 use Rattle.std.specs.List.{AllByRecursion}
-use Rattle.vrl_compile.specs.Lexical.{IsBlank, IsSpace, IsDigit, IsNameStart, IsNamePart, IsNumeral}
+use Rattle.vrl_compile.specs.Lexical.{IsBlank, IsDigit, IsNameStart, IsNamePart, IsNumeral}
 use Rattle.vrl_compile.specs.declared.scan.Class.{Class}
-use Rattle.vrl_compile.specs.declared.scan.Class.TheVariants.{Blank, Space, Digit, NameStart, NamePart}
+use Rattle.vrl_compile.specs.declared.scan.Class.TheVariants.{Blank, Digit, NameStart, NamePart}
 
 -- the byte is one of the class
 abbrev pub IsIn : Class → ℕ → Type 0
 IsIn Blank = IsBlank
-IsIn Space = IsSpace
 IsIn Digit = IsDigit
 IsIn NameStart = IsNameStart
 IsIn NamePart = IsNamePart

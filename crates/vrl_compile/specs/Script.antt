@@ -1,6 +1,6 @@
 -- The text of a script: lines, each of them blank or with one item.
-use Rattle.std.specs.Prelude.{◌≡◌, ◌≢◌, ℕ, ◌+◌, ◌⊎◌, ◌==◌, List, [], ◌∷◌, ◌++◌, length, codes, Contains, if◌then◌else◌}
-use Rattle.std.specs.List.{AllByRecursion}
+use Rattle.std.specs.Prelude.{◌≡◌, ◌≢◌, ℕ, ◌+◌, ◌⊎◌, ◌==◌, List, [], ◌∷◌, ◌++◌, length, codes, Contains}
+use Rattle.std.specs.List.{AllByRecursion, slice_split}
 use Rattle.vrl_compile.specs.declared.diagnostic.Span.{Span}
 use Rattle.vrl_compile.specs.declared.syntax.Place.{Place}
 use Rattle.vrl_compile.specs.declared.syntax.Place.TheVariants.{Field, Variable}
@@ -100,13 +100,8 @@ IsItem at line (Assign span place chain) = IsAssign at line span place chain
 IsItem at line (Expression chain) = IsExpression at line chain
 
 -- the lines of a text, without their newlines
-abbrev pub before_first : ℕ → List (List ℕ) → List (List ℕ)
-before_first b [] = (b ∷ []) ∷ []
-before_first b (line ∷ lines) = (b ∷ line) ∷ lines
-
 abbrev pub lines_of : List ℕ → List (List ℕ)
-lines_of [] = [] ∷ []
-lines_of (b ∷ bs) = if b == 10 then [] ∷ lines_of bs else before_first b (lines_of bs)
+lines_of text = slice_split (λ b. b == 10) text
 
 -- the first of these lines, which stands at this place, has an item, and the others have the others
 pub record HasItem (more : List Item → Type 0) (at : ℕ) (line : List ℕ) (items : List Item) : Type 0 where

@@ -10,8 +10,6 @@ ghost use Rattle.vrl_compile.specs.Lexical.{IsDigit, IsName, IsNamePart, decimal
 pub(crate) enum Class {
     /// Space, tab and carriage return.
     Blank,
-    /// A blank and the newline.
-    Space,
     /// `0` to `9`.
     Digit,
     /// What a name begins with: a letter.
@@ -27,7 +25,6 @@ impl Class {
     {
         match self {
             Class::Blank => matches!(byte, b' ' | b'\t' | b'\r'),
-            Class::Space => matches!(byte, b' ' | b'\t' | b'\r' | b'\n'),
             Class::Digit => byte.is_ascii_digit(),
             Class::NameStart => byte.is_ascii_alphabetic(),
             Class::NamePart => byte.is_ascii_alphanumeric() || byte == b'_',
