@@ -1,3 +1,4 @@
+pub mod Laws
 pub mod Moment
 pub mod Tag
 pub mod Tree

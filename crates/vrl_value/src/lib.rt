@@ -3,6 +3,7 @@
 //! A contract sees a [`Value`] as its tree, by the one function `tree_of`.
 #![tactic(auto)]
 
+mod laws;
 mod lists;
 mod memory;
 mod moment;
@@ -10,6 +11,7 @@ mod moment;
 mod tests;
 mod value;
 
+pub use laws::{members_are_maps, members_stay_json};
 pub use lists::{Bytes, Chars, Names};
 pub use memory::Memory;
 pub use moment::Moment;
