@@ -2,9 +2,9 @@
 use Rattle.std.proofs.Common.{◌≡◌, ℕ, List, Bool, true, false, Option, Some, None, bytes_eq, IsTrue, IsSomeAnd, IfSome, if◌then◌else◌, refl, sym, ◌∙◌, subst}
 use Rattle.std.proofs.lemmas.Bool.{or_left, or_right, false≢true}
 use Rattle.std.proofs.lemmas.Slice.Eq.{bytes_eq-Decides}
+use Rattle.vrl_value.specs.Laws.{MembersAreMaps, MembersStayJson}
 use Rattle.vrl_value.specs.Tree.{Tree, string, integer, boolean, null, timestamp, regex, array, object, Members, is_json, put, find}
 use Rattle.vrl_value.specs.declared.value.Tag.TheVariants as tag
-use Rattle.vrl_value.proofs.Members.{find-put, find-put_other, json_found}
 use Rattle.vrl_kind.specs.Tags.{Tags, json, only, union, Inhabits}
 use Rattle.vrl_compile.specs.declared.syntax.Place.{Place}
 use Rattle.vrl_compile.specs.declared.syntax.Place.TheVariants.{Field, Variable}
@@ -67,31 +67,31 @@ apart : (f name : List ℕ) → bytes_eq f name ≡ false → ¬ (f ≡ name)
 apart f name not_same same = false≢true (sym not_same ∙ (bytes_eq-Decides f name).1 same)
 
 -- a field after a write to a field: it has the written kind where it is the one, else its own
-field_written : (f name : List ℕ) (v : Tree) (K L : Tags) (ms : Members) (same : Bool) → bytes_eq f name ≡ same → Inhabits v K → IsTrue (L (tag_at (find f ms)))
+field_written : MembersAreMaps → (f name : List ℕ) (v : Tree) (K L : Tags) (ms : Members) (same : Bool) → bytes_eq f name ≡ same → Inhabits v K → IsTrue (L (tag_at (find f ms)))
     → IsTrue ((if same then K else L) (tag_at (find f (put name v ms))))
-field_written f name v K L ms true is of_kind before = rw ((bytes_eq-Decides f name).0 is, find-put name v ms) of_kind
-field_written f name v K L ms false is of_kind before = rw (find-put_other f name v ms (apart f name is)) before
+field_written maps f name v K L ms true is of_kind before = rw ((bytes_eq-Decides f name).0 is, maps.find_put name v ms) of_kind
+field_written maps f name v K L ms false is of_kind before = rw (maps.find_put_other f name v ms (apart f name is)) before
 
 -- a variable after a write to a variable: it has the written kind where it is the one, else its own
-variable_written : (x name : List ℕ) (v : Tree) (K J : Tags) (l : Option Tags) (ms : Members) (same : Bool) → bytes_eq x name ≡ same → Inhabits v K → (if same then Some K else l) ≡ Some J
+variable_written : MembersAreMaps → (x name : List ℕ) (v : Tree) (K J : Tags) (l : Option Tags) (ms : Members) (same : Bool) → bytes_eq x name ≡ same → Inhabits v K → (if same then Some K else l) ≡ Some J
     → (l ≡ Some J → IsSomeAnd (find x ms) (λ w. Inhabits w J)) → IsSomeAnd (find x (put name v ms)) (λ w. Inhabits w J)
-variable_written x name v K J l ms true is of_kind knows before =
+variable_written maps x name v K J l ms true is of_kind knows before =
     let kinds : K ≡ J = cc in
-    rw ((bytes_eq-Decides x name).0 is, find-put name v ms) (subst (Inhabits v) kinds of_kind)
-variable_written x name v K J l ms false is of_kind knows before = rw (find-put_other x name v ms (apart x name is)) (before knows)
+    rw ((bytes_eq-Decides x name).0 is, maps.find_put name v ms) (subst (Inhabits v) kinds of_kind)
+variable_written maps x name v K J l ms false is of_kind knows before = rw (maps.find_put_other x name v ms (apart x name is)) (before knows)
 
 -- once a value of a kind stands at a place, the store fits the state that has the kind there
-pub fits-write : (place : Place) (v : Tree) (K : Tags) (store : Store) (state : State) → Inhabits v K → Fits store state → Fits (write_value place v store) (write_kind place K state)
-fits-write place v K store dead of_kind fits = absurd fits
-fits-write (Field name) v K store (alive known) of_kind fits = record {
+pub fits-write : MembersAreMaps → (place : Place) (v : Tree) (K : Tags) (store : Store) (state : State) → Inhabits v K → Fits store state → Fits (write_value place v store) (write_kind place K state)
+fits-write maps place v K store dead of_kind fits = absurd fits
+fits-write maps (Field name) v K store (alive known) of_kind fits = record {
   event = refl;
-  fields = λ f. field_written f name v K (known.fields f) (fields_of store.event) _ refl of_kind (fits.fields f);
+  fields = λ f. field_written maps f name v K (known.fields f) (fields_of store.event) _ refl of_kind (fits.fields f);
   variables = fits.variables;
 }
-fits-write (Variable name) v K store (alive known) of_kind fits = record {
+fits-write maps (Variable name) v K store (alive known) of_kind fits = record {
   event = fits.event;
   fields = fits.fields;
-  variables = λ x J knows. variable_written x name v K J (known.variables x) store.variables _ refl of_kind knows (fits.variables x J);
+  variables = λ x J knows. variable_written maps x name v K J (known.variables x) store.variables _ refl of_kind knows (fits.variables x J);
 }
 
 -- ---- the start
@@ -113,14 +113,14 @@ declared_field None is = refl
 declared_field (Some v) is = or_left _ _ (json_tag v is)
 
 -- what is found among the fields of a declared event is JSON
-fields_found : (event : Tree) (name : List ℕ) → IsDeclared event → IfSome (find name (fields_of event)) (λ v. IsTrue (is_json v))
-fields_found (object ms) name declared = json_found name ms declared.1
-fields_found event name declared = absurd (false≢true declared.0)
+fields_found : MembersStayJson → (event : Tree) (name : List ℕ) → IsDeclared event → IfSome (find name (fields_of event)) (λ v. IsTrue (is_json v))
+fields_found law (object ms) name declared = law.find_json name ms declared.1
+fields_found law event name declared = absurd (false≢true declared.0)
 
 -- an event of the declared kind fits the state that a script starts from
-pub fits-start : (event : Tree) → IsDeclared event → Fits (store_of event) start
-fits-start event declared = record {
+pub fits-start : MembersStayJson → (event : Tree) → IsDeclared event → Fits (store_of event) start
+fits-start law event declared = record {
   event = declared.0;
-  fields = λ name. declared_field _ (fields_found event name declared);
+  fields = λ name. declared_field _ (fields_found law event name declared);
   variables = λ name K is. cc;
 }

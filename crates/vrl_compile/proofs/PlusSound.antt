@@ -1,15 +1,27 @@
 -- The kind of a sum, and whether it may succeed or fail, against the sum of any two values of the kinds.
-use Rattle.std.proofs.Common.{◌≡◌, Bool, true, not, ◌&&◌, Option, Some, None, is_some, IsTrue, if◌then◌else◌, refl, ap}
+use Rattle.std.proofs.Common.{◌≡◌, Bool, true, not, ◌&&◌, Option, Some, None, is_some, IsTrue, if◌then◌else◌, refl, ap, arith}
 use Rattle.std.proofs.lemmas.Bool.{and_from}
+use Rattle.std.proofs.lemmas.Grind.{common_steps}
 use Rattle.std.specs.List.{list_any}
 use Rattle.vrl_value.specs.Tree.{Tree, string, integer, null}
 use Rattle.vrl_value.specs.declared.value.Tag.{Tag}
 use Rattle.vrl_value.specs.declared.value.Tag.TheVariants as tag
 use Rattle.vrl_kind.specs.Tags.{Tags, all_tags, same_tag, tag_of, Inhabits}
-use Rattle.vrl_kind.proofs.KindLemmas.{some_tag-intro}
 use Rattle.vrl_compile.specs.Judgement.{State, dead, plus_tag, some_pair, is_tag, plus_kind, plus_may_succeed, plus_may_fail}
 use Rattle.vrl_compile.specs.Meaning.{Store, Outcome, value, error, sum_of}
 use Rattle.vrl_compile.specs.Soundness.{Fits, IsSoundEnd}
+
+-- a tag that passes a test is one of them all
+some_tag-intro : (test : Tags) (t : Tag) → IsTrue (test t) → IsTrue (list_any test all_tags)
+some_tag-intro test tag.Text h = grind (arith, common_steps)
+some_tag-intro test tag.Int h = grind (arith, common_steps)
+some_tag-intro test tag.Bool h = grind (arith, common_steps)
+some_tag-intro test tag.Null h = grind (arith, common_steps)
+some_tag-intro test tag.Time h = grind (arith, common_steps)
+some_tag-intro test tag.Pattern h = grind (arith, common_steps)
+some_tag-intro test tag.List h = grind (arith, common_steps)
+some_tag-intro test tag.Object h = grind (arith, common_steps)
+some_tag-intro test tag.Absent h = grind (arith, common_steps)
 
 -- one pair that passes is a pair that passes
 some_pair-intro : (test : Tag → Tag → Bool) (K L : Tags) (a b : Tag) → IsTrue (K a) → IsTrue (L b) → IsTrue (test a b) → IsTrue (some_pair test K L)

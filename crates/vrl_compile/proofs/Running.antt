@@ -1,10 +1,7 @@
 -- Items one after the other.
-use Rattle.std.proofs.Common.{◌≡◌, ℕ, suc, ◌+◌, ◌<◌, List, [], ◌∷◌, length, drop, get_or, drop-cons, add-one, Option, Some, unwrap_or, Ordering, Less, Equal, Greater, nat_cmp, IsTrue, refl, sym, ap, ◌∙◌, subst}
-use Rattle.std.proofs.lemmas.Bool.{and_parts}
-use Rattle.std.specs.Cmp.Lexicographic.{slice_cmp}
-use Rattle.std.specs.Ordering.{match_ordering}
-use Rattle.vrl_value.specs.Tree.{Tree, string, integer, boolean, null, timestamp, regex, array, object, Members, no_members, member, find, is_json, members_are_json}
-use Rattle.vrl_value.proofs.Put.{members_are_json-put}
+use Rattle.std.proofs.Common.{◌≡◌, ℕ, suc, ◌+◌, ◌<◌, List, [], ◌∷◌, length, drop, get_or, drop-cons, add-one, Option, Some, None, unwrap_or, IfSome, IsTrue, refl, sym, ap, ◌∙◌, subst}
+use Rattle.vrl_value.specs.Laws.{MembersStayJson}
+use Rattle.vrl_value.specs.Tree.{Tree, string, integer, boolean, null, timestamp, regex, array, object, is_json, members_are_json}
 use Rattle.vrl_compile.specs.declared.diagnostic.Span.{Span}
 use Rattle.vrl_compile.specs.declared.syntax.Chain.{Chain}
 use Rattle.vrl_compile.specs.declared.syntax.Place.{Place}
@@ -50,16 +47,10 @@ abbrev IsJsonOutcome : Outcome → Type 0
 IsJsonOutcome (value v) = IsTrue (is_json v)
 IsJsonOutcome (error text) = Unit {0}
 
-found_cases : (o : Ordering) (u : Tree) (found : Option Tree) → IsTrue (is_json u) → IsTrue (is_json (unwrap_or found null)) → IsTrue (is_json (unwrap_or (match_ordering o found (Some u) found) null))
-found_cases Less u found here later = later
-found_cases Equal u found here later = here
-found_cases Greater u found here later = later
-
-is_json-find : (name : List ℕ) (ms : Members) → IsTrue (members_are_json ms) → IsTrue (is_json (unwrap_or (find name ms) null))
-is_json-find name no_members json = refl
-is_json-find name (member l u ms) json =
-    let parts = and_parts (is_json u) (members_are_json ms) json in
-    found_cases (slice_cmp nat_cmp name l) u (find name ms) parts.0 (is_json-find name ms parts.1)
+-- what is found is JSON, and so is null where nothing is
+is_json-found : (found : Option Tree) → IfSome found (λ v. IsTrue (is_json v)) → IsTrue (is_json (unwrap_or found null))
+is_json-found None is = refl
+is_json-found (Some v) is = is
 
 is_json-fields_of : (event : Tree) → IsTrue (is_json event) → IsTrue (members_are_json (fields_of event))
 is_json-fields_of (string s) json = refl
@@ -71,11 +62,11 @@ is_json-fields_of (regex n) json = refl
 is_json-fields_of (array ts) json = refl
 is_json-fields_of (object ms) json = json
 
-is_json-form : (form : Form) (store : Store) → IsJson store → IsTrue (is_json (value_of_form form store))
-is_json-form (Number n) store json = refl
-is_json-form (Text s) store json = refl
-is_json-form (Read (Field name)) store json = is_json-find name (fields_of store.event) (is_json-fields_of store.event json.event)
-is_json-form (Read (Variable name)) store json = is_json-find name store.variables json.variables
+is_json-form : MembersStayJson → (form : Form) (store : Store) → IsJson store → IsTrue (is_json (value_of_form form store))
+is_json-form law (Number n) store json = refl
+is_json-form law (Text s) store json = refl
+is_json-form law (Read (Field name)) store json = is_json-found _ (law.find_json name (fields_of store.event) (is_json-fields_of store.event json.event))
+is_json-form law (Read (Variable name)) store json = is_json-found _ (law.find_json name store.variables json.variables)
 
 is_json-sum_of : (v w : Tree) → IsJsonOutcome (sum_of v w)
 is_json-sum_of (integer n) (integer m) = refl
@@ -101,43 +92,43 @@ unwritten : (e : Expr) (store : Store) → IsJson store → IsJson (eval e store
 unwritten e store json = subst IsJson (sym (eval-store e store)) json
 
 -- the value of an expression over JSON is JSON
-is_json-eval : (e : Expr) (store : Store) → IsJson store → IsJsonOutcome (eval e store).outcome
-is_json-eval (operand o) store json = is_json-form o.form store json
-is_json-eval (plus l r) store json =
+is_json-eval : MembersStayJson → (e : Expr) (store : Store) → IsJson store → IsJsonOutcome (eval e store).outcome
+is_json-eval law (operand o) store json = is_json-form law o.form store json
+is_json-eval law (plus l r) store json =
     let left = eval l store in
     let right = eval r left.store in
     let after = unwritten l store json in
-    outcome_behind left.outcome left.store _ (is_json-eval l store json) (λ v _. outcome_behind right.outcome right.store _ (is_json-eval r left.store after) (λ w _. is_json-sum_of v w))
-is_json-eval (coalesce l r) store json =
+    outcome_behind left.outcome left.store _ (is_json-eval law l store json) (λ v _. outcome_behind right.outcome right.store _ (is_json-eval law r left.store after) (λ w _. is_json-sum_of v w))
+is_json-eval law (coalesce l r) store json =
     let left = eval l store in
-    on_error-json left.outcome left.store (eval r) (is_json-eval l store json) (is_json-eval r left.store (unwritten l store json))
+    on_error-json left.outcome left.store (eval r) (is_json-eval law l store json) (is_json-eval law r left.store (unwritten l store json))
 
-is_json-write : (place : Place) (v : Tree) (store : Store) → IsTrue (is_json v) → IsJson store → IsJson (write place v store)
-is_json-write (Field name) v store new json =
-    record { event = members_are_json-put name v (fields_of store.event) new (is_json-fields_of store.event json.event); variables = json.variables }
-is_json-write (Variable name) v store new json = record { event = json.event; variables = members_are_json-put name v store.variables new json.variables }
+is_json-write : MembersStayJson → (place : Place) (v : Tree) (store : Store) → IsTrue (is_json v) → IsJson store → IsJson (write place v store)
+is_json-write law (Field name) v store new json =
+    record { event = law.put_json name v (fields_of store.event) new (is_json-fields_of store.event json.event); variables = json.variables }
+is_json-write law (Variable name) v store new json = record { event = json.event; variables = law.put_json name v store.variables new json.variables }
 
-is_json-run_item : (item : Item) (store : Store) → IsJson store → IsJson (run_item item store).store
-is_json-run_item (Assign span place chain) store json =
+is_json-run_item : MembersStayJson → (item : Item) (store : Store) → IsJson store → IsJson (run_item item store).store
+is_json-run_item law (Assign span place chain) store json =
     let e = expr_of chain in
     let given = eval e store in
-    store_behind given.outcome given.store _ (is_json-eval e store json) (unwritten e store json) (λ v new. is_json-write place v given.store new (unwritten e store json))
-is_json-run_item (Expression chain) store json = unwritten (expr_of chain) store json
+    store_behind given.outcome given.store _ (is_json-eval law e store json) (unwritten e store json) (λ v new. is_json-write law place v given.store new (unwritten e store json))
+is_json-run_item law (Expression chain) store json = unwritten (expr_of chain) store json
 
 store_after : (o : Outcome) (s : Store) (next : Tree → Store → Ended) → IsJson s → ((v : Tree) → IsJson (next v s).store) → IsJson (on_value o s next).store
 store_after (value v) s next before then = then v
 store_after (error text) s next before then = before
 
-is_json-run_items : (last : Tree) (items : List Item) (store : Store) → IsJson store → IsJson (run_items last items store).store
-is_json-run_items last [] store json = json
-is_json-run_items last (item ∷ items) store json =
+is_json-run_items : MembersStayJson → (last : Tree) (items : List Item) (store : Store) → IsJson store → IsJson (run_items last items store).store
+is_json-run_items law last [] store json = json
+is_json-run_items law last (item ∷ items) store json =
     let given = run_item item store in
-    let after = is_json-run_item item store json in
-    store_after given.outcome given.store _ after (λ v. is_json-run_items v items given.store after)
+    let after = is_json-run_item law item store json in
+    store_after given.outcome given.store _ after (λ v. is_json-run_items law v items given.store after)
 
 -- a script leaves a JSON event JSON
-pub is_json-run_script : (items : List Item) (event : Tree) → IsTrue (is_json event) → IsTrue (is_json (run_script items event).store.event)
-is_json-run_script items event json = (is_json-run_items null items (store_of event) (record { event = json; variables = refl })).event
+pub is_json-run_script : MembersStayJson → (items : List Item) (event : Tree) → IsTrue (is_json event) → IsTrue (is_json (run_script items event).store.event)
+is_json-run_script law items event json = (is_json-run_items law null items (store_of event) (record { event = json; variables = refl })).event
 
 -- ---- assignments
 

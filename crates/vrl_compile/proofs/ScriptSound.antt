@@ -1,6 +1,7 @@
 -- A script without an error code ends with a value over every event of the declared kind.
 use Rattle.std.proofs.Common.{◌≡◌, ℕ, List, [], ◌∷◌, ◌++◌, Bool, true, false, fold, refl, sym, ◌∙◌, subst}
 use Rattle.std.proofs.lemmas.Bool.{true≢false, or_left}
+use Rattle.vrl_value.specs.Laws.{MembersAreMaps, MembersStayJson}
 use Rattle.vrl_value.specs.Tree.{Tree, null}
 use Rattle.vrl_value.specs.declared.value.Tag.TheVariants as tag
 use Rattle.vrl_kind.specs.Tags.{Tags, only, Inhabits}
@@ -44,20 +45,20 @@ handled code span j ended wrong none sound =
     subst (λ given. IsHandled given ended) (sym parts.1) (handled_where_dead j.kind j.ok j.fail ended.outcome ended.store parts.2 (sound parts.0))
 
 -- an assignment is judged soundly where its expression is
-assign_is_sound : (place : Place) (j : Judgement) (outcome : Outcome) (store : Store) → IsSoundEnd j.kind j.ok j.fail outcome store
+assign_is_sound : MembersAreMaps → (place : Place) (j : Judgement) (outcome : Outcome) (store : Store) → IsSoundEnd j.kind j.ok j.fail outcome store
     → IsSound (assigned place j) (on_value outcome store (λ v after. record { outcome = value v; store = write_value place v after }))
-assign_is_sound place j (value v) store sound = (sound.0, fits-write place v j.kind store j.ok sound.0 sound.1)
-assign_is_sound place j (error text) store sound = sound
+assign_is_sound maps place j (value v) store sound = (sound.0, fits-write maps place v j.kind store j.ok sound.0 sound.1)
+assign_is_sound maps place j (error text) store sound = sound
 
 -- an item without an error code ends with a value
-item_is_handled : (item : Item) (state : State) (store : Store) → HasNoError (judge_item item state).codes → Fits store state → IsHandled (judge_item item state) (run_item item store)
-item_is_handled item dead store none fits = absurd fits
-item_is_handled (Assign span place chain) (alive known) store none fits =
+item_is_handled : MembersAreMaps → (item : Item) (state : State) (store : Store) → HasNoError (judge_item item state).codes → Fits store state → IsHandled (judge_item item state) (run_item item store)
+item_is_handled maps item dead store none fits = absurd fits
+item_is_handled maps (Assign span place chain) (alive known) store none fits =
     let e = expr_of chain in
     let j = judge e (alive known) in
     handled 103 span (assigned place j) (run_item (Assign span place chain) store) refl none
-    (λ clean. assign_is_sound place j (eval e store).outcome (eval e store).store (expression_is_sound e (alive known) store clean fits))
-item_is_handled (Expression chain) (alive known) store none fits =
+    (λ clean. assign_is_sound maps place j (eval e store).outcome (eval e store).store (expression_is_sound e (alive known) store clean fits))
+item_is_handled maps (Expression chain) (alive known) store none fits =
     let e = expr_of chain in
     handled 100 (span_of e) (judge e (alive known)) (eval e store) refl none (λ clean. expression_is_sound e (alive known) store clean fits)
 
@@ -79,16 +80,16 @@ next_run j (value v) store script run given more = more v store given.0 given.1
 next_run j (error text) store script run given more = absurd given
 
 -- items behind others that ended with a value of their kind, in a store that fits
-items_are_sound : (items : List Item) (script : ScriptJudgement) (last : Tree) (store : Store) → HasNoError (fold then_item script items).codes → Inhabits last script.kind → Fits store script.ok
+items_are_sound : MembersAreMaps → (items : List Item) (script : ScriptJudgement) (last : Tree) (store : Store) → HasNoError (fold then_item script items).codes → Inhabits last script.kind → Fits store script.ok
     → IsSoundRun (fold then_item script items) (run_items last items store)
-items_are_sound [] script last store none of_kind fits = (of_kind, fits)
-items_are_sound (item ∷ items) script last store none of_kind fits =
+items_are_sound maps [] script last store none of_kind fits = (of_kind, fits)
+items_are_sound maps (item ∷ items) script last store none of_kind fits =
     let j = judge_item item script.ok in
     let clean = (no_error_parts script.codes j.codes (prefix_clean (then_item script item) items none)).1 in
     let given = run_item item store in
-    next_run j given.outcome given.store (fold then_item script (item ∷ items)) (λ v after. run_items v items after) (item_is_handled item script.ok store clean fits)
-    (λ v after is fit. items_are_sound items (then_item script item) v after none is fit)
+    next_run j given.outcome given.store (fold then_item script (item ∷ items)) (λ v after. run_items v items after) (item_is_handled maps item script.ok store clean fits)
+    (λ v after is fit. items_are_sound maps items (then_item script item) v after none is fit)
 
 -- a script without an error code ends with a value over every event of the declared kind
-pub script_is_sound : ScriptsAreSound
-script_is_sound items none event declared = items_are_sound items (record { kind = only tag.Null; ok = start; codes = [] }) null (store_of event) none refl (fits-start event declared)
+pub script_is_sound : MembersAreMaps → MembersStayJson → ScriptsAreSound
+script_is_sound maps law items none event declared = items_are_sound maps items (record { kind = only tag.Null; ok = start; codes = [] }) null (store_of event) none refl (fits-start law event declared)

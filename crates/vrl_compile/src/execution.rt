@@ -10,7 +10,7 @@ use crate::script::Program;
 use crate::syntax::{Chain, Form, Item, Operator, Place};
 use std::alloc::Global;
 use std::collections::BTreeMap;
-use vrl_value::{Chars, Fields, Memory, Tag, Value};
+use vrl_value::{Chars, Fields, Memory, Tag, Value, members_stay_json};
 
 /// The event as the program leaves it.
 pub fn run(alloc: Global, program: &Program, event: Value) -> Result<Value, Memory>
@@ -20,6 +20,7 @@ pub fn run(alloc: Global, program: &Program, event: Value) -> Result<Value, Memo
     ensures json { IsTrue (is_json (tree_of event))
         → IfOk result (λ after. IsTrue (is_json (tree_of after))) }
 {
+    members_stay_json();
     let mut store = Store {
         event,
         variables: Fields::new(BTreeMap::new(alloc)),

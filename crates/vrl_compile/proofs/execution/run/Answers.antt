@@ -20,4 +20,4 @@ pub returns-clause-json : goal.returns-clause-json
 returns-clause-json c = λ json.
     let l = c.loop-item in
     let ended = sym (ap (λ items. run_items l.invariant.0 items (store_view l.store)) (drop_all l.item-index c.deref-item-items.result.now c.loop-item-test.false)) ∙ l.invariant.1 in
-    subst (λ event. IsTrue (is_json event)) (sym (ap (λ end. end.store.event) ended)) (is_json-run_script (items_of c.args.program.now) (tree_of c.args.event) json)
+    subst (λ event. IsTrue (is_json event)) (sym (ap (λ end. end.store.event) ended)) (is_json-run_script c.members_stay_json.ensures (items_of c.args.program.now) (tree_of c.args.event) json)
