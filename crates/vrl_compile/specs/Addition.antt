@@ -1,4 +1,4 @@
--- The tags that one tag can be added to.
+-- The tags that one tag can be added to, by the table of `+` in `Judgement`.
 use Rattle.std.specs.Prelude.{Bool, ◌&&◌, not, is_some}
 use Rattle.std.specs.List.{list_any}
 use Rattle.vrl_value.specs.declared.value.Tag.{Tag}

@@ -1,4 +1,4 @@
--- What `compile` answers.
+-- What `compile` answers. The numbers of diagnostics are those of the Vector Remap Language's error reference, but for 1099.
 use Rattle.std.specs.Prelude.{◌≡◌, ℕ, List, [], ◌∷◌, true}
 use Rattle.std.specs.List.{list_any}
 use Rattle.std.specs.List.Sorted.{IsPermutation, IsSorted}

@@ -1,4 +1,4 @@
--- What an environment knows.
+-- What an environment knows: words of the code for the states of `Judgement`.
 use Rattle.std.specs.Prelude.{Option, Some, None}
 use Rattle.std.specs.BTreeMap.{get_by_text}
 use Rattle.vrl_value.specs.declared.value.Tag.TheVariants as tag

@@ -1,4 +1,4 @@
--- What the values of a run stand for.
+-- What the values of a run stand for: words of the code for those of `Meaning`.
 use Rattle.std.specs.Prelude.{◌++◌, codes}
 use Rattle.vrl_value.specs.Tree.{Tree}
 use Rattle.vrl_value.specs.View.{tree_of, members_of}

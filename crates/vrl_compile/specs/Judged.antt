@@ -1,4 +1,4 @@
--- What the code's answers stand for.
+-- What the code's answers stand for: words of the code for the judgements of `Judgement`.
 use Rattle.std.specs.Prelude.{◌≡◌, ℕ, Bool, true, false, List, ◌++◌, if◌then◌else◌, Option, Some, None}
 use Rattle.vrl_kind.specs.View.{tags_of}
 use Rattle.vrl_compile.specs.declared.diagnostic.Diagnostic.{Diagnostic}

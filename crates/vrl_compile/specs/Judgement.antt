@@ -1,4 +1,5 @@
--- The judgement: what a state and an expression give, before any event is there.
+-- The judgement: what a state and an expression give, before any event is there. The rules are those of the Vector Remap
+-- Language, which refuses a script that leaves an error unhandled; the codes 100, 103, 651 and 701 are of its error reference.
 use Rattle.std.specs.Prelude.{ℕ, Bool, true, false, ◌||◌, ◌&&◌, not, ◌==◌, List, [], ◌∷◌, ◌++◌, Option, Some, None, is_some, bytes_eq, fold, if◌then◌else◌}
 use Rattle.std.specs.List.{list_any}
 use Rattle.vrl_value.specs.declared.value.Tag.{Tag}

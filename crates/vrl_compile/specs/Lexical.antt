@@ -1,4 +1,4 @@
--- The characters, names and numerals of a script.
+-- The characters, names and numerals of a script: a part of the identifiers and integer literals of the Vector Remap Language.
 use Rattle.std.specs.Prelude.{◌≡◌, ℕ, ◌+◌, ◌*◌, ◌-◌, ◌<◌, ◌≤◌, ◌⊎◌, ℤ, pos, neg_ℤ, FitsSigned, List, [], ◌∷◌, length}
 use Rattle.std.specs.List.{AllByRecursion}
 use Rattle.std.specs.Int.{w64}

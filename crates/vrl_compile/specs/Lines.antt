@@ -1,4 +1,4 @@
--- Words for cutting a script into lines and their items.
+-- Words of the code for cutting a script into lines and their items; the grammar is in `Script`.
 use Rattle.std.specs.Prelude.{◌≡◌, ℕ, List, [], ◌∷◌, Option, Some, None}
 use denote.Ref.{Bor}
 use Rattle.vrl_compile.specs.Script.{IsExpression}

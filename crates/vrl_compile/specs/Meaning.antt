@@ -1,4 +1,5 @@
--- The meaning: what a script does to an event and its variables.
+-- The meaning: what a script does to an event and its variables, as the Vector Remap Language's expression reference has it
+-- (literals, paths, variables, arithmetic, coalesce, assignment).
 use Rattle.std.specs.Prelude.{ℕ, List, [], ◌∷◌, ◌++◌, unwrap_or, codes}
 use Rattle.std.specs.Int.{w64, int_wrapping_add}
 use Rattle.vrl_value.specs.Tree.{Tree, string, integer, boolean, null, timestamp, regex, array, object, Members, no_members, put, find}

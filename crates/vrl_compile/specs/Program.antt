@@ -1,4 +1,4 @@
--- What an accepted script is.
+-- What an accepted script is: a word of the code for the items of `Script`.
 use Rattle.std.specs.Prelude.{List}
 use Rattle.vrl_compile.specs.declared.syntax.Item.{Item}
 use Rattle.vrl_compile.specs.declared.script.Program.{Program}

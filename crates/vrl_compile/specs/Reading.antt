@@ -1,4 +1,4 @@
--- A text has one reading.
+-- A text has one reading: a property of the grammar in `Script`.
 use Rattle.std.specs.Prelude.{◌≡◌, ℕ, List, map, Option, Some, None}
 use Rattle.vrl_value.specs.Tree.{Tree}
 use Rattle.vrl_compile.specs.Answer.{AreDiagnostics}

@@ -1,4 +1,4 @@
--- Words for cutting a text into tokens.
+-- Words of the code for cutting a text into tokens; the classes and numerals are those of `Lexical`.
 use Rattle.std.specs.Prelude.{◌≡◌, ◌≢◌, ℕ, ℤ, pos, neg_ℤ, Bool, true, false, List, [], ◌∷◌, ◌++◌}
 use Rattle.std.specs.List.{AllByRecursion}
 use Rattle.vrl_compile.specs.Lexical.{IsBlank, IsDigit, IsNameStart, IsNamePart, IsNumeral}

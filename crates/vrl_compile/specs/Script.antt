@@ -1,4 +1,5 @@
--- The text of a script: lines, each of them blank or with one item.
+-- The text of a script: lines, each of them blank or with one item. It is a part of the grammar of the Vector Remap Language, by
+-- its expression reference: assignments, coalesce and arithmetic expressions, literals, paths, variables and keywords.
 use Rattle.std.specs.Prelude.{◌≡◌, ◌≢◌, ℕ, ◌+◌, ◌⊎◌, ◌==◌, List, [], ◌∷◌, ◌++◌, length, codes, Contains}
 use Rattle.std.specs.List.{AllByRecursion, slice_split}
 use Rattle.vrl_compile.specs.declared.diagnostic.Span.{Span}

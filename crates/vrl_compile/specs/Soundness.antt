@@ -1,4 +1,5 @@
--- Soundness: what the judgement says holds of the meaning.
+-- Soundness: what the judgement says holds of the meaning. This is the Vector Remap Language's claim that a program that compiles
+-- handles each of its errors.
 use Rattle.std.specs.Prelude.{◌≡◌, ℕ, false, List, Option, Some, None, IsSomeAnd, IsTrue}
 use Rattle.std.specs.List.{list_any}
 use Rattle.vrl_value.specs.Tree.{Tree, is_json, is_object, find}

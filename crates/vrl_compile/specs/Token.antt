@@ -1,4 +1,4 @@
--- Words for cutting a script into operands and operators.
+-- Words of the code for cutting a script into operands and operators; the grammar is in `Script`.
 use Rattle.std.specs.Prelude.{◌≡◌, ℕ, List, ◌∷◌, ◌++◌}
 use Rattle.std.specs.List.{AllByRecursion}
 use Rattle.vrl_compile.specs.Lexical.{IsBlank, IsDigit, IsNamePart}

@@ -21,7 +21,7 @@ pub(crate) fn offset_of(rest: &str, end: u32) -> u32
     end - rest.len() as u32
 }
 
-/// The operand that is spelled so, from `start` up to and without `end`.
+// The operand that is spelled so, from `start` up to and without `end`.
 fn operand(alloc: Global, token: Token<'_>, start: u32, end: u32) -> Result<Operand, Memory>
     ensures { IfOk result (λ o. (o.form ≡ form_of token.entry) × (o.span.start ≡ start)
         × (o.span.end ≡ end)) }
@@ -32,8 +32,8 @@ fn operand(alloc: Global, token: Token<'_>, start: u32, end: u32) -> Result<Oper
     })
 }
 
-/// The operators and operands in the rest of a line, which ends at `end` and may have blanks there. `None`
-/// where something else stands in it.
+// The operators and operands in the rest of a line, which ends at `end` and may have blanks there. `None`
+// where something else stands in it.
 fn others(alloc: Global, text: &str, end: u32) -> Result<Option<Vec<(Operator, Operand)>>, Memory>
     requires { length text.now ≤ end }
     ensures { let at = end - length text.now

@@ -2,21 +2,28 @@ ghost use Rattle.std.specs.Prelude.{◌≡◌};
 
 use std::marker::Model;
 
-/// A part of a script, in bytes from its start: from `start` up to and without `end`.
+/// A part of a script: from `start` up to and without `end`, both in bytes of its UTF-8 from the start of the
+/// script.
 #[derive(Clone, Copy, Debug, PartialEq, Eq)]
 pub struct Span {
+    /// Where its first byte stands; the script's first byte stands at 0.
     pub start: u32,
+    /// Where the byte behind its last one stands.
     pub end: u32,
 }
 
 /// Something that is wrong with a script, and where.
 #[derive(Clone, Copy, Debug, PartialEq, Eq)]
 pub struct Diagnostic {
+    /// The number that the compiler of the Vector Remap Language has for it, as 103 for an assignment that can
+    /// fail; the language's error reference (vector.dev/docs/reference/vrl/errors) describes each. 1099, for a
+    /// text of no form that is built, is this crate's own. 651 is a warning, and each other code an error.
     pub code: u16,
+    /// The part of the script that it is about.
     pub span: Span,
 }
 
-/// Diagnostics in order. A contract sees their list.
+/// Diagnostics in order, as [`compile`](crate::compile) gives them. A contract sees their list.
 #[derive(Drop)]
 pub struct Diagnostics {
     diagnostics: Vec<Diagnostic>,

@@ -12,7 +12,16 @@ use std::alloc::Global;
 use std::collections::BTreeMap;
 use vrl_value::{Chars, Fields, Memory, Tag, Value, members_stay_json};
 
-/// The event as the program leaves it.
+/// Runs an accepted script over an event, and gives the event as the script leaves it. A field that the script
+/// writes is put into it, and an event that is no object is replaced by one at the first such write. An event
+/// of JSON stays one.
+///
+/// The caller shows that the script ends with a value over this event. `scripts_are_sound` gives that for every
+/// accepted script and every event that is an object of JSON.
+///
+/// # Errors
+///
+/// [`Memory`] where memory is wanted; the event is let go then.
 pub fn run(alloc: Global, program: &Program, event: Value) -> Result<Value, Memory>
     requires { ¬ IsUnhandled (run_script (items_of program.now) (tree_of event)).outcome }
     ensures event { IfOk result (λ after. tree_of after
@@ -31,17 +40,17 @@ pub fn run(alloc: Global, program: &Program, event: Value) -> Result<Value, Memo
     Ok(store.event)
 }
 
-/// How an expression ended.
+// How an expression ended.
 #[derive(Drop)]
 enum Outcome {
-    /// With a value.
+    // With a value.
     Value(Value),
-    /// With the error that values of these tags can't be added.
+    // With the error that values of these tags can't be added.
     CannotAdd(Tag, Tag),
 }
 
 impl Outcome {
-    /// The sum of what came before and a value; an error stays.
+    // The sum of what came before and a value; an error stays.
     fn plus(self, right: Value) -> Result<Outcome, Memory>
         ensures { IfOk result (λ sum. outcome_view sum
             ≡ sum_with (outcome_view self) (tree_of right)) }
@@ -53,8 +62,8 @@ impl Outcome {
     }
 }
 
-/// The sum of two values: whole numbers wrap at 64 bits, texts are joined, and a null beside a text counts
-/// as empty.
+// The sum of two values: whole numbers wrap at 64 bits, texts are joined, and a null beside a text counts
+// as empty.
 fn sum(left: Value, right: Value) -> Result<Outcome, Memory>
     ensures { IfOk result (λ sum. outcome_view sum ≡ sum_of (tree_of left) (tree_of right)) }
 {
@@ -74,7 +83,7 @@ fn sum(left: Value, right: Value) -> Result<Outcome, Memory>
     }
 }
 
-/// The event, and the variables that are there.
+// The event, and the variables that are there.
 #[derive(Drop)]
 struct Store {
     event: Value,
@@ -82,7 +91,7 @@ struct Store {
 }
 
 impl Store {
-    /// What stands at a place, if anything does.
+    // What stands at a place, if anything does.
     fn find(&self, place: &Place) -> Option<&Value>
         ensures { unwrap_or (option_map (λ value. tree_of value.now) result) null
             ≡ read place.now (store_view self.now) }
@@ -94,7 +103,7 @@ impl Store {
         }
     }
 
-    /// The value that an operand has.
+    // The value that an operand has.
     fn value_of(&self, alloc: Global, form: &Form) -> Result<Value, Memory>
         ensures { IfOk result (λ value. tree_of value
             ≡ value_of_form form.now (store_view self.now)) }
@@ -109,8 +118,8 @@ impl Store {
         }
     }
 
-    /// How a chain ends. What stands to the right of a `??` is evaluated only where an error stands on its
-    /// left.
+    // How a chain ends. What stands to the right of a `??` is evaluated only where an error stands on its
+    // left.
     fn evaluate(&self, alloc: Global, chain: &Chain) -> Result<Outcome, Memory>
         ensures { IfOk result (λ outcome. outcome_view outcome
             ≡ (eval (expr_of chain.now) (store_view self.now)).outcome) }
@@ -126,7 +135,7 @@ impl Store {
         Ok(outcome)
     }
 
-    /// Puts a value at a place. An event that isn't an object is replaced by one.
+    // Puts a value at a place. An event that isn't an object is replaced by one.
     fn write(&mut self, alloc: Global, place: &Place, value: Value) -> Result<(), Memory>
         ensures { OnOk result (store_view self.new
             ≡ write place.now (tree_of value) (store_view self.old)) }
@@ -147,7 +156,7 @@ impl Store {
         }
     }
 
-    /// Runs an item that ends with a value. An expression writes nothing, so it is left out.
+    // Runs an item that ends with a value. An expression writes nothing, so it is left out.
     fn run_item(&mut self, alloc: Global, item: &Item) -> Result<(), Memory>
         requires { ¬ IsUnhandled (run_item item.now (store_view self.old)).outcome }
         ensures { OnOk result (store_view self.new

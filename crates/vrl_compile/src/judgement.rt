@@ -15,30 +15,30 @@ use std::alloc::Global;
 use vrl_kind::Kind;
 use vrl_value::{Memory, Tag};
 
-/// What an expression, which starts where an environment is known, is judged to be. It changes nothing that is known,
-/// so each state is that environment or dead.
+// What an expression, which starts where an environment is known, is judged to be. It changes nothing that is known,
+// so each state is that environment or dead.
 #[derive(Drop)]
 struct Judged {
     span: Span,
-    /// The kind of its value.
+    // The kind of its value.
     kind: Kind,
-    /// Whether it may end with a value.
+    // Whether it may end with a value.
     ok: bool,
-    /// Whether it may end with an error.
+    // Whether it may end with an error.
     fail: bool,
-    /// Whether an error code stands on it or in it.
+    // Whether an error code stands on it or in it.
     poisoned: bool,
     codes: Vec<Diagnostic>,
 }
 
-/// The part of a chain that is read: what stands before its last `??`, and the sum behind that.
+// The part of a chain that is read: what stands before its last `??`, and the sum behind that.
 #[derive(Drop)]
 struct Part {
     left: Option<Judged>,
     sum: Judged,
 }
 
-/// How an item ends: whether a way leads behind it, and what is wrong with it.
+// How an item ends: whether a way leads behind it, and what is wrong with it.
 #[derive(Drop)]
 struct Ending {
     alive: bool,

@@ -14,7 +14,7 @@ use crate::token::{Name, split_target};
 use std::alloc::Global;
 use vrl_value::Memory;
 
-/// The first line of a text, and what follows its newline, if it has one.
+// The first line of a text, and what follows its newline, if it has one.
 fn split_line(text: &str) -> (&str, Option<&str>)
     ensures { IsLongestRun (λ b. b ≢ 10) text.now result.0.now (behind_line result.1) }
 {
@@ -24,7 +24,7 @@ fn split_line(text: &str) -> (&str, Option<&str>)
     }
 }
 
-/// The item in a line whose end stands at `end`. `None` where the line has none, or anything else in it.
+// The item in a line whose end stands at `end`. `None` where the line has none, or anything else in it.
 fn item(alloc: Global, line: &str, end: u32) -> Result<Option<Item>, Memory>
     requires { length line.now ≤ end }
     ensures { let at = end - length line.now
@@ -42,8 +42,8 @@ fn item(alloc: Global, line: &str, end: u32) -> Result<Option<Item>, Memory>
     }
 }
 
-/// The assignment to a place that is spelled from `start` on, of what follows its `=` in a line whose end stands
-/// at `end`. `None` where that is no expression.
+// The assignment to a place that is spelled from `start` on, of what follows its `=` in a line whose end stands
+// at `end`. `None` where that is no expression.
 fn assignment(
     alloc: Global,
     start: u32,

@@ -32,7 +32,7 @@ impl Class {
     }
 }
 
-/// How many bytes of the class the text begins with.
+// How many bytes of the class the text begins with.
 fn run_length(text: &str, class: Class) -> usize
     ensures within { result ≤ length text.now }
     ensures before { (k : ℕ) → k < result → IsIn class (slice_index text.now k) }
@@ -89,8 +89,8 @@ pub(crate) fn split_name(text: &str) -> Option<(&str, &str)>
     }
 }
 
-/// The number that a sign and digits stand for. `None` where there is no digit, or the number has more
-/// than 64 bits with its sign.
+// The number that a sign and digits stand for. `None` where there is no digit, or the number has more
+// than 64 bits with its sign.
 fn number_of(negative: bool, digits: &str) -> Option<i64>
     requires { AllByRecursion IsDigit digits.now }
     ensures { let number = signed negative (decimal_value 0 digits.now)
@@ -104,7 +104,7 @@ fn number_of(negative: bool, digits: &str) -> Option<i64>
     }
 }
 
-/// Whether a text begins with a minus, and what follows it.
+// Whether a text begins with a minus, and what follows it.
 fn split_sign(text: &str) -> (bool, &str)
     ensures { IsUnsigned result.0 text.now result.1.now }
 {

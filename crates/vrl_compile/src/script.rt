@@ -16,16 +16,27 @@ pub struct Program {
     pub(crate) items: Vec<Item>,
 }
 
-/// What a text is as a script.
+/// What [`compile`] answers.
 #[derive(Drop)]
 pub enum Compiled {
-    /// A script that runs, and the warnings about it.
+    /// The script, which can be run, and the warnings about it, in order.
     Accepted(Program, Diagnostics),
-    /// What is wrong with it.
+    /// All that is wrong with the text, errors and warnings, in order.
     Refused(Diagnostics),
 }
 
-/// Reads and judges a script of at most 65,536 bytes.
+/// Reads a script of at most 65,536 bytes and judges it, before any event is there. The language is the part
+/// of the Vector Remap Language that is built.
+///
+/// The script is accepted where none of its diagnostics is an error, with its items in order and the
+/// diagnostics that are left, which are warnings. Else it is refused, with all its diagnostics, one of which at
+/// least is an error. A text of no form that is built is refused with 1099 alone, at its start. Diagnostics
+/// stand in the order of their starts, those of one start in the order of their ends, and those of one span in
+/// the order of their codes.
+///
+/// # Errors
+///
+/// [`Memory`] where memory is wanted.
 pub fn compile(alloc: Global, text: &str) -> Result<Compiled, Memory>
     requires { length text.now ≤ 65536 }
     ensures { IfOk result (IsAnswer text.now) }

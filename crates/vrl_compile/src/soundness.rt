@@ -2,12 +2,14 @@ ghost use Rattle.vrl_compile.specs.Soundness.{ExpressionsAreSound, ScriptsAreSou
 
 use vrl_value::{members_are_maps, members_stay_json};
 
-/// What the judgement says of expressions holds of their meaning.
+/// What the judgement says of expressions holds of their meaning. This takes no time: it is a law about the
+/// definitions.
 pub fn expressions_are_sound()
     ensures { ExpressionsAreSound }
 {}
 
-/// A script without an error code ends with a value over every event of the declared kind.
+/// A script without an error code ends with a value over every event of the declared kind, an object of JSON.
+/// This takes no time: it is a law about the definitions.
 pub fn scripts_are_sound()
     ensures { ScriptsAreSound }
 {

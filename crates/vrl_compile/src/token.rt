@@ -57,29 +57,29 @@ impl Token<'_> {
     }
 }
 
-/// Whether a name may not be a variable's.
+// Whether a name may not be a variable's.
 fn is_keyword(name: &str) -> bool
     ensures { IsTrue result ↔ Contains keywords name.now }
 {
     ["if", "else", "abort", "return", "true", "false", "null"].contains(&name)
 }
 
-/// Whether a byte may stand between quotes.
+// Whether a byte may stand between quotes.
 fn is_text_byte(byte: u8) -> bool
     ensures { IsTrue result ↔ IsTextByte byte }
 {
     !matches!(byte, b'"' | b'\\' | b'{' | b'\n')
 }
 
-/// Whether a text may stand between quotes.
+// Whether a text may stand between quotes.
 fn is_quotable(text: &str) -> bool
     ensures { IsTrue result ↔ AllByRecursion IsTextByte text.now }
 {
     text.bytes().all(is_text_byte)
 }
 
-/// Cuts a text behind the text in quotes that it begins with, and gives it without its quotes. `None` where
-/// it begins with none.
+// Cuts a text behind the text in quotes that it begins with, and gives it without its quotes. `None` where
+// it begins with none.
 fn split_quoted(text: &str) -> Option<(&str, &str)>
     ensures { MatchOption result
         ((inner rest : List ℕ) → ¬ BeginsWithForm text.now (Text inner) rest)
@@ -135,7 +135,7 @@ pub(crate) fn split_target(text: &str) -> Option<(Name<'_>, &str)>
     Some((name, rest))
 }
 
-/// What follows the operator that a text begins with. `None` where it begins with none.
+// What follows the operator that a text begins with. `None` where it begins with none.
 fn strip_operator(text: &str) -> Option<(Operator, &str)>
     ensures { MatchOption result
         ((operator : SpecOperator) (rest : List ℕ) → text.now ≢ spelling_of operator ++ rest)
