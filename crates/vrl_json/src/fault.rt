@@ -12,6 +12,11 @@ pub enum JsonFault {
 }
 
 impl fmt::Display for JsonFault {
+    ghost use Rattle.std.specs.Prelude.{Some};
+    ghost use Rattle.vrl_json.specs.Faults.{text_of};
+
+    ghost output = { λ fault. Some (text_of fault) };
+
     fn fmt<W: fmt::Write>(&self, f: &mut fmt::Formatter<W>) -> fmt::Result {
         match self {
             JsonFault::NotBuilt => write!(f, "not built yet"),
