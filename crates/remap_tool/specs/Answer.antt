@@ -25,14 +25,16 @@ line_limit = 1048576
 abbrev pub refused_line : ℕ → LineResult
 refused_line number = record { output = []; report = codes "line " ++ (decimal number ++ (codes ": refused: not built yet" ++ 10 ∷ [])); is_refused = true }
 
-abbrev pub written_event : Tree → LineResult
-written_event event = record { output = line_text event ++ 10 ∷ []; report = []; is_refused = false }
+abbrev pub written_event : Option (List ℕ) → LineResult
+written_event None = record { output = []; report = []; is_refused = false }
+written_event (Some line) = record { output = line ++ 10 ∷ []; report = []; is_refused = false }
 
--- What is written once a script ended over an event: the event that it left. An end with an error would be one that the
--- script did not handle; no accepted script has it, and nothing would be written.
+-- What is written once a script ended over an event: the line of the event that it left. An end with an error would be one
+-- that the script did not handle, and an event without a line one with a timestamp or a regex; no accepted script leaves
+-- either, and nothing would be written.
 abbrev pub result_of_end : Outcome → Tree → LineResult
-result_of_end (value v) event = written_event event
-result_of_end (error text) event = record { output = []; report = []; is_refused = false }
+result_of_end (value v) event = written_event (line_text event)
+result_of_end (error text) event = written_event None
 
 abbrev pub result_of_event : List Item → ℕ → Option Tree → LineResult
 result_of_event items number None = refused_line number

@@ -43,26 +43,26 @@ abbrev pub number_of : ℤ → json.Num
 number_of (pos n) = json.unsigned n
 number_of (negsuc n) = json.negative (negsuc n)
 
--- the JSON value of a tree with neither a timestamp nor a regex
+-- The JSON value of a tree. None: a part of it is a timestamp or a regex, which are not written yet.
 abbrev mutual
-  pub data_of : Tree → json.Data
-  data_of (string s) = json.string s
-  data_of (integer n) = json.number (number_of n)
-  data_of (boolean b) = json.boolean b
-  data_of null = json.null
-  data_of (timestamp nanos) = json.null
-  data_of (regex n) = json.null
-  data_of (array ts) = json.array (items_data ts)
-  data_of (object ms) = json.object (members_data ms)
+  pub data_of : Tree → Option json.Data
+  data_of (string s) = Some (json.string s)
+  data_of (integer n) = Some (json.number (number_of n))
+  data_of (boolean b) = Some (json.boolean b)
+  data_of null = Some json.null
+  data_of (timestamp nanos) = None
+  data_of (regex n) = None
+  data_of (array ts) = option_map json.array (items_data ts)
+  data_of (object ms) = option_map json.object (members_data ms)
 
-  pub items_data : Items → json.Items
-  items_data no_items = json.no_items
-  items_data (item t ts) = json.item (data_of t) (items_data ts)
+  pub items_data : Items → Option json.Items
+  items_data no_items = Some json.no_items
+  items_data (item t ts) = option_and_then (λ d. option_map (json.item d) (items_data ts)) (data_of t)
 
-  pub members_data : Members → json.Members
-  members_data no_members = json.no_members
-  members_data (member k t ms) = json.member k (data_of t) (members_data ms)
+  pub members_data : Members → Option json.Members
+  members_data no_members = Some json.no_members
+  members_data (member k t ms) = option_and_then (λ d. option_map (json.member k d) (members_data ms)) (data_of t)
 
--- the compact JSON text of such a tree
-abbrev pub line_text : Tree → List ℕ
-line_text t = compact_text (data_of t)
+-- the compact JSON text of a tree
+abbrev pub line_text : Tree → Option (List ℕ)
+line_text t = option_map compact_text (data_of t)

@@ -1,4 +1,4 @@
-ghost use Rattle.std.specs.Prelude.{◌≡◌, ◌++◌, IfOk, IsTrue, OnOk};
+ghost use Rattle.std.specs.Prelude.{◌≡◌, ◌++◌, Some, IfOk, IfSome, IsTrue, OnOk};
 ghost use Rattle.vrl_value.specs.Tree.{is_json};
 ghost use Rattle.vrl_value.specs.View.{tree_of, items_of, members_of};
 ghost use Rattle.vrl_json.specs.Line.{line_text};
@@ -12,7 +12,7 @@ use vrl_value::{Bytes, Chars, Fields, Items, Memory, Value};
 /// its number among `sources`; no value that holds a regex is taken yet.
 pub fn to_line(alloc: Global, value: &Value, _sources: &[Chars]) -> Result<Bytes, Memory>
     requires { IsTrue (is_json (tree_of value.now)) }
-    ensures { IfOk result (λ bytes. bytes ≡ line_text (tree_of value.now)) }
+    ensures { IfOk result (λ bytes. line_text (tree_of value.now) ≡ Some bytes) }
 {
     let mut out = Writer::new(Vec::new(alloc));
     write_value(value, &mut out)?;
@@ -22,7 +22,8 @@ pub fn to_line(alloc: Global, value: &Value, _sources: &[Chars]) -> Result<Bytes
 // A timestamp and a regex have no text yet, and `to_line` is given neither.
 #[cycle(write)]
 fn write_value(value: &Value, out: &mut Writer) -> Result<(), AllocError>
-    ensures ok { OnOk result (out.new.tokens ≡ out.old.tokens ++ tree_tokens (tree_of value.now)) }
+    ensures ok { OnOk result (IfSome (tree_tokens (tree_of value.now))
+        (λ tokens. out.new.tokens ≡ out.old.tokens ++ tokens)) }
     ensures before { out.new.before ≡ out.old.before }
 {
     match value {
@@ -43,7 +44,8 @@ fn write_value(value: &Value, out: &mut Writer) -> Result<(), AllocError>
 
 #[cycle(write)]
 fn write_items(items: &Items, out: &mut Writer) -> Result<(), AllocError>
-    ensures ok { OnOk result (out.new.tokens ≡ out.old.tokens ++ items_tokens (items_of items.now)) }
+    ensures ok { OnOk result (IfSome (items_tokens (items_of items.now))
+        (λ tokens. out.new.tokens ≡ out.old.tokens ++ tokens)) }
     ensures before { out.new.before ≡ out.old.before }
 {
     for item in items.as_slice() {
@@ -54,8 +56,8 @@ fn write_items(items: &Items, out: &mut Writer) -> Result<(), AllocError>
 
 #[cycle(write)]
 fn write_members(fields: &Fields, out: &mut Writer) -> Result<(), AllocError>
-    ensures ok { OnOk result
-        (out.new.tokens ≡ out.old.tokens ++ members_tokens (members_of fields.now)) }
+    ensures ok { OnOk result (IfSome (members_tokens (members_of fields.now))
+        (λ tokens. out.new.tokens ≡ out.old.tokens ++ tokens)) }
     ensures before { out.new.before ≡ out.old.before }
 {
     for (name, value) in fields.as_map().iter() {

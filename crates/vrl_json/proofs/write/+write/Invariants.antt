@@ -1,4 +1,5 @@
-use Rattle.std.proofs.Common.{◌≡◌, ◌++◌, ◌≤◌, drop}
+use Rattle.std.proofs.Common.{◌≡◌, ◌++◌, ◌≤◌, List, IfSome, drop}
+use Rattle.json.specs.Token.{Token}
 use Rattle.vrl_value.specs.View.{tree_of, items_of, members_of, items_view, members_view}
 use Rattle.vrl_json.specs.Tokens.{items_tokens, members_tokens}
 use Rattle.vrl_json.proofs.Sizes.{size_of, items_size, members_size}
@@ -13,12 +14,12 @@ decreases-write_items l = items_size (items_of l.items.now)
 abbrev pub decreases-write_members : goal.decreases-write_members
 decreases-write_members l = members_size (members_of l.fields.now)
 
--- what is written, and then what is left, is the whole
+-- what ends with what is left, behind what was written, is the whole
 abbrev pub invariant-write_items-loop-item : goal.invariant-write_items-loop-item
 invariant-write_items-loop-item l =
     let left = items_view (drop l.item-index l.item-items) in record {
       before : l.out.before ≡ l.initial.out.before;
-      whole : l.out.tokens ++ items_tokens left ≡ l.initial.out.tokens ++ items_tokens (items_of l.items);
+      whole : (end : List Token) → IfSome (items_tokens left) (λ ts. end ≡ l.out.tokens ++ ts) → IfSome (items_tokens (items_of l.items)) (λ ts. end ≡ l.initial.out.tokens ++ ts);
       fewer : items_size left ≤ items_size (items_of l.items);
     }
 
@@ -26,6 +27,6 @@ abbrev pub invariant-write_members-loop-name : goal.invariant-write_members-loop
 invariant-write_members-loop-name l =
     let left = members_view l.name-iterator in record {
       before : l.out.before ≡ l.initial.out.before;
-      whole : l.out.tokens ++ members_tokens left ≡ l.initial.out.tokens ++ members_tokens (members_of l.fields);
+      whole : (end : List Token) → IfSome (members_tokens left) (λ ts. end ≡ l.out.tokens ++ ts) → IfSome (members_tokens (members_of l.fields)) (λ ts. end ≡ l.initial.out.tokens ++ ts);
       fewer : members_size left ≤ members_size (members_of l.fields);
     }
