@@ -1,5 +1,6 @@
 use super::*;
 use std::test::Fail;
+use std::thread;
 
 #[test]
 fn kinds_have_their_tags(rt: HostRuntime) -> Result<(), Fail> {
@@ -40,5 +41,17 @@ fn kinds_are_compared(rt: HostRuntime) -> Result<(), Fail> {
     assert!(rt; Kind::within(&rest, &text) && Kind::within(&text, &rest));
     assert!(rt; Kind::disjoint(&rest, &null));
     assert!(rt; !Kind::disjoint(&same, &null));
+    Ok(())
+}
+
+#[test]
+fn threads_send_and_share(rt: HostRuntime) -> Result<(), Fail> {
+    let alloc = rt.alloc();
+    let null = Kind::of(alloc, Tag::Null)?;
+    let (copy, has_null) = thread::join(&rt, || null.copy(alloc), || Kind::has(&null, Tag::Null));
+    assert!(rt; has_null);
+    let copy = copy?;
+    let (null, copy) = thread::join(&rt, move || null, move || copy);
+    assert!(rt; Kind::within(&null, &copy));
     Ok(())
 }
