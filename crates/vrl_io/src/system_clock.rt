@@ -1,33 +1,39 @@
 ghost use Rattle.std.specs.Prelude.{◌≡◌, pos, min, None};
 ghost use Rattle.std.specs.Duration.{as_nanos};
+ghost use Rattle.vrl_value.specs.Moment.{last_nanos};
 
 use crate::clock::Clock;
+use std::marker::Model;
 use std::rt;
 use std::time::Duration;
 use vrl_value::Moment;
 
-// Nanoseconds from 1970 to the end of 9999-12-29, the last moment.
-const LAST_NANOS: u128 = 253_402_127_999_999_999_999;
-
-/// The clock of a runtime. It does not tell the moments to come.
+/// The clock of a runtime. It does not tell the moments to come. A contract sees the runtime.
 #[derive(Drop)]
 pub struct SystemClock<R> {
     rt: R,
 }
 
+impl<R> Model for SystemClock<R> {
+    ghost Value = { R };
+
+    ghost view = { λ c. c.rt };
+}
+
 impl<R> SystemClock<R> {
     /// The clock of this runtime.
-    pub fn new(rt: R) -> SystemClock<R> {
+    pub fn new(rt: R) -> SystemClock<R>
+        ensures { result ≡ rt }
+    {
         SystemClock { rt }
     }
 }
 
-/// The moment that comes this long after 1970, or the last one, where that is later.
+// The moment that comes this long after 1970, or the last one, where that is later.
 fn moment_after(since_1970: Duration) -> Moment
-    ensures { result ≡ pos (min (as_nanos since_1970) LAST_NANOS) }
+    ensures { result ≡ pos (min (as_nanos since_1970) last_nanos) }
 {
-    let nanos = since_1970.as_nanos().min(LAST_NANOS);
-    Moment::new(nanos as i128).unwrap_or(Moment::epoch())
+    Moment::new(since_1970.as_nanos() as i128).unwrap_or(Moment::last())
 }
 
 impl<R: rt::Clock> Clock for SystemClock<R> {
