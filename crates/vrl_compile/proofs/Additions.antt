@@ -1,7 +1,8 @@
 -- The kinds of sums, by the tags that one tag can be added to.
-use Rattle.std.proofs.Common.{◌≡◌, Bool, true, false, ◌&&◌, ◌||◌, ◌⊎◌, inl, inr, Option, None, Some, refl, sym, ◌∙◌}
+use Rattle.std.proofs.Common.{◌≡◌, Bool, true, false, ◌&&◌, ◌||◌, ◌⊎◌, inl, inr, Option, None, Some, get_or, refl, sym, ◌∙◌}
 use Rattle.std.proofs.Math.Bool.{and-false}
 use Rattle.std.proofs.Math.Path.{fun_ext}
+use Rattle.std.proofs.lemmas.List.Folds.{list_any_none}
 use Rattle.std.specs.List.{list_any}
 use Rattle.vrl_value.specs.declared.value.Tag.{Tag}
 use Rattle.vrl_value.specs.declared.value.Tag.TheVariants as tag
@@ -23,7 +24,7 @@ plus_kind-by_partners K L t = refl
 
 -- where no tag passes a test, none of them all does
 none_of_all : (test : Tags) → ((t : Tag) → test t ≡ false) → list_any test all_tags ≡ false
-none_of_all test none = rw (none tag.Text, none tag.Int, none tag.Bool, none tag.Null, none tag.Time, none tag.Pattern, none tag.List, none tag.Object, none tag.Absent) refl
+none_of_all test none = list_any_none test all_tags (λ k d below. none (get_or all_tags k d))
 
 -- a sum is a whole number or a text, if there is one
 abbrev IsSum : Option Tag → Type 0
