@@ -13,7 +13,7 @@ use crate::lines::{is_blank, split_line};
 use std::alloc::Global;
 use vrl_compile::{Program, run, scripts_are_sound};
 use vrl_io::Clock;
-use vrl_json::{JsonFault, from_line, to_line};
+use vrl_json::{JsonFault, from_line, lines_are_objects, to_line};
 use vrl_value::{Memory, Value};
 
 /// The most bytes of a line, its newline not counted.
@@ -79,6 +79,7 @@ fn add_line(
     if line.len() > LINE_LIMIT {
         return add_refused(alloc, number, results);
     }
+    lines_are_objects();
     match from_line(alloc, line) {
         Ok(event) => add_event(alloc, program, event, results),
         Err(JsonFault::NotBuilt) => add_refused(alloc, number, results),

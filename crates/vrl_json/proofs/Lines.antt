@@ -41,7 +41,7 @@ members_are_json_all (json.member k d ms) ts e =
     rw (p.4, part_is_json d p.0 p.2, members_are_json_all ms p.1 p.3)
 
 -- what JSON stands for has neither a timestamp nor a regex
-pub event_is_json : (d : json.Data) (t : Tree) → event_tree d ≡ Some t → is_json t ≡ true
+event_is_json : (d : json.Data) (t : Tree) → event_tree d ≡ Some t → is_json t ≡ true
 event_is_json json.null t e = absurd (cc)
 event_is_json (json.boolean b) t e = absurd (cc)
 event_is_json (json.number n) t e = absurd (cc)

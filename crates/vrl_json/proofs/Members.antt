@@ -1,28 +1,12 @@
 -- The members of a JSON object beside those of the tree, entry by entry.
-use Rattle.std.proofs.Common.{◌≡◌, ℕ, List, [], ◌∷◌, ◌++◌, Option, Some, None, option_map, option_and_then, String, Global, Ordering, Less, Equal, Greater, string_bytes, string_cmp, nat_cmp, refl, ap, ◌∙◌}
+use Rattle.std.proofs.Common.{◌≡◌, ℕ, List, [], ◌∷◌, ◌++◌, Option, Some, None, option_map, option_and_then, Ordering, Less, Equal, Greater, string_bytes, nat_cmp, refl, ap}
 use Rattle.std.specs.Cmp.Lexicographic.{slice_cmp}
 use Rattle.std.specs.Ordering.{match_ordering}
-use Rattle.std.specs.BTreeMap.{insert_entry}
 use Rattle.serde_json.specs.Data as json
 use Rattle.serde_json.specs.View.{view, members_view as json_members_view}
 use Rattle.serde_json.proofs.Views.{Entry as JsonEntry}
 use Rattle.vrl_value.specs.Tree.{Tree, Members, no_members, member, put}
-use Rattle.vrl_value.specs.View.{tree_of, members_view}
-use Rattle.vrl_value.specs.declared.value.Value.{Value}
 use Rattle.vrl_json.specs.Line.{part_tree, members_tree}
-
-abbrev pub Entry : Type 0
-Entry = String Global × Value
-
-members_view-match_ordering : (o : Ordering) (a b c : List Entry) → members_view (match_ordering o a b c) ≡ match_ordering o (members_view a) (members_view b) (members_view c)
-members_view-match_ordering Less a b c = refl
-members_view-match_ordering Equal a b c = refl
-members_view-match_ordering Greater a b c = refl
-
--- an entry that goes into a map goes into its members
-pub members_view-insert_entry : (es : List Entry) (k : String Global) (v : Value) → members_view (insert_entry string_cmp es k v) ≡ put (string_bytes k) (tree_of v) (members_view es)
-members_view-insert_entry [] k v = refl
-members_view-insert_entry (e ∷ es) k v = members_view-match_ordering (string_cmp k e.0) _ _ _ ∙ rw (members_view-insert_entry es k v)
 
 -- where a member and the rest have trees, what these are
 pub parts_of : (k : List ℕ) (part : Option Tree) (rest : Option Members) (ns : Members) → option_and_then (λ t. option_map (member k t) rest) part ≡ Some ns

@@ -1,11 +1,12 @@
-use std::alloc::{AllocError, AllocFailed};
 use std::error::Error;
 use std::fmt;
+use vrl_value::Memory;
 
-/// Why bytes were not read.
+/// Why no value was read from bytes.
 #[derive(Clone, Copy, Debug, PartialEq, Eq)]
 pub enum JsonFault {
-    /// The bytes are not the JSON text of an object whose parts are strings and whole numbers of 64 bits.
+    /// The bytes are not the JSON text of an object whose parts are strings and whole numbers of 64 bits
+    /// with a sign. Some other texts will be read once they are built.
     NotBuilt,
     /// Want of memory.
     Memory,
@@ -27,13 +28,13 @@ impl fmt::Display for JsonFault {
 
 impl Error for JsonFault {}
 
-impl<T: Drop> From<AllocFailed<T>> for JsonFault {
+impl From<Memory> for JsonFault {
     ghost use Rattle.std.specs.Prelude.{◌≡◌};
-    ghost use Rattle.vrl_json.specs.declared.fault.JsonFault.TheVariants.{Memory};
+    ghost use Rattle.vrl_json.specs.declared.fault.JsonFault.{JsonFault};
 
-    ghost from_gives = { λ _ fault. fault ≡ Memory };
+    ghost from_gives = { λ _ fault. fault ≡ JsonFault.Memory };
 
-    fn from(_refused: AllocFailed<T>) -> JsonFault {
+    fn from(_refused: Memory) -> JsonFault {
         JsonFault::Memory
     }
 }

@@ -3,7 +3,7 @@ ghost use Rattle.vrl_value.specs.Tree.{is_json};
 ghost use Rattle.vrl_value.specs.View.{tree_of};
 
 use crate::fault::JsonFault;
-use crate::read::from_line;
+use crate::read::{from_line, lines_are_objects};
 use crate::write::to_line;
 use std::alloc::Global;
 use std::collections::BTreeMap;
@@ -12,6 +12,7 @@ use vrl_value::{Chars, Fields, Items, Memory, Value};
 
 #[test]
 fn reads_and_writes(rt: HostRuntime) -> Result<(), Fail> {
+    lines_are_objects();
     let rows = [
         (r#"{}"#, r#"{}"#),
         (r#"{"a":1,"b":"x"}"#, r#"{"a":1,"b":"x"}"#),

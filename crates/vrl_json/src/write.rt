@@ -8,8 +8,12 @@ use json::Writer;
 use std::alloc::{AllocError, Global};
 use vrl_value::{Bytes, Chars, Fields, Items, Memory, Value};
 
-/// The JSON text of a value, compact, without a newline. A regex is written as its source, which stands at
-/// its number among `sources`; no value that holds a regex is taken yet.
+/// The line of a value: its JSON text (RFC 8259) in UTF-8, compact, with the members of each object in the
+/// order of their names' bytes, and without a newline.
+///
+/// A timestamp and a regex have no JSON yet, so the value is to hold neither. A regex is to be written as
+/// its source, which stands at its number among `sources`; until then nothing looks at these. `Memory`:
+/// want of memory.
 pub fn to_line(alloc: Global, value: &Value, _sources: &[Chars]) -> Result<Bytes, Memory>
     requires { IsTrue (is_json (tree_of value.now)) }
     ensures { IfOk result (λ bytes. line_text (tree_of value.now) ≡ Some bytes) }
