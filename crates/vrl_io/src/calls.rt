@@ -3,7 +3,7 @@ ghost use Rattle.vrl_io.specs.Calls.{first_call, next_fails, after_call};
 
 use std::marker::Model;
 
-/// The calls of a device, numbered from 0, and which of them fail.
+// The calls of a device, numbered from 0, and which of them fail.
 #[derive(Drop)]
 pub(crate) struct Calls {
     failing: Vec<u64>,
@@ -20,14 +20,14 @@ impl Model for Calls {
 }
 
 impl Calls {
-    /// None was made yet, and those with these numbers will fail.
+    // None was made yet, and those with these numbers will fail.
     pub(crate) fn new(failing: Vec<u64>) -> Calls
         ensures { result ≡ first_call failing.items }
     {
         Calls { failing, next: 0 }
     }
 
-    /// Counts a call, and answers whether it fails.
+    // Counts a call, and answers whether it fails.
     pub(crate) fn count(&mut self) -> bool
         ensures fails { result ≡ next_fails self.old }
         ensures counted { self.new ≡ after_call self.old }

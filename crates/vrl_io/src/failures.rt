@@ -5,7 +5,7 @@ use std::alloc::Global;
 use std::marker::Model;
 use vrl_value::Chars;
 
-/// The names whose load failed, in order. A contract sees the list of the names.
+// The names whose load failed, in order. A contract sees the list of the names.
 #[derive(Drop)]
 pub(crate) struct Failures {
     alloc: Global,
@@ -21,7 +21,7 @@ impl Model for Failures {
 }
 
 impl Failures {
-    /// No failure.
+    // No failure.
     pub(crate) fn new(alloc: Global) -> Failures
         ensures { result ≡ [] }
     {
@@ -31,14 +31,14 @@ impl Failures {
         }
     }
 
-    /// The names, borrowed.
+    // The names, borrowed.
     pub(crate) fn as_slice(&self) -> &[Chars]
         ensures { result.now ≡ self.now }
     {
         &self.names
     }
 
-    /// Adds a name. `Memory`: nothing is added.
+    // Adds a name. `Memory`: nothing is added.
     pub(crate) fn push(&mut self, name: &str) -> Result<(), LoadFault>
         ensures added { OnOk result (self.new ≡ self.old ++ name.now ∷ []) }
         ensures fault { IfErr result (λ fault. fault ≡ LoadFault.Memory) }
@@ -49,7 +49,7 @@ impl Failures {
         Ok(())
     }
 
-    /// Takes the last name back.
+    // Takes the last name back.
     pub(crate) fn pop(&mut self)
         ensures { self.new ≡ take (length self.old - 1) self.old }
     {

@@ -19,12 +19,12 @@ impl fmt::Display for Failed {
 
 impl Error for Failed {}
 
-/// Why a store gave no bytes.
+/// Why a store gave no bytes. `Failed` and `Memory` turn into it where `?` passes them on.
 #[derive(Clone, Copy, Debug, PartialEq, Eq)]
 pub enum LoadFault {
     /// The store failed: the name stands at the end of its list of failures.
     Failed,
-    /// Want of memory.
+    /// Want of memory: an allocation was refused. The list of failures stands as it was.
     Memory,
 }
 

@@ -12,7 +12,8 @@ use std::marker::Model;
 use std::rt::Files;
 use vrl_value::{Bytes, Chars};
 
-/// The files of a runtime, by their paths. It does not tell what they hold. A contract sees the list of
+/// The files of a runtime, by their paths as the system reads them. A load fails where the file can't be
+/// opened or read. It does not tell what they hold. A contract sees the list of
 /// the names whose load failed.
 #[derive(Drop)]
 pub struct FileStore<R> {
@@ -30,7 +31,7 @@ impl<R> Model for FileStore<R> {
 }
 
 impl<R> FileStore<R> {
-    /// The files of this runtime.
+    /// The files of this runtime, none of which has failed.
     pub fn new(rt: R, alloc: Global) -> FileStore<R>
         ensures { result ≡ [] }
     {
@@ -49,7 +50,7 @@ impl<R> FileStore<R> {
     }
 }
 
-/// The first `limit` bytes of a source. No more than these are taken.
+// The first `limit` bytes of a source. No more than these are taken.
 #[tactic(auto, using(crate::proofs::ReadFront::front_more, crate::proofs::ReadFront::front_whole))]
 fn read_front<S: Source>(alloc: Global, source: &mut S, limit: usize) -> Result<Bytes, LoadFault>
     ensures within { IfOk result (λ bytes. length bytes ≤ limit) }
@@ -70,7 +71,7 @@ fn read_front<S: Source>(alloc: Global, source: &mut S, limit: usize) -> Result<
     Ok(Bytes::new(bytes))
 }
 
-/// The first `limit` bytes of the file with this path.
+// The first `limit` bytes of the file with this path.
 fn read_file<R: Files>(rt: &R, alloc: Global, path: &str, limit: usize) -> Result<Bytes, LoadFault>
     ensures { IfOk result (λ bytes. length bytes ≤ limit) }
 {

@@ -63,7 +63,7 @@ impl MemorySource {
         }
     }
 
-    /// How many bytes the next piece may have, within a buffer of this size.
+    // How many bytes the next piece may have, within a buffer of this size.
     fn next_size(&mut self, room: usize) -> usize
         ensures size { result ≡ piece_size self.old.pieces room }
         ensures used { self.new ≡ record self.old { pieces = drop 1 self.old.pieces } }

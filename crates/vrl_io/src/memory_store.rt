@@ -55,7 +55,7 @@ impl MemoryStore {
     }
 }
 
-/// The bytes of the first entry with the name.
+// The bytes of the first entry with the name.
 fn find_bytes<'a>(held: &'a [(Chars, Bytes)], name: &str) -> Option<&'a Bytes>
     ensures { option_copied result ≡ held_under held.now name.now }
 {
@@ -63,7 +63,7 @@ fn find_bytes<'a>(held: &'a [(Chars, Bytes)], name: &str) -> Option<&'a Bytes>
     Some(&entry.1)
 }
 
-/// A copy of the first `limit` bytes.
+// A copy of the first `limit` bytes.
 fn copy_front(alloc: Global, bytes: &[u8], limit: usize) -> Result<Bytes, LoadFault>
     ensures { MatchResult result (λ copy. copy ≡ take limit bytes.now) (λ fault. fault ≡ LoadFault.Memory) }
 {

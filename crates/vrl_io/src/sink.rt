@@ -12,7 +12,8 @@ pub trait Sink {
     ghost faults: { Self → ℕ };
 
     /// Writes bytes from the front of the piece, and answers how many: at least one, unless the piece is
-    /// empty. An empty piece is answered 0 and nothing changes.
+    /// empty. An empty piece is answered 0 and nothing changes. `Failed`: what was written stays as it was,
+    /// and the count of faults has risen.
     fn give(&mut self, bytes: &[u8]) -> Result<usize, Failed>
         ensures within { IfOk result (λ n. n ≤ length bytes.now) }
         ensures some { 0 < length bytes.now → IfOk result (λ n. 0 < n) }

@@ -18,7 +18,8 @@ pub trait Source {
     ghost faults: { Self → ℕ };
 
     /// Writes the next bytes to the front of the buffer, and answers how many. 0 for a buffer that is not
-    /// empty is the end. For an empty buffer, and after the end, it answers 0 and nothing changes.
+    /// empty is the end. For an empty buffer, and after the end, it answers 0 and nothing changes. `Failed`:
+    /// no byte was taken, and the count of faults has risen.
     fn take(&mut self, buffer: &mut [u8]) -> Result<usize, Failed>
         ensures within { IfOk result (λ n. n ≤ length buffer.new) }
         // The bytes come from the front of those left.

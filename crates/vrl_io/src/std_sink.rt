@@ -27,7 +27,7 @@ impl<W> Model for StdSink<W> {
 }
 
 impl<W> StdSink<W> {
-    /// A sink that writes to the writer.
+    /// A sink that writes to the writer, with no fault yet.
     pub fn new(writer: W) -> StdSink<W>
         ensures { result ≡ 0 }
     {
@@ -35,8 +35,8 @@ impl<W> StdSink<W> {
     }
 }
 
-/// Writes once and flushes, and writes again where a signal interrupted it. `None`: the writer took
-/// nothing or failed.
+// Writes once and flushes, and writes again where a signal interrupted it. `None`: the writer took nothing
+// or failed.
 fn write_once<W: Write>(writer: &mut W, bytes: &[u8]) -> Option<usize>
     ensures some { IfSome result (λ n. 0 < n) }
     ensures within { IfSome result (λ n. n ≤ length bytes.now) }

@@ -30,7 +30,7 @@ impl<R> Model for StdSource<R> {
 }
 
 impl<R> StdSource<R> {
-    /// The bytes that the reader will give.
+    /// The bytes that the reader will give, with none taken and no fault yet.
     pub fn new(reader: R) -> StdSource<R>
         ensures { result ≡ record { taken = 0; faults = 0; ended = false } }
     {
@@ -43,7 +43,7 @@ impl<R> StdSource<R> {
     }
 }
 
-/// Reads once, and again where a signal interrupted it. `None`: the reader failed.
+// Reads once, and again where a signal interrupted it. `None`: the reader failed.
 fn read_once<R: Read>(reader: &mut R, buffer: &mut [u8]) -> Option<usize>
     ensures { IfSome result (λ n. n ≤ length buffer.new) }
 {

@@ -6,7 +6,7 @@ ghost use Rattle.vrl_kind.specs.Tags.{never, any, json, only, union, without, al
 use std::alloc::Global;
 use vrl_value::{Memory, Tag};
 
-/// Every tag.
+/// Every tag, each once: those of the eight sorts of value, and `Absent`.
 pub const TAGS: [Tag; 9] = [
     Tag::Text,
     Tag::Int,
@@ -19,7 +19,9 @@ pub const TAGS: [Tag; 9] = [
     Tag::Absent,
 ];
 
-/// A kind, for now a set of tags.
+/// A kind: what may stand at a place. For now it is a set of tags, and a contract sees `tags_of` it.
+///
+/// The calls that give a kind answer `Memory` at want of memory; a set of tags takes none.
 #[derive(Debug, Drop)]
 pub struct Kind {
     string: bool,
@@ -34,7 +36,7 @@ pub struct Kind {
 }
 
 impl Kind {
-    /// The kind of no value.
+    /// The kind of no value: no tag, nor `Absent`. `Memory`: want of memory.
     pub fn never(_alloc: Global) -> Result<Kind, Memory>
         ensures { IfOk result (λ kind. tags_of kind ≡ never) }
     {
@@ -51,7 +53,7 @@ impl Kind {
         })
     }
 
-    /// The kind of every value.
+    /// The kind of every value: each tag but `Absent`. `Memory`: want of memory.
     pub fn any(_alloc: Global) -> Result<Kind, Memory>
         ensures { IfOk result (λ kind. tags_of kind ≡ any) }
     {
@@ -68,7 +70,8 @@ impl Kind {
         })
     }
 
-    /// The kind of what JSON can hold.
+    /// The kind of what JSON (RFC 8259) can hold: each value but timestamps and regexes. `Memory`: want of
+    /// memory.
     pub fn json(alloc: Global) -> Result<Kind, Memory>
         ensures { IfOk result (λ kind. tags_of kind ≡ json) }
     {
@@ -76,7 +79,8 @@ impl Kind {
         Kind::without(alloc, &timeless, Tag::Pattern)
     }
 
-    /// The kind of the values with this tag; that of nothing at all for `Absent`.
+    /// The kind of the values with this tag; at `Absent` the kind that allows only that nothing is there.
+    /// `Memory`: want of memory.
     pub fn of(_alloc: Global, tag: Tag) -> Result<Kind, Memory>
         ensures { IfOk result (λ kind. tags_of kind ≡ only tag) }
     {
@@ -110,21 +114,21 @@ impl Kind {
         }
     }
 
-    /// Whether each value of the first kind is one of the second.
+    /// Whether each tag that the first kind allows, `Absent` too, is allowed by the second.
     pub fn within(a: &Kind, b: &Kind) -> bool
         ensures { IsTrue result ↔ IsWithin (tags_of a.now) (tags_of b.now) }
     {
         !some_tag_in_one(a, b)
     }
 
-    /// Whether no tag is in both kinds.
+    /// Whether no tag, `Absent` too, is in both kinds.
     pub fn disjoint(a: &Kind, b: &Kind) -> bool
         ensures { IsTrue result ↔ IsDisjoint (tags_of a.now) (tags_of b.now) }
     {
         !some_tag_in_both(a, b)
     }
 
-    /// The kind of the values of either kind.
+    /// The kind of what is of either kind. `Memory`: want of memory.
     pub fn join(_alloc: Global, a: &Kind, b: &Kind) -> Result<Kind, Memory>
         ensures { IfOk result (λ kind. tags_of kind ≡ union (tags_of a.now) (tags_of b.now)) }
     {
@@ -141,7 +145,7 @@ impl Kind {
         })
     }
 
-    /// The kind of the values of this kind that do not have the tag.
+    /// The kind of what is of this kind and does not have the tag. `Memory`: want of memory.
     pub fn without(_alloc: Global, kind: &Kind, tag: Tag) -> Result<Kind, Memory>
         ensures { IfOk result (λ lower. tags_of lower ≡ without (tags_of kind.now) tag) }
     {
@@ -158,7 +162,7 @@ impl Kind {
         })
     }
 
-    /// An equal kind.
+    /// An equal kind. `Memory`: want of memory.
     pub fn copy(&self, alloc: Global) -> Result<Kind, Memory>
         ensures { IfOk result (λ kind. tags_of kind ≡ tags_of self.now) }
     {

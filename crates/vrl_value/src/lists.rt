@@ -5,7 +5,7 @@ use crate::memory::Memory;
 use std::alloc::Global;
 use std::marker::Model;
 
-/// A text: bytes that are UTF-8. A contract sees the list of its bytes.
+/// A text: bytes that are UTF-8 (RFC 3629). A contract sees the list of its bytes.
 #[derive(Drop)]
 pub struct Chars {
     text: String,
@@ -27,7 +27,8 @@ impl Chars {
         Chars { text }
     }
 
-    /// A text of these bytes, which it keeps, or the bytes again where they are not UTF-8.
+    /// A text of these bytes, which it keeps. `Err`: the bytes are not UTF-8 (RFC 3629); here they are
+    /// again.
     pub fn from_utf8(bytes: Vec<u8>) -> Result<Chars, Vec<u8>>
         ensures { MatchResult result (λ c. c ≡ bytes.items) (λ b. (b.items ≡ bytes.items) × ¬ IsUtf8 bytes.items) }
     {
@@ -37,7 +38,7 @@ impl Chars {
         }
     }
 
-    /// A copy of a text.
+    /// A copy of a text. `Memory`: want of memory.
     pub fn copy_of(alloc: Global, text: &str) -> Result<Chars, Memory>
         ensures { IfOk result (λ c. c ≡ text.now) }
     {
@@ -60,7 +61,7 @@ impl Chars {
         self.text
     }
 
-    /// An equal text.
+    /// An equal text. `Memory`: want of memory.
     pub fn copy(&self, alloc: Global) -> Result<Chars, Memory>
         ensures { IfOk result (λ c. c ≡ self.now) }
     {

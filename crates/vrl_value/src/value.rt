@@ -9,30 +9,31 @@ use crate::moment::Moment;
 use std::alloc::Global;
 use std::collections::BTreeMap;
 
-/// A value of an event, a variable or an expression. A contract sees `tree_of` it.
+/// A value of an event, a variable or an expression: one of VRL's value types but the float, which the
+/// profile of whole numbers leaves out. A contract sees `tree_of` it.
 #[cycle(value)]
 #[derive(Drop)]
 pub enum Value {
-    /// A string.
+    /// A string, in UTF-8 (RFC 3629).
     Text(Chars),
-    /// A whole number.
+    /// A whole number of 64 bits with a sign.
     Int(i64),
     /// A boolean.
     Bool(bool),
     /// Null.
     Null,
-    /// A timestamp.
+    /// A timestamp, to the nanosecond.
     Time(Moment),
     /// A regex: the number of its literal among the regex literals of the script, from 0.
     Pattern(u32),
-    /// An array.
+    /// An array: values in order.
     List(Items),
-    /// An object.
+    /// An object: values at names, each name once.
     Object(Fields),
 }
 
 impl Value {
-    /// The sort of the value.
+    /// The sort of the value, which is never `Absent`.
     pub fn tag(&self) -> Tag
         ensures { result ≡ tag_of (tree_of self.now) }
     {
@@ -48,7 +49,7 @@ impl Value {
         }
     }
 
-    /// An equal value, with all that is in it.
+    /// An equal value, with all that is in it. `Memory`: want of memory.
     #[cycle(copy)]
     pub fn copy(&self, alloc: Global) -> Result<Value, Memory>
         ensures { IfOk result (λ copy. tree_of copy ≡ tree_of self.now) }
@@ -69,14 +70,23 @@ impl Value {
 /// What a kind tells apart at a place: the eight sorts of value, and that nothing is there.
 #[derive(Clone, Copy, Debug, PartialEq, Eq)]
 pub enum Tag {
+    /// A string.
     Text,
+    /// A whole number, VRL's integer.
     Int,
+    /// A boolean.
     Bool,
+    /// Null.
     Null,
+    /// A timestamp.
     Time,
+    /// A regex.
     Pattern,
+    /// An array.
     List,
+    /// An object.
     Object,
+    /// Nothing is there, as at a field that an object lacks. No value has this tag.
     Absent,
 }
 
@@ -109,7 +119,7 @@ impl Items {
         self.items
     }
 
-    /// Equal values, in the same order.
+    /// Equal values, in the same order. `Memory`: want of memory.
     #[cycle(copy)]
     pub fn copy(&self, alloc: Global) -> Result<Items, Memory>
         ensures { IfOk result (λ copy. items_of copy ≡ items_of self.now) }
@@ -152,7 +162,7 @@ impl Fields {
         self.map.get(name)
     }
 
-    /// Equal fields.
+    /// Equal fields, with all that is in them. `Memory`: want of memory.
     #[cycle(copy)]
     pub fn copy(&self, alloc: Global) -> Result<Fields, Memory>
         ensures { IfOk result (λ copy. members_of copy ≡ members_of self.now) }
@@ -165,7 +175,8 @@ impl Fields {
         Ok(Fields::new(copies))
     }
 
-    /// Puts a value at a name, in place of what stood there. Out of memory the fields stay as they were.
+    /// Puts a value at a name, in place of what stood there. `Memory`: want of memory; the fields stay as
+    /// they were, and the name and the value are gone.
     pub fn insert(&mut self, name: Chars, value: Value) -> Result<(), Memory>
         ensures ok { OnOk result (members_of self.new ≡ put name (tree_of value) (members_of self.old)) }
         ensures err { OnErr result (members_of self.new ≡ members_of self.old) }
