@@ -7,19 +7,19 @@ use Rattle.std.specs.List.{list_any}
 use Rattle.vrl_value.specs.declared.value.Tag.{Tag}
 use Rattle.vrl_value.specs.declared.value.Tag.TheVariants as tag
 use Rattle.vrl_kind.specs.Tags.{Tags, all_tags, same_tag, union}
-use Rattle.vrl_compile.specs.Addition.{has_partner, has_stranger, has_partner_for, only_where}
+use Rattle.vrl_compile.specs.Addition.{may_succeed_with, may_fail_with, may_give_with, only_where}
 use Rattle.vrl_compile.specs.Judgement.{is_tag, plus_tag, plus_kind, plus_may_fail, plus_may_succeed}
 
-pub plus_may_succeed-by_partners : (K L : Tags) → list_any (λ a. K a && has_partner a L) all_tags ≡ plus_may_succeed K L
-unfolding has_partner plus_may_succeed
+pub plus_may_succeed-by_partners : (K L : Tags) → list_any (λ a. K a && may_succeed_with a L) all_tags ≡ plus_may_succeed K L
+unfolding may_succeed_with plus_may_succeed
 plus_may_succeed-by_partners K L = refl
 
-pub plus_may_fail-by_strangers : (K L : Tags) → list_any (λ a. K a && has_stranger a L) all_tags ≡ plus_may_fail K L
-unfolding has_stranger plus_may_fail
+pub plus_may_fail-by_strangers : (K L : Tags) → list_any (λ a. K a && may_fail_with a L) all_tags ≡ plus_may_fail K L
+unfolding may_fail_with plus_may_fail
 plus_may_fail-by_strangers K L = refl
 
-pub plus_kind-by_partners : (K L : Tags) (t : Tag) → list_any (λ a. K a && has_partner_for t a L) all_tags ≡ plus_kind K L t
-unfolding has_partner_for plus_kind
+pub plus_kind-by_partners : (K L : Tags) (t : Tag) → list_any (λ a. K a && may_give_with t a L) all_tags ≡ plus_kind K L t
+unfolding may_give_with plus_kind
 plus_kind-by_partners K L t = refl
 
 -- where no tag passes a test, none of them all does
@@ -46,12 +46,12 @@ is_tag-other given t integer text is = elim is [
   ]
 ]
 
-has_partner_for-other : (t a : Tag) (L : Tags) → same_tag tag.Int t ≡ false → same_tag tag.Text t ≡ false → has_partner_for t a L ≡ false
-unfolding has_partner_for
-has_partner_for-other t a L integer text = none_of_all (λ b. L b && is_tag (plus_tag a b) t) (λ b. rw (is_tag-other (plus_tag a b) t integer text (IsSum-plus_tag a b)) (and-false (L b)))
+may_give_with-other : (t a : Tag) (L : Tags) → same_tag tag.Int t ≡ false → same_tag tag.Text t ≡ false → may_give_with t a L ≡ false
+unfolding may_give_with
+may_give_with-other t a L integer text = none_of_all (λ b. L b && is_tag (plus_tag a b) t) (λ b. rw (is_tag-other (plus_tag a b) t integer text (IsSum-plus_tag a b)) (and-false (L b)))
 
 plus_kind-other : (K L : Tags) (t : Tag) → same_tag tag.Int t ≡ false → same_tag tag.Text t ≡ false → false ≡ plus_kind K L t
-plus_kind-other K L t integer text = sym (none_of_all (λ a. K a && has_partner_for t a L) (λ a. rw (has_partner_for-other t a L integer text) (and-false (K a)))) ∙ plus_kind-by_partners K L t
+plus_kind-other K L t integer text = sym (none_of_all (λ a. K a && may_give_with t a L) (λ a. rw (may_give_with-other t a L integer text) (and-false (K a)))) ∙ plus_kind-by_partners K L t
 
 neither : (i s : Bool) → ((i && false) || (s && false)) ≡ false
 neither true true = refl

@@ -6,16 +6,16 @@ use Rattle.vrl_kind.specs.Tags.{Tags, all_tags, same_tag}
 use Rattle.vrl_compile.specs.Judgement.{plus_tag, is_tag}
 
 -- the tag has a sum with one of the kind's
-unfoldable pub has_partner : Tag → Tags → Bool
-has_partner a L = list_any (λ b. L b && is_some (plus_tag a b)) all_tags
+unfoldable pub may_succeed_with : Tag → Tags → Bool
+may_succeed_with a L = list_any (λ b. L b && is_some (plus_tag a b)) all_tags
 
 -- it has none with one of them
-unfoldable pub has_stranger : Tag → Tags → Bool
-has_stranger a L = list_any (λ b. L b && not (is_some (plus_tag a b))) all_tags
+unfoldable pub may_fail_with : Tag → Tags → Bool
+may_fail_with a L = list_any (λ b. L b && not (is_some (plus_tag a b))) all_tags
 
 -- it has a sum of this tag with one of them
-unfoldable pub has_partner_for : Tag → Tag → Tags → Bool
-has_partner_for t a L = list_any (λ b. L b && is_tag (plus_tag a b) t) all_tags
+unfoldable pub may_give_with : Tag → Tag → Tags → Bool
+may_give_with t a L = list_any (λ b. L b && is_tag (plus_tag a b) t) all_tags
 
 -- one tag, where the test holds
 abbrev pub only_where : Bool → Tag → Tags

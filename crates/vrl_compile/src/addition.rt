@@ -1,10 +1,10 @@
 ghost use Rattle.std.specs.Prelude.{◌≡◌, IfOk};
 ghost use Rattle.vrl_kind.specs.View.{tags_of};
-ghost use Rattle.vrl_compile.specs.Addition.{has_partner, has_partner_for, has_stranger, only_where};
+ghost use Rattle.vrl_compile.specs.Addition.{may_succeed_with, may_give_with, may_fail_with, only_where};
 ghost use Rattle.vrl_compile.specs.Judgement.{is_tag, plus_kind, plus_may_fail, plus_may_succeed, plus_tag};
 
 use std::alloc::Global;
-use vrl_kind::{Kind, TAGS};
+use vrl_kind::{Kind, TAGS, has, join};
 use vrl_value::{Memory, Tag};
 
 /// The kind of the sums of values of two kinds.
@@ -13,7 +13,7 @@ pub(crate) fn kind_of_sum(alloc: Global, a: &Kind, b: &Kind) -> Result<Kind, Mem
 {
     let integer = kind_where(alloc, may_give(a, b, Tag::Int), Tag::Int)?;
     let text = kind_where(alloc, may_give(a, b, Tag::Text), Tag::Text)?;
-    Kind::join(alloc, &integer, &text)
+    join(alloc, &integer, &text)
 }
 
 /// Whether some values of two kinds have a sum.
@@ -21,7 +21,7 @@ pub(crate) fn may_succeed(a: &Kind, b: &Kind) -> bool
     ensures { result ≡ plus_may_succeed (tags_of a.now) (tags_of b.now) }
 {
     TAGS.iter()
-        .any(|tag| Kind::has(a, *tag) && has_partner(*tag, b))
+        .any(|tag| has(a, *tag) && may_succeed_with(*tag, b))
 }
 
 /// Whether some values of two kinds have none.
@@ -29,7 +29,7 @@ pub(crate) fn may_fail(a: &Kind, b: &Kind) -> bool
     ensures { result ≡ plus_may_fail (tags_of a.now) (tags_of b.now) }
 {
     TAGS.iter()
-        .any(|tag| Kind::has(a, *tag) && has_stranger(*tag, b))
+        .any(|tag| has(a, *tag) && may_fail_with(*tag, b))
 }
 
 /// The kind of the values with this tag, or of no value.
@@ -47,32 +47,35 @@ pub(crate) fn kind_where(alloc: Global, given: bool, tag: Tag) -> Result<Kind, M
 fn may_give(a: &Kind, b: &Kind, given: Tag) -> bool
     ensures { result ≡ plus_kind (tags_of a.now) (tags_of b.now) given }
 {
-    TAGS.iter().any(|tag| Kind::has(a, *tag) && has_partner_for(*tag, b, given))
+    TAGS.iter()
+        .any(|tag| has(a, *tag) && may_give_with(*tag, b, given))
 }
 
 // Whether a value of the kind can be added to one with the tag.
-#[tactic(auto, unfolding(crate::specs::Addition::has_partner))]
-fn has_partner(left: Tag, b: &Kind) -> bool
-    ensures { result ≡ has_partner left (tags_of b.now) }
+#[tactic(auto, unfolding(crate::specs::Addition::may_succeed_with))]
+fn may_succeed_with(left: Tag, b: &Kind) -> bool
+    ensures { result ≡ may_succeed_with left (tags_of b.now) }
 {
-    TAGS.iter().any(|tag| Kind::has(b, *tag) && tag_of_sum(left, *tag).is_some())
+    TAGS.iter()
+        .any(|tag| has(b, *tag) && tag_of_sum(left, *tag).is_some())
 }
 
 // Whether a value of the kind can't be added to one with the tag.
-#[tactic(auto, unfolding(crate::specs::Addition::has_stranger))]
-fn has_stranger(left: Tag, b: &Kind) -> bool
-    ensures { result ≡ has_stranger left (tags_of b.now) }
+#[tactic(auto, unfolding(crate::specs::Addition::may_fail_with))]
+fn may_fail_with(left: Tag, b: &Kind) -> bool
+    ensures { result ≡ may_fail_with left (tags_of b.now) }
 {
-    TAGS.iter().any(|tag| Kind::has(b, *tag) && tag_of_sum(left, *tag).is_none())
+    TAGS.iter()
+        .any(|tag| has(b, *tag) && tag_of_sum(left, *tag).is_none())
 }
 
 // Whether a value of the kind added to one with the tag can give this tag.
-#[tactic(auto, unfolding(crate::specs::Addition::has_partner_for))]
-fn has_partner_for(left: Tag, b: &Kind, given: Tag) -> bool
-    ensures { result ≡ has_partner_for given left (tags_of b.now) }
+#[tactic(auto, unfolding(crate::specs::Addition::may_give_with))]
+fn may_give_with(left: Tag, b: &Kind, given: Tag) -> bool
+    ensures { result ≡ may_give_with given left (tags_of b.now) }
 {
     TAGS.iter()
-        .any(|tag| Kind::has(b, *tag) && sum_has_tag(left, *tag, given))
+        .any(|tag| has(b, *tag) && sum_has_tag(left, *tag, given))
 }
 
 // Whether the sum of values of these tags has this one.

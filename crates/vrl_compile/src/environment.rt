@@ -6,7 +6,7 @@ ghost use Rattle.vrl_compile.specs.Judgement.{alive, start, write_known};
 use crate::syntax::Place;
 use std::alloc::Global;
 use std::collections::BTreeMap;
-use vrl_kind::Kind;
+use vrl_kind::{Kind, join};
 use vrl_value::{Memory, Tag};
 
 /// What is known of the fields and variables that the items so far wrote: their kinds.
@@ -33,7 +33,7 @@ impl Environment {
     {
         match self.fields.get(name) {
             Some(kind) => kind.copy(alloc),
-            None => Kind::join(alloc, &Kind::json(alloc)?, &Kind::of(alloc, Tag::Absent)?),
+            None => join(alloc, &Kind::json(alloc)?, &Kind::of(alloc, Tag::Absent)?),
         }
     }
 

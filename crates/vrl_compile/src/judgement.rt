@@ -12,7 +12,7 @@ use crate::diagnostic::{Diagnostic, Span};
 use crate::environment::Environment;
 use crate::syntax::{Chain, Form, Item, Operand, Operator, Place};
 use std::alloc::Global;
-use vrl_kind::Kind;
+use vrl_kind::{Kind, has, join, without};
 use vrl_value::{Memory, Tag};
 
 // What an expression, which starts where an environment is known, is judged to be. It changes nothing that is known,
@@ -385,9 +385,9 @@ fn sure(alloc: Global, span: Span, kind: Kind) -> Judged
 fn kind_of_read(alloc: Global, kind: &Kind) -> Result<Kind, Memory>
     ensures { IfOk result (λ read. tags_of read ≡ read_kind (tags_of kind.now)) }
 {
-    let present = Kind::without(alloc, kind, Tag::Absent)?;
-    let null = kind_where(alloc, Kind::has(kind, Tag::Absent), Tag::Null)?;
-    Kind::join(alloc, &present, &null)
+    let present = without(alloc, kind, Tag::Absent)?;
+    let null = kind_where(alloc, has(kind, Tag::Absent), Tag::Null)?;
+    join(alloc, &present, &null)
 }
 
 // The kind of a `+`: any where an error code stands in it.
@@ -410,7 +410,7 @@ fn kind_of_either(alloc: Global, poisoned: bool, a: &Kind, b: &Kind) -> Result<K
     if poisoned {
         Kind::any(alloc)
     } else {
-        Kind::join(alloc, a, b)
+        join(alloc, a, b)
     }
 }
 

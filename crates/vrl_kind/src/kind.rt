@@ -75,8 +75,8 @@ impl Kind {
     pub fn json(alloc: Global) -> Result<Kind, Memory>
         ensures { IfOk result (λ kind. tags_of kind ≡ json) }
     {
-        let timeless = Kind::without(alloc, &Kind::any(alloc)?, Tag::Time)?;
-        Kind::without(alloc, &timeless, Tag::Pattern)
+        let timeless = without(alloc, &Kind::any(alloc)?, Tag::Time)?;
+        without(alloc, &timeless, Tag::Pattern)
     }
 
     /// The kind of the values with this tag; at `Absent` the kind that allows only that nothing is there.
@@ -97,77 +97,77 @@ impl Kind {
         })
     }
 
-    /// Whether the kind allows the tag.
-    pub fn has(kind: &Kind, tag: Tag) -> bool
-        ensures { result ≡ tags_of kind.now tag }
-    {
-        match tag {
-            Tag::Text => kind.string,
-            Tag::Int => kind.integer,
-            Tag::Bool => kind.boolean,
-            Tag::Null => kind.null,
-            Tag::Time => kind.timestamp,
-            Tag::Pattern => kind.regex,
-            Tag::List => kind.array,
-            Tag::Object => kind.object,
-            Tag::Absent => kind.absent,
-        }
-    }
-
-    /// Whether each tag that the first kind allows, `Absent` too, is allowed by the second.
-    pub fn within(a: &Kind, b: &Kind) -> bool
-        ensures { IsTrue result ↔ IsWithin (tags_of a.now) (tags_of b.now) }
-    {
-        !some_tag_in_one(a, b)
-    }
-
-    /// Whether no tag, `Absent` too, is in both kinds.
-    pub fn disjoint(a: &Kind, b: &Kind) -> bool
-        ensures { IsTrue result ↔ IsDisjoint (tags_of a.now) (tags_of b.now) }
-    {
-        !some_tag_in_both(a, b)
-    }
-
-    /// The kind of what is of either kind. `Memory`: want of memory.
-    pub fn join(_alloc: Global, a: &Kind, b: &Kind) -> Result<Kind, Memory>
-        ensures { IfOk result (λ kind. tags_of kind ≡ union (tags_of a.now) (tags_of b.now)) }
-    {
-        Ok(Kind {
-            string: either(a.string, b.string),
-            integer: either(a.integer, b.integer),
-            boolean: either(a.boolean, b.boolean),
-            null: either(a.null, b.null),
-            timestamp: either(a.timestamp, b.timestamp),
-            regex: either(a.regex, b.regex),
-            array: either(a.array, b.array),
-            object: either(a.object, b.object),
-            absent: either(a.absent, b.absent),
-        })
-    }
-
-    /// The kind of what is of this kind and does not have the tag. `Memory`: want of memory.
-    pub fn without(_alloc: Global, kind: &Kind, tag: Tag) -> Result<Kind, Memory>
-        ensures { IfOk result (λ lower. tags_of lower ≡ without (tags_of kind.now) tag) }
-    {
-        Ok(Kind {
-            string: stays(kind.string, Tag::Text, tag),
-            integer: stays(kind.integer, Tag::Int, tag),
-            boolean: stays(kind.boolean, Tag::Bool, tag),
-            null: stays(kind.null, Tag::Null, tag),
-            timestamp: stays(kind.timestamp, Tag::Time, tag),
-            regex: stays(kind.regex, Tag::Pattern, tag),
-            array: stays(kind.array, Tag::List, tag),
-            object: stays(kind.object, Tag::Object, tag),
-            absent: stays(kind.absent, Tag::Absent, tag),
-        })
-    }
-
     /// An equal kind. `Memory`: want of memory.
     pub fn copy(&self, alloc: Global) -> Result<Kind, Memory>
         ensures { IfOk result (λ kind. tags_of kind ≡ tags_of self.now) }
     {
-        Kind::join(alloc, self, self)
+        join(alloc, self, self)
     }
+}
+
+/// Whether the kind allows the tag.
+pub fn has(kind: &Kind, tag: Tag) -> bool
+    ensures { result ≡ tags_of kind.now tag }
+{
+    match tag {
+        Tag::Text => kind.string,
+        Tag::Int => kind.integer,
+        Tag::Bool => kind.boolean,
+        Tag::Null => kind.null,
+        Tag::Time => kind.timestamp,
+        Tag::Pattern => kind.regex,
+        Tag::List => kind.array,
+        Tag::Object => kind.object,
+        Tag::Absent => kind.absent,
+    }
+}
+
+/// Whether each tag that the first kind allows, `Absent` too, is allowed by the second.
+pub fn within(a: &Kind, b: &Kind) -> bool
+    ensures { IsTrue result ↔ IsWithin (tags_of a.now) (tags_of b.now) }
+{
+    !some_tag_in_one(a, b)
+}
+
+/// Whether no tag, `Absent` too, is in both kinds.
+pub fn disjoint(a: &Kind, b: &Kind) -> bool
+    ensures { IsTrue result ↔ IsDisjoint (tags_of a.now) (tags_of b.now) }
+{
+    !some_tag_in_both(a, b)
+}
+
+/// The kind of what is of either kind. `Memory`: want of memory.
+pub fn join(_alloc: Global, a: &Kind, b: &Kind) -> Result<Kind, Memory>
+    ensures { IfOk result (λ kind. tags_of kind ≡ union (tags_of a.now) (tags_of b.now)) }
+{
+    Ok(Kind {
+        string: either(a.string, b.string),
+        integer: either(a.integer, b.integer),
+        boolean: either(a.boolean, b.boolean),
+        null: either(a.null, b.null),
+        timestamp: either(a.timestamp, b.timestamp),
+        regex: either(a.regex, b.regex),
+        array: either(a.array, b.array),
+        object: either(a.object, b.object),
+        absent: either(a.absent, b.absent),
+    })
+}
+
+/// The kind of what is of this kind and does not have the tag. `Memory`: want of memory.
+pub fn without(_alloc: Global, kind: &Kind, tag: Tag) -> Result<Kind, Memory>
+    ensures { IfOk result (λ lower. tags_of lower ≡ without (tags_of kind.now) tag) }
+{
+    Ok(Kind {
+        string: stays(kind.string, Tag::Text, tag),
+        integer: stays(kind.integer, Tag::Int, tag),
+        boolean: stays(kind.boolean, Tag::Bool, tag),
+        null: stays(kind.null, Tag::Null, tag),
+        timestamp: stays(kind.timestamp, Tag::Time, tag),
+        regex: stays(kind.regex, Tag::Pattern, tag),
+        array: stays(kind.array, Tag::List, tag),
+        object: stays(kind.object, Tag::Object, tag),
+        absent: stays(kind.absent, Tag::Absent, tag),
+    })
 }
 
 fn either(a: bool, b: bool) -> bool
@@ -187,16 +187,14 @@ fn stays(allowed: bool, tag: Tag, removed: Tag) -> bool
 fn some_tag_in_one(a: &Kind, b: &Kind) -> bool
     ensures { result ≡ list_any (λ t. tags_of a.now t && not (tags_of b.now t)) all_tags }
 {
-    TAGS.iter()
-        .any(|tag| Kind::has(a, *tag) && !Kind::has(b, *tag))
+    TAGS.iter().any(|tag| has(a, *tag) && !has(b, *tag))
 }
 
 // Whether a tag is in both kinds.
 fn some_tag_in_both(a: &Kind, b: &Kind) -> bool
     ensures { result ≡ list_any (λ t. tags_of a.now t && tags_of b.now t) all_tags }
 {
-    TAGS.iter()
-        .any(|tag| Kind::has(a, *tag) && Kind::has(b, *tag))
+    TAGS.iter().any(|tag| has(a, *tag) && has(b, *tag))
 }
 
 #[cfg(test)]

@@ -5,4 +5,4 @@
 
 mod kind;
 
-pub use kind::{Kind, TAGS};
+pub use kind::{Kind, TAGS, disjoint, has, join, within, without};

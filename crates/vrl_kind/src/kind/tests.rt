@@ -21,9 +21,9 @@ fn kinds_have_their_tags(rt: HostRuntime) -> Result<(), Fail> {
     ];
     assert_eq!(rt; rows.len(), TAGS.len());
     for (tag, in_json, in_any) in rows {
-        assert_eq!(rt; Kind::has(&json, tag), in_json, "json, {tag:?}");
-        assert_eq!(rt; Kind::has(&any, tag), in_any, "any, {tag:?}");
-        assert!(rt; !Kind::has(&never, tag), "never, {tag:?}");
+        assert_eq!(rt; has(&json, tag), in_json, "json, {tag:?}");
+        assert_eq!(rt; has(&any, tag), in_any, "any, {tag:?}");
+        assert!(rt; !has(&never, tag), "never, {tag:?}");
     }
     Ok(())
 }
@@ -33,14 +33,14 @@ fn kinds_are_compared(rt: HostRuntime) -> Result<(), Fail> {
     let alloc = rt.alloc();
     let text = Kind::of(alloc, Tag::Text)?;
     let null = Kind::of(alloc, Tag::Null)?;
-    let either = Kind::join(alloc, &text, &null)?;
-    let rest = Kind::without(alloc, &either, Tag::Null)?;
+    let either = join(alloc, &text, &null)?;
+    let rest = without(alloc, &either, Tag::Null)?;
     let same = either.copy(alloc)?;
-    assert!(rt; Kind::within(&text, &same) && Kind::within(&null, &same));
-    assert!(rt; !Kind::within(&same, &text));
-    assert!(rt; Kind::within(&rest, &text) && Kind::within(&text, &rest));
-    assert!(rt; Kind::disjoint(&rest, &null));
-    assert!(rt; !Kind::disjoint(&same, &null));
+    assert!(rt; within(&text, &same) && within(&null, &same));
+    assert!(rt; !within(&same, &text));
+    assert!(rt; within(&rest, &text) && within(&text, &rest));
+    assert!(rt; disjoint(&rest, &null));
+    assert!(rt; !disjoint(&same, &null));
     Ok(())
 }
 
@@ -48,10 +48,10 @@ fn kinds_are_compared(rt: HostRuntime) -> Result<(), Fail> {
 fn threads_send_and_share(rt: HostRuntime) -> Result<(), Fail> {
     let alloc = rt.alloc();
     let null = Kind::of(alloc, Tag::Null)?;
-    let (copy, has_null) = thread::join(&rt, || null.copy(alloc), || Kind::has(&null, Tag::Null));
+    let (copy, has_null) = thread::join(&rt, || null.copy(alloc), || has(&null, Tag::Null));
     assert!(rt; has_null);
     let copy = copy?;
     let (null, copy) = thread::join(&rt, move || null, move || copy);
-    assert!(rt; Kind::within(&null, &copy));
+    assert!(rt; within(&null, &copy));
     Ok(())
 }

@@ -4,7 +4,7 @@ use Rattle.std.proofs.lemmas.Iterator.Search.{any_from_yields_List}
 use Rattle.std.specs.List.{list_any}
 use Rattle.vrl_kind.specs.Tags.{all_tags}
 use Rattle.vrl_kind.specs.View.{tags_of}
-use Rattle.vrl_compile.specs.Addition.{has_partner_for}
+use Rattle.vrl_compile.specs.Addition.{may_give_with}
 use Rattle.vrl_compile.proofs.Additions.{plus_kind-by_partners}
 use Rattle.vrl_compile.proofs.addition.may_give.Goals as goal
 
@@ -12,6 +12,6 @@ pub returns : goal.returns
 returns c =
     let K = tags_of c.args.a.now in
     let L = tags_of c.args.b.now in
-    let by_tag : c.any.result ≡ list_any (λ a. K a && has_partner_for c.args.given a L) all_tags =
-    any_from_yields_List (λ a. K a && has_partner_for c.args.given a L) _ _ c.any.result c.any.ensures.ran (YieldsList-from_slice all_tags cc) (λ x b q k. search (rules, tests)) in
+    let by_tag : c.any.result ≡ list_any (λ a. K a && may_give_with c.args.given a L) all_tags =
+    any_from_yields_List (λ a. K a && may_give_with c.args.given a L) _ _ c.any.result c.any.ensures.ran (YieldsList-from_slice all_tags cc) (λ x b q k. search (rules, tests)) in
     by_tag ∙ plus_kind-by_partners K L c.args.given

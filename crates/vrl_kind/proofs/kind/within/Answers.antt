@@ -1,6 +1,6 @@
 use Rattle.vrl_kind.specs.View.{tags_of}
 use Rattle.vrl_kind.proofs.KindLemmas.{opposite, within_from, within_to}
-use Rattle.vrl_kind.proofs.kind.Kind.within.Goals as goal
+use Rattle.vrl_kind.proofs.kind.within.Goals as goal
 
 pub returns : goal.returns
 returns c =

@@ -1,6 +1,6 @@
 use Rattle.vrl_kind.specs.View.{tags_of}
 use Rattle.vrl_kind.proofs.KindLemmas.{opposite, disjoint_from, disjoint_to}
-use Rattle.vrl_kind.proofs.kind.Kind.disjoint.Goals as goal
+use Rattle.vrl_kind.proofs.kind.disjoint.Goals as goal
 
 pub returns : goal.returns
 returns c =

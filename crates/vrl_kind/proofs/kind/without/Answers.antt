@@ -5,7 +5,7 @@ use Rattle.vrl_value.specs.declared.value.Tag.TheVariants as tag
 use Rattle.vrl_kind.specs.View.{tags_of}
 use Rattle.vrl_kind.specs.Tags.{without, same_tag}
 use Rattle.vrl_kind.specs.declared.kind.Kind.{Kind}
-use Rattle.vrl_kind.proofs.kind.Kind.without.Goals as goal
+use Rattle.vrl_kind.proofs.kind.without.Goals as goal
 
 abbrev stays : Kind → Tag → Tag → Bool
 stays kind removed t = tags_of kind t && not (same_tag t removed)
