@@ -42,10 +42,6 @@ moves_on-suc (Some first) (Some later) None count moment moved advances = absurd
 moves_on-suc (Some first) (Some later) (Some last) count moment moved advances =
     λ i. advances.1 i ∙ moved (suc i) ∙ ap first (omega arith)
 
--- a blank line is passed over
-pub event_lines_from-blank : (n : ℕ) (bytes line behind : List ℕ) → lines_of bytes ≡ line ∷ lines_of behind → is_blank line ≡ true → event_lines_from n bytes ≡ event_lines_from (suc n) behind
-event_lines_from-blank n bytes line behind first blank = rw (first, blank, add-one) refl
-
 -- any other line comes first
 pub event_lines_from-event : (n : ℕ) (bytes line behind : List ℕ) → lines_of bytes ≡ line ∷ lines_of behind → is_blank line ≡ false → event_lines_from n bytes ≡ (n, line) ∷ event_lines_from (suc n) behind
 event_lines_from-event n bytes line behind first event = rw (first, event, add-one) refl

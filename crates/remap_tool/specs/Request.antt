@@ -1,5 +1,5 @@
 -- What a call asks: the words tell it, and the script that they name.
-use Rattle.std.specs.Prelude.{◌≡◌, ℕ, ◌≤◌, List, length, take, Option, Some, option_map, IfSome, true}
+use Rattle.std.specs.Prelude.{◌≡◌, ℕ, ◌+◌, ◌≤◌, List, length, take, Option, Some, option_map, IfSome, true}
 use Rattle.std.specs.List.{list_any}
 use Rattle.std.specs.Str.{IsUtf8}
 use Rattle.vrl_compile.specs.Answer.{not_built, AreDiagnostics, AreOrdered}
@@ -44,7 +44,7 @@ IsScriptAnswer text (Refused diagnostics) = IsRefused text diagnostics
 
 -- the bytes were loaded from the name: they are what it holds, and no more of it than one byte over the limit
 abbrev pub IsLoaded : Held → List ℕ → List ℕ → Type 0
-IsLoaded held name text = IfSome held (λ h. option_map (take 65537) (h name) ≡ Some text)
+IsLoaded held name text = IfSome held (λ h. option_map (take (script_limit + 1)) (h name) ≡ Some text)
 
 pub data Request : Type 0 where
   -- the words are refused

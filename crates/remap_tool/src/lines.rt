@@ -21,12 +21,10 @@ fn line_end(bytes: &[u8]) -> usize
     ensures before { (k : ℕ) → k < result → slice_index bytes.now k ≢ 10 }
     ensures found { result < length bytes.now → slice_index bytes.now result ≡ 10 }
 {
-    for (i, byte) in bytes.iter().enumerate() {
-        if *byte == b'\n' {
-            return i;
-        }
-    }
-    bytes.len()
+    bytes
+        .iter()
+        .position(|byte| *byte == b'\n')
+        .unwrap_or(bytes.len())
 }
 
 /// Whether a line has spaces, tabs and carriage returns alone.

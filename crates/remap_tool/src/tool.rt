@@ -1,4 +1,4 @@
-ghost use Rattle.std.specs.Prelude.{◌≡◌, ◌⊎◌, ◌≤◌, Some, IfOk, IfSome, IsSome, IsSomeAnd, IsTrue, List, ℕ, length, map, string_bytes};
+ghost use Rattle.std.specs.Prelude.{◌≡◌, ◌⊎◌, ◌+◌, ◌≤◌, Some, IfOk, IfSome, IsSome, IsSomeAnd, IsTrue, List, ℕ, length, map, string_bytes};
 ghost use Rattle.vrl_io.specs.Faults.{HasRisen};
 ghost use Rattle.vrl_json.specs.Line.{line_tree};
 ghost use Rattle.vrl_value.specs.Tree.{Tree};
@@ -24,15 +24,12 @@ use crate::words::script_name;
 use std::alloc::Global;
 use std::thread::Threads;
 use vrl_compile::{
-    Compiled, Diagnostic, Diagnostics, Program, Span, compile, diagnostics_are_determined,
-    scripts_are_sound, scripts_have_one_reading,
+    Compiled, Diagnostic, Diagnostics, Program, SCRIPT_LIMIT, Span, compile,
+    diagnostics_are_determined, scripts_are_sound, scripts_have_one_reading,
 };
 use vrl_io::{Clock, LoadFault, Sink, Source, Store};
 use vrl_json::lines_are_objects;
 use vrl_value::Memory;
-
-/// The most bytes of a script.
-const SCRIPT_LIMIT: usize = 65_536;
 
 // An accepted script: its text, what it does, and the warnings about it.
 #[derive(Drop)]
@@ -137,7 +134,7 @@ fn run_script<S: Source, O: Sink, E: Sink, C: Clock>(
     report: &mut E,
     clock: &mut C,
 ) -> Status
-    requires { length text.now ≤ 65537 }
+    requires { length text.now ≤ SCRIPT_LIMIT + 1 }
     ensures whole { IsAnswer result → IsWhole (AsksByScript text.now) result
         (devices (S.left input.old) (S.taken input.old) (C.ahead clock.old)
         (O.written output.old) (E.written report.old))
@@ -182,7 +179,7 @@ fn run_script<S: Source, O: Sink, E: Sink, C: Clock>(
 
 // What the bytes of a script are: a text of at most the limit is compiled, and anything else is no built form.
 fn compile_bytes(alloc: Global, text: &[u8]) -> Result<Compiled, Memory>
-    requires { length text.now ≤ 65537 }
+    requires { length text.now ≤ SCRIPT_LIMIT + 1 }
     ensures { IfOk result (IsScriptAnswer text.now) }
 {
     if text.len() <= SCRIPT_LIMIT

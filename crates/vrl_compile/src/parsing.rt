@@ -9,6 +9,7 @@ ghost use Rattle.vrl_compile.specs.declared.syntax.Item.{Item as SpecItem};
 use crate::chain::{end_of, expression, offset_of};
 use crate::diagnostic::Span;
 use crate::scan::{Class, is_run, split_at_mark, split_run};
+use crate::script::SCRIPT_LIMIT;
 use crate::syntax::Item;
 use crate::token::{Name, split_target};
 use std::alloc::Global;
@@ -69,7 +70,7 @@ fn assignment(
 
 /// The items of a script. `None` is a text that is of no form that is built.
 pub(crate) fn parse(alloc: Global, text: &str) -> Result<Option<Vec<Item>>, Memory>
-    requires { length text.now ≤ 65536 }
+    requires { length text.now ≤ SCRIPT_LIMIT }
     ensures { IfOk result (λ read. MatchOption read
         ((items : List SpecItem) → ¬ IsScript text.now items)
         (λ items. IsScript text.now items.items)) }

@@ -10,6 +10,9 @@ use crate::syntax::Item;
 use std::alloc::Global;
 use vrl_value::Memory;
 
+/// The most bytes of a script.
+pub const SCRIPT_LIMIT: usize = 65_536;
+
 /// An accepted script: its items in order, of which a contract sees the list.
 #[derive(Drop)]
 pub struct Program {
@@ -38,7 +41,7 @@ pub enum Compiled {
 ///
 /// [`Memory`] where memory is wanted.
 pub fn compile(alloc: Global, text: &str) -> Result<Compiled, Memory>
-    requires { length text.now ≤ 65536 }
+    requires { length text.now ≤ SCRIPT_LIMIT }
     ensures { IfOk result (IsAnswer text.now) }
 {
     let Some(items) = parse(alloc, text)? else {

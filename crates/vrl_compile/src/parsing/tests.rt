@@ -1,5 +1,6 @@
 use super::parse;
 use crate::diagnostic::Span;
+use crate::script::SCRIPT_LIMIT;
 use crate::syntax::{Form, Item, Operator, Place};
 use std::alloc::Global;
 use std::process::Abort;
@@ -7,7 +8,7 @@ use std::test::Fail;
 
 /// How many items a text has as a script.
 fn count_items(rt: &impl Abort, alloc: Global, text: &str) -> Result<Option<usize>, Fail> {
-    assert!(rt; text.len() <= 65536);
+    assert!(rt; text.len() <= SCRIPT_LIMIT);
     let items = parse(alloc, text)?;
     Ok(items.map(|items| items.len()))
 }
