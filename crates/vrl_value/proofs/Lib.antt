@@ -2,3 +2,4 @@ pub mod Copies
 pub mod Find
 pub mod Put
 pub mod Members
+pub mod Ordered

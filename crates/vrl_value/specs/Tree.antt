@@ -1,6 +1,7 @@
--- A value as a tree. An object has each key once, and its members stand in the order of their keys' bytes.
-use Rattle.std.specs.Prelude.{ℕ, ℤ, Bool, true, false, ◌&&◌, List, Option, Some, None}
+-- A value as a tree. The tree of a value that stands in memory is in order: see `IsOrdered`.
+use Rattle.std.specs.Prelude.{◌≡◌, ℕ, ℤ, Bool, true, false, ◌&&◌, List, Option, Some, None, ⊤}
 use Rattle.std.specs.Ordering.{nat_cmp, match_ordering}
+use Rattle.std.specs.declared.cmp.Ordering.TheVariants.{Less}
 use Rattle.std.specs.Cmp.Lexicographic.{slice_cmp}
 
 mutual
@@ -64,3 +65,28 @@ is_object (timestamp nanos) = false
 is_object (regex n) = false
 is_object (array ts) = false
 is_object (object ms) = true
+
+-- the key is before each key of the members, in the order of bytes
+abbrev pub IsBefore : List ℕ → Members → Type 0
+IsBefore k no_members = ⊤
+IsBefore k (member l t ms) = (slice_cmp nat_cmp k l ≡ Less) × IsBefore k ms
+
+-- the members of each object in the tree stand in the order of their keys' bytes, each key once
+abbrev mutual
+  pub IsOrdered : Tree → Type 0
+  IsOrdered (string s) = ⊤
+  IsOrdered (integer n) = ⊤
+  IsOrdered (boolean b) = ⊤
+  IsOrdered null = ⊤
+  IsOrdered (timestamp nanos) = ⊤
+  IsOrdered (regex n) = ⊤
+  IsOrdered (array ts) = ItemsAreOrdered ts
+  IsOrdered (object ms) = MembersAreOrdered ms
+
+  pub ItemsAreOrdered : Items → Type 0
+  ItemsAreOrdered no_items = ⊤
+  ItemsAreOrdered (item t ts) = IsOrdered t × ItemsAreOrdered ts
+
+  pub MembersAreOrdered : Members → Type 0
+  MembersAreOrdered no_members = ⊤
+  MembersAreOrdered (member k t ms) = IsBefore k ms × IsOrdered t × MembersAreOrdered ms

@@ -1,6 +1,6 @@
 ghost use Rattle.std.specs.Prelude.{◌≡◌, IfOk, IsTrue, OnErr, OnOk, option_map};
 ghost use Rattle.vrl_value.specs.Tag.{tag_of};
-ghost use Rattle.vrl_value.specs.Tree.{find, is_json, members_are_json, put};
+ghost use Rattle.vrl_value.specs.Tree.{find, is_json, members_are_json, put, IsOrdered, ItemsAreOrdered, MembersAreOrdered};
 ghost use Rattle.vrl_value.specs.View.{items_of, items_view, members_of, members_view, tree_of};
 
 use crate::lists::Chars;
@@ -52,7 +52,9 @@ impl Value {
     /// An equal value, with all that is in it. `Memory`: want of memory.
     #[cycle(copy)]
     pub fn copy(&self, alloc: Global) -> Result<Value, Memory>
-        ensures { IfOk result (λ copy. tree_of copy ≡ tree_of self.now) }
+        ensures equal { IfOk result (λ copy. tree_of copy ≡ tree_of self.now) }
+        // Objects are maps, at each level: what is in memory is in order.
+        ensures ordered { OnOk result (IsOrdered (tree_of self.now)) }
     {
         match self {
             Value::Text(text) => Ok(Value::Text(text.copy(alloc)?)),
@@ -122,7 +124,8 @@ impl Items {
     /// Equal values, in the same order. `Memory`: want of memory.
     #[cycle(copy)]
     pub fn copy(&self, alloc: Global) -> Result<Items, Memory>
-        ensures { IfOk result (λ copy. items_of copy ≡ items_of self.now) }
+        ensures equal { IfOk result (λ copy. items_of copy ≡ items_of self.now) }
+        ensures ordered { OnOk result (ItemsAreOrdered (items_of self.now)) }
     {
         let mut copies = Vec::with_capacity(alloc, self.items.len())?;
         for item in &self.items {
@@ -165,7 +168,8 @@ impl Fields {
     /// Equal fields, with all that is in them. `Memory`: want of memory.
     #[cycle(copy)]
     pub fn copy(&self, alloc: Global) -> Result<Fields, Memory>
-        ensures { IfOk result (λ copy. members_of copy ≡ members_of self.now) }
+        ensures equal { IfOk result (λ copy. members_of copy ≡ members_of self.now) }
+        ensures ordered { OnOk result (MembersAreOrdered (members_of self.now)) }
     {
         let mut copies = BTreeMap::new(alloc);
         for (name, value) in self.map.iter() {
