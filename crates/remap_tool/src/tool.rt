@@ -42,8 +42,9 @@ struct Script<'a> {
 /// What is reported where the words are refused.
 const USAGE_LINE: &str = "usage: remap SCRIPT\n";
 
-/// All that the program does: reads the words, loads the script that they name, and runs it over the lines
-/// of the input. Events go to `output`; diagnostics, and reports on lines, go to `report`.
+/// All that the program does: reads the words, which are those behind the program's name, loads the script
+/// that they name, and runs it over the lines of the input. Events go to `output`; diagnostics, and reports
+/// on lines, go to `report`. The runtime may start threads; for now all is done on one.
 pub fn remap<R: Threads + Sync, F: Store, S: Source, O: Sink, E: Sink, C: Clock>(
     _rt: &R,
     alloc: Global,
