@@ -4,4 +4,5 @@ pub mod MemorySink
 pub mod MemorySource
 pub mod MemoryStore
 pub mod Moments
+pub mod StdSink
 pub mod StdSource

@@ -1,4 +1,4 @@
-ghost use Rattle.std.specs.Prelude.{◌≡◌, ◌<◌, ◌≤◌, [], length, Some, IsErr, MatchResult, OnErr, IsTrue};
+ghost use Rattle.std.specs.Prelude.{◌≡◌, ◌<◌, ◌≤◌, [], length, Some, IsErr, MatchResult, OnErr, OnOk, IsTrue};
 ghost use Rattle.vrl_io.specs.Calls.{first_call, next_fails};
 ghost use Rattle.vrl_io.specs.Faults.{HasRisen};
 ghost use Rattle.vrl_io.specs.MemorySink.{after_write, after_fault};
@@ -62,6 +62,7 @@ impl Sink for MemorySink {
         // What the counter's type tells.
         ensures cause { OnErr result (HasRisen self.old.faults self.new.faults) }
         ensures count { self.old.faults ≤ self.new.faults }
+        ensures no_fault { OnOk result (self.new.faults ≡ self.old.faults) }
     {
         if bytes.is_empty() {
             return Ok(0);

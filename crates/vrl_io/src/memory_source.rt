@@ -1,4 +1,4 @@
-ghost use Rattle.std.specs.Prelude.{◌≡◌, ◌≤◌, [], false, length, take, drop, Some, IfOk, OnErr, IsTrue};
+ghost use Rattle.std.specs.Prelude.{◌≡◌, ◌≤◌, [], false, length, take, drop, Some, IfOk, OnErr, OnOk, IsTrue};
 ghost use Rattle.std.specs.Result.{result_ok};
 ghost use Rattle.vrl_io.specs.Calls.{first_call};
 ghost use Rattle.vrl_io.specs.Faults.{HasRisen};
@@ -93,6 +93,7 @@ impl Source for MemorySource {
         ensures end_empty { IsTrue self.new.ended → self.new.left ≡ [] }
         ensures cause { OnErr result (HasRisen self.old.faults self.new.faults) }
         ensures count { self.old.faults ≤ self.new.faults }
+        ensures no_fault { OnOk result (self.new.faults ≡ self.old.faults) }
     {
         if self.ended || buffer.is_empty() {
             return Ok(0);

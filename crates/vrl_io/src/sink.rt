@@ -1,4 +1,4 @@
-ghost use Rattle.std.specs.Prelude.{◌≡◌, ◌<◌, ◌≤◌, ℕ, List, [], ◌++◌, Option, option_map, take, length, IfOk, OnErr};
+ghost use Rattle.std.specs.Prelude.{◌≡◌, ◌<◌, ◌≤◌, ℕ, List, [], ◌++◌, Option, option_map, take, length, IfOk, OnErr, OnOk};
 ghost use Rattle.vrl_io.specs.Faults.{HasRisen};
 
 use crate::fault::Failed;
@@ -21,8 +21,9 @@ pub trait Sink {
             ≡ option_map (λ before. before ++ take n bytes.now) (written self.old)) }
         ensures no_call { bytes.now ≡ [] → (result ≡ Ok 0) × (self.new ≡ self.old) }
 
-        // A failure leaves what was written as it was, and has raised the count.
+        // A failure leaves what was written as it was, and has raised the count. Nothing else raises it.
         ensures unchanged { OnErr result (written self.new ≡ written self.old) }
         ensures cause { OnErr result (HasRisen (faults self.old) (faults self.new)) }
-        ensures count { faults self.old ≤ faults self.new };
+        ensures count { faults self.old ≤ faults self.new }
+        ensures no_fault { OnOk result (faults self.new ≡ faults self.old) };
 }

@@ -1,4 +1,4 @@
-ghost use Rattle.std.specs.Prelude.{◌≡◌, ◌+◌, ◌<◌, ◌≤◌, ◌⊎◌, ℕ, Bool, List, [], Option, option_map, take, drop, length, IfOk, OnErr, IfSome, IsTrue};
+ghost use Rattle.std.specs.Prelude.{◌≡◌, ◌+◌, ◌<◌, ◌≤◌, ◌⊎◌, ℕ, Bool, List, [], Option, option_map, take, drop, length, IfOk, OnErr, OnOk, IfSome, IsTrue};
 ghost use Rattle.vrl_io.specs.Faults.{HasRisen};
 
 use crate::fault::Failed;
@@ -36,9 +36,10 @@ pub trait Source {
         ensures no_call { (buffer.old ≡ []) ⊎ IsTrue (ended self.old)
             → (result ≡ Ok 0) × (self.new ≡ self.old) }
 
-        // A failure leaves what is left as it was, and has raised the count.
+        // A failure leaves what is left as it was, and has raised the count. Nothing else raises it.
         ensures unchanged { OnErr result ((left self.new ≡ left self.old)
             × (taken self.new ≡ taken self.old) × (ended self.new ≡ ended self.old)) }
         ensures cause { OnErr result (HasRisen (faults self.old) (faults self.new)) }
-        ensures count { faults self.old ≤ faults self.new };
+        ensures count { faults self.old ≤ faults self.new }
+        ensures no_fault { OnOk result (faults self.new ≡ faults self.old) };
 }

@@ -1,4 +1,6 @@
-ghost use Rattle.std.specs.Prelude.{◌≡◌, ◌<◌, ◌≤◌, length, None, IfSome};
+ghost use Rattle.std.specs.Prelude.{◌≡◌, ◌<◌, ◌≤◌, [], length, take, None, IfOk, IfSome, OnErr, OnOk};
+ghost use Rattle.std.specs.Io.KnownBytes.{Appends};
+ghost use Rattle.vrl_io.specs.Faults.{HasRisen};
 
 use crate::fault::Failed;
 use crate::sink::Sink;
@@ -19,17 +21,17 @@ pub struct StdSink<W> {
 }
 
 impl<W> Model for StdSink<W> {
-    ghost use Rattle.std.specs.Prelude.{ℕ};
+    ghost use Rattle.vrl_io.specs.StdSink.{BytesGiven};
 
-    ghost Value = { ℕ };
+    ghost Value = { BytesGiven W };
 
-    ghost view = { λ s. s.faults };
+    ghost view = { λ s. record { writer = s.writer; faults = s.faults } };
 }
 
 impl<W> StdSink<W> {
     /// A sink that writes to the writer, with no fault yet.
     pub fn new(writer: W) -> StdSink<W>
-        ensures { result ≡ 0 }
+        ensures { result ≡ record { writer = writer; faults = 0 } }
     {
         StdSink { writer, faults: 0 }
     }
@@ -40,6 +42,8 @@ impl<W> StdSink<W> {
 fn write_once<W: Write>(writer: &mut W, bytes: &[u8]) -> Option<usize>
     ensures some { IfSome result (λ n. 0 < n) }
     ensures within { IfSome result (λ n. n ≤ length bytes.now) }
+    ensures written { IfSome result (λ n. Appends (W.contents writer.old) (W.contents writer.new)
+        (take n bytes.now)) }
 {
     for _ in 0..MOST_TRIES {
         match writer.write(bytes) {
@@ -58,9 +62,21 @@ fn write_once<W: Write>(writer: &mut W, bytes: &[u8]) -> Option<usize>
 impl<W: Write> Sink for StdSink<W> {
     ghost written = { λ _. None };
 
-    ghost faults = { λ faults. faults };
+    ghost faults = { λ s. s.faults };
 
-    fn give(&mut self, bytes: &[u8]) -> Result<usize, Failed> {
+    fn give(&mut self, bytes: &[u8]) -> Result<usize, Failed>
+        // Exactly the bytes that the writer took, where it tells what it holds.
+        ensures writer { IfOk result (λ n. Appends (W.contents self.old.writer)
+            (W.contents self.new.writer) (take n bytes.now)) }
+
+        // What the trait asks.
+        ensures within { IfOk result (λ n. n ≤ length bytes.now) }
+        ensures some { 0 < length bytes.now → IfOk result (λ n. 0 < n) }
+        ensures no_call { bytes.now ≡ [] → (result ≡ Ok 0) × (self.new ≡ self.old) }
+        ensures cause { OnErr result (HasRisen self.old.faults self.new.faults) }
+        ensures count { self.old.faults ≤ self.new.faults }
+        ensures no_fault { OnOk result (self.new.faults ≡ self.old.faults) }
+    {
         if bytes.is_empty() {
             return Ok(0);
         }

@@ -1,4 +1,6 @@
-ghost use Rattle.std.specs.Prelude.{◌≡◌, ◌≤◌, false, length, None, IfSome};
+ghost use Rattle.std.specs.Prelude.{◌≡◌, ◌+◌, ◌<◌, ◌≤◌, ◌⊎◌, [], false, length, take, None, IfOk, IfSome, IsTrue, OnErr, OnOk};
+ghost use Rattle.std.specs.Io.KnownBytes.{Consumes, IsAtEnd, Keeps};
+ghost use Rattle.vrl_io.specs.Faults.{HasRisen};
 ghost use Rattle.vrl_io.specs.StdSource.{BytesTaken};
 
 use crate::fault::Failed;
@@ -24,15 +26,15 @@ pub struct StdSource<R> {
 impl<R> Model for StdSource<R> {
     ghost use Rattle.vrl_io.specs.StdSource.{BytesTaken};
 
-    ghost Value = { BytesTaken };
+    ghost Value = { BytesTaken R };
 
-    ghost view = { λ s. record { taken = s.taken; faults = s.faults; ended = s.ended } };
+    ghost view = { λ s. record { reader = s.reader; taken = s.taken; faults = s.faults; ended = s.ended } };
 }
 
 impl<R> StdSource<R> {
     /// The bytes that the reader will give, with none taken and no fault yet.
     pub fn new(reader: R) -> StdSource<R>
-        ensures { result ≡ record { taken = 0; faults = 0; ended = false } }
+        ensures { result ≡ record { reader = reader; taken = 0; faults = 0; ended = false } }
     {
         StdSource {
             reader,
@@ -45,7 +47,12 @@ impl<R> StdSource<R> {
 
 // Reads once, and again where a signal interrupted it. `None`: the reader failed.
 fn read_once<R: Read>(reader: &mut R, buffer: &mut [u8]) -> Option<usize>
-    ensures { IfSome result (λ n. n ≤ length buffer.new) }
+    ensures within { IfSome result (λ n. n ≤ length buffer.new) }
+    ensures read { IfSome result (λ n. Consumes (R.remaining reader.old) (R.remaining reader.new)
+        (take n buffer.new)) }
+    ensures end { IfSome result (λ n. n ≡ 0 → 0 < length buffer.old
+        → IsAtEnd (R.remaining reader.new)) }
+    ensures unread { result ≡ None → Keeps (R.remaining reader.old) (R.remaining reader.new) }
 {
     for _ in 0..MOST_TRIES {
         match reader.read(buffer) {
@@ -66,7 +73,29 @@ impl<R: Read> Source for StdSource<R> {
 
     ghost faults = { λ s. s.faults };
 
-    fn take(&mut self, buffer: &mut [u8]) -> Result<usize, Failed> {
+    fn take(&mut self, buffer: &mut [u8]) -> Result<usize, Failed>
+        // Exactly the bytes that the reader gives, and its end, where it tells what is left.
+        ensures read { IfOk result (λ n. Consumes (R.remaining self.old.reader)
+            (R.remaining self.new.reader) (take n buffer.new)) }
+        ensures unread { OnErr result
+            (Keeps (R.remaining self.old.reader) (R.remaining self.new.reader)) }
+        ensures read_end { IsTrue self.new.ended
+            → IsTrue self.old.ended ⊎ IsAtEnd (R.remaining self.new.reader) }
+
+        // What the trait asks.
+        ensures within { IfOk result (λ n. n ≤ length buffer.new) }
+        ensures taken { IfOk result (λ n. self.new.taken ≡ self.old.taken + n) }
+        ensures end { result ≡ Ok 0 → 0 < length buffer.old → IsTrue self.new.ended }
+        ensures end_only { IsTrue self.new.ended
+            → IsTrue self.old.ended ⊎ ((result ≡ Ok 0) × (0 < length buffer.old)) }
+        ensures no_call { (buffer.old ≡ []) ⊎ IsTrue self.old.ended
+            → (result ≡ Ok 0) × (self.new ≡ self.old) }
+        ensures unchanged { OnErr result ((self.new.taken ≡ self.old.taken)
+            × (self.new.ended ≡ self.old.ended)) }
+        ensures cause { OnErr result (HasRisen self.old.faults self.new.faults) }
+        ensures count { self.old.faults ≤ self.new.faults }
+        ensures no_fault { OnOk result (self.new.faults ≡ self.old.faults) }
+    {
         if self.ended || buffer.is_empty() {
             return Ok(0);
         }

@@ -56,6 +56,11 @@ fn load_three<S: Store>(store: &mut S, name: &str) -> Result<Bytes, LoadFault> {
     store.load(name, 3)
 }
 
+/// What a load of the name gives, up to this many bytes.
+fn load_most<S: Store>(store: &mut S, name: &str, limit: usize) -> Result<Bytes, LoadFault> {
+    store.load(name, limit)
+}
+
 /// An entry of a store.
 fn entry(alloc: Global, name: &str, bytes: &[u8]) -> Result<(Chars, Bytes), AllocError> {
     Ok((
@@ -171,6 +176,52 @@ fn std_sink_writes(rt: HostRuntime) -> Result<(), Fail> {
     for row in rows {
         assert_eq!(rt; sink.give(b"abc"), row);
     }
+    Ok(())
+}
+
+/// A writer that takes each byte, and fails to flush.
+#[derive(Drop)]
+struct Unflushed;
+
+impl Write for Unflushed {
+    fn write(&mut self, bytes: &[u8]) -> io::Result<usize> {
+        Ok(bytes.len())
+    }
+
+    fn flush(&mut self) -> io::Result<()> {
+        Err(io::Error::from(ErrorKind::Other))
+    }
+}
+
+#[test]
+fn std_sink_tells_a_fault_of_a_flush(rt: HostRuntime) {
+    assert_eq!(rt; StdSink::new(Unflushed).give(b"a"), Err(Failed));
+}
+
+/// Bytes that fill more than two pieces of a load.
+fn long_bytes(alloc: Global) -> Result<Vec<u8>, AllocError> {
+    let mut bytes = Vec::new(alloc);
+    for number in 0..10_000u32 {
+        bytes.push((number % 251) as u8)?;
+    }
+    Ok(bytes)
+}
+
+#[test]
+fn file_store_loads_long_files(rt: HostRuntime) -> Result<(), Fail> {
+    let alloc = rt.alloc();
+    let folder = env::temp_dir(&rt)?;
+    let number = process::id(rt.process());
+    // A name is taken as it is, with its blanks.
+    let path = format!(in alloc; "{}/vrl_io-long-{number} ", folder.display())?;
+    let bytes = long_bytes(alloc)?;
+    fs::write(&rt, path.as_str(), bytes.as_slice())?;
+    let mut store = FileStore::new(&rt, alloc);
+    let part = load_most(&mut store, path.as_str(), 9_000);
+    let all = load_most(&mut store, path.as_str(), 20_000);
+    fs::remove_file(&rt, path.as_str())?;
+    assert_eq!(rt; part?.as_slice(), &bytes[..bytes.len().min(9_000)]);
+    assert_eq!(rt; all?.as_slice(), bytes.as_slice());
     Ok(())
 }
 

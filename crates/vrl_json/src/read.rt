@@ -1,7 +1,8 @@
-ghost use Rattle.std.specs.Prelude.{◌≡◌, List, ℕ, Some, None, IfOk, IsTrue, option_map};
+ghost use Rattle.std.specs.Prelude.{◌≡◌, List, ℕ, Some, None, IfErr, IfOk, IsTrue, option_map};
 ghost use Rattle.serde_json.specs.View.{view, members_view as json_members_view};
 ghost use Rattle.vrl_value.specs.Tree.{Tree, is_json, is_object};
 ghost use Rattle.vrl_value.specs.View.{tree_of, members_of};
+ghost use Rattle.vrl_json.specs.Faults.{is_object_data};
 ghost use Rattle.vrl_json.specs.Line.{line_tree, event_tree, part_tree, members_tree};
 
 use crate::fault::JsonFault;
@@ -34,6 +35,7 @@ pub fn lines_are_objects()
 fn event(alloc: Global, json: serde_json::Value) -> Result<Value, JsonFault>
     ensures value { IfOk result (λ value. event_tree (view json) ≡ Some (tree_of value)) }
     ensures not_built { result ≡ Err JsonFault.NotBuilt → event_tree (view json) ≡ None }
+    ensures memory { result ≡ Err JsonFault.Memory → IsTrue (is_object_data (view json)) }
 {
     match json {
         serde_json::Value::Object(map) => {
@@ -59,9 +61,10 @@ fn members(alloc: Global, map: BTreeMap<String, serde_json::Value>) -> Result<Fi
     Ok(found)
 }
 
-// A part of an event.
+// A part of an event. It is moved, which takes no memory.
 fn part(json: serde_json::Value) -> Result<Value, JsonFault>
     ensures value { IfOk result (λ value. part_tree (view json) ≡ Some (tree_of value)) }
+    ensures fault { IfErr result (λ fault. fault ≡ JsonFault.NotBuilt) }
     ensures not_built { result ≡ Err JsonFault.NotBuilt → part_tree (view json) ≡ None }
 {
     match json {
