@@ -9,7 +9,7 @@ use Rattle.vrl_value.specs.declared.value.Tag.TheVariants as tag
 use Rattle.vrl_kind.specs.Tags.{Tags, all_tags, same_tag, tag_of, Inhabits}
 use Rattle.vrl_compile.specs.Judgement.{State, dead, plus_tag, some_pair, is_tag, plus_kind, plus_may_succeed, plus_may_fail}
 use Rattle.vrl_compile.specs.Meaning.{Store, Outcome, value, error, sum_of}
-use Rattle.vrl_compile.specs.Soundness.{Fits, IsSoundEnd}
+use Rattle.vrl_compile.specs.Soundness.{EndsWithTag, Fits, IsSoundEnd, SumsAreTabled}
 
 -- a tag that passes a test is one of them all
 some_tag-intro : (test : Tags) (t : Tag) → IsTrue (test t) → IsTrue (list_any test all_tags)
@@ -52,15 +52,8 @@ same_tag-itself t = refl
 is_tag-from : (o : Option Tag) (t u : Tag) → o ≡ Some t → u ≡ t → IsTrue (is_tag o u)
 is_tag-from o t u is same = rw (is, same) (same_tag-itself t)
 
--- a value has the tag, and an error has none
-abbrev EndsWithTag : Option Tag → Outcome → Type 0
-EndsWithTag (Some t) (value u) = tag_of u ≡ t
-EndsWithTag (Some t) (error text) = ⊥
-EndsWithTag None (value u) = ⊥
-EndsWithTag None (error text) = Unit {0}
-
 -- the tags of two values settle whether they have a sum, and its tag
-ends_with_tag : (v w : Tree) → EndsWithTag (plus_tag (tag_of v) (tag_of w)) (sum_of v w)
+pub ends_with_tag : SumsAreTabled
 ends_with_tag (integer n) (integer m) = refl
 ends_with_tag (string s) (string t) = refl
 ends_with_tag (string s) null = refl

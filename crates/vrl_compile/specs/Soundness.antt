@@ -9,8 +9,8 @@ use Rattle.vrl_kind.specs.Tags.{Tags, tag_of, Inhabits}
 use Rattle.vrl_compile.specs.declared.diagnostic.Diagnostic.{Diagnostic}
 use Rattle.vrl_compile.specs.declared.syntax.Item.{Item}
 use Rattle.vrl_compile.specs.Syntax.{Expr}
-use Rattle.vrl_compile.specs.Judgement.{Known, State, dead, alive, judge, judge_script, is_error}
-use Rattle.vrl_compile.specs.Meaning.{Store, fields_of, Outcome, value, error, eval, run_script}
+use Rattle.vrl_compile.specs.Judgement.{Known, State, dead, alive, judge, judge_script, is_error, plus_tag}
+use Rattle.vrl_compile.specs.Meaning.{Store, fields_of, Outcome, value, error, eval, run_script, sum_of}
 
 -- the tag of what stands at a place, if anything does
 abbrev pub tag_at : Option Tree → Tag
@@ -58,3 +58,16 @@ IsSoundScript items = (event : Tree) → IsDeclared event → IsSoundOver items 
 -- of every script without an error code
 abbrev pub ScriptsAreSound : Type 0
 ScriptsAreSound = (items : List Item) → HasNoError (judge_script items).codes → IsSoundScript items
+
+-- ---- the table of `+`
+
+-- a value has the tag, and an error has none
+abbrev pub EndsWithTag : Option Tag → Outcome → Type 0
+EndsWithTag (Some t) (value v) = tag_of v ≡ t
+EndsWithTag (Some t) (error text) = ⊥
+EndsWithTag None (value v) = ⊥
+EndsWithTag None (error text) = Unit {0}
+
+-- the tags of two values settle whether they have a sum, and its tag: `+` ends with an error exactly where its table has no pair
+abbrev pub SumsAreTabled : Type 0
+SumsAreTabled = (v w : Tree) → EndsWithTag (plus_tag (tag_of v) (tag_of w)) (sum_of v w)

@@ -21,5 +21,5 @@ pub use diagnostic::{Diagnostic, Diagnostics, Span};
 pub use execution::run;
 pub use reading::{diagnostics_are_determined, scripts_have_one_reading};
 pub use script::{Compiled, Program, SCRIPT_LIMIT, compile};
-pub use soundness::{expressions_are_sound, scripts_are_sound};
+pub use soundness::{expressions_are_sound, scripts_are_sound, sums_are_tabled};
 pub use syntax::{Chain, Form, Item, Operand, Operator, Place};

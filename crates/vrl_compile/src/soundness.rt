@@ -1,4 +1,4 @@
-ghost use Rattle.vrl_compile.specs.Soundness.{ExpressionsAreSound, ScriptsAreSound};
+ghost use Rattle.vrl_compile.specs.Soundness.{ExpressionsAreSound, ScriptsAreSound, SumsAreTabled};
 
 use vrl_value::{members_are_maps, members_stay_json};
 
@@ -16,3 +16,10 @@ pub fn scripts_are_sound()
     members_are_maps();
     members_stay_json();
 }
+
+/// `+` ends with an error exactly where its table, by which it is judged, has no pair for the tags of the two
+/// values, and else with a value of the tag that stands there. This takes no time: it is a law about the
+/// definitions.
+pub fn sums_are_tabled()
+    ensures { SumsAreTabled }
+{}
