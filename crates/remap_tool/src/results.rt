@@ -1,4 +1,4 @@
-ghost use Rattle.std.specs.Prelude.{◌≡◌, IfOk, OnOk, length, map};
+ghost use Rattle.std.specs.Prelude.{IfOk, OnOk, length, map};
 ghost use Rattle.vrl_value.specs.View.{tree_of};
 ghost use Rattle.vrl_compile.specs.Judgement.{judge_script};
 ghost use Rattle.vrl_compile.specs.Meaning.{run_script};

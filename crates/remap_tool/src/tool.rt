@@ -1,4 +1,4 @@
-ghost use Rattle.std.specs.Prelude.{◌≡◌, ◌⊎◌, ◌+◌, ◌≤◌, Some, IfOk, IfSome, IsSome, IsSomeAnd, IsTrue, List, ℕ, length, map, string_bytes};
+ghost use Rattle.std.specs.Prelude.{◌≡◌, ◌⊎◌, ◌+◌, ◌≤◌, Some, IfOk, IsSome, IsTrue, List, ℕ, length};
 ghost use Rattle.vrl_io.specs.Faults.{HasRisen};
 ghost use Rattle.vrl_json.specs.Line.{line_tree};
 ghost use Rattle.vrl_value.specs.Tree.{Tree};
@@ -10,7 +10,6 @@ ghost use Rattle.vrl_compile.specs.declared.syntax.Item.{Item};
 ghost use Rattle.remap_tool.specs.Words.{command, usage};
 ghost use Rattle.remap_tool.specs.Rendering.{diagnostic_lines};
 ghost use Rattle.remap_tool.specs.Answer.{HasOneAnswer, usage_line};
-ghost use Rattle.remap_tool.specs.Gathered.{input_limit};
 ghost use Rattle.remap_tool.specs.Request.{Asks, AsksByScript, IsAccepted, IsScriptAccepted, IsRunOf, IsScriptAnswer, bad_script, run as run_request};
 ghost use Rattle.remap_tool.specs.Results.{answer_of};
 ghost use Rattle.remap_tool.specs.Devices.{devices, IsAnswer, IsOfLines, IsUnread, IsRefusal, IsWhole, IsAtMostFront, Appends, AppendsFront, IsLoadFailed, IsWithinLimit};
@@ -101,15 +100,14 @@ pub fn remap<R: Threads + Sync, F: Store, S: Source, O: Sink, E: Sink, C: Clock>
         (devices (S.left input.new) (S.taken input.new) (C.ahead clock.new)
         (O.written output.new) (E.written report.new)) }
 
-    // Where nothing fails, the answer comes, or memory is wanted.
+    // Where nothing fails, the answer comes, unless the input is too long or memory is wanted.
     ensures usage { command words.now ≡ usage
         → (result ≡ Status.Usage) ⊎ (result ≡ Status.WriteFault) }
     ensures complete { F.failures files.new ≡ F.failures files.old
         → ¬ HasRisen (S.faults input.old) (S.faults input.new)
         → ¬ HasRisen (O.faults output.old) (O.faults output.new)
         → ¬ HasRisen (E.faults report.old) (E.faults report.new)
-        → IsSomeAnd (S.left input.old) (λ bytes. length bytes ≤ input_limit)
-        → IsAnswer result ⊎ (result ≡ Status.Memory) }
+        → IsAnswer result ⊎ (result ≡ Status.Memory) ⊎ (result ≡ Status.TooMuch) }
 {
     scripts_are_sound();
     scripts_have_one_reading();
