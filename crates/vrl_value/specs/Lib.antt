@@ -1,4 +1,5 @@
 pub mod Laws
+pub mod Look
 pub mod Moment
 pub mod Tag
 pub mod Tree
