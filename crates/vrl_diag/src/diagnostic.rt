@@ -1,0 +1,54 @@
+ghost use Rattle.std.specs.Prelude.{◌≡◌};
+
+use std::marker::Model;
+
+/// A part of a script: from `start` up to and without `end`, both in bytes of its UTF-8 from the start of the
+/// script.
+#[derive(Clone, Copy, Debug, PartialEq, Eq)]
+pub struct Span {
+    /// Where its first byte stands; the script's first byte stands at 0.
+    pub start: u32,
+    /// Where the byte behind its last one stands.
+    pub end: u32,
+}
+
+/// Something that is wrong with a script, and where.
+#[derive(Clone, Copy, Debug, PartialEq, Eq)]
+pub struct Diagnostic {
+    /// The number that the compiler of the Vector Remap Language has for it, as 103 for an assignment that can
+    /// fail; the language's error reference (vector.dev/docs/reference/vrl/errors) describes each. 1099, for a
+    pub code: u16,
+    /// The part of the script that it is about.
+    pub span: Span,
+}
+
+/// Diagnostics in order, as they are told. A contract sees their list.
+#[derive(Drop)]
+pub struct Diagnostics {
+    diagnostics: Vec<Diagnostic>,
+}
+
+impl Model for Diagnostics {
+    ghost use Rattle.std.specs.Prelude.{List};
+    ghost use Rattle.vrl_diag.specs.declared.diagnostic.Diagnostic.{Diagnostic};
+
+    ghost Value = { List Diagnostic };
+
+    ghost view = { λ d. d.diagnostics.items };
+}
+
+impl Diagnostics {
+    /// These diagnostics, which it keeps.
+    pub fn new(diagnostics: Vec<Diagnostic>) -> Diagnostics
+        ensures { result ≡ diagnostics.items }
+    {
+        Diagnostics { diagnostics }
+    }
+
+    /// The diagnostics, borrowed.
+    pub fn as_slice(&self) -> &[Diagnostic]
+        ensures { result.now ≡ self.now }
+    {
+        &self.diagnostics
+    }
+}

@@ -1,0 +1,51 @@
+ghost use Rattle.std.specs.Prelude.{◌≡◌};
+
+use std::marker::Model;
+use vrl_value::Chars;
+
+/// One step of a path, from an array or an object to a part of it.
+#[derive(Drop)]
+pub enum Step {
+    /// To the field of an object that has this name.
+    Field(Chars),
+    /// To a place of an array: from 0 on counted from its start, and from -1 down from its end.
+    Place(i64),
+}
+
+/// A path: steps in order, of which there may be none. A contract sees their list.
+#[derive(Drop)]
+pub struct Path {
+    steps: Vec<Step>,
+}
+
+impl Model for Path {
+    ghost use Rattle.std.specs.Prelude.{List};
+    ghost use Rattle.vrl_path.specs.declared.path.Step.{Step};
+
+    ghost Value = { List Step };
+
+    ghost view = { λ path. path.steps.items };
+}
+
+impl Path {
+    /// These steps, which it keeps.
+    pub fn new(steps: Vec<Step>) -> Path
+        ensures { result ≡ steps.items }
+    {
+        Path { steps }
+    }
+
+    /// The steps, borrowed.
+    pub fn as_slice(&self) -> &[Step]
+        ensures { result.now ≡ self.now }
+    {
+        &self.steps
+    }
+
+    /// The vector that holds the steps.
+    pub fn into_vec(self) -> Vec<Step>
+        ensures { result.items ≡ self }
+    {
+        self.steps
+    }
+}
