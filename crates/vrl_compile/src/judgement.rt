@@ -413,6 +413,3 @@ fn kind_of_either(alloc: Global, poisoned: bool, a: &Kind, b: &Kind) -> Result<K
         join(alloc, a, b)
     }
 }
-
-#[cfg(test)]
-mod tests;

@@ -13,12 +13,11 @@ mod scan;
 mod script;
 mod soundness;
 mod syntax;
-#[cfg(test)]
-mod tests;
 mod token;
 
 pub use diagnostic::{Diagnostic, Diagnostics, Span};
 pub use execution::run;
+pub use parsing::parse;
 pub use reading::{diagnostics_are_determined, scripts_have_one_reading};
 pub use script::{Compiled, Program, SCRIPT_LIMIT, compile};
 pub use soundness::{expressions_are_sound, scripts_are_sound, sums_are_tabled};

@@ -68,8 +68,13 @@ fn assignment(
     Ok(Some(Item::Assign(span, name.to_place(alloc)?, chain)))
 }
 
-/// The items of a script. `None` is a text that is of no form that is built.
-pub(crate) fn parse(alloc: Global, text: &str) -> Result<Option<Vec<Item>>, Memory>
+/// Reads the items of a script of at most 65,536 bytes, in order, each with where its parts stand. `None` is a
+/// text that is of no form that is built.
+///
+/// # Errors
+///
+/// [`Memory`] where memory is wanted.
+pub fn parse(alloc: Global, text: &str) -> Result<Option<Vec<Item>>, Memory>
     requires { length text.now ≤ SCRIPT_LIMIT }
     ensures { IfOk result (λ read. MatchOption read
         ((items : List SpecItem) → ¬ IsScript text.now items)
@@ -90,6 +95,3 @@ pub(crate) fn parse(alloc: Global, text: &str) -> Result<Option<Vec<Item>>, Memo
     }
     Ok(Some(items))
 }
-
-#[cfg(test)]
-mod tests;

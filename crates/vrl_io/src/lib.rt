@@ -20,8 +20,6 @@ mod std_sink;
 mod std_source;
 mod store;
 mod system_clock;
-#[cfg(test)]
-mod tests;
 
 pub use clock::Clock;
 pub use fault::{Failed, LoadFault};

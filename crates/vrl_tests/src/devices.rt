@@ -1,12 +1,16 @@
 ghost use Rattle.std.specs.Prelude.{◌≤◌, IfOk};
 
-use crate::*;
 use std::alloc::{AllocError, Global};
 use std::io::{self, ErrorKind, Read, Write};
+use std::process::Abort;
 use std::test::Fail;
 use std::time::Duration;
 use std::vec::IntoIter;
 use std::{env, fs, process, rt};
+use vrl_io::{
+    Clock, Failed, FileStore, LoadFault, MemoryClock, MemorySink, MemorySource, MemoryStore, Sink,
+    Source, StdSink, StdSource, Store, SystemClock,
+};
 use vrl_value::{Bytes, Chars, Moment};
 
 /// What one take into the buffer gave; `None`: it failed.
@@ -15,49 +19,49 @@ fn take_piece<'a, S: Source>(source: &mut S, buffer: &'a mut [u8]) -> Option<&'a
     Some(&buffer[..count])
 }
 
+/// Asserts what takes of up to four bytes give in turn, and that a take of none gives nothing before each.
+fn expect_pieces<S: Source>(rt: &impl Abort, source: &mut S, rows: &[Option<&[u8]>]) {
+    for row in rows {
+        assert!(rt; take_piece(source, &mut []) == Some(b"".as_slice()));
+        assert!(rt; take_piece(source, &mut [0; 4]) == *row, "at {row:?}");
+    }
+}
+
 #[test]
 fn memory_source_gives_its_pieces(rt: HostRuntime) -> Result<(), Fail> {
     let bytes = b"abcdefgh".to_vec(rt.alloc())?;
     let pieces = vec![in rt.alloc(); 2, 0, 100]?;
     let mut source = MemorySource::new(bytes, pieces, vec![in rt.alloc(); 1, 3]?);
-    let rows = [
-        Some("ab"),
-        None,
-        Some("c"),
-        None,
-        Some("defg"),
-        Some("h"),
-        Some(""),
-        Some(""),
-    ];
-    for row in rows {
-        assert_eq!(rt; take_piece(&mut source, &mut []), Some(b"".as_slice()));
-        assert_eq!(rt;
-            take_piece(&mut source, &mut [0; 4]),
-            row.map(|text| text.as_bytes())
-        );
-    }
+    expect_pieces(
+        &rt,
+        &mut source,
+        &[
+            Some(b"ab"),
+            None,
+            Some(b"c"),
+            None,
+            Some(b"defg"),
+            Some(b"h"),
+            Some(b""),
+            Some(b""),
+        ],
+    );
     Ok(())
 }
 
 #[test]
 fn memory_sink_keeps_what_is_given(rt: HostRuntime) -> Result<(), Fail> {
     let mut sink = MemorySink::new(rt.alloc(), vec![in rt.alloc(); 1]?);
-    assert_eq!(rt; sink.give(b"ab"), Ok(2));
-    assert_eq!(rt; sink.give(b""), Ok(0));
-    assert_eq!(rt; sink.give(b"cd"), Err(Failed));
-    assert_eq!(rt; sink.give(b"ef"), Ok(2));
-    assert_eq!(rt; sink.written(), b"abef".as_slice());
+    assert!(rt; sink.give(b"ab") == Ok(2));
+    assert!(rt; sink.give(b"") == Ok(0));
+    assert!(rt; sink.give(b"cd") == Err(Failed));
+    assert!(rt; sink.give(b"ef") == Ok(2));
+    assert!(rt; sink.written() == b"abef".as_slice());
     Ok(())
 }
 
-/// What a load of the name gives, up to three bytes.
-fn load_three<S: Store>(store: &mut S, name: &str) -> Result<Bytes, LoadFault> {
-    store.load(name, 3)
-}
-
 /// What a load of the name gives, up to this many bytes.
-fn load_most<S: Store>(store: &mut S, name: &str, limit: usize) -> Result<Bytes, LoadFault> {
+fn load_front<S: Store>(store: &mut S, name: &str, limit: usize) -> Result<Bytes, LoadFault> {
     store.load(name, limit)
 }
 
@@ -72,16 +76,24 @@ fn entry(alloc: Global, name: &str, bytes: &[u8]) -> Result<(Chars, Bytes), Allo
 #[test]
 fn memory_store_loads_by_name(rt: HostRuntime) -> Result<(), Fail> {
     let alloc = rt.alloc();
-    let held = vec![in alloc;
-        entry(alloc, "a", b"first")?,
-        entry(alloc, "a", b"second")?,
-        entry(alloc, "b", b"x")?,
-    ]?;
+    let mut held = Vec::new(alloc);
+    held.push(entry(alloc, "a", b"first")?)?;
+    held.push(entry(alloc, "a", b"second")?)?;
+    held.push(entry(alloc, "b", b"x")?)?;
     let mut store = MemoryStore::new(alloc, held, vec![in alloc; 2]?);
-    assert_eq!(rt; load_three(&mut store, "a")?.as_slice(), b"fir".as_slice());
-    assert_eq!(rt; load_three(&mut store, "c").err(), Some(LoadFault::Failed));
-    assert_eq!(rt; load_three(&mut store, "a").err(), Some(LoadFault::Failed));
-    assert_eq!(rt; load_three(&mut store, "b")?.as_slice(), b"x".as_slice());
+    assert_eq!(rt;
+        load_front(&mut store, "a", 3)?.as_slice(),
+        b"fir".as_slice()
+    );
+    assert_eq!(rt;
+        load_front(&mut store, "c", 3).err(),
+        Some(LoadFault::Failed)
+    );
+    assert_eq!(rt;
+        load_front(&mut store, "a", 3).err(),
+        Some(LoadFault::Failed)
+    );
+    assert_eq!(rt; load_front(&mut store, "b", 3)?.as_slice(), b"x".as_slice());
     assert_eq!(rt; store.failures().len(), 2);
     assert_eq!(rt; store.failures()[0].as_str(), "c");
     assert_eq!(rt; store.failures()[1].as_str(), "a");
@@ -159,22 +171,19 @@ fn make_scripted(alloc: Global) -> Result<Scripted, AllocError> {
 #[test]
 fn std_source_reads(rt: HostRuntime) -> Result<(), Fail> {
     let mut source = StdSource::new(make_scripted(rt.alloc())?);
-    let rows = [Some("xx"), None, Some("x"), Some(""), Some("")];
-    for row in rows {
-        assert_eq!(rt;
-            take_piece(&mut source, &mut [0; 4]),
-            row.map(|text| text.as_bytes())
-        );
-    }
+    expect_pieces(
+        &rt,
+        &mut source,
+        &[Some(b"xx"), None, Some(b"x"), Some(b""), Some(b"")],
+    );
     Ok(())
 }
 
 #[test]
 fn std_sink_writes(rt: HostRuntime) -> Result<(), Fail> {
     let mut sink = StdSink::new(make_scripted(rt.alloc())?);
-    let rows = [Ok(2), Err(Failed), Ok(1), Err(Failed)];
-    for row in rows {
-        assert_eq!(rt; sink.give(b"abc"), row);
+    for row in &[Ok(2), Err(Failed), Ok(1), Err(Failed)] {
+        assert!(rt; sink.give(b"abc") == *row, "at {row:?}");
     }
     Ok(())
 }
@@ -198,13 +207,9 @@ fn std_sink_tells_a_fault_of_a_flush(rt: HostRuntime) {
     assert_eq!(rt; StdSink::new(Unflushed).give(b"a"), Err(Failed));
 }
 
-/// Bytes that fill more than two pieces of a load.
-fn long_bytes(alloc: Global) -> Result<Vec<u8>, AllocError> {
-    let mut bytes = Vec::new(alloc);
-    for number in 0..10_000u32 {
-        bytes.push((number % 251) as u8)?;
-    }
-    Ok(bytes)
+/// The text as often as this.
+fn repeated(alloc: Global, text: &[u8], count: usize) -> Result<Vec<u8>, AllocError> {
+    text.repeat(alloc, count)
 }
 
 #[test]
@@ -214,11 +219,12 @@ fn file_store_loads_long_files(rt: HostRuntime) -> Result<(), Fail> {
     let number = process::id(rt.process());
     // A name is taken as it is, with its blanks.
     let path = format!(in alloc; "{}/vrl_io-long-{number} ", folder.display())?;
-    let bytes = long_bytes(alloc)?;
+    // They fill more than two pieces of a load, none of which is made of whole texts.
+    let bytes = repeated(alloc, b"0123456789abcdefghijklmnopqrstuvwxyz-", 270)?;
     fs::write(&rt, path.as_str(), bytes.as_slice())?;
     let mut store = FileStore::new(&rt, alloc);
-    let part = load_most(&mut store, path.as_str(), 9_000);
-    let all = load_most(&mut store, path.as_str(), 20_000);
+    let part = load_front(&mut store, path.as_str(), 9_000);
+    let all = load_front(&mut store, path.as_str(), 20_000);
     fs::remove_file(&rt, path.as_str())?;
     assert_eq!(rt; part?.as_slice(), &bytes[..bytes.len().min(9_000)]);
     assert_eq!(rt; all?.as_slice(), bytes.as_slice());
@@ -233,11 +239,11 @@ fn file_store_loads_files(rt: HostRuntime) -> Result<(), Fail> {
     let path = format!(in alloc; "{}/vrl_io-{number}", folder.display())?;
     fs::write(&rt, path.as_str(), b"abcde")?;
     let mut store = FileStore::new(&rt, alloc);
-    let loaded = load_three(&mut store, path.as_str());
+    let loaded = load_front(&mut store, path.as_str(), 3);
     fs::remove_file(&rt, path.as_str())?;
     assert_eq!(rt; loaded?.as_slice(), b"abc".as_slice());
     assert_eq!(rt;
-        load_three(&mut store, path.as_str()).err(),
+        load_front(&mut store, path.as_str(), 3).err(),
         Some(LoadFault::Failed)
     );
     assert_eq!(rt; store.failures().len(), 1);
@@ -261,12 +267,14 @@ impl rt::Clock for Fixed {
 
 #[test]
 fn system_clock_keeps_to_the_range(rt: HostRuntime) {
-    let rows = [
+    for (time, nanos) in &[
         (Some(Duration::from_millis(1500)), 1_500_000_000),
         (Some(Duration::MAX), 253_402_127_999_999_999_999),
         (None, 0),
-    ];
-    for (time, nanos) in rows {
-        assert_eq!(rt; next_nanos(&mut SystemClock::new(Fixed(time))), nanos);
+    ] {
+        assert!(rt;
+            next_nanos(&mut SystemClock::new(Fixed(*time))) == *nanos,
+            "at {nanos}"
+        );
     }
 }
