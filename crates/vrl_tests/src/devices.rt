@@ -11,7 +11,7 @@ use vrl_io::{
     Clock, Failed, FileStore, LoadFault, MemoryClock, MemorySink, MemorySource, MemoryStore, Sink,
     Source, StdSink, StdSource, Store, SystemClock,
 };
-use vrl_value::{Bytes, Chars, Moment};
+use vrl_value::{Bytes, Chars, Memory, Moment};
 
 /// What one take into the buffer gave; `None`: it failed.
 fn take_piece<'a, S: Source>(source: &mut S, buffer: &'a mut [u8]) -> Option<&'a [u8]> {
@@ -65,35 +65,44 @@ fn load_front<S: Store>(store: &mut S, name: &str, limit: usize) -> Result<Bytes
     store.load(name, limit)
 }
 
-/// An entry of a store.
-fn entry(alloc: Global, name: &str, bytes: &[u8]) -> Result<(Chars, Bytes), AllocError> {
-    Ok((
-        Chars::new(String::from_str(alloc, name)?),
+/// Puts an entry into what a store is to hold.
+fn hold(
+    alloc: Global,
+    held: &mut Vec<(Chars, Bytes)>,
+    name: &str,
+    bytes: &[u8],
+) -> Result<(), Memory> {
+    held.push((
+        Chars::copy_of(alloc, name)?,
         Bytes::new(bytes.to_vec(alloc)?),
-    ))
+    ))?;
+    Ok(())
+}
+
+/// A store with two entries of one name, whose third load fails.
+fn make_store(alloc: Global) -> Result<MemoryStore, Memory> {
+    let mut held = Vec::new(alloc);
+    hold(alloc, &mut held, "a", b"first")?;
+    hold(alloc, &mut held, "a", b"second")?;
+    hold(alloc, &mut held, "b", b"x")?;
+    Ok(MemoryStore::new(alloc, held, vec![in alloc; 2]?))
+}
+
+/// Whether a load of up to three bytes gives these; `None`: it fails.
+fn is_loaded<S: Store>(store: &mut S, name: &str, wanted: Option<&[u8]>) -> bool {
+    match load_front(store, name, 3) {
+        Ok(bytes) => Some(bytes.as_slice()) == wanted,
+        Err(fault) => fault == LoadFault::Failed && wanted.is_none(),
+    }
 }
 
 #[test]
 fn memory_store_loads_by_name(rt: HostRuntime) -> Result<(), Fail> {
-    let alloc = rt.alloc();
-    let mut held = Vec::new(alloc);
-    held.push(entry(alloc, "a", b"first")?)?;
-    held.push(entry(alloc, "a", b"second")?)?;
-    held.push(entry(alloc, "b", b"x")?)?;
-    let mut store = MemoryStore::new(alloc, held, vec![in alloc; 2]?);
-    assert_eq!(rt;
-        load_front(&mut store, "a", 3)?.as_slice(),
-        b"fir".as_slice()
-    );
-    assert_eq!(rt;
-        load_front(&mut store, "c", 3).err(),
-        Some(LoadFault::Failed)
-    );
-    assert_eq!(rt;
-        load_front(&mut store, "a", 3).err(),
-        Some(LoadFault::Failed)
-    );
-    assert_eq!(rt; load_front(&mut store, "b", 3)?.as_slice(), b"x".as_slice());
+    let mut store = make_store(rt.alloc())?;
+    assert!(rt; is_loaded(&mut store, "a", Some(b"fir")));
+    assert!(rt; is_loaded(&mut store, "c", None));
+    assert!(rt; is_loaded(&mut store, "a", None));
+    assert!(rt; is_loaded(&mut store, "b", Some(b"x")));
     assert_eq!(rt; store.failures().len(), 2);
     assert_eq!(rt; store.failures()[0].as_str(), "c");
     assert_eq!(rt; store.failures()[1].as_str(), "a");
@@ -207,9 +216,13 @@ fn std_sink_tells_a_fault_of_a_flush(rt: HostRuntime) {
     assert_eq!(rt; StdSink::new(Unflushed).give(b"a"), Err(Failed));
 }
 
-/// The text as often as this.
-fn repeated(alloc: Global, text: &[u8], count: usize) -> Result<Vec<u8>, AllocError> {
-    text.repeat(alloc, count)
+// More bytes than one piece of a file.
+fn long_bytes(alloc: Global) -> Result<Vec<u8>, AllocError> {
+    let mut bytes = Vec::new(alloc);
+    for number in 0..10_000u32 {
+        bytes.push((number % 251) as u8)?;
+    }
+    Ok(bytes)
 }
 
 #[test]
@@ -220,7 +233,7 @@ fn file_store_loads_long_files(rt: HostRuntime) -> Result<(), Fail> {
     // A name is taken as it is, with its blanks.
     let path = format!(in alloc; "{}/vrl_io-long-{number} ", folder.display())?;
     // They fill more than two pieces of a load, none of which is made of whole texts.
-    let bytes = repeated(alloc, b"0123456789abcdefghijklmnopqrstuvwxyz-", 270)?;
+    let bytes = long_bytes(alloc)?;
     fs::write(&rt, path.as_str(), bytes.as_slice())?;
     let mut store = FileStore::new(&rt, alloc);
     let part = load_front(&mut store, path.as_str(), 9_000);
