@@ -1,13 +1,12 @@
 -- The date of a day number is a date of the calendar, and its day number is that one.
-use Rattle.std.proofs.Common.{◌≡◌, ℕ, zero, suc, ◌+◌, ◌-◌, ◌<◌, ◌≤◌, ◌⊎◌, inl, inr, Bool, true, false, cond, refl, sym, ap, ◌∙◌, arith, ℤ, pos, neg_ℤ, ◌+ℤ◌, ◌-ℤ◌, ◌≤ℤ◌, int_le, unsigned_abs}
+use Rattle.std.proofs.Common.{◌≡◌, ℕ, zero, suc, ◌+◌, ◌<◌, ◌≤◌, inl, inr, Bool, true, false, cond, refl, sym, ap, ◌∙◌, arith, ℤ, pos, ◌+ℤ◌, ◌-ℤ◌, ◌≤ℤ◌, int_le}
 use Rattle.std.proofs.lemmas.Bool.{cases_lt, cases_order, true≢false}
 use Rattle.std.proofs.lemmas.Int.{ints}
-use Rattle.jiff_core.specs.Calendar.{day_count, days_from_civil, days_in_month, days_in_year, IsBetween, IsCivilDate}
+use Rattle.jiff_core.specs.Calendar.{day_count, days_from_civil, days_in_month, days_in_year, IsCivilDate}
 use Rattle.jiff_core.proofs.CalendarLemmas.{days_from_civil-day_count, day_count-next_year, day_count-next_month, day_count-day, day_count-last_of_year, day_count-end}
 use Rattle.jiff_core.proofs.MarchLemmas.{day_count-early}
 use Rattle.jiff_core.proofs.SignedLemmas.{signed_arith, one_part}
 use Rattle.vrl_value.specs.MomentText.{last_to, year_of, month_of, day_of}
-use borrow.Author.Differences.{up, down}
 
 pub last_to-le : (n : ℕ) (test : ℕ → Bool) → last_to n test ≤ n
 unfolding last_to

@@ -1,5 +1,5 @@
 -- The parts that jiff takes are those of its date and time.
-use Rattle.std.proofs.Common.{◌≡◌, ℕ, ◌+◌, ◌*◌, refl, sym, ap, ◌∙◌, arith, ℤ, pos, ◌+ℤ◌, ◌*ℤ◌}
+use Rattle.std.proofs.Common.{◌≡◌, ℕ, ◌+◌, ◌*◌, ◌∙◌, arith, pos, ◌+ℤ◌, ◌*ℤ◌}
 use Rattle.jiff.specs.Types.{Date, DateTime}
 use Rattle.jiff.specs.Words.{civil_nanos, days_in_month, IsDate, IsTime}
 use Rattle.jiff_core.specs.Calendar.{days_from_civil}

@@ -1,7 +1,7 @@
 -- Numbers in decimal digits.
-use Rattle.std.proofs.Common.{◌≡◌, ℕ, zero, suc, ◌+◌, ◌-◌, ◌*◌, ◌/◌, ◌%◌, ◌^◌, ◌<◌, ◌≤◌, List, [], ◌∷◌, ◌++◌, length, refl, sym, ap, ◌∙◌, arith, append_assoc}
+use Rattle.std.proofs.Common.{◌≡◌, ℕ, zero, suc, ◌+◌, ◌*◌, ◌/◌, ◌%◌, ◌^◌, ◌<◌, List, [], ◌∷◌, ◌++◌, refl, sym, ap, ◌∙◌, arith}
 use Rattle.std.proofs.lemmas.Nat.{div_below, pow-add}
-use Rattle.std.proofs.Math.Nat.{mod-lt, mod-one, mod-eq_of_lt, div-one, div-add-mod'}
+use Rattle.std.proofs.Math.Nat.{mod-lt, mod-eq_of_lt, div-one, div-add-mod'}
 use native.Mathlib.Nat.{div-div-eq-div-mul, add-mul-div_right, mul_assoc, mul_comm, mul_left_comm}
 use Rattle.jiff_fmt.proofs.ReaderLemmas.{tenth, ten_pow-pos}
 use Rattle.jiff_fmt.proofs.TextLemmas.{places-step, places-end, tenth_place}

@@ -1,12 +1,12 @@
 -- The text of a moment is read as the same moment.
-use Rattle.std.proofs.Common.{◌≡◌, ℕ, ◌+◌, ◌-◌, ◌*◌, ◌/◌, ◌%◌, ◌^◌, ◌<◌, ◌≤◌, Bool, true, false, cond, eqb, eqb-true, inl, refl, sym, ap, ◌∙◌, arith, ℤ, pos, ◌+ℤ◌, ◌-ℤ◌, ◌*ℤ◌, unsigned_abs}
+use Rattle.std.proofs.Common.{◌≡◌, ℕ, ◌+◌, ◌-◌, ◌*◌, ◌/◌, ◌%◌, ◌^◌, ◌<◌, Bool, true, false, cond, eqb, eqb-true, inl, refl, ap, ◌∙◌, arith, ℤ, pos, ◌+ℤ◌, ◌-ℤ◌, ◌*ℤ◌, unsigned_abs}
 use Rattle.std.specs.Int.{int_div_euclid, int_rem_euclid}
 use Rattle.jiff.specs.Words.{IsDate}
-use Rattle.jiff_core.specs.Calendar.{days_from_civil, IsCivilDate}
+use Rattle.jiff_core.specs.Calendar.{IsCivilDate}
 use Rattle.jiff_core.proofs.SignedLemmas.{signed_arith, one_part}
 use Rattle.vrl_value.specs.Moment.{IsInRange}
 use Rattle.vrl_value.specs.MomentText.{year_of, month_of, day_of, fewest_places, stamp_on, stamp_of, moment_text}
-use Rattle.vrl_value.specs.Rfc3339.{Stamp, subsecond, clock_nanos, stamp_nanos, IsStamp, IsReading}
+use Rattle.vrl_value.specs.Rfc3339.{clock_nanos, IsStamp, IsReading}
 use Rattle.vrl_value.proofs.Civil.{IsDay, civil_of_day}
 use Rattle.vrl_value.proofs.Shown.{fewest_places-le}
 

@@ -1,5 +1,5 @@
 -- Arrays that are equal part by part.
-use Rattle.std.proofs.Common.{◌≡◌, ℕ, suc, ◌≤◌, ◌↔◌, IsTrue, nat_eq, eqb-true, eq-eqb, List, [], ◌∷◌, length, drop, refl, ap, ◌∙◌, arith}
+use Rattle.std.proofs.Common.{◌≡◌, ℕ, suc, ◌≤◌, ◌↔◌, IsTrue, nat_eq, eqb-true, eq-eqb, List, [], ◌∷◌, length, drop, refl, ap, arith}
 use Rattle.std.proofs.lemmas.List.{drop_all}
 use Rattle.vrl_value.specs.View.{items_view}
 use Rattle.vrl_value.specs.declared.value.Value.{Value}

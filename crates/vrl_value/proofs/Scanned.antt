@@ -1,9 +1,9 @@
 -- Digits that are read one by one.
-use Rattle.std.proofs.Common.{◌≡◌, ℕ, zero, suc, ◌+◌, ◌-◌, ◌*◌, ◌^◌, ◌<◌, ◌≤◌, Bool, true, false, List, [], ◌∷◌, length, Option, None, Some, refl, sym, ap, ◌∙◌, arith}
+use Rattle.std.proofs.Common.{◌≡◌, ℕ, zero, suc, ◌+◌, ◌-◌, ◌*◌, ◌^◌, ◌<◌, ◌≤◌, true, false, List, ◌∷◌, length, None, Some, sym, ap, ◌∙◌, arith}
 use Rattle.std.proofs.lemmas.List.{nil_from_length}
 use Rattle.std.specs.Char.{is_ascii_digit}
 use native.Mathlib.Nat.{pow-suc, pow-le-pow_right, add-zero, add-suc}
-use Rattle.vrl_value.specs.Scan.{◌>>=◌, with_digit, number_at}
+use Rattle.vrl_value.specs.Scan.{with_digit, number_at}
 
 -- one digit more
 pub number_at-suc : (k n : ℕ) (text rest : List ℕ) → number_at k text ≡ Some (n, rest) → number_at (suc k) text ≡ with_digit n rest

@@ -1,5 +1,5 @@
 -- What is read is spelled so, and what is spelled so is read, part by part.
-use Rattle.std.proofs.Common.{◌≡◌, ℕ, zero, suc, ◌+◌, ◌-◌, ◌*◌, ◌/◌, ◌%◌, ◌^◌, ◌<◌, ◌≤◌, ◌⊎◌, inl, inr, Bool, true, false, not, ◌&&◌, ◌||◌, cond, eqb, ltb, List, [], ◌∷◌, ◌++◌, length, Option, None, Some, refl, sym, ap, subst, ◌∙◌, arith, append_assoc, eqb-true, eq-eqb, ℤ, pos, neg_ℤ}
+use Rattle.std.proofs.Common.{◌≡◌, ℕ, zero, suc, ◌+◌, ◌-◌, ◌*◌, ◌/◌, ◌%◌, ◌^◌, ◌<◌, ◌≤◌, ◌⊎◌, inl, inr, Bool, true, false, not, ◌&&◌, ◌||◌, cond, eqb, ltb, List, [], ◌∷◌, ◌++◌, length, Option, None, Some, refl, sym, ap, ◌∙◌, arith, append_assoc, eqb-true, eq-eqb, ℤ, pos, neg_ℤ}
 use Rattle.std.specs.Prelude.{position}
 use Rattle.std.specs.Char.{is_ascii_digit}
 use Rattle.std.specs.List.{prefix_len}
@@ -10,7 +10,7 @@ use Rattle.std.proofs.Math.Nat.{pow-suc}
 use Rattle.std.proofs.lemmas.Nat.{pow-add}
 use native.Mathlib.Nat.{mul-le-mul_right, suc-mul}
 use Rattle.jiff_fmt.proofs.ReaderLemmas.{ten_pow-pos}
-use Rattle.vrl_value.specs.Rfc3339.{digits, Zone, utc, ahead, behind as after, offset_text, fraction_text, zone_text, IsLetter, IsZone, zone_seconds}
+use Rattle.vrl_value.specs.Rfc3339.{digits, Zone, utc, ahead, behind as after, fraction_text, zone_text, IsLetter, IsZone, zone_seconds}
 use Rattle.vrl_value.specs.Scan.{◌>>=◌, with_digit, number_at, behind, behind_letter, nanos_at, fraction_at, offset_at, zone_at}
 
 -- the value of a step that went well
@@ -209,19 +209,15 @@ pub record IsOffset (seconds : ℕ) (text : List ℕ) : Type 0 where
   pub spelled : text ≡ digits 2 hours ++ 58 ∷ digits 2 minutes
   pub sum : hours * 3600 + minutes * 60 ≡ seconds
 
-offset_takes : (seconds : ℕ) (text : List ℕ) → offset_at text ≡ Some seconds → IsOffset seconds text
-unfolding offset_at
-offset_takes seconds text e =
-    let first = bind_some (number_at 2 text) (λ hours. behind 58 hours.1 >>= λ minutes. cond (ltb 23 hours.0 || ltb 59 minutes.0 || not (eqb (length minutes.1) 0)) None (Some (hours.0 * 3600 + minutes.0 * 60))) seconds e in
-    let h = first.0.0 in
-    let second = bind_some (behind 58 first.0.1) (λ minutes. cond (ltb 23 h || ltb 59 minutes.0 || not (eqb (length minutes.1) 0)) None (Some (h * 3600 + minutes.0 * 60))) seconds first.2 in
-    let m = second.0.0 in
-    let test = missed (ltb 23 h || ltb 59 m || not (eqb (length second.0.1) 0)) (Some (h * 3600 + m * 60)) seconds second.2 in
-    let parts = or_parts (ltb 23 h || ltb 59 m) (not (eqb (length second.0.1) 0)) test.0 in
+offset_parts : (seconds h m : ℕ) (text r₀ r₁ : List ℕ) → number_at 2 text ≡ Some (h, r₀) → behind 58 r₀ ≡ Some (m, r₁)
+    → cond {A = Option ℕ} (ltb 23 h || ltb 59 m || not (eqb (length r₁) 0)) None (Some (h * 3600 + m * 60)) ≡ Some seconds → IsOffset seconds text
+offset_parts seconds h m text r₀ r₁ e₀ e₁ e₂ =
+    let test = missed (ltb 23 h || ltb 59 m || not (eqb (length r₁) 0)) (Some (h * 3600 + m * 60)) seconds e₂ in
+    let parts = or_parts (ltb 23 h || ltb 59 m) (not (eqb (length r₁) 0)) test.0 in
     let limits = or_parts (ltb 23 h) (ltb 59 m) parts.0 in
-    let end : second.0.1 ≡ [] = nil_from_length second.0.1 (ended (length second.0.1) parts.1) in
-    let hours = number_takes 2 h text first.0.1 first.1 in
-    let minutes = behind_takes 58 m first.0.1 second.0.1 second.1 in
+    let end : r₁ ≡ [] = nil_from_length r₁ (ended (length r₁) parts.1) in
+    let hours = number_takes 2 h text r₀ e₀ in
+    let minutes = behind_takes 58 m r₀ r₁ e₁ in
     record {
       hours = h;
       minutes = m;
@@ -230,6 +226,13 @@ offset_takes seconds text e =
       spelled = hours.0 ∙ ap (λ (t : List ℕ). digits 2 h ++ t) (minutes.0 ∙ ap (λ (t : List ℕ). 58 ∷ t) (ap (λ (t : List ℕ). digits 2 m ++ t) end ∙ append-nil (digits 2 m)));
       sum = some_is (h * 3600 + m * 60) seconds test.1;
     }
+
+offset_takes : (seconds : ℕ) (text : List ℕ) → offset_at text ≡ Some seconds → IsOffset seconds text
+unfolding offset_at
+offset_takes seconds text e =
+    by_some (number_at 2 text) _ seconds e (λ h e₀ f₀.
+    by_some (behind 58 h.1) _ seconds f₀ (λ m e₁ f₁.
+    offset_parts seconds h.0 m.0 text h.1 m.1 e₀ e₁ f₁))
 
 offset_again : (hours minutes : ℕ) → hours ≤ 23 → minutes ≤ 59 → offset_at (digits 2 hours ++ 58 ∷ digits 2 minutes) ≡ Some (hours * 3600 + minutes * 60)
 unfolding offset_at

@@ -1,9 +1,8 @@
 -- A whole timestamp: what is read is spelled so, and what is spelled so is read.
-use Rattle.std.proofs.Common.{◌≡◌, ℕ, ◌+◌, ◌-◌, ◌*◌, ◌^◌, ◌<◌, ◌≤◌, List, [], ◌∷◌, ◌++◌, Option, None, Some, refl, sym, ap, subst, ◌∙◌, arith, ℤ, pos, ◌-ℤ◌, IfSome, IfNone}
+use Rattle.std.proofs.Common.{◌≡◌, ℕ, ◌^◌, ◌<◌, ◌≤◌, List, ◌∷◌, ◌++◌, Option, None, Some, sym, ap, subst, ◌∙◌, arith, ℤ, pos, IfSome, IfNone}
 use Rattle.jiff_core.proofs.CalendarLemmas.{days_in_month_bounds}
 use Rattle.jiff_core.proofs.SignedLemmas.{signed_arith}
-use Rattle.vrl_value.specs.Moment.{IsInRange}
-use Rattle.vrl_value.specs.Rfc3339.{digits, Stamp, fraction_text, zone_text, clock_text, stamp_text, subsecond, IsLetter, IsZone, IsStamp, IsReading, zone_seconds}
+use Rattle.vrl_value.specs.Rfc3339.{digits, Stamp, fraction_text, zone_text, stamp_text, subsecond, IsLetter, IsZone, IsStamp, IsReading, zone_seconds}
 use Rattle.vrl_value.specs.Scan.{written_at, number_at, behind, behind_letter, fraction_at, zone_at, IsNamed}
 use Rattle.vrl_value.specs.declared.reading.Written.{Written}
 use Rattle.vrl_value.proofs.Spelled.{by_some, some_is, number_takes, number_again, behind_takes, behind_again, letter_takes, letter_again, fraction_takes, fraction_before_zone, zone_takes, zone_again, zone_starts}

@@ -1,5 +1,5 @@
 -- How deep a value nests.
-use Rattle.std.specs.Prelude.{ℕ, zero, suc, max}
+use Rattle.std.specs.Prelude.{ℕ, suc, max}
 use Rattle.vrl_value.specs.Tree.{Tree, string, integer, boolean, null, timestamp, regex, array, object, Items, no_items, item, Members, no_members, member}
 
 -- 0 for a scalar; 1 and the greatest depth of the parts for an array and an object, and 1 where they are empty

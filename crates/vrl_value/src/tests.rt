@@ -1,3 +1,5 @@
+ghost use Rattle.std.specs.Prelude.{◌≡◌};
+
 use crate::{Bytes, Chars, Fields, Items, Memory, Moment, Names, Tag, Value};
 use std::alloc::Global;
 use std::cmp::Ordering;

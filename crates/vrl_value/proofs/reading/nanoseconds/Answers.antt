@@ -1,4 +1,4 @@
-use Rattle.std.proofs.Common.{◌*◌, ◌<◌, arith}
+use Rattle.std.proofs.Common.{arith}
 use Rattle.vrl_value.proofs.Spelled.{nanos_below}
 use Rattle.vrl_value.proofs.reading.nanoseconds.Goals as goal
 

@@ -1,5 +1,5 @@
-use Rattle.std.proofs.Common.{◌≡◌, ◌+◌, ◌-◌, ◌*◌, ◌<◌, suc, refl, ap, ◌∙◌, arith}
-use Rattle.vrl_value.specs.Scan.{Gives, number_at}
+use Rattle.std.proofs.Common.{◌≡◌, ◌+◌, ◌-◌, suc, refl, ◌∙◌, arith}
+use Rattle.vrl_value.specs.Scan.{number_at}
 use Rattle.vrl_value.proofs.Scanned.{number_at-suc, number_at-stops, with_digit-end, with_digit-other, with_digit-takes, below_power, more_digits}
 use Rattle.vrl_value.proofs.reading.number.Goals as goal
 
