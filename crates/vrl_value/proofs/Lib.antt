@@ -1,3 +1,12 @@
+pub mod Civil
+pub mod Clock
+pub mod Spelled
+pub mod Timestamps
+pub mod ReadBack
+pub mod Same
+pub mod Scanned
+pub mod Shown
+pub mod Digits
 pub mod Copies
 pub mod Find
 pub mod Put
