@@ -1,10 +1,10 @@
 use super::parse;
-use crate::diagnostic::Span;
 use crate::script::SCRIPT_LIMIT;
 use crate::syntax::{Form, Item, Operator, Place};
 use std::alloc::Global;
 use std::process::Abort;
 use std::test::Fail;
+use vrl_diag::Span;
 
 /// How many items a text has as a script.
 fn count_items(rt: &impl Abort, alloc: Global, text: &str) -> Result<Option<usize>, Fail> {
