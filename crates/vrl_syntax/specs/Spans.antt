@@ -1,5 +1,4 @@
 -- A tree without its places: what two texts have in common that differ in blanks, comments or the spelling of separators.
-use Rattle.std.specs.Prelude.{ℕ}
 use Rattle.vrl_diag.specs.declared.diagnostic.Span.{Span}
 use Rattle.vrl_syntax.specs.Tree.{Expr, expr, Form, literal, array, object, read, query, group, block, conditional, negation, binary, assign, merge, both, call, return_of, abort_with, Exprs, no_exprs, exprs, Pairs, no_pairs, pair, Arms, no_arms, arm, Else, no_else, else_block, Args, no_args, arg, Closure, no_closure, closure, Message, no_message, message, Script}
 use Rattle.vrl_syntax.specs.declared.root.Target.{Target}

@@ -8,7 +8,9 @@
 mod lists;
 mod root;
 mod tree;
+mod written;
 
 pub use lists::{Empties, Roots};
 pub use root::{Op, Root, Target};
 pub use tree::{Arg, Args, Arm, Arms, Call, Closure, Expr, Exprs, Form, Pairs, Script};
+pub use written::written_roots;

@@ -1,6 +1,9 @@
+ghost use Rattle.std.specs.Prelude.{◌≡◌, IfOk};
+
+use std::alloc::Global;
 use vrl_diag::Span;
 use vrl_path::Path;
-use vrl_value::Chars;
+use vrl_value::{Chars, Memory};
 
 /// Where a path begins.
 #[derive(Drop)]
@@ -9,6 +12,18 @@ pub enum Root {
     Event,
     /// The variable of this name.
     Name(Chars),
+}
+
+impl Root {
+    /// An equal root. [`Memory`]: want of memory.
+    pub fn copy(&self, alloc: Global) -> Result<Root, Memory>
+        ensures { IfOk result (λ copy. copy ≡ self.now) }
+    {
+        match self {
+            Root::Event => Ok(Root::Event),
+            Root::Name(name) => Ok(Root::Name(name.copy(alloc)?)),
+        }
+    }
 }
 
 /// Where an assignment writes.

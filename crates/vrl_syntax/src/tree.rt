@@ -109,7 +109,7 @@ pub struct Arm {
 #[cycle(syntax)]
 #[derive(Drop)]
 pub struct Exprs {
-    exprs: Vec<Expr>,
+    pub(crate) exprs: Vec<Expr>,
 }
 
 impl Exprs {
@@ -139,7 +139,7 @@ impl Exprs {
 #[cycle(syntax)]
 #[derive(Drop)]
 pub struct Pairs {
-    pairs: Vec<(Chars, Expr)>,
+    pub(crate) pairs: Vec<(Chars, Expr)>,
 }
 
 impl Pairs {
@@ -169,7 +169,7 @@ impl Pairs {
 #[cycle(syntax)]
 #[derive(Drop)]
 pub struct Arms {
-    arms: Vec<Arm>,
+    pub(crate) arms: Vec<Arm>,
 }
 
 impl Arms {
@@ -199,7 +199,7 @@ impl Arms {
 #[cycle(syntax)]
 #[derive(Drop)]
 pub struct Args {
-    args: Vec<Arg>,
+    pub(crate) args: Vec<Arg>,
 }
 
 impl Args {
