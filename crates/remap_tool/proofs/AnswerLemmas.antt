@@ -3,13 +3,13 @@ use Rattle.std.proofs.Common.{◌≡◌, ℕ, ◌≤◌, List, [], length, map, 
 use Rattle.std.specs.Str.{IsUtf8}
 use Rattle.vrl_compile.specs.Answer.{IsAnswer}
 use Rattle.vrl_compile.specs.declared.syntax.Item.{Item}
-use Rattle.vrl_compile.specs.declared.diagnostic.Diagnostic.{Diagnostic}
+use Rattle.vrl_diag.specs.declared.diagnostic.Diagnostic.{Diagnostic}
 use Rattle.vrl_compile.specs.declared.script.Compiled.{Compiled}
 use Rattle.vrl_compile.specs.declared.script.Compiled.TheVariants as compiled
 use Rattle.vrl_value.specs.declared.memory.Memory.{Memory as WantOfMemory}
 use Rattle.remap_tool.specs.Answer.{answer_to, run_of, line_result, LineResult}
 use Rattle.remap_tool.specs.Lines.{event_lines}
-use Rattle.remap_tool.specs.Rendering.{diagnostic_lines}
+use Rattle.vrl_diag.specs.Rendering.{diagnostic_lines}
 use Rattle.remap_tool.specs.Request.{Held, Asks, AsksByScript, IsRunOf, IsScriptAnswer, IsRefused, IsAccepted, IsLoaded, Request, has_error, bad_words, bad_script, run}
 use Rattle.remap_tool.specs.Results.{IsRun, answer_of}
 use Rattle.remap_tool.specs.Devices.{Devices, IsAsked, IsWhole, IsAnswer as IsAnswerStatus}

@@ -8,7 +8,7 @@ use Rattle.vrl_compile.specs.Answer.{AreDiagnostics, judged}
 use Rattle.vrl_compile.specs.Judgement.{judge_script, is_error}
 use Rattle.vrl_compile.specs.Meaning.{Ended}
 use Rattle.vrl_compile.specs.Reading.{AreOneScript, DiagnosticsAreDetermined, ScriptsHaveOneReading}
-use Rattle.vrl_compile.specs.declared.diagnostic.Diagnostic.{Diagnostic}
+use Rattle.vrl_diag.specs.declared.diagnostic.Diagnostic.{Diagnostic}
 use Rattle.vrl_compile.specs.declared.syntax.Item.{Item}
 use Rattle.remap_tool.specs.Answer.{HasOneAnswer, answer_to, line_limit, line_result, refused_line, result_of_end, result_of_event}
 use Rattle.remap_tool.specs.Lines.{event_lines}

@@ -6,7 +6,7 @@ use Rattle.vrl_value.specs.Tree.{Tree}
 use Rattle.vrl_compile.specs.Meaning.{run_script, Outcome, value, error}
 use Rattle.vrl_compile.specs.declared.syntax.Item.{Item}
 use Rattle.remap_tool.specs.Lines.{event_lines}
-use Rattle.remap_tool.specs.Rendering.{diagnostic_lines}
+use Rattle.vrl_diag.specs.Rendering.{diagnostic_lines}
 use Rattle.remap_tool.specs.Request.{Request, bad_words, bad_script, run}
 use Rattle.remap_tool.specs.declared.status.Status.{Status}
 use Rattle.remap_tool.specs.declared.status.Status.TheVariants.{Done, Refused, Usage, Marked}

@@ -2,8 +2,6 @@ pub mod Answer
 pub mod Devices
 pub mod Gathered
 pub mod Lines
-pub mod Position
-pub mod Rendering
 pub mod Request
 pub mod Results
 pub mod Status

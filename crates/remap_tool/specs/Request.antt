@@ -7,7 +7,7 @@ use Rattle.vrl_compile.specs.Judgement.{judge_script, is_error}
 use Rattle.vrl_compile.specs.Program.{items_of}
 use Rattle.vrl_compile.specs.Script.{IsScript}
 use Rattle.vrl_compile.specs.Soundness.{HasNoError}
-use Rattle.vrl_compile.specs.declared.diagnostic.Diagnostic.{Diagnostic}
+use Rattle.vrl_diag.specs.declared.diagnostic.Diagnostic.{Diagnostic}
 use Rattle.vrl_compile.specs.declared.syntax.Item.{Item}
 use Rattle.vrl_compile.specs.declared.script.Compiled.{Compiled}
 use Rattle.vrl_compile.specs.declared.script.Compiled.TheVariants.{Accepted, Refused}

@@ -4,8 +4,6 @@
 mod gather;
 mod give;
 mod lines;
-mod position;
-mod render;
 mod results;
 mod status;
 #[cfg(test)]

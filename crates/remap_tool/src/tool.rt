@@ -5,10 +5,10 @@ ghost use Rattle.vrl_value.specs.Tree.{Tree};
 ghost use Rattle.vrl_compile.specs.Judgement.{judge_script};
 ghost use Rattle.vrl_compile.specs.Program.{items_of};
 ghost use Rattle.vrl_compile.specs.Soundness.{HasNoError, IsSoundOver};
-ghost use Rattle.vrl_compile.specs.declared.diagnostic.Diagnostic.{Diagnostic as SpecDiagnostic};
+ghost use Rattle.vrl_diag.specs.declared.diagnostic.Diagnostic.{Diagnostic as SpecDiagnostic};
 ghost use Rattle.vrl_compile.specs.declared.syntax.Item.{Item};
 ghost use Rattle.remap_tool.specs.Words.{command, usage};
-ghost use Rattle.remap_tool.specs.Rendering.{diagnostic_lines};
+ghost use Rattle.vrl_diag.specs.Rendering.{diagnostic_lines};
 ghost use Rattle.remap_tool.specs.Answer.{HasOneAnswer, usage_line};
 ghost use Rattle.remap_tool.specs.Request.{Asks, AsksByScript, IsAccepted, IsScriptAccepted, IsRunOf, IsScriptAnswer, bad_script, run as run_request};
 ghost use Rattle.remap_tool.specs.Results.{answer_of};
@@ -16,7 +16,6 @@ ghost use Rattle.remap_tool.specs.Devices.{devices, IsAnswer, IsOfLines, IsUnrea
 
 use crate::gather::{GatherFault, gather};
 use crate::give::give_all;
-use crate::render::render;
 use crate::results::{Results, run_lines};
 use crate::status::Status;
 use crate::words::script_name;
@@ -26,6 +25,7 @@ use vrl_compile::{
     Compiled, Diagnostic, Diagnostics, Program, SCRIPT_LIMIT, Span, compile,
     diagnostics_are_determined, scripts_are_sound, scripts_have_one_reading,
 };
+use vrl_diag::render_all;
 use vrl_io::{Clock, LoadFault, Sink, Source, Store};
 use vrl_json::lines_are_objects;
 use vrl_value::Memory;
@@ -227,7 +227,7 @@ fn run_program<S: Source, O: Sink, E: Sink, C: Clock>(
         (devices (S.left input.new) (S.taken input.new) (C.ahead clock.new)
         (O.written output.new) (E.written report.new)) }
 {
-    let warnings = match render(alloc, script.text, script.warnings) {
+    let warnings = match render_all(alloc, script.warnings, script.text) {
         Ok(warnings) => warnings,
         Err(Memory) => return Status::Memory,
     };
@@ -296,7 +296,7 @@ fn refuse_script<E: Sink>(
     ensures cause { result ≡ Status.WriteFault
         → HasRisen (E.faults report.old) (E.faults report.new) }
 {
-    match render(alloc, text, diagnostics) {
+    match render_all(alloc, diagnostics, text) {
         Ok(lines) => match give_all(report, &lines) {
             Ok(()) => Status::Refused,
             Err(_) => Status::WriteFault,

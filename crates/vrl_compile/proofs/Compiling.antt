@@ -2,7 +2,7 @@
 use Rattle.std.proofs.Common.{◌≡◌, ℕ, true, false, List, sym, ◌∙◌, subst}
 use Rattle.std.specs.List.{list_any}
 use Rattle.std.proofs.lemmas.List.Sorted.{list_any-IsPermutation}
-use Rattle.vrl_compile.specs.declared.diagnostic.Diagnostic.{Diagnostic}
+use Rattle.vrl_diag.specs.declared.diagnostic.Diagnostic.{Diagnostic}
 use Rattle.vrl_compile.specs.declared.syntax.Item.{Item}
 use Rattle.vrl_compile.specs.Answer.{AreOrdered, AreDiagnostics, judged}
 use Rattle.vrl_compile.specs.Judgement.{judge_script, is_error}

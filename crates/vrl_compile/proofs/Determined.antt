@@ -8,8 +8,8 @@ use Rattle.std.proofs.lemmas.Cmp.{nat_cmp_total, on_total, then_total}
 use Rattle.vrl_compile.specs.Answer.{AreOrdered, diagnostic_cmp, judged, unbuilt}
 use Rattle.vrl_compile.specs.Judgement.{judge_script}
 use Rattle.vrl_compile.specs.Reading.{DiagnosticsAreDetermined}
-use Rattle.vrl_compile.specs.declared.diagnostic.Diagnostic.{Diagnostic}
-use Rattle.vrl_compile.specs.declared.diagnostic.Span.{Span}
+use Rattle.vrl_diag.specs.declared.diagnostic.Diagnostic.{Diagnostic}
+use Rattle.vrl_diag.specs.declared.diagnostic.Span.{Span}
 use Rattle.vrl_compile.proofs.Readings.{one_reading, same_span}
 use Rattle.vrl_compile.proofs.Sorting.{one_order}
 

@@ -7,7 +7,7 @@ use Rattle.vrl_compile.specs.Scan.{IsLongestRun}
 use Rattle.vrl_compile.specs.Script.{AreOthers, IsAssign, IsChain, IsExpression, IsItem}
 use Rattle.vrl_compile.specs.Syntax.{expr_of, span_of}
 use Rattle.vrl_compile.specs.Token.{BeginsWithTarget}
-use Rattle.vrl_compile.specs.declared.diagnostic.Span.{Span}
+use Rattle.vrl_diag.specs.declared.diagnostic.Span.{Span}
 use Rattle.vrl_compile.specs.declared.syntax.Chain.{Chain}
 use Rattle.vrl_compile.specs.declared.syntax.Item.{Item}
 use Rattle.vrl_compile.specs.declared.syntax.Item.TheVariants.{Assign, Expression}

@@ -3,7 +3,7 @@ use Rattle.std.proofs.Common.{◌≡◌, ℕ, ◌+◌, ◌<◌, ◌≤◌, Bool,
 use Rattle.std.proofs.lemmas.List.{drop_all, drop_more}
 use Rattle.std.proofs.lemmas.Result.{IfOk-weaker}
 use Rattle.vrl_value.specs.declared.memory.Memory.{Memory}
-use Rattle.vrl_compile.specs.declared.diagnostic.Span.{Span}
+use Rattle.vrl_diag.specs.declared.diagnostic.Span.{Span}
 use Rattle.vrl_compile.specs.declared.judgement.Judged.{Judged}
 use Rattle.vrl_compile.specs.declared.judgement.Part.{Part}
 use Rattle.vrl_compile.specs.declared.syntax.Chain.{Chain}

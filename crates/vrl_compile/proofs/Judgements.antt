@@ -6,8 +6,8 @@ use Rattle.vrl_value.specs.declared.value.Tag.{Tag}
 use Rattle.vrl_value.specs.declared.value.Tag.TheVariants as tag
 use Rattle.vrl_kind.specs.Tags.{Tags, any, union, without}
 use Rattle.vrl_kind.specs.View.{tags_of}
-use Rattle.vrl_compile.specs.declared.diagnostic.Diagnostic.{Diagnostic}
-use Rattle.vrl_compile.specs.declared.diagnostic.Span.{Span}
+use Rattle.vrl_diag.specs.declared.diagnostic.Diagnostic.{Diagnostic}
+use Rattle.vrl_diag.specs.declared.diagnostic.Span.{Span}
 use Rattle.vrl_compile.specs.declared.judgement.Judged.{Judged}
 use Rattle.vrl_compile.specs.declared.syntax.Operand.{Operand}
 use Rattle.vrl_compile.specs.Addition.{only_where}

@@ -10,7 +10,7 @@ use Rattle.vrl_compile.specs.Scan.{IsLongestRun}
 use Rattle.vrl_compile.specs.Script.{AreItems, AreOthers, HasItem, IsAssign, IsChain, IsExpression, IsItem, lines_of}
 use Rattle.vrl_compile.specs.Syntax.{Expr, expr_of, span_of}
 use Rattle.vrl_compile.specs.Token.{BeginsWithForm, BeginsWithTarget}
-use Rattle.vrl_compile.specs.declared.diagnostic.Span.{Span}
+use Rattle.vrl_diag.specs.declared.diagnostic.Span.{Span}
 use Rattle.vrl_compile.specs.declared.syntax.Chain.{Chain}
 use Rattle.vrl_compile.specs.declared.syntax.Form.{Form}
 use Rattle.vrl_compile.specs.declared.syntax.Item.{Item}

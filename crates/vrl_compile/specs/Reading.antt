@@ -6,8 +6,8 @@ use Rattle.vrl_compile.specs.Judgement.{judge_script}
 use Rattle.vrl_compile.specs.Meaning.{run_script}
 use Rattle.vrl_compile.specs.Script.{IsScript}
 use Rattle.vrl_compile.specs.Syntax.{Expr, expr_of}
-use Rattle.vrl_compile.specs.declared.diagnostic.Diagnostic.{Diagnostic}
-use Rattle.vrl_compile.specs.declared.diagnostic.Span.{Span}
+use Rattle.vrl_diag.specs.declared.diagnostic.Diagnostic.{Diagnostic}
+use Rattle.vrl_diag.specs.declared.diagnostic.Span.{Span}
 use Rattle.vrl_compile.specs.declared.syntax.Item.{Item}
 use Rattle.vrl_compile.specs.declared.syntax.Item.TheVariants.{Assign, Expression}
 use Rattle.vrl_compile.specs.declared.syntax.Place.{Place}

@@ -2,7 +2,7 @@
 -- its expression reference: assignments, coalesce and arithmetic expressions, literals, paths, variables and keywords.
 use Rattle.std.specs.Prelude.{◌≡◌, ◌≢◌, ℕ, ◌+◌, ◌⊎◌, ◌==◌, List, [], ◌∷◌, ◌++◌, length, codes, Contains}
 use Rattle.std.specs.List.{AllByRecursion, slice_split}
-use Rattle.vrl_compile.specs.declared.diagnostic.Span.{Span}
+use Rattle.vrl_diag.specs.declared.diagnostic.Span.{Span}
 use Rattle.vrl_compile.specs.declared.syntax.Place.{Place}
 use Rattle.vrl_compile.specs.declared.syntax.Place.TheVariants.{Field, Variable}
 use Rattle.vrl_compile.specs.declared.syntax.Form.{Form}

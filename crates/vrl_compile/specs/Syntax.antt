@@ -1,7 +1,7 @@
 -- The tree of an expression: `+` binds closer than `??`, and both group to the left. That is the precedence of the arithmetic and
 -- coalesce operators in the Vector Remap Language's expression reference.
 use Rattle.std.specs.Prelude.{List, [], ◌∷◌, fold}
-use Rattle.vrl_compile.specs.declared.diagnostic.Span.{Span}
+use Rattle.vrl_diag.specs.declared.diagnostic.Span.{Span}
 use Rattle.vrl_compile.specs.declared.syntax.Operand.{Operand}
 use Rattle.vrl_compile.specs.declared.syntax.Operator.{Operator}
 use Rattle.vrl_compile.specs.declared.syntax.Operator.TheVariants.{Plus, Coalesce}

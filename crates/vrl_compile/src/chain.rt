@@ -6,11 +6,11 @@ ghost use Rattle.vrl_compile.specs.declared.syntax.Chain.{Chain as SpecChain};
 ghost use Rattle.vrl_compile.specs.declared.syntax.Operand.{Operand as SpecOperand};
 ghost use Rattle.vrl_compile.specs.declared.syntax.Operator.{Operator as SpecOperator};
 
-use crate::diagnostic::Span;
 use crate::scan::{Class, is_run, split_run};
 use crate::syntax::{Chain, Operand, Operator};
 use crate::token::{Token, split_operator, split_token};
 use std::alloc::Global;
+use vrl_diag::Span;
 use vrl_value::Memory;
 
 /// Where the rest of a line stands whose end stands at `end`.

@@ -8,10 +8,10 @@ ghost use Rattle.vrl_compile.specs.Judgement.{Known, alive, gives, judge, judge_
 ghost use Rattle.vrl_compile.specs.Syntax.{Expr, expr_of, operand, span_of};
 
 use crate::addition::{kind_of_sum, kind_where, may_fail, may_succeed};
-use crate::diagnostic::{Diagnostic, Span};
 use crate::environment::Environment;
 use crate::syntax::{Chain, Form, Item, Operand, Operator, Place};
 use std::alloc::Global;
+use vrl_diag::{Diagnostic, Span};
 use vrl_kind::{Kind, has, join, without};
 use vrl_value::{Memory, Tag};
 

@@ -3,7 +3,6 @@
 
 mod addition;
 mod chain;
-mod diagnostic;
 mod environment;
 mod execution;
 mod judgement;
@@ -15,10 +14,10 @@ mod soundness;
 mod syntax;
 mod token;
 
-pub use diagnostic::{Diagnostic, Diagnostics, Span};
 pub use execution::run;
 pub use parsing::parse;
 pub use reading::{diagnostics_are_determined, scripts_have_one_reading};
 pub use script::{Compiled, Program, SCRIPT_LIMIT, compile};
 pub use soundness::{expressions_are_sound, scripts_are_sound, sums_are_tabled};
 pub use syntax::{Chain, Form, Item, Operand, Operator, Place};
+pub use vrl_diag::{Diagnostic, Diagnostics, Span};

@@ -7,12 +7,12 @@ ghost use Rattle.vrl_compile.specs.declared.syntax.Chain.{Chain as SpecChain};
 ghost use Rattle.vrl_compile.specs.declared.syntax.Item.{Item as SpecItem};
 
 use crate::chain::{end_of, expression, offset_of};
-use crate::diagnostic::Span;
 use crate::scan::{Class, is_run, split_at_mark, split_run};
 use crate::script::SCRIPT_LIMIT;
 use crate::syntax::Item;
 use crate::token::{Name, split_target};
 use std::alloc::Global;
+use vrl_diag::Span;
 use vrl_value::Memory;
 
 // The first line of a text, and what follows its newline, if it has one.

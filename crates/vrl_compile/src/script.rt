@@ -3,11 +3,11 @@ ghost use Rattle.std.specs.List.{list_any};
 ghost use Rattle.vrl_compile.specs.Answer.{IsAnswer, not_built};
 ghost use Rattle.vrl_compile.specs.Judgement.{is_error};
 
-use crate::diagnostic::{Diagnostic, Diagnostics, Span};
 use crate::judgement::diagnostics_of;
 use crate::parsing::parse;
 use crate::syntax::Item;
 use std::alloc::Global;
+use vrl_diag::{Diagnostic, Diagnostics, Span};
 use vrl_value::Memory;
 
 /// The most bytes of a script.

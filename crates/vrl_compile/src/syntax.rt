@@ -1,4 +1,4 @@
-use crate::diagnostic::Span;
+use vrl_diag::Span;
 use vrl_value::Chars;
 
 /// A place that a script reads or writes.

@@ -1,0 +1,4 @@
+pub mod Codes
+pub mod Position
+pub mod Rendering
+pub mod Table

@@ -1,5 +1,6 @@
 ghost use Rattle.std.specs.Prelude.{◌≡◌};
 
+use std::fmt;
 use std::marker::Model;
 
 /// A part of a script: from `start` up to and without `end`, both in bytes of its UTF-8 from the start of the
@@ -12,11 +13,35 @@ pub struct Span {
     pub end: u32,
 }
 
+/// Whether a diagnostic refuses the script.
+#[derive(Clone, Copy, Debug, PartialEq, Eq)]
+pub enum Severity {
+    /// It doesn't.
+    Warning,
+    /// It does.
+    Error,
+}
+
+impl fmt::Display for Severity {
+    ghost use Rattle.std.specs.Prelude.{Some};
+    ghost use Rattle.vrl_diag.specs.Rendering.{severity_word};
+
+    ghost output = { λ severity. Some (severity_word severity) };
+
+    fn fmt<W: fmt::Write>(&self, f: &mut fmt::Formatter<W>) -> fmt::Result {
+        match self {
+            Severity::Warning => write!(f, "warning"),
+            Severity::Error => write!(f, "error"),
+        }
+    }
+}
+
 /// Something that is wrong with a script, and where.
 #[derive(Clone, Copy, Debug, PartialEq, Eq)]
 pub struct Diagnostic {
-    /// The number that the compiler of the Vector Remap Language has for it, as 103 for an assignment that can
-    /// fail; the language's error reference (vector.dev/docs/reference/vrl/errors) describes each. 1099, for a
+    /// Which rule is broken, as 103 for an assignment that can fail. A number below 1000 is that of the error
+    /// reference of the Vector Remap Language (vector.dev/docs/reference/vrl/errors), and the others are this
+    /// compiler's own; [`title`](crate::title) has the text of each.
     pub code: u16,
     /// The part of the script that it is about.
     pub span: Span,

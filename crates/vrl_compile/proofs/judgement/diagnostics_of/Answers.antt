@@ -1,6 +1,6 @@
 use Rattle.std.proofs.Common.{◌≡◌, ℕ, rules}
 use Rattle.std.proofs.lemmas.List.Sorted.{answers_always}
-use Rattle.vrl_compile.specs.declared.diagnostic.Diagnostic.{Diagnostic}
+use Rattle.vrl_diag.specs.declared.diagnostic.Diagnostic.{Diagnostic}
 use Rattle.vrl_compile.specs.Judgement.{judge_script}
 use Rattle.vrl_compile.proofs.JudgedItems.{all_judged, sorted_by_key}
 use Rattle.vrl_compile.proofs.judgement.diagnostics_of.Goals as goal

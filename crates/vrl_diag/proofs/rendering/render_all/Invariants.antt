@@ -1,7 +1,7 @@
 use Rattle.std.proofs.Common.{◌≡◌, take}
-use Rattle.remap_tool.specs.Position.{IsIn}
-use Rattle.remap_tool.specs.Rendering.{diagnostic_lines}
-use Rattle.remap_tool.proofs.render.render.Given as goal
+use Rattle.vrl_diag.specs.Position.{IsIn}
+use Rattle.vrl_diag.specs.Rendering.{diagnostic_lines}
+use Rattle.vrl_diag.proofs.rendering.render_all.Given as goal
 
 -- the lines of the diagnostics so far, and a position of the text
 abbrev pub invariant-loop-diagnostic : goal.invariant-loop-diagnostic

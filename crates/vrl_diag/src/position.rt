@@ -1,5 +1,5 @@
 ghost use Rattle.std.specs.Prelude.{◌≡◌, ◌+◌, ◌<◌, ◌≤◌, ◌^◌, ℕ, List, [], ◌∷◌, ◌++◌, length, take};
-ghost use Rattle.remap_tool.specs.Position.{IsEnd, IsIn};
+ghost use Rattle.vrl_diag.specs.Position.{IsEnd, IsIn};
 
 use std::cmp::min;
 

@@ -1,7 +1,7 @@
 -- Words for counting lines and characters up to a place.
 use Rattle.std.specs.Prelude.{◌≡◌, ℕ, ◌≤◌, List, length, take}
-use Rattle.remap_tool.specs.Rendering.{line_number, column_number}
-use Rattle.remap_tool.specs.declared.position.Position.{Position}
+use Rattle.vrl_diag.specs.Rendering.{line_number, column_number}
+use Rattle.vrl_diag.specs.declared.position.Position.{Position}
 
 -- the position is the end of this text
 pub record IsEnd (text : List ℕ) (position : Position) : Type 0 where

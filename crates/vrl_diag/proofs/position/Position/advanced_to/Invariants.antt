@@ -1,6 +1,6 @@
 use Rattle.std.proofs.Common.{◌-◌, ◌≤◌, take}
-use Rattle.remap_tool.specs.Position.{IsEnd}
-use Rattle.remap_tool.proofs.position.Position.advanced_to.Given as goal
+use Rattle.vrl_diag.specs.Position.{IsEnd}
+use Rattle.vrl_diag.proofs.position.Position.advanced_to.Given as goal
 
 -- the position stands in the text, and not behind the place that is wanted
 abbrev pub invariant-loop-position : goal.invariant-loop-position

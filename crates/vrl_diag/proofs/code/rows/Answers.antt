@@ -1,0 +1,7 @@
+use Rattle.std.proofs.Common.{refl}
+use Rattle.vrl_diag.specs.Codes.{rows}
+use Rattle.vrl_diag.proofs.code.rows.Goals as goal
+
+pub returns : goal.returns
+unfolding rows
+returns c = refl

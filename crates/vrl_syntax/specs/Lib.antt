@@ -1,0 +1,4 @@
+pub mod Spans
+pub mod Tree
+pub mod View
+pub mod Written

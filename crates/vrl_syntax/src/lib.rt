@@ -1,0 +1,16 @@
+//! The tree of a script: expressions with the places where they stand, and the roots that a part of a script
+//! writes.
+//!
+//! A contract sees an [`Expr`] as plain data, by the one function `expr_of`, and what it says without the
+//! places by `without_spans`.
+#![tactic(auto)]
+
+mod lists;
+mod root;
+mod tree;
+mod written;
+
+pub use lists::{Empties, Roots};
+pub use root::{Op, Root, Target};
+pub use tree::{Arg, Args, Arm, Arms, Call, Closure, Expr, Exprs, Form, Pairs, Script};
+pub use written::written_roots;

@@ -1,0 +1,67 @@
+ghost use Rattle.std.specs.Prelude.{◌≡◌, IfOk};
+
+use std::alloc::Global;
+use vrl_diag::Span;
+use vrl_path::Path;
+use vrl_value::{Chars, Memory};
+
+/// Where a path begins.
+#[derive(Drop)]
+pub enum Root {
+    /// The event, written `.`.
+    Event,
+    /// The variable of this name.
+    Name(Chars),
+}
+
+impl Root {
+    /// An equal root. [`Memory`]: want of memory.
+    pub fn copy(&self, alloc: Global) -> Result<Root, Memory>
+        ensures { IfOk result (λ copy. copy ≡ self.now) }
+    {
+        match self {
+            Root::Event => Ok(Root::Event),
+            Root::Name(name) => Ok(Root::Name(name.copy(alloc)?)),
+        }
+    }
+}
+
+/// Where an assignment writes.
+#[derive(Drop)]
+pub enum Target {
+    /// Nowhere, written `_`.
+    Nowhere,
+    /// At this path from this root. The span is that of the path.
+    Place(Span, Root, Path),
+}
+
+/// An operator with a left and a right side.
+#[derive(Clone, Copy, Debug, PartialEq, Eq)]
+pub enum Op {
+    /// `??`: the right side where the left one fails.
+    Coalesce,
+    /// `||`.
+    Or,
+    /// `&&`.
+    And,
+    /// `==`.
+    Equal,
+    /// `!=`.
+    Unequal,
+    /// `<`.
+    Less,
+    /// `<=`.
+    AtMost,
+    /// `>`.
+    More,
+    /// `>=`.
+    AtLeast,
+    /// `|`: the fields of both objects.
+    Merge,
+    /// `+`.
+    Plus,
+    /// `-`.
+    Minus,
+    /// `*`.
+    Times,
+}
