@@ -1,3 +1,6 @@
+pub mod Civil
+pub mod Shown
+pub mod Digits
 pub mod Copies
 pub mod Find
 pub mod Put
