@@ -1,4 +1,10 @@
 pub mod Civil
+pub mod Clock
+pub mod Spelled
+pub mod Timestamps
+pub mod ReadBack
+pub mod Same
+pub mod Scanned
 pub mod Shown
 pub mod Digits
 pub mod Copies

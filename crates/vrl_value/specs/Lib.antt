@@ -1,8 +1,11 @@
+pub mod Depth
 pub mod Laws
 pub mod Look
 pub mod Moment
 pub mod MomentText
+pub mod Order
 pub mod Rfc3339
+pub mod Scan
 pub mod Tag
 pub mod Tree
 pub mod View
