@@ -2,31 +2,33 @@
 use Rattle.std.proofs.Common.{◌≡◌, ℕ, List, [], ◌∷◌, map, Option, Some, None, IsSome, false, if◌then◌else◌, nat_lt, length, refl, sym, ap, ◌∙◌, subst, ◌⊎◌, inl, inr}
 use Rattle.std.specs.List.{list_any}
 use Rattle.std.proofs.lemmas.List.Sorted.{list_any-IsPermutation}
-use Rattle.vrl_value.specs.Tree.{Tree}
-use Rattle.vrl_json.specs.Line.{line_tree}
+use Rattle.vrl_value.specs.Tree.{is_object}
+use Rattle.vrl_json.specs.Line.{Reading, not_json, not_whole, whole, reading_of}
 use Rattle.vrl_compile.specs.Answer.{AreDiagnostics, judged}
 use Rattle.vrl_compile.specs.Judgement.{judge_script, is_error}
 use Rattle.vrl_compile.specs.Meaning.{Ended}
 use Rattle.vrl_compile.specs.Reading.{AreOneScript, DiagnosticsAreDetermined, ScriptsHaveOneReading}
 use Rattle.vrl_diag.specs.declared.diagnostic.Diagnostic.{Diagnostic}
 use Rattle.vrl_compile.specs.declared.syntax.Item.{Item}
-use Rattle.remap_tool.specs.Answer.{HasOneAnswer, answer_to, line_limit, line_result, refused_line, result_of_end, result_of_event}
+use Rattle.remap_tool.specs.Answer.{HasOneAnswer, answer_to, line_limit, line_result, refused_line, result_of_end, result_of_reading}
 use Rattle.remap_tool.specs.Lines.{event_lines}
 use Rattle.remap_tool.specs.Request.{Asks, AsksByScript, Held, IsAccepted, IsLoaded, IsRefused, bad_script, bad_words, has_error, no_text, run}
 use Rattle.remap_tool.specs.Devices.{IsRefusal}
 use Rattle.remap_tool.specs.Words.{Command, script, usage}
+use Rattle.remap_tool.specs.declared.results.Reason.TheVariants.{TooLong, NotDeclared}
 use Rattle.remap_tool.specs.declared.status.Status.{Status}
 
 -- ---- one script has the same results
 
-same_result_of_event : {a b : List Item} → AreOneScript a b → (number : ℕ) (event : Option Tree) → result_of_event a number event ≡ result_of_event b number event
-same_result_of_event same number None = refl
-same_result_of_event same number (Some event) = ap (λ (ended : Ended). result_of_end ended.outcome ended.store.event) (same.run event)
+same_result_of_reading : {a b : List Item} → AreOneScript a b → (number : ℕ) (reading : Reading) → result_of_reading a number reading ≡ result_of_reading b number reading
+same_result_of_reading same number not_json = refl
+same_result_of_reading same number not_whole = refl
+same_result_of_reading same number (whole event) = ap (λ (ended : Ended). if is_object event then result_of_end ended.outcome ended.store.event else refused_line NotDeclared number) (same.run event)
 
 same_results : {a b : List Item} → AreOneScript a b → (lines : List (ℕ × List ℕ)) → map (line_result a) lines ≡ map (line_result b) lines
 same_results same [] = refl
 same_results {a} {b} same (line ∷ lines) =
-    let first : line_result a line ≡ line_result b line = ap (λ r. if nat_lt line_limit (length line.1) then refused_line line.0 else r) (same_result_of_event same line.0 (line_tree line.1)) in
+    let first : line_result a line ≡ line_result b line = ap (λ r. if nat_lt line_limit (length line.1) then refused_line TooLong line.0 else r) (same_result_of_reading same line.0 (reading_of line.1)) in
     let others = same_results same lines in
     cc (first, others)
 

@@ -1,13 +1,15 @@
 -- What answers a request: the status, and the bytes that belong to it.
-use Rattle.std.specs.Prelude.{◌≡◌, ℕ, List, [], ◌∷◌, ◌++◌, length, map, nat_lt, Bool, true, false, if◌then◌else◌, Option, Some, None, codes, decimal}
+use Rattle.std.specs.Prelude.{◌≡◌, ℕ, List, [], ◌∷◌, ◌++◌, length, map, nat_lt, Bool, true, false, if◌then◌else◌, codes, decimal}
 use Rattle.std.specs.List.{flat_map, list_any}
-use Rattle.vrl_json.specs.Line.{line_tree, line_text}
-use Rattle.vrl_value.specs.Tree.{Tree}
+use Rattle.vrl_json.specs.Line.{Reading, not_json, not_whole, whole, reading_of, line_text}
+use Rattle.vrl_value.specs.Tree.{Tree, is_object}
 use Rattle.vrl_compile.specs.Meaning.{run_script, Outcome, value, error}
 use Rattle.vrl_compile.specs.declared.syntax.Item.{Item}
 use Rattle.remap_tool.specs.Lines.{event_lines}
 use Rattle.vrl_diag.specs.Rendering.{diagnostic_lines}
 use Rattle.remap_tool.specs.Request.{Request, bad_words, bad_script, run}
+use Rattle.remap_tool.specs.declared.results.Reason.{Reason}
+use Rattle.remap_tool.specs.declared.results.Reason.TheVariants.{TooLong, NotJson, NotWhole, NotDeclared}
 use Rattle.remap_tool.specs.declared.status.Status.{Status}
 use Rattle.remap_tool.specs.declared.status.Status.TheVariants.{Done, Refused, Usage, Marked}
 
@@ -22,27 +24,40 @@ pub record LineResult : Type 0 where
 abbrev pub line_limit : ℕ
 line_limit = 1048576
 
-abbrev pub refused_line : ℕ → LineResult
-refused_line number = record { output = []; report = codes "line " ++ (decimal number ++ (codes ": refused: not built yet" ++ 10 ∷ [])); is_refused = true }
+-- why a line is refused
+abbrev pub reason_text : Reason → List ℕ
+reason_text TooLong = codes "longer than 1048576 bytes"
+reason_text NotJson = codes "not JSON"
+reason_text NotWhole = codes "not whole numbers"
+reason_text NotDeclared = codes "not of the declared kind"
 
-abbrev pub written_event : Option (List ℕ) → LineResult
-written_event None = record { output = []; report = []; is_refused = false }
-written_event (Some line) = record { output = line ++ 10 ∷ []; report = []; is_refused = false }
+abbrev pub refused_line : Reason → ℕ → LineResult
+refused_line reason number = record {
+  output = [];
+  report = codes "line " ++ (decimal number ++ (codes ": refused: " ++ (reason_text reason ++ 10 ∷ [])));
+  is_refused = true;
+}
 
 -- What is written once a script ended over an event: the line of the event that it left. An end with an error would be one
--- that the script did not handle, and an event without a line one with a timestamp or a regex; no accepted script leaves
--- either, and nothing would be written.
+-- that the script did not handle; no accepted script has one, and nothing would be written. There are no regex literals yet, and
+-- so no sources of any.
 abbrev pub result_of_end : Outcome → Tree → LineResult
-result_of_end (value v) event = written_event (line_text event)
-result_of_end (error text) event = written_event None
+result_of_end (value v) event = record { output = line_text [] event ++ 10 ∷ []; report = []; is_refused = false }
+result_of_end (error text) event = record { output = []; report = []; is_refused = false }
 
-abbrev pub result_of_event : List Item → ℕ → Option Tree → LineResult
-result_of_event items number None = refused_line number
-result_of_event items number (Some event) = let ended = run_script items event in result_of_end ended.outcome ended.store.event
+-- the result of a line that stands for this tree; the declared kind is an object of any fields
+abbrev pub result_of_tree : List Item → ℕ → Tree → LineResult
+result_of_tree items number event = if is_object event then (let ended = run_script items event in result_of_end ended.outcome ended.store.event) else refused_line NotDeclared number
 
--- the result of a line, given with its number
+-- the result of a line that is short enough
+abbrev pub result_of_reading : List Item → ℕ → Reading → LineResult
+result_of_reading items number not_json = refused_line NotJson number
+result_of_reading items number not_whole = refused_line NotWhole number
+result_of_reading items number (whole event) = result_of_tree items number event
+
+-- the result of a line, given with its number; of the reasons to refuse it the first that holds is reported
 abbrev pub line_result : List Item → ℕ × List ℕ → LineResult
-line_result items line = if nat_lt line_limit (length line.1) then refused_line line.0 else result_of_event items line.0 (line_tree line.1)
+line_result items line = if nat_lt line_limit (length line.1) then refused_line TooLong line.0 else result_of_reading items line.0 (reading_of line.1)
 
 -- ---- the answer of a call
 

@@ -1,23 +1,54 @@
-ghost use Rattle.std.specs.Prelude.{IfOk, OnOk, length, map};
+ghost use Rattle.std.specs.Prelude.{◌≡◌, IfOk, IsTrue, OnOk, length, map};
+ghost use Rattle.vrl_value.specs.Tree.{is_json, is_object};
 ghost use Rattle.vrl_value.specs.View.{tree_of};
 ghost use Rattle.vrl_compile.specs.Judgement.{judge_script};
 ghost use Rattle.vrl_compile.specs.Meaning.{run_script};
 ghost use Rattle.vrl_compile.specs.Program.{items_of};
 ghost use Rattle.vrl_compile.specs.Soundness.{HasNoError, IsDeclared};
 ghost use Rattle.remap_tool.specs.Lines.{event_lines};
-ghost use Rattle.remap_tool.specs.Answer.{line_result, refused_line, result_of_end};
+ghost use Rattle.remap_tool.specs.Answer.{line_result, refused_line, result_of_end, result_of_tree};
 ghost use Rattle.remap_tool.specs.Devices.{MovesOn};
 ghost use Rattle.remap_tool.specs.Results.{IsRun, AddsResult};
 
 use crate::lines::{is_blank, split_line};
 use std::alloc::Global;
+use std::fmt;
 use vrl_compile::{Program, run, scripts_are_sound};
 use vrl_io::Clock;
-use vrl_json::{JsonFault, from_line, lines_are_objects, to_line};
+use vrl_json::{JsonFault, from_line, json_needs_no_sources, lines_are_json, to_line};
 use vrl_value::{Memory, Value};
 
 /// The most bytes of a line, its newline not counted.
 const LINE_LIMIT: usize = 1_048_576;
+
+/// Why a line is refused. Of several the first counts.
+#[derive(Clone, Copy, Drop)]
+pub enum Reason {
+    /// It has more bytes than a line may have.
+    TooLong,
+    /// It is no JSON text.
+    NotJson,
+    /// A number of its value is not a whole number of 64 bits with a sign.
+    NotWhole,
+    /// Its value is not of the declared kind, which is an object.
+    NotDeclared,
+}
+
+impl fmt::Display for Reason {
+    ghost use Rattle.std.specs.Prelude.{Some};
+    ghost use Rattle.remap_tool.specs.Answer.{reason_text};
+
+    ghost output = { λ reason. Some (reason_text reason) };
+
+    fn fmt<W: fmt::Write>(&self, f: &mut fmt::Formatter<W>) -> fmt::Result {
+        match self {
+            Reason::TooLong => write!(f, "longer than 1048576 bytes"),
+            Reason::NotJson => write!(f, "not JSON"),
+            Reason::NotWhole => write!(f, "not whole numbers"),
+            Reason::NotDeclared => write!(f, "not of the declared kind"),
+        }
+    }
+}
 
 /// What a run writes.
 #[derive(Drop)]
@@ -77,14 +108,41 @@ fn add_line(
         (line_result (items_of program.now) (number, line.now))) }
 {
     if line.len() > LINE_LIMIT {
-        return add_refused(alloc, number, results);
+        return add_refused(alloc, number, Reason::TooLong, results);
     }
-    lines_are_objects();
+    lines_are_json();
     match from_line(alloc, line) {
-        Ok(event) => add_event(alloc, program, event, results),
-        Err(JsonFault::NotBuilt) => add_refused(alloc, number, results),
+        Ok(value) => add_value(alloc, program, number, value, results),
+        Err(JsonFault::NotJson) => add_refused(alloc, number, Reason::NotJson, results),
+        Err(JsonFault::NotWhole) => add_refused(alloc, number, Reason::NotWhole, results),
         Err(JsonFault::Memory) => Err(Memory),
     }
+}
+
+// Adds the result of a line that stands for this value.
+fn add_value(
+    alloc: Global,
+    program: &Program,
+    number: usize,
+    value: Value,
+    results: &mut Results,
+) -> Result<(), Memory>
+    requires no_error { HasNoError (judge_script (items_of program.now)).codes }
+    requires json { IsTrue (is_json (tree_of value)) }
+    ensures { OnOk result (AddsResult results.old results.new
+        (result_of_tree (items_of program.now) number (tree_of value))) }
+{
+    if is_object(&value) {
+        add_event(alloc, program, value, results)
+    } else {
+        add_refused(alloc, number, Reason::NotDeclared, results)
+    }
+}
+
+fn is_object(value: &Value) -> bool
+    ensures { result ≡ is_object (tree_of value.now) }
+{
+    matches!(value, Value::Object(_))
 }
 
 // Adds the result of a line that is an event of the declared kind.
@@ -101,6 +159,7 @@ fn add_event(
 {
     // An accepted script handles each of its errors.
     scripts_are_sound();
+    json_needs_no_sources();
     let event = run(alloc, program, event)?;
     let line = to_line(alloc, &event, &[])?;
     results.output.extend_from_slice(line.as_slice())?;
@@ -109,10 +168,15 @@ fn add_event(
 }
 
 // Adds the result of a line that is refused.
-fn add_refused(alloc: Global, number: usize, results: &mut Results) -> Result<(), Memory>
-    ensures { OnOk result (AddsResult results.old results.new (refused_line number)) }
+fn add_refused(
+    alloc: Global,
+    number: usize,
+    reason: Reason,
+    results: &mut Results,
+) -> Result<(), Memory>
+    ensures { OnOk result (AddsResult results.old results.new (refused_line reason number)) }
 {
-    let line = format!(in alloc; "line {number}: refused: not built yet\n")?;
+    let line = format!(in alloc; "line {number}: refused: {reason}\n")?;
     results.report.extend_from_slice(line.as_bytes())?;
     results.marked = true;
     Ok(())

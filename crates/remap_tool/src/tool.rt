@@ -1,7 +1,7 @@
 ghost use Rattle.std.specs.Prelude.{◌≡◌, ◌⊎◌, ◌+◌, ◌≤◌, Some, IfOk, IsSome, IsTrue, List, ℕ, length};
 ghost use Rattle.vrl_io.specs.Faults.{HasRisen};
-ghost use Rattle.vrl_json.specs.Line.{line_tree};
-ghost use Rattle.vrl_value.specs.Tree.{Tree};
+ghost use Rattle.vrl_json.specs.Line.{reading_of, whole};
+ghost use Rattle.vrl_value.specs.Tree.{Tree, is_object};
 ghost use Rattle.vrl_compile.specs.Judgement.{judge_script};
 ghost use Rattle.vrl_compile.specs.Program.{items_of};
 ghost use Rattle.vrl_compile.specs.Soundness.{HasNoError, IsSoundOver};
@@ -27,7 +27,7 @@ use vrl_compile::{
 };
 use vrl_diag::render_all;
 use vrl_io::{Clock, LoadFault, Sink, Source, Store};
-use vrl_json::lines_are_objects;
+use vrl_json::lines_are_json;
 use vrl_value::Memory;
 
 // An accepted script: its text, what it does, and the warnings about it.
@@ -86,7 +86,7 @@ pub fn remap<R: Threads + Sync, F: Store, S: Source, O: Sink, E: Sink, C: Clock>
     ensures sound { (text : List ℕ) (items : List Item) (warnings : List SpecDiagnostic)
         → Asks (F.held files.old) (command words.now)
         (run_request text items warnings) → (line : List ℕ) (event : Tree)
-        → line_tree line ≡ Some event → IsSoundOver items event }
+        → reading_of line ≡ whole event → IsTrue (is_object event) → IsSoundOver items event }
 
     // Why each other status comes.
     ensures read_fault { result ≡ Status.ReadFault
@@ -112,7 +112,7 @@ pub fn remap<R: Threads + Sync, F: Store, S: Source, O: Sink, E: Sink, C: Clock>
     scripts_are_sound();
     scripts_have_one_reading();
     diagnostics_are_determined();
-    lines_are_objects();
+    lines_are_json();
     let name = match script_name(words) {
         Some(name) => name,
         None => return refuse_words(report),

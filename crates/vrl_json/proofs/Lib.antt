@@ -1,4 +1,6 @@
+pub mod Held
 pub mod Lines
 pub mod Members
+pub mod ReadBack
 pub mod Sizes
 pub mod Written

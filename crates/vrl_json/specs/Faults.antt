@@ -2,17 +2,18 @@
 use Rattle.std.specs.Prelude.{ℕ, List, Bool, true, false, codes}
 use Rattle.serde_json.specs.Data as json
 use Rattle.vrl_json.specs.declared.fault.JsonFault.{JsonFault}
-use Rattle.vrl_json.specs.declared.fault.JsonFault.TheVariants.{NotBuilt, Memory}
+use Rattle.vrl_json.specs.declared.fault.JsonFault.TheVariants.{NotJson, NotWhole, Memory}
 
 abbrev pub text_of : JsonFault → List ℕ
-text_of NotBuilt = codes "not built yet"
+text_of NotJson = codes "not JSON"
+text_of NotWhole = codes "not whole numbers"
 text_of Memory = codes "out of memory"
 
--- an object, as JSON holds it
-abbrev pub is_object_data : json.Data → Bool
-is_object_data json.null = false
-is_object_data (json.boolean b) = false
-is_object_data (json.number n) = false
-is_object_data (json.string s) = false
-is_object_data (json.array ds) = false
-is_object_data (json.object ms) = true
+-- an array or an object, which alone take memory once they are read
+abbrev pub has_parts : json.Data → Bool
+has_parts json.null = false
+has_parts (json.boolean b) = false
+has_parts (json.number n) = false
+has_parts (json.string s) = false
+has_parts (json.array ds) = true
+has_parts (json.object ms) = true

@@ -1,3 +1,4 @@
 pub mod Faults
 pub mod Line
 pub mod Tokens
+pub mod Held

@@ -5,9 +5,10 @@ use vrl_value::Memory;
 /// Why no value was read from bytes.
 #[derive(Clone, Copy, Debug, PartialEq, Eq)]
 pub enum JsonFault {
-    /// The bytes are not the JSON text of an object whose parts are strings and whole numbers of 64 bits
-    /// with a sign. Some other texts will be read once they are built.
-    NotBuilt,
+    /// The bytes are no JSON text (RFC 8259) in UTF-8, or one that nests deeper than 127.
+    NotJson,
+    /// They are one, and a number of its value is not a whole number of 64 bits with a sign.
+    NotWhole,
     /// Want of memory.
     Memory,
 }
@@ -20,7 +21,8 @@ impl fmt::Display for JsonFault {
 
     fn fmt<W: fmt::Write>(&self, f: &mut fmt::Formatter<W>) -> fmt::Result {
         match self {
-            JsonFault::NotBuilt => write!(f, "not built yet"),
+            JsonFault::NotJson => write!(f, "not JSON"),
+            JsonFault::NotWhole => write!(f, "not whole numbers"),
             JsonFault::Memory => write!(f, "out of memory"),
         }
     }
@@ -40,17 +42,18 @@ impl From<Memory> for JsonFault {
 }
 
 impl From<serde_json::Error> for JsonFault {
-    ghost use Rattle.std.specs.Prelude.{◌≡◌, ◌↔◌};
+    ghost use Rattle.std.specs.Prelude.{◌≡◌, ◌↔◌, ◌⊎◌};
     ghost use Rattle.serde_json.specs.Errors.{IsMemory};
-    ghost use Rattle.vrl_json.specs.declared.fault.JsonFault.TheVariants.{Memory};
+    ghost use Rattle.vrl_json.specs.declared.fault.JsonFault.TheVariants.{Memory, NotJson};
 
-    ghost from_gives = { λ refused fault. (fault ≡ Memory) ↔ IsMemory refused };
+    ghost from_gives = { λ refused fault. ((fault ≡ Memory) ↔ IsMemory refused)
+        × ((fault ≡ Memory) ⊎ (fault ≡ NotJson)) };
 
     fn from(refused: serde_json::Error) -> JsonFault {
         if refused.is_memory() {
             JsonFault::Memory
         } else {
-            JsonFault::NotBuilt
+            JsonFault::NotJson
         }
     }
 }

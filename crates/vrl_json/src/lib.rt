@@ -10,5 +10,5 @@ mod tests;
 mod write;
 
 pub use fault::JsonFault;
-pub use read::{from_line, lines_are_objects};
-pub use write::to_line;
+pub use read::{from_line, lines_are_json};
+pub use write::{json_needs_no_sources, to_line};

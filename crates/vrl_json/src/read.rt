@@ -1,78 +1,103 @@
-ghost use Rattle.std.specs.Prelude.{◌≡◌, List, ℕ, Some, None, IfErr, IfOk, IsTrue, option_map};
-ghost use Rattle.serde_json.specs.View.{view, members_view as json_members_view};
-ghost use Rattle.vrl_value.specs.Tree.{Tree, is_json, is_object};
-ghost use Rattle.vrl_value.specs.View.{tree_of, members_of};
-ghost use Rattle.vrl_json.specs.Faults.{is_object_data};
-ghost use Rattle.vrl_json.specs.Line.{line_tree, event_tree, part_tree, members_tree};
+ghost use Rattle.std.specs.Prelude.{◌≡◌, ◌++◌, List, [], ◌∷◌, ℕ, Some, None, IfOk, IsTrue, OnOk, option_map};
+ghost use Rattle.serde_json.specs.View.{view, items_view as json_items_view, members_view as json_members_view};
+ghost use Rattle.vrl_value.specs.Tree.{Tree, is_json};
+ghost use Rattle.vrl_value.specs.View.{tree_of, items_of, members_of};
+ghost use Rattle.vrl_json.specs.Faults.{has_parts};
+ghost use Rattle.vrl_json.specs.Line.{not_json, not_whole, whole, reading_of, whole_tree, whole_items, whole_members};
 
 use crate::fault::JsonFault;
 use std::alloc::Global;
 use std::collections::BTreeMap;
-use vrl_value::{Chars, Fields, Value};
+use vrl_value::{Chars, Fields, Items, Memory, Value};
 
 /// The value of a line: one JSON text (RFC 8259) in UTF-8 (RFC 3629), with or without white space around
-/// it. Of equal names the last counts, which section 4 of RFC 8259 leaves open.
+/// it. Arrays and objects nest at most 127 deep. Of equal names in an object the last counts, which section
+/// 4 of RFC 8259 leaves open. It takes time linear in the bytes, times the logarithm of an object's size.
 ///
-/// `NotBuilt`: the bytes are no such text, or one that is not built yet, which is any but an object whose
-/// parts are strings and whole numbers of 64 bits with a sign, `-0` not among them. `Memory`: want of
-/// memory.
+/// `NotJson`: the bytes are no such text. `NotWhole`: they are, and a number of the value is not a whole
+/// number of 64 bits with a sign in the plain form of digits; `-0` is not, nor is `1.0` or `1e2`. A number
+/// at a name that a later equal name replaces is no number of the value. `Memory`: want of memory.
 pub fn from_line(alloc: Global, bytes: &[u8]) -> Result<Value, JsonFault>
-    ensures value { IfOk result (λ value. line_tree bytes.now ≡ Some (tree_of value)) }
-    ensures not_built { result ≡ Err JsonFault.NotBuilt → line_tree bytes.now ≡ None }
+    ensures value { IfOk result (λ value. reading_of bytes.now ≡ whole (tree_of value)) }
+    ensures not_json { result ≡ Err JsonFault.NotJson → reading_of bytes.now ≡ not_json }
+    ensures not_whole { result ≡ Err JsonFault.NotWhole → reading_of bytes.now ≡ not_whole }
 {
     let json = serde_json::Value::from_slice(alloc, bytes)?;
-    event(alloc, json)
+    value_of(alloc, json)
 }
 
-/// What a line stands for is an object, and each part of it is JSON. This takes no time: it is a law about
+/// What a line stands for has neither a timestamp nor a regex in it. This takes no time: it is a law about
 /// the definitions.
-pub fn lines_are_objects()
-    ensures { (bytes : List ℕ) (tree : Tree) → line_tree bytes ≡ Some tree
-        → IsTrue (is_object tree) × IsTrue (is_json tree) }
+pub fn lines_are_json()
+    ensures { (line : List ℕ) (tree : Tree) → reading_of line ≡ whole tree → IsTrue (is_json tree) }
 {}
 
-// The event that JSON stands for.
-fn event(alloc: Global, json: serde_json::Value) -> Result<Value, JsonFault>
-    ensures value { IfOk result (λ value. event_tree (view json) ≡ Some (tree_of value)) }
-    ensures not_built { result ≡ Err JsonFault.NotBuilt → event_tree (view json) ≡ None }
-    ensures memory { result ≡ Err JsonFault.Memory → IsTrue (is_object_data (view json)) }
+// The value that JSON stands for. Texts are moved, which takes no memory.
+#[cycle(convert)]
+#[inline(always)]
+fn value_of(alloc: Global, json: serde_json::Value) -> Result<Value, JsonFault>
+    ensures value { IfOk result (λ value. whole_tree (view json) ≡ Some (tree_of value)) }
+    ensures not_json { result ≡ Err JsonFault.NotJson → ⊥ }
+    ensures not_whole { result ≡ Err JsonFault.NotWhole → whole_tree (view json) ≡ None }
+    ensures memory { result ≡ Err JsonFault.Memory → IsTrue (has_parts (view json)) }
 {
     match json {
-        serde_json::Value::Object(map) => {
-            let fields = members(alloc, map)?;
-            Ok(Value::Object(fields))
-        }
-        _ => Err(JsonFault::NotBuilt),
+        serde_json::Value::Null => Ok(Value::Null),
+        serde_json::Value::Bool(truth) => Ok(Value::Bool(truth)),
+        serde_json::Value::Number(number) => match number.as_i64() {
+            Some(number) => Ok(Value::Int(number)),
+            None => Err(JsonFault::NotWhole),
+        },
+        serde_json::Value::String(text) => Ok(Value::Text(Chars::new(text))),
+        serde_json::Value::Array(parts) => Ok(Value::List(items_of(alloc, parts)?)),
+        serde_json::Value::Object(map) => Ok(Value::Object(fields_of(alloc, map)?)),
     }
+}
+
+// The values of an array, in order.
+#[cycle(convert)]
+#[inline(never)]
+fn items_of(alloc: Global, parts: Vec<serde_json::Value>) -> Result<Items, JsonFault>
+    ensures value { IfOk result
+        (λ items. whole_items (json_items_view parts.items) ≡ Some (items_of items)) }
+    ensures not_json { result ≡ Err JsonFault.NotJson → ⊥ }
+    ensures not_whole { result ≡ Err JsonFault.NotWhole
+        → whole_items (json_items_view parts.items) ≡ None }
+{
+    let mut found = room_for(alloc, parts.len())?;
+    for json in parts {
+        let value = value_of(alloc, json)?;
+        push(&mut found, value)?;
+    }
+    Ok(Items::new(found))
+}
+
+fn room_for(alloc: Global, count: usize) -> Result<Vec<Value>, Memory>
+    ensures { IfOk result (λ values. values.items ≡ []) }
+{
+    Ok(Vec::with_capacity(alloc, count)?)
+}
+
+fn push(values: &mut Vec<Value>, value: Value) -> Result<(), Memory>
+    ensures { OnOk result (values.new.items ≡ values.old.items ++ value ∷ []) }
+{
+    Ok(values.push(value)?)
 }
 
 // The members of an object, each moved into its place.
-fn members(alloc: Global, map: BTreeMap<String, serde_json::Value>) -> Result<Fields, JsonFault>
+#[cycle(convert)]
+#[inline(never)]
+fn fields_of(alloc: Global, map: BTreeMap<String, serde_json::Value>) -> Result<Fields, JsonFault>
     ensures value { IfOk result
-        (λ fields. members_tree (json_members_view map.entries) ≡ Some (members_of fields)) }
-    ensures not_built { result ≡ Err JsonFault.NotBuilt
-        → members_tree (json_members_view map.entries) ≡ None }
+        (λ fields. whole_members (json_members_view map.entries) ≡ Some (members_of fields)) }
+    ensures not_json { result ≡ Err JsonFault.NotJson → ⊥ }
+    ensures not_whole { result ≡ Err JsonFault.NotWhole
+        → whole_members (json_members_view map.entries) ≡ None }
 {
     let mut found = Fields::new(BTreeMap::new(alloc));
     for (name, json) in map {
-        let value = part(json)?;
+        let value = value_of(alloc, json)?;
         found.insert(Chars::new(name), value)?;
     }
     Ok(found)
-}
-
-// A part of an event. It is moved, which takes no memory.
-fn part(json: serde_json::Value) -> Result<Value, JsonFault>
-    ensures value { IfOk result (λ value. part_tree (view json) ≡ Some (tree_of value)) }
-    ensures fault { IfErr result (λ fault. fault ≡ JsonFault.NotBuilt) }
-    ensures not_built { result ≡ Err JsonFault.NotBuilt → part_tree (view json) ≡ None }
-{
-    match json {
-        serde_json::Value::String(text) => Ok(Value::Text(Chars::new(text))),
-        serde_json::Value::Number(number) => match number.as_i64() {
-            Some(n) => Ok(Value::Int(n)),
-            None => Err(JsonFault::NotBuilt),
-        },
-        _ => Err(JsonFault::NotBuilt),
-    }
 }

@@ -1,107 +1,76 @@
-ghost use Rattle.std.specs.Prelude.{IfOk, IsTrue};
-ghost use Rattle.vrl_value.specs.Tree.{is_json};
-ghost use Rattle.vrl_value.specs.View.{tree_of};
-
-use crate::fault::JsonFault;
-use crate::read::{from_line, lines_are_objects};
-use crate::write::to_line;
+use crate::{JsonFault, from_line, json_needs_no_sources, lines_are_json, to_line};
 use std::alloc::Global;
-use std::collections::BTreeMap;
 use std::test::Fail;
-use vrl_value::{Chars, Fields, Items, Memory, Value};
+use vrl_value::{Bytes, Chars, Items, Moment, Value};
 
 #[test]
-fn reads_and_writes(rt: HostRuntime) -> Result<(), Fail> {
-    lines_are_objects();
-    let rows = [
-        (r#"{}"#, r#"{}"#),
-        (r#"{"a":1,"b":"x"}"#, r#"{"a":1,"b":"x"}"#),
-        (" { \"a\" : 1 ,\t\"b\":\"x\" }\r\n", r#"{"a":1,"b":"x"}"#),
-        (r#"{"b":1,"a":2}"#, r#"{"a":2,"b":1}"#),
-        (r#"{"a":1,"a":2}"#, r#"{"a":2}"#),
-        (r#"{"a":"x","b":0,"a":-3}"#, r#"{"a":-3,"b":0}"#),
+fn lines_read_and_written(rt: HostRuntime) -> Result<(), Fail> {
+    let alloc = rt.alloc();
+    for (line, answer) in [
+        (b"{\"b\":1,\"a\":2}".as_slice(), "{\"a\":2,\"b\":1}"),
+        (b"{\"a\":1,\"a\":2}", "{\"a\":2}"),
         (
-            r#"{"a":-9223372036854775808,"b":9223372036854775807}"#,
-            r#"{"a":-9223372036854775808,"b":9223372036854775807}"#,
+            b" \t[ null , true,false, [] ,{ } ]\r\n",
+            "[null,true,false,[],{}]",
         ),
-        (r#"{"a":"\u00e9\n\"\\"}"#, "{\"a\":\"\u{e9}\\n\\\"\\\\\"}"),
         (
-            r#"{"\u0001\/":"\b\f\r\t\ud83d\ude00"}"#,
-            "{\"\\u0001/\":\"\\b\\f\\r\\t\u{1f600}\"}",
+            b"[-9223372036854775808,9223372036854775807,0]",
+            "[-9223372036854775808,9223372036854775807,0]",
         ),
-    ];
-    for (line, written) in rows {
-        let value = from_line(rt.alloc(), line.as_bytes())?;
-        let bytes = to_line(rt.alloc(), &value, &[])?;
-        assert_eq!(rt; bytes.as_slice(), written.as_bytes(), "{line}");
+        (
+            b"\"\\u00e9\\n\\\"\\\\\\u0001\\/\\ud83d\\ude00\"",
+            "\"\u{e9}\\n\\\"\\\\\\u0001/\u{1f600}\"",
+        ),
+        // A name is told by what its escapes stand for, and only the last number counts.
+        (b"{\"a\":1.5,\"\\u0061\":3}", "{\"a\":3}"),
+        (b"{\"a\":3,\"a\":1.5}", "not whole numbers"),
+        (b"{\"p\":1.5}", "not whole numbers"),
+        (b"-0", "not whole numbers"),
+        (b"1e2", "not whole numbers"),
+        (b"9223372036854775808", "not whole numbers"),
+        (b"[[-9223372036854775809]]", "not whole numbers"),
+        (b"[1.5", "not JSON"),
+        (b"", "not JSON"),
+        (b"{", "not JSON"),
+        (b"01", "not JSON"),
+        (b"\"\\ud800\"", "not JSON"),
+        (b"\"\xff\"", "not JSON"),
+    ] {
+        let written = rewritten(alloc, line)?;
+        assert!(rt; written.as_slice() == answer.as_bytes(), "{line:?}");
+    }
+    Ok(())
+}
+
+// The line of what a line stands for, or why it is refused.
+fn rewritten(alloc: Global, line: &[u8]) -> Result<Bytes, Fail> {
+    lines_are_json();
+    json_needs_no_sources();
+    match from_line(alloc, line) {
+        Ok(value) => Ok(to_line(alloc, &value, &[])?),
+        Err(fault) => Ok(Bytes::new(format!(in alloc; "{fault}")?.into_bytes())),
+    }
+}
+
+#[test]
+fn nesting(rt: HostRuntime) -> Result<(), Fail> {
+    for (depth, fault) in [(127, None), (128, Some(JsonFault::NotJson))] {
+        let mut line = Vec::new(rt.alloc());
+        line.resize(depth, b'[')?;
+        line.resize(depth + depth, b']')?;
+        assert!(rt; from_line(rt.alloc(), &line).err() == fault, "at {depth}");
     }
     Ok(())
 }
 
 #[test]
-fn refuses_what_is_not_built(rt: HostRuntime) {
-    let lines = [
-        b"".as_slice(),
-        b"{",
-        b"1",
-        b"\"a\"",
-        b"[1]",
-        b"{\"a\":1} x",
-        b"{\"a\":01}",
-        b"{\"a\":1.5}",
-        b"{\"a\":1e2}",
-        b"{\"a\":-0}",
-        b"{\"a\":9223372036854775808}",
-        b"{\"a\":-9223372036854775809}",
-        b"{\"a\":null}",
-        b"{\"a\":true}",
-        b"{\"a\":[]}",
-        b"{\"a\":1,\"b\":{}}",
-        b"{\"a\":\"\\ud800\"}",
-        b"{\"a\":\"\xff\"}",
-    ];
-    for line in lines {
-        assert_eq!(rt;
-            from_line(rt.alloc(), line).err(),
-            Some(JsonFault::NotBuilt),
-            "{line:?}"
-        );
+fn timestamps_and_regexes(rt: HostRuntime) -> Result<(), Fail> {
+    let alloc = rt.alloc();
+    if let Some(moment) = Moment::new(1_704_161_045_500_000_000) {
+        let parts = vec![in alloc; Value::Time(moment), Value::Pattern(0)]?;
+        let sources = vec![in alloc; Chars::copy_of(alloc, "a+\"")?]?;
+        let line = to_line(alloc, &Value::List(Items::new(parts)), &sources)?;
+        assert!(rt; line.as_slice() == b"[\"2024-01-02T02:04:05.500Z\",\"a+\\\"\"]".as_slice());
     }
-}
-
-#[test]
-fn writes_what_is_nested(rt: HostRuntime) -> Result<(), Fail> {
-    let value = nested(rt.alloc())?;
-    let bytes = to_line(rt.alloc(), &value, &[])?;
-    assert_eq!(rt;
-        bytes.as_slice(),
-        br#"{"a":[1,null,true,{"b":"c"}]}"#.as_slice()
-    );
-    Ok(())
-}
-
-fn nested(alloc: Global) -> Result<Value, Memory>
-    ensures { IfOk result (λ value. IsTrue (is_json (tree_of value))) }
-{
-    let text = Chars::copy_of(alloc, "c")?;
-    let inner = object(alloc, "b", Value::Text(text))?;
-    let items = vec![in alloc; Value::Int(1), Value::Null, Value::Bool(true), inner]?;
-    object(alloc, "a", Value::List(Items::new(items)))
-}
-
-fn object(alloc: Global, name: &str, value: Value) -> Result<Value, Memory>
-    requires { IsTrue (is_json (tree_of value)) }
-    ensures { IfOk result (λ value. IsTrue (is_json (tree_of value))) }
-{
-    let mut map = BTreeMap::new(alloc);
-    let name = String::from_str(alloc, name)?;
-    drop(map.insert(name, value)?);
-    Ok(Value::Object(Fields::new(map)))
-}
-
-#[test]
-fn faults_have_texts(rt: HostRuntime) -> Result<(), Fail> {
-    let texts = format!(in rt.alloc(); "{}, {}", JsonFault::NotBuilt, JsonFault::Memory)?;
-    assert_eq!(rt; texts.as_str(), "not built yet, out of memory");
     Ok(())
 }
