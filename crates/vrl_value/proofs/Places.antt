@@ -1,12 +1,14 @@
 -- The values of an array by their places, in the code and as trees.
-use Rattle.std.proofs.Common.{◌≡◌, ℕ, zero, suc, ◌≤◌, ◌<◌, List, [], ◌∷◌, Option, Some, None, option_map, Vec, Global, slice_set, slice_get, length, take, drop, refl, sym, ap, ◌∙◌, rules, arith, remove, vec_len}
+use Rattle.std.proofs.Common.{◌≡◌, ℕ, zero, suc, ◌≤◌, ◌<◌, ◌+◌, List, [], ◌∷◌, ◌++◌, replicate, Option, Some, None, option_map, Vec, Global, slice_set, slice_get, length, take, drop, refl, sym, ap, ◌∙◌, rules, arith, ◌-◌, append_assoc, remove, vec_len, Result, Ok, Err, OnOk}
+use Rattle.std.proofs.lemmas.List.{replicate_more}
 use Rattle.std.proofs.lemmas.Option.{slice_get_read, slice_get_past}
 use Rattle.std.specs.List.{ItemBy}
 use Rattle.vrl_value.specs.Look.{item_at}
-use Rattle.vrl_value.specs.Parts.{count_of, replace_item, without_item}
-use Rattle.vrl_value.specs.Tree.{item}
+use Rattle.vrl_value.specs.Parts.{count_of, put_item, replace_item, without_item}
+use Rattle.vrl_value.specs.Tree.{item, null}
 use Rattle.vrl_value.specs.View.{items_of, items_view, tree_of}
 use Rattle.vrl_value.specs.declared.value.Value.{Value, the_lemmas}
+use Rattle.vrl_value.specs.declared.value.Value.TheVariants.{Null}
 use Rattle.vrl_value.specs.declared.value.Items.{Items, out-Items}
 use Rattle.vrl_value.specs.declared.value.Value.TheViews.{roll-Items}
 use Rattle.vrl_value.proofs.Copies.{items_of-out}
@@ -50,3 +52,25 @@ pub without_item-past : (i : ℕ) (vs : List Value) → length vs ≤ i → with
 without_item-past i [] past = refl
 without_item-past zero (v ∷ vs) past = absurd (omega arith)
 without_item-past (suc i) (v ∷ vs) past = ap (item (tree_of v)) (without_item-past i vs (omega arith))
+
+tree_of-null : tree_of Null ≡ null
+tree_of-null = search (rules, the_lemmas)
+
+-- one null more
+pub one_more : (vs : List Value) (start i : ℕ) → start ≤ i → (vs ++ replicate (i - start) Null) ++ Null ∷ [] ≡ vs ++ replicate (i + 1 - start) Null
+one_more vs start i later =
+    let next : i - start + 1 ≡ i + 1 - start = omega arith in
+    append_assoc vs (replicate (i - start) Null) (Null ∷ []) ∙ ap (λ ns. vs ++ ns) (replicate_more (i - start) Null) ∙ ap (λ n. vs ++ replicate n Null) next
+
+-- a value behind as many nulls as are needed is put at its place
+pub items_view-push_at : (vs : List Value) (i count : ℕ) (w : Value) → length vs + count ≡ i → items_view (vs ++ (replicate count Null ++ w ∷ [])) ≡ put_item i (tree_of w) (items_view vs)
+items_view-push_at [] zero zero w e = refl
+items_view-push_at [] zero (suc count) w e = absurd (omega arith)
+items_view-push_at [] (suc i) zero w e = absurd (omega arith)
+items_view-push_at [] (suc i) (suc count) w e = rw tree_of-null (ap (item null) (items_view-push_at [] i count w (omega arith)))
+items_view-push_at (v ∷ vs) zero count w e = absurd (omega arith)
+items_view-push_at (v ∷ vs) (suc i) count w e = ap (item (tree_of v)) (items_view-push_at vs i count w (omega arith))
+
+pub on_ok : {T E : Type 0} (r : Result T E) (P Q : Type 0) → (P → Q) → OnOk r P → OnOk r Q
+on_ok (Ok x) P Q f p = f p
+on_ok (Err e) P Q f p = tt

@@ -7,6 +7,7 @@ mod laws;
 mod lists;
 mod memory;
 mod moment;
+mod padding;
 #[cfg(test)]
 mod tests;
 mod value;

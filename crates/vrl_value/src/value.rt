@@ -1,8 +1,8 @@
 ghost use Rattle.std.specs.Borrow.{sem};
-ghost use Rattle.std.specs.Prelude.{◌≡◌, IfOk, IsTrue, OnErr, OnOk, option_map};
+ghost use Rattle.std.specs.Prelude.{◌≡◌, ◌≤◌, IfOk, IsTrue, OnErr, OnOk, option_map};
 ghost use Rattle.vrl_value.specs.Lending.{LendsField, LendsItem};
 ghost use Rattle.vrl_value.specs.Look.{item_at};
-ghost use Rattle.vrl_value.specs.Parts.{count_of, without, without_item};
+ghost use Rattle.vrl_value.specs.Parts.{count_of, put_item, without, without_item};
 ghost use Rattle.vrl_value.specs.Tag.{tag_of};
 ghost use Rattle.vrl_value.specs.Tree.{find, is_json, members_are_json, put, IsOrdered, ItemsAreOrdered, MembersAreOrdered};
 ghost use Rattle.vrl_value.specs.View.{items_of, items_view, members_of, members_view, tree_of};
@@ -10,6 +10,7 @@ ghost use Rattle.vrl_value.specs.View.{items_of, items_view, members_of, members
 use crate::lists::Chars;
 use crate::memory::Memory;
 use crate::moment::Moment;
+use crate::padding;
 use std::alloc::Global;
 use std::collections::BTreeMap;
 
@@ -138,6 +139,16 @@ impl Items {
         ensures value { option_map (λ value. tree_of value.now) result ≡ item_at place (items_of self.old) }
     {
         self.items.get_mut(place)
+    }
+
+    /// Puts a value at a place behind the last one, counted from 0, with nulls in between. `Memory`: want of
+    /// memory; the values stay as they were, and the new one is gone.
+    pub fn push_at(&mut self, place: usize, value: Value) -> Result<(), Memory>
+        requires { count_of (items_of self.old) ≤ place }
+        ensures ok { OnOk result (items_of self.new ≡ put_item place (tree_of value) (items_of self.old)) }
+        ensures err { OnErr result (items_of self.new ≡ items_of self.old) }
+    {
+        padding::push_at(&mut self.items, place, value)
     }
 
     /// Takes out the value at a place, counted from 0; those behind it move down by one. `None` from the
