@@ -1,0 +1,6 @@
+pub mod Parts
+pub mod Read
+pub mod Remove
+pub mod Steps
+pub mod Trees
+pub mod Write
