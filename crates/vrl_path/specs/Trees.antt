@@ -5,6 +5,7 @@ use Rattle.vrl_value.specs.Look.{Step, field, place, Found, there, missing, no_p
 use Rattle.vrl_value.specs.Parts.{put_item, replace, replace_item}
 use Rattle.vrl_value.specs.Tree.{Tree, null, Items, Members, find, put}
 use Rattle.vrl_path.specs.Parts.{with_part, replace_part, without_part}
+use Rattle.vrl_path.specs.Remove.{removable_at}
 
 -- n at the end of the path, with all that leads to it new
 abbrev pub chain : List Step → Tree → Tree
@@ -43,3 +44,14 @@ abbrev pub remove_tree : Tree → List Step → Tree
 remove_tree t [] = t
 remove_tree t (s ∷ []) = without_part s t
 remove_tree t (s ∷ r ∷ p) = if_there (part_at t s) (λ u. replace_part s (remove_tree u (r ∷ p)) t) t
+
+abbrev pub remove_in_fields : List ℕ → Members → List Step → Members
+remove_in_fields k ms p = members_if (find k ms) (λ u. replace k (remove_tree u p) ms) ms
+
+abbrev pub remove_in_items : ℕ → Items → List Step → Items
+remove_in_items i ts p = items_if (item_at i ts) (λ u. replace_item i (remove_tree u p) ts) ts
+
+-- what a removal at the path takes out of a tree, if there is one
+abbrev pub removable_in : Option Tree → List Step → Option Tree
+removable_in None p = None
+removable_in (Some u) p = removable_at u p

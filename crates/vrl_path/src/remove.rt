@@ -1,14 +1,17 @@
-ghost use Rattle.std.specs.Prelude.{◌≡◌, option_map};
+ghost use Rattle.std.specs.Prelude.{◌≡◌, option_map, IfNone, OnSome, Some, None};
 ghost use Rattle.vrl_path.specs.Remove.{removable_at};
 ghost use Rattle.vrl_path.specs.Steps.{plain, IsPlain};
-ghost use Rattle.vrl_path.specs.Trees.{remove_tree};
-ghost use Rattle.vrl_value.specs.View.{tree_of};
+ghost use Rattle.vrl_path.specs.Trees.{remove_in_fields, remove_in_items, remove_tree, removable_in};
+ghost use Rattle.vrl_value.specs.Look.{item_at};
+ghost use Rattle.vrl_value.specs.Tree.{find};
+ghost use Rattle.vrl_value.specs.View.{items_of, members_of, tree_of};
 
 use crate::parts::take_part;
 use crate::path::Step;
-use vrl_value::Value;
+use vrl_value::{Fields, Items, Value};
 
 // Takes out the part at the end of the steps. `None`: there is none, or there are no steps.
+#[cycle(removal)]
 fn remove_at(value: &mut Value, steps: &[Step]) -> Option<Value>
     requires { IsPlain steps.now }
     ensures value { option_map tree_of result ≡ removable_at (tree_of value.old) (plain steps.now) }
@@ -23,23 +26,43 @@ fn remove_at(value: &mut Value, steps: &[Step]) -> Option<Value>
     match step {
         Step::Field(name) => {
             if let Value::Object(fields) = value {
-                match fields.get_mut(name.as_str()) {
-                    Some(part) => remove_at(part, rest),
-                    None => None,
-                }
+                remove_in_fields(fields, name.as_str(), rest)
             } else {
                 None
             }
         }
         Step::Place(place) => {
             if let Value::List(items) = value {
-                match items.get_mut(place.unsigned_abs() as usize) {
-                    Some(part) => remove_at(part, rest),
-                    None => None,
-                }
+                remove_in_items(items, place.unsigned_abs() as usize, rest)
             } else {
                 None
             }
         }
+    }
+}
+
+// Takes out the part at the end of the steps in the field of a name.
+#[cycle(removal)]
+fn remove_in_fields(fields: &mut Fields, name: &str, steps: &[Step]) -> Option<Value>
+    requires { IsPlain steps.now }
+    ensures value { option_map tree_of result ≡ removable_in (find name.now (members_of fields.old)) (plain steps.now) }
+    ensures rest { members_of fields.new ≡ remove_in_fields name.now (members_of fields.old) (plain steps.now) }
+{
+    match fields.get_mut(name) {
+        Some(part) => remove_at(part, steps),
+        None => None,
+    }
+}
+
+// Takes out the part at the end of the steps in the item at a place.
+#[cycle(removal)]
+fn remove_in_items(items: &mut Items, place: usize, steps: &[Step]) -> Option<Value>
+    requires { IsPlain steps.now }
+    ensures value { option_map tree_of result ≡ removable_in (item_at place (items_of items.old)) (plain steps.now) }
+    ensures rest { items_of items.new ≡ remove_in_items place (items_of items.old) (plain steps.now) }
+{
+    match items.get_mut(place) {
+        Some(part) => remove_at(part, steps),
+        None => None,
     }
 }
