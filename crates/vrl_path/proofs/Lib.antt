@@ -1,2 +1,11 @@
 pub mod Changes
+pub mod Depths
+pub mod Items
+pub mod Members
+pub mod OneResult
 pub mod Options
+pub mod Order
+pub mod Placed
+pub mod PlainReads
+pub mod Removed
+pub mod Sets

@@ -17,7 +17,7 @@ pub record IsRemoved (v : Tree) (p : List Step) (w : Tree) : Type 0 where
   -- q parts from p before its last step: as it was
   pub beside : (a : List Step) (s t u : Step) (r b : List Step) → p ≡ a ++ s ∷ u ∷ r → t ≢ s → raw_at w (a ++ t ∷ b) ≡ raw_at v (a ++ t ∷ b)
   -- p ends with a field: that is missing, and another step behind the same path finds what it found
-  pub field_gone : (a : List Step) (k : List ℕ) (b : List Step) → p ≡ a ++ field k ∷ [] → raw_at w (a ++ field k ∷ b) ≡ found_behind missing b there
+  pub field_gone : (a : List Step) (k : List ℕ) (b : List Step) → p ≡ a ++ field k ∷ [] → raw_at w (a ++ field k ∷ b) ≡ found_behind missing b (λ u. raw_at u b)
   pub beside_field : (a : List Step) (k : List ℕ) (t : Step) (b : List Step) → p ≡ a ++ field k ∷ [] → t ≢ field k → raw_at w (a ++ t ∷ b) ≡ raw_at v (a ++ t ∷ b)
   -- p ends with a place: lower places look as they did, and from there on each looks as the next one did
   pub before_place : (a : List Step) (i j : ℕ) (b : List Step) → p ≡ a ++ place i ∷ [] → j < i → raw_at w (a ++ place j ∷ b) ≡ raw_at v (a ++ place j ∷ b)

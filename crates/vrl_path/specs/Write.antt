@@ -31,7 +31,7 @@ or_null no_place = there null
 -- w is v with n set at the path p: what stands at the path q, by how q stands to p
 pub record IsSet (v : Tree) (p : List Step) (n w : Tree) : Type 0 where
   -- q is p, or leads on from it
-  pub at : (r : List Step) → raw_at w (p ++ r) ≡ raw_at n r
+  pub within : (r : List Step) → raw_at w (p ++ r) ≡ raw_at n r
   -- q leads to p: a container that the next step of p fits
   pub above : (a : List Step) (s : Step) (r : List Step) → p ≡ a ++ s ∷ r → Holds s (raw_at w a)
   -- q parts from p at another field: as it was, where there was an object, else as in the empty one

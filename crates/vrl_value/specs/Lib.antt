@@ -1,3 +1,4 @@
+pub mod Depth
 pub mod Laws
 pub mod Lending
 pub mod Look
