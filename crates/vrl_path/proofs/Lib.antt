@@ -8,4 +8,5 @@ pub mod Order
 pub mod Placed
 pub mod PlainReads
 pub mod Removed
+pub mod Results
 pub mod Sets

@@ -1,7 +1,8 @@
 -- What a tree is with another tree set at a path, told by what look-up gives at every path.
-use Rattle.std.specs.Prelude.{◌≡◌, ◌≢◌, ℕ, ◌<◌, ◌≤◌, List, [], ◌∷◌, ◌++◌}
+use Rattle.std.specs.Prelude.{◌≡◌, ◌≢◌, ℕ, ◌+◌, ◌<◌, ◌≤◌, List, [], ◌∷◌, ◌++◌, length, max}
+use Rattle.vrl_value.specs.Depth.{depth_of}
 use Rattle.vrl_value.specs.Look.{Step, field, place, Found, there, missing, no_place, part_at, raw_at, found_behind}
-use Rattle.vrl_value.specs.Tree.{Tree, string, integer, boolean, null, timestamp, regex, array, object, Items, no_items, Members, no_members}
+use Rattle.vrl_value.specs.Tree.{Tree, string, integer, boolean, null, timestamp, regex, array, object, Items, no_items, Members, no_members, IsOrdered}
 
 -- the members of an object; of what is no object those of the empty one
 abbrev pub members_in : Found → Members
@@ -46,3 +47,19 @@ pub record IsSet (v : Tree) (p : List Step) (n w : Tree) : Type 0 where
   -- q parts from p at a step that does not fit the same container
   pub place_at_field : (a : List Step) (k : List ℕ) (j : ℕ) (r b : List Step) → p ≡ a ++ field k ∷ r → raw_at w (a ++ place j ∷ b) ≡ no_place
   pub field_at_place : (a : List Step) (i : ℕ) (l : List ℕ) (r b : List Step) → p ≡ a ++ place i ∷ r → raw_at w (a ++ field l ∷ b) ≡ no_place
+
+-- the greatest depth that a set may leave
+abbrev pub depth_limit : ℕ
+depth_limit = 128
+
+-- v with n set at the path p would be deeper than that
+pub record IsTooDeep (v : Tree) (p : List Step) (n : Tree) : Type 0 where
+  pub result : Tree
+  pub is_set : IsSet v p n result
+  pub ordered : IsOrdered v → IsOrdered n → IsOrdered result
+  pub deeper : depth_limit < depth_of result
+
+-- how deep v with n set at the path p is: as deep as the path is long and n is deep, or, by what stands beside the path, as v at most
+pub record IsAsDeep (v : Tree) (p : List Step) (n w : Tree) : Type 0 where
+  pub least : length p + depth_of n ≤ depth_of w
+  pub greatest : depth_of w ≤ max (depth_of v) (length p + depth_of n)

@@ -3,7 +3,9 @@
 #![tactic(auto)]
 
 mod build;
+mod depth;
 mod fault;
+mod laws;
 mod parts;
 mod path;
 mod read;
@@ -11,5 +13,8 @@ mod remove;
 mod write;
 
 pub use fault::SetFault;
+pub use laws::{reads_are_look_ups, sets_are_one, sets_deepen};
 pub use path::{Path, Step};
 pub use read::{exists, get};
+pub use remove::remove;
+pub use write::{put, set};

@@ -1,14 +1,28 @@
-ghost use Rattle.std.specs.Prelude.{◌≡◌, option_map, IfNone, OnSome, Some, None};
-ghost use Rattle.vrl_path.specs.Remove.{removable_at};
+ghost use Rattle.std.specs.Prelude.{◌≡◌, option_map, IfNone, OnSome};
+ghost use Rattle.vrl_path.specs.Remove.{removable_at, IsRemoved};
 ghost use Rattle.vrl_path.specs.Steps.{plain, IsPlain};
 ghost use Rattle.vrl_path.specs.Trees.{remove_in_fields, remove_in_items, remove_tree, removable_in};
 ghost use Rattle.vrl_value.specs.Look.{item_at};
-ghost use Rattle.vrl_value.specs.Tree.{find};
+ghost use Rattle.vrl_value.specs.Tree.{find, IsOrdered};
 ghost use Rattle.vrl_value.specs.View.{items_of, members_of, tree_of};
 
 use crate::parts::take_part;
-use crate::path::Step;
+use crate::path::{Path, Step};
 use vrl_value::{Fields, Items, Value};
+
+/// Takes out the part of a value at a path; the places behind one that is taken out of an array move down.
+/// `None`: the path is empty, or nothing stands there; the value stays as it was.
+///
+/// It is one walk down the path, takes no memory, and moves the places behind of one array at most.
+pub fn remove(value: &mut Value, path: &Path) -> Option<Value>
+    requires { IsPlain path.now }
+    ensures value { option_map tree_of result ≡ removable_at (tree_of value.old) (plain path.now) }
+    ensures removed { OnSome result (IsRemoved (tree_of value.old) (plain path.now) (tree_of value.new)) }
+    ensures ordered { IsOrdered (tree_of value.old) → IsOrdered (tree_of value.new) }
+    ensures none { IfNone result (tree_of value.new ≡ tree_of value.old) }
+{
+    remove_at(value, path.as_slice())
+}
 
 // Takes out the part at the end of the steps. `None`: there is none, or there are no steps.
 #[cycle(removal)]

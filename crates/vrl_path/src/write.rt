@@ -1,12 +1,53 @@
-ghost use Rattle.std.specs.Prelude.{◌≡◌, OnErr, OnOk};
+ghost use Rattle.std.specs.Prelude.{◌≡◌, ◌≤◌, OnErr, OnOk};
 ghost use Rattle.vrl_path.specs.Steps.{plain, IsWritable};
 ghost use Rattle.vrl_path.specs.Trees.{set_in_fields, set_in_items, set_tree};
+ghost use Rattle.vrl_path.specs.Write.{depth_limit, IsAsDeep, IsSet, IsTooDeep};
+ghost use Rattle.vrl_value.specs.Depth.{depth_of};
+ghost use Rattle.vrl_value.specs.Tree.{IsOrdered};
 ghost use Rattle.vrl_value.specs.View.{items_of, members_of, tree_of};
 
 use crate::build::built;
-use crate::path::Step;
+use crate::depth::is_within_limit;
+use crate::fault::SetFault;
+use crate::path::{Path, Step};
 use std::alloc::Global;
-use vrl_value::{Chars, Fields, Items, Memory, Value};
+use vrl_value::{Chars, Fields, Items, Memory, Value, members_are_maps};
+
+/// Sets a value at a path: a step into what is no fitting container replaces it by one, and an array is
+/// filled up with nulls. The new value is moved in. `TooDeep`: the result would be deeper than 128; `Memory`:
+/// want of memory. At both the value stays as it was, and the new one is gone.
+///
+/// It is one walk down the path with one change at its end. Before that, the new value is walked through for
+/// its depth, and, unless that and the path settle it, so is each part of the value beside the path: where
+/// the value is known to be within the limit, [`put`] spares that walk.
+pub fn set(alloc: Global, value: &mut Value, path: &Path, new: Value) -> Result<(), SetFault>
+    requires { IsWritable path.now }
+    ensures set { OnOk result (IsSet (tree_of value.old) (plain path.now) (tree_of new) (tree_of value.new)) }
+    ensures within { OnOk result (depth_of (tree_of value.new) ≤ depth_limit) }
+    ensures ordered { IsOrdered (tree_of value.old) → IsOrdered (tree_of new) → IsOrdered (tree_of value.new) }
+    ensures too_deep { result ≡ Err SetFault.TooDeep → IsTooDeep (tree_of value.old) (plain path.now) (tree_of new) }
+    ensures err { OnErr result (tree_of value.new ≡ tree_of value.old) }
+{
+    if !is_within_limit(value, path.as_slice(), &new) {
+        return Err(SetFault::TooDeep);
+    }
+    members_are_maps();
+    put_at(alloc, value, path.as_slice(), new)?;
+    Ok(())
+}
+
+/// Sets a value at a path as [`set`] does, whatever the depth. `Memory`: want of memory; the value stays as
+/// it was, and the new one is gone. It is one walk down the path with one change at its end.
+pub fn put(alloc: Global, value: &mut Value, path: &Path, new: Value) -> Result<(), Memory>
+    requires { IsWritable path.now }
+    ensures set { OnOk result (IsSet (tree_of value.old) (plain path.now) (tree_of new) (tree_of value.new)) }
+    ensures depth { OnOk result (IsAsDeep (tree_of value.old) (plain path.now) (tree_of new) (tree_of value.new)) }
+    ensures ordered { IsOrdered (tree_of value.old) → IsOrdered (tree_of new) → IsOrdered (tree_of value.new) }
+    ensures err { OnErr result (tree_of value.new ≡ tree_of value.old) }
+{
+    members_are_maps();
+    put_at(alloc, value, path.as_slice(), new)
+}
 
 // Sets a value at the end of the steps. `Memory`: want of memory; the value stays as it was.
 #[cycle(put)]

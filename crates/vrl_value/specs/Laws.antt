@@ -1,5 +1,8 @@
--- Laws of the members of an object, the names and values of RFC 8259's objects.
-use Rattle.std.specs.Prelude.{◌≡◌, ◌≢◌, ℕ, List, Some, IfSome, IsTrue}
+-- Laws of the members of an object, the names and values of RFC 8259's objects, and of the texts of moments.
+use Rattle.std.specs.Prelude.{◌≡◌, ◌≢◌, ℕ, List, Some, IfSome, IsTrue, ℤ}
+use Rattle.vrl_value.specs.Moment.{IsInRange}
+use Rattle.vrl_value.specs.MomentText.{moment_text}
+use Rattle.vrl_value.specs.Rfc3339.{IsReading}
 use Rattle.vrl_value.specs.Tree.{Tree, Members, find, put, is_json, members_are_json}
 
 -- they are a map: what is put at a name is found there, and at every other name what was there before
@@ -11,3 +14,8 @@ pub record MembersAreMaps : Type 0 where
 pub record MembersStayJson : Type 0 where
   pub find_json : (name : List ℕ) (members : Members) → IsTrue (members_are_json members) → IfSome (find name members) (λ value. IsTrue (is_json value))
   pub put_json : (name : List ℕ) (value : Tree) (members : Members) → IsTrue (is_json value) → IsTrue (members_are_json members) → IsTrue (members_are_json (put name value members))
+
+-- the text of a moment names that moment, and a text names at most one
+pub record MomentsReadBack : Type 0 where
+  pub read_back : (nanos : ℤ) → IsInRange nanos → IsReading (moment_text nanos) nanos
+  pub one_reading : (text : List ℕ) (a b : ℤ) → IsReading text a → IsReading text b → a ≡ b

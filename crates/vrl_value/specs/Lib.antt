@@ -3,7 +3,11 @@ pub mod Laws
 pub mod Lending
 pub mod Look
 pub mod Moment
+pub mod MomentText
+pub mod Order
 pub mod Parts
+pub mod Rfc3339
+pub mod Scan
 pub mod Tag
 pub mod Tree
 pub mod View

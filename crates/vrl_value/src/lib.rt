@@ -7,12 +7,14 @@ mod laws;
 mod lists;
 mod memory;
 mod moment;
+mod moment_text;
 mod padding;
+mod reading;
 #[cfg(test)]
 mod tests;
 mod value;
 
-pub use laws::{members_are_maps, members_stay_json};
+pub use laws::{members_are_maps, members_stay_json, moments_read_back};
 pub use lists::{Bytes, Chars, Names};
 pub use memory::Memory;
 pub use moment::Moment;

@@ -1,8 +1,10 @@
 ghost use Rattle.std.specs.Borrow.{sem};
-ghost use Rattle.std.specs.Prelude.{◌≡◌, ◌≤◌, IfOk, IsTrue, OnErr, OnOk, option_map};
 ghost use Rattle.vrl_value.specs.Lending.{LendsField, LendsItem};
 ghost use Rattle.vrl_value.specs.Look.{item_at};
 ghost use Rattle.vrl_value.specs.Parts.{count_of, put_item, without, without_item};
+ghost use Rattle.std.specs.Prelude.{◌≡◌, ◌≤◌, ◌↔◌, min, IfOk, IsTrue, OnErr, OnOk, option_map};
+ghost use Rattle.vrl_value.specs.Depth.{depth_of, items_depth, members_depth};
+ghost use Rattle.vrl_value.specs.Order.{order_of};
 ghost use Rattle.vrl_value.specs.Tag.{tag_of};
 ghost use Rattle.vrl_value.specs.Tree.{find, is_json, members_are_json, put, IsOrdered, ItemsAreOrdered, MembersAreOrdered};
 ghost use Rattle.vrl_value.specs.View.{items_of, items_view, members_of, members_view, tree_of};
@@ -12,6 +14,7 @@ use crate::memory::Memory;
 use crate::moment::Moment;
 use crate::padding;
 use std::alloc::Global;
+use std::cmp::Ordering;
 use std::collections::BTreeMap;
 
 /// A value of an event, a variable or an expression: one of VRL's value types but the float, which the
@@ -51,6 +54,51 @@ impl Value {
             Value::Pattern(_) => Tag::Pattern,
             Value::List(_) => Tag::List,
             Value::Object(_) => Tag::Object,
+        }
+    }
+
+    /// How deep the value nests: 0 for one without parts; for an array or an object 1 and the greatest depth of
+    /// its parts, or 1 where it is empty. 2^64 - 1 where it is deeper than that. It looks at each part once.
+    #[cycle(depth)]
+    pub fn depth(&self) -> u64
+        ensures { result ≡ min (depth_of (tree_of self.now)) u64.MAX }
+    {
+        match self {
+            Value::List(items) => items.deepest().saturating_add(1),
+            Value::Object(fields) => fields.deepest().saturating_add(1),
+            _ => 0,
+        }
+    }
+
+    /// Whether two values are equal, with all that is in them. Regexes are where their numbers are. It looks
+    /// at each part at most once.
+    #[cycle(same)]
+    pub fn same(&self, other: &Value) -> bool
+        ensures { IsTrue result ↔ (tree_of self.now ≡ tree_of other.now) }
+    {
+        match (self, other) {
+            (Value::Text(a), Value::Text(b)) => a.as_str() == b.as_str(),
+            (Value::Int(a), Value::Int(b)) => a == b,
+            (Value::Bool(a), Value::Bool(b)) => a == b,
+            (Value::Null, Value::Null) => true,
+            (Value::Time(a), Value::Time(b)) => a.nanos() == b.nanos(),
+            (Value::Pattern(a), Value::Pattern(b)) => a == b,
+            (Value::List(a), Value::List(b)) => a.same(b),
+            (Value::Object(a), Value::Object(b)) => a.same(b),
+            _ => false,
+        }
+    }
+
+    /// The order of two integers, of two strings by their bytes, or of two timestamps. `None`: the values are
+    /// another pair.
+    pub fn compare(&self, other: &Value) -> Option<Ordering>
+        ensures { result ≡ order_of (tree_of self.now) (tree_of other.now) }
+    {
+        match (self, other) {
+            (Value::Int(a), Value::Int(b)) => Some(a.cmp(b)),
+            (Value::Text(a), Value::Text(b)) => Some(a.as_str().cmp(b.as_str())),
+            (Value::Time(a), Value::Time(b)) => Some(a.nanos().cmp(&b.nanos())),
+            _ => None,
         }
     }
 
@@ -171,6 +219,34 @@ impl Items {
         self.items
     }
 
+    // The greatest depth of a part, 0 where there is none, and at most 2^64 - 1.
+    #[cycle(depth)]
+    fn deepest(&self) -> u64
+        ensures { result ≡ min (items_depth (items_of self.now)) u64.MAX }
+    {
+        let mut deepest = 0;
+        for item in &self.items {
+            deepest = item.depth().max(deepest);
+        }
+        deepest
+    }
+
+    // Whether the parts are equal, one by one.
+    #[cycle(same)]
+    fn same(&self, other: &Items) -> bool
+        ensures { IsTrue result ↔ (items_of self.now ≡ items_of other.now) }
+    {
+        for (i, item) in self.items.iter().enumerate() {
+            let Some(part) = other.items.get(i) else {
+                return false;
+            };
+            if !item.same(part) {
+                return false;
+            }
+        }
+        self.items.len() == other.items.len()
+    }
+
     /// Equal values, in the same order. `Memory`: want of memory.
     #[cycle(copy)]
     pub fn copy(&self, alloc: Global) -> Result<Items, Memory>
@@ -229,6 +305,35 @@ impl Fields {
         ensures rest { members_of self.new ≡ without name.now (members_of self.old) }
     {
         self.map.remove(name)
+    }
+
+    // The greatest depth of a value, 0 where there is none, and at most 2^64 - 1.
+    #[cycle(depth)]
+    fn deepest(&self) -> u64
+        ensures { result ≡ min (members_depth (members_of self.now)) u64.MAX }
+    {
+        let mut deepest = 0;
+        for (_name, value) in self.map.iter() {
+            deepest = value.depth().max(deepest);
+        }
+        deepest
+    }
+
+    // Whether the names and their values are equal, one by one.
+    #[cycle(same)]
+    fn same(&self, other: &Fields) -> bool
+        ensures { IsTrue result ↔ (members_of self.now ≡ members_of other.now) }
+    {
+        let mut others = other.map.iter();
+        for (name, value) in self.map.iter() {
+            let Some((key, part)) = others.next() else {
+                return false;
+            };
+            if name.as_str() != key.as_str() || !value.same(part) {
+                return false;
+            }
+        }
+        others.next().is_none()
     }
 
     /// Equal fields, with all that is in them. `Memory`: want of memory.
