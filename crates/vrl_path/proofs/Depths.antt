@@ -51,7 +51,7 @@ put_within_at Less k l t u ms rest later = omega arith
 put_within_at Equal k l t u ms rest later = omega arith
 put_within_at Greater k l t u ms rest later = omega arith
 
-put_within : (k : List ℕ) (t : Tree) (ms : Members) → members_depth (put k t ms) ≤ max (depth_of t) (members_depth ms)
+pub put_within : (k : List ℕ) (t : Tree) (ms : Members) → members_depth (put k t ms) ≤ max (depth_of t) (members_depth ms)
 put_within k t no_members = omega arith
 put_within k t (member l u ms) = put_within_at (slice_cmp nat_cmp k l) k l t u ms (put k t ms) (put_within k t ms)
 
@@ -61,7 +61,7 @@ replace_within_at Less l t u ms rest later = omega arith
 replace_within_at Equal l t u ms rest later = omega arith
 replace_within_at Greater l t u ms rest later = omega arith
 
-replace_within : (k : List ℕ) (t : Tree) (ms : Members) → members_depth (replace k t ms) ≤ max (depth_of t) (members_depth ms)
+pub replace_within : (k : List ℕ) (t : Tree) (ms : Members) → members_depth (replace k t ms) ≤ max (depth_of t) (members_depth ms)
 replace_within k t no_members = omega arith
 replace_within k t (member l u ms) = replace_within_at (slice_cmp nat_cmp k l) l t u ms (replace k t ms) (replace_within k t ms)
 
@@ -69,7 +69,7 @@ member_within : (o : Option Tree) (k : List ℕ) (t : Tree) (ms : Members) → m
 member_within None k t ms = put_within k t ms
 member_within (Some u) k t ms = replace_within k t ms
 
-put_item_within : (i : ℕ) (t : Tree) (ts : Items) → items_depth (put_item i t ts) ≤ max (depth_of t) (items_depth ts)
+pub put_item_within : (i : ℕ) (t : Tree) (ts : Items) → items_depth (put_item i t ts) ≤ max (depth_of t) (items_depth ts)
 put_item_within zero t no_items = omega arith
 put_item_within zero t (item u ts) = omega arith
 put_item_within (suc i) t no_items = let h = put_item_within i t no_items in omega arith

@@ -14,7 +14,7 @@ use Rattle.vrl_path.proofs.Order.{FoundInOrder, before_all, part_ordered}
 use Rattle.vrl_path.proofs.Sets.{behind, members_in-behind, items_in-behind, or_null-behind}
 
 -- a key before all of the members is not found among them
-find-before : (k : List ℕ) (ms : Members) → IsBefore k ms → find k ms ≡ None
+pub find-before : (k : List ℕ) (ms : Members) → IsBefore k ms → find k ms ≡ None
 find-before k no_members before = refl
 find-before k (member l u ms) before = rw before.0 (find-before k ms before.1)
 

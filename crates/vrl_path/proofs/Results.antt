@@ -1,5 +1,5 @@
 -- What the public calls promise, from what the walks compute.
-use Rattle.std.proofs.Common.{◌≡◌, ◌≤◌, ◌<◌, ◌↔◌, List, Option, Some, None, IsTrue, Bool, false, sym, ap, ◌∙◌, subst, arith, option_map, IfNone, OnSome}
+use Rattle.std.proofs.Common.{◌≡◌, ◌≤◌, ◌<◌, ◌↔◌, List, Option, Some, None, IsTrue, Bool, false, sym, ap, ◌∙◌, subst, arith, option_map, IfNone, OnSome, Result, Ok, Err, OnOk, OnErr}
 use Rattle.vrl_value.specs.Depth.{depth_of}
 use Rattle.vrl_value.specs.Laws.{MembersAreMaps}
 use Rattle.vrl_value.specs.Look.{Step}
@@ -45,3 +45,8 @@ on_some_map (Some x) f P h = h
 pub if_none_map : {T : Type 0} (o : Option T) (f : T → Tree) (P : Type 0) → IfNone (option_map f o) P → IfNone o P
 if_none_map None f P h = h
 if_none_map (Some x) f P h = tt
+
+-- in order after a set, and where it failed
+pub result_ordered : {T E : Type 0} (r : Result T E) (v : Tree) (p : List Step) (n w : Tree) → OnOk r (w ≡ set_tree v p n) → OnErr r (w ≡ v) → IsOrdered v → IsOrdered n → IsOrdered w
+result_ordered (Ok x) v p n w set same old new = set_ordered_at v p n w set old new
+result_ordered (Err e) v p n w set same old new = subst IsOrdered (sym same) old

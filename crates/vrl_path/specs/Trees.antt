@@ -3,7 +3,7 @@
 use Rattle.std.specs.Prelude.{ℕ, List, [], ◌∷◌, Option, Some, None}
 use Rattle.vrl_value.specs.Look.{Step, field, place, Found, there, missing, no_place, item_at, part_at}
 use Rattle.vrl_value.specs.Parts.{put_item, replace, replace_item}
-use Rattle.vrl_value.specs.Tree.{Tree, null, Items, Members, find, put}
+use Rattle.vrl_value.specs.Tree.{Tree, string, integer, boolean, null, timestamp, regex, array, object, Items, Members, find, put}
 use Rattle.vrl_path.specs.Parts.{with_part, replace_part, without_part}
 use Rattle.vrl_path.specs.Remove.{removable_at}
 
@@ -38,6 +38,15 @@ items_if (Some u) found other = found u
 
 abbrev pub set_in_items : ℕ → Items → List Step → Tree → Items
 set_in_items i ts p n = items_if (item_at i ts) (λ u. replace_item i (set_tree u p n) ts) (put_item i (chain p n) ts)
+
+-- the members of an object, and the items of an array
+abbrev pub members_if_object : Tree → Option Members
+members_if_object (object ms) = Some ms
+members_if_object t = None
+
+abbrev pub items_if_array : Tree → Option Items
+items_if_array (array ts) = Some ts
+items_if_array t = None
 
 -- t without what stands at the path
 abbrev pub remove_tree : Tree → List Step → Tree

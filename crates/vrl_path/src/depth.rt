@@ -1,13 +1,14 @@
-ghost use Rattle.std.specs.Prelude.{◌↔◌, ◌≤◌, ◌+◌, [], length, IsTrue};
+ghost use Rattle.std.specs.Prelude.{◌↔◌, ◌≤◌, ◌≡◌, ◌+◌, [], length, option_map, IsTrue};
 ghost use Rattle.vrl_path.specs.Steps.{plain, IsWritable};
-ghost use Rattle.vrl_path.specs.Trees.{set_in_fields, set_in_items, set_tree};
+ghost use Rattle.vrl_path.specs.Trees.{items_if_array, members_if_object, set_in_fields, set_in_items, set_tree};
 ghost use Rattle.vrl_path.specs.Write.{depth_limit};
 ghost use Rattle.vrl_value.specs.Depth.{depth_of, items_depth, members_depth};
 ghost use Rattle.vrl_value.specs.Parts.{put_item};
 ghost use Rattle.vrl_value.specs.Tree.{Tree};
-ghost use Rattle.vrl_value.specs.View.{items_of, members_of, tree_of};
+ghost use Rattle.vrl_value.specs.View.{items_of as list_of, members_of, members_view, tree_of};
 
 use crate::path::Step;
+use std::collections::BTreeMap;
 use vrl_value::{Fields, Items, Value};
 
 // The greatest depth of a value that a set may leave.
@@ -22,7 +23,13 @@ pub fn is_within_limit(value: &Value, steps: &[Step], new: &Value) -> bool
 {
     let depth = new.depth();
     let length = steps.len() as u64;
-    depth <= LIMIT && length <= LIMIT - depth && fits_at(value, steps, LIMIT)
+    if depth > LIMIT {
+        return false;
+    }
+    if length > LIMIT - depth {
+        return false;
+    }
+    fits_at(value, steps, LIMIT)
 }
 
 // Whether the value is within a limit of depth with a new one at the end of the steps, which has room there.
@@ -37,12 +44,35 @@ fn fits_at(value: &Value, steps: &[Step], limit: u64) -> bool
     let [step, rest @ ..] = steps else {
         return true;
     };
-    match (value, step) {
-        (Value::Object(fields), Step::Field(name)) => field_fits(fields, name.as_str(), rest, limit - 1),
-        (Value::List(items), Step::Place(place)) => {
-            item_fits(items, place.unsigned_abs() as usize, rest, limit - 1)
-        }
-        _ => true,
+    match step {
+        Step::Field(name) => match fields_of(value) {
+            Some(fields) => field_fits(fields, name.as_str(), rest, limit - 1),
+            None => true,
+        },
+        Step::Place(place) => match items_of(value) {
+            Some(items) => item_fits(items, place.unsigned_abs() as usize, rest, limit - 1),
+            None => true,
+        },
+    }
+}
+
+// The fields of an object.
+fn fields_of(value: &Value) -> Option<&Fields>
+    ensures { option_map (λ fields. members_of fields.now) result ≡ members_if_object (tree_of value.now) }
+{
+    match value {
+        Value::Object(fields) => Some(fields),
+        _ => None,
+    }
+}
+
+// The items of an array.
+fn items_of(value: &Value) -> Option<&Items>
+    ensures { option_map (λ items. list_of items.now) result ≡ items_if_array (tree_of value.now) }
+{
+    match value {
+        Value::List(items) => Some(items),
+        _ => None,
     }
 }
 
@@ -68,7 +98,7 @@ fn item_fits(items: &Items, place: usize, steps: &[Step], limit: u64) -> bool
     requires room { length steps.now ≤ limit }
     requires small { limit ≤ depth_limit }
     ensures { (n : Tree) → length steps.now + depth_of n ≤ limit
-        → (IsTrue result ↔ (items_depth (set_in_items place (items_of items.now) (plain steps.now) n) ≤ limit)) }
+        → (IsTrue result ↔ (items_depth (set_in_items place (list_of items.now) (plain steps.now) n) ≤ limit)) }
 {
     match items.get(place) {
         Some(part) => fits_at(part, steps, limit) && items_fit(items, place, limit),
@@ -82,7 +112,15 @@ fn fields_fit(fields: &Fields, name: &str, limit: u64) -> bool
     ensures { (t : Tree) → depth_of t ≤ limit
         → (IsTrue result ↔ (members_depth (set_in_fields name.now (members_of fields.now) [] t) ≤ limit)) }
 {
-    let map = fields.as_map();
+    are_within(fields.as_map(), name, limit)
+}
+
+// Whether the entries of a map are within a limit of depth but for the one of a name.
+fn are_within(map: &BTreeMap<String, Value>, name: &str, limit: u64) -> bool
+    requires { limit ≤ depth_limit }
+    ensures { (t : Tree) → depth_of t ≤ limit
+        → (IsTrue result ↔ (members_depth (set_in_fields name.now (members_view map.now.entries) [] t) ≤ limit)) }
+{
     for (key, part) in map.iter() {
         if key.as_str() != name && part.depth() > limit {
             return false;
@@ -95,7 +133,7 @@ fn fields_fit(fields: &Fields, name: &str, limit: u64) -> bool
 fn items_fit(items: &Items, place: usize, limit: u64) -> bool
     requires { limit ≤ depth_limit }
     ensures { (t : Tree) → depth_of t ≤ limit
-        → (IsTrue result ↔ (items_depth (put_item place t (items_of items.now)) ≤ limit)) }
+        → (IsTrue result ↔ (items_depth (put_item place t (list_of items.now)) ≤ limit)) }
 {
     let values = items.as_slice();
     for (index, value) in values.iter().enumerate() {

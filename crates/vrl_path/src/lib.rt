@@ -9,12 +9,14 @@ mod laws;
 mod parts;
 mod path;
 mod read;
-mod remove;
+mod removal;
+#[cfg(test)]
+mod tests;
 mod write;
 
 pub use fault::SetFault;
 pub use laws::{reads_are_look_ups, sets_are_one, sets_deepen};
 pub use path::{Path, Step};
 pub use read::{exists, get};
-pub use remove::remove;
+pub use removal::remove;
 pub use write::{put, set};

@@ -28,10 +28,10 @@ pub fn set(alloc: Global, value: &mut Value, path: &Path, new: Value) -> Result<
     ensures too_deep { result ≡ Err SetFault.TooDeep → IsTooDeep (tree_of value.old) (plain path.now) (tree_of new) }
     ensures err { OnErr result (tree_of value.new ≡ tree_of value.old) }
 {
+    members_are_maps();
     if !is_within_limit(value, path.as_slice(), &new) {
         return Err(SetFault::TooDeep);
     }
-    members_are_maps();
     put_at(alloc, value, path.as_slice(), new)?;
     Ok(())
 }

@@ -3,7 +3,7 @@ use Rattle.vrl_value.specs.View.{items_of, members_of, tree_of}
 use Rattle.vrl_path.specs.Steps.{plain}
 use Rattle.vrl_path.proofs.Changes.{removed_in_field, removed_in_item}
 use Rattle.vrl_path.proofs.Options.{from_some}
-use Rattle.vrl_path.proofs.remove.+removal.Goals as goal
+use Rattle.vrl_path.proofs.removal.+removal.Goals as goal
 
 pub remove_in_fields-returns-in-Some-clause-rest : goal.remove_in_fields-returns-in-Some-clause-rest
 remove_in_fields-returns-in-Some-clause-rest t c =

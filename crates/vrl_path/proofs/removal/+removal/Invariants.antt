@@ -1,5 +1,5 @@
 use Rattle.std.proofs.Common.{◌*◌, ◌+◌, length}
-use Rattle.vrl_path.proofs.remove.+removal.Given as goal
+use Rattle.vrl_path.proofs.removal.+removal.Given as goal
 
 abbrev pub decreases-remove_at : goal.decreases-remove_at
 decreases-remove_at l = 2 * length l.steps.now

@@ -3,7 +3,7 @@ use Rattle.vrl_value.specs.Depth.{members_depth}
 use Rattle.vrl_value.specs.Parts.{without}
 use Rattle.vrl_value.specs.View.{members_view}
 use Rattle.vrl_value.specs.declared.value.Value.{Value}
-use Rattle.vrl_path.proofs.depth.fields_fit.Given as goal
+use Rattle.vrl_path.proofs.depth.are_within.Given as goal
 
 -- the entries that were passed are within the limit but for the one of the name
 abbrev pub invariant-loop-key : goal.invariant-loop-key
