@@ -1,6 +1,22 @@
-//! Paths into values: the steps that lead from a value to a part of it.
+//! Paths into values: the steps that lead from a value to a part of it, and what is read, set and removed
+//! there.
 #![tactic(auto)]
 
+mod build;
+mod depth;
+mod fault;
+mod laws;
+mod parts;
 mod path;
+mod read;
+mod removal;
+#[cfg(test)]
+mod tests;
+mod write;
 
+pub use fault::SetFault;
+pub use laws::{reads_are_look_ups, sets_are_one, sets_deepen};
 pub use path::{Path, Step};
+pub use read::{exists, get};
+pub use removal::remove;
+pub use write::{put, set};

@@ -1,8 +1,9 @@
 -- A value looked up at a name among an object's members.
-use Rattle.std.proofs.Common.{◌≡◌, ℕ, List, [], ◌∷◌, Option, Some, None, option_map, String, Global, Ordering, Less, Equal, Greater, Bor, string_bytes, nat_cmp, is_eq, cond, refl, ap, ◌∙◌}
+use Rattle.std.proofs.Common.{◌≡◌, ℕ, List, [], ◌∷◌, Option, Some, None, option_map, String, Global, Ordering, Less, Equal, Greater, Bor, MutBor, string_bytes, nat_cmp, is_eq, cond, refl, ap, ◌∙◌}
 use Rattle.std.specs.BTreeMap.{is_at}
 use Rattle.std.specs.Cmp.Lexicographic.{slice_cmp}
 use Rattle.std.specs.Map.{lookup}
+use Rattle.std.specs.Option.{option_copied_mut}
 use Rattle.std.specs.Ordering.{match_ordering}
 use Rattle.vrl_value.specs.Tree.{Tree, find}
 use Rattle.vrl_value.specs.View.{members_view, members_of, tree_of}
@@ -25,6 +26,10 @@ tree_of-lookup name (e ∷ es) = lookup_cases (slice_cmp nat_cmp name (string_by
 pub tree_of-now : (found : Option (Bor Value)) → option_map (λ value. tree_of value.now) found ≡ option_map tree_of (option_map (λ value. value.now) found)
 tree_of-now None = refl
 tree_of-now (Some value) = refl
+
+pub tree_of-now_mut : (found : Option (MutBor Value)) → option_map (λ value. tree_of value.now) found ≡ option_map tree_of (option_copied_mut found)
+tree_of-now_mut None = refl
+tree_of-now_mut (Some value) = refl
 
 -- the same of the fields over a map
 pub tree_of-get : (name : List ℕ) (fields : Fields) → option_map tree_of (lookup (is_at (λ key. slice_cmp nat_cmp name (string_bytes key))) (out-Fields fields).map.entries) ≡ find name (members_of fields)

@@ -1,9 +1,11 @@
 pub mod Depth
 pub mod Laws
+pub mod Lending
 pub mod Look
 pub mod Moment
 pub mod MomentText
 pub mod Order
+pub mod Parts
 pub mod Rfc3339
 pub mod Scan
 pub mod Tag

@@ -8,6 +8,7 @@ mod lists;
 mod memory;
 mod moment;
 mod moment_text;
+mod padding;
 mod reading;
 #[cfg(test)]
 mod tests;

@@ -1,4 +1,8 @@
-ghost use Rattle.std.specs.Prelude.{◌≡◌, ◌↔◌, min, IfOk, IsTrue, OnErr, OnOk, option_map};
+ghost use Rattle.std.specs.Borrow.{sem};
+ghost use Rattle.vrl_value.specs.Lending.{LendsField, LendsItem};
+ghost use Rattle.vrl_value.specs.Look.{item_at};
+ghost use Rattle.vrl_value.specs.Parts.{count_of, put_item, without, without_item};
+ghost use Rattle.std.specs.Prelude.{◌≡◌, ◌≤◌, ◌↔◌, min, IfOk, IsTrue, OnErr, OnOk, option_map};
 ghost use Rattle.vrl_value.specs.Depth.{depth_of, items_depth, members_depth};
 ghost use Rattle.vrl_value.specs.Order.{order_of};
 ghost use Rattle.vrl_value.specs.Tag.{tag_of};
@@ -8,6 +12,7 @@ ghost use Rattle.vrl_value.specs.View.{items_of, items_view, members_of, members
 use crate::lists::Chars;
 use crate::memory::Memory;
 use crate::moment::Moment;
+use crate::padding;
 use std::alloc::Global;
 use std::cmp::Ordering;
 use std::collections::BTreeMap;
@@ -162,6 +167,51 @@ impl Items {
         &self.items
     }
 
+    /// How many values there are.
+    pub fn len(&self) -> usize
+        ensures { result ≡ count_of (items_of self.now) }
+    {
+        self.items.len()
+    }
+
+    /// The value at a place, counted from 0. `None` from the number of values on.
+    pub fn get(&self, place: usize) -> Option<&Value>
+        ensures { option_map (λ value. tree_of value.now) result ≡ item_at place (items_of self.now) }
+    {
+        self.items.get(place)
+    }
+
+    /// The value at a place, counted from 0, to be changed in place. `None` from the number of values on.
+    pub fn get_mut(&mut self, place: usize) -> Option<&mut Value>
+        ensures* writes_back { sem 𝓛 (LendsItem self.entry place result) }
+        ensures value { option_map (λ value. tree_of value.now) result ≡ item_at place (items_of self.old) }
+    {
+        self.items.get_mut(place)
+    }
+
+    /// Puts a value at a place behind the last one, counted from 0, with nulls in between. `Memory`: want of
+    /// memory; the values stay as they were, and the new one is gone.
+    pub fn push_at(&mut self, place: usize, value: Value) -> Result<(), Memory>
+        requires { count_of (items_of self.old) ≤ place }
+        ensures ok { OnOk result (items_of self.new ≡ put_item place (tree_of value) (items_of self.old)) }
+        ensures err { OnErr result (items_of self.new ≡ items_of self.old) }
+    {
+        padding::push_at(&mut self.items, place, value)
+    }
+
+    /// Takes out the value at a place, counted from 0; those behind it move down by one. `None` from the
+    /// number of values on; they stay as they were. It takes time linear in the number of values behind.
+    pub fn remove(&mut self, place: usize) -> Option<Value>
+        ensures value { option_map tree_of result ≡ item_at place (items_of self.old) }
+        ensures rest { items_of self.new ≡ without_item place (items_of self.old) }
+    {
+        if place < self.items.len() {
+            Some(self.items.remove(place))
+        } else {
+            None
+        }
+    }
+
     /// The vector that holds the values.
     pub fn into_vec(self) -> Vec<Value>
         ensures { items_view result.items ≡ items_of self }
@@ -239,6 +289,22 @@ impl Fields {
             ≡ find name.now (members_of self.now) }
     {
         self.map.get(name)
+    }
+
+    /// The value at a name, to be changed in place. `None` where no field has the name.
+    pub fn get_mut(&mut self, name: &str) -> Option<&mut Value>
+        ensures* writes_back { sem 𝓛 (LendsField self.entry name.now result) }
+        ensures value { option_map (λ value. tree_of value.now) result ≡ find name.now (members_of self.old) }
+    {
+        self.map.get_mut(name)
+    }
+
+    /// Takes out the value at a name. `None` where no field has the name; the fields stay as they were.
+    pub fn remove(&mut self, name: &str) -> Option<Value>
+        ensures value { option_map tree_of result ≡ find name.now (members_of self.old) }
+        ensures rest { members_of self.new ≡ without name.now (members_of self.old) }
+    {
+        self.map.remove(name)
     }
 
     // The greatest depth of a value, 0 where there is none, and at most 2^64 - 1.

@@ -1,0 +1,255 @@
+-- Whether a tree is within a limit of depth with another set in it: by what stands beside the path.
+use Rattle.std.proofs.Common.{◌≡◌, ◌≢◌, ℕ, ℤ, pos, negsuc, zero, suc, ◌+◌, ◌<◌, ◌≤◌, ◌↔◌, List, [], ◌∷◌, ◌++◌, length, max, get_or, Bool, true, false, Option, Some, None, String, Global, Ordering, Less, Equal, Greater, nat_cmp, string_cmp, string_bytes, IsTrue, refl, sym, ap, ◌∙◌, subst, arith, ⊎_elim}
+use Rattle.std.proofs.lemmas.Bool.{true≢false, cases_lt}
+use Rattle.std.proofs.lemmas.Cmp.{nat_list_cmp_total, tied_itself}
+use Rattle.std.specs.Cmp.Lexicographic.{slice_cmp}
+use Rattle.std.specs.List.{AllByRecursion}
+use Rattle.std.specs.List.Sorted.{IsStrictlySortedBy}
+use Rattle.std.specs.Map.{keys_of}
+use Rattle.std.specs.Ordering.{match_ordering}
+use Rattle.vrl_value.specs.Depth.{depth_of, items_depth, members_depth}
+use Rattle.vrl_value.specs.Look.{Step, field, place, found_if, item_at}
+use Rattle.vrl_value.specs.Parts.{put_item, replace, replace_item, without}
+use Rattle.vrl_value.specs.Tree.{Tree, string, integer, boolean, null, timestamp, regex, array, object, Items, no_items, item, Members, no_members, member, find, put, IsBefore}
+use Rattle.vrl_value.specs.View.{items_view, members_view, tree_of}
+use Rattle.vrl_value.specs.declared.value.Value.{Value}
+use Rattle.vrl_path.specs.Steps.{plain, plain_step, IsWritableStep}
+use Rattle.vrl_path.specs.declared.path.Step.{Step as CodeStep}
+use Rattle.vrl_path.specs.declared.path.Step.TheVariants.{Field, Place}
+use Rattle.vrl_path.specs.Trees.{chain, items_if_array, members_if_object, set_in_fields, set_in_items, set_tree, if_there, members_if, items_if}
+use Rattle.vrl_path.specs.Parts.{with_part, replace_part}
+use Rattle.vrl_path.proofs.Depths.{below_placed, below_put_item, put_item_within, put_within, set_shallow}
+use Rattle.vrl_path.proofs.Items.{replace_item-found}
+use Rattle.vrl_path.proofs.Members.{same_keys, without-none}
+use Rattle.vrl_path.proofs.OneResult.{find-before}
+use Rattle.vrl_path.proofs.Placed.{chain-null, member_if}
+
+-- the keys of the members ascend
+abbrev pub KeysAscend : Members → Type 0
+KeysAscend no_members = Unit {0}
+KeysAscend (member k t ms) = IsBefore k ms × KeysAscend ms
+
+key_before : (key : String Global) (es : List (String Global × Value)) → AllByRecursion (λ k. string_cmp key k ≡ Less) (keys_of es) → IsBefore (string_bytes key) (members_view es)
+key_before key [] before = tt
+key_before key (e ∷ es) before = (before.0, key_before key es before.1)
+
+pub keys_ascend : (es : List (String Global × Value)) → IsStrictlySortedBy string_cmp (keys_of es) → KeysAscend (members_view es)
+unfolding IsStrictlySortedBy
+keys_ascend [] sorted = tt
+keys_ascend (e ∷ es) sorted = (key_before e.0 es sorted.0, keys_ascend es sorted.1)
+
+without_le_at : (o : Ordering) (l : List ℕ) (u : Tree) (ms rest : Members) → members_depth rest ≤ members_depth ms → members_depth (match_ordering o (member l u rest) rest (member l u rest)) ≤ max (depth_of u) (members_depth ms)
+without_le_at Less l u ms rest later = omega arith
+without_le_at Equal l u ms rest later = omega arith
+without_le_at Greater l u ms rest later = omega arith
+
+without_le : (k : List ℕ) (ms : Members) → members_depth (without k ms) ≤ members_depth ms
+without_le k no_members = omega arith
+without_le k (member l u ms) = without_le_at (slice_cmp nat_cmp k l) l u ms (without k ms) (without_le k ms)
+
+-- what was replaced is no deeper than the new part and the others
+replace_le_at : (o : Ordering) (k l : List ℕ) (t u : Tree) (ms : Members) → slice_cmp nat_cmp k l ≡ o → KeysAscend (member l u ms) → members_depth (replace k t ms) ≤ max (depth_of t) (members_depth (without k ms))
+    → members_depth (match_ordering o (member l u (replace k t ms)) (member l t ms) (member l u (replace k t ms))) ≤ max (depth_of t) (members_depth (match_ordering o (member l u (without k ms)) (without k ms) (member l u (without k ms))))
+replace_le_at Less k l t u ms is ascend later = omega arith
+replace_le_at Equal k l t u ms is ascend later =
+    let none : find k ms ≡ None = subst (λ q. find q ms ≡ None) (sym (same_keys k l is)) (find-before l ms ascend.0) in
+    let e : members_depth (without k ms) ≡ members_depth ms = ap members_depth (without-none k ms none) in
+    omega arith
+replace_le_at Greater k l t u ms is ascend later = omega arith
+
+replace_le : (k : List ℕ) (t : Tree) (ms : Members) → KeysAscend ms → members_depth (replace k t ms) ≤ max (depth_of t) (members_depth (without k ms))
+replace_le k t no_members ascend = omega arith
+replace_le k t (member l u ms) ascend = replace_le_at (slice_cmp nat_cmp k l) k l t u ms refl ascend (replace_le k t ms ascend.1)
+
+-- and the others are no deeper than the whole
+others_replace_at : (o : Ordering) (l : List ℕ) (t u : Tree) (ms rest left : Members) → members_depth left ≤ members_depth rest → members_depth left ≤ members_depth ms
+    → members_depth (match_ordering o (member l u left) left (member l u left)) ≤ members_depth (match_ordering o (member l u rest) (member l t ms) (member l u rest))
+others_replace_at Less l t u ms rest left later below = omega arith
+others_replace_at Equal l t u ms rest left later below = omega arith
+others_replace_at Greater l t u ms rest left later below = omega arith
+
+others_replace : (k : List ℕ) (t : Tree) (ms : Members) → members_depth (without k ms) ≤ members_depth (replace k t ms)
+others_replace k t no_members = omega arith
+others_replace k t (member l u ms) = others_replace_at (slice_cmp nat_cmp k l) l t u ms (replace k t ms) (without k ms) (others_replace k t ms) (without_le k ms)
+
+others_put_at : (o : Ordering) (k l : List ℕ) (t u : Tree) (ms rest left : Members) → members_depth left ≤ members_depth rest → members_depth left ≤ members_depth ms
+    → members_depth (match_ordering o (member l u left) left (member l u left)) ≤ members_depth (match_ordering o (member k t (member l u ms)) (member l t ms) (member l u rest))
+others_put_at Less k l t u ms rest left later below = omega arith
+others_put_at Equal k l t u ms rest left later below = omega arith
+others_put_at Greater k l t u ms rest left later below = omega arith
+
+others_put : (k : List ℕ) (t : Tree) (ms : Members) → members_depth (without k ms) ≤ members_depth (put k t ms)
+others_put k t no_members = omega arith
+others_put k t (member l u ms) = others_put_at (slice_cmp nat_cmp k l) k l t u ms (put k t ms) (without k ms) (others_put k t ms) (without_le k ms)
+
+fields_at : (o : Option Tree) (k : List ℕ) (t : Tree) (ms : Members) (limit : ℕ) → find k ms ≡ o → KeysAscend ms → depth_of t ≤ limit
+    → (members_depth (without k ms) ≤ limit) ↔ (members_depth (member_if o k t ms) ≤ limit)
+fields_at None k t ms limit is ascend new =
+    let e : members_depth (without k ms) ≡ members_depth ms = ap members_depth (without-none k ms is) in
+    let within = put_within k t ms in
+    let others = others_put k t ms in
+    (λ h. omega arith, λ h. omega arith)
+fields_at (Some u) k t ms limit is ascend new =
+    let within = replace_le k t ms ascend in
+    let others = others_replace k t ms in
+    (λ h. omega arith, λ h. omega arith)
+
+part_alone : (o : Option Tree) (k : List ℕ) (t : Tree) (ms : Members) → members_if o (λ u. replace k t ms) (put k t ms) ≡ member_if o k t ms
+part_alone None k t ms = refl
+part_alone (Some u) k t ms = refl
+
+-- fields fit with a new part where the others do
+pub fields_within : (k : List ℕ) (t : Tree) (ms : Members) (limit : ℕ) → KeysAscend ms → depth_of t ≤ limit → (members_depth (without k ms) ≤ limit) ↔ (members_depth (set_in_fields k ms [] t) ≤ limit)
+fields_within k t ms limit ascend new = rw (part_alone (find k ms) k t ms) (fields_at (find k ms) k t ms limit refl ascend new)
+
+-- a limit below the new part is a limit below the fields
+pub part_of_fields : (k : List ℕ) (t : Tree) (ms : Members) → depth_of t ≤ members_depth (set_in_fields k ms [] t)
+part_of_fields k t ms = rw (part_alone (find k ms) k t ms) (below_placed k t ms)
+
+depth_joined_at : (o : Ordering) (l : List ℕ) (u : Tree) (front whole back : Members) → members_depth whole ≡ max (members_depth front) (members_depth back)
+    → members_depth (match_ordering o (member l u whole) whole (member l u whole)) ≡ max (members_depth (match_ordering o (member l u front) front (member l u front))) (members_depth back)
+depth_joined_at Less l u front whole back later = omega arith
+depth_joined_at Equal l u front whole back later = omega arith
+depth_joined_at Greater l u front whole back later = omega arith
+
+-- the depth of two runs of entries without a name
+pub depth_joined : (k : List ℕ) (done left : List (String Global × Value)) → members_depth (without k (members_view (done ++ left))) ≡ max (members_depth (without k (members_view done))) (members_depth (without k (members_view left)))
+depth_joined k [] left = omega arith
+depth_joined k (e ∷ done) left = depth_joined_at (slice_cmp nat_cmp k (string_bytes e.0)) (string_bytes e.0) (tree_of e.1) (without k (members_view done)) (without k (members_view (done ++ left))) (without k (members_view left)) (depth_joined k done left)
+
+one_entry_at : (o : Ordering) (l : List ℕ) (u : Tree) (limit : ℕ) → (o ≢ Equal → depth_of u ≤ limit) → members_depth (match_ordering o (member l u no_members) no_members (member l u no_members)) ≤ limit
+one_entry_at Less l u limit fits = let h : depth_of u ≤ limit = fits (λ e. absurd cc) in omega arith
+one_entry_at Equal l u limit fits = omega arith
+one_entry_at Greater l u limit fits = let h : depth_of u ≤ limit = fits (λ e. absurd cc) in omega arith
+
+equal_keys : (k l : List ℕ) → k ≡ l → slice_cmp nat_cmp k l ≡ Equal
+equal_keys k l same = subst (λ q. slice_cmp nat_cmp k q ≡ Equal) same (tied_itself nat_list_cmp_total k)
+
+-- an entry that is at the name, or within the limit
+pub one_entry : (k : List ℕ) (e : String Global × Value) (limit : ℕ) → (string_bytes e.0 ≢ k → depth_of (tree_of e.1) ≤ limit) → members_depth (without k (members_view (e ∷ []))) ≤ limit
+one_entry k e limit fits = one_entry_at (slice_cmp nat_cmp k (string_bytes e.0)) (string_bytes e.0) (tree_of e.1) limit (λ other. fits (λ same. other (equal_keys k (string_bytes e.0) (sym same))))
+
+deep_entry_at : (o : Ordering) (l : List ℕ) (u : Tree) (rest : Members) → o ≢ Equal → depth_of u ≤ members_depth (match_ordering o (member l u rest) rest (member l u rest))
+deep_entry_at Less l u rest other = omega arith
+deep_entry_at Equal l u rest other = absurd (other refl)
+deep_entry_at Greater l u rest other = omega arith
+
+-- an entry at another name counts
+pub deep_entry : (k : List ℕ) (e : String Global × Value) (left : List (String Global × Value)) → string_bytes e.0 ≢ k → depth_of (tree_of e.1) ≤ members_depth (without k (members_view (e ∷ left)))
+deep_entry k e left other = deep_entry_at (slice_cmp nat_cmp k (string_bytes e.0)) (string_bytes e.0) (tree_of e.1) (without k (members_view left)) (λ is. other (sym (same_keys k (string_bytes e.0) is)))
+
+each_within : (vs : List Value) (limit : ℕ) → ((k : ℕ) (d : Value) → k < length vs → depth_of (tree_of (get_or vs k d)) ≤ limit) → items_depth (items_view vs) ≤ limit
+each_within [] limit each = omega arith
+each_within (v ∷ vs) limit each =
+    let first = each 0 v (omega arith) in
+    let h = each_within vs limit (λ k d within. each (suc k) d (omega arith)) in
+    omega arith
+
+item_below : (vs : List Value) (k : ℕ) (d : Value) → k < length vs → depth_of (tree_of (get_or vs k d)) ≤ items_depth (items_view vs)
+item_below [] k d within = absurd (omega arith)
+item_below (v ∷ vs) zero d within = omega arith
+item_below (v ∷ vs) (suc k) d within = let h = item_below vs k d (omega arith) in omega arith
+
+-- items fit with a new part where the others do
+pub items_within : (i : ℕ) (t : Tree) (vs : List Value) (limit : ℕ) → depth_of t ≤ limit → ((k : ℕ) (d : Value) → k < length vs → k ≢ i → depth_of (tree_of (get_or vs k d)) ≤ limit) → items_depth (put_item i t (items_view vs)) ≤ limit
+items_within zero t [] limit new others = omega arith
+items_within (suc i) t [] limit new others = let h = items_within i t [] limit new (λ k d within other. absurd (omega arith)) in omega arith
+items_within zero t (v ∷ vs) limit new others = let h = each_within vs limit (λ k d within. others (suc k) d (omega arith) (λ e. absurd (omega arith))) in omega arith
+items_within (suc i) t (v ∷ vs) limit new others =
+    let first = others 0 v (omega arith) (λ e. absurd (omega arith)) in
+    let h = items_within i t vs limit new (λ k d within other. others (suc k) d (omega arith) (λ e. other (omega arith))) in
+    omega arith
+
+-- and one that is deeper than the limit is one too many
+pub item_over : (i : ℕ) (t : Tree) (vs : List Value) (k : ℕ) (d : Value) → k < length vs → k ≢ i → depth_of (tree_of (get_or vs k d)) ≤ items_depth (put_item i t (items_view vs))
+item_over i t [] k d within other = absurd (omega arith)
+item_over zero t (v ∷ vs) zero d within other = absurd (other refl)
+item_over zero t (v ∷ vs) (suc k) d within other = let h = item_below vs k d (omega arith) in omega arith
+item_over (suc i) t (v ∷ vs) zero d within other = omega arith
+item_over (suc i) t (v ∷ vs) (suc k) d within other = let h = item_over i t vs k d (omega arith) (λ e. other (ap suc e)) in omega arith
+
+-- the new part that a set leaves in a field
+pub set_in_fields-part : (k : List ℕ) (ms : Members) (p : List Step) (n u : Tree) → Some u ≡ find k ms → set_in_fields k ms p n ≡ set_in_fields k ms [] (set_tree u p n)
+set_in_fields-part k ms p n u found = rw (← found) refl
+
+pub set_in_fields-new : (k : List ℕ) (ms : Members) (p : List Step) (n : Tree) → None ≡ find k ms → set_in_fields k ms p n ≡ set_in_fields k ms [] (chain p n)
+set_in_fields-new k ms p n none = rw (← none) refl
+
+items_part_at : (o : Option Tree) (i : ℕ) (ts : Items) (p : List Step) (n u : Tree) → item_at i ts ≡ o → Some u ≡ o → items_if o (λ u. replace_item i (set_tree u p n) ts) (put_item i (chain p n) ts) ≡ put_item i (set_tree u p n) ts
+items_part_at None i ts p n u is found = absurd cc
+items_part_at (Some w) i ts p n u is found = let e : w ≡ u = cc in ap (λ x. replace_item i (set_tree x p n) ts) e ∙ replace_item-found i (set_tree u p n) w ts is
+
+pub set_in_items-part : (i : ℕ) (ts : Items) (p : List Step) (n u : Tree) → Some u ≡ item_at i ts → set_in_items i ts p n ≡ put_item i (set_tree u p n) ts
+set_in_items-part i ts p n u found = items_part_at (item_at i ts) i ts p n u refl found
+
+pub set_in_items-new : (i : ℕ) (ts : Items) (p : List Step) (n : Tree) → None ≡ item_at i ts → set_in_items i ts p n ≡ put_item i (chain p n) ts
+set_in_items-new i ts p n none = rw (← none) refl
+
+-- a new chain is as deep as its path is long and its end deep
+pub chain_shallow : (p : List Step) (n : Tree) → depth_of (chain p n) ≤ length p + depth_of n
+chain_shallow p n =
+    let h = set_shallow null p n in
+    let e = ap depth_of (chain-null p n) in
+    omega arith
+
+object_at : (o : Option Tree) (k : List ℕ) (ms : Members) (p : List Step) (n : Tree)
+    → if_there (found_if o) (λ u. replace_part (field k) (set_tree u p n) (object ms)) (with_part (field k) (chain p n) (object ms)) ≡ object (members_if o (λ u. replace k (set_tree u p n) ms) (put k (chain p n) ms))
+object_at None k ms p n = refl
+object_at (Some u) k ms p n = refl
+
+array_at : (o : Option Tree) (i : ℕ) (ts : Items) (p : List Step) (n : Tree)
+    → if_there (found_if o) (λ u. replace_part (place i) (set_tree u p n) (array ts)) (with_part (place i) (chain p n) (array ts)) ≡ array (items_if o (λ u. replace_item i (set_tree u p n) ts) (put_item i (chain p n) ts))
+array_at None i ts p n = refl
+array_at (Some u) i ts p n = refl
+
+-- a set in an object, and in what is none
+pub set_object : (v : Tree) (k : List ℕ) (ms : Members) (p : List Step) (n : Tree) → Some ms ≡ members_if_object v → depth_of (set_tree v (field k ∷ p) n) ≡ suc (members_depth (set_in_fields k ms p n))
+set_object (object ns) k ms p n is = let e : ns ≡ ms = cc in ap depth_of (object_at (find k ns) k ns p n) ∙ ap (λ x. suc (members_depth (set_in_fields k x p n))) e
+set_object v k ms p n is = absurd cc
+
+pub set_no_object : (v : Tree) (k : List ℕ) (p : List Step) (n : Tree) → None ≡ members_if_object v → depth_of (set_tree v (field k ∷ p) n) ≤ suc (length p + depth_of n)
+set_no_object (object ms) k p n none = absurd cc
+set_no_object v k p n none = let h = chain_shallow p n in omega arith
+
+pub set_array : (v : Tree) (i : ℕ) (ts : Items) (p : List Step) (n : Tree) → Some ts ≡ items_if_array v → depth_of (set_tree v (place i ∷ p) n) ≡ suc (items_depth (set_in_items i ts p n))
+set_array (array us) i ts p n is = let e : us ≡ ts = cc in ap depth_of (array_at (item_at i us) i us p n) ∙ ap (λ x. suc (items_depth (set_in_items i x p n))) e
+set_array v i ts p n is = absurd cc
+
+pub set_no_array : (v : Tree) (i : ℕ) (p : List Step) (n : Tree) → None ≡ items_if_array v → depth_of (set_tree v (place i ∷ p) n) ≤ suc (length p + depth_of n)
+set_no_array (array ts) i p n none = absurd cc
+set_no_array v i p n none =
+    let h = chain_shallow p n in
+    let e = put_item_within i (chain p n) no_items in
+    omega arith
+
+-- a fact that a test decides, by the test
+pub over : (b : Bool) (d limit : ℕ) → (IsTrue b ↔ (d ≤ limit)) → b ≡ false → limit < d
+over b d limit decides no = ⊎_elim (λ h. h) (λ h. absurd (true≢false (sym (decides.1 h) ∙ no))) (cases_lt limit d)
+
+-- where a part is over the limit, so is the whole
+pub over_whole : (b : Bool) (d whole limit : ℕ) → (IsTrue b ↔ (d ≤ limit)) → b ≡ false → d ≤ whole → IsTrue b ↔ (whole ≤ limit)
+over_whole b d whole limit decides no below = let h = over b d limit decides no in (λ yes. absurd (true≢false (sym yes ∙ no)), λ fits. absurd (omega arith))
+
+pub length_plain : (steps : List CodeStep) → length (plain steps) ≡ length steps
+length_plain [] = refl
+length_plain (s ∷ steps) = ap suc (length_plain steps)
+
+-- a set at a path of the code, in what isn't the container that the first step fits: the limit has room for the path and the new part
+pub no_object_fits : (v : Tree) (steps : List CodeStep) (s : CodeStep) (name : List ℕ) (n : Tree) (limit : ℕ) → s ≡ get_or steps 0 s → s ≡ Field name → 1 ≤ length steps → None ≡ members_if_object v
+    → length steps + depth_of n ≤ limit → depth_of (set_tree v (plain steps) n) ≤ limit
+no_object_fits v [] s name n limit is field_is some none room = absurd (omega arith)
+no_object_fits v (q ∷ rest) s name n limit is field_is some none room =
+    let h = set_no_object v name (plain rest) n none in
+    let e = ap (λ x. depth_of (set_tree v (plain_step x ∷ plain rest) n)) (sym is ∙ field_is) in
+    let m = length_plain rest in
+    omega arith
+
+pub no_array_fits : (v : Tree) (steps : List CodeStep) (s : CodeStep) (i : ℤ) (n : Tree) (limit : ℕ) → s ≡ get_or steps 0 s → s ≡ Place i → IsWritableStep s → 1 ≤ length steps → None ≡ items_if_array v
+    → length steps + depth_of n ≤ limit → depth_of (set_tree v (plain steps) n) ≤ limit
+no_array_fits v [] s i n limit is place_is plain_s some none room = absurd (omega arith)
+no_array_fits v (q ∷ rest) s (pos i) n limit is place_is plain_s some none room =
+    let h = set_no_array v i (plain rest) n none in
+    let e = ap (λ x. depth_of (set_tree v (plain_step x ∷ plain rest) n)) (sym is ∙ place_is) in
+    let m = length_plain rest in
+    omega arith
+no_array_fits v (q ∷ rest) s (negsuc i) n limit is place_is plain_s some none room = absurd (subst IsWritableStep place_is plain_s)

@@ -1,0 +1,51 @@
+ghost use Rattle.std.specs.Prelude.{◌≡◌, IfOk, OnErr, OnOk, option_map, ◌≤◌};
+ghost use Rattle.vrl_path.specs.Parts.{without_part, with_part};
+ghost use Rattle.vrl_path.specs.Read.{place_of, signed_part_at, tree_found};
+ghost use Rattle.vrl_path.specs.Steps.{plain_step, IsPlainStep, IsWritableStep};
+ghost use Rattle.vrl_value.specs.Look.{part_at};
+ghost use Rattle.vrl_value.specs.Parts.{count_of, put_item};
+ghost use Rattle.vrl_value.specs.Tree.{null};
+ghost use Rattle.vrl_value.specs.View.{items_view, items_of, tree_of};
+
+use crate::path::Step;
+use std::alloc::Global;
+use std::collections::BTreeMap;
+use std::mem;
+use vrl_value::{Fields, Items, Memory, Value};
+
+/// The part of a value at a step. `None`: there is none.
+pub fn part<'a>(value: &'a Value, step: &Step) -> Option<&'a Value>
+    ensures { option_map (λ part. tree_of part.now) result ≡ tree_found (signed_part_at (tree_of value.now) step.now) }
+{
+    match (value, step) {
+        (Value::Object(fields), Step::Field(name)) => fields.get(name.as_str()),
+        (Value::List(items), Step::Place(place)) => items.get(index(items.len(), *place)?),
+        _ => None,
+    }
+}
+
+// The place among this many, counted from the start. `None`: it is before the first.
+fn index(count: usize, place: i64) -> Option<usize>
+    ensures { result ≡ place_of count place }
+{
+    let distance = place.unsigned_abs() as usize;
+    if place >= 0 {
+        Some(distance)
+    } else {
+        count.checked_sub(distance)
+    }
+}
+
+/// Takes out the part of a value at a step that is no negative place. `None`: there is none, and the value
+/// stays as it was.
+pub fn take_part(value: &mut Value, step: &Step) -> Option<Value>
+    requires { IsPlainStep step.now }
+    ensures value { option_map tree_of result ≡ tree_found (part_at (tree_of value.old) (plain_step step.now)) }
+    ensures rest { tree_of value.new ≡ without_part (plain_step step.now) (tree_of value.old) }
+{
+    match (value, step) {
+        (Value::Object(fields), Step::Field(name)) => fields.remove(name.as_str()),
+        (Value::List(items), Step::Place(place)) => items.remove(place.unsigned_abs() as usize),
+        _ => None,
+    }
+}

@@ -1,0 +1,96 @@
+use crate::{Path, SetFault, Step, exists, get, put, remove, set};
+use std::alloc::Global;
+use std::collections::BTreeMap;
+use std::process::Abort;
+use std::test::Fail;
+use vrl_value::{Chars, Fields, Items, Memory, Value};
+
+// `.a`, and behind it a place, where one is told.
+fn path(alloc: Global, place: Option<i64>) -> Result<Path, Memory> {
+    let mut steps = Vec::new(alloc);
+    steps.push(Step::Field(Chars::copy_of(alloc, "a")?))?;
+    if let Some(place) = place {
+        steps.push(Step::Place(place))?;
+    }
+    Ok(Path::new(steps))
+}
+
+// `{"a":part}`
+fn object(alloc: Global, part: Value) -> Result<Value, Memory> {
+    let mut fields = Fields::new(BTreeMap::new(alloc));
+    fields.insert(Chars::copy_of(alloc, "a")?, part)?;
+    Ok(Value::Object(fields))
+}
+
+// An array of these numbers, null where one is below 0.
+fn array(alloc: Global, numbers: &[i64]) -> Result<Value, Memory> {
+    let mut items = Vec::new(alloc);
+    for number in numbers {
+        items.push(if *number < 0 { Value::Null } else { Value::Int(*number) })?;
+    }
+    Ok(Value::List(Items::new(items)))
+}
+
+// Arrays in one another, this many.
+fn nest(alloc: Global, depth: u64) -> Result<Value, Memory> {
+    let mut value = Value::Null;
+    for _level in 0..depth {
+        let mut items = Vec::new(alloc);
+        items.push(value)?;
+        value = Value::List(Items::new(items));
+    }
+    Ok(value)
+}
+
+// Whether the number read at `.a[place]` in `{"a":[1,2]}` is this one.
+fn expect_read(rt: &impl Abort, alloc: Global, place: i64, wanted: Option<i64>) -> Result<(), Memory> {
+    let value = object(alloc, array(alloc, &[1, 2])?)?;
+    let path = path(alloc, Some(place))?;
+    let found = match get(&value, &path) {
+        Some(Value::Int(number)) => Some(*number),
+        _ => None,
+    };
+    assert!(rt; found == wanted && exists(&value, &path) == wanted.is_some(), "at {place}");
+    Ok(())
+}
+
+#[test]
+fn reads(rt: HostRuntime) -> Result<(), Fail> {
+    let alloc = rt.alloc();
+    let rows = [(0, Some(1)), (1, Some(2)), (2, None), (-1, Some(2)), (-2, Some(1)), (-3, None)];
+    for (place, wanted) in &rows {
+        expect_read(&rt, alloc, *place, *wanted)?;
+    }
+    let null = object(alloc, Value::Null)?;
+    assert!(rt; exists(&null, &path(alloc, None)?) && exists(&null, &Path::new(Vec::new(alloc))));
+    let empty = object(alloc, array(alloc, &[])?)?;
+    assert!(rt; get(&empty, &path(alloc, Some(-1))?).is_none());
+    Ok(())
+}
+
+#[test]
+fn sets_and_removals(rt: HostRuntime) -> Result<(), Fail> {
+    let alloc = rt.alloc();
+    let mut value = object(alloc, Value::Text(Chars::copy_of(alloc, "t")?))?;
+    let third = path(alloc, Some(2))?;
+    assert!(rt; set(alloc, &mut value, &third, Value::Int(1)).is_ok());
+    assert!(rt; value.same(&object(alloc, array(alloc, &[-1, -1, 1])?)?));
+
+    let mut pair = object(alloc, array(alloc, &[1, 2])?)?;
+    let removed = remove(&mut pair, &path(alloc, Some(0))?);
+    assert!(rt; matches!(removed, Some(Value::Int(1))));
+    assert!(rt; pair.same(&object(alloc, array(alloc, &[2])?)?));
+    Ok(())
+}
+
+#[test]
+fn depths(rt: HostRuntime) -> Result<(), Fail> {
+    let alloc = rt.alloc();
+    let field = path(alloc, None)?;
+    let mut value = Value::Object(Fields::new(BTreeMap::new(alloc)));
+    let outcome = set(alloc, &mut value, &field, nest(alloc, 128)?);
+    assert!(rt; outcome == Err(SetFault::TooDeep) && value.depth() == 1 && !exists(&value, &field));
+    assert!(rt; set(alloc, &mut value, &field, nest(alloc, 127)?).is_ok() && value.depth() == 128);
+    assert!(rt; put(alloc, &mut value, &field, nest(alloc, 128)?).is_ok() && value.depth() == 129);
+    Ok(())
+}
