@@ -5,8 +5,6 @@ mod code;
 mod diagnostic;
 mod position;
 mod rendering;
-#[cfg(test)]
-mod tests;
 
 pub use code::{severity, title};
 pub use diagnostic::{Diagnostic, Diagnostics, Severity, Span};

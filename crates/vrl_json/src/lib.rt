@@ -5,8 +5,6 @@
 
 mod fault;
 mod read;
-#[cfg(test)]
-mod tests;
 mod write;
 
 pub use fault::JsonFault;

@@ -196,6 +196,3 @@ fn some_tag_in_both(a: &Kind, b: &Kind) -> bool
 {
     TAGS.iter().any(|tag| has(a, *tag) && has(b, *tag))
 }
-
-#[cfg(test)]
-mod tests;

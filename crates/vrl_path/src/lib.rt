@@ -10,8 +10,6 @@ mod parts;
 mod path;
 mod read;
 mod removal;
-#[cfg(test)]
-mod tests;
 mod write;
 
 pub use fault::SetFault;

@@ -4,4 +4,16 @@
 #[cfg(test)]
 mod devices;
 #[cfg(test)]
+mod diagnostics;
+#[cfg(test)]
+mod json;
+#[cfg(test)]
+mod kinds;
+#[cfg(test)]
+mod paths;
+#[cfg(test)]
 mod scripts;
+#[cfg(test)]
+mod sharing;
+#[cfg(test)]
+mod values;

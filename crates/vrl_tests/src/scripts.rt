@@ -1,6 +1,7 @@
-ghost use Rattle.std.specs.Prelude.{◌≡◌, ◌≤◌, length};
+ghost use Rattle.std.specs.Prelude.{◌≤◌, length};
 
 // Scripts, from their text to the event that they leave.
+use crate::sharing::shareable;
 use std::alloc::Global;
 use std::collections::BTreeMap;
 use std::process::Abort;
@@ -173,13 +174,6 @@ fn scripts_are_judged(rt: HostRuntime) -> Result<(), Fail> {
         ],
     )?;
     Ok(())
-}
-
-// What goes through here may be sent to other threads and shared among them.
-fn shareable<T: Send + Sync>(value: T) -> T
-    ensures { result ≡ value }
-{
-    value
 }
 
 #[test]

@@ -10,8 +10,6 @@ mod moment;
 mod moment_text;
 mod padding;
 mod reading;
-#[cfg(test)]
-mod tests;
 mod value;
 
 pub use laws::{members_are_maps, members_stay_json, moments_read_back};

@@ -1,11 +1,10 @@
-ghost use Rattle.std.specs.Prelude.{◌≡◌};
-
-use crate::{Bytes, Chars, Fields, Items, Memory, Moment, Names, Tag, Value};
+use crate::sharing::shareable;
 use std::alloc::Global;
 use std::cmp::Ordering;
 use std::collections::BTreeMap;
 use std::process::Abort;
 use std::test::Fail;
+use vrl_value::{Bytes, Chars, Fields, Items, Memory, Moment, Names, Tag, Value};
 
 #[test]
 fn lists(rt: HostRuntime) -> Result<(), Fail> {
@@ -26,13 +25,6 @@ fn lists(rt: HostRuntime) -> Result<(), Fail> {
     let told = format!(in alloc; "{}", Memory)?;
     assert!(rt; told.as_str() == "out of memory");
     Ok(())
-}
-
-// What workers may share and send.
-fn shareable<T: Send + Sync>(value: T) -> T
-    ensures { result ≡ value }
-{
-    value
 }
 
 // Numbers of nanoseconds, and whether they are moments.

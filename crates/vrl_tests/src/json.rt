@@ -1,6 +1,6 @@
-use crate::{JsonFault, from_line, json_needs_no_sources, lines_are_json, to_line};
 use std::alloc::Global;
 use std::test::Fail;
+use vrl_json::{JsonFault, from_line, json_needs_no_sources, lines_are_json, to_line};
 use vrl_value::{Bytes, Chars, Items, Moment, Value};
 
 #[test]

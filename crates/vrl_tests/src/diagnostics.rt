@@ -1,5 +1,5 @@
-use super::*;
 use std::test::Fail;
+use vrl_diag::{Diagnostic, Diagnostics, Severity, Span, render, render_all, severity, title};
 
 #[test]
 fn lines(rt: HostRuntime) -> Result<(), Fail> {
