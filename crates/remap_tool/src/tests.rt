@@ -3,10 +3,9 @@ use crate::status::Status;
 use crate::tool::remap;
 use std::alloc::Global;
 use std::process::{Abort, ExitCode};
-use std::test::Fail;
 use std::thread::Threads;
 use vrl_io::{MemoryClock, MemorySink, MemorySource, MemoryStore};
-use vrl_value::{Bytes, Chars};
+use vrl_value::{Bytes, Chars, Memory};
 
 // The size of the input's pieces, where it comes in pieces, and the number of the call that fails, of the
 // input, the output, the report and the store.
@@ -35,7 +34,7 @@ struct Answer {
 }
 
 // The numbers of the calls that fail.
-fn failing(alloc: Global, number: Option<u64>) -> Result<Vec<u64>, Fail> {
+fn failing(alloc: Global, number: Option<u64>) -> Result<Vec<u64>, Memory> {
     let mut numbers = Vec::new(alloc);
     if let Some(number) = number {
         numbers.push(number)?;
@@ -44,7 +43,7 @@ fn failing(alloc: Global, number: Option<u64>) -> Result<Vec<u64>, Fail> {
 }
 
 // The input, and how it comes.
-fn source(alloc: Global, input: &[u8], faults: &Faults) -> Result<MemorySource, Fail> {
+fn source(alloc: Global, input: &[u8], faults: &Faults) -> Result<MemorySource, Memory> {
     let mut pieces = Vec::new(alloc);
     if let Some(size) = faults.pieces {
         pieces.resize(20, size)?;
@@ -53,7 +52,7 @@ fn source(alloc: Global, input: &[u8], faults: &Faults) -> Result<MemorySource, 
 }
 
 // A store that holds the script under the name `s`.
-fn store(alloc: Global, script: &[u8], faults: &Faults) -> Result<MemoryStore, Fail> {
+fn store(alloc: Global, script: &[u8], faults: &Faults) -> Result<MemoryStore, Memory> {
     let mut held = Vec::new(alloc);
     held.push((
         Chars::copy_of(alloc, "s")?,
@@ -63,7 +62,7 @@ fn store(alloc: Global, script: &[u8], faults: &Faults) -> Result<MemoryStore, F
 }
 
 // Words, each behind a stroke.
-fn split_words(alloc: Global, words: &str) -> Result<Vec<String>, Fail> {
+fn split_words(alloc: Global, words: &str) -> Result<Vec<String>, Memory> {
     let mut strings = Vec::new(alloc);
     for word in words.split('|').skip(1) {
         strings.push(String::from_str(alloc, word)?)?;
@@ -78,7 +77,7 @@ fn call<R: Threads + Sync>(
     script: &[u8],
     input: &[u8],
     faults: &Faults,
-) -> Result<Answer, Fail> {
+) -> Result<Answer, Memory> {
     let mut output = MemorySink::new(alloc, failing(alloc, faults.output)?);
     let mut report = MemorySink::new(alloc, failing(alloc, faults.report)?);
     let status = remap(
@@ -114,7 +113,11 @@ type Row = (
     &'static str,
 );
 
-fn expect_rows<R: Threads + Sync + Abort>(rt: &R, alloc: Global, rows: &[Row]) -> Result<(), Fail> {
+fn expect_rows<R: Threads + Sync + Abort>(
+    rt: &R,
+    alloc: Global,
+    rows: &[Row],
+) -> Result<(), Memory> {
     for (script, input, status, output, report) in rows {
         let answer = call(rt, alloc, "|s", script.as_bytes(), input.as_bytes(), &NONE)?;
         assert!(rt;
@@ -129,7 +132,7 @@ const NOT_BUILT: &str = "error[E1099] 1:1 form not built yet\n";
 
 #[test]
 #[rattlefmt::skip]
-fn scripts_and_inputs(rt: HostRuntime) -> Result<(), Fail> {
+fn scripts_and_inputs(rt: HostRuntime) -> Result<(), Memory> {
     let alloc = rt.alloc();
     expect_rows(&rt, alloc, &[
         // Assignments, and lines that are refused.
@@ -137,15 +140,18 @@ fn scripts_and_inputs(rt: HostRuntime) -> Result<(), Fail> {
         (".b = -2", "{\"c\":1}", Status::Done, "{\"b\":-2,\"c\":1}\n", ""),
         (".x = y", "{}", Status::Refused, "", "error[E701] 1:6 undefined variable\n"),
         (".x =", "{}", Status::Refused, "", NOT_BUILT),
-        (".x = 1", "[1]\n{}", Status::Marked, "{\"x\":1}\n", "line 1: refused: not built yet\n"),
+        (".x = 1", "[1]\n{}", Status::Marked, "{\"x\":1}\n", "line 1: refused: not of the declared kind\n"),
         (".x = 1", "\n \t\r\n{\"a\":\"b\"}\n", Status::Done, "{\"a\":\"b\",\"x\":1}\n", ""),
         (".x = 1", "{\"p\":1.5}\n{\n\n{\"a\":1}\n{", Status::Marked, "{\"a\":1,\"x\":1}\n",
-            "line 1: refused: not built yet\nline 2: refused: not built yet\nline 5: refused: not built yet\n"),
+            "line 1: refused: not whole numbers\nline 2: refused: not JSON\nline 5: refused: not JSON\n"),
         (".n = -9223372036854775808", "{}", Status::Done, "{\"n\":-9223372036854775808}\n", ""),
         (".n = 9223372036854775808", "{}", Status::Refused, "", NOT_BUILT),
         (".x = 1", "", Status::Done, "", ""),
         ("", "{\"b\":1,\"a\":2}", Status::Done, "{\"a\":2,\"b\":1}\n", ""),
         ("", "{\"a\":1,\"a\":2}", Status::Done, "{\"a\":2}\n", ""),
+        ("", "{\"l\":[1,{\"a\":null}],\"t\":true}", Status::Done, "{\"l\":[1,{\"a\":null}],\"t\":true}\n", ""),
+        ("", "[1.5\n[1.5]\n[15]", Status::Marked, "",
+            "line 1: refused: not JSON\nline 2: refused: not whole numbers\nline 3: refused: not of the declared kind\n"),
         // Expressions that can fail.
         (".y = .a + 1", "{}", Status::Refused, "", "error[E103] 1:1 unhandled fallible assignment\n"),
         (".y = .a + 1 ?? 0", "{\"a\":2}\n{\"a\":\"q\"}", Status::Done, "{\"a\":2,\"y\":3}\n{\"a\":\"q\",\"y\":0}\n", ""),
@@ -172,7 +178,7 @@ fn padded(
     byte: u8,
     length: usize,
     back: &str,
-) -> Result<Vec<u8>, Fail> {
+) -> Result<Vec<u8>, Memory> {
     let mut bytes = front.as_bytes().to_vec(alloc)?;
     bytes.resize(length, byte)?;
     bytes.extend_from_slice(back.as_bytes())?;
@@ -189,12 +195,12 @@ const LIMITS: [(usize, usize, &str, Status, &str, &str); 4] = [
         "\"}\n{}",
         Status::Marked,
         "{\"a\":1}\n",
-        "line 1: refused: not built yet\n",
+        "line 1: refused: longer than 1048576 bytes\n",
     ),
 ];
 
 #[test]
-fn scripts_and_lines_at_the_limit(rt: HostRuntime) -> Result<(), Fail> {
+fn scripts_and_lines_at_the_limit(rt: HostRuntime) -> Result<(), Memory> {
     let alloc = rt.alloc();
     for (script, line, back, status, output, report) in &LIMITS {
         let script = padded(alloc, ".a = 1", b' ', *script, "")?;
@@ -215,7 +221,7 @@ const INPUT: &str = "{\"a\":1}\n[2]\n{\"c\":3}";
 
 const OUTPUT: &str = "{\"a\":1,\"x\":1}\n{\"c\":3,\"x\":1}\n";
 
-const REPORT: &str = "line 2: refused: not built yet\n";
+const REPORT: &str = "line 2: refused: not of the declared kind\n";
 
 // Words, a script, what fails, and what comes of it over `INPUT`: the status, the output and the report.
 type Case = (
@@ -231,7 +237,7 @@ fn expect_cases<R: Threads + Sync + Abort>(
     rt: &R,
     alloc: Global,
     cases: &[Case],
-) -> Result<(), Fail> {
+) -> Result<(), Memory> {
     for (words, script, faults, status, output, report) in cases {
         let answer = call(
             rt,
@@ -253,7 +259,7 @@ const USAGE: &str = "usage: remap SCRIPT\n";
 
 #[test]
 #[rattlefmt::skip]
-fn words_and_faults(rt: HostRuntime) -> Result<(), Fail> {
+fn words_and_faults(rt: HostRuntime) -> Result<(), Memory> {
     let alloc = rt.alloc();
     expect_cases(&rt, alloc, &[
         // The input in pieces.
@@ -279,7 +285,7 @@ fn words_and_faults(rt: HostRuntime) -> Result<(), Fail> {
 }
 
 #[test]
-fn each_take_fails(rt: HostRuntime) -> Result<(), Fail> {
+fn each_take_fails(rt: HostRuntime) -> Result<(), Memory> {
     // In pieces of 7 bytes the input of 19 bytes takes three calls, and one that tells its end. Each sink then
     // holds a front of what it would hold without the fault.
     for number in 0u64..4 {

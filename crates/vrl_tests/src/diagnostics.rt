@@ -1,8 +1,8 @@
-use std::test::Fail;
 use vrl_diag::{Diagnostic, Diagnostics, Severity, Span, render, render_all, severity, title};
+use vrl_value::Memory;
 
 #[test]
-fn lines(rt: HostRuntime) -> Result<(), Fail> {
+fn lines(rt: HostRuntime) -> Result<(), Memory> {
     let rows = [
         (
             103,
@@ -37,7 +37,7 @@ fn lines(rt: HostRuntime) -> Result<(), Fail> {
 }
 
 #[test]
-fn lines_of_a_script(rt: HostRuntime) -> Result<(), Fail> {
+fn lines_of_a_script(rt: HostRuntime) -> Result<(), Memory> {
     let span = Span { start: 2, end: 3 };
     let list = vec![in rt.alloc();
         Diagnostic { code: 650, span },

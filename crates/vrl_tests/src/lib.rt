@@ -6,9 +6,9 @@ mod devices;
 #[cfg(test)]
 mod diagnostics;
 #[cfg(test)]
-mod json;
-#[cfg(test)]
 mod kinds;
+#[cfg(test)]
+mod lines;
 #[cfg(test)]
 mod paths;
 #[cfg(test)]

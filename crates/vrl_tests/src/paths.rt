@@ -1,7 +1,6 @@
 use std::alloc::Global;
 use std::collections::BTreeMap;
 use std::process::Abort;
-use std::test::Fail;
 use vrl_path::{Path, SetFault, Step, exists, get, put, remove, set};
 use vrl_value::{Chars, Fields, Items, Memory, Value};
 
@@ -67,7 +66,7 @@ fn expect_read(
 }
 
 #[test]
-fn reads(rt: HostRuntime) -> Result<(), Fail> {
+fn reads(rt: HostRuntime) -> Result<(), Memory> {
     let alloc = rt.alloc();
     let rows = [
         (0, Some(1)),
@@ -88,7 +87,7 @@ fn reads(rt: HostRuntime) -> Result<(), Fail> {
 }
 
 #[test]
-fn sets_and_removals(rt: HostRuntime) -> Result<(), Fail> {
+fn sets_and_removals(rt: HostRuntime) -> Result<(), Memory> {
     let alloc = rt.alloc();
     let mut value = object(alloc, Value::Text(Chars::copy_of(alloc, "t")?))?;
     let third = path(alloc, Some(2))?;
@@ -103,7 +102,7 @@ fn sets_and_removals(rt: HostRuntime) -> Result<(), Fail> {
 }
 
 #[test]
-fn depths(rt: HostRuntime) -> Result<(), Fail> {
+fn depths(rt: HostRuntime) -> Result<(), Memory> {
     let alloc = rt.alloc();
     let field = path(alloc, None)?;
     let mut value = Value::Object(Fields::new(BTreeMap::new(alloc)));

@@ -161,7 +161,7 @@ fn expect_codes(
 }
 
 #[test]
-fn scripts_are_judged(rt: HostRuntime) -> Result<(), Fail> {
+fn scripts_are_judged(rt: HostRuntime) -> Result<(), Memory> {
     expect_codes(
         &rt,
         rt.alloc(),
@@ -177,7 +177,7 @@ fn scripts_are_judged(rt: HostRuntime) -> Result<(), Fail> {
 }
 
 #[test]
-fn a_script_runs_over_an_event(rt: HostRuntime) -> Result<(), Fail> {
+fn a_script_runs_over_an_event(rt: HostRuntime) -> Result<(), Memory> {
     let alloc = rt.alloc();
     let Compiled::Accepted(program, warnings) = shareable(compile(alloc, ".x = .y ?? 1")?) else {
         panic!(rt; "refused");

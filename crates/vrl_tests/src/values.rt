@@ -3,11 +3,10 @@ use std::alloc::Global;
 use std::cmp::Ordering;
 use std::collections::BTreeMap;
 use std::process::Abort;
-use std::test::Fail;
 use vrl_value::{Bytes, Chars, Fields, Items, Memory, Moment, Names, Tag, Value};
 
 #[test]
-fn lists(rt: HostRuntime) -> Result<(), Fail> {
+fn lists(rt: HostRuntime) -> Result<(), Memory> {
     let alloc = rt.alloc();
     let text = Chars::new(String::from_str(alloc, "a\u{e9}")?);
     assert!(rt; text.copy(alloc)?.as_str() == "a\u{e9}");
@@ -51,7 +50,7 @@ fn expect_texts(rt: &impl Abort, alloc: Global, rows: &[(&str, &str)]) -> Result
 }
 
 #[test]
-fn moments(rt: HostRuntime) -> Result<(), Fail> {
+fn moments(rt: HostRuntime) -> Result<(), Memory> {
     expect_range(
         &rt,
         &[
@@ -165,7 +164,7 @@ fn expect_values(
 }
 
 #[test]
-fn values(rt: HostRuntime) -> Result<(), Fail> {
+fn values(rt: HostRuntime) -> Result<(), Memory> {
     let alloc = rt.alloc();
     let values = shareable(each_sort(alloc)?);
     let rows = [
@@ -190,7 +189,7 @@ fn values(rt: HostRuntime) -> Result<(), Fail> {
 }
 
 #[test]
-fn fields(rt: HostRuntime) -> Result<(), Fail> {
+fn fields(rt: HostRuntime) -> Result<(), Memory> {
     let mut fields = Fields::new(BTreeMap::new(rt.alloc()));
     fields.insert(Chars::copy_of(rt.alloc(), "a")?, Value::Int(1))?;
     fields.insert(Chars::copy_of(rt.alloc(), "b")?, Value::Null)?;

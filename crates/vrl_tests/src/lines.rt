@@ -1,10 +1,9 @@
 use std::alloc::Global;
-use std::test::Fail;
 use vrl_json::{JsonFault, from_line, json_needs_no_sources, lines_are_json, to_line};
-use vrl_value::{Bytes, Chars, Items, Moment, Value};
+use vrl_value::{Bytes, Chars, Items, Memory, Moment, Value};
 
 #[test]
-fn lines_read_and_written(rt: HostRuntime) -> Result<(), Fail> {
+fn lines_read_and_written(rt: HostRuntime) -> Result<(), Memory> {
     let alloc = rt.alloc();
     for (line, answer) in [
         (b"{\"b\":1,\"a\":2}".as_slice(), "{\"a\":2,\"b\":1}"),
@@ -43,7 +42,7 @@ fn lines_read_and_written(rt: HostRuntime) -> Result<(), Fail> {
 }
 
 // The line of what a line stands for, or why it is refused.
-fn rewritten(alloc: Global, line: &[u8]) -> Result<Bytes, Fail> {
+fn rewritten(alloc: Global, line: &[u8]) -> Result<Bytes, Memory> {
     lines_are_json();
     json_needs_no_sources();
     match from_line(alloc, line) {
@@ -53,7 +52,7 @@ fn rewritten(alloc: Global, line: &[u8]) -> Result<Bytes, Fail> {
 }
 
 #[test]
-fn nesting(rt: HostRuntime) -> Result<(), Fail> {
+fn nesting(rt: HostRuntime) -> Result<(), Memory> {
     for (depth, fault) in [(127, None), (128, Some(JsonFault::NotJson))] {
         let mut line = Vec::new(rt.alloc());
         line.resize(depth, b'[')?;
@@ -64,7 +63,7 @@ fn nesting(rt: HostRuntime) -> Result<(), Fail> {
 }
 
 #[test]
-fn timestamps_and_regexes(rt: HostRuntime) -> Result<(), Fail> {
+fn timestamps_and_regexes(rt: HostRuntime) -> Result<(), Memory> {
     let alloc = rt.alloc();
     if let Some(moment) = Moment::new(1_704_161_045_500_000_000) {
         let parts = vec![in alloc; Value::Time(moment), Value::Pattern(0)]?;
