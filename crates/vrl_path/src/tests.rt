@@ -26,7 +26,11 @@ fn object(alloc: Global, part: Value) -> Result<Value, Memory> {
 fn array(alloc: Global, numbers: &[i64]) -> Result<Value, Memory> {
     let mut items = Vec::new(alloc);
     for number in numbers {
-        items.push(if *number < 0 { Value::Null } else { Value::Int(*number) })?;
+        items.push(if *number < 0 {
+            Value::Null
+        } else {
+            Value::Int(*number)
+        })?;
     }
     Ok(Value::List(Items::new(items)))
 }
@@ -43,21 +47,36 @@ fn nest(alloc: Global, depth: u64) -> Result<Value, Memory> {
 }
 
 // Whether the number read at `.a[place]` in `{"a":[1,2]}` is this one.
-fn expect_read(rt: &impl Abort, alloc: Global, place: i64, wanted: Option<i64>) -> Result<(), Memory> {
+fn expect_read(
+    rt: &impl Abort,
+    alloc: Global,
+    place: i64,
+    wanted: Option<i64>,
+) -> Result<(), Memory> {
     let value = object(alloc, array(alloc, &[1, 2])?)?;
     let path = path(alloc, Some(place))?;
     let found = match get(&value, &path) {
         Some(Value::Int(number)) => Some(*number),
         _ => None,
     };
-    assert!(rt; found == wanted && exists(&value, &path) == wanted.is_some(), "at {place}");
+    assert!(rt;
+        found == wanted && exists(&value, &path) == wanted.is_some(),
+        "at {place}"
+    );
     Ok(())
 }
 
 #[test]
 fn reads(rt: HostRuntime) -> Result<(), Fail> {
     let alloc = rt.alloc();
-    let rows = [(0, Some(1)), (1, Some(2)), (2, None), (-1, Some(2)), (-2, Some(1)), (-3, None)];
+    let rows = [
+        (0, Some(1)),
+        (1, Some(2)),
+        (2, None),
+        (-1, Some(2)),
+        (-2, Some(1)),
+        (-3, None),
+    ];
     for (place, wanted) in &rows {
         expect_read(&rt, alloc, *place, *wanted)?;
     }

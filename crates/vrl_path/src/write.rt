@@ -82,7 +82,13 @@ fn put_at(alloc: Global, value: &mut Value, steps: &[Step], new: Value) -> Resul
 
 // Sets a value at the end of the steps in the field of a name.
 #[cycle(put)]
-fn put_in_fields(alloc: Global, fields: &mut Fields, name: &Chars, steps: &[Step], new: Value) -> Result<(), Memory>
+fn put_in_fields(
+    alloc: Global,
+    fields: &mut Fields,
+    name: &Chars,
+    steps: &[Step],
+    new: Value,
+) -> Result<(), Memory>
     requires { IsWritable steps.now }
     ensures ok { OnOk result (members_of fields.new ≡ set_in_fields name.now (members_of fields.old) (plain steps.now) (tree_of new)) }
     ensures err { OnErr result (members_of fields.new ≡ members_of fields.old) }
@@ -98,7 +104,13 @@ fn put_in_fields(alloc: Global, fields: &mut Fields, name: &Chars, steps: &[Step
 
 // Sets a value at the end of the steps in the item at a place.
 #[cycle(put)]
-fn put_in_items(alloc: Global, items: &mut Items, place: usize, steps: &[Step], new: Value) -> Result<(), Memory>
+fn put_in_items(
+    alloc: Global,
+    items: &mut Items,
+    place: usize,
+    steps: &[Step],
+    new: Value,
+) -> Result<(), Memory>
     requires { IsWritable steps.now }
     ensures ok { OnOk result (items_of items.new ≡ set_in_items place (items_of items.old) (plain steps.now) (tree_of new)) }
     ensures err { OnErr result (items_of items.new ≡ items_of items.old) }

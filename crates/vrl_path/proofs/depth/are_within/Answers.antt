@@ -44,8 +44,8 @@ returns-then-not-entry_fits c = λ t new.
     let decides = rw c.as_str.ensures.value at c.entry_fits.ensures in (
       λ yes. absurd cc,
       λ fits.
-        let within = (fields_within name t (members_view es) c.args.limit (keys_ascend es c.iter-key-items.ensures.ordered) new).1 fits in
-        let whole = subst (λ xs. members_depth (without name (members_view xs)) ≤ c.args.limit) all within in
-        let one : members_depth (without name (members_view (e ∷ []))) ≤ c.args.limit = omega arith in
-        absurd (true≢false (sym (decides.1 one) ∙ c.if-not-entry_fits.true)),
+          let within = (fields_within name t (members_view es) c.args.limit (keys_ascend es c.iter-key-items.ensures.ordered) new).1 fits in
+          let whole = subst (λ xs. members_depth (without name (members_view xs)) ≤ c.args.limit) all within in
+          let one : members_depth (without name (members_view (e ∷ []))) ≤ c.args.limit = omega arith in
+          absurd (true≢false (sym (decides.1 one) ∙ c.if-not-entry_fits.true)),
     )
