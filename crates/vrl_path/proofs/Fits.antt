@@ -1,6 +1,7 @@
 -- Whether a tree is within a limit of depth with another set in it: by what stands beside the path.
-use Rattle.std.proofs.Common.{◌≡◌, ◌≢◌, ℕ, ℤ, pos, negsuc, zero, suc, ◌+◌, ◌<◌, ◌≤◌, ◌↔◌, List, [], ◌∷◌, ◌++◌, length, max, get_or, Bool, true, false, Option, Some, None, String, Global, Ordering, Less, Equal, Greater, nat_cmp, string_cmp, string_bytes, IsTrue, refl, sym, ap, ◌∙◌, subst, arith, ⊎_elim}
+use Rattle.std.proofs.Common.{◌≡◌, ◌≢◌, ℕ, ℤ, pos, negsuc, zero, suc, ◌+◌, ◌<◌, ◌≤◌, ◌↔◌, List, [], ◌∷◌, ◌++◌, length, max, get_or, Bool, true, false, Option, Some, None, String, Global, Ordering, Less, Equal, Greater, nat_cmp, string_cmp, string_bytes, bytes_eq, IsTrue, refl, sym, ap, ◌∙◌, subst, arith, ⊎_elim}
 use Rattle.std.proofs.lemmas.Bool.{true≢false, cases_lt}
+use Rattle.std.proofs.lemmas.Slice.Eq.{bytes_eq-Decides}
 use Rattle.std.proofs.lemmas.Cmp.{nat_list_cmp_total, tied_itself}
 use Rattle.std.specs.Cmp.Lexicographic.{slice_cmp}
 use Rattle.std.specs.List.{AllByRecursion}
@@ -224,11 +225,11 @@ set_no_array v i p n none =
 
 -- a fact that a test decides, by the test
 pub over : (b : Bool) (d limit : ℕ) → (IsTrue b ↔ (d ≤ limit)) → b ≡ false → limit < d
-over b d limit decides no = ⊎_elim (λ h. h) (λ h. absurd (true≢false (sym (decides.1 h) ∙ no))) (cases_lt limit d)
+over b d limit decides fails = ⊎_elim (λ h. h) (λ h. absurd (true≢false (sym (decides.1 h) ∙ fails))) (cases_lt limit d)
 
 -- where a part is over the limit, so is the whole
 pub over_whole : (b : Bool) (d whole limit : ℕ) → (IsTrue b ↔ (d ≤ limit)) → b ≡ false → d ≤ whole → IsTrue b ↔ (whole ≤ limit)
-over_whole b d whole limit decides no below = let h = over b d limit decides no in (λ yes. absurd (true≢false (sym yes ∙ no)), λ fits. absurd (omega arith))
+over_whole b d whole limit decides fails below = let h = over b d limit decides fails in (λ yes. absurd (true≢false (sym yes ∙ fails)), λ fits. absurd (omega arith))
 
 pub length_plain : (steps : List CodeStep) → length (plain steps) ≡ length steps
 length_plain [] = refl
@@ -253,3 +254,14 @@ no_array_fits v (q ∷ rest) s (pos i) n limit is place_is plain_s some none roo
     let m = length_plain rest in
     omega arith
 no_array_fits v (q ∷ rest) s (negsuc i) n limit is place_is plain_s some none room = absurd (subst IsWritableStep place_is plain_s)
+
+-- an entry at the name always fits
+pub entry_at_name : (key name : List ℕ) (u : Tree) (limit : ℕ) → bytes_eq key name ≡ true → members_depth (without name (member key u no_members)) ≤ limit
+entry_at_name key name u limit is = one_entry_at (slice_cmp nat_cmp name key) key u limit (λ other. absurd (other (equal_keys name key (sym ((bytes_eq-Decides key name).0 is)))))
+
+-- another one where it is within the limit
+pub entry_elsewhere : (key name : List ℕ) (u : Tree) (limit : ℕ) → bytes_eq key name ≡ false → (depth_of u ≤ limit) ↔ (members_depth (without name (member key u no_members)) ≤ limit)
+entry_elsewhere key name u limit is =
+    let other : key ≢ name = λ e. true≢false (sym ((bytes_eq-Decides key name).1 e) ∙ is) in
+    let apart = λ (e : slice_cmp nat_cmp name key ≡ Equal). other (sym (same_keys name key e)) in
+    (λ h. one_entry_at (slice_cmp nat_cmp name key) key u limit (λ _. h), λ h. let deep = deep_entry_at (slice_cmp nat_cmp name key) key u no_members apart in omega arith)

@@ -3,8 +3,8 @@ ghost use Rattle.vrl_path.specs.Steps.{plain, IsWritable};
 ghost use Rattle.vrl_path.specs.Trees.{items_if_array, members_if_object, set_in_fields, set_in_items, set_tree};
 ghost use Rattle.vrl_path.specs.Write.{depth_limit};
 ghost use Rattle.vrl_value.specs.Depth.{depth_of, items_depth, members_depth};
-ghost use Rattle.vrl_value.specs.Parts.{put_item};
-ghost use Rattle.vrl_value.specs.Tree.{Tree};
+ghost use Rattle.vrl_value.specs.Parts.{put_item, without};
+ghost use Rattle.vrl_value.specs.Tree.{Tree, member, no_members};
 ghost use Rattle.vrl_value.specs.View.{items_of as list_of, members_of, members_view, tree_of};
 
 use crate::path::Step;
@@ -122,9 +122,24 @@ fn are_within(map: &BTreeMap<String, Value>, name: &str, limit: u64) -> bool
         → (IsTrue result ↔ (members_depth (set_in_fields name.now (members_view map.now.entries) [] t) ≤ limit)) }
 {
     for (key, part) in map.iter() {
-        if key.as_str() != name && part.depth() > limit {
+        if !entry_fits(key.as_str(), part, name, limit) {
             return false;
         }
+    }
+    true
+}
+
+// Whether an entry is within a limit of depth, or the one of a name.
+fn entry_fits(key: &str, part: &Value, name: &str, limit: u64) -> bool
+    requires { limit ≤ depth_limit }
+    ensures { IsTrue result
+        ↔ (members_depth (without name.now (member key.now (tree_of part.now) no_members)) ≤ limit) }
+{
+    if key == name {
+        return true;
+    }
+    if part.depth() > limit {
+        return false;
     }
     true
 }

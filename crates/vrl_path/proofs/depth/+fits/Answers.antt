@@ -52,9 +52,9 @@ item_fits-returns-in-None t c = λ n room.
 
 pub fits_at-returns-in-None : goal.fits_at-returns-in-None
 fits_at-returns-in-None t c = λ n room.
-    (λ yes. no_object_fits (tree_of c.args.value.now) c.args.steps.now c.step-item.result c.in-Field.name.now n c.args.limit c.step-item.is c.in-Field.is c.in-len1-up.len_at_least c.in-None.ensures room, λ fits. refl)
+    (λ yes. no_object_fits (tree_of c.args.value.now) c.args.steps.now c.step-item.result c.in-Field.name n c.args.limit c.step-item.is c.in-Field.is c.in-len1-up.len_at_least c.in-None.ensures room, λ fits. refl)
 
 pub fits_at-returns-in-None-items_of : goal.fits_at-returns-in-None-items_of
 fits_at-returns-in-None-items_of t c = λ n room.
     let writable = subst IsWritableStep (sym c.step-item.is) (c.requires.writable 0 c.step-item.result (omega arith)) in
-    (λ yes. no_array_fits (tree_of c.args.value.now) c.args.steps.now c.step-item.result c.in-Place.place.now n c.args.limit c.step-item.is c.in-Place.is writable c.in-len1-up.len_at_least c.in-None-items_of.ensures room, λ fits. refl)
+    (λ yes. no_array_fits (tree_of c.args.value.now) c.args.steps.now c.step-item.result c.in-Place.place n c.args.limit c.step-item.is c.in-Place.is writable c.in-len1-up.len_at_least c.in-None-items_of.ensures room, λ fits. refl)

@@ -12,9 +12,9 @@ pub returns-then-not-is_within_limit-clause-too_deep : goal.returns-then-not-is_
 returns-then-not-is_within_limit-clause-too_deep c = λ _.
     let v = tree_of c.args.value.now in
     let n = tree_of c.args.new in
-    let no : c.is_within_limit.result ≡ false = search rules in
+    let fails : c.is_within_limit.result ≡ false = search rules in
     let decides = rw c.as_slice.ensures at c.is_within_limit.ensures in
-    too_deep c.members_are_maps.ensures v (plain c.args.path.now) n (over c.is_within_limit.result (depth_of (set_tree v (plain c.args.path.now) n)) depth_limit decides no)
+    too_deep c.members_are_maps.ensures v (plain c.args.path.now) n (over c.is_within_limit.result (depth_of (set_tree v (plain c.args.path.now) n)) depth_limit decides fails)
 
 pub returns-clause-set : goal.returns-clause-set
 returns-clause-set c =
