@@ -569,22 +569,42 @@ class Maker:
         pick = self.rng.random()
         if pick < 0.14:
             return self.rng.choice([ANY, JSON, JSON, NEVER, EVENT])
-        array = self.array(depth) if depth > 0 and self.rng.random() < 0.4 else None
-        object_ = self.object(depth) if depth > 0 and self.rng.random() < 0.45 else None
+        array = self.array(depth) if depth > 0 and self.rng.random() < 0.5 else None
+        object_ = self.object(depth) if depth > 0 and self.rng.random() < 0.5 else None
         return make(self.tags(), array, object_)
 
     def near(self, kind, depth):
         """A kind that has much in common with this one."""
         pick = self.rng.random()
-        if pick < 0.3:
+        if pick < 0.2:
             return self.kind(depth)
-        if pick < 0.5:
+        if pick < 0.45:
+            return self.tweaked(kind)
+        if pick < 0.55:
             return join(kind, self.kind(depth))
         if pick < 0.7:
             return write(kind, self.path(2), self.kind(1))
         if pick < 0.85:
             return remove(kind, self.path(2))
         return kind_of(self.value(kind, depth)) if pick < 0.95 else kind
+
+    def tweaked(self, kind):
+        """The kind with one tag, one part or one rest changed somewhere."""
+        array = (list(kind.array[0]), kind.array[1]) if kind.array else None
+        object_ = (dict(kind.object[0]), kind.object[1]) if kind.object else None
+        held = self.rng.choice([one for one in (array, object_) if one] or [None])
+        if held is None or self.rng.random() < 0.2:
+            return make(kind.tags ^ {self.rng.choice(SCALARS)}, array, object_)
+        keys = list(held[0]) if isinstance(held[0], dict) else list(range(len(held[0])))
+        if keys and self.rng.random() < 0.6:
+            key = self.rng.choice(keys)
+            held[0][key] = Kind(*held[0][key][:1]) if self.rng.random() < 0.1 else self.tweaked(held[0][key])
+            if self.rng.random() < 0.3:
+                held[0][key] = held[0][key]._replace(tags=held[0][key].tags ^ {ABSENT})
+        else:
+            rest = self.rng.choice(["nothing", "json", "any", rest_of(self.tweaked(minus(own(held[1]), ABSENT)))])
+            array, object_ = ((held[0], rest), object_) if held is array else (array, (held[0], rest))
+        return make(kind.tags, array, object_)
 
     def value(self, kind, depth):
         """A value that mostly inhabits the kind."""
@@ -601,13 +621,17 @@ class Maker:
             return tag, tuple((n, self.value(part(kind, n), depth - 1)) for n in sorted(set(names + known)))
         return tag, {"string": "q", "integer": 7, "boolean": True, "null": None, "timestamp": 10 ** 9, "regex": 0}[tag]
 
-    def path(self, most, negative=False):
+    def path(self, most, negative=False, kind=ANY):
+        """Steps that mostly fit the kind."""
         steps = []
-        for _ in range(self.rng.randrange(most + 1)):
+        for _ in range(self.rng.choice([0, 1, 1, 2, 2, 3][:2 * most])):
             place = self.rng.randrange(4)
             if negative and self.rng.random() < 0.2:
                 place = -1 - self.rng.randrange(3)
-            steps.append(self.rng.choice(FIELDS) if self.rng.random() < 0.55 else place)
+            fitting = [tag for tag in ("array", "object") if tag in root_tags(kind)]
+            tag = self.rng.choice(fitting if fitting and self.rng.random() < 0.8 else ["array", "object"])
+            steps.append(self.rng.choice(FIELDS) if tag == "object" else place)
+            kind = part(kind, steps[-1]) if not tag == "array" or place >= 0 else ANY
         return tuple(steps)
 
     def big(self):
@@ -672,7 +696,10 @@ class Maker:
         told = {"call": call}
         law = None
         if call in ("join", "within", "disjoint"):
-            told["a"], told["b"] = a, b
+            if call == "within" and self.rng.random() < 0.3:
+                b = self.rng.choice([JSON, JSON, ANY, EVENT, flatten(a), parts(a)])
+            told["a"], told["b"] = (a, b) if self.rng.random() < 0.7 else (b, a)
+            a, b = told["a"], told["b"]
             answer = {"join": join, "within": within, "disjoint": disjoint}[call](a, b)
             if call == "join":
                 law = b_join(at(a), at(b))
@@ -699,14 +726,14 @@ class Maker:
             answer = kind_of(told["value"])
             law = lambda q: {found_at(told["value"], q)} - {None}
         elif call in ("read", "remove", "may_be_absent"):
-            told["a"], told["path"] = a, self.path(3, call == "read")
+            told["a"], told["path"] = a, self.path(3, call == "read", a)
             answer = {"read": read, "remove": remove, "may_be_absent": may_be_absent}[call](a, told["path"])
             if call == "may_be_absent":
                 assert answer == b_absent(at(a), told["path"])
             else:
                 law = b_read(at(a), told["path"], range(LAST + 1)) if call == "read" else b_remove(at(a), told["path"])
         elif call == "write":
-            told["a"], told["path"], told["b"] = a, self.path(3), self.kind(1)
+            told["a"], told["path"], told["b"] = a, self.path(3, False, a), self.kind(1)
             answer, law = write(a, told["path"], told["b"]), b_write(at(a), told["path"], at(told["b"]))
         elif call == "list":
             places, rest = self.array(2)
