@@ -1,0 +1,613 @@
+"""Random trial of the judgement: kinds, states and codes of scripts.
+
+    python3 trials/judgement.py [--seed N] [--count N] [--out FILE] [--program PATH [--words]] [--show N]
+    python3 trials/judgement.py --text FILE [--kind FILE]
+
+The second form prints the diagnostics of a script, or its warnings and then its kinds as `--check` prints them. The
+first makes scripts at random. With --program each goes through `PATH SCRIPTFILE`, and the diagnostics on standard
+error are compared; a script for which the program says 1099 is counted and passed over. With --words, too, the
+program takes `--check` and `--kind FILE`, and the kinds that it prints are compared. With --out the scripts go to FILE, a JSON object a line:
+
+    script, kind (a kind file's value), diagnostics (their lines), result (the joined kind), end (lines `. KIND`,
+    `NAME KIND` of the joined state), ok, ret (such lines, or null where dead), empties (the tag of each error
+    assignment's empty value, an outer one before those in it)
+
+where result and end are null for a refused script. Calls are judged by the rows in `functions.py`, if it is there.
+
+A state is None where it is dead, else a map from roots to kinds; the event's root is ".".
+"""
+
+import argparse
+import json
+import os
+import random
+import subprocess
+import sys
+import tempfile
+
+sys.dont_write_bytecode = True
+
+import grammar
+import kinds
+from kinds import ABSENT, ANY, EVENT, NEVER, exactly, minus, root_tags, scalars
+
+TITLES = {
+    100: "unhandled error", 101: "malformed regex literal", 102: "non-boolean predicate", 103: "unhandled fallible assignment",
+    104: "unnecessary error assignment", 105: "undefined function", 106: "wrong number of arguments", 107: "missing argument",
+    108: "unknown argument name", 110: "invalid argument type", 203: "unrecognized token", 620: "aborting infallible function",
+    630: "fallible argument", 640: "no-op assignment", 650: "chained comparison", 651: "unnecessary error coalescing",
+    652: "merge of a non-object", 660: "negation of a non-boolean", 701: "undefined variable", 1001: "float literal",
+    1002: "number out of range", 1003: "operator left out", 1004: "return in a closure", 1005: "fallible predicate",
+    1006: "event assigned neither an object nor an array", 1007: "negative index written or deleted", 1008: "nested too deeply",
+    1009: "script too long or not UTF-8", 1010: "closure missing, unexpected or of the wrong shape",
+    1011: "abort message fallible or not a string", 1012: "written or deleted index too large or path too long",
+    1013: "literal or path argument wanted", 1014: "malformed timestamp literal", 1015: "closure result of the wrong kind",
+    1016: "string template or too many regex literals",
+}
+COMPARISONS = {"==", "!=", "<", "<=", ">", ">="}
+PAIRS = {"+": {("integer", "integer"): "integer", ("string", "string"): "string", ("string", "null"): "string", ("null", "string"): "string"},
+         "-": {("integer", "integer"): "integer"}, "*": {("integer", "integer"): "integer"}}
+for sign in ("<", "<=", ">", ">="):
+    PAIRS[sign] = {(tag, tag): "boolean" for tag in ("integer", "string", "timestamp")}
+
+
+# ---- states
+
+def join_kinds(*every):
+    joined = NEVER
+    for one in every:
+        joined = kinds.cut(kinds.join(joined, one))
+    return joined
+
+
+def join_states(*every):
+    joined = None
+    for one in every:
+        if joined is None or one is None:
+            joined = one if joined is None else joined
+        else:
+            joined = {root: kinds.cut(kinds.join(kind, one[root])) for root, kind in joined.items() if root in one}
+    return joined
+
+
+def assign(state, target, new):
+    """The state with a kind written; the empty target takes nothing."""
+    if state is None or target.root is None:
+        return state
+    return {**state, target.root: kinds.cut(kinds.write(state.get(target.root, ANY), target.steps, new))}
+
+
+def ended(state, before):
+    """The state once the names that `before` doesn't know have ended."""
+    return None if state is None else {root: kind for root, kind in state.items() if root in before}
+
+
+class Judged:
+    """What an expression gives: kind, ok, fail, ret, the kind of what is returned, codes as (start, end, code)."""
+
+    def __init__(self, kind, ok, fail=None, ret=None, returned=NEVER, codes=frozenset()):
+        self.codes = codes
+        self.poisoned = any(code != 651 for _, _, code in codes)
+        self.kind = ANY if self.poisoned else NEVER if ok is None else kinds.cut(kind)
+        self.ok = ok
+        self.fail = None if self.poisoned else fail
+        self.ret, self.returned = ret, returned
+
+    def fallible(self):
+        return self.fail is not None
+
+    def told(self):
+        """Whether a code about this part's kind may be given."""
+        return self.ok is not None and not self.poisoned
+
+
+DEAD = Judged(NEVER, None)
+EMPTY_VALUES = {"string": scalars("string"), "integer": scalars("integer"), "boolean": scalars("boolean"), "null": scalars("null"),
+                "timestamp": scalars("timestamp"), "array": kinds.make((), ((), "nothing")), "object": kinds.make((), None, ({}, "nothing"))}
+
+
+def may_be(kind, *tags):
+    return bool(root_tags(kind) & set(tags))
+
+
+def joined(parts, kind, ok, points=(), codes=(), ret=(), returned=()):
+    """A form of these parts: fail, ret and codes are those of the parts and its own."""
+    return Judged(
+        kind, ok, join_states(*[p.fail for p in parts], *points), join_states(*[p.ret for p in parts], *ret),
+        join_kinds(*[p.returned for p in parts], *returned), frozenset().union(codes, *[p.codes for p in parts]))
+
+
+class Judge:
+    def __init__(self, functions=None):
+        self.functions = functions or {}
+        self.empties = {}       # the tag of each error assignment's empty value, by its node
+        self.loops = {}         # the state of each closure, by its node
+        self.bodies = 0         # how many closure bodies are open
+
+    def judge(self, state, node):
+        if state is None:
+            for one in grammar.walk(node):
+                self.empties.pop(one, None)
+                self.loops.pop(one, None)
+            return DEAD
+        return getattr(self, "judge_" + node.form)(state, node)
+
+    def each(self, state, nodes):
+        """Parts in order, each in the ok state of the one before; and the state after them."""
+        found = []
+        for node in nodes:
+            found.append(self.judge(state, node))
+            state = found[-1].ok
+        return found, state
+
+    def judge_literal(self, state, node):
+        return Judged(scalars(node.tag), state)
+
+    def judge_array(self, state, node):
+        parts, after = self.each(state, node.parts)
+        return joined(parts, kinds.make((), ([p.kind for p in parts], "nothing")), after)
+
+    def judge_map(self, state, node):
+        parts, after = self.each(state, [value for _, value in node.pairs])
+        fields = {name: part.kind for (name, _), part in zip(node.pairs, parts)}
+        return joined(parts, kinds.make((), None, (fields, "nothing")), after)
+
+    def read(self, state, node, root, steps):
+        if root not in state:
+            return Judged(ANY, state, codes=frozenset({(node.start, node.end, 701)}))
+        return Judged(kinds.read(state[root], steps), state)
+
+    def judge_read(self, state, node):
+        return self.read(state, node, node.root, node.steps)
+
+    def judge_query(self, state, node):
+        value = self.judge(state, node.value)
+        return joined([value], kinds.read(value.kind, node.steps), value.ok)
+
+    def judge_group(self, state, node):
+        value = self.judge(state, node.value)
+        return joined([value], value.kind, value.ok)
+
+    def judge_block(self, state, node):
+        return self.items(state, node.items)
+
+    def items(self, state, items):
+        """The items of a block, whose own names end with it."""
+        parts, after = self.each(state, items)
+        one = joined(parts, parts[-1].kind if parts else scalars("null"), after)
+        return Judged(one.kind, ended(one.ok, state), ended(one.fail, state), ended(one.ret, state), one.returned, one.codes)
+
+    def judge_if(self, state, node):
+        predicates, branches, codes, now = [], [], set(), state
+        for predicate, block in node.arms:
+            one = self.judge(now, predicate)
+            if one.fallible():
+                codes.add((predicate.start, predicate.end, 1005))
+            elif one.told() and not exactly(one.kind, "boolean"):
+                codes.add((predicate.start, predicate.end, 102))
+            predicates.append(one)
+            branches.append(self.judge(one.ok, block))
+            now = one.ok
+        last = self.judge(now, node.otherwise) if node.otherwise else Judged(scalars("null"), now)
+        branches.append(last)
+        return joined(predicates + branches, join_kinds(*[b.kind for b in branches]), join_states(*[b.ok for b in branches]), codes=codes)
+
+    def judge_not(self, state, node):
+        value = self.judge(state, node.value)
+        bad = value.told() and not exactly(value.kind, "boolean")
+        return joined([value], scalars("boolean"), value.ok, codes={(node.start, node.end, 660)} if bad else ())
+
+    def judge_binary(self, state, node):
+        if node.op in ("??", "||", "&&"):
+            return {"??": self.coalesce, "||": self.either, "&&": self.both_true}[node.op](state, node)
+        left = self.judge(state, node.left)
+        right = self.judge(left.ok, node.right)
+        if node.op == "|":
+            return self.merged(left, node.left, right, node.right)
+        codes = set()
+        if node.op in COMPARISONS and any(one.form == "binary" and one.op in COMPARISONS for one in (node.left, node.right)):
+            codes.add((node.start, node.end, 650))
+        if node.op in ("==", "!="):
+            return joined([left, right], scalars("boolean"), right.ok, codes=codes)
+        met = {(a, b) for a in root_tags(left.kind) for b in root_tags(right.kind)}
+        listed = PAIRS[node.op]
+        kind = scalars(*[listed[pair] for pair in met if pair in listed])
+        points = [right.ok] if met - set(listed) else []
+        broken = codes or left.poisoned or right.poisoned
+        ok = right.ok if broken or met & set(listed) else None
+        return joined([left, right], kind, ok, points, codes)
+
+    def merged(self, left, left_node, right, right_node):
+        codes = set()
+        for one, place in ((left, left_node), (right, right_node)):
+            if one.told() and not exactly(one.kind, "object"):
+                codes.add((place.start, place.end, 652))
+        kind = NEVER
+        if left.kind.object and right.kind.object:
+            def over(a, b):
+                return kinds.join(minus(b, ABSENT), a) if ABSENT in b.tags else b
+            names = [n for n, _ in left.kind.object[0] + right.kind.object[0]]
+            rest = over(kinds.own(left.kind.object[1]), kinds.own(right.kind.object[1]))
+            fields = {n: over(kinds.part(left.kind, n), kinds.part(right.kind, n)) for n in names}
+            kind = kinds.make((), None, (fields, kinds.rest_of(rest)))
+        return joined([left, right], kind, right.ok, codes=codes)
+
+    def both_true(self, state, node):
+        left = self.judge(state, node.left)
+        right = self.judge(left.ok if may_be(left.kind, "boolean") else None, node.right)
+        points = [one.ok for one in (left, right) if root_tags(one.kind) - {"boolean", "null"}]
+        ok = join_states(*[one.ok for one in (left, right) if may_be(one.kind, "boolean", "null")])
+        return joined([left, right], scalars("boolean"), ok, points)
+
+    def either(self, state, node):
+        left = self.judge(state, node.left)
+        right = self.judge(left.ok if may_be(left.kind, "boolean", "null") else None, node.right)
+        ok = right.ok if exactly(left.kind, "null") else join_states(left.ok, right.ok)
+        return joined([left, right], join_kinds(minus(left.kind, "null"), right.kind), ok)
+
+    def coalesce(self, state, node):
+        left = self.judge(state, node.left)
+        right = self.judge(left.fail, node.right)
+        codes = set() if left.fallible() or left.poisoned else {(node.start, node.end, 651)}
+        one = joined([left, right], join_kinds(left.kind, right.kind), join_states(left.ok, right.ok), codes=codes)
+        one.fail = None if one.poisoned else right.fail
+        return one
+
+    def written(self, node, target, value):
+        """`target = e` where e gives `value`."""
+        codes = set()
+        if value.fallible():
+            codes.add((node.start, node.end, 103))
+        if target.root is None:
+            codes.add((node.start, node.end, 640))
+        if target.root == "." and not target.steps and value.told() and not may_be(value.kind, "object", "array"):
+            codes.add((node.start, node.end, 1006))
+        return joined([value], value.kind, assign(value.ok, target, value.kind), codes=codes)
+
+    def judge_assign(self, state, node):
+        return self.written(node, node.target, self.judge(state, node.value))
+
+    def judge_merge(self, state, node):
+        if node.target.root is None:
+            value = self.judge(state, node.value)
+            return joined([value], value.kind, value.ok, codes={(node.start, node.end, 640)})
+        left = self.read(state, node.target, node.target.root, node.target.steps)
+        right = self.judge(left.ok, node.value)
+        return self.written(node, node.target, self.merged(left, node.target, right, node.value))
+
+    def judge_both(self, state, node):
+        value = self.judge(state, node.value)
+        told = sorted(root_tags(value.kind))
+        tag = told[0] if len(told) == 1 and told[0] in EMPTY_VALUES else "null"
+        self.empties[node] = tag
+        empty = EMPTY_VALUES[tag]
+        codes = set()
+        if not value.fallible() and not value.poisoned:
+            codes.add((node.start, node.end, 104))
+        if node.ok.root is None and node.err.root is None:
+            codes.add((node.start, node.end, 640))
+        both = join_kinds(value.kind, empty)
+        whole = lambda target: target.root == "." and not target.steps
+        if value.ok is not None or value.fail is not None:
+            if whole(node.err) or (whole(node.ok) and not value.poisoned and not may_be(both, "object", "array")):
+                codes.add((node.start, node.end, 1006))
+        well = assign(assign(value.ok, node.ok, value.kind), node.err, scalars("null"))
+        ill = assign(assign(value.fail, node.ok, empty), node.err, scalars("string"))
+        one = joined([value], both, join_states(well, ill), codes=codes)
+        one.fail = None
+        return one
+
+    def judge_return(self, state, node):
+        value = self.judge(state, node.value)
+        if self.bodies:
+            return joined([value], value.kind, value.ok, codes={(node.start, node.end, 1004)})
+        return joined([value], NEVER, None, ret=[value.ok], returned=[value.kind] if value.ok is not None else [])
+
+    def judge_abort(self, state, node):
+        if node.message is None:
+            return Judged(NEVER, None)
+        value = self.judge(state, node.message)
+        bad = value.fallible() or (value.told() and not exactly(value.kind, "string"))
+        return joined([value], NEVER, None, codes={(node.message.start, node.message.end, 1011)} if bad else ())
+
+    def judge_call(self, state, node):
+        raise NotImplementedError("calls are judged once their rows are written")
+
+    def script(self, state, items):
+        parts, after = self.each(state, items)
+        codes = {(node.start, node.end, 100) for node, part in zip(items, parts) if part.fallible()}
+        return joined(parts, parts[-1].kind if parts else scalars("null"), after, codes=codes)
+
+
+try:
+    import functions
+    Judge.judge_call = functions.judge_call
+except ImportError:
+    functions = None
+
+
+# ---- whole scripts
+
+def told_state(state):
+    if state is None:
+        return None
+    names = sorted((root for root in state if root != "."), key=lambda n: n.encode())
+    return [f"{root} {kinds.print_kind(state[root])}" for root in ["."] + names]
+
+
+class Verdict:
+    """diagnostics, accepted, result and end as `--check` prints them, the states at the end, empty values."""
+
+    def __init__(self, data, start=EVENT):
+        self.script = grammar.read(data)
+        self.judged, self.empties, self.loops = None, [], []
+        if not isinstance(self.script, grammar.Script):
+            self.codes, lines = [self.script], ["error[E%d] %d:%d " % self.script + TITLES[self.script[0]]]
+        else:
+            judge = Judge()
+            self.judged = judge.script({".": start}, self.script.items)
+            self.codes = sorted(self.judged.codes)
+            lines = []
+            for at, _, code in self.codes:
+                word = "warning" if code == 651 else "error"
+                lines.append("%s[E%d] %d:%d %s" % ((word, code) + grammar.place_of(self.script.text, at) + (TITLES[code],)))
+            for node in grammar.walk(self.script.items):
+                if node.form == "both":
+                    self.empties.append(judge.empties.get(node, "null"))
+                elif node.form == "closure":
+                    self.loops.append(judge.loops.get(node))
+        self.diagnostics = lines
+        self.accepted = self.judged is not None and not self.judged.poisoned
+        self.result = self.end = None
+        if self.accepted:
+            one = self.judged
+            end = join_states(one.ok, one.ret)
+            self.result = kinds.print_kind(join_kinds(one.kind, one.returned))
+            self.end = told_state(end) or [". never"]
+
+
+# ---- scripts at random
+
+class Maker:
+    """Scripts over the event and the variables x and y."""
+
+    PLACES = [".", ".a", ".b", ".a.b", ".a[0]", ".b[1]", "x", "y", "x.a", "x[0]", "y.a", ".a[-1]", "x.a.b"]
+    TARGETS = [".", ".a", ".b", ".a.b", ".a[0]", ".b[1]", "x", "x", "y", "x.a", "x[0]", "y.a", "x.a[1]", "_", "_.a"]
+    LITERALS = ["1", '"s"', "true", "null", "t'2024-01-02T03:04:05Z'", "r'a'", "-2", '""', "false"]
+    SIGNS = ["+", "+", "+", "-", "*", "==", "!=", "<", ">=", "|", "|", "&&", "&&", "||", "||", "??", "??", "??"]
+
+    def __init__(self, rng, calls=None):
+        self.rng, self.calls = rng, calls
+
+    def pick(self, *weighted):
+        return self.rng.choices([w[0] for w in weighted], [w[1] for w in weighted])[0]
+
+    def atom(self):
+        return self.rng.choice(self.LITERALS) if self.rng.random() < 0.45 else self.rng.choice(self.PLACES)
+
+    def expression(self, depth):
+        if depth <= 0:
+            return self.atom()
+        how = self.pick(("atom", 4), ("binary", 6), ("group", 2), ("not", 1), ("array", 1), ("map", 2), ("block", 1.5), ("if", 1.5), ("query", 0.7),
+                        ("call", 4 if self.calls else 0))
+        inner = lambda: self.expression(depth - 1)
+        if how == "atom":
+            return self.atom()
+        if how == "binary":
+            return f"{self.tight(depth)} {self.rng.choice(self.SIGNS)} {self.tight(depth)}"
+        if how == "group":
+            return "(" + self.item(depth - 1) + ")"
+        if how == "not":
+            return "!" + self.tight(depth)
+        if how == "array":
+            return "[" + ", ".join(inner() for _ in range(self.rng.randrange(3))) + "]" + self.rng.choice(["", "", "", "[0]", "[-1]", ".a"])
+        if how == "map":
+            return "{" + ", ".join(f'"{self.rng.choice("ab")}": {inner()}' for _ in range(self.rng.randrange(3))) + "}"
+        if how == "block":
+            return "{ " + self.items(depth - 1) + " }"
+        if how == "if":
+            return self.condition(depth)
+        if how == "call":
+            return self.calls.call(self, depth)
+        return "(" + self.item(depth - 1) + ")" + self.rng.choice([".a", "[0]", ".a.b", "[-1]"])
+
+    def tight(self, depth):
+        """An operand, in a group more often than not where it has signs."""
+        text = self.expression(depth - 1)
+        return f"({text})" if " " in text and self.rng.random() < 0.7 else text
+
+    def condition(self, depth):
+        test = lambda: self.pick((self.rng.choice(["true", ".a == 1", "x == .b", '.a != "s"', "!(.a == .b)", ".b == x.a", ".a < 1", "(x > 1 ?? true)",
+                                                   "1 == .a == true"]), 3),
+                                 (self.expression(depth - 1), 1), ("(" + self.item(depth - 1) + ")", 0.5))
+        text = f"if {test()} {{ {self.items(depth - 1)} }}"
+        if self.rng.random() < 0.25:
+            text += f" else if {test()} {{ {self.items(depth - 1)} }}"
+        return text + (f" else {{ {self.items(depth - 1)} }}" if self.rng.random() < 0.5 else "")
+
+    def items(self, depth):
+        return "; ".join(self.item(depth) for _ in range(self.pick((0, 1), (1, 6), (2, 3))))
+
+    def item(self, depth):
+        how = self.pick(("assign", 8), ("merge", 1), ("both", 2.5), ("return", 0.5), ("abort", 0.7), ("expression", 3), ("guarded", 2))
+        target = lambda: self.rng.choice(self.TARGETS)
+        if how == "assign":
+            return f"{target()} = {self.single(depth - 1) if self.rng.random() < 0.08 else self.expression(depth)}"
+        if how == "guarded":
+            return f"{target()} = {self.tight(depth)} ?? {self.atom()}"
+        if how == "merge":
+            return f"{target()} |= {self.expression(depth)}"
+        if how == "both":
+            return f"{target()}, {target()} = {self.expression(depth)}"
+        if how == "return":
+            return f"return {self.expression(depth)}"
+        if how == "abort":
+            return "abort" + self.pick(("", 1), (' "m"', 1), (" " + self.expression(depth - 1), 1))
+        return self.expression(depth)
+
+    def single(self, depth):
+        """What stands to the right of a target and isn't an operand."""
+        target = self.rng.choice(self.TARGETS)
+        return self.pick((f"{target} = {self.expression(depth)}", 3), (f"{target} |= {self.expression(depth)}", 1),
+                         (f"return {self.expression(depth)}", 1), ("abort", 1), (f"abort {self.expression(depth)}", 1))
+
+    def script(self):
+        lines = []
+        if self.rng.random() < 0.7:
+            lines.append("x = " + self.rng.choice(["1", '"s"', "{}", '{"a": 1}', "[1]", "null", ".a", "true", "."]))
+        if self.rng.random() < 0.5:
+            lines.append("y = " + self.rng.choice(["1", '"s"', "{}", '{"a": "s"}', "[]", "null", ".b", "x"]))
+        lines += [self.item(self.rng.choice([1, 2, 3])) for _ in range(self.rng.randrange(1, 5))]
+        return "\n".join(lines)
+
+    def kind_file(self):
+        """A kind file of two levels, None for an object with rest json."""
+        if self.rng.random() < 0.5:
+            return None
+        word = lambda: self.rng.choice(["string", "integer", "boolean", "null", "json"])
+
+        def inner(depth):
+            how = self.rng.randrange(5)
+            if depth == 0 or how < 2:
+                return word()
+            if how == 2:
+                return [inner(depth - 1), word()]
+            if how == 3:
+                return {"object": {n: part(depth - 1) for n in "ab" if self.rng.random() < 0.6}, "rest": self.rng.choice(["nothing", "json", word()])}
+            return {"array": [part(depth - 1) for _ in range(self.rng.randrange(3))], "rest": self.rng.choice(["nothing", "json", word()])}
+
+        def part(depth):
+            return {"optional": inner(depth)} if self.rng.random() < 0.3 else inner(depth)
+        return {"object": {n: part(2) for n in "ab" if self.rng.random() < 0.8}, "rest": self.rng.choice(["nothing", "json", word()])}
+
+
+# ---- rows
+
+NL = "\n"
+# A script, and its diagnostics as (code, line, column); a second list is what `--check` prints.
+ROWS = [
+    (".x = 1", []), (".x = y", [(701, 1, 6)]), (".y = .a + 1", [(103, 1, 1)]), (".y = .a + 1 ?? 0", []), (".a + 1", [(100, 1, 1)]),
+    (".y = 1 ?? 2", [(651, 1, 6)]), (".y = z", [(701, 1, 6)]), ('.y = "a" + 1' + NL + ".z = q", [(103, 1, 1)]), (".y = .m", []),
+    ('x = 1' + NL + '.r = ({ x = "s"; .a + 1 }) ?? 0' + NL + ".s = x + 1", [(103, 3, 1)]),
+    ("if true { y = 1 }" + NL + ".z = y", [(701, 2, 6)]), ("abort" + NL + ".x = q", [], ["result never", ". never"]),
+    (".x = 1" + NL + "return .x", [], ["result integer", '. {"x": integer, ..json}']),
+    ('.x = "s"' + NL + "y = .a + 1 ?? 0", [], ["result integer", '. {"x": string, ..json}', "y integer"]),
+    (". = 3", [(1006, 1, 1)]), ("_ = 1", [(640, 1, 1)]), ("1 < 2 < 3", [(650, 1, 1)]), ("a, b = 1", [(104, 1, 1)]),
+    ("if 1 { }", [(102, 1, 4)]), ("!1", [(660, 1, 1)]), (". | 1", [(652, 1, 5)]), ("abort 1", [(1011, 1, 7)]),
+    ('x = "s"' + NL + ".r = (.a + 1 + (x = 1)) ?? x" + NL + ".s = .r + 1", [(103, 3, 1)]),
+    ('., e = "a" + 1', [(1006, 1, 1)]), ("(abort) ?? 1", [(651, 1, 1)]), ("x, e = abort", [(104, 1, 1)]), (". = [{\"a\":1},{\"a\":2}]", []),
+    (". = []", []), (".n = 9223372036854775807 + 1", []), ("if .q == 0 { return 1 }" + NL + ".r = 2", [], ["result integer", ". {..json}"]),
+    ("if .k == 1 { .v = 1 } else { .v = \"s\" }" + NL + ".w = .v + 1", [(103, 2, 1)]), ("_ |= q", [(640, 1, 1), (701, 1, 6)]),
+    ("_ |= .a + 1", [(640, 1, 1)]), ("x |= {}", [(701, 1, 1)]), (".a |= {}", [(652, 1, 1)]), ("., . = .a + 1", [(1006, 1, 1)]),
+    (".v, .e = .x - 1", [], ["result integer", '. {"e": string|null, "v": integer, ..json}']),
+    ("_, _ = .a + 1", [(640, 1, 1)]), ("_ = .a + 1", [(103, 1, 1), (640, 1, 1)]), (". = .a + 1", [(103, 1, 1), (1006, 1, 1)]),
+    ("if .a + 1 == 2 { }", [(1005, 1, 4)]), ("if !(.m == 1) { abort }" + NL + ".m = .m + 1", [(103, 2, 1)]), ("", [], ["result null", ". {..json}"]),
+    ("x.a = 1", [], ["result integer", ". {..json}", 'x {"a": integer, ..any}']), (".x =", [(203, 1, 5)]),
+    ("(1 < 2) == true", []), ("1 == 2 < 3", [(650, 1, 1)]), ("x = true && 1", [(103, 1, 1)]),
+    ("null && q", [], ["result boolean", ". {..json}"]), ("true && q", [(701, 1, 9)]), ("1 || q", [], ["result integer", ". {..json}"]),
+    ("null || 1", [], ["result integer", ". {..json}"]), ("{ x = 1 }" + NL + "x", [(701, 2, 1)]),
+]
+
+
+def self_check():
+    for row in ROWS:
+        found = Verdict(row[0].encode())
+        told = [grammar.DIAGNOSTIC.match(line).groups() for line in found.diagnostics]
+        assert [tuple(int(n) for n in one) for one in told] == row[1], (row, found.diagnostics)
+        if len(row) > 2:
+            assert ["result " + found.result] + found.end == row[2], (row, found.result, found.end)
+    return len(ROWS) + (functions.self_check(Verdict) if functions else 0)
+
+
+def case_line(script, file, found):
+    one = {"script": script, "kind": file, "diagnostics": found.diagnostics, "result": found.result, "end": found.end}
+    one["ok"] = told_state(found.judged.ok) if found.judged else None
+    one["ret"] = told_state(found.judged.ret) if found.judged else None
+    one["empties"] = found.empties
+    return json.dumps(one) + "\n"
+
+
+def start_of(file):
+    return EVENT if file is None else kinds.kind_file(json.dumps(file).encode())
+
+
+def told_by(program, place, script, file, words):
+    """Diagnostics and kinds as the program prints them."""
+    path = os.path.join(place, "script.vrl")
+    with open(path, "w") as out:
+        out.write(script)
+    command = [program, path]
+    if words:
+        command.append("--check")
+        if file is not None:
+            kind = os.path.join(place, "kind.json")
+            with open(kind, "w") as out:
+                json.dump(file, out)
+            command += ["--kind", kind]
+    ran = subprocess.run(command, stdin=subprocess.DEVNULL, capture_output=True)
+    return ran.stderr.decode().split("\n")[:-1], ran.stdout.decode().split("\n")[:-1]
+
+
+def main():
+    words = argparse.ArgumentParser(description="random scripts against a plain reading of the judgement")
+    words.add_argument("--seed", type=int, default=1)
+    words.add_argument("--count", type=int, default=5000)
+    words.add_argument("--out")
+    words.add_argument("--program")
+    words.add_argument("--words", action="store_true")
+    words.add_argument("--text")
+    words.add_argument("--kind")
+    words.add_argument("--show", type=int, default=10)
+    given = words.parse_args()
+    if given.text:
+        start = EVENT
+        if given.kind:
+            with open(given.kind, "rb") as file:
+                start = kinds.kind_file(file.read())
+            if isinstance(start, str):
+                print(start)
+                return 6
+        with open(given.text, "rb") as file:
+            found = Verdict(file.read(), start)
+        print("\n".join(found.diagnostics + (["result " + found.result] + found.end if found.accepted else [])))
+        return 0 if found.accepted else 1
+    rows = self_check()
+    rng = random.Random(given.seed)
+    maker = Maker(rng, functions)
+    met, differences, accepted, passed = {}, 0, 0, 0
+    out = open(given.out, "w") if given.out else None
+    with tempfile.TemporaryDirectory() as place:
+        made = 0
+        while made < given.count:
+            script, file = maker.script(), maker.kind_file()
+            if given.program and not given.words:
+                file = None
+            found = Verdict(script.encode(), start_of(file))
+            # Scripts that are refused come by themselves; those that are accepted are looked for.
+            if not found.accepted and rng.random() < 0.6:
+                continue
+            made += 1
+            accepted += found.accepted
+            for _, _, code in (found.codes if found.judged else []):
+                met[code] = met.get(code, 0) + 1
+            if out:
+                out.write(case_line(script, file, found))
+            if given.program:
+                wanted = (found.diagnostics, (["result " + found.result] + found.end if found.accepted else []) if given.words else [])
+                told = told_by(given.program, place, script, file, given.words)
+                if told[0] == ["error[E1099] 1:1 form not built yet"]:
+                    passed += 1
+                elif told != wanted:
+                    differences += 1
+                    if differences <= given.show:
+                        print("difference on", repr(script), "kind", json.dumps(file), "\n  wanted", wanted, "\n  got", told)
+    if out:
+        out.close()
+    codes = ", ".join(f"{met[code]} of {code}" for code in sorted(met))
+    compared = f"{differences} differences, {passed} not built" if given.program else "no program given"
+    print(f"judgement: seed {given.seed}, {rows} rows, {made} scripts ({accepted} accepted; {codes}): {compared}")
+    return 1 if differences else 0
+
+
+if __name__ == "__main__":
+    sys.exit(main())
