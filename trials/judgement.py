@@ -1,6 +1,6 @@
 """Random trial of the judgement: kinds, states and codes of scripts.
 
-    python3 trials/judgement.py [--seed N] [--count N] [--out FILE] [--program PATH [--words]] [--show N]
+    python3 trials/judgement.py [--seed N] [--count N] [--no-calls] [--out FILE] [--program PATH [--words]] [--show N]
     python3 trials/judgement.py --text FILE [--kind FILE]
 
 The second form prints the diagnostics of a script, or its warnings and then its kinds as `--check` prints them. The
@@ -12,7 +12,8 @@ program takes `--check` and `--kind FILE`, and the kinds that it prints are comp
     `NAME KIND` of the joined state), ok, ret (such lines, or null where dead), empties (the tag of each error
     assignment's empty value, an outer one before those in it)
 
-where result and end are null for a refused script. Calls are judged by the rows in `functions.py`, if it is there.
+where result and end are null for a refused script. Calls are judged by the rows in `functions.py`; --no-calls makes
+scripts without them.
 
 A state is None where it is dead, else a map from roots to kinds; the event's root is ".".
 """
@@ -27,9 +28,10 @@ import tempfile
 
 sys.dont_write_bytecode = True
 
+import functions
 import grammar
 import kinds
-from kinds import ABSENT, ANY, EVENT, NEVER, exactly, minus, root_tags, scalars
+from kinds import ABSENT, ANY, EVENT, NEVER, exactly, minus, plus, root_tags, scalars
 
 TITLES = {
     100: "unhandled error", 101: "malformed regex literal", 102: "non-boolean predicate", 103: "unhandled fallible assignment",
@@ -118,8 +120,8 @@ def joined(parts, kind, ok, points=(), codes=(), ret=(), returned=()):
 
 
 class Judge:
-    def __init__(self, functions=None):
-        self.functions = functions or {}
+    def __init__(self, patterns=()):
+        self.sources = [token.value for token in patterns]
         self.empties = {}       # the tag of each error assignment's empty value, by its node
         self.loops = {}         # the state of each closure, by its node
         self.bodies = 0         # how many closure bodies are open
@@ -222,14 +224,7 @@ class Judge:
         for one, place in ((left, left_node), (right, right_node)):
             if one.told() and not exactly(one.kind, "object"):
                 codes.add((place.start, place.end, 652))
-        kind = NEVER
-        if left.kind.object and right.kind.object:
-            def over(a, b):
-                return kinds.join(minus(b, ABSENT), a) if ABSENT in b.tags else b
-            names = [n for n, _ in left.kind.object[0] + right.kind.object[0]]
-            rest = over(kinds.own(left.kind.object[1]), kinds.own(right.kind.object[1]))
-            fields = {n: over(kinds.part(left.kind, n), kinds.part(right.kind, n)) for n in names}
-            kind = kinds.make((), None, (fields, kinds.rest_of(rest)))
+        kind = kinds.merge(left.kind, right.kind) if left.kind.object and right.kind.object else NEVER
         return joined([left, right], kind, right.ok, codes=codes)
 
     def both_true(self, state, node):
@@ -311,7 +306,102 @@ class Judge:
         return joined([value], NEVER, None, codes={(node.message.start, node.message.end, 1011)} if bad else ())
 
     def judge_call(self, state, node):
-        raise NotImplementedError("calls are judged once their rows are written")
+        arguments, after = self.each(state, [one.value for one in node.arguments])
+        row = functions.ROWS.get(node.name)
+        if row is None:
+            return self.not_called(node, arguments, after, (node.name_span[0], node.name_span[1], 105))
+        try:
+            bound = functions.bind(row, node)
+        except functions.Unbound as one:
+            return self.not_called(node, arguments, after, (one.args[1], one.args[2], one.args[0]))
+        codes, given, points = set(), {}, []
+        for parameter in row.parameters:
+            if parameter.name not in bound:
+                continue
+            number = bound[parameter.name]
+            value, part = node.arguments[number].value, arguments[number]
+            literal = (value.tag, value.value) if value.form == "literal" else None
+            if part.fallible():
+                codes.add((value.start, value.end, 630))
+            elif part.told() and not may_be(part.kind, *parameter.tags):
+                codes.add((value.start, value.end, 110))
+            elif row.path and value.form != "read":
+                codes.add((value.start, value.end, 1013))
+            elif parameter.literal and (
+                    literal is None or literal[0] not in parameter.tags or (row.allowed and not row.allowed(parameter.name, literal))):
+                codes.add((value.start, value.end, 1013))
+            given[parameter.name] = functions.Given(functions.cut_to(part.kind, *parameter.tags), literal)
+            if root_tags(part.kind) - parameter.tags:
+                points.append(after)
+        names = node.closure.names if node.closure else None
+        if (names is None) != (row.names is None):
+            codes.add((node.start, node.end, 1010))
+        elif names is not None:
+            bare = [name for name in names if name != "_"]
+            if len(names) != row.names or len(set(bare)) < len(bare):
+                codes.add((node.start, node.end, 1010))
+        if codes:
+            return self.not_called(node, arguments, after, *codes)
+        kind, ok, parts = NEVER, after, list(arguments)
+        broken = any(part.poisoned for part in arguments)
+        if names is not None:
+            body, ok = self.closure(after, node.closure, given["value"].kind, node.name)
+            parts.append(body)
+            kind, bad = closed_kind(node.name, given["value"].kind, body)
+            if bad:
+                codes.add((node.closure.start, node.closure.end, 1015))
+        elif row.path:
+            value = node.arguments[0].value
+            kind = scalars("boolean") if node.name == "exists" else arguments[0].kind
+            if node.name == "del" and ok is not None and value.root in ok:
+                left = kinds.remove(ok[value.root], value.steps) if value.steps else EMPTY_VALUES["object" if value.root == "." else "null"]
+                ok = {**ok, value.root: kinds.cut(left)}
+        elif not broken:
+            kind = row.result(given, self.sources)
+            if row.fails(given):
+                points.append(after)
+        one = joined(parts, kind, ok, points, codes)
+        if node.bang and not one.poisoned and not one.fallible():
+            return joined(parts, kind, ok, points, codes | {(node.start, node.end, 620)})
+        if node.bang:
+            one.fail = None
+        return one
+
+    def not_called(self, node, arguments, after, *codes):
+        """A call with a code that keeps its closure from being judged."""
+        if node.closure:
+            self.judge(None, node.closure)
+        return joined(arguments, NEVER, after, codes=set(codes))
+
+    def closure(self, state, node, collection, name):
+        """The body as it was judged last, and the state that it keeps."""
+        if state is None or kinds.parts(collection) == NEVER:
+            body = self.judge(None, node)
+            self.loops[node] = state
+            return body, state
+        written, now = written_roots(node.items), state
+        for attempt in (1, 2, 3):
+            body = self.body(now, node, collection, name)
+            if state_within(body.ok, now):
+                break
+            assert attempt < 3, "the third try isn't stable"
+            change = kinds.flatten if attempt == 1 else lambda kind: ANY
+            now = join_states(now, body.ok) if attempt == 1 else now
+            now = {root: change(kind) if root in written else kind for root, kind in now.items()}
+        self.loops[node] = now
+        return body, now
+
+    def body(self, state, node, collection, name):
+        keys = scalars(*[key for tag, key in (("object", "string"), ("array", "integer")) if may_be(collection, tag)])
+        every = {"map_values": [kinds.parts(collection)], "map_keys": [keys]}.get(name, [keys, kinds.parts(collection)])
+        bound = {name: kinds.cut(kind) for name, kind in zip(node.names, every) if name != "_"}
+        self.bodies += 1
+        parts, after = self.each({**state, **bound}, node.items)
+        self.bodies -= 1
+        one = joined(parts, parts[-1].kind if parts else scalars("null"), after)
+        back = lambda known: None if known is None else {
+            root: state[root] if root in bound else kind for root, kind in known.items() if root in state}
+        return Judged(one.kind, back(one.ok), back(one.fail), back(one.ret), one.returned, one.codes)
 
     def script(self, state, items):
         parts, after = self.each(state, items)
@@ -319,11 +409,44 @@ class Judge:
         return joined(parts, parts[-1].kind if parts else scalars("null"), after, codes=codes)
 
 
-try:
-    import functions
-    Judge.judge_call = functions.judge_call
-except ImportError:
-    functions = None
+def written_roots(items):
+    """The roots assigned in a body, and those that a `del` in it names, closures inside too."""
+    found = set()
+    for node in grammar.walk(items):
+        if node.form in ("assign", "merge"):
+            found.add(node.target.root)
+        elif node.form == "both":
+            found |= {node.ok.root, node.err.root}
+        elif node.form == "call" and node.name == "del":
+            found |= {one.value.root for one in node.arguments if one.value.form == "read"}
+    return found - {None}
+
+
+def state_within(a, b):
+    return a is None or (b is not None and all(root in a and kinds.within(a[root], kind) for root, kind in b.items()))
+
+
+def closed_kind(name, collection, body):
+    """The kind that a call with a closure gives, and whether its body has the wrong kind."""
+    bad = body.told() and not exactly(body.kind, {"filter": "boolean", "map_keys": "string"}.get(name, ""))
+    array, object_ = collection.array, collection.object
+    if name == "for_each":
+        return scalars("null"), False
+    if name == "map_keys":
+        return (functions.object_of(kinds.parts(collection)) if object_ else NEVER), bad
+    if name == "filter":
+        if array:
+            array = ((), kinds.rest_of(kinds.parts(collection._replace(object=None))))
+        if object_:
+            object_ = ({name: plus(kind, ABSENT) for name, kind in object_[0]}, object_[1])
+        return kinds.make((), array, object_), bad
+    over = lambda kind: kind if kind == kinds.GONE else plus(body.kind, *(kind.tags & {ABSENT}))
+    rest = lambda one: one if one == "nothing" else kinds.rest_of(body.kind)
+    if array:
+        array = ([over(kind) for kind in array[0]], rest(array[1]))
+    if object_:
+        object_ = ({name: over(kind) for name, kind in object_[0]}, rest(object_[1]))
+    return kinds.make((), array, object_), False
 
 
 # ---- whole scripts
@@ -344,7 +467,7 @@ class Verdict:
         if not isinstance(self.script, grammar.Script):
             self.codes, lines = [self.script], ["error[E%d] %d:%d " % self.script + TITLES[self.script[0]]]
         else:
-            judge = Judge()
+            judge = Judge(self.script.patterns)
             self.judged = judge.script({".": start}, self.script.items)
             self.codes = sorted(self.judged.codes)
             lines = []
@@ -506,6 +629,28 @@ ROWS = [
     ("(1 < 2) == true", []), ("1 == 2 < 3", [(650, 1, 1)]), ("x = true && 1", [(103, 1, 1)]),
     ("null && q", [], ["result boolean", ". {..json}"]), ("true && q", [(701, 1, 9)]), ("1 || q", [], ["result integer", ". {..json}"]),
     ("null || 1", [], ["result integer", ". {..json}"]), ("{ x = 1 }" + NL + "x", [(701, 2, 1)]),
+    # Calls.
+    (".x = to_int(.x)", [(103, 1, 1)]), (".x, err = to_int(.x)" + NL + ".y = .x + 1", []),
+    ('x = 1' + NL + '.r = ({ x = "s"; to_int(.a) }) ?? 0' + NL + ".s = x + 1", [(103, 3, 1)]),
+    ('if exists(.k) { .v = 1 } else { .v = "s" }' + NL + ".w = .v + 1", [(103, 2, 1)]),
+    ("if !is_string(.m) { abort }" + NL + ".m = upcase(.m)", [(103, 2, 1)]), ("if !is_string(.m) { abort }" + NL + ".m = upcase!(.m)", []),
+    ('.m = upcase(.m) ?? "none"', []), ('upcase!("a")', [(620, 1, 1)]), ("upcase(1)", [(110, 1, 8)]), ("upcase(to_string(.a))", [(630, 1, 8)]),
+    ("n = 0" + NL + "for_each(.) -> |k, v| { n = n + 1 }" + NL + ".n = n", [], ["result integer", '. {"n": integer, ..json}', "n integer"]),
+    ("a = []" + NL + "for_each(.) -> |k, v| { a = push(a, k) }" + NL + ".keys = a", []), ('x = {"a":1}' + NL + "del(x.a)" + NL + ".r = x.a", []),
+    ("x = null" + NL + "for_each(array!(.l)) -> |i, v| { x = {\"a\": x} }", []), ("x = to_int!(.a)", []), (". = parse_json!(.message)", []),
+    ("parsed, err = parse_json(.message)" + NL + ". = . | (object(parsed) ?? {})" + NL + "del(.message)" + NL +
+     '.level = downcase(.level) ?? "info"' + NL + '.at = parse_timestamp(.ts, format: "%+") ?? now()', []),
+    ("if exists(.q) { return 1 }" + NL + ".r = 2", []), ("foo(1)", [(105, 1, 1)]), ("upcase()", [(107, 1, 1)]), ('upcase("a", "b")', [(106, 1, 1)]),
+    ('upcase(v: "a")', [(108, 1, 8)]), ("to_int(.x)", [(100, 1, 1)]), ('.k = filter({"a":1,"b":2}) -> |k, v| { v > 1 }', []),
+    (".k = map_values([1,2]) -> |v| { v * 2 }", []), ('.k = map_keys({"a":1}) -> |k| { upcase(k) }', []), ("filter([1]) -> |k, v| { 1 }", [(1015, 1, 23)]),
+    ('upcase("a") -> |v| { v }', [(1010, 1, 1)]), ('.r = split("a,b", ",")[1]', []), (".a = upcase(to_int!(.b))", [(110, 1, 13)]),
+    ("mod(1, 0)", [(100, 1, 1)]), ("mod(1, 2)", []), ("parse_int(1)", [(110, 1, 11)]), ("del(1)", [(1013, 1, 5)]), ("abs!(1)", [(620, 1, 1)]),
+    ("abs(1) -> |v| { v }", [(1010, 1, 1)]), ("int(value: 1, value: 2)", [(106, 1, 1)]), ('x = push([1], "a")' + NL + '.r = x[1] + "b"', []),
+    ('.r = merge({"a":1}, {"a":"s"}).a + "t"', []), ('.x = upcase(1) ?? "a"', [(110, 1, 13)]), ('x = ["s", 1]' + NL + "del(x[0])" + NL + ".r = x[0] + 1", []),
+    ('x = "s"' + NL + ".r = (to_int(.a) + (x = 1)) ?? x" + NL + ".s = .r + 1", [(103, 3, 1)]), ("x = 1" + NL + 'for_each(.) -> |k, v| { .r = x + 1; x = "s" }', [(103, 2, 25)]),
+    ("for_each({}) -> |k, v| { .x = q }", []), ("k = 5" + NL + "for_each([7]) -> |k, _| { .i = k }" + NL + ".k = k", []),
+    ("for_each([1]) -> |i, v| { return 1 }", [(1004, 1, 27)]), ("upcase!((abort))", [(620, 1, 1)]), ("a = to_int!(.a)" + NL + "del(.b[0])", []),
+    (".t = to_int(.x) + 1 ?? 2", []), ("exists(q)", [(701, 1, 8)]), ("del(.)", [], ["result {..json}", ". {}"]), ("x = 1" + NL + "del(x)", [], ["result integer", ". {..json}", "x null"]),
 ]
 
 
@@ -516,7 +661,9 @@ def self_check():
         assert [tuple(int(n) for n in one) for one in told] == row[1], (row, found.diagnostics)
         if len(row) > 2:
             assert ["result " + found.result] + found.end == row[2], (row, found.result, found.end)
-    return len(ROWS) + (functions.self_check(Verdict) if functions else 0)
+    known = kinds.kind_file(b'{"object":{"m":"string"},"rest":"nothing"}')
+    assert Verdict(b'.m = upcase(.m) ?? "none"', known).diagnostics == ["warning[E651] 1:6 unnecessary error coalescing"]
+    return len(ROWS) + 1
 
 
 def case_line(script, file, found):
@@ -555,6 +702,7 @@ def main():
     words.add_argument("--out")
     words.add_argument("--program")
     words.add_argument("--words", action="store_true")
+    words.add_argument("--no-calls", action="store_true")
     words.add_argument("--text")
     words.add_argument("--kind")
     words.add_argument("--show", type=int, default=10)
@@ -573,7 +721,7 @@ def main():
         return 0 if found.accepted else 1
     rows = self_check()
     rng = random.Random(given.seed)
-    maker = Maker(rng, functions)
+    maker = Maker(rng, None if given.no_calls else functions)
     met, differences, accepted, passed = {}, 0, 0, 0
     out = open(given.out, "w") if given.out else None
     with tempfile.TemporaryDirectory() as place:

@@ -277,6 +277,15 @@ def remove(kind, path):
     return make(kind.tags, (places, rest), kind.object)
 
 
+def merge(a, b):
+    """The kind of `a | b` of two objects."""
+    def over(left, right):
+        return join(minus(right, ABSENT), left) if ABSENT in right.tags else right
+    names = [name for name, _ in a.object[0] + b.object[0]]
+    fields = {name: over(part(a, name), part(b, name)) for name in names}
+    return make((), None, (fields, rest_of(over(own(a.object[1]), own(b.object[1])))))
+
+
 def may_be_absent(kind, path):
     if not path:
         return ABSENT in kind.tags

@@ -1,6 +1,6 @@
 """Random trial of the meaning: what accepted scripts do to lines.
 
-    python3 trials/meaning.py [--seed N] [--count N] [--program PATH [--words]] [--show N]
+    python3 trials/meaning.py [--seed N] [--count N] [--no-calls] [--program PATH [--words]] [--show N]
     python3 trials/meaning.py --text FILE [--kind FILE] [--drop-on-error] [--keep-on-abort] < LINES
 
 The second form runs a script over the lines of standard input and prints what it writes, then its report. The first
@@ -9,7 +9,6 @@ an error that nothing handles, its value must inhabit the script's kind, and its
 joined state. With --program the bytes and the status of `PATH SCRIPTFILE < LINES` are compared; a script for which
 the program says 1099 is counted and passed over. With --words, too, the program takes `--kind FILE` and both flags.
 
-Values are pairs of a tag and what it holds; arrays hold a tuple of values, objects a tuple of pairs by key.
 """
 
 import argparse
@@ -22,137 +21,20 @@ import tempfile
 
 sys.dont_write_bytecode = True
 
+import functions
 import grammar
 import json_lines
 import judgement
 import kinds
+from values import NULL, Failed, cut_out, depth, flag, get, moment_text, objects, part, plain, put, text, value_of, whole
 
-NULL = ("null", None)
 DEEPEST = 128
 EMPTY = {"string": ("string", ""), "integer": ("integer", 0), "boolean": ("boolean", False), "null": NULL, "timestamp": ("timestamp", 0),
          "array": ("array", ()), "object": ("object", ())}
 
 
-class Failed(Exception):
-    """An error; args[0] is its text."""
-
-
 class Ended(Exception):
     """The end of the program: args are its word (aborted, returned, banged, deep) and what it holds."""
-
-
-# ---- values
-
-def text(held):
-    return "string", held
-
-
-def whole(number):
-    return "integer", (number + 2 ** 63) % 2 ** 64 - 2 ** 63
-
-
-def flag(held):
-    return "boolean", bool(held)
-
-
-def objects(fields):
-    return "object", tuple(sorted(fields.items(), key=lambda pair: pair[0].encode()))
-
-
-def depth(value):
-    tag, held = value
-    if tag not in ("array", "object"):
-        return 0
-    return 1 + max((depth(one[1] if tag == "object" else one) for one in held), default=0)
-
-
-def part(value, step):
-    """The part below one step, None where there is none."""
-    tag, held = value
-    if tag != kinds.fit(step):
-        return None
-    if tag == "object":
-        return dict(held).get(step)
-    place = step if step >= 0 else len(held) + step
-    return held[place] if 0 <= place < len(held) else None
-
-
-def get(value, steps):
-    for step in steps:
-        value = None if value is None else part(value, step)
-    return value
-
-
-def put(value, steps, new):
-    if not steps:
-        return new
-    step, behind = steps[0], steps[1:]
-    tag, held = value if value[0] == kinds.fit(step) else (kinds.fit(step), ())
-    inner = put(part((tag, held), step) or NULL, behind, new)
-    if tag == "object":
-        return objects({**dict(held), step: inner})
-    held = held + (NULL,) * (step + 1 - len(held))
-    return "array", held[:step] + (inner,) + held[step + 1:]
-
-
-def cut_out(value, steps):
-    """The value without the part at these steps, if it has one."""
-    inner = part(value, steps[0])
-    if inner is None:
-        return value
-    tag, held = value
-    step = steps[0]
-    if len(steps) > 1:
-        return put(value, steps[:1], cut_out(inner, steps[1:]))
-    if tag == "object":
-        return objects({name: one for name, one in held if name != step})
-    return tag, held[:step] + held[step + 1:]
-
-
-def date_of(days):
-    """Year, month and day of a count of days from 1970."""
-    year = max(0, 1970 + min(days // 365, days // 366) - 1)
-    while grammar.days_before(year + 1, 1, 1) <= days:
-        year += 1
-    month = max(m for m in range(1, 13) if grammar.days_before(year, m, 1) <= days)
-    return year, month, days - grammar.days_before(year, month, 1) + 1
-
-
-def moment_text(nanos):
-    seconds, fraction = divmod(nanos, 10 ** 9)
-    days, rest = divmod(seconds, 86400)
-    told = "%04d-%02d-%02dT%02d:%02d:%02d" % (date_of(days) + (rest // 3600, rest // 60 % 60, rest % 60))
-    if fraction:
-        digits = "%09d" % fraction
-        while digits.endswith("000"):
-            digits = digits[:-3]
-        told += "." + digits
-    return told + "Z"
-
-
-def plain(value, sources):
-    """The value as JSON holds it."""
-    tag, held = value
-    if tag == "array":
-        return [plain(one, sources) for one in held]
-    if tag == "object":
-        return {name: plain(one, sources) for name, one in held}
-    return moment_text(held) if tag == "timestamp" else sources[held] if tag == "regex" else held
-
-
-def value_of(held):
-    """The value of JSON as json_lines reads it."""
-    if held is None:
-        return NULL
-    if isinstance(held, bool):
-        return flag(held)
-    if isinstance(held, int):
-        return "integer", held
-    if isinstance(held, str):
-        return text(held)
-    if isinstance(held, list):
-        return "array", tuple(value_of(one) for one in held)
-    return objects({name: value_of(one) for name, one in held.items()})
 
 
 # ---- evaluation
@@ -299,7 +181,74 @@ class Run:
         raise Ended("aborted", message[1])
 
     def eval_call(self, node):
-        return functions.eval_call(self, node)
+        try:
+            value = self.called(node)
+        except Failed as failed:
+            if node.bang:
+                raise Ended("banged", failed.args[0]) from None
+            raise
+        if depth(value) > DEEPEST:
+            raise Ended("deep", None)
+        return value
+
+    def called(self, node):
+        values = [self.eval(one.value) for one in node.arguments]
+        row = functions.ROWS.get(node.name)
+        if row is None:
+            raise Failed("")
+        try:
+            args = {name: values[number] for name, number in functions.bind(row, node).items()}
+        except functions.Unbound:
+            raise Failed("") from None
+        for parameter in row.parameters:
+            if parameter.name in args and args[parameter.name][0] not in parameter.tags:
+                raise Failed(f"{node.name}: argument {parameter.name} is {args[parameter.name][0]}")
+        if row.path:
+            return getattr(self, "call_" + node.name)(node.arguments[0].value, values[0])
+        if row.names is not None:
+            return self.closed(node, args["value"])
+        try:
+            return row.apply(args, self)
+        except Failed as failed:
+            raise Failed(f"{node.name}: {failed.args[0]}") from None
+
+    def call_exists(self, place, value):
+        return flag(not place.steps or get(self.store.get(place.root, NULL), place.steps) is not None)
+
+    def call_del(self, place, value):
+        if place.steps:
+            self.store[place.root] = cut_out(self.store.get(place.root, NULL), place.steps)
+        else:
+            self.store[place.root] = EMPTY["object"] if place.root == "." else NULL
+        return value
+
+    def closed(self, node, collection):
+        tag, held = collection
+        results = []
+        for key, value in held if tag == "object" else enumerate(held):
+            key = text(key) if tag == "object" else ("integer", key)
+            bound = {"map_values": [value], "map_keys": [key]}.get(node.name, [key, value])
+            results.append((key, value, self.body(node.closure, bound)))
+        if node.name == "for_each":
+            return NULL
+        if node.name == "map_keys":
+            if any(name[0] != "string" for _, _, name in results):
+                raise Failed("")
+            return objects({name[1]: value for _, value, name in results})
+        if node.name == "filter":
+            kept = [(key, value) for key, value, keep in results if keep == flag(True)]
+        else:
+            kept = [(key, made) for key, _, made in results]
+        return objects({key[1]: value for key, value in kept}) if tag == "object" else ("array", tuple(value for _, value in kept))
+
+    def body(self, closure, values):
+        before = self.store
+        bound = {name: value for name, value in zip(closure.names, values) if name != "_"}
+        self.store = {**before, **bound}
+        try:
+            return self.items(closure.items)
+        finally:
+            self.store = {root: before[root] if root in bound else held for root, held in self.store.items() if root in before}
 
     def end(self):
         """The word of the end and what it holds: value, aborted, banged, deep or unhandled."""
@@ -311,17 +260,11 @@ class Run:
             return ("value" if ended.args[0] == "returned" else ended.args[0]), ended.args[1]
 
 
-try:
-    import functions
-except ImportError:
-    functions = None
-
-
 # ---- lines
 
 def run_lines(found, start, data, drop=False, keep=False, moments=None, watch=None):
     """What an accepted script writes and reports over these bytes, and the status."""
-    judge = judgement.Judge()
+    judge = judgement.Judge(found.script.patterns)
     judge.script({".": start}, found.script.items)
     output, report, marked = [], list(found.diagnostics), False
     lines = data.split(b"\n")
@@ -426,6 +369,35 @@ ROWS = [
     ('x = 1' + NL + '.r = ({ x = "s"; .a + 1 }) ?? 0' + NL + ".s = x", '{"a":"q"}', ['{"a":"q","r":0,"s":"s"}'], []),
     (".n = .n + 1 ?? 0", '{"n":4}' + NL + "{}", ['{"n":5}', '{"n":0}'], []), ('if .level == "E" { abort }', '{"level":"E"}', [], ["line 1: aborted"]),
     (".x = 1", "a" * 1048577, [], ["line 1: refused: longer than 1048576 bytes"]),
+    # Calls.
+    ('.x, err = to_int(.x)' + NL + ".y = .x + 1", '{"x":"7"}' + NL + '{"x":"q"}', ['{"x":7,"y":8}', '{"x":0,"y":1}'], []),
+    ("if !is_string(.m) { abort }" + NL + ".m = upcase!(.m)", '{"m":"a"}' + NL + '{"m":3}', ['{"m":"A"}'], ["line 2: aborted"]),
+    ('.m = upcase(.m) ?? "none"', '{"m":3}', ['{"m":"none"}'], []),
+    ("n = 0" + NL + "for_each(.) -> |k, v| { n = n + 1 }" + NL + ".n = n", '{"a":1,"b":2}', ['{"a":1,"b":2,"n":2}'], []),
+    ("a = []" + NL + "for_each(.) -> |k, v| { a = push(a, k) }" + NL + ".keys = a", '{"a":1,"b":2}', ['{"a":1,"b":2,"keys":["a","b"]}'], []),
+    ('x = {"a":1}' + NL + "del(x.a)" + NL + ".r = x.a", "{}", ['{"r":null}'], []),
+    ("x = to_int!(.a)", '{"a":"q"}', ['{"a":"q"}'], ['line 1: error: "to_int: not a whole number"']),
+    ("x = to_int!(.a)", '{"a":"q"}', [], ['line 1: error: "to_int: not a whole number"'], {"drop": True}),
+    ('x = null' + NL + 'for_each(array!(.l)) -> |i, v| { x = {"a": x} }', '{"l":[' + ",".join("0" * 128) + "]}", ['{"l":[' + ",".join("0" * 128) + "]}"], []),
+    ('x = null' + NL + 'for_each(array!(.l)) -> |i, v| { x = {"a": x} }', '{"l":[' + ",".join("0" * 129) + "]}", ['{"l":[' + ",".join("0" * 129) + "]}"],
+     ["line 1: error: nested deeper than 128"]),
+    ("parsed, err = parse_json(.message)" + NL + ". = . | (object(parsed) ?? {})" + NL + "del(.message)" + NL +
+     '.level = downcase(.level) ?? "info"' + NL + '.at = parse_timestamp(.ts, format: "%+") ?? now()',
+     '{"host":"a","message":"{\\"level\\":\\"WARN\\",\\"n\\":3,\\"ts\\":\\"2024-05-06T07:08:09Z\\"}"}' + NL + '{"host":"b","message":"plain"}',
+     ['{"at":"2024-05-06T07:08:09Z","host":"a","level":"warn","n":3,"ts":"2024-05-06T07:08:09Z"}',
+      '{"at":"2024-05-06T10:00:00Z","host":"b","level":"info"}'], [], {"moments": [1714989600 * 10 ** 9] * 2}),
+    (". = parse_json!(.message)", '{"message":"{\\"a\\":1}"}' + NL + '{"message":"3"}', ['{"a":1}', "3"], []),
+    (".v, .e = to_int(.x)", '{"x":"q"}', ['{"e":"to_int: not a whole number","v":0,"x":"q"}'], []),
+    (".v, .e = upcase(.x)", '{"x":3}', ['{"e":"upcase: argument value is integer","v":"","x":3}'], []),
+    ("if exists(.q) { return 1 }" + NL + ".r = 2", '{"q":0}' + NL + "{}", ['{"q":0}', '{"r":2}'], []),
+    ('.k = filter({"a":1,"b":2}) -> |k, v| { v > 1 }', "{}", ['{"k":{"b":2}}'], []), (".k = map_values([1,2]) -> |v| { v * 2 }", "{}", ['{"k":[2,4]}'], []),
+    ('.k = map_keys({"a":1}) -> |k| { upcase(k) }', "{}", ['{"k":{"A":1}}'], []), ('.r = split("a,b", ",")[1]', "{}", ['{"r":"b"}'], []),
+    ('.r = slice!("abcd", 3, 2)', "{}", ["{}"], ['line 1: error: "slice: out of range"']), ('x = push([1], "a")' + NL + '.r = x[1] + "b"', "{}", ['{"r":"ab"}'], []),
+    ('.r = merge({"a":1}, {"a":"s"}).a + "t"', "{}", ['{"r":"st"}'], []), (".x = to_int!(.a) ?? 0", '{"a":"q"}', ['{"a":"q"}'],
+     ["warning[E651] 1:6 unnecessary error coalescing", 'line 1: error: "to_int: not a whole number"']),
+    ('x = 1' + NL + '.r = ({ x = "s"; to_int(.a) }) ?? 0' + NL + ".s = x", '{"a":"q"}', ['{"a":"q","r":0,"s":"s"}'], []),
+    ("k = 5" + NL + "for_each([7]) -> |k, _| { .i = k }" + NL + ".k = k", "{}", ['{"i":0,"k":5}'], []), ("for_each({}) -> |k, v| { .x = q }", "{}", ["{}"], []),
+    ('.r = unflatten({"a.a.a": .d})', '{"d":' + "[" * 126 + "]" * 126 + "}", ['{"d":' + "[" * 126 + "]" * 126 + "}"], ["line 1: error: nested deeper than 128"]),
     (". = . | {\"b\": 2}", '{"a":1,"b":1}', ['{"a":1,"b":2}'], []), (".r = .a[-1]", '{"a":[1,2]}', ['{"a":[1,2],"r":2}'], []),
 ]
 
@@ -437,9 +409,16 @@ def self_check():
         got = run_lines(found, kinds.EVENT, lines.encode(), watch=watcher(found, kinds.EVENT), **(options[0] if options else {}))
         assert got[:2] == (output, report), (script, got)
         assert got[2] == (7 if any("refused" in line for line in report) else 0)
+    for call, want in functions.EXAMPLES:
+        script = grammar.read(call.encode())
+        word, held = Run(script, {}, EMPTY["object"]).end()
+        got = json_lines.write(plain(held, [token.value for token in script.patterns])) if word == "value" else held
+        assert got == want, (call, got)
+        kind = judgement.Verdict(call.encode()).judged.kind
+        assert kinds.inhabits(held, kind), (call, held, kinds.print_kind(kind))
     for one in ("2024-02-29T00:00:00Z", "0000-01-01T00:00:00Z", "9999-12-29T23:59:59.000001Z", "1969-12-31T23:59:59.999999999Z", "2000-12-31T12:00:00.120Z"):
         assert moment_text(grammar.read_moment(one)) == one
-    return len(ROWS) + 5 + judgement.self_check()
+    return len(ROWS) + 5 + len(functions.EXAMPLES) + judgement.self_check()
 
 
 def told_by(program, place, script, file, data, options):
@@ -463,6 +442,7 @@ def main():
     words.add_argument("--count", type=int, default=3000)
     words.add_argument("--program")
     words.add_argument("--words", action="store_true")
+    words.add_argument("--no-calls", action="store_true")
     words.add_argument("--text")
     words.add_argument("--kind")
     words.add_argument("--drop-on-error", action="store_true")
@@ -484,7 +464,7 @@ def main():
         return status
     rows = self_check()
     rng = random.Random(given.seed)
-    maker = judgement.Maker(rng, functions)
+    maker = judgement.Maker(rng, None if given.no_calls else functions)
     met, differences, passed, made, lines = {}, 0, 0, 0, 0
     with tempfile.TemporaryDirectory() as place:
         while made < given.count:
