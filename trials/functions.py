@@ -11,6 +11,7 @@ Patterns go through Python's `re`, so scripts at random use only patterns on whi
 import base64
 import csv
 import hashlib
+import io
 import re
 import urllib.parse
 from typing import NamedTuple
@@ -641,7 +642,7 @@ def _(args, run):
             continue
         at += len(between)
         if one.startswith('"', at):
-            quoted = re.compile(r'"((?:\\["\\]|[^"])*?)"', re.S).match(one, at)
+            quoted = re.compile(r'"((?:\\["\\]|\\(?!["\\])|[^"\\])*)"', re.S).match(one, at)
             if not quoted or not (quoted.end() == len(one) or one.startswith(after, quoted.end())):
                 raise Failed("bad quotes")
             fields[key] = text(re.sub(r'\\(["\\])', r"\1", quoted[1]))
@@ -678,7 +679,7 @@ def _(args, run):
     delimiter = held(args, "delimiter", ",")
     if not good_delimiter(delimiter):
         raise Failed("bad delimiter")
-    return strings(next((one for one in csv.reader(args["value"][1].split("\n"), delimiter=delimiter) if one), []))
+    return strings(next((one for one in csv.reader(io.StringIO(args["value"][1], newline=""), delimiter=delimiter) if one), []))
 
 
 @row("parse_query_string", "value:string", object_of(join(STRING, array_of(STRING))))
@@ -867,12 +868,15 @@ def call(maker, depth):
     if noise < 0.02:
         arguments = arguments[1:]
     elif noise < 0.04:
-        arguments.append(rng.choice(["1", "value: 1", "v: q"]))
+        arguments.append(rng.choice(["1", "value: 1", "v: 1"]))
+    elif noise < 0.045 and arguments:
+        arguments[-1] = "v: 1"
     elif noise < 0.05:
         name = "no_such"
     if named and rng.random() < 0.3:
         rng.shuffle(arguments)
-    text_ = name + ("!" if rng.random() < 0.3 else "") + "(" + ", ".join(arguments) + ")"
+    bang = 0.04 if row.path or (row.may_fail is False and all(p.tags == frozenset(TAGS) for p in row.parameters)) else 0.4
+    text_ = name + ("!" if rng.random() < bang else "") + "(" + ", ".join(arguments) + ")"
     if (row.names is not None) != (rng.random() < 0.02):
         names = [rng.choice(["k", "v", "_", "x", "y"]) for _ in range((row.names or 1) if rng.random() < 0.97 else 3)]
         return text_ + " -> |" + ", ".join(names) + "| { " + closure_body(maker, name, names, depth) + " }"
@@ -885,7 +889,8 @@ def closure_body(maker, name, names, depth):
     if rng.random() < 0.5:
         items.append(rng.choice(["x = x + 1 ?? 0", "x = push(array(x) ?? [], %s)", ".a = %s", "x.a = %s", "del(.b)", "x = {\"a\": x}", "y = x",
                                  "x = %s"]).replace("%s", rng.choice(names + ["1", '"s"', "x"])))
-    last = {"filter": ["true", "%s == 1", "is_string(%s)"], "map_keys": ['"k"', "upcase(%s)", "%s", "to_string(%s) ?? \"q\""]}.get(name, ["%s", "1", "[%s]"])
+    last = {"filter": ["true", "%s == 1", "is_string(%s)", "%s"],
+            "map_keys": ['"k"', "upcase(%s)", "%s", "to_string(%s) ?? \"q\""]}.get(name, ["%s", "1", "[%s]"])
     if name != "for_each" or rng.random() < 0.3:
         items.append(rng.choice(last).replace("%s", rng.choice([n for n in names if n != "_"] or ["1"])))
     return "; ".join(one for one in items if one)

@@ -1,13 +1,24 @@
 """Random trial of texts: tokens, brackets, and the grammar of scripts.
 
-    python3 trials/grammar.py [--seed N] [--count N] [--program PATH] [--show N]
+    python3 trials/grammar.py [--seed N] [--count N] [--program PATH] [--out FILE] [--show N]
     python3 trials/grammar.py --text FILE
 
 The second form prints the one diagnostic of a script's text up to the grammar, as `203 1:5`, or `ok`. The first
 makes texts at random from the productions, spoils many of them, and compares each with `PATH SCRIPTFILE`: where
 one of the codes below is due it must be the first diagnostic on standard error, with its place; else none of
 them may stand there. Without --program each text is read by two readers, a plain descent and a table of the
-productions read by Earley's way, which must agree.
+productions read by Earley's way, which must agree. With --out the texts go to FILE, a JSON object a line: `hex`, the
+text's bytes, and `want`, as above; where that is `ok` also `patterns`, the regex sources in order, `roots`, the roots
+that are assigned or that a `del` names, by bytes, and `tree`, a list of items. A tree's node is `[FORM, START, END ..]`
+with its span in bytes, and then
+
+    literal TAG VALUE           array [NODE ..]         map [[NAME, NODE] ..]       read ROOT STEPS
+    query NODE STEPS            group NODE              block [NODE ..]             not NODE
+    if [[PREDICATE, BLOCK] ..] BLOCK-OR-NULL            binary SIGN LEFT RIGHT      abort NODE-OR-NULL
+    assign TARGET NODE          merge TARGET NODE       both TARGET TARGET NODE     return NODE
+    call NAME BANG [[NAME-OR-NULL, START, END, NODE] ..] CLOSURE-OR-NULL, with CLOSURE = [[NAME ..], START, END, [NODE ..]]
+
+where VALUE is nanoseconds since 1970 or a regex's number, ROOT is `.` or a name, STEPS holds texts and whole numbers, and TARGET is `[START, END, ROOT-OR-NULL, STEPS]`.
 
 Codes: 203 unrecognized token, 1001 float, 1002 number out of range, 1003 operator left out, 1007 negative index
 written or deleted, 1008 nested too deeply, 1009 too long or not UTF-8, 1012 index too large or path too long,
@@ -15,6 +26,7 @@ written or deleted, 1008 nested too deeply, 1009 too long or not UTF-8, 1012 ind
 """
 
 import argparse
+import json
 import os
 import random
 import re
@@ -545,6 +557,54 @@ def walk(node):
             yield from walk(part)
 
 
+def tree_of(node, at):
+    """The tree as lists; `at` gives the byte of each character."""
+    span = lambda one: [at[one.start], at[one.end]]
+    inner = lambda one: None if one is None else tree_of(one, at)
+    every = lambda nodes: [tree_of(one, at) for one in nodes]
+    target = lambda one: span(one) + [one.root, list(one.steps)]
+    parts = {
+        "literal": lambda: [node.tag, node.value], "array": lambda: [every(node.parts)],
+        "map": lambda: [[[name, inner(one)] for name, one in node.pairs]], "read": lambda: [node.root, list(node.steps)],
+        "query": lambda: [inner(node.value), list(node.steps)], "group": lambda: [inner(node.value)], "block": lambda: [every(node.items)],
+        "if": lambda: [[every(arm) for arm in node.arms], inner(node.otherwise)], "not": lambda: [inner(node.value)],
+        "binary": lambda: [node.op, inner(node.left), inner(node.right)], "assign": lambda: [target(node.target), inner(node.value)],
+        "merge": lambda: [target(node.target), inner(node.value)], "both": lambda: [target(node.ok), target(node.err), inner(node.value)],
+        "return": lambda: [inner(node.value)], "abort": lambda: [inner(node.message)],
+        "call": lambda: [node.name, node.bang, [[one.name] + span(one) + [inner(one.value)] for one in node.arguments],
+                         node.closure and [node.closure.names] + span(node.closure) + [every(node.closure.items)]],
+    }
+    return [node.form] + span(node) + parts[node.form]()
+
+
+def written_roots(items):
+    """The roots assigned in these items, and those that a `del` in them names, closures inside too."""
+    found = set()
+    for node in walk(items):
+        if node.form in ("assign", "merge"):
+            found.add(node.target.root)
+        elif node.form == "both":
+            found |= {node.ok.root, node.err.root}
+        elif node.form == "call" and node.name == "del":
+            found |= {one.value.root for one in node.arguments if one.value.form == "read"}
+    return found - {None}
+
+
+def case_line(data, got):
+    one = {"hex": data.hex()}
+    if isinstance(got, Script):
+        at = [0]
+        for c in got.text:
+            at.append(at[-1] + len(c.encode()))
+        one["want"] = "ok"
+        one["patterns"] = [token.value for token in got.patterns]
+        one["roots"] = sorted(written_roots(got.items), key=lambda root: root.encode())
+        one["tree"] = [tree_of(item, at) for item in got.items]
+    else:
+        one["want"] = "%d %d:%d" % got
+    return json.dumps(one) + "\n"
+
+
 def path_faults(items):
     """1007 and 1012, on assigned paths and on arguments of `del` that are paths."""
     paths = []
@@ -948,6 +1008,7 @@ def main():
     words.add_argument("--count", type=int, default=5000)
     words.add_argument("--program")
     words.add_argument("--text")
+    words.add_argument("--out")
     words.add_argument("--show", type=int, default=10)
     given = words.parse_args()
     if given.text:
@@ -958,6 +1019,7 @@ def main():
     rows = self_check()
     rng = random.Random(given.seed)
     texts = list(hard_texts()) + [Maker(rng).text() for _ in range(given.count)]
+    out = open(given.out, "w") if given.out else None
     met, differences = {}, 0
     with tempfile.TemporaryDirectory() as place:
         script = os.path.join(place, "script.vrl")
@@ -966,6 +1028,8 @@ def main():
             want = "ok" if isinstance(got, Script) else got
             what = want if want == "ok" else want[0]
             met[what] = met.get(what, 0) + 1
+            if out:
+                out.write(case_line(data, got))
             if given.program:
                 told = told_by(given.program, script, data)
             else:
@@ -974,6 +1038,8 @@ def main():
                 differences += 1
                 if differences <= given.show:
                     print("difference: wanted", want, "got", told, "on", data[:300])
+    if out:
+        out.close()
     told = ", ".join(f"{met[what]} of {what}" for what in sorted(met, key=str))
     against = "the program" if given.program else "the second reader"
     print(f"grammar: seed {given.seed}, {rows} rows, {len(texts)} texts ({told}): {differences} differences from {against}")

@@ -1,6 +1,6 @@
 """Random trial of the judgement: kinds, states and codes of scripts.
 
-    python3 trials/judgement.py [--seed N] [--count N] [--no-calls] [--out FILE] [--program PATH [--words]] [--show N]
+    python3 trials/judgement.py [--seed N] [--count N] [--no-calls] [--hard] [--out FILE] [--program PATH [--words]] [--show N]
     python3 trials/judgement.py --text FILE [--kind FILE]
 
 The second form prints the diagnostics of a script, or its warnings and then its kinds as `--check` prints them. The
@@ -13,7 +13,7 @@ program takes `--check` and `--kind FILE`, and the kinds that it prints are comp
     assignment's empty value, an outer one before those in it)
 
 where result and end are null for a refused script. Calls are judged by the rows in `functions.py`; --no-calls makes
-scripts without them.
+scripts without them, --hard adds scripts about the limits of nodes and levels.
 
 A state is None where it is dead, else a map from roots to kinds; the event's root is ".".
 """
@@ -379,7 +379,7 @@ class Judge:
             body = self.judge(None, node)
             self.loops[node] = state
             return body, state
-        written, now = written_roots(node.items), state
+        written, now = grammar.written_roots(node.items), state
         for attempt in (1, 2, 3):
             body = self.body(now, node, collection, name)
             if state_within(body.ok, now):
@@ -407,19 +407,6 @@ class Judge:
         parts, after = self.each(state, items)
         codes = {(node.start, node.end, 100) for node, part in zip(items, parts) if part.fallible()}
         return joined(parts, parts[-1].kind if parts else scalars("null"), after, codes=codes)
-
-
-def written_roots(items):
-    """The roots assigned in a body, and those that a `del` in it names, closures inside too."""
-    found = set()
-    for node in grammar.walk(items):
-        if node.form in ("assign", "merge"):
-            found.add(node.target.root)
-        elif node.form == "both":
-            found |= {node.ok.root, node.err.root}
-        elif node.form == "call" and node.name == "del":
-            found |= {one.value.root for one in node.arguments if one.value.form == "read"}
-    return found - {None}
 
 
 def state_within(a, b):
@@ -552,10 +539,14 @@ class Maker:
         return "; ".join(self.item(depth) for _ in range(self.pick((0, 1), (1, 6), (2, 3))))
 
     def item(self, depth):
-        how = self.pick(("assign", 8), ("merge", 1), ("both", 2.5), ("return", 0.5), ("abort", 0.7), ("expression", 3), ("guarded", 2))
+        how = self.pick(("assign", 8), ("merge", 1), ("both", 2.5), ("return", 0.4), ("abort", 0.3), ("expression", 3), ("guarded", 2),
+                        ("called", 4 if self.calls else 0))
         target = lambda: self.rng.choice(self.TARGETS)
         if how == "assign":
             return f"{target()} = {self.single(depth - 1) if self.rng.random() < 0.08 else self.expression(depth)}"
+        if how == "called":
+            call = self.calls.call(self, depth)
+            return self.pick((f"{target()} = {call}", 2), (f"{target()} = {call} ?? {self.atom()}", 2), (f"{target()}, {target()} = {call}", 2), (call, 2))
         if how == "guarded":
             return f"{target()} = {self.tight(depth)} ?? {self.atom()}"
         if how == "merge":
@@ -602,6 +593,17 @@ class Maker:
         def part(depth):
             return {"optional": inner(depth)} if self.rng.random() < 0.3 else inner(depth)
         return {"object": {n: part(2) for n in "ab" if self.rng.random() < 0.8}, "rest": self.rng.choice(["nothing", "json", word()])}
+
+
+def hard_scripts():
+    """Kinds about the limits of levels and nodes."""
+    for size in (30, 31, 32, 33, 34):
+        for start in ("1", "[]", ".", "{}"):
+            for wrap in ("[x]", '{"a": x}', '{"a": [x]}'):
+                yield f"x = {start}\n" + f"x = {wrap}\n" * (size if wrap != '{"a": [x]}' else size // 2) + 'y = x[0] || x.a\n.x = x\ny.a'
+    for size in (998, 999, 1000, 1001):
+        yield "\n".join(f".k{i} = 1" for i in range(size)) + "\n.k7 + 1"
+    yield "x = {}\n" + "\n".join(f"x.k{i} = 1" for i in range(999)) + "\nx.k7 + 1\ny = [x]\ny[0].k7 + 1"
 
 
 # ---- rows
@@ -703,6 +705,7 @@ def main():
     words.add_argument("--program")
     words.add_argument("--words", action="store_true")
     words.add_argument("--no-calls", action="store_true")
+    words.add_argument("--hard", action="store_true")
     words.add_argument("--text")
     words.add_argument("--kind")
     words.add_argument("--show", type=int, default=10)
@@ -725,14 +728,14 @@ def main():
     met, differences, accepted, passed = {}, 0, 0, 0
     out = open(given.out, "w") if given.out else None
     with tempfile.TemporaryDirectory() as place:
-        made = 0
-        while made < given.count:
-            script, file = maker.script(), maker.kind_file()
+        made, hard = 0, list(hard_scripts()) if given.hard else []
+        while made < given.count or hard:
+            script, file = (hard.pop(), None) if hard else (maker.script(), maker.kind_file())
             if given.program and not given.words:
                 file = None
             found = Verdict(script.encode(), start_of(file))
             # Scripts that are refused come by themselves; those that are accepted are looked for.
-            if not found.accepted and rng.random() < 0.6:
+            if not found.accepted and not hard and rng.random() < 0.6:
                 continue
             made += 1
             accepted += found.accepted
