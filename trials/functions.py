@@ -2,8 +2,8 @@
 
 A row has the parameters, the result kind, when the function may fail though its arguments fit, which literals it
 takes, and what it does. `given` maps each parameter that an argument binds to its kind, cut down to the tags that the
-parameter allows, and to its literal, if it is one. This file runs nothing by itself; `parse_url` is left out, and
-so are date formats other than `%+` in `parse_timestamp`.
+parameter allows, and to its literal, if it is one. This file runs nothing by itself. What `parse_url` does is left
+out, and so is what `parse_timestamp` does with formats other than `%+`.
 
 Patterns go through Python's `re`, so scripts at random use only patterns on which it agrees with any other.
 """
@@ -690,6 +690,15 @@ def _(args, run):
     return objects({name: text(every[0]) if len(every) == 1 else strings(every) for name, every in fields.items()})
 
 
+WORDS_OF_URLS = {"scheme": STRING, "username": STRING, "password": STRING, "path": STRING, "host": scalars("string", "null"),
+                 "fragment": scalars("string", "null"), "port": scalars("integer", "null"), "query": object_of(STRING)}
+
+
+@row("parse_url", "value:string", make((), None, (WORDS_OF_URLS, "nothing")), True)
+def _(args, run):
+    raise NotImplementedError("URLs")
+
+
 # ---- moments
 
 UNITS = {"seconds": 10 ** 9, "milliseconds": 10 ** 6, "microseconds": 1000, "nanoseconds": 1}
@@ -854,7 +863,8 @@ def fitting(maker, parameter, depth):
 
 def call(maker, depth):
     rng = maker.rng
-    name = maker.pick((rng.choice(sorted(ROWS)), 6), ("del", 1.5), ("exists", 1), (rng.choice(CLOSED), 3), (rng.choice(["to_int", "to_string", "push"]), 2))
+    name = maker.pick((rng.choice(sorted(set(ROWS) - {"parse_url"})), 6), ("del", 1.5), ("exists", 1), (rng.choice(CLOSED), 3),
+                      (rng.choice(["to_int", "to_string", "push"]), 2))
     row = ROWS[name]
     arguments, named = [], False
     for one in row.parameters:
@@ -883,12 +893,25 @@ def call(maker, depth):
     return text_ + (rng.choice([".a", "[0]", "[-1]"]) if rng.random() < 0.1 else "")
 
 
+def loop(maker):
+    """Lines with a closure that takes more than one try to be kept."""
+    pick = maker.rng.choice
+    value = lambda: pick(["1", '"s"', "true", "null", "{}", "[1]", ".a", "v", "k", '{"a": x}', "[y]", "x"])
+    steps = [pick(["y = x", "x = y", ".a = y", ".a = x", f"x = {value()}", f"y = {value()}", f".a = {value()}", "x.a = y", "del(x.a)", "del(.a)",
+                   "y = x; x = " + value(), "x, y = to_int(.a)", "y = .a", "if v == 1 { x = y }", ".b = x + 1 ?? 0"]) for _ in range(pick([1, 2, 3]))]
+    first = f"x = {pick(['1', 'true', '{}', '[1]', 'null'])}\ny = {pick(['1', 'true', '{}', '[1]', 'null'])}\n"
+    over = pick([".", "array!(.a)", "{\"a\": 1}", "[1, 2]", "[]", "object!(.b)"])
+    name = pick(["for_each", "for_each", "filter"])
+    last = "; true" if name == "filter" else ""
+    return f"{first}{name}({over}) -> |k, v| {{ {'; '.join(steps)}{last} }}"
+
+
 def closure_body(maker, name, names, depth):
     rng = maker.rng
     items = [maker.items(min(depth - 1, 1))] if rng.random() < 0.6 else []
     if rng.random() < 0.5:
         items.append(rng.choice(["x = x + 1 ?? 0", "x = push(array(x) ?? [], %s)", ".a = %s", "x.a = %s", "del(.b)", "x = {\"a\": x}", "y = x",
-                                 "x = %s"]).replace("%s", rng.choice(names + ["1", '"s"', "x"])))
+                                 "x = %s", "y = x; x = %s", "x = y; y = %s", "x = if x == 1 { \"s\" } else { x }"]).replace("%s", rng.choice(names + ["1", '"s"', "x"])))
     last = {"filter": ["true", "%s == 1", "is_string(%s)", "%s"],
             "map_keys": ['"k"', "upcase(%s)", "%s", "to_string(%s) ?? \"q\""]}.get(name, ["%s", "1", "[%s]"])
     if name != "for_each" or rng.random() < 0.3:
@@ -899,29 +922,46 @@ def closure_body(maker, name, names, depth):
 # ---- rows: calls, and the JSON of their values
 
 EXAMPLES = [
-    ("is_array([])", "true"), ('is_nullish("-")', "true"), ('is_empty("")', "true"), ("int(3)", "3"), ("to_string(7)", '"7"'), ('to_int("-7")', "-7"),
+    ("is_array([])", "true"), ('is_nullish("-")', "true"), ('is_empty("")', "true"), ("int(3)", "3"), ("to_string(7)", '"7"'),
+    ('to_int("-7")', "-7"),
     ('to_bool("Yes")', "true"), ('upcase("aé")', '"Aé"'), ('downcase("AB")', '"ab"'), ('strip_whitespace(" a ")', '"a"'),
-    ('starts_with("Abc", "aB", case_sensitive: false)', "true"), ('ends_with("ab", "b")', "true"), ('contains("abc", "b")', "true"),
-    ('length("é")', "2"), ('strlen("é")', "1"), ('truncate("abcd", 2, "..")', '"ab.."'), ('slice("abcd", 1, -1)', '"bc"'), ('join(["a","b"], "-")', '"a-b"'),
+    ('starts_with("Abc", "aB", case_sensitive: false)', "true"), ('ends_with("ab", "b")', "true"),
+    ('contains("abc", "b")', "true"),
+    ('length("é")', "2"), ('strlen("é")', "1"), ('truncate("abcd", 2, "..")', '"ab.."'), ('slice("abcd", 1, -1)', '"bc"'),
+    ('join(["a","b"], "-")', '"a-b"'),
     ('split("a,b,c", ",", limit: 2)', '["a","b,c"]'), ('replace("aaa", "a", "b", count: 2)', '"bba"'), ('find("abc", "c")', "2"),
-    ("match(\"ab\", r'b$')", "true"), ("match_any(\"ab\", [r'x', r'b'])", "true"), ("parse_regex(\"k=v\", r'(?P<a>\\w)=(?P<b>\\w)')", '{"a":"k","b":"v"}'),
-    ("parse_regex_all(\"ab\", r'(?P<c>.)')", '[{"c":"a"},{"c":"b"}]'), ('push([1], "a")', '[1,"a"]'), ("append([1], [2])", "[1,2]"),
-    ("includes([1], 1)", "true"), ("unique([1,1,2])", "[1,2]"), ("flatten([1,[2,[3]]])", "[1,2,3]"), ('chunks("abcde", 2)', '["ab","cd","e"]'),
-    ('zip([1,2], ["a"])', '[[1,"a"]]'), ('compact([null,1,[""]])', "[1]"), ('keys({"b":1,"a":2})', '["a","b"]'), ('values({"b":1,"a":2})', "[2,1]"),
+    ("match(\"ab\", r'b$')", "true"), ("match_any(\"ab\", [r'x', r'b'])", "true"),
+    ("parse_regex(\"k=v\", r'(?P<a>\\w)=(?P<b>\\w)')", '{"a":"k","b":"v"}'),
+    ("parse_regex_all(\"ab\", r'(?P<c>.)')", '[{"c":"a"},{"c":"b"}]'), ('push([1], "a")', '[1,"a"]'),
+    ("append([1], [2])", "[1,2]"),
+    ("includes([1], 1)", "true"), ("unique([1,1,2])", "[1,2]"), ("flatten([1,[2,[3]]])", "[1,2,3]"),
+    ('chunks("abcde", 2)', '["ab","cd","e"]'),
+    ('zip([1,2], ["a"])', '[[1,"a"]]'), ('compact([null,1,[""]])', "[1]"), ('keys({"b":1,"a":2})', '["a","b"]'),
+    ('values({"b":1,"a":2})', "[2,1]"),
     ('get({"a":[5]}, ["a",0])', "5"), ('set({}, ["a",1], 2)', '{"a":[null,2]}'), ('remove({"a":1,"b":2}, ["a"])', '{"b":2}'),
     ('merge({"a":{"x":1}}, {"a":{"y":2}}, deep: true)', '{"a":{"x":1,"y":2}}'), ('unflatten({"a.b":1})', '{"a":{"b":1}}'),
-    ('object_from_array([["a",1]])', '{"a":1}'), ('tally(["a","b","a"])', '{"a":2,"b":1}'), ('encode_base64("hi")', '"aGk="'), ('decode_base64("aGk=")', '"hi"'),
-    ('encode_base16("hi")', '"6869"'), ('decode_base16("6869")', '"hi"'), ('encode_percent("a b")', '"a%20b"'), ('decode_percent("a%20b")', '"a b"'),
+    ('object_from_array([["a",1]])', '{"a":1}'), ('tally(["a","b","a"])', '{"a":2,"b":1}'), ('encode_base64("hi")', '"aGk="'),
+    ('decode_base64("aGk=")', '"hi"'),
+    ('encode_base16("hi")', '"6869"'), ('decode_base16("6869")', '"hi"'), ('encode_percent("a b")', '"a%20b"'),
+    ('decode_percent("a%20b")', '"a b"'),
     ('md5("")', '"d41d8cd98f00b204e9800998ecf8427e"'), ('sha1("abc")', '"a9993e364706816aba3e25717850c26c9cd0d89d"'),
-    ('sha2("abc", variant: "SHA-256")', '"ba7816bf8f01cfea414140de5dae2223b00361a396177a9cb410ff61f20015ad"'), ('parse_json("[1]")', "[1]"),
-    ('encode_json({"a":[1,null]})', '"{\\"a\\":[1,null]}"'), ('parse_key_value("a=1 b=\\"x y\\" c")', '{"a":"1","b":"x y","c":true}'),
+    ('sha2("abc", variant: "SHA-256")', '"ba7816bf8f01cfea414140de5dae2223b00361a396177a9cb410ff61f20015ad"'),
+    ('parse_json("[1]")', "[1]"),
+    ('encode_json({"a":[1,null]})', '"{\\"a\\":[1,null]}"'),
+    ('parse_key_value("a=1 b=\\"x y\\" c")', '{"a":"1","b":"x y","c":true}'),
     ('encode_key_value({"a":1,"b":"x y"})', '"a=1 b=\\"x y\\""'), ('parse_csv("a,\\"b,c\\"")', '["a","b,c"]'),
-    ('parse_query_string("?a=1&a=2&b=3")', '{"a":["1","2"],"b":"3"}'), ("format_timestamp(t'2024-01-02T03:04:05Z', \"%Y/%m/%d\")", '"2024/01/02"'),
-    ("to_unix_timestamp(t'1970-01-01T00:00:01.5Z', unit: \"milliseconds\")", "1500"), ("from_unix_timestamp(1)", '"1970-01-01T00:00:01Z"'),
-    ("abs(-3)", "3"), ("mod(-7, 3)", "-1"), ('parse_int("0x1f")', "31"), ("format_int(255, 16)", '"ff"'), ('truncate("abcd", -1)', '""'),
-    ('push([1], "a")[1]', '"a"'), ('find("aéa", "a", from: 2)', "null"), ("split(\"a1b2\", r'\\d')", '["a","b",""]'), ('parse_key_value("a=")', '{"a":""}'),
-    ('parse_csv("", ";")', "[]"), ('parse_query_string("a&a=1").a', '["","1"]'), ('split("a,b", ",")[1]', '"b"'), ('merge({"a":1}, {"a":"s"}).a', '"s"'),
-    ("mod(-9223372036854775808, -1)", "0"), ("abs(-9223372036854775808)", "-9223372036854775808"), ('parse_int("-0b11")', "-3"), ('parse_int("017")', "15"),
+    ('parse_query_string("?a=1&a=2&b=3")', '{"a":["1","2"],"b":"3"}'),
+    ("format_timestamp(t'2024-01-02T03:04:05Z', \"%Y/%m/%d\")", '"2024/01/02"'),
+    ("to_unix_timestamp(t'1970-01-01T00:00:01.5Z', unit: \"milliseconds\")", "1500"),
+    ("from_unix_timestamp(1)", '"1970-01-01T00:00:01Z"'),
+    ("abs(-3)", "3"), ("mod(-7, 3)", "-1"), ('parse_int("0x1f")', "31"), ("format_int(255, 16)", '"ff"'),
+    ('truncate("abcd", -1)', '""'),
+    ('push([1], "a")[1]', '"a"'), ('find("aéa", "a", from: 2)', "null"), ("split(\"a1b2\", r'\\d')", '["a","b",""]'),
+    ('parse_key_value("a=")', '{"a":""}'),
+    ('parse_csv("", ";")', "[]"), ('parse_query_string("a&a=1").a', '["","1"]'), ('split("a,b", ",")[1]', '"b"'),
+    ('merge({"a":1}, {"a":"s"}).a', '"s"'),
+    ("mod(-9223372036854775808, -1)", "0"), ("abs(-9223372036854775808)", "-9223372036854775808"), ('parse_int("-0b11")', "-3"),
+    ('parse_int("017")', "15"),
     ("filter({\"a\":1,\"b\":2}) -> |k, v| { v > 1 }", '{"b":2}'), ("map_values([1,2]) -> |v| { v * 2 }", "[2,4]"),
     ("map_keys({\"a\":1}) -> |k| { upcase(k) }", '{"A":1}'), ("abs(-9223372036854775807)", "9223372036854775807"),
 ]

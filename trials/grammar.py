@@ -18,7 +18,8 @@ with its span in bytes, and then
     assign TARGET NODE          merge TARGET NODE       both TARGET TARGET NODE     return NODE
     call NAME BANG [[NAME-OR-NULL, START, END, NODE] ..] CLOSURE-OR-NULL, with CLOSURE = [[NAME ..], START, END, [NODE ..]]
 
-where VALUE is nanoseconds since 1970 or a regex's number, ROOT is `.` or a name, STEPS holds texts and whole numbers, and TARGET is `[START, END, ROOT-OR-NULL, STEPS]`.
+where VALUE is nanoseconds since 1970 for a timestamp and a regex's number for a regex, ROOT is `.` or a name, STEPS holds
+texts and whole numbers, and TARGET is `[START, END, ROOT-OR-NULL, STEPS]`.
 
 Codes: 203 unrecognized token, 1001 float, 1002 number out of range, 1003 operator left out, 1007 negative index
 written or deleted, 1008 nested too deeply, 1009 too long or not UTF-8, 1012 index too large or path too long,
@@ -954,11 +955,15 @@ def hard_texts():
 
 NL = "\n"
 ROWS = [
-    (".x =", (203, 1, 5)), ('.x = "a', (203, 1, 6)), ('.x = "{{ a }}"', (1016, 1, 6)), (".x = 1.5", (1001, 1, 6)), (".x = 1 / 2", (1003, 1, 8)),
+    (".x =", (203, 1, 5)), ('.x = "a', (203, 1, 6)), ('.x = "{{ a }}"', (1016, 1, 6)), (".x = 1.5", (1001, 1, 6)),
+    (".x = 1 / 2", (1003, 1, 8)),
     (".x = t'now'", (1014, 1, 6)), (".a[65536] = 1", (1012, 1, 1)), (".a[-1] = 1", (1007, 1, 1)), (".a[65535] = 1", "ok"),
-    (".n = 9223372036854775808", (1002, 1, 6)), (".n = -9223372036854775808", "ok"), ("(" * 65, (1008, 1, 1)), (" " * 65537, (1009, 1, 1)),
-    ("(" * 64 + "1" + ")" * 64, "ok"), (".x = 1 2", (203, 1, 8)), (".x = (1", (203, 1, 8)), ("if true 1", (203, 1, 9)), ("}", (203, 1, 1)),
-    ("a, .b, c = 1", (203, 1, 6)), (".x = 1; .y = 2", "ok"), (".x = 1" + NL + "?? 2", "ok"), ("f(a)[0]", "ok"), (".x = (", (203, 1, 7)),
+    (".n = 9223372036854775808", (1002, 1, 6)), (".n = -9223372036854775808", "ok"), ("(" * 65, (1008, 1, 1)),
+    (" " * 65537, (1009, 1, 1)),
+    ("(" * 64 + "1" + ")" * 64, "ok"), (".x = 1 2", (203, 1, 8)), (".x = (1", (203, 1, 8)), ("if true 1", (203, 1, 9)),
+    ("}", (203, 1, 1)),
+    ("a, .b, c = 1", (203, 1, 6)), (".x = 1; .y = 2", "ok"), (".x = 1" + NL + "?? 2", "ok"), ("f(a)[0]", "ok"),
+    (".x = (", (203, 1, 7)),
     ("f(a) -> |v| {" * 4 + "}" * 4, "ok"), ("f(a) -> |v| {" * 5 + "}" * 5, (1008, 1, 1)), ("(x" + NL + "-5)", (203, 2, 1)),
     ("x = 1.5x", (1001, 1, 5)), ("1e5x", (1001, 1, 1)), ("1_", (203, 1, 1)), ("1__0", (203, 1, 1)), ("12x", (203, 1, 1)),
     ("99999999999999999999x", (203, 1, 1)), ("x = s'a", (203, 1, 5)), ('.a."\\q" = 1', (203, 1, 1)), ('.a."q = 1', (203, 1, 4)),

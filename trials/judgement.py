@@ -6,11 +6,12 @@
 The second form prints the diagnostics of a script, or its warnings and then its kinds as `--check` prints them. The
 first makes scripts at random. With --program each goes through `PATH SCRIPTFILE`, and the diagnostics on standard
 error are compared; a script for which the program says 1099 is counted and passed over. With --words, too, the
-program takes `--check` and `--kind FILE`, and the kinds that it prints are compared. With --out the scripts go to FILE, a JSON object a line:
+program takes `--check` and `--kind FILE`, and the kinds that it prints are compared. With --out the scripts go to FILE,
+a JSON object a line:
 
     script, kind (a kind file's value), diagnostics (their lines), result (the joined kind), end (lines `. KIND`,
     `NAME KIND` of the joined state), ok, ret (such lines, or null where dead), empties (the tag of each error
-    assignment's empty value, an outer one before those in it)
+    assignment's empty value, an outer one before those in it), loops (the state that each closure was judged in last)
 
 where result and end are null for a refused script. Calls are judged by the rows in `functions.py`; --no-calls makes
 scripts without them, --hard adds scripts about the limits of nodes and levels.
@@ -571,6 +572,8 @@ class Maker:
             lines.append("x = " + self.rng.choice(["1", '"s"', "{}", '{"a": 1}', "[1]", "null", ".a", "true", "."]))
         if self.rng.random() < 0.5:
             lines.append("y = " + self.rng.choice(["1", '"s"', "{}", '{"a": "s"}', "[]", "null", ".b", "x"]))
+        if self.calls and self.rng.random() < 0.1:
+            lines.append(self.calls.loop(self))
         lines += [self.item(self.rng.choice([1, 2, 3])) for _ in range(self.rng.randrange(1, 5))]
         return "\n".join(lines)
 
@@ -611,7 +614,8 @@ def hard_scripts():
 NL = "\n"
 # A script, and its diagnostics as (code, line, column); a second list is what `--check` prints.
 ROWS = [
-    (".x = 1", []), (".x = y", [(701, 1, 6)]), (".y = .a + 1", [(103, 1, 1)]), (".y = .a + 1 ?? 0", []), (".a + 1", [(100, 1, 1)]),
+    (".x = 1", []), (".x = y", [(701, 1, 6)]), (".y = .a + 1", [(103, 1, 1)]), (".y = .a + 1 ?? 0", []),
+    (".a + 1", [(100, 1, 1)]),
     (".y = 1 ?? 2", [(651, 1, 6)]), (".y = z", [(701, 1, 6)]), ('.y = "a" + 1' + NL + ".z = q", [(103, 1, 1)]), (".y = .m", []),
     ('x = 1' + NL + '.r = ({ x = "s"; .a + 1 }) ?? 0' + NL + ".s = x + 1", [(103, 3, 1)]),
     ("if true { y = 1 }" + NL + ".z = y", [(701, 2, 6)]), ("abort" + NL + ".x = q", [], ["result never", ". never"]),
@@ -620,39 +624,56 @@ ROWS = [
     (". = 3", [(1006, 1, 1)]), ("_ = 1", [(640, 1, 1)]), ("1 < 2 < 3", [(650, 1, 1)]), ("a, b = 1", [(104, 1, 1)]),
     ("if 1 { }", [(102, 1, 4)]), ("!1", [(660, 1, 1)]), (". | 1", [(652, 1, 5)]), ("abort 1", [(1011, 1, 7)]),
     ('x = "s"' + NL + ".r = (.a + 1 + (x = 1)) ?? x" + NL + ".s = .r + 1", [(103, 3, 1)]),
-    ('., e = "a" + 1', [(1006, 1, 1)]), ("(abort) ?? 1", [(651, 1, 1)]), ("x, e = abort", [(104, 1, 1)]), (". = [{\"a\":1},{\"a\":2}]", []),
-    (". = []", []), (".n = 9223372036854775807 + 1", []), ("if .q == 0 { return 1 }" + NL + ".r = 2", [], ["result integer", ". {..json}"]),
+    ('., e = "a" + 1', [(1006, 1, 1)]), ("(abort) ?? 1", [(651, 1, 1)]), ("x, e = abort", [(104, 1, 1)]),
+    (". = [{\"a\":1},{\"a\":2}]", []),
+    (". = []", []), (".n = 9223372036854775807 + 1", []),
+    ("if .q == 0 { return 1 }" + NL + ".r = 2", [], ["result integer", ". {..json}"]),
     ("if .k == 1 { .v = 1 } else { .v = \"s\" }" + NL + ".w = .v + 1", [(103, 2, 1)]), ("_ |= q", [(640, 1, 1), (701, 1, 6)]),
     ("_ |= .a + 1", [(640, 1, 1)]), ("x |= {}", [(701, 1, 1)]), (".a |= {}", [(652, 1, 1)]), ("., . = .a + 1", [(1006, 1, 1)]),
     (".v, .e = .x - 1", [], ["result integer", '. {"e": string|null, "v": integer, ..json}']),
     ("_, _ = .a + 1", [(640, 1, 1)]), ("_ = .a + 1", [(103, 1, 1), (640, 1, 1)]), (". = .a + 1", [(103, 1, 1), (1006, 1, 1)]),
-    ("if .a + 1 == 2 { }", [(1005, 1, 4)]), ("if !(.m == 1) { abort }" + NL + ".m = .m + 1", [(103, 2, 1)]), ("", [], ["result null", ". {..json}"]),
+    ("if .a + 1 == 2 { }", [(1005, 1, 4)]), ("if !(.m == 1) { abort }" + NL + ".m = .m + 1", [(103, 2, 1)]),
+    ("", [], ["result null", ". {..json}"]),
     ("x.a = 1", [], ["result integer", ". {..json}", 'x {"a": integer, ..any}']), (".x =", [(203, 1, 5)]),
     ("(1 < 2) == true", []), ("1 == 2 < 3", [(650, 1, 1)]), ("x = true && 1", [(103, 1, 1)]),
-    ("null && q", [], ["result boolean", ". {..json}"]), ("true && q", [(701, 1, 9)]), ("1 || q", [], ["result integer", ". {..json}"]),
+    ("null && q", [], ["result boolean", ". {..json}"]), ("true && q", [(701, 1, 9)]),
+    ("1 || q", [], ["result integer", ". {..json}"]),
     ("null || 1", [], ["result integer", ". {..json}"]), ("{ x = 1 }" + NL + "x", [(701, 2, 1)]),
     # Calls.
     (".x = to_int(.x)", [(103, 1, 1)]), (".x, err = to_int(.x)" + NL + ".y = .x + 1", []),
     ('x = 1' + NL + '.r = ({ x = "s"; to_int(.a) }) ?? 0' + NL + ".s = x + 1", [(103, 3, 1)]),
     ('if exists(.k) { .v = 1 } else { .v = "s" }' + NL + ".w = .v + 1", [(103, 2, 1)]),
-    ("if !is_string(.m) { abort }" + NL + ".m = upcase(.m)", [(103, 2, 1)]), ("if !is_string(.m) { abort }" + NL + ".m = upcase!(.m)", []),
-    ('.m = upcase(.m) ?? "none"', []), ('upcase!("a")', [(620, 1, 1)]), ("upcase(1)", [(110, 1, 8)]), ("upcase(to_string(.a))", [(630, 1, 8)]),
+    ("if !is_string(.m) { abort }" + NL + ".m = upcase(.m)", [(103, 2, 1)]),
+    ("if !is_string(.m) { abort }" + NL + ".m = upcase!(.m)", []),
+    ('.m = upcase(.m) ?? "none"', []), ('upcase!("a")', [(620, 1, 1)]), ("upcase(1)", [(110, 1, 8)]),
+    ("upcase(to_string(.a))", [(630, 1, 8)]),
     ("n = 0" + NL + "for_each(.) -> |k, v| { n = n + 1 }" + NL + ".n = n", [], ["result integer", '. {"n": integer, ..json}', "n integer"]),
-    ("a = []" + NL + "for_each(.) -> |k, v| { a = push(a, k) }" + NL + ".keys = a", []), ('x = {"a":1}' + NL + "del(x.a)" + NL + ".r = x.a", []),
-    ("x = null" + NL + "for_each(array!(.l)) -> |i, v| { x = {\"a\": x} }", []), ("x = to_int!(.a)", []), (". = parse_json!(.message)", []),
+    ("a = []" + NL + "for_each(.) -> |k, v| { a = push(a, k) }" + NL + ".keys = a", []),
+    ('x = {"a":1}' + NL + "del(x.a)" + NL + ".r = x.a", []),
+    ("x = null" + NL + "for_each(array!(.l)) -> |i, v| { x = {\"a\": x} }", []), ("x = to_int!(.a)", []),
+    (". = parse_json!(.message)", []),
     ("parsed, err = parse_json(.message)" + NL + ". = . | (object(parsed) ?? {})" + NL + "del(.message)" + NL +
      '.level = downcase(.level) ?? "info"' + NL + '.at = parse_timestamp(.ts, format: "%+") ?? now()', []),
-    ("if exists(.q) { return 1 }" + NL + ".r = 2", []), ("foo(1)", [(105, 1, 1)]), ("upcase()", [(107, 1, 1)]), ('upcase("a", "b")', [(106, 1, 1)]),
+    ("if exists(.q) { return 1 }" + NL + ".r = 2", []), ("foo(1)", [(105, 1, 1)]), ("upcase()", [(107, 1, 1)]),
+    ('upcase("a", "b")', [(106, 1, 1)]),
     ('upcase(v: "a")', [(108, 1, 8)]), ("to_int(.x)", [(100, 1, 1)]), ('.k = filter({"a":1,"b":2}) -> |k, v| { v > 1 }', []),
-    (".k = map_values([1,2]) -> |v| { v * 2 }", []), ('.k = map_keys({"a":1}) -> |k| { upcase(k) }', []), ("filter([1]) -> |k, v| { 1 }", [(1015, 1, 23)]),
+    (".k = map_values([1,2]) -> |v| { v * 2 }", []), ('.k = map_keys({"a":1}) -> |k| { upcase(k) }', []),
+    ("filter([1]) -> |k, v| { 1 }", [(1015, 1, 23)]),
     ('upcase("a") -> |v| { v }', [(1010, 1, 1)]), ('.r = split("a,b", ",")[1]', []), (".a = upcase(to_int!(.b))", [(110, 1, 13)]),
-    ("mod(1, 0)", [(100, 1, 1)]), ("mod(1, 2)", []), ("parse_int(1)", [(110, 1, 11)]), ("del(1)", [(1013, 1, 5)]), ("abs!(1)", [(620, 1, 1)]),
-    ("abs(1) -> |v| { v }", [(1010, 1, 1)]), ("int(value: 1, value: 2)", [(106, 1, 1)]), ('x = push([1], "a")' + NL + '.r = x[1] + "b"', []),
-    ('.r = merge({"a":1}, {"a":"s"}).a + "t"', []), ('.x = upcase(1) ?? "a"', [(110, 1, 13)]), ('x = ["s", 1]' + NL + "del(x[0])" + NL + ".r = x[0] + 1", []),
-    ('x = "s"' + NL + ".r = (to_int(.a) + (x = 1)) ?? x" + NL + ".s = .r + 1", [(103, 3, 1)]), ("x = 1" + NL + 'for_each(.) -> |k, v| { .r = x + 1; x = "s" }', [(103, 2, 25)]),
+    ("mod(1, 0)", [(100, 1, 1)]), ("mod(1, 2)", []), ("parse_int(1)", [(110, 1, 11)]), ("del(1)", [(1013, 1, 5)]),
+    ("abs!(1)", [(620, 1, 1)]),
+    ("abs(1) -> |v| { v }", [(1010, 1, 1)]), ("int(value: 1, value: 2)", [(106, 1, 1)]),
+    ('x = push([1], "a")' + NL + '.r = x[1] + "b"', []),
+    ('.r = merge({"a":1}, {"a":"s"}).a + "t"', []), ('.x = upcase(1) ?? "a"', [(110, 1, 13)]),
+    ('x = ["s", 1]' + NL + "del(x[0])" + NL + ".r = x[0] + 1", []),
+    ('x = "s"' + NL + ".r = (to_int(.a) + (x = 1)) ?? x" + NL + ".s = .r + 1", [(103, 3, 1)]),
+    ("x = 1" + NL + 'for_each(.) -> |k, v| { .r = x + 1; x = "s" }', [(103, 2, 25)]),
     ("for_each({}) -> |k, v| { .x = q }", []), ("k = 5" + NL + "for_each([7]) -> |k, _| { .i = k }" + NL + ".k = k", []),
-    ("for_each([1]) -> |i, v| { return 1 }", [(1004, 1, 27)]), ("upcase!((abort))", [(620, 1, 1)]), ("a = to_int!(.a)" + NL + "del(.b[0])", []),
-    (".t = to_int(.x) + 1 ?? 2", []), ("exists(q)", [(701, 1, 8)]), ("del(.)", [], ["result {..json}", ". {}"]), ("x = 1" + NL + "del(x)", [], ["result integer", ". {..json}", "x null"]),
+    ("for_each([1]) -> |i, v| { return 1 }", [(1004, 1, 27)]), ("upcase!((abort))", [(620, 1, 1)]),
+    ("a = to_int!(.a)" + NL + "del(.b[0])", []),
+    ("u, e = parse_url(.m)" + NL + ".s = upcase(u.scheme)", [(103, 2, 1)]), (".t = to_int(.x) + 1 ?? 2", []),
+    ("exists(q)", [(701, 1, 8)]), ("del(.)", [], ["result {..json}", ". {}"]),
+    ("x = 1" + NL + "del(x)", [], ["result integer", ". {..json}", "x null"]),
 ]
 
 
@@ -665,7 +686,8 @@ def self_check():
             assert ["result " + found.result] + found.end == row[2], (row, found.result, found.end)
     known = kinds.kind_file(b'{"object":{"m":"string"},"rest":"nothing"}')
     assert Verdict(b'.m = upcase(.m) ?? "none"', known).diagnostics == ["warning[E651] 1:6 unnecessary error coalescing"]
-    return len(ROWS) + 1
+    assert len(functions.ROWS) == 85
+    return len(ROWS) + 2
 
 
 def case_line(script, file, found):
@@ -673,6 +695,7 @@ def case_line(script, file, found):
     one["ok"] = told_state(found.judged.ok) if found.judged else None
     one["ret"] = told_state(found.judged.ret) if found.judged else None
     one["empties"] = found.empties
+    one["loops"] = [told_state(state) for state in found.loops]
     return json.dumps(one) + "\n"
 
 

@@ -2,8 +2,10 @@
 
     python3 trials/meaning.py [--seed N] [--count N] [--no-calls] [--program PATH [--words]] [--show N]
     python3 trials/meaning.py --text FILE [--kind FILE] [--drop-on-error] [--keep-on-abort] < LINES
+    python3 trials/meaning.py --text FILE --generate COUNT:SEED
 
-The second form runs a script over the lines of standard input and prints what it writes, then its report. The first
+The second form runs a script over the lines of standard input and prints what it writes, then its report; the third
+runs it over made lines and prints the summary. The first
 makes accepted scripts and lines at random. Each run is held against the judgement of its script: it must not end with
 an error that nothing handles, its value must inhabit the script's kind, and its event and variables those of the
 joined state. With --program the bytes and the status of `PATH SCRIPTFILE < LINES` are compared; a script for which
@@ -12,6 +14,7 @@ the program says 1099 is counted and passed over. With --words, too, the program
 """
 
 import argparse
+import hashlib
 import json
 import os
 import random
@@ -298,6 +301,27 @@ def run_lines(found, start, data, drop=False, keep=False, moments=None, watch=No
     return output, report, 7 if marked else 0
 
 
+def made_lines(count, seed):
+    """The lines of the generator, and their moments."""
+    for number in range(1, count + 1):
+        seed = (seed * 6364136223846793005 + 1442695040888963407) % 2 ** 64
+        r = seed >> 33
+        level = ("INFO", "WARN", "ERROR")[r // 16 % 3]
+        yield '{"host":"h%d","level":"%s","message":"request %d took %d ms","n":%d}' % (r % 16, level, number, r // 64 % 1000, r % 1000)
+
+
+def summary(found, start, count, seed):
+    """The lines that a run over made lines writes."""
+    data = "\n".join(made_lines(count, seed)).encode()
+    ends = []
+    moments = [(1700000000 + number) * 10 ** 9 for number in range(1, count + 1)]
+    output, report, status = run_lines(found, start, data, moments=moments, watch=lambda run, word, held: ends.append(word))
+    written = "".join(line + "\n" for line in output).encode()
+    told = [("lines", count), ("written", len(output)), ("errors", ends.count("banged") + ends.count("deep")), ("aborted", ends.count("aborted")),
+            ("refused", sum(": refused: " in line for line in report)), ("bytes", len(written)), ("sha256", hashlib.sha256(written).hexdigest())]
+    return [f"{name} {one}" for name, one in told], status
+
+
 class Unsound(Exception):
     pass
 
@@ -354,20 +378,26 @@ def some_lines(rng, start):
 NL = "\n"
 # A script, the lines, what is written, what is reported, and options.
 ROWS = [
-    (".x = 1", "{}", ['{"x":1}'], []), (".b = -2", '{"c":1}', ['{"b":-2,"c":1}'], []), (".y = .a + 1 ?? 0", '{"a":2}', ['{"a":2,"y":3}'], []),
+    (".x = 1", "{}", ['{"x":1}'], []), (".b = -2", '{"c":1}', ['{"b":-2,"c":1}'], []),
+    (".y = .a + 1 ?? 0", '{"a":2}', ['{"a":2,"y":3}'], []),
     (".y = .a + 1 ?? 0", '{"a":"q"}', ['{"a":"q","y":0}'], []), (".y = .m", "{}", ['{"y":null}'], []),
-    (".y = 1 ?? 2", "{}", ['{"y":1}'], ["warning[E651] 1:6 unnecessary error coalescing"]), ('.b = "t"' + NL + ".b = -2", '{"c":1}', ['{"b":-2,"c":1}'], []),
-    (".a[2] = 1", '{"a":"t"}', ['{"a":[null,null,1]}'], []), ('. = [{"a":1},{"a":2}]', "{}", ['{"a":1}', '{"a":2}'], []), (". = []", "{}", [], []),
+    (".y = 1 ?? 2", "{}", ['{"y":1}'], ["warning[E651] 1:6 unnecessary error coalescing"]),
+    ('.b = "t"' + NL + ".b = -2", '{"c":1}', ['{"b":-2,"c":1}'], []),
+    (".a[2] = 1", '{"a":"t"}', ['{"a":[null,null,1]}'], []), ('. = [{"a":1},{"a":2}]', "{}", ['{"a":1}', '{"a":2}'], []),
+    (". = []", "{}", [], []),
     (".n = 9223372036854775807 + 1", "{}", ['{"n":-9223372036854775808}'], []),
     (".x = 1", '{"p":1.5}' + NL + "{" + NL + NL + '{"a":1}', ['{"a":1,"x":1}'], ["line 1: refused: not whole numbers", "line 2: refused: not JSON"]),
     ('.a = 1' + NL + 'abort "no"', '{"a":"q"}', [], ['line 1: aborted: "no"']),
     ('.a = 1' + NL + 'abort "no"', '{"a":"q"}', ['{"a":"q"}'], ['line 1: aborted: "no"'], {"keep": True}),
     ('.v, .e = .x - 1', '{"x":"q"}', ['{"e":"cannot apply - to string and integer","v":0,"x":"q"}'], []),
-    ("", '{"b":1,"a":2}', ['{"a":2,"b":1}'], []), ("", '{"a":1,"a":2}', ['{"a":2}'], []), (".x = 1", "[1]" + NL + "{}", ['{"x":1}'],
+    ("", '{"b":1,"a":2}', ['{"a":2,"b":1}'], []), ("", '{"a":1,"a":2}', ['{"a":2}'], []),
+    (".x = 1", "[1]" + NL + "{}", ['{"x":1}'],
      ["line 1: refused: not of the declared kind"]),
-    (".t = t'2024-01-02T03:04:05.5+01:00'", "{}", ['{"t":"2024-01-02T02:04:05.500Z"}'], []), (".p = r'a+'", "{}", ['{"p":"a+"}'], []),
+    (".t = t'2024-01-02T03:04:05.5+01:00'", "{}", ['{"t":"2024-01-02T02:04:05.500Z"}'], []),
+    (".p = r'a+'", "{}", ['{"p":"a+"}'], []),
     ('x = 1' + NL + '.r = ({ x = "s"; .a + 1 }) ?? 0' + NL + ".s = x", '{"a":"q"}', ['{"a":"q","r":0,"s":"s"}'], []),
-    (".n = .n + 1 ?? 0", '{"n":4}' + NL + "{}", ['{"n":5}', '{"n":0}'], []), ('if .level == "E" { abort }', '{"level":"E"}', [], ["line 1: aborted"]),
+    (".n = .n + 1 ?? 0", '{"n":4}' + NL + "{}", ['{"n":5}', '{"n":0}'], []),
+    ('if .level == "E" { abort }', '{"level":"E"}', [], ["line 1: aborted"]),
     (".x = 1", "a" * 1048577, [], ["line 1: refused: longer than 1048576 bytes"]),
     # Calls.
     ('.x, err = to_int(.x)' + NL + ".y = .x + 1", '{"x":"7"}' + NL + '{"x":"q"}', ['{"x":7,"y":8}', '{"x":0,"y":1}'], []),
@@ -390,13 +420,17 @@ ROWS = [
     (".v, .e = to_int(.x)", '{"x":"q"}', ['{"e":"to_int: not a whole number","v":0,"x":"q"}'], []),
     (".v, .e = upcase(.x)", '{"x":3}', ['{"e":"upcase: argument value is integer","v":"","x":3}'], []),
     ("if exists(.q) { return 1 }" + NL + ".r = 2", '{"q":0}' + NL + "{}", ['{"q":0}', '{"r":2}'], []),
-    ('.k = filter({"a":1,"b":2}) -> |k, v| { v > 1 }', "{}", ['{"k":{"b":2}}'], []), (".k = map_values([1,2]) -> |v| { v * 2 }", "{}", ['{"k":[2,4]}'], []),
-    ('.k = map_keys({"a":1}) -> |k| { upcase(k) }', "{}", ['{"k":{"A":1}}'], []), ('.r = split("a,b", ",")[1]', "{}", ['{"r":"b"}'], []),
-    ('.r = slice!("abcd", 3, 2)', "{}", ["{}"], ['line 1: error: "slice: out of range"']), ('x = push([1], "a")' + NL + '.r = x[1] + "b"', "{}", ['{"r":"ab"}'], []),
+    ('.k = filter({"a":1,"b":2}) -> |k, v| { v > 1 }', "{}", ['{"k":{"b":2}}'], []),
+    (".k = map_values([1,2]) -> |v| { v * 2 }", "{}", ['{"k":[2,4]}'], []),
+    ('.k = map_keys({"a":1}) -> |k| { upcase(k) }', "{}", ['{"k":{"A":1}}'], []),
+    ('.r = split("a,b", ",")[1]', "{}", ['{"r":"b"}'], []),
+    ('.r = slice!("abcd", 3, 2)', "{}", ["{}"], ['line 1: error: "slice: out of range"']),
+    ('x = push([1], "a")' + NL + '.r = x[1] + "b"', "{}", ['{"r":"ab"}'], []),
     ('.r = merge({"a":1}, {"a":"s"}).a + "t"', "{}", ['{"r":"st"}'], []), (".x = to_int!(.a) ?? 0", '{"a":"q"}', ['{"a":"q"}'],
      ["warning[E651] 1:6 unnecessary error coalescing", 'line 1: error: "to_int: not a whole number"']),
     ('x = 1' + NL + '.r = ({ x = "s"; to_int(.a) }) ?? 0' + NL + ".s = x", '{"a":"q"}', ['{"a":"q","r":0,"s":"s"}'], []),
-    ("k = 5" + NL + "for_each([7]) -> |k, _| { .i = k }" + NL + ".k = k", "{}", ['{"i":0,"k":5}'], []), ("for_each({}) -> |k, v| { .x = q }", "{}", ["{}"], []),
+    ("k = 5" + NL + "for_each([7]) -> |k, _| { .i = k }" + NL + ".k = k", "{}", ['{"i":0,"k":5}'], []),
+    ("for_each({}) -> |k, v| { .x = q }", "{}", ["{}"], []),
     ('.r = unflatten({"a.a.a": .d})', '{"d":' + "[" * 126 + "]" * 126 + "}", ['{"d":' + "[" * 126 + "]" * 126 + "}"], ["line 1: error: nested deeper than 128"]),
     (". = . | {\"b\": 2}", '{"a":1,"b":1}', ['{"a":1,"b":2}'], []), (".r = .a[-1]", '{"a":[1,2]}', ['{"a":[1,2],"r":2}'], []),
 ]
@@ -409,6 +443,17 @@ def self_check():
         got = run_lines(found, kinds.EVENT, lines.encode(), watch=watcher(found, kinds.EVENT), **(options[0] if options else {}))
         assert got[:2] == (output, report), (script, got)
         assert got[2] == (7 if any("refused" in line for line in report) else 0)
+    known = kinds.kind_file(b'{"object":{"m":"string"},"rest":"nothing"}')
+    warning = "warning[E651] 1:6 unnecessary error coalescing"
+    found = judgement.Verdict(b'.m = upcase(.m) ?? "none"', known)
+    assert run_lines(found, known, b'{"m":"a"}') == (['{"m":"A"}'], [warning], 0)
+    assert run_lines(found, known, b'{"m":3}') == ([], [warning, "line 1: refused: not of the declared kind"], 7)
+    made = ['{"host":"h6","level":"ERROR","message":"request 1 took 543 ms","n":774}']
+    assert list(made_lines(1, 1)) == made
+    for script, told in ((".x = 1", ["lines 1", "written 1", "errors 0", "aborted 0", "refused 0", "bytes 78"]),
+                         ('if .level == "ERROR" { abort }', ["lines 1", "written 0", "errors 0", "aborted 1", "refused 0", "bytes 0",
+                          "sha256 e3b0c44298fc1c149afbf4c8996fb92427ae41e4649b934ca495991b7852b855"])):
+        assert summary(judgement.Verdict(script.encode()), kinds.EVENT, 1, 1)[0][:len(told)] == told
     for call, want in functions.EXAMPLES:
         script = grammar.read(call.encode())
         word, held = Run(script, {}, EMPTY["object"]).end()
@@ -418,7 +463,7 @@ def self_check():
         assert kinds.inhabits(held, kind), (call, held, kinds.print_kind(kind))
     for one in ("2024-02-29T00:00:00Z", "0000-01-01T00:00:00Z", "9999-12-29T23:59:59.000001Z", "1969-12-31T23:59:59.999999999Z", "2000-12-31T12:00:00.120Z"):
         assert moment_text(grammar.read_moment(one)) == one
-    return len(ROWS) + 5 + len(functions.EXAMPLES) + judgement.self_check()
+    return len(ROWS) + 10 + len(functions.EXAMPLES) + judgement.self_check()
 
 
 def told_by(program, place, script, file, data, options):
@@ -445,6 +490,7 @@ def main():
     words.add_argument("--no-calls", action="store_true")
     words.add_argument("--text")
     words.add_argument("--kind")
+    words.add_argument("--generate")
     words.add_argument("--drop-on-error", action="store_true")
     words.add_argument("--keep-on-abort", action="store_true")
     words.add_argument("--show", type=int, default=10)
@@ -459,6 +505,10 @@ def main():
         if not found.accepted:
             print("\n".join(found.diagnostics))
             return 1
+        if given.generate:
+            lines, status = summary(found, start, *[int(one) for one in given.generate.split(":")])
+            print("\n".join(lines + found.diagnostics))
+            return status
         output, report, status = run_lines(found, start, sys.stdin.buffer.read(), given.drop_on_error, given.keep_on_abort)
         print("\n".join(output + report))
         return status
