@@ -761,6 +761,19 @@ BLANKS = [" ", " ", " ", " ", "  ", "\t", "\r", "\n", "\n ", " # c\n", ""]
 BINARIES = sorted(BINARY)
 
 
+def some_moment(rng):
+    """A timestamp literal, mostly one that has a reading."""
+    pick = rng.choice
+    date = pick(["2024-01-02", "2024-02-29", "2023-02-29", "2000-02-29", "1900-02-29", "0000-01-01", "0000-02-29", "9999-12-29", "9999-12-30",
+                 "1969-12-31", "2024-04-31", "2024-13-01", "2024-00-10", "2024-1-02", "02024-01-02", "2024-12-31", "1600-02-29", "2024-01-32"])
+    time = pick(["00:00:00", "23:59:59", "24:00:00", "12:60:00", "12:00:60", "07:08:09", "7:08:09", "07:08"])
+    if rng.random() < 0.7:
+        date, time = pick([date, "%04d-%02d-%02d" % (rng.randrange(10000), rng.randrange(1, 13), rng.randrange(1, 29))]), pick([time, "01:02:03", "23:59:59"])
+    fraction = pick(["", "", ".5", ".120", ".1234", ".000001", ".123456789", ".1234567890", ".", ".0"])
+    zone = pick(["Z", "Z", "z", "+00:00", "-00:00", "+01:00", "-23:59", "+24:00", "+01:60", "+0100", "", "-00:01", " Z"])
+    return "t'" + date + pick(["T", "T", "T", "t", " "]) + time + fraction + zone + "'"
+
+
 class Maker:
     """Texts from the productions, as lists of spellings."""
 
@@ -806,6 +819,8 @@ class Maker:
 
     def primary(self, depth):
         pick = self.rng.random()
+        if pick < 0.03:
+            return [some_moment(self.rng)]
         if depth <= 0 or pick < 0.3:
             return [self.rng.choice(LITERALS)] if self.rng.random() < 0.5 else self.target()
         if pick < 0.5:

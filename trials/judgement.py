@@ -494,6 +494,9 @@ class Maker:
         return self.rng.choices([w[0] for w in weighted], [w[1] for w in weighted])[0]
 
     def atom(self):
+        if self.rng.random() < 0.02:
+            moment = grammar.some_moment(self.rng)
+            return moment if grammar.read_moment(moment[2:-1]) is not None else "1"
         return self.rng.choice(self.LITERALS) if self.rng.random() < 0.45 else self.rng.choice(self.PLACES)
 
     def expression(self, depth):
