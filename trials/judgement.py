@@ -707,7 +707,7 @@ def start_of(file):
 
 
 def told_by(program, place, script, file, words):
-    """Diagnostics and kinds as the program prints them."""
+    """Diagnostics and kinds as the program prints them, and its status."""
     path = os.path.join(place, "script.vrl")
     with open(path, "w") as out:
         out.write(script)
@@ -720,7 +720,7 @@ def told_by(program, place, script, file, words):
                 json.dump(file, out)
             command += ["--kind", kind]
     ran = subprocess.run(command, stdin=subprocess.DEVNULL, capture_output=True)
-    return ran.stderr.decode().split("\n")[:-1], ran.stdout.decode().split("\n")[:-1]
+    return ran.stderr.decode().split("\n")[:-1], ran.stdout.decode().split("\n")[:-1], ran.returncode
 
 
 def main():
@@ -770,7 +770,8 @@ def main():
             if out:
                 out.write(case_line(script, file, found))
             if given.program:
-                wanted = (found.diagnostics, (["result " + found.result] + found.end if found.accepted else []) if given.words else [])
+                printed = ["result " + found.result] + found.end if found.accepted and given.words else []
+                wanted = found.diagnostics, printed, 0 if found.accepted else 1
                 told = told_by(given.program, place, script, file, given.words)
                 if told[0] == ["error[E1099] 1:1 form not built yet"]:
                     passed += 1
