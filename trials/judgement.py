@@ -577,6 +577,8 @@ class Maker:
             lines.append("y = " + self.rng.choice(["1", '"s"', "{}", '{"a": "s"}', "[]", "null", ".b", "x"]))
         if self.calls and self.rng.random() < 0.1:
             lines.append(self.calls.loop(self))
+        if self.rng.random() < 0.08:
+            lines.append(self.rng.choice(["x = {\"a\": [.]}", ".c.a.b = .", "x = [[.a]]", ".b[1].a = .a", ". = {\"a\": {\"a\": .}}", "y = [[[.c]]]"]))
         lines += [self.item(self.rng.choice([1, 2, 3])) for _ in range(self.rng.randrange(1, 5))]
         return "\n".join(lines)
 

@@ -369,6 +369,12 @@ def sample(rng, kind, depth):
 def some_lines(rng, start):
     lines = []
     for _ in range(rng.randrange(1, 7)):
+        if rng.random() < 0.04:
+            # A line about the limit of depth, in a field that most kinds leave open.
+            depth_ = rng.choice([100, 124, 125, 126])
+            name = rng.choice("abc")
+            lines.append(b'{"' + name.encode() + b'":' + rng.choice([b"[" * depth_ + b"]" * depth_, b'{"a":' * depth_ + b"1" + b"}" * depth_]) + b"}")
+            continue
         lines.append(rng.choice([b"", b" ", b"[1]", b"{", b'{"a":1.5}']) if rng.random() < 0.04 else json.dumps(sample(rng, start, 3)).encode())
     return b"\n".join(lines) + (b"\n" if rng.random() < 0.8 else b"")
 
