@@ -6,7 +6,7 @@ use Rattle.std.proofs.lemmas.List.Folds.{list_any_none}
 use Rattle.std.specs.List.{list_any}
 use Rattle.vrl_value.specs.declared.value.Tag.{Tag}
 use Rattle.vrl_value.specs.declared.value.Tag.TheVariants as tag
-use Rattle.vrl_kind.specs.Tags.{Tags, all_tags, same_tag, union}
+use Rattle.vrl_compile.specs.Tags.{Tags, all_tags, same_tag, union}
 use Rattle.vrl_compile.specs.Addition.{may_succeed_with, may_fail_with, may_give_with, only_where}
 use Rattle.vrl_compile.specs.Judgement.{is_tag, plus_tag, plus_kind, plus_may_fail, plus_may_succeed}
 

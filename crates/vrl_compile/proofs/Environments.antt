@@ -6,9 +6,9 @@ use Rattle.std.specs.Str.{bytes_eq}
 use Rattle.std.specs.String.{string_cmp}
 use Rattle.std.proofs.lemmas.Cmp.{nat_list_eq_equiv}
 use Rattle.std.proofs.lemmas.Map.Text.{btree_map_updates_text}
-use Rattle.vrl_kind.specs.Tags.{Tags}
-use Rattle.vrl_kind.specs.View.{tags_of}
-use Rattle.vrl_kind.specs.declared.kind.Kind.{Kind}
+use Rattle.vrl_compile.specs.Tags.{Tags}
+use Rattle.vrl_compile.specs.KindTags.{tags_of}
+use Rattle.vrl_compile.specs.declared.kind.Kind.{Kind}
 use Rattle.vrl_compile.specs.declared.environment.Environment.{Environment}
 use Rattle.vrl_compile.specs.declared.syntax.Place.TheVariants.{Field, Variable}
 use Rattle.vrl_compile.specs.Environment.{known_of, field_kind, variable_kind}

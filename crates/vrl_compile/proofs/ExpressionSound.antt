@@ -5,7 +5,7 @@ use Rattle.std.proofs.lemmas.Bool.{true≢false, false_from_ne_true, or_cases, o
 use Rattle.std.proofs.lemmas.List.Folds.{list_any-append}
 use Rattle.vrl_value.specs.Tree.{Tree, string, null, find}
 use Rattle.vrl_value.specs.declared.value.Tag.TheVariants as tag
-use Rattle.vrl_kind.specs.Tags.{Tags, same_tag, tag_of, union, Inhabits}
+use Rattle.vrl_compile.specs.Tags.{Tags, same_tag, tag_of, union, Inhabits}
 use Rattle.vrl_diag.specs.declared.diagnostic.Diagnostic.{Diagnostic}
 use Rattle.vrl_diag.specs.declared.diagnostic.Span.{Span}
 use Rattle.vrl_compile.specs.declared.syntax.Place.TheVariants.{Field, Variable}

@@ -5,7 +5,7 @@ use Rattle.std.proofs.lemmas.Slice.Eq.{bytes_eq-Decides}
 use Rattle.vrl_value.specs.Laws.{MembersAreMaps, MembersStayJson}
 use Rattle.vrl_value.specs.Tree.{Tree, string, integer, boolean, null, timestamp, regex, array, object, Members, is_json, put, find}
 use Rattle.vrl_value.specs.declared.value.Tag.TheVariants as tag
-use Rattle.vrl_kind.specs.Tags.{Tags, json, only, union, Inhabits}
+use Rattle.vrl_compile.specs.Tags.{Tags, json, only, union, Inhabits}
 use Rattle.vrl_compile.specs.declared.syntax.Place.{Place}
 use Rattle.vrl_compile.specs.declared.syntax.Place.TheVariants.{Field, Variable}
 use Rattle.vrl_compile.specs.Judgement.{State, dead, alive, join, join_kinds, start, write as write_kind}

@@ -6,8 +6,8 @@ use Rattle.std.specs.Ordering.{is_lt, nat_cmp, ordering_then}
 use Rattle.std.specs.declared.cmp.Ordering.{Ordering}
 use Rattle.std.specs.declared.cmp.Ordering.TheVariants.{Less, Equal, Greater}
 use Rattle.vrl_compile.specs.Answer.{diagnostic_cmp}
-use Rattle.vrl_kind.specs.Tags.{Tags}
-use Rattle.vrl_kind.specs.View.{tags_of}
+use Rattle.vrl_compile.specs.Tags.{Tags}
+use Rattle.vrl_compile.specs.KindTags.{tags_of}
 use Rattle.vrl_diag.specs.declared.diagnostic.Diagnostic.{Diagnostic}
 use Rattle.vrl_diag.specs.declared.diagnostic.Span.{Span}
 use Rattle.vrl_compile.specs.declared.judgement.Ending.{Ending}

@@ -6,7 +6,7 @@ use Rattle.std.specs.List.{list_any}
 use Rattle.vrl_value.specs.Tree.{Tree, string, integer, null}
 use Rattle.vrl_value.specs.declared.value.Tag.{Tag}
 use Rattle.vrl_value.specs.declared.value.Tag.TheVariants as tag
-use Rattle.vrl_kind.specs.Tags.{Tags, all_tags, same_tag, tag_of, Inhabits}
+use Rattle.vrl_compile.specs.Tags.{Tags, all_tags, same_tag, tag_of, Inhabits}
 use Rattle.vrl_compile.specs.Judgement.{State, dead, plus_tag, some_pair, is_tag, plus_kind, plus_may_succeed, plus_may_fail}
 use Rattle.vrl_compile.specs.Meaning.{Store, Outcome, value, error, sum_of}
 use Rattle.vrl_compile.specs.Soundness.{EndsWithTag, Fits, IsSoundEnd, SumsAreTabled}

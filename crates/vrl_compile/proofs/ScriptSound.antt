@@ -4,7 +4,7 @@ use Rattle.std.proofs.lemmas.Bool.{true≢false, or_left}
 use Rattle.vrl_value.specs.Laws.{MembersAreMaps, MembersStayJson}
 use Rattle.vrl_value.specs.Tree.{Tree, null}
 use Rattle.vrl_value.specs.declared.value.Tag.TheVariants as tag
-use Rattle.vrl_kind.specs.Tags.{Tags, only, Inhabits}
+use Rattle.vrl_compile.specs.Tags.{Tags, only, Inhabits}
 use Rattle.vrl_diag.specs.declared.diagnostic.Span.{Span}
 use Rattle.vrl_compile.specs.declared.syntax.Place.{Place}
 use Rattle.vrl_compile.specs.declared.syntax.Item.{Item}

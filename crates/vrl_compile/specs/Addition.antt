@@ -2,7 +2,7 @@
 use Rattle.std.specs.Prelude.{Bool, ◌&&◌, not, is_some}
 use Rattle.std.specs.List.{list_any}
 use Rattle.vrl_value.specs.declared.value.Tag.{Tag}
-use Rattle.vrl_kind.specs.Tags.{Tags, all_tags, same_tag}
+use Rattle.vrl_compile.specs.Tags.{Tags, all_tags, same_tag}
 use Rattle.vrl_compile.specs.Judgement.{plus_tag, is_tag}
 
 -- the tag has a sum with one of the kind's

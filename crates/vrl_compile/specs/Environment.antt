@@ -2,9 +2,9 @@
 use Rattle.std.specs.Prelude.{Option, Some, None}
 use Rattle.std.specs.BTreeMap.{get_by_text}
 use Rattle.vrl_value.specs.declared.value.Tag.TheVariants as tag
-use Rattle.vrl_kind.specs.Tags.{Tags, json, only, union}
-use Rattle.vrl_kind.specs.View.{tags_of}
-use Rattle.vrl_kind.specs.declared.kind.Kind.{Kind}
+use Rattle.vrl_compile.specs.Tags.{Tags, json, only, union}
+use Rattle.vrl_compile.specs.KindTags.{tags_of}
+use Rattle.vrl_compile.specs.declared.kind.Kind.{Kind}
 use Rattle.vrl_compile.specs.declared.environment.Environment.{Environment}
 use Rattle.vrl_compile.specs.Judgement.{Known}
 

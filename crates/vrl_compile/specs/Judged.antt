@@ -1,6 +1,6 @@
 -- What the code's answers stand for: words of the code for the judgements of `Judgement`.
 use Rattle.std.specs.Prelude.{◌≡◌, ℕ, Bool, true, false, List, ◌++◌, if◌then◌else◌, Option, Some, None}
-use Rattle.vrl_kind.specs.View.{tags_of}
+use Rattle.vrl_compile.specs.KindTags.{tags_of}
 use Rattle.vrl_diag.specs.declared.diagnostic.Diagnostic.{Diagnostic}
 use Rattle.vrl_diag.specs.declared.diagnostic.Span.{Span}
 use Rattle.vrl_compile.specs.declared.judgement.Ending.{Ending}

@@ -4,6 +4,7 @@ pub mod Environment
 pub mod Execution
 pub mod Judged
 pub mod Judgement
+pub mod KindTags
 pub mod Lexical
 pub mod Lines
 pub mod Meaning
@@ -13,4 +14,5 @@ pub mod Scan
 pub mod Script
 pub mod Soundness
 pub mod Syntax
+pub mod Tags
 pub mod Token

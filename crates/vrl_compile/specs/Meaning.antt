@@ -5,7 +5,7 @@ use Rattle.std.specs.Int.{w64, int_wrapping_add}
 use Rattle.vrl_value.specs.Tree.{Tree, string, integer, boolean, null, timestamp, regex, array, object, Members, no_members, put, find}
 use Rattle.vrl_value.specs.declared.value.Tag.{Tag}
 use Rattle.vrl_value.specs.declared.value.Tag.TheVariants as tag
-use Rattle.vrl_kind.specs.Tags.{tag_of}
+use Rattle.vrl_compile.specs.Tags.{tag_of}
 use Rattle.vrl_compile.specs.declared.syntax.Place.{Place}
 use Rattle.vrl_compile.specs.declared.syntax.Place.TheVariants.{Field, Variable}
 use Rattle.vrl_compile.specs.declared.syntax.Form.{Form}

@@ -5,7 +5,7 @@ use Rattle.std.specs.List.{list_any}
 use Rattle.vrl_value.specs.Tree.{Tree, is_json, is_object, find}
 use Rattle.vrl_value.specs.declared.value.Tag.{Tag}
 use Rattle.vrl_value.specs.declared.value.Tag.TheVariants as tag
-use Rattle.vrl_kind.specs.Tags.{Tags, tag_of, Inhabits}
+use Rattle.vrl_compile.specs.Tags.{Tags, tag_of, Inhabits}
 use Rattle.vrl_diag.specs.declared.diagnostic.Diagnostic.{Diagnostic}
 use Rattle.vrl_compile.specs.declared.syntax.Item.{Item}
 use Rattle.vrl_compile.specs.Syntax.{Expr}

@@ -1,12 +1,12 @@
 ghost use Rattle.std.specs.Prelude.{◌≡◌, IfOk, OnOk};
-ghost use Rattle.vrl_kind.specs.View.{tags_of};
+ghost use Rattle.vrl_compile.specs.KindTags.{tags_of};
 ghost use Rattle.vrl_compile.specs.Environment.{known_of, variable_kind};
 ghost use Rattle.vrl_compile.specs.Judgement.{alive, start, write_known};
 
 use crate::syntax::Place;
 use std::alloc::Global;
 use std::collections::BTreeMap;
-use vrl_kind::{Kind, join};
+use crate::kind::{Kind, join};
 use vrl_value::{Memory, Tag};
 
 /// What is known of the fields and variables that the items so far wrote: their kinds.

@@ -1,6 +1,6 @@
 ghost use Rattle.std.specs.Prelude.{◌≡◌, ◌||◌, ◌&&◌, not, ◌++◌, IfOk, Option as SpecOption, if◌then◌else◌};
-ghost use Rattle.vrl_kind.specs.Tags.{any, union};
-ghost use Rattle.vrl_kind.specs.View.{tags_of};
+ghost use Rattle.vrl_compile.specs.Tags.{any, union};
+ghost use Rattle.vrl_compile.specs.KindTags.{tags_of};
 ghost use Rattle.vrl_compile.specs.Answer.{AreOrdered};
 ghost use Rattle.vrl_compile.specs.Environment.{known_of, variable_kind};
 ghost use Rattle.vrl_compile.specs.Judged.{IsEnding, IsJudged, IsPart, across, judgement_of, next_left, next_sum, state_at, with_code, with_left};
@@ -12,7 +12,7 @@ use crate::environment::Environment;
 use crate::syntax::{Chain, Form, Item, Operand, Operator, Place};
 use std::alloc::Global;
 use vrl_diag::{Diagnostic, Span};
-use vrl_kind::{Kind, has, join, without};
+use crate::kind::{Kind, has, join, without};
 use vrl_value::{Memory, Tag};
 
 // What an expression, which starts where an environment is known, is judged to be. It changes nothing that is known,

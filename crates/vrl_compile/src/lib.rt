@@ -6,6 +6,7 @@ mod chain;
 mod environment;
 mod execution;
 mod judgement;
+mod kind;
 mod parsing;
 mod reading;
 mod scan;

@@ -6,8 +6,6 @@ mod devices;
 #[cfg(test)]
 mod diagnostics;
 #[cfg(test)]
-mod kinds;
-#[cfg(test)]
 mod lines;
 #[cfg(test)]
 mod paths;

@@ -1,6 +1,6 @@
 use Rattle.std.proofs.Common.{◌∙◌}
 use Rattle.std.proofs.lemmas.Result.{IfOk-weaker}
-use Rattle.vrl_kind.specs.View.{tags_of}
+use Rattle.vrl_compile.specs.KindTags.{tags_of}
 use Rattle.vrl_compile.proofs.Additions.{plus_kind-by_tags}
 use Rattle.vrl_compile.proofs.addition.kind_of_sum.Goals as goal
 

@@ -2,8 +2,8 @@ use Rattle.std.proofs.Common.{rules, tests, ◌≡◌, ◌&&◌, ◌∙◌}
 use Rattle.std.proofs.lemmas.Iterator.{YieldsList-from_slice}
 use Rattle.std.proofs.lemmas.Iterator.Search.{any_from_yields_List}
 use Rattle.std.specs.List.{list_any}
-use Rattle.vrl_kind.specs.Tags.{all_tags}
-use Rattle.vrl_kind.specs.View.{tags_of}
+use Rattle.vrl_compile.specs.Tags.{all_tags}
+use Rattle.vrl_compile.specs.KindTags.{tags_of}
 use Rattle.vrl_compile.specs.Addition.{may_give_with}
 use Rattle.vrl_compile.proofs.Additions.{plus_kind-by_partners}
 use Rattle.vrl_compile.proofs.addition.may_give.Goals as goal

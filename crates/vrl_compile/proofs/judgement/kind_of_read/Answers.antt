@@ -1,6 +1,6 @@
 use Rattle.std.proofs.Common.{◌∙◌}
 use Rattle.std.proofs.lemmas.Result.{IfOk-weaker}
-use Rattle.vrl_kind.specs.View.{tags_of}
+use Rattle.vrl_compile.specs.KindTags.{tags_of}
 use Rattle.vrl_compile.proofs.Judgements.{read_kind-by_parts}
 use Rattle.vrl_compile.proofs.judgement.kind_of_read.Goals as goal
 

@@ -58,14 +58,6 @@ union K L t = K t || L t
 abbrev pub without : Tags → Tag → Tags
 without K t u = K u && not (same_tag u t)
 
--- each tag of the first set is in the second
-abbrev pub IsWithin : Tags → Tags → Type 0
-IsWithin K L = (t : Tag) → IsTrue (K t) → IsTrue (L t)
-
--- no tag is in both
-abbrev pub IsDisjoint : Tags → Tags → Type 0
-IsDisjoint K L = (t : Tag) → IsTrue (K t) → IsTrue (L t) → ⊥
-
 -- the value is of the kind
 abbrev pub Inhabits : Tree → Tags → Type 0
 Inhabits v K = IsTrue (K (tag_of v))

@@ -1,6 +1,6 @@
 -- The set of tags that a `Kind` allows.
-use Rattle.vrl_kind.specs.Tags.{Tags}
-use Rattle.vrl_kind.specs.declared.kind.Kind.{Kind}
+use Rattle.vrl_compile.specs.Tags.{Tags}
+use Rattle.vrl_compile.specs.declared.kind.Kind.{Kind}
 use Rattle.vrl_value.specs.declared.value.Tag.TheVariants as tag
 
 abbrev pub tags_of : Kind → Tags

@@ -2,10 +2,10 @@ use Rattle.std.proofs.Common.{◌≡◌, Bool, ◌&&◌, not, refl}
 use Rattle.std.proofs.Math.Path.{fun_ext}
 use Rattle.vrl_value.specs.declared.value.Tag.{Tag}
 use Rattle.vrl_value.specs.declared.value.Tag.TheVariants as tag
-use Rattle.vrl_kind.specs.View.{tags_of}
-use Rattle.vrl_kind.specs.Tags.{without, same_tag}
-use Rattle.vrl_kind.specs.declared.kind.Kind.{Kind}
-use Rattle.vrl_kind.proofs.kind.without.Goals as goal
+use Rattle.vrl_compile.specs.KindTags.{tags_of}
+use Rattle.vrl_compile.specs.Tags.{without, same_tag}
+use Rattle.vrl_compile.specs.declared.kind.Kind.{Kind}
+use Rattle.vrl_compile.proofs.kind.without.Goals as goal
 
 abbrev stays : Kind → Tag → Tag → Bool
 stays kind removed t = tags_of kind t && not (same_tag t removed)

@@ -3,8 +3,8 @@ use Rattle.std.proofs.Math.Path.{fun_ext}
 use Rattle.std.proofs.lemmas.Result.{IfOk-weaker}
 use Rattle.vrl_value.specs.declared.value.Tag.{Tag}
 use Rattle.vrl_value.specs.declared.value.Tag.TheVariants as tag
-use Rattle.vrl_kind.specs.Tags.{any, json, without}
-use Rattle.vrl_kind.proofs.kind.Kind.json.Goals as goal
+use Rattle.vrl_compile.specs.Tags.{any, json, without}
+use Rattle.vrl_compile.proofs.kind.Kind.json.Goals as goal
 
 at_each : (t : Tag) → without (without any tag.Time) tag.Pattern t ≡ json t
 at_each tag.Text = refl

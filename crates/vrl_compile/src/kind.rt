@@ -1,7 +1,6 @@
-ghost use Rattle.std.specs.Prelude.{◌≡◌, ◌↔◌, ◌||◌, ◌&&◌, not, IfOk, IsTrue};
-ghost use Rattle.std.specs.List.{list_any};
-ghost use Rattle.vrl_kind.specs.View.{tags_of};
-ghost use Rattle.vrl_kind.specs.Tags.{never, any, json, only, union, without, all_tags, same_tag, IsWithin, IsDisjoint};
+ghost use Rattle.std.specs.Prelude.{◌≡◌, ◌||◌, ◌&&◌, not, IfOk};
+ghost use Rattle.vrl_compile.specs.KindTags.{tags_of};
+ghost use Rattle.vrl_compile.specs.Tags.{never, any, json, only, union, without, same_tag};
 
 use std::alloc::Global;
 use vrl_value::{Memory, Tag};
@@ -122,20 +121,6 @@ pub fn has(kind: &Kind, tag: Tag) -> bool
     }
 }
 
-/// Whether each tag that the first kind allows, `Absent` too, is allowed by the second.
-pub fn within(a: &Kind, b: &Kind) -> bool
-    ensures { IsTrue result ↔ IsWithin (tags_of a.now) (tags_of b.now) }
-{
-    !some_tag_in_one(a, b)
-}
-
-/// Whether no tag, `Absent` too, is in both kinds.
-pub fn disjoint(a: &Kind, b: &Kind) -> bool
-    ensures { IsTrue result ↔ IsDisjoint (tags_of a.now) (tags_of b.now) }
-{
-    !some_tag_in_both(a, b)
-}
-
 /// The kind of what is of either kind. `Memory`: want of memory.
 pub fn join(_alloc: Global, a: &Kind, b: &Kind) -> Result<Kind, Memory>
     ensures { IfOk result (λ kind. tags_of kind ≡ union (tags_of a.now) (tags_of b.now)) }
@@ -181,18 +166,4 @@ fn stays(allowed: bool, tag: Tag, removed: Tag) -> bool
     ensures { result ≡ (allowed && not (same_tag tag removed)) }
 {
     allowed && tag != removed
-}
-
-// Whether a tag is in the first kind and not in the second.
-fn some_tag_in_one(a: &Kind, b: &Kind) -> bool
-    ensures { result ≡ list_any (λ t. tags_of a.now t && not (tags_of b.now t)) all_tags }
-{
-    TAGS.iter().any(|tag| has(a, *tag) && !has(b, *tag))
-}
-
-// Whether a tag is in both kinds.
-fn some_tag_in_both(a: &Kind, b: &Kind) -> bool
-    ensures { result ≡ list_any (λ t. tags_of a.now t && tags_of b.now t) all_tags }
-{
-    TAGS.iter().any(|tag| has(a, *tag) && has(b, *tag))
 }
