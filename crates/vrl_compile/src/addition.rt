@@ -3,8 +3,8 @@ ghost use Rattle.vrl_compile.specs.KindTags.{tags_of};
 ghost use Rattle.vrl_compile.specs.Addition.{may_succeed_with, may_give_with, may_fail_with, only_where};
 ghost use Rattle.vrl_compile.specs.Judgement.{is_tag, plus_kind, plus_may_fail, plus_may_succeed, plus_tag};
 
-use std::alloc::Global;
 use crate::kind::{Kind, TAGS, has, join};
+use std::alloc::Global;
 use vrl_value::{Memory, Tag};
 
 /// The kind of the sums of values of two kinds.

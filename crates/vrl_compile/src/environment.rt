@@ -3,10 +3,10 @@ ghost use Rattle.vrl_compile.specs.KindTags.{tags_of};
 ghost use Rattle.vrl_compile.specs.Environment.{known_of, variable_kind};
 ghost use Rattle.vrl_compile.specs.Judgement.{alive, start, write_known};
 
+use crate::kind::{Kind, join};
 use crate::syntax::Place;
 use std::alloc::Global;
 use std::collections::BTreeMap;
-use crate::kind::{Kind, join};
 use vrl_value::{Memory, Tag};
 
 /// What is known of the fields and variables that the items so far wrote: their kinds.

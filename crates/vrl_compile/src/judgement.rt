@@ -9,10 +9,10 @@ ghost use Rattle.vrl_compile.specs.Syntax.{Expr, expr_of, operand, span_of};
 
 use crate::addition::{kind_of_sum, kind_where, may_fail, may_succeed};
 use crate::environment::Environment;
+use crate::kind::{Kind, has, join, without};
 use crate::syntax::{Chain, Form, Item, Operand, Operator, Place};
 use std::alloc::Global;
 use vrl_diag::{Diagnostic, Span};
-use crate::kind::{Kind, has, join, without};
 use vrl_value::{Memory, Tag};
 
 // What an expression, which starts where an environment is known, is judged to be. It changes nothing that is known,
