@@ -24,7 +24,7 @@ abbrev pub argument_roots : Args → List Root
 argument_roots no_args = []
 argument_roots (arg name span e gs) = path_roots e ++ argument_roots gs
 
--- in the order in which they are written, each as often as it is
+-- in the order of the script, but that what is deleted comes before what is written in arguments; each as often as it is written
 abbrev mutual
   pub expr_writes : Expr → List Root
   expr_writes (expr span f) = form_writes f

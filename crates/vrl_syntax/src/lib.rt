@@ -5,11 +5,13 @@
 //! places by `without_spans`.
 #![tactic(auto)]
 
+mod limits;
 mod lists;
 mod root;
 mod tree;
 mod written;
 
+pub use limits::limit_faults;
 pub use lists::{Empties, Roots};
 pub use root::{Op, Root, Target};
 pub use tree::{Arg, Args, Arm, Arms, Call, Closure, Expr, Exprs, Form, Pairs, Script};
