@@ -14,4 +14,6 @@ mod scripts;
 #[cfg(test)]
 mod sharing;
 #[cfg(test)]
+mod trees;
+#[cfg(test)]
 mod values;
