@@ -1,5 +1,5 @@
 -- What a line stands for nests as deep as the JSON in it.
-use Rattle.std.proofs.Common.{◌≡◌, ℕ, suc, ◌≤◌, List, Some, max, refl, sym, ap, ◌∙◌, arith}
+use Rattle.std.proofs.Common.{◌≡◌, ℕ, suc, ◌≤◌, List, Some, refl, sym, ap, ◌∙◌, arith}
 use Rattle.serde_json.specs.Data as json
 use Rattle.serde_json.specs.Read.{max_depth}
 use Rattle.serde_json.proofs.Nesting.{depth-read}
