@@ -19,7 +19,7 @@ is_before key (e ∷ es) before = (before.0, is_before key es before.1)
 -- an entry before those that are held
 pub members_held : (e : Entry) (es : List Entry) → IsStrictlySortedBy string_cmp (keys_of (e ∷ es)) → IsHeld (tree_of e.1) → MembersAreHeld (members_view es) → MembersAreHeld (members_view (e ∷ es))
 unfolding IsStrictlySortedBy
-members_held e es sorted first rest = (is_before e.0 es sorted.0, first, rest)
+members_held e es sorted first rest = ((is_before e.0 es sorted.0, first.0, rest.0), (first.1, rest.1))
 
 pub sorted_behind : (e : Entry) (es : List Entry) → IsStrictlySortedBy string_cmp (keys_of (e ∷ es)) → IsStrictlySortedBy string_cmp (keys_of es)
 unfolding IsStrictlySortedBy

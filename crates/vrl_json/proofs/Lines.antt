@@ -20,9 +20,28 @@ refused_at false o none = refl
 pub json_of-refused : (bytes : List ℕ) → (IsUtf8 bytes → read bytes ≡ None) → json_of bytes ≡ None
 json_of-refused bytes none = refused_at (is_utf8 bytes) (read bytes) (λ text. none (IsUtf8-from_is_utf8 bytes text))
 
+-- ---- what a line stands for is the tree of the JSON in it
+
+tree_read : (o : Option Tree) (t : Tree) → reading_of_tree o ≡ whole t → o ≡ Some t
+tree_read None t e = absurd (cc)
+tree_read (Some u) t e = let same : u ≡ t = cc in ap Some same
+
+json_read : (o : Option json.Data) (t : Tree) → reading_of_json o ≡ whole t → (d : json.Data) × (o ≡ Some d) × (whole_tree d ≡ Some t)
+json_read None t e = absurd (cc)
+json_read (Some d) t e = (d, refl, tree_read (whole_tree d) t e)
+
+found_at : (b : Bool) (o : Option json.Data) (d : json.Data) → cond b o None ≡ Some d → o ≡ Some d
+found_at true o d e = e
+found_at false o d e = absurd (cc)
+
+pub line_read : (bytes : List ℕ) (t : Tree) → reading_of bytes ≡ whole t → (d : json.Data) × (read bytes ≡ Some d) × (whole_tree d ≡ Some t)
+line_read bytes t e =
+    let found = json_read (json_of bytes) t e in
+    (found.0, found_at (is_utf8 bytes) (read bytes) found.0 found.1, found.2)
+
 -- ---- JSON reads no timestamp and no regex
 
-map_inverse : {A B : Type 0} (f : A → B) (o : Option A) (b : B) → option_map f o ≡ Some b → (a : A) × (o ≡ Some a) × (b ≡ f a)
+pub map_inverse : {A B : Type 0} (f : A → B) (o : Option A) (b : B) → option_map f o ≡ Some b → (a : A) × (o ≡ Some a) × (b ≡ f a)
 map_inverse f None b e = absurd (cc)
 map_inverse f (Some a) b e = (a, refl, cc)
 
@@ -48,14 +67,6 @@ mutual
       let p = parts_of (Members.member k) (whole_tree d) (whole_members ms) ts e in
       rw (p.4, tree_is_json d p.0 p.2, members_json ms p.1 p.3) refl
 
-read_is_json : (o : Option Tree) (t : Tree) → ((u : Tree) → o ≡ Some u → is_json u ≡ true) → reading_of_tree o ≡ whole t → is_json t ≡ true
-read_is_json None t json e = absurd (cc)
-read_is_json (Some u) t json e = let same : u ≡ t = cc in ap is_json (sym same) ∙ json u refl
-
-line_json : (o : Option json.Data) (t : Tree) → reading_of_json o ≡ whole t → is_json t ≡ true
-line_json None t e = absurd (cc)
-line_json (Some d) t e = read_is_json (whole_tree d) t (tree_is_json d) e
-
 -- so is what a line stands for
 pub line_is_json : (bytes : List ℕ) (t : Tree) → reading_of bytes ≡ whole t → is_json t ≡ true
-line_is_json bytes t e = line_json (json_of bytes) t e
+line_is_json bytes t e = let found = line_read bytes t e in tree_is_json found.0 t found.2

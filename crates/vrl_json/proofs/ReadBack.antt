@@ -18,8 +18,8 @@ use Rattle.serde_json.specs.Read.{of_json, of_items, of_members, max_depth, read
 use Rattle.serde_json.specs.Written.{number_text, outline, items_outline, members_outline}
 use Rattle.serde_json.proofs.Numbers.{number_of-decimal, number_of-negative}
 use Rattle.vrl_value.specs.Depth.{depth_of, items_depth, members_depth}
-use Rattle.vrl_value.specs.Tree.{Tree, string, integer, boolean, null, timestamp, regex, array, object, Items, no_items, item, Members, no_members, member, IsBefore, is_json, items_are_json, members_are_json}
-use Rattle.vrl_json.specs.Held.{IsHeld, ItemsAreHeld, MembersAreHeld}
+use Rattle.vrl_value.specs.Tree.{Tree, string, integer, boolean, null, timestamp, regex, array, object, Items, no_items, item, Members, no_members, member, IsBefore, IsOrdered, ItemsAreOrdered, MembersAreOrdered, is_json, items_are_json, members_are_json}
+use Rattle.vrl_json.specs.Held.{IntegersFit, ItemsFit, MembersFit, IsHeld}
 use Rattle.vrl_json.specs.Line.{number_of, data_of, items_data, members_data, whole_number, whole_tree, whole_items, whole_members, reading_of, whole}
 
 -- ---- numbers
@@ -75,27 +75,27 @@ are_behind-none (member k t ms) = (tt, are_behind-none ms)
 -- ---- what is written reads as the value's JSON
 
 mutual
-  data_read : (sources : List (List ℕ)) (t : Tree) → IsHeld t → of_json (outline (data_of sources t)) ≡ Some (data_of sources t)
-  data_read sources (string s) held = refl
-  data_read sources (integer n) held = rw (number_read n held) refl
-  data_read sources (boolean b) held = refl
-  data_read sources null held = refl
-  data_read sources (timestamp nanos) held = refl
-  data_read sources (regex n) held = refl
-  data_read sources (array ts) held = ap (option_map json.array) (items_read sources ts held)
-  data_read sources (object ms) held = ap (option_map json.object) (members_read sources ms json.no_members held (are_behind-none ms))
+  data_read : (sources : List (List ℕ)) (t : Tree) → IsOrdered t → IntegersFit t → of_json (outline (data_of sources t)) ≡ Some (data_of sources t)
+  data_read sources (string s) ordered fits = refl
+  data_read sources (integer n) ordered fits = rw (number_read n fits) refl
+  data_read sources (boolean b) ordered fits = refl
+  data_read sources null ordered fits = refl
+  data_read sources (timestamp nanos) ordered fits = refl
+  data_read sources (regex n) ordered fits = refl
+  data_read sources (array ts) ordered fits = ap (option_map json.array) (items_read sources ts ordered fits)
+  data_read sources (object ms) ordered fits = ap (option_map json.object) (members_read sources ms json.no_members ordered fits (are_behind-none ms))
 
-  items_read : (sources : List (List ℕ)) (ts : Items) → ItemsAreHeld ts → of_items (items_outline (items_data sources ts)) ≡ Some (items_data sources ts)
-  items_read sources no_items held = refl
-  items_read sources (item t ts) held = rw (data_read sources t held.0, items_read sources ts held.1) refl
+  items_read : (sources : List (List ℕ)) (ts : Items) → ItemsAreOrdered ts → ItemsFit ts → of_items (items_outline (items_data sources ts)) ≡ Some (items_data sources ts)
+  items_read sources no_items ordered fits = refl
+  items_read sources (item t ts) ordered fits = rw (data_read sources t ordered.0 fits.0, items_read sources ts ordered.1 fits.1) refl
 
-  members_read : (sources : List (List ℕ)) (ms : Members) (found : json.Members) → MembersAreHeld ms → AreBehind ms found → of_members (members_outline (members_data sources ms)) found ≡ Some (joined found (members_data sources ms))
-  members_read sources no_members found held behind = ap Some (joined-end found)
-  members_read sources (member k t ms) found held behind =
+  members_read : (sources : List (List ℕ)) (ms : Members) (found : json.Members) → MembersAreOrdered ms → MembersFit ms → AreBehind ms found → of_members (members_outline (members_data sources ms)) found ≡ Some (joined found (members_data sources ms))
+  members_read sources no_members found ordered fits behind = ap Some (joined-end found)
+  members_read sources (member k t ms) found ordered fits behind =
       let d = data_of sources t in
       let next = joined found (json.member k d json.no_members) in
-      rw (data_read sources t held.1, put-behind k d found behind.0)
-      (members_read sources ms next held.2 (are_behind-joined ms k d found behind.1 held.0) ∙ ap Some (joined-assoc found k d (members_data sources ms)))
+      rw (data_read sources t ordered.1 fits.0, put-behind k d found behind.0)
+      (members_read sources ms next ordered.2 fits.1 (are_behind-joined ms k d found behind.1 ordered.0) ∙ ap Some (joined-assoc found k d (members_data sources ms)))
 
 -- ---- and nests as deep as the value
 
@@ -121,27 +121,27 @@ mutual
 -- ---- and this JSON stands for the value
 
 mutual
-  data_whole : (sources : List (List ℕ)) (t : Tree) → IsTrue (is_json t) → IsHeld t → whole_tree (data_of sources t) ≡ Some t
-  data_whole sources (string s) json held = refl
-  data_whole sources (integer n) json held = rw (number_whole n held) refl
-  data_whole sources (boolean b) json held = refl
-  data_whole sources null json held = refl
-  data_whole sources (timestamp nanos) json held = absurd (cc)
-  data_whole sources (regex n) json held = absurd (cc)
-  data_whole sources (array ts) json held = ap (option_map array) (items_whole sources ts json held)
-  data_whole sources (object ms) json held = ap (option_map object) (members_whole sources ms json held)
+  data_whole : (sources : List (List ℕ)) (t : Tree) → IsTrue (is_json t) → IntegersFit t → whole_tree (data_of sources t) ≡ Some t
+  data_whole sources (string s) json fits = refl
+  data_whole sources (integer n) json fits = rw (number_whole n fits) refl
+  data_whole sources (boolean b) json fits = refl
+  data_whole sources null json fits = refl
+  data_whole sources (timestamp nanos) json fits = absurd (cc)
+  data_whole sources (regex n) json fits = absurd (cc)
+  data_whole sources (array ts) json fits = ap (option_map array) (items_whole sources ts json fits)
+  data_whole sources (object ms) json fits = ap (option_map object) (members_whole sources ms json fits)
 
-  items_whole : (sources : List (List ℕ)) (ts : Items) → IsTrue (items_are_json ts) → ItemsAreHeld ts → whole_items (items_data sources ts) ≡ Some ts
-  items_whole sources no_items json held = refl
-  items_whole sources (item t ts) json held =
+  items_whole : (sources : List (List ℕ)) (ts : Items) → IsTrue (items_are_json ts) → ItemsFit ts → whole_items (items_data sources ts) ≡ Some ts
+  items_whole sources no_items json fits = refl
+  items_whole sources (item t ts) json fits =
       let parts = and_parts (is_json t) (items_are_json ts) json in
-      rw (data_whole sources t parts.0 held.0, items_whole sources ts parts.1 held.1) refl
+      rw (data_whole sources t parts.0 fits.0, items_whole sources ts parts.1 fits.1) refl
 
-  members_whole : (sources : List (List ℕ)) (ms : Members) → IsTrue (members_are_json ms) → MembersAreHeld ms → whole_members (members_data sources ms) ≡ Some ms
-  members_whole sources no_members json held = refl
-  members_whole sources (member k t ms) json held =
+  members_whole : (sources : List (List ℕ)) (ms : Members) → IsTrue (members_are_json ms) → MembersFit ms → whole_members (members_data sources ms) ≡ Some ms
+  members_whole sources no_members json fits = refl
+  members_whole sources (member k t ms) json fits =
       let parts = and_parts (is_json t) (members_are_json ms) json in
-      rw (data_whole sources t parts.0 held.1, members_whole sources ms parts.1 held.2) refl
+      rw (data_whole sources t parts.0 fits.0, members_whole sources ms parts.1 fits.1) refl
 
 -- ---- a line
 
@@ -155,5 +155,5 @@ pub line_read_back : (sources : List (List ℕ)) (t : Tree) (line : List ℕ) �
 line_read_back sources t line held text are json shallow =
     let d = data_of sources t in
     let same = depth-outline sources t in
-    let found = tokens_read line (outline d) are (omega arith) ∙ data_read sources t held in
-    rw (is_utf8-from_IsUtf8 line text, found, data_whole sources t json held) refl
+    let found = tokens_read line (outline d) are (omega arith) ∙ data_read sources t held.0 held.1 in
+    rw (is_utf8-from_IsUtf8 line text, found, data_whole sources t json held.1) refl

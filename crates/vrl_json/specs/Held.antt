@@ -1,24 +1,33 @@
--- What every value in memory keeps, and a tree by itself need not.
+-- What every value in memory keeps, and a tree by itself need not: it is in order, and its integers have 64 bits.
 use Rattle.std.specs.Prelude.{⊤, FitsSigned}
 use Rattle.std.specs.Int.{w64}
-use Rattle.vrl_value.specs.Tree.{Tree, string, integer, boolean, null, timestamp, regex, array, object, Items, no_items, item, Members, no_members, member, IsBefore}
+use Rattle.vrl_value.specs.Tree.{Tree, string, integer, boolean, null, timestamp, regex, array, object, Items, no_items, item, Members, no_members, member, IsOrdered, ItemsAreOrdered, MembersAreOrdered}
 
--- at every level, integers are of 64 bits with a sign, and the members of an object in the order of their keys' bytes
+-- each integer in the tree is of 64 bits with a sign
 abbrev mutual
-  pub IsHeld : Tree → Type 0
-  IsHeld (string s) = ⊤
-  IsHeld (integer n) = FitsSigned w64 n
-  IsHeld (boolean b) = ⊤
-  IsHeld null = ⊤
-  IsHeld (timestamp nanos) = ⊤
-  IsHeld (regex n) = ⊤
-  IsHeld (array ts) = ItemsAreHeld ts
-  IsHeld (object ms) = MembersAreHeld ms
+  pub IntegersFit : Tree → Type 0
+  IntegersFit (string s) = ⊤
+  IntegersFit (integer n) = FitsSigned w64 n
+  IntegersFit (boolean b) = ⊤
+  IntegersFit null = ⊤
+  IntegersFit (timestamp nanos) = ⊤
+  IntegersFit (regex n) = ⊤
+  IntegersFit (array ts) = ItemsFit ts
+  IntegersFit (object ms) = MembersFit ms
 
-  pub ItemsAreHeld : Items → Type 0
-  ItemsAreHeld no_items = ⊤
-  ItemsAreHeld (item t ts) = IsHeld t × ItemsAreHeld ts
+  pub ItemsFit : Items → Type 0
+  ItemsFit no_items = ⊤
+  ItemsFit (item t ts) = IntegersFit t × ItemsFit ts
 
-  pub MembersAreHeld : Members → Type 0
-  MembersAreHeld no_members = ⊤
-  MembersAreHeld (member k t ms) = IsBefore k ms × IsHeld t × MembersAreHeld ms
+  pub MembersFit : Members → Type 0
+  MembersFit no_members = ⊤
+  MembersFit (member k t ms) = IntegersFit t × MembersFit ms
+
+abbrev pub IsHeld : Tree → Type 0
+IsHeld t = IsOrdered t × IntegersFit t
+
+abbrev pub ItemsAreHeld : Items → Type 0
+ItemsAreHeld ts = ItemsAreOrdered ts × ItemsFit ts
+
+abbrev pub MembersAreHeld : Members → Type 0
+MembersAreHeld ms = MembersAreOrdered ms × MembersFit ms

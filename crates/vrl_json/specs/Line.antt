@@ -1,5 +1,5 @@
 -- Which tree a line of JSON stands for, and the line of a tree, by `serde_json`'s definitions of both.
-use Rattle.std.specs.Prelude.{ℕ, ◌^◌, ℤ, pos, negsuc, List, [], get_or, Option, Some, None, nat_lt, if◌then◌else◌, option_map, option_and_then, Bool, true, ◌&&◌}
+use Rattle.std.specs.Prelude.{ℕ, ◌^◌, ℤ, pos, negsuc, List, [], get_or, Option, Some, None, nat_lt, if◌then◌else◌, option_map, option_and_then}
 use Rattle.std.specs.Str.{is_utf8}
 use Rattle.serde_json.specs.Data as json
 use Rattle.serde_json.specs.Read.{read}
@@ -87,23 +87,3 @@ abbrev mutual
 -- the compact JSON text of a tree, in which each regex is one of these sources
 abbrev pub line_text : List (List ℕ) → Tree → List ℕ
 line_text sources t = compact_text (data_of sources t)
-
--- each regex in the tree is one of the first so many
-abbrev mutual
-  pub regexes_below : ℕ → Tree → Bool
-  regexes_below count (string s) = true
-  regexes_below count (integer n) = true
-  regexes_below count (boolean b) = true
-  regexes_below count null = true
-  regexes_below count (timestamp nanos) = true
-  regexes_below count (regex n) = nat_lt n count
-  regexes_below count (array ts) = items_regexes_below count ts
-  regexes_below count (object ms) = members_regexes_below count ms
-
-  pub items_regexes_below : ℕ → Items → Bool
-  items_regexes_below count no_items = true
-  items_regexes_below count (item t ts) = regexes_below count t && items_regexes_below count ts
-
-  pub members_regexes_below : ℕ → Members → Bool
-  members_regexes_below count no_members = true
-  members_regexes_below count (member k t ms) = regexes_below count t && members_regexes_below count ms

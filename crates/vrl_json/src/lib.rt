@@ -8,5 +8,5 @@ mod read;
 mod write;
 
 pub use fault::JsonFault;
-pub use read::{from_line, lines_are_json};
+pub use read::{from_line, lines_are_json, lines_are_ordered, lines_are_shallow};
 pub use write::{json_needs_no_sources, to_line};

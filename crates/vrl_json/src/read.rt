@@ -1,6 +1,7 @@
-ghost use Rattle.std.specs.Prelude.{◌≡◌, ◌++◌, List, [], ◌∷◌, ℕ, Some, None, IfOk, IsTrue, OnOk, option_map};
+ghost use Rattle.std.specs.Prelude.{◌≡◌, ◌≤◌, ◌++◌, List, [], ◌∷◌, ℕ, Some, None, IfOk, IsTrue, OnOk};
 ghost use Rattle.serde_json.specs.View.{view, items_view as json_items_view, members_view as json_members_view};
-ghost use Rattle.vrl_value.specs.Tree.{Tree, is_json};
+ghost use Rattle.vrl_value.specs.Depth.{depth_of};
+ghost use Rattle.vrl_value.specs.Tree.{Tree, IsOrdered, is_json};
 ghost use Rattle.vrl_value.specs.View.{tree_of, items_of, members_of};
 ghost use Rattle.vrl_json.specs.Faults.{has_parts};
 ghost use Rattle.vrl_json.specs.Line.{not_json, not_whole, whole, reading_of, whole_tree, whole_items, whole_members};
@@ -30,6 +31,17 @@ pub fn from_line(alloc: Global, bytes: &[u8]) -> Result<Value, JsonFault>
 /// the definitions.
 pub fn lines_are_json()
     ensures { (line : List ℕ) (tree : Tree) → reading_of line ≡ whole tree → IsTrue (is_json tree) }
+{}
+
+/// What a line stands for nests at most 127 deep. This takes no time: it is a law about the definitions.
+pub fn lines_are_shallow()
+    ensures { (line : List ℕ) (tree : Tree) → reading_of line ≡ whole tree → depth_of tree ≤ 127 }
+{}
+
+/// What a line stands for is in order: the members of each object stand in the order of their names' bytes,
+/// each name once. This takes no time: it is a law about the definitions.
+pub fn lines_are_ordered()
+    ensures { (line : List ℕ) (tree : Tree) → reading_of line ≡ whole tree → IsOrdered tree }
 {}
 
 // The value that JSON stands for. Texts are moved, which takes no memory.

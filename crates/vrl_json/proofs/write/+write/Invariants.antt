@@ -1,9 +1,9 @@
 use Rattle.std.proofs.Common.{◌≡◌, ◌++◌, ◌≤◌, string_cmp, drop, length, IsTrue}
 use Rattle.std.specs.List.Sorted.{IsStrictlySortedBy}
 use Rattle.std.specs.Map.{keys_of}
+use Rattle.vrl_value.specs.Regexes.{items_regexes_below, members_regexes_below}
 use Rattle.vrl_value.specs.View.{tree_of, items_of, members_of, items_view, members_view}
 use Rattle.vrl_json.specs.Held.{ItemsAreHeld, MembersAreHeld}
-use Rattle.vrl_json.specs.Line.{items_regexes_below, members_regexes_below}
 use Rattle.vrl_json.specs.Tokens.{items_tokens, members_tokens}
 use Rattle.vrl_json.proofs.Sizes.{size_of, items_size, members_size}
 use Rattle.vrl_json.proofs.write.+write.Given as goal
