@@ -6,6 +6,7 @@ pub mod Moment
 pub mod MomentText
 pub mod Order
 pub mod Parts
+pub mod Regexes
 pub mod Rfc3339
 pub mod Scan
 pub mod Tag
