@@ -1,5 +1,4 @@
 -- One part of a tree: put into the container that its step fits, or taken out of it.
-use Rattle.std.specs.Prelude.{ℕ, List}
 use Rattle.vrl_value.specs.Look.{Step, field, place, there}
 use Rattle.vrl_value.specs.Parts.{put_item, replace, replace_item, without, without_item}
 use Rattle.vrl_value.specs.Tree.{Tree, string, integer, boolean, null, timestamp, regex, array, object, put}

@@ -13,6 +13,7 @@ use Rattle.vrl_value.specs.declared.value.Fields.{Fields, out-Fields}
 use Rattle.vrl_value.specs.declared.value.Value.TheViews.{roll-Fields, roll-Items}
 use Rattle.vrl_value.proofs.Copies.{items_of-out}
 use Rattle.vrl_value.proofs.Find.{tree_of-lookup}
+use Rattle.vrl_value.proofs.Members.{without-none}
 use Rattle.vrl_value.proofs.Put.{members_of-roll, members_of-out}
 
 -- the test of a look-up by these bytes
@@ -45,17 +46,6 @@ members_of-same fields map same = members_of-roll map ∙ ap (λ m. members_view
 pub on_some : {T : Type 0} (o : Option T) (P : Type 0) → P → OnSome o P
 on_some None P p = tt
 on_some (Some x) P p = p
-
--- where nothing is found there is nothing to take out
-none_cases : (o : Ordering) (l : List ℕ) (u : Tree) (ms rest : Members) (found : Option Tree) → (found ≡ None → rest ≡ ms) → match_ordering o found (Some u) found ≡ None
-    → match_ordering o (member l u rest) rest (member l u rest) ≡ member l u ms
-none_cases Less l u ms rest found later none = ap (member l u) (later none)
-none_cases Equal l u ms rest found later none = absurd cc
-none_cases Greater l u ms rest found later none = ap (member l u) (later none)
-
-pub without-none : (k : List ℕ) (ms : Members) → find k ms ≡ None → without k ms ≡ ms
-without-none k no_members none = refl
-without-none k (member l u ms) none = none_cases (slice_cmp nat_cmp k l) l u ms (without k ms) (find k ms) (without-none k ms) none
 
 -- the step of `members_view-remove_entry`, at the order of the name and the first key
 remove_cases : (o : Ordering) (name : List ℕ) (e : String Global × Value) (es left : List (String Global × Value)) (rest : Members) → named name e.0 ≡ o

@@ -4,7 +4,10 @@ pub mod Clock
 pub mod Copies
 pub mod Digits
 pub mod Find
+pub mod Listed
 pub mod Members
+pub mod OneTree
+pub mod Order
 pub mod Ordered
 pub mod Places
 pub mod Put

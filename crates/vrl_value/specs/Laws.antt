@@ -1,14 +1,65 @@
--- Laws of the members of an object, the names and values of RFC 8259's objects, and of the texts of moments.
-use Rattle.std.specs.Prelude.{◌≡◌, ◌≢◌, ℕ, List, Some, IfSome, IsTrue, ℤ}
+-- Laws of the members of an object, the names and values of RFC 8259's objects, of the items of an array, of trees in order, and of
+-- the texts of moments.
+use Rattle.std.specs.Prelude.{◌≡◌, ◌≢◌, ℕ, suc, ◌<◌, ◌≤◌, List, Some, None, unwrap_or, IfSome, IsTrue, ℤ, ⊤}
+use Rattle.vrl_value.specs.Look.{Step, Found, there, missing, no_place, item_at, outline, raw_at}
 use Rattle.vrl_value.specs.Moment.{IsInRange}
 use Rattle.vrl_value.specs.MomentText.{moment_text}
+use Rattle.vrl_value.specs.Parts.{put_item, replace, replace_item, without, without_item}
 use Rattle.vrl_value.specs.Rfc3339.{IsReading}
-use Rattle.vrl_value.specs.Tree.{Tree, Members, find, put, is_json, members_are_json}
+use Rattle.vrl_value.specs.Tree.{Tree, null, Items, Members, find, put, is_json, members_are_json, IsOrdered, ItemsAreOrdered, MembersAreOrdered}
 
 -- they are a map: what is put at a name is found there, and at every other name what was there before
 pub record MembersAreMaps : Type 0 where
   pub find_put : (name : List ℕ) (value : Tree) (members : Members) → find name (put name value members) ≡ Some value
   pub find_put_other : (other name : List ℕ) (value : Tree) (members : Members) → other ≢ name → find other (put name value members) ≡ find other members
+  -- what replaced a value is found in its place
+  pub find_replace : (name : List ℕ) (value old : Tree) (members : Members) → find name members ≡ Some old → find name (replace name value members) ≡ Some value
+  pub find_replace_other : (other name : List ℕ) (value : Tree) (members : Members) → other ≢ name → find other (replace name value members) ≡ find other members
+  -- what was taken out is not found
+  pub find_without : (name : List ℕ) (members : Members) → find name (without name members) ≡ None
+  pub find_without_other : (other name : List ℕ) (members : Members) → other ≢ name → find other (without name members) ≡ find other members
+  -- where nothing is found, nothing is taken out
+  pub without_none : (name : List ℕ) (members : Members) → find name members ≡ None → without name members ≡ members
+  -- those in order among which the same is found at each name are the same
+  pub one_map : (a b : Members) → MembersAreOrdered a → MembersAreOrdered b → ((name : List ℕ) → find name a ≡ find name b) → a ≡ b
+
+-- items are a list: what is put at a place is found there, at a lower place what was there before, or null, and at a higher one what was
+pub record ItemsAreLists : Type 0 where
+  pub item_put : (place : ℕ) (value : Tree) (items : Items) → item_at place (put_item place value items) ≡ Some value
+  pub item_put_before : (place lower : ℕ) (value : Tree) (items : Items) → lower < place → item_at lower (put_item place value items) ≡ Some (unwrap_or (item_at lower items) null)
+  pub item_put_behind : (place higher : ℕ) (value : Tree) (items : Items) → place < higher → item_at higher (put_item place value items) ≡ item_at higher items
+  -- what replaced an item is found in its place
+  pub item_replace : (place : ℕ) (value old : Tree) (items : Items) → item_at place items ≡ Some old → item_at place (replace_item place value items) ≡ Some value
+  pub item_replace_other : (place other : ℕ) (value : Tree) (items : Items) → other ≢ place → item_at other (replace_item place value items) ≡ item_at other items
+  -- those behind an item that was taken out move down by one
+  pub item_without_before : (place lower : ℕ) (items : Items) → lower < place → item_at lower (without_item place items) ≡ item_at lower items
+  pub item_without_behind : (place higher : ℕ) (items : Items) → place ≤ higher → item_at higher (without_item place items) ≡ item_at (suc higher) items
+  -- where there is no item, none is taken out
+  pub item_without_none : (place : ℕ) (items : Items) → item_at place items ≡ None → without_item place items ≡ items
+  -- those that have the same at each place are the same
+  pub one_list : (a b : Items) → ((place : ℕ) → item_at place a ≡ item_at place b) → a ≡ b
+
+-- what was found is in order
+abbrev pub IsOrderedFound : Found → Type 0
+IsOrderedFound (there t) = IsOrdered t
+IsOrderedFound missing = ⊤
+IsOrderedFound no_place = ⊤
+
+-- trees stay in order where a part in order is put, replaced or taken out, and what is found in one in order is in order
+pub record TreesStayInOrder : Type 0 where
+  pub ordered_put : (name : List ℕ) (value : Tree) (members : Members) → IsOrdered value → MembersAreOrdered members → MembersAreOrdered (put name value members)
+  pub ordered_replace : (name : List ℕ) (value : Tree) (members : Members) → IsOrdered value → MembersAreOrdered members → MembersAreOrdered (replace name value members)
+  pub ordered_without : (name : List ℕ) (members : Members) → MembersAreOrdered members → MembersAreOrdered (without name members)
+  pub ordered_put_item : (place : ℕ) (value : Tree) (items : Items) → IsOrdered value → ItemsAreOrdered items → ItemsAreOrdered (put_item place value items)
+  pub ordered_replace_item : (place : ℕ) (value : Tree) (items : Items) → IsOrdered value → ItemsAreOrdered items → ItemsAreOrdered (replace_item place value items)
+  pub ordered_without_item : (place : ℕ) (items : Items) → ItemsAreOrdered items → ItemsAreOrdered (without_item place items)
+  pub ordered_find : (name : List ℕ) (members : Members) → MembersAreOrdered members → IfSome (find name members) IsOrdered
+  pub ordered_item : (place : ℕ) (items : Items) → ItemsAreOrdered items → IfSome (item_at place items) IsOrdered
+  pub ordered_found : (tree : Tree) (path : List Step) → IsOrdered tree → IsOrderedFound (raw_at tree path)
+
+-- two trees in order of which look-up tells the same at every path, be it but for the parts of what it finds, are the same
+abbrev pub TreesAreTold : Type 0
+TreesAreTold = (a b : Tree) → IsOrdered a → IsOrdered b → ((path : List Step) → outline (raw_at a path) ≡ outline (raw_at b path)) → a ≡ b
 
 -- what is found among members that are JSON is JSON, and they stay JSON where JSON is put among them
 pub record MembersStayJson : Type 0 where

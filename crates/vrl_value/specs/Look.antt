@@ -2,7 +2,7 @@
 -- place into an array.
 use Rattle.std.specs.Prelude.{ℕ, zero, suc, List, [], ◌∷◌, Option, Some, None}
 use Rattle.vrl_value.specs.Tag.{tag_of}
-use Rattle.vrl_value.specs.Tree.{Tree, array, object, Items, no_items, item, find}
+use Rattle.vrl_value.specs.Tree.{Tree, string, integer, boolean, null, timestamp, regex, array, object, Items, no_items, item, no_members, find}
 use Rattle.vrl_value.specs.declared.value.Tag.{Tag}
 use Rattle.vrl_value.specs.declared.value.Tag.TheVariants as tag
 
@@ -53,3 +53,20 @@ abbrev pub tag_found : Found → Option Tag
 tag_found (there t) = Some (tag_of t)
 tag_found missing = Some tag.Absent
 tag_found no_place = None
+
+-- a tree but for its parts: an array or an object is the empty one
+abbrev pub bare : Tree → Tree
+bare (string s) = string s
+bare (integer n) = integer n
+bare (boolean b) = boolean b
+bare null = null
+bare (timestamp nanos) = timestamp nanos
+bare (regex n) = regex n
+bare (array ts) = array no_items
+bare (object ms) = object no_members
+
+-- what was found, but for its parts
+abbrev pub outline : Found → Found
+outline (there t) = there (bare t)
+outline missing = missing
+outline no_place = no_place

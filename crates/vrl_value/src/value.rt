@@ -61,7 +61,9 @@ impl Value {
     /// its parts, or 1 where it is empty. 2^64 - 1 where it is deeper than that. It looks at each part once.
     #[cycle(depth)]
     pub fn depth(&self) -> u64
-        ensures { result ≡ min (depth_of (tree_of self.now)) u64.MAX }
+        ensures depth { result ≡ min (depth_of (tree_of self.now)) u64.MAX }
+        // Objects are maps, at each level: what is in memory is in order.
+        ensures ordered { IsOrdered (tree_of self.now) }
     {
         match self {
             Value::List(items) => items.deepest().saturating_add(1),
@@ -222,7 +224,8 @@ impl Items {
     // The greatest depth of a part, 0 where there is none, and at most 2^64 - 1.
     #[cycle(depth)]
     fn deepest(&self) -> u64
-        ensures { result ≡ min (items_depth (items_of self.now)) u64.MAX }
+        ensures depth { result ≡ min (items_depth (items_of self.now)) u64.MAX }
+        ensures ordered { ItemsAreOrdered (items_of self.now) }
     {
         let mut deepest = 0;
         for item in &self.items {
@@ -310,7 +313,8 @@ impl Fields {
     // The greatest depth of a value, 0 where there is none, and at most 2^64 - 1.
     #[cycle(depth)]
     fn deepest(&self) -> u64
-        ensures { result ≡ min (members_depth (members_of self.now)) u64.MAX }
+        ensures depth { result ≡ min (members_depth (members_of self.now)) u64.MAX }
+        ensures ordered { MembersAreOrdered (members_of self.now) }
     {
         let mut deepest = 0;
         for (_name, value) in self.map.iter() {
