@@ -1,3 +1,4 @@
+pub mod Below
 pub mod Changes
 pub mod Civil
 pub mod Clock
@@ -5,6 +6,7 @@ pub mod Copies
 pub mod Digits
 pub mod Find
 pub mod Listed
+pub mod Looks
 pub mod Members
 pub mod OneTree
 pub mod Order

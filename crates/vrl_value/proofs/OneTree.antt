@@ -11,11 +11,11 @@ use Rattle.vrl_value.proofs.Members.{same_keys, find-member_other}
 use Rattle.vrl_value.proofs.Order.{before_all}
 
 -- a key before all of the members is not found among them
-find-before : (k : List ℕ) (ms : Members) → IsBefore k ms → find k ms ≡ None
+pub find-before : (k : List ℕ) (ms : Members) → IsBefore k ms → find k ms ≡ None
 find-before k no_members before = refl
 find-before k (member l u ms) before = rw before.0 (find-before k ms before.1)
 
-find_first : (k : List ℕ) (t : Tree) (ms : Members) → find k (member k t ms) ≡ Some t
+pub find_first : (k : List ℕ) (t : Tree) (ms : Members) → find k (member k t ms) ≡ Some t
 find_first k t ms = rw (tied_itself nat_list_cmp_total k)
 
 -- what look-up tells behind a part

@@ -3,10 +3,10 @@ use Rattle.std.proofs.Common.{◌≡◌, ℕ, zero, suc, List, [], ◌∷◌, Op
 use Rattle.std.proofs.lemmas.Cmp.{nat_list_cmp_total}
 use Rattle.std.specs.Cmp.Lexicographic.{slice_cmp}
 use Rattle.std.specs.Ordering.{match_ordering, ordering_reverse}
-use Rattle.vrl_value.specs.Look.{Step, field, place, Found, there, missing, no_place, found_if, found_behind, item_at, part_at, raw_at}
-use Rattle.vrl_value.specs.Laws.{IsOrderedFound}
+use Rattle.vrl_value.specs.Look.{Step, field, place, item_at, part_at, raw_at, IfThere}
 use Rattle.vrl_value.specs.Parts.{put_item, replace, replace_item, without, without_item}
 use Rattle.vrl_value.specs.Tree.{Tree, string, integer, boolean, null, timestamp, regex, array, object, Items, no_items, item, Members, no_members, member, find, put, IsBefore, IsOrdered, ItemsAreOrdered, MembersAreOrdered}
+use Rattle.vrl_value.proofs.Looks.{if_found, found_keeps}
 
 -- what is before a key is before what that key is before
 pub before_all : (j k : List ℕ) (ms : Members) → slice_cmp nat_cmp j k ≡ Less → IsBefore k ms → IsBefore j ms
@@ -102,21 +102,10 @@ item_ordered i no_items old = tt
 item_ordered zero (item u ts) old = old.0
 item_ordered (suc i) (item u ts) old = item_ordered i ts old.1
 
-found_if_ordered : (o : Option Tree) → IfSome o IsOrdered → IsOrderedFound (found_if o)
-found_if_ordered None old = tt
-found_if_ordered (Some t) old = old
-
-pub part_ordered : (v : Tree) (s : Step) → IsOrdered v → IsOrderedFound (part_at v s)
-part_ordered (object ms) (field k) old = found_if_ordered (find k ms) (find_ordered k ms old)
-part_ordered (array ts) (place i) old = found_if_ordered (item_at i ts) (item_ordered i ts old)
+part_ordered : (v : Tree) (s : Step) → IsOrdered v → IfThere (part_at v s) IsOrdered
+part_ordered (object ms) (field k) old = if_found IsOrdered (find k ms) (find_ordered k ms old)
+part_ordered (array ts) (place i) old = if_found IsOrdered (item_at i ts) (item_ordered i ts old)
 part_ordered v s old = tt
 
-behind_ordered : (f : Found) (p : List Step) (look : Tree → Found) → IsOrderedFound f → ((u : Tree) → IsOrdered u → IsOrderedFound (look u)) → IsOrderedFound (found_behind f p look)
-behind_ordered (there t) p look old later = later t old
-behind_ordered missing [] look old later = tt
-behind_ordered missing (s ∷ p) look old later = tt
-behind_ordered no_place p look old later = tt
-
-pub found_ordered : (v : Tree) (p : List Step) → IsOrdered v → IsOrderedFound (raw_at v p)
-found_ordered v [] old = old
-found_ordered v (s ∷ p) old = behind_ordered (part_at v s) p (λ u. raw_at u p) (part_ordered v s old) (λ u part. found_ordered u p part)
+pub found_ordered : (v : Tree) (p : List Step) → IsOrdered v → IfThere (raw_at v p) IsOrdered
+found_ordered = found_keeps IsOrdered part_ordered

@@ -1,6 +1,6 @@
 -- Paths into a tree, and what look-up finds at them, as a JSON Pointer (RFC 6901) finds a value: a name leads into an object and a
 -- place into an array.
-use Rattle.std.specs.Prelude.{ℕ, zero, suc, List, [], ◌∷◌, Option, Some, None}
+use Rattle.std.specs.Prelude.{ℕ, zero, suc, List, [], ◌∷◌, Option, Some, None, ⊤}
 use Rattle.vrl_value.specs.Tag.{tag_of}
 use Rattle.vrl_value.specs.Tree.{Tree, string, integer, boolean, null, timestamp, regex, array, object, Items, no_items, item, no_members, find}
 use Rattle.vrl_value.specs.declared.value.Tag.{Tag}
@@ -70,3 +70,9 @@ abbrev pub outline : Found → Found
 outline (there t) = there (bare t)
 outline missing = missing
 outline no_place = no_place
+
+-- a fact of the tree that was found, where one was
+abbrev pub IfThere : Found → (Tree → Type 0) → Type 0
+IfThere (there t) P = P t
+IfThere missing P = ⊤
+IfThere no_place P = ⊤

@@ -1,4 +1,4 @@
-ghost use Rattle.vrl_value.specs.Laws.{ItemsAreLists, MembersAreMaps, MembersStayJson, MomentsReadBack, TreesAreTold, TreesStayInOrder};
+ghost use Rattle.vrl_value.specs.Laws.{ItemsAreLists, MembersAreMaps, MembersStayJson, MomentsReadBack, RegexesStayBelow, TreesAreTold, TreesStayInOrder};
 
 /// The members of an object are a map: what is put at a name is found there, what replaced a value is found in
 /// its place, what was taken out is not found, and at every other name what was there before. Those in order
@@ -24,6 +24,13 @@ pub fn trees_stay_in_order()
 /// law about the definitions.
 pub fn trees_are_told()
     ensures { TreesAreTold }
+{}
+
+/// Regexes that are among the first so many stay so where a part is put, replaced or taken out, and in what is
+/// found; and in a tree in order they are where each that look-up finds is. This takes no time: it is a law
+/// about the definitions.
+pub fn regexes_stay_below()
+    ensures { RegexesStayBelow }
 {}
 
 /// What is found among members that are JSON is JSON, and they stay JSON where JSON is put among them. This

@@ -13,8 +13,8 @@ mod reading;
 mod value;
 
 pub use laws::{
-    items_are_lists, members_are_maps, members_stay_json, moments_read_back, trees_are_told,
-    trees_stay_in_order,
+    items_are_lists, members_are_maps, members_stay_json, moments_read_back, regexes_stay_below,
+    trees_are_told, trees_stay_in_order,
 };
 pub use lists::{Bytes, Chars, Names};
 pub use memory::Memory;
