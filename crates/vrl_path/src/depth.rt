@@ -14,8 +14,8 @@ use vrl_value::{Fields, Items, Value, members_are_maps};
 // The greatest depth of a value that a set may leave.
 const LIMIT: u64 = 128;
 
-// Whether the value with a new one at the end of the steps is within the limit of depth. Where the new one
-// and the steps settle it, only the new one is looked at; else each part beside the steps, too.
+/// Whether the value with a new one at the end of the steps is within the limit of depth. Where the new one
+/// and the steps settle it, only the new one is looked at; else each part beside the steps, too.
 pub fn is_within_limit(value: &Value, steps: &[Step], new: &Value) -> bool
     requires { IsWritable steps.now }
     ensures { IsTrue result

@@ -36,8 +36,8 @@ part_at (object ms) (field k) = found_if (find k ms)
 part_at (array ts) (place i) = found_if (item_at i ts)
 part_at t s = no_place
 
--- what the steps behind find in what the first one found
-abbrev pub found_behind : Found → List Step → (Tree → Found) → Found
+-- what the steps behind find in what the first one found, whatever steps they are
+abbrev pub found_behind : {S : Type 0} → Found → List S → (Tree → Found) → Found
 found_behind (there t) p look = look t
 found_behind missing [] look = missing
 found_behind missing (s ∷ p) look = no_place

@@ -1,7 +1,7 @@
 ghost use Rattle.std.specs.Borrow.{sem};
 ghost use Rattle.vrl_value.specs.Lending.{LendsField, LendsItem};
 ghost use Rattle.vrl_value.specs.Look.{item_at};
-ghost use Rattle.vrl_value.specs.Parts.{count_of, put_item, without, without_item};
+ghost use Rattle.vrl_value.specs.Parts.{count_of, members_count, put_item, without, without_item};
 ghost use Rattle.std.specs.Prelude.{◌≡◌, ◌≤◌, ◌↔◌, min, IfOk, IsTrue, OnErr, OnOk, option_map};
 ghost use Rattle.vrl_value.specs.Depth.{depth_of, items_depth, members_depth};
 ghost use Rattle.vrl_value.specs.Order.{order_of};
@@ -176,6 +176,13 @@ impl Items {
         self.items.len()
     }
 
+    /// Whether there is no value.
+    pub fn is_empty(&self) -> bool
+        ensures { IsTrue result ↔ (count_of (items_of self.now) ≡ 0) }
+    {
+        self.len() == 0
+    }
+
     /// The value at a place, counted from 0. `None` from the number of values on.
     pub fn get(&self, place: usize) -> Option<&Value>
         ensures { option_map (λ value. tree_of value.now) result ≡ item_at place (items_of self.now) }
@@ -284,6 +291,20 @@ impl Fields {
         ensures { members_view result.now.entries ≡ members_of self.now }
     {
         &self.map
+    }
+
+    /// How many fields there are.
+    pub fn len(&self) -> usize
+        ensures { result ≡ members_count (members_of self.now) }
+    {
+        self.map.len()
+    }
+
+    /// Whether there is no field.
+    pub fn is_empty(&self) -> bool
+        ensures { IsTrue result ↔ (members_count (members_of self.now) ≡ 0) }
+    {
+        self.len() == 0
     }
 
     /// The value at a name. `None` where no field has the name.
