@@ -13,7 +13,7 @@ use Rattle.vrl_value.specs.Depth.{depth_of, items_depth, members_depth}
 use Rattle.vrl_value.specs.Laws.{MembersAreMaps}
 use Rattle.vrl_value.specs.Look.{Step, field, place, found_if, item_at}
 use Rattle.vrl_value.specs.Parts.{put_item, replace, replace_item, without}
-use Rattle.vrl_value.specs.Tree.{Tree, string, integer, boolean, null, timestamp, regex, array, object, Items, no_items, item, Members, no_members, member, find, put, IsBefore}
+use Rattle.vrl_value.specs.Tree.{Tree, null, array, object, Items, no_items, Members, no_members, member, find, put, IsBefore}
 use Rattle.vrl_value.specs.View.{items_view, members_view, tree_of}
 use Rattle.vrl_value.specs.declared.value.Value.{Value}
 use Rattle.vrl_path.specs.Steps.{plain, plain_step, IsWritableStep}
@@ -21,7 +21,7 @@ use Rattle.vrl_path.specs.declared.path.Step.{Step as CodeStep}
 use Rattle.vrl_path.specs.declared.path.Step.TheVariants.{Field, Place}
 use Rattle.vrl_path.specs.Trees.{chain, items_if_array, members_if_object, set_in_fields, set_in_items, set_tree, if_there, members_if, items_if}
 use Rattle.vrl_path.specs.Parts.{with_part, replace_part}
-use Rattle.vrl_path.proofs.Depths.{below_placed, below_put_item, put_item_within, put_within, set_shallow}
+use Rattle.vrl_path.proofs.Depths.{below_placed, put_item_within, put_within, set_shallow}
 use Rattle.vrl_path.proofs.Placed.{chain-null, member_if, replace_item-found}
 
 -- the keys of the members ascend

@@ -1,8 +1,8 @@
 -- Trees stay in order where a part is set or taken out.
-use Rattle.std.proofs.Common.{◌≡◌, ℕ, List, [], ◌∷◌, Option, Some, None, IfSome, sym, subst}
+use Rattle.std.proofs.Common.{ℕ, List, [], ◌∷◌, Option, Some, None, IfSome, sym, subst}
 use Rattle.vrl_value.specs.Laws.{TreesStayInOrder}
 use Rattle.vrl_value.specs.Look.{Step, field, place, Found, there, missing, no_place, found_if, item_at, part_at}
-use Rattle.vrl_value.specs.Tree.{Tree, string, integer, boolean, null, timestamp, regex, array, object, Members, find, IsOrdered, ItemsAreOrdered, MembersAreOrdered}
+use Rattle.vrl_value.specs.Tree.{Tree, array, object, Members, find, IsOrdered, ItemsAreOrdered, MembersAreOrdered}
 use Rattle.vrl_path.specs.Parts.{replace_part, without_part}
 use Rattle.vrl_path.specs.Trees.{if_there, set_tree, remove_tree}
 use Rattle.vrl_path.specs.Write.{items_in, members_in}

@@ -1,12 +1,12 @@
 -- One step of a set: the container with its new part.
-use Rattle.std.proofs.Common.{◌≡◌, ◌≢◌, ℕ, zero, suc, ◌<◌, List, [], ◌∷◌, Option, Some, None, unwrap_or, refl, sym, ap, ◌∙◌}
+use Rattle.std.proofs.Common.{◌≡◌, ◌≢◌, ℕ, zero, suc, List, [], ◌∷◌, Option, Some, None, refl, ap}
 use Rattle.vrl_value.specs.Laws.{MembersAreMaps}
 use Rattle.vrl_value.specs.Look.{Step, field, place, Found, there, missing, no_place, found_if, item_at, part_at}
 use Rattle.vrl_value.specs.Parts.{put_item, replace, replace_item}
-use Rattle.vrl_value.specs.Tree.{Tree, string, integer, boolean, null, timestamp, regex, array, object, Items, no_items, item, Members, no_members, find, put}
+use Rattle.vrl_value.specs.Tree.{Tree, null, array, object, Items, no_items, item, Members, find, put}
 use Rattle.vrl_path.specs.Parts.{with_part, replace_part}
 use Rattle.vrl_path.specs.Trees.{chain, if_there, set_tree}
-use Rattle.vrl_path.specs.Write.{items_in, members_in, or_null}
+use Rattle.vrl_path.specs.Write.{items_in, members_in}
 
 -- what was found, or null
 abbrev pub tree_or_null : Found → Tree

@@ -1,11 +1,11 @@
 -- A read at a path without negative places is look-up.
-use Rattle.std.proofs.Common.{◌≡◌, ℕ, pos, negsuc, List, [], ◌∷◌, refl, ap, ◌∙◌}
+use Rattle.std.proofs.Common.{◌≡◌, pos, negsuc, List, [], ◌∷◌, refl, ap, ◌∙◌}
 use Rattle.std.proofs.lemmas.List.Elements.{All-head, All-tail}
 use Rattle.vrl_value.specs.Look.{Found, there, missing, no_place, found_behind, part_at, raw_at}
-use Rattle.vrl_value.specs.Tree.{Tree, string, integer, boolean, null, timestamp, regex, array, object}
+use Rattle.vrl_value.specs.Tree.{Tree, array, object}
 use Rattle.vrl_path.specs.Laws.{ReadsByLookUp}
 use Rattle.vrl_path.specs.Read.{signed_part_at, signed_raw_at}
-use Rattle.vrl_path.specs.Steps.{plain, plain_step, IsPlain, IsPlainStep}
+use Rattle.vrl_path.specs.Steps.{plain, plain_step, IsPlainStep}
 use Rattle.vrl_path.specs.declared.path.Step.{Step}
 use Rattle.vrl_path.specs.declared.path.Step.TheVariants.{Field, Place}
 

@@ -1,14 +1,13 @@
 -- What look-up finds in a tree from which a sub-tree was taken out.
 use Rattle.std.proofs.Common.{◌≡◌, ◌≢◌, ℕ, suc, ◌<◌, ◌≤◌, List, [], ◌∷◌, ◌++◌, Option, Some, None, refl, sym, ap, ◌∙◌, subst}
 use Rattle.vrl_value.specs.Laws.{ItemsAreLists, MembersAreMaps}
-use Rattle.vrl_value.specs.Look.{Step, field, place, Found, there, missing, no_place, found_if, found_behind, item_at, part_at, raw_at}
-use Rattle.vrl_value.specs.Parts.{replace, replace_item, without, without_item}
-use Rattle.vrl_value.specs.Tree.{Tree, string, integer, boolean, null, timestamp, regex, array, object, Items, Members, find}
+use Rattle.vrl_value.specs.Look.{Step, field, place, Found, there, missing, no_place, found_if, item_at, part_at, raw_at}
+use Rattle.vrl_value.specs.Tree.{Tree, array, object, Items, Members, find}
 use Rattle.vrl_path.specs.Parts.{replace_part, without_part}
 use Rattle.vrl_path.specs.Read.{tree_found}
 use Rattle.vrl_path.specs.Remove.{removable_at, IsRemoved}
 use Rattle.vrl_path.specs.Trees.{if_there, remove_tree}
-use Rattle.vrl_path.specs.Write.{items_in, members_in, Holds}
+use Rattle.vrl_path.specs.Write.{Holds}
 use Rattle.vrl_path.proofs.Changes.{same_item, same_member}
 use Rattle.vrl_path.proofs.Sets.{behind}
 

@@ -1,5 +1,5 @@
 -- What the public calls promise, from what the walks compute.
-use Rattle.std.proofs.Common.{◌≡◌, ◌≤◌, ◌<◌, ◌↔◌, List, Option, Some, None, IsTrue, Bool, false, sym, ap, ◌∙◌, subst, arith, option_map, IfNone, OnSome, Result, Ok, Err, OnOk, OnErr}
+use Rattle.std.proofs.Common.{◌≡◌, ◌<◌, List, Option, Some, None, sym, ◌∙◌, subst, option_map, IfNone, OnSome, Result, Ok, Err, OnOk, OnErr}
 use Rattle.vrl_value.specs.Depth.{depth_of}
 use Rattle.vrl_value.specs.Laws.{ItemsAreLists, MembersAreMaps, TreesAreTold, TreesStayInOrder}
 use Rattle.vrl_value.specs.Look.{Step}

@@ -3,7 +3,7 @@ use Rattle.std.proofs.Common.{◌≡◌, ◌≢◌, ℕ, ◌<◌, List, [], ◌�
 use Rattle.vrl_value.specs.Laws.{ItemsAreLists, MembersAreMaps}
 use Rattle.vrl_value.specs.Look.{Step, field, place, Found, there, missing, no_place, found_if, found_behind, item_at, part_at, raw_at}
 use Rattle.vrl_value.specs.Parts.{put_item}
-use Rattle.vrl_value.specs.Tree.{Tree, string, integer, boolean, null, timestamp, regex, array, object, Items, no_items, Members, no_members, find}
+use Rattle.vrl_value.specs.Tree.{Tree, null, array, object}
 use Rattle.vrl_path.specs.Trees.{set_tree}
 use Rattle.vrl_path.specs.Write.{items_in, members_in, or_null, Holds, IsSet}
 use Rattle.vrl_path.proofs.Placed.{tree_or_null, placed_member, set_step, placed-field, placed-place, find-placed, find-placed_other}

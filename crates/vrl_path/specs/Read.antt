@@ -2,7 +2,7 @@
 use Rattle.std.specs.Prelude.{ℕ, ℤ, suc, ◌-◌, pos, negsuc, nat_lt, if◌then◌else◌, List, [], ◌∷◌, Option, Some, None}
 use Rattle.vrl_value.specs.Look.{Found, there, missing, no_place, item_at, found_if, found_behind}
 use Rattle.vrl_value.specs.Parts.{count_of}
-use Rattle.vrl_value.specs.Tree.{Tree, string, integer, boolean, null, timestamp, regex, array, object, Items, find}
+use Rattle.vrl_value.specs.Tree.{Tree, array, object, Items, find}
 use Rattle.vrl_path.specs.declared.path.Step.{Step}
 use Rattle.vrl_path.specs.declared.path.Step.TheVariants.{Field, Place}
 

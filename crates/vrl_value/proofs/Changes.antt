@@ -1,17 +1,15 @@
 -- A value of an object or an array replaced or taken out, in the code and as trees.
-use Rattle.std.proofs.Common.{◌≡◌, ℕ, List, [], ◌∷◌, Option, Some, None, option_map, String, Global, BTreeMap, Ordering, Less, Equal, Greater, string_bytes, nat_cmp, is_eq, cond, length, refl, sym, ap, ◌∙◌, rules, OnSome}
+use Rattle.std.proofs.Common.{◌≡◌, ℕ, List, [], ◌∷◌, Option, Some, None, option_map, String, Global, BTreeMap, Ordering, Less, Equal, Greater, string_bytes, nat_cmp, is_eq, cond, refl, sym, ap, ◌∙◌, OnSome}
 use Rattle.std.specs.BTreeMap.{is_at}
 use Rattle.std.specs.Cmp.Lexicographic.{slice_cmp}
 use Rattle.std.specs.Map.{lookup, set_value, remove_entry}
 use Rattle.std.specs.Ordering.{match_ordering}
-use Rattle.vrl_value.specs.Parts.{count_of, replace, replace_item, without, without_item}
-use Rattle.vrl_value.specs.Tree.{Tree, Items, no_items, item, Members, no_members, member, find}
-use Rattle.vrl_value.specs.View.{items_of, items_view, members_of, members_view, tree_of}
-use Rattle.vrl_value.specs.declared.value.Value.{Value, the_lemmas}
-use Rattle.vrl_value.specs.declared.value.Items.{Items as CodeItems, out-Items}
+use Rattle.vrl_value.specs.Parts.{replace, without}
+use Rattle.vrl_value.specs.Tree.{Members, member}
+use Rattle.vrl_value.specs.View.{members_of, members_view, tree_of}
+use Rattle.vrl_value.specs.declared.value.Value.{Value}
 use Rattle.vrl_value.specs.declared.value.Fields.{Fields, out-Fields}
-use Rattle.vrl_value.specs.declared.value.Value.TheViews.{roll-Fields, roll-Items}
-use Rattle.vrl_value.proofs.Copies.{items_of-out}
+use Rattle.vrl_value.specs.declared.value.Value.TheViews.{roll-Fields}
 use Rattle.vrl_value.proofs.Find.{tree_of-lookup}
 use Rattle.vrl_value.proofs.Members.{without-none}
 use Rattle.vrl_value.proofs.Put.{members_of-roll, members_of-out}

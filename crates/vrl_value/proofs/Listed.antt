@@ -1,5 +1,5 @@
 -- What stands at the places of items that one was put into or taken out of.
-use Rattle.std.proofs.Common.{◌≡◌, ◌≢◌, ℕ, zero, suc, ◌<◌, ◌≤◌, Option, Some, None, unwrap_or, refl, ap, ◌∙◌, arith}
+use Rattle.std.proofs.Common.{◌≡◌, ◌≢◌, ℕ, zero, suc, ◌<◌, ◌≤◌, Some, None, unwrap_or, refl, ap, ◌∙◌, arith}
 use Rattle.vrl_value.specs.Look.{item_at}
 use Rattle.vrl_value.specs.Parts.{put_item, replace_item, without_item}
 use Rattle.vrl_value.specs.Tree.{Tree, null, Items, no_items, item}

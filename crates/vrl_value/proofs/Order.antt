@@ -1,11 +1,11 @@
 -- Trees stay in order where a part is put, replaced or taken out, and what is found in them is in order.
-use Rattle.std.proofs.Common.{◌≡◌, ℕ, zero, suc, List, [], ◌∷◌, Option, Some, None, IfSome, Ordering, Less, Equal, Greater, nat_cmp, refl, sym, ap, ◌∙◌}
+use Rattle.std.proofs.Common.{◌≡◌, ℕ, zero, suc, List, Option, Some, IfSome, Ordering, Less, Equal, Greater, nat_cmp, refl, ap, ◌∙◌}
 use Rattle.std.proofs.lemmas.Cmp.{nat_list_cmp_total}
 use Rattle.std.specs.Cmp.Lexicographic.{slice_cmp}
 use Rattle.std.specs.Ordering.{match_ordering, ordering_reverse}
 use Rattle.vrl_value.specs.Look.{Step, field, place, item_at, part_at, raw_at, IfThere}
 use Rattle.vrl_value.specs.Parts.{put_item, replace, replace_item, without, without_item}
-use Rattle.vrl_value.specs.Tree.{Tree, string, integer, boolean, null, timestamp, regex, array, object, Items, no_items, item, Members, no_members, member, find, put, IsBefore, IsOrdered, ItemsAreOrdered, MembersAreOrdered}
+use Rattle.vrl_value.specs.Tree.{Tree, array, object, Items, no_items, item, Members, no_members, member, find, put, IsBefore, IsOrdered, ItemsAreOrdered, MembersAreOrdered}
 use Rattle.vrl_value.proofs.Looks.{if_found, found_keeps}
 
 -- what is before a key is before what that key is before

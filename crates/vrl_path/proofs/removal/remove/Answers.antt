@@ -1,4 +1,4 @@
-use Rattle.std.proofs.Common.{sym, subst, ap, ◌∙◌}
+use Rattle.std.proofs.Common.{sym, subst}
 use Rattle.vrl_value.specs.Tree.{IsOrdered}
 use Rattle.vrl_value.specs.View.{tree_of}
 use Rattle.vrl_path.specs.Steps.{plain}

@@ -1,4 +1,3 @@
-use Rattle.std.proofs.Common.{ap}
 use Rattle.vrl_value.specs.View.{tree_of}
 use Rattle.vrl_path.specs.Steps.{plain}
 use Rattle.vrl_path.proofs.Options.{on_ok}

@@ -1,4 +1,4 @@
-use Rattle.std.proofs.Common.{◌≡◌, ◌≤◌, false, rules}
+use Rattle.std.proofs.Common.{◌≡◌, false, rules}
 use Rattle.vrl_value.specs.Depth.{depth_of}
 use Rattle.vrl_value.specs.View.{tree_of}
 use Rattle.vrl_path.specs.Steps.{plain}
