@@ -1,12 +1,11 @@
 -- One step of a change in place: what the container is with the part changed.
-use Rattle.std.proofs.Common.{◌≡◌, ℕ, zero, suc, ◌≤◌, List, Option, Some, None, option_map, sym, ap, ◌∙◌, refl, arith, Ordering, Less, Equal, Greater, nat_cmp}
+use Rattle.std.proofs.Common.{◌≡◌, ℕ, zero, suc, ◌≤◌, List, Some, None, ap, refl, arith, Ordering, Less, Equal, Greater, nat_cmp}
 use Rattle.std.specs.Cmp.Lexicographic.{slice_cmp}
 use Rattle.std.specs.Ordering.{match_ordering}
 use Rattle.vrl_value.specs.Look.{Step, item_at}
 use Rattle.vrl_value.specs.Parts.{count_of, replace, replace_item}
 use Rattle.vrl_value.specs.Tree.{Tree, Items, Members, no_items, item, no_members, member, find}
-use Rattle.vrl_path.specs.Remove.{removable_at}
-use Rattle.vrl_path.specs.Trees.{set_tree, set_in_fields, set_in_items, remove_tree, remove_in_fields, remove_in_items, removable_in, members_if, items_if}
+use Rattle.vrl_path.specs.Trees.{set_tree, set_in_fields, set_in_items, remove_tree, remove_in_fields, remove_in_items}
 
 -- a value set in the field that was found
 pub set_found_field : (k : List ℕ) (ms : Members) (p : List Step) (n t w : Tree) → Some t ≡ find k ms → w ≡ set_tree t p n → replace k w ms ≡ set_in_fields k ms p n

@@ -1,11 +1,11 @@
 -- How deep a tree is in which another was set.
-use Rattle.std.proofs.Common.{◌≡◌, ℕ, zero, suc, ◌+◌, ◌<◌, ◌≤◌, ◌↔◌, List, [], ◌∷◌, length, max, Option, Some, None, Ordering, Less, Equal, Greater, nat_cmp, refl, sym, ap, ◌∙◌, subst, arith}
+use Rattle.std.proofs.Common.{◌≡◌, ℕ, zero, suc, ◌+◌, ◌≤◌, List, [], ◌∷◌, length, max, Option, Some, None, Ordering, Less, Equal, Greater, nat_cmp, refl, ap, arith}
 use Rattle.std.specs.Cmp.Lexicographic.{slice_cmp}
 use Rattle.std.specs.Ordering.{match_ordering}
 use Rattle.vrl_value.specs.Depth.{depth_of, items_depth, members_depth}
-use Rattle.vrl_value.specs.Look.{Step, field, place, Found, there, missing, no_place, found_if, item_at, part_at}
-use Rattle.vrl_value.specs.Parts.{put_item, replace, without, without_item}
-use Rattle.vrl_value.specs.Tree.{Tree, string, integer, boolean, null, timestamp, regex, array, object, Items, no_items, item, Members, no_members, member, find, put}
+use Rattle.vrl_value.specs.Look.{Step, field, place, Found, there, found_if, item_at, part_at}
+use Rattle.vrl_value.specs.Parts.{put_item, replace}
+use Rattle.vrl_value.specs.Tree.{Tree, array, object, Items, no_items, item, Members, no_members, member, find, put}
 use Rattle.vrl_path.specs.Trees.{set_tree}
 use Rattle.vrl_path.specs.Write.{items_in, members_in}
 use Rattle.vrl_path.proofs.Placed.{tree_or_null, placed_member, member_if}

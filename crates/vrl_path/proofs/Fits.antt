@@ -1,6 +1,7 @@
 -- Whether a tree is within a limit of depth with another set in it: by what stands beside the path.
-use Rattle.std.proofs.Common.{◌≡◌, ◌≢◌, ℕ, ℤ, pos, negsuc, zero, suc, ◌+◌, ◌<◌, ◌≤◌, ◌↔◌, List, [], ◌∷◌, ◌++◌, length, max, get_or, Bool, true, false, Option, Some, None, String, Global, Ordering, Less, Equal, Greater, nat_cmp, string_cmp, string_bytes, bytes_eq, IsTrue, refl, sym, ap, ◌∙◌, subst, arith, ⊎_elim}
+use Rattle.std.proofs.Common.{◌≡◌, ◌≢◌, ℕ, ℤ, pos, negsuc, zero, suc, ◌+◌, ◌<◌, ◌≤◌, ◌↔◌, List, [], ◌∷◌, ◌++◌, length, max, get_or, Bool, true, false, Option, Some, None, String, Global, Ordering, Less, Equal, Greater, nat_cmp, string_cmp, string_bytes, bytes_eq, is_eq, IsTrue, refl, sym, ap, ◌∙◌, subst, arith, ⊎_elim}
 use Rattle.std.proofs.lemmas.Bool.{true≢false, cases_lt}
+use Rattle.std.proofs.lemmas.Map.Text.{is_eq-slice_cmp}
 use Rattle.std.proofs.lemmas.Slice.Eq.{bytes_eq-Decides}
 use Rattle.std.proofs.lemmas.Cmp.{nat_list_cmp_total, tied_itself}
 use Rattle.std.specs.Cmp.Lexicographic.{slice_cmp}
@@ -9,9 +10,10 @@ use Rattle.std.specs.List.Sorted.{IsStrictlySortedBy}
 use Rattle.std.specs.Map.{keys_of}
 use Rattle.std.specs.Ordering.{match_ordering}
 use Rattle.vrl_value.specs.Depth.{depth_of, items_depth, members_depth}
+use Rattle.vrl_value.specs.Laws.{MembersAreMaps}
 use Rattle.vrl_value.specs.Look.{Step, field, place, found_if, item_at}
 use Rattle.vrl_value.specs.Parts.{put_item, replace, replace_item, without}
-use Rattle.vrl_value.specs.Tree.{Tree, string, integer, boolean, null, timestamp, regex, array, object, Items, no_items, item, Members, no_members, member, find, put, IsBefore}
+use Rattle.vrl_value.specs.Tree.{Tree, null, array, object, Items, no_items, Members, no_members, member, find, put, IsBefore}
 use Rattle.vrl_value.specs.View.{items_view, members_view, tree_of}
 use Rattle.vrl_value.specs.declared.value.Value.{Value}
 use Rattle.vrl_path.specs.Steps.{plain, plain_step, IsWritableStep}
@@ -19,11 +21,8 @@ use Rattle.vrl_path.specs.declared.path.Step.{Step as CodeStep}
 use Rattle.vrl_path.specs.declared.path.Step.TheVariants.{Field, Place}
 use Rattle.vrl_path.specs.Trees.{chain, items_if_array, members_if_object, set_in_fields, set_in_items, set_tree, if_there, members_if, items_if}
 use Rattle.vrl_path.specs.Parts.{with_part, replace_part}
-use Rattle.vrl_path.proofs.Depths.{below_placed, below_put_item, put_item_within, put_within, set_shallow}
-use Rattle.vrl_path.proofs.Items.{replace_item-found}
-use Rattle.vrl_path.proofs.Members.{same_keys, without-none}
-use Rattle.vrl_path.proofs.OneResult.{find-before}
-use Rattle.vrl_path.proofs.Placed.{chain-null, member_if}
+use Rattle.vrl_path.proofs.Depths.{below_placed, put_item_within, put_within, set_shallow}
+use Rattle.vrl_path.proofs.Placed.{chain-null, member_if, replace_item-found}
 
 -- the keys of the members ascend
 abbrev pub KeysAscend : Members → Type 0
@@ -48,13 +47,21 @@ without_le : (k : List ℕ) (ms : Members) → members_depth (without k ms) ≤ 
 without_le k no_members = omega arith
 without_le k (member l u ms) = without_le_at (slice_cmp nat_cmp k l) l u ms (without k ms) (without_le k ms)
 
+-- two keys in order are the same
+same_keys : (k l : List ℕ) → slice_cmp nat_cmp k l ≡ Equal → k ≡ l
+same_keys k l equal = (bytes_eq-Decides k l).0 (sym (is_eq-slice_cmp k l) ∙ ap is_eq equal)
+
+-- at a key before all of the members there is nothing to take out
+without-before : (k : List ℕ) (ms : Members) → IsBefore k ms → without k ms ≡ ms
+without-before k no_members before = refl
+without-before k (member l u ms) before = rw before.0 (ap (member l u) (without-before k ms before.1))
+
 -- what was replaced is no deeper than the new part and the others
 replace_le_at : (o : Ordering) (k l : List ℕ) (t u : Tree) (ms : Members) → slice_cmp nat_cmp k l ≡ o → KeysAscend (member l u ms) → members_depth (replace k t ms) ≤ max (depth_of t) (members_depth (without k ms))
     → members_depth (match_ordering o (member l u (replace k t ms)) (member l t ms) (member l u (replace k t ms))) ≤ max (depth_of t) (members_depth (match_ordering o (member l u (without k ms)) (without k ms) (member l u (without k ms))))
 replace_le_at Less k l t u ms is ascend later = omega arith
 replace_le_at Equal k l t u ms is ascend later =
-    let none : find k ms ≡ None = subst (λ q. find q ms ≡ None) (sym (same_keys k l is)) (find-before l ms ascend.0) in
-    let e : members_depth (without k ms) ≡ members_depth ms = ap members_depth (without-none k ms none) in
+    let e : members_depth (without k ms) ≡ members_depth ms = ap members_depth (without-before k ms (subst (λ q. IsBefore q ms) (sym (same_keys k l is)) ascend.0)) in
     omega arith
 replace_le_at Greater k l t u ms is ascend later = omega arith
 
@@ -83,14 +90,14 @@ others_put : (k : List ℕ) (t : Tree) (ms : Members) → members_depth (without
 others_put k t no_members = omega arith
 others_put k t (member l u ms) = others_put_at (slice_cmp nat_cmp k l) k l t u ms (put k t ms) (without k ms) (others_put k t ms) (without_le k ms)
 
-fields_at : (o : Option Tree) (k : List ℕ) (t : Tree) (ms : Members) (limit : ℕ) → find k ms ≡ o → KeysAscend ms → depth_of t ≤ limit
+fields_at : (maps : MembersAreMaps) (o : Option Tree) (k : List ℕ) (t : Tree) (ms : Members) (limit : ℕ) → find k ms ≡ o → KeysAscend ms → depth_of t ≤ limit
     → (members_depth (without k ms) ≤ limit) ↔ (members_depth (member_if o k t ms) ≤ limit)
-fields_at None k t ms limit is ascend new =
-    let e : members_depth (without k ms) ≡ members_depth ms = ap members_depth (without-none k ms is) in
+fields_at maps None k t ms limit is ascend new =
+    let e : members_depth (without k ms) ≡ members_depth ms = ap members_depth (maps.without_none k ms is) in
     let within = put_within k t ms in
     let others = others_put k t ms in
     (λ h. omega arith, λ h. omega arith)
-fields_at (Some u) k t ms limit is ascend new =
+fields_at maps (Some u) k t ms limit is ascend new =
     let within = replace_le k t ms ascend in
     let others = others_replace k t ms in
     (λ h. omega arith, λ h. omega arith)
@@ -100,8 +107,8 @@ part_alone None k t ms = refl
 part_alone (Some u) k t ms = refl
 
 -- fields fit with a new part where the others do
-pub fields_within : (k : List ℕ) (t : Tree) (ms : Members) (limit : ℕ) → KeysAscend ms → depth_of t ≤ limit → (members_depth (without k ms) ≤ limit) ↔ (members_depth (set_in_fields k ms [] t) ≤ limit)
-fields_within k t ms limit ascend new = rw (part_alone (find k ms) k t ms) (fields_at (find k ms) k t ms limit refl ascend new)
+pub fields_within : (maps : MembersAreMaps) (k : List ℕ) (t : Tree) (ms : Members) (limit : ℕ) → KeysAscend ms → depth_of t ≤ limit → (members_depth (without k ms) ≤ limit) ↔ (members_depth (set_in_fields k ms [] t) ≤ limit)
+fields_within maps k t ms limit ascend new = rw (part_alone (find k ms) k t ms) (fields_at maps (find k ms) k t ms limit refl ascend new)
 
 -- a limit below the new part is a limit below the fields
 pub part_of_fields : (k : List ℕ) (t : Tree) (ms : Members) → depth_of t ≤ members_depth (set_in_fields k ms [] t)

@@ -1,8 +1,6 @@
 pub mod Changes
 pub mod Depths
 pub mod Fits
-pub mod Items
-pub mod Members
 pub mod OneResult
 pub mod Options
 pub mod Order

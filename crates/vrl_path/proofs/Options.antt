@@ -1,5 +1,5 @@
 -- Facts for one variant, carried on.
-use Rattle.std.proofs.Common.{◌≡◌, Option, Some, None, Result, Ok, Err, OnOk, OnErr, OnSome, subst}
+use Rattle.std.proofs.Common.{◌≡◌, Option, Some, Result, Ok, Err, OnOk, OnErr, OnSome, subst}
 
 pub on_ok : {T E : Type 0} (r : Result T E) (P Q : Type 0) → (P → Q) → OnOk r P → OnOk r Q
 on_ok (Ok x) P Q f p = f p

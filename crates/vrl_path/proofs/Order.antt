@@ -1,159 +1,66 @@
 -- Trees stay in order where a part is set or taken out.
-use Rattle.std.proofs.Common.{◌≡◌, ℕ, zero, suc, List, [], ◌∷◌, Option, Some, None, Ordering, Less, Equal, Greater, nat_cmp, refl, sym, ap, ◌∙◌, subst}
-use Rattle.std.proofs.lemmas.Cmp.{nat_list_cmp_total}
-use Rattle.std.specs.Cmp.Lexicographic.{slice_cmp}
-use Rattle.std.specs.Ordering.{match_ordering, ordering_reverse}
+use Rattle.std.proofs.Common.{ℕ, List, [], ◌∷◌, Option, Some, None, IfSome, sym, subst}
+use Rattle.vrl_value.specs.Laws.{TreesStayInOrder}
 use Rattle.vrl_value.specs.Look.{Step, field, place, Found, there, missing, no_place, found_if, item_at, part_at}
-use Rattle.vrl_value.specs.Parts.{put_item, replace, replace_item, without, without_item}
-use Rattle.vrl_value.specs.Tree.{Tree, string, integer, boolean, null, timestamp, regex, array, object, Items, no_items, item, Members, no_members, member, find, put, IsBefore, IsOrdered, ItemsAreOrdered, MembersAreOrdered}
+use Rattle.vrl_value.specs.Tree.{Tree, array, object, Members, find, IsOrdered, ItemsAreOrdered, MembersAreOrdered}
 use Rattle.vrl_path.specs.Parts.{replace_part, without_part}
 use Rattle.vrl_path.specs.Trees.{if_there, set_tree, remove_tree}
 use Rattle.vrl_path.specs.Write.{items_in, members_in}
-use Rattle.vrl_path.proofs.Placed.{tree_or_null, placed_member, member_if}
+use Rattle.vrl_path.proofs.Placed.{tree_or_null, member_if}
 use Rattle.vrl_path.proofs.Sets.{part_set, set_in_object, set_in_array}
 
--- what is before a key is before what that key is before
-pub before_all : (j k : List ℕ) (ms : Members) → slice_cmp nat_cmp j k ≡ Less → IsBefore k ms → IsBefore j ms
-before_all j k no_members less rest = tt
-before_all j k (member l u ms) less rest = (nat_list_cmp_total.trans j k l less rest.0, before_all j k ms less rest.1)
-
-put_before_at : (o : Ordering) (j k l : List ℕ) (t u : Tree) (ms : Members) → slice_cmp nat_cmp j k ≡ Less → IsBefore j (member l u ms) → IsBefore j (put k t ms)
-    → IsBefore j (match_ordering o (member k t (member l u ms)) (member l t ms) (member l u (put k t ms)))
-put_before_at Less j k l t u ms less rest later = (less, rest)
-put_before_at Equal j k l t u ms less rest later = rest
-put_before_at Greater j k l t u ms less rest later = (rest.0, later)
-
-put_before : (j k : List ℕ) (t : Tree) (ms : Members) → slice_cmp nat_cmp j k ≡ Less → IsBefore j ms → IsBefore j (put k t ms)
-put_before j k t no_members less rest = (less, tt)
-put_before j k t (member l u ms) less rest = put_before_at (slice_cmp nat_cmp k l) j k l t u ms less rest (put_before j k t ms less rest.1)
-
-put_ordered_at : (o : Ordering) (k l : List ℕ) (t u : Tree) (ms : Members) → slice_cmp nat_cmp k l ≡ o → IsOrdered t → MembersAreOrdered (member l u ms) → MembersAreOrdered (put k t ms)
-    → MembersAreOrdered (match_ordering o (member k t (member l u ms)) (member l t ms) (member l u (put k t ms)))
-put_ordered_at Less k l t u ms is new old later = ((is, before_all k l ms is old.0), new, old)
-put_ordered_at Equal k l t u ms is new old later = (old.0, new, old.2)
-put_ordered_at Greater k l t u ms is new old later =
-    (put_before l k t ms (nat_list_cmp_total.antisymm l k ∙ ap ordering_reverse is) old.0, old.1, later)
-
-put_ordered : (k : List ℕ) (t : Tree) (ms : Members) → IsOrdered t → MembersAreOrdered ms → MembersAreOrdered (put k t ms)
-put_ordered k t no_members new old = (tt, new, tt)
-put_ordered k t (member l u ms) new old = put_ordered_at (slice_cmp nat_cmp k l) k l t u ms refl new old (put_ordered k t ms new old.2)
-
-replace_before_at : (o : Ordering) (j l : List ℕ) (t u : Tree) (ms rest : Members) → IsBefore j (member l u ms) → IsBefore j rest
-    → IsBefore j (match_ordering o (member l u rest) (member l t ms) (member l u rest))
-replace_before_at Less j l t u ms rest old later = (old.0, later)
-replace_before_at Equal j l t u ms rest old later = old
-replace_before_at Greater j l t u ms rest old later = (old.0, later)
-
-replace_before : (j k : List ℕ) (t : Tree) (ms : Members) → IsBefore j ms → IsBefore j (replace k t ms)
-replace_before j k t no_members old = tt
-replace_before j k t (member l u ms) old = replace_before_at (slice_cmp nat_cmp k l) j l t u ms (replace k t ms) old (replace_before j k t ms old.1)
-
-replace_ordered_at : (o : Ordering) (l : List ℕ) (t u : Tree) (ms rest : Members) → IsOrdered t → MembersAreOrdered (member l u ms) → IsBefore l rest → MembersAreOrdered rest
-    → MembersAreOrdered (match_ordering o (member l u rest) (member l t ms) (member l u rest))
-replace_ordered_at Less l t u ms rest new old first later = (first, old.1, later)
-replace_ordered_at Equal l t u ms rest new old first later = (old.0, new, old.2)
-replace_ordered_at Greater l t u ms rest new old first later = (first, old.1, later)
-
-replace_ordered : (k : List ℕ) (t : Tree) (ms : Members) → IsOrdered t → MembersAreOrdered ms → MembersAreOrdered (replace k t ms)
-replace_ordered k t no_members new old = tt
-replace_ordered k t (member l u ms) new old = replace_ordered_at (slice_cmp nat_cmp k l) l t u ms (replace k t ms) new old (replace_before l k t ms old.0) (replace_ordered k t ms new old.2)
-
-without_before_at : (o : Ordering) (j l : List ℕ) (u : Tree) (rest : Members) → slice_cmp nat_cmp j l ≡ Less → IsBefore j rest → IsBefore j (match_ordering o (member l u rest) rest (member l u rest))
-without_before_at Less j l u rest first later = (first, later)
-without_before_at Equal j l u rest first later = later
-without_before_at Greater j l u rest first later = (first, later)
-
-without_before : (j k : List ℕ) (ms : Members) → IsBefore j ms → IsBefore j (without k ms)
-without_before j k no_members old = tt
-without_before j k (member l u ms) old = without_before_at (slice_cmp nat_cmp k l) j l u (without k ms) old.0 (without_before j k ms old.1)
-
-without_ordered_at : (o : Ordering) (l : List ℕ) (u : Tree) (rest : Members) → IsOrdered u → IsBefore l rest → MembersAreOrdered rest → MembersAreOrdered (match_ordering o (member l u rest) rest (member l u rest))
-without_ordered_at Less l u rest first before later = (before, first, later)
-without_ordered_at Equal l u rest first before later = later
-without_ordered_at Greater l u rest first before later = (before, first, later)
-
-without_ordered : (k : List ℕ) (ms : Members) → MembersAreOrdered ms → MembersAreOrdered (without k ms)
-without_ordered k no_members old = tt
-without_ordered k (member l u ms) old = without_ordered_at (slice_cmp nat_cmp k l) l u (without k ms) old.1 (without_before l k ms old.0) (without_ordered k ms old.2)
-
-put_item_ordered : (i : ℕ) (t : Tree) (ts : Items) → IsOrdered t → ItemsAreOrdered ts → ItemsAreOrdered (put_item i t ts)
-put_item_ordered zero t no_items new old = (new, tt)
-put_item_ordered zero t (item u ts) new old = (new, old.1)
-put_item_ordered (suc i) t no_items new old = (tt, put_item_ordered i t no_items new tt)
-put_item_ordered (suc i) t (item u ts) new old = (old.0, put_item_ordered i t ts new old.1)
-
-replace_item_ordered : (i : ℕ) (t : Tree) (ts : Items) → IsOrdered t → ItemsAreOrdered ts → ItemsAreOrdered (replace_item i t ts)
-replace_item_ordered i t no_items new old = tt
-replace_item_ordered zero t (item u ts) new old = (new, old.1)
-replace_item_ordered (suc i) t (item u ts) new old = (old.0, replace_item_ordered i t ts new old.1)
-
-without_item_ordered : (i : ℕ) (ts : Items) → ItemsAreOrdered ts → ItemsAreOrdered (without_item i ts)
-without_item_ordered i no_items old = tt
-without_item_ordered zero (item u ts) old = old.1
-without_item_ordered (suc i) (item u ts) old = (old.0, without_item_ordered i ts old.1)
-
 -- what was found in a tree in order is in order
-abbrev pub FoundInOrder : Found → Type 0
+abbrev FoundInOrder : Found → Type 0
 FoundInOrder f = IsOrdered (tree_or_null f)
 
-found_member_at : (o : Ordering) (u : Tree) (rest : Option Tree) → IsOrdered u → FoundInOrder (found_if rest) → FoundInOrder (found_if (match_ordering o rest (Some u) rest))
-found_member_at Less u rest first later = later
-found_member_at Equal u rest first later = first
-found_member_at Greater u rest first later = later
+found_if_ordered : (o : Option Tree) → IfSome o IsOrdered → FoundInOrder (found_if o)
+found_if_ordered None old = tt
+found_if_ordered (Some t) old = old
 
-found_member : (k : List ℕ) (ms : Members) → MembersAreOrdered ms → FoundInOrder (found_if (find k ms))
-found_member k no_members old = tt
-found_member k (member l u ms) old = found_member_at (slice_cmp nat_cmp k l) u (find k ms) old.1 (found_member k ms old.2)
+part_ordered : (stay : TreesStayInOrder) (v : Tree) (s : Step) → IsOrdered v → FoundInOrder (part_at v s)
+part_ordered stay (object ms) (field k) old = found_if_ordered (find k ms) (stay.ordered_find k ms old)
+part_ordered stay (array ts) (place i) old = found_if_ordered (item_at i ts) (stay.ordered_item i ts old)
+part_ordered stay v s old = tt
 
-found_item : (i : ℕ) (ts : Items) → ItemsAreOrdered ts → FoundInOrder (found_if (item_at i ts))
-found_item i no_items old = tt
-found_item zero (item u ts) old = old.0
-found_item (suc i) (item u ts) old = found_item i ts old.1
-
-pub part_ordered : (v : Tree) (s : Step) → IsOrdered v → FoundInOrder (part_at v s)
-part_ordered (object ms) (field k) old = found_member k ms old
-part_ordered (array ts) (place i) old = found_item i ts old
-part_ordered v s old = tt
-
-pub members_in_ordered : (v : Tree) → IsOrdered v → MembersAreOrdered (members_in (there v))
+members_in_ordered : (v : Tree) → IsOrdered v → MembersAreOrdered (members_in (there v))
 members_in_ordered (object ms) old = old
 members_in_ordered v old = tt
 
-pub items_in_ordered : (v : Tree) → IsOrdered v → ItemsAreOrdered (items_in (there v))
+items_in_ordered : (v : Tree) → IsOrdered v → ItemsAreOrdered (items_in (there v))
 items_in_ordered (array ts) old = old
 items_in_ordered v old = tt
 
-member_if_ordered : (o : Option Tree) (k : List ℕ) (t : Tree) (ms : Members) → IsOrdered t → MembersAreOrdered ms → MembersAreOrdered (member_if o k t ms)
-member_if_ordered None k t ms new old = put_ordered k t ms new old
-member_if_ordered (Some u) k t ms new old = replace_ordered k t ms new old
+member_if_ordered : (stay : TreesStayInOrder) (o : Option Tree) (k : List ℕ) (t : Tree) (ms : Members) → IsOrdered t → MembersAreOrdered ms → MembersAreOrdered (member_if o k t ms)
+member_if_ordered stay None k t ms new old = stay.ordered_put k t ms new old
+member_if_ordered stay (Some u) k t ms new old = stay.ordered_replace k t ms new old
 
 -- a tree in order set in another is in order
-pub set_ordered : (v : Tree) (p : List Step) (n : Tree) → IsOrdered v → IsOrdered n → IsOrdered (set_tree v p n)
-set_ordered v [] n old new = new
-set_ordered v (field k ∷ p) n old new =
+pub set_ordered : (stay : TreesStayInOrder) (v : Tree) (p : List Step) (n : Tree) → IsOrdered v → IsOrdered n → IsOrdered (set_tree v p n)
+set_ordered stay v [] n old new = new
+set_ordered stay v (field k ∷ p) n old new =
     subst IsOrdered (sym (set_in_object v k p n))
-    (member_if_ordered (find k (members_in (there v))) k (part_set v (field k) p n) (members_in (there v)) (set_ordered (tree_or_null (part_at v (field k))) p n (part_ordered v (field k) old) new) (members_in_ordered v old))
-set_ordered v (place i ∷ p) n old new =
+    (member_if_ordered stay (find k (members_in (there v))) k (part_set v (field k) p n) (members_in (there v)) (set_ordered stay (tree_or_null (part_at v (field k))) p n (part_ordered stay v (field k) old) new) (members_in_ordered v old))
+set_ordered stay v (place i ∷ p) n old new =
     subst IsOrdered (sym (set_in_array v i p n))
-    (put_item_ordered i (part_set v (place i) p n) (items_in (there v)) (set_ordered (tree_or_null (part_at v (place i))) p n (part_ordered v (place i) old) new) (items_in_ordered v old))
+    (stay.ordered_put_item i (part_set v (place i) p n) (items_in (there v)) (set_ordered stay (tree_or_null (part_at v (place i))) p n (part_ordered stay v (place i) old) new) (items_in_ordered v old))
 
-without_part_ordered : (s : Step) (v : Tree) → IsOrdered v → IsOrdered (without_part s v)
-without_part_ordered (field k) (object ms) old = without_ordered k ms old
-without_part_ordered (place i) (array ts) old = without_item_ordered i ts old
-without_part_ordered s v old = old
+without_part_ordered : (stay : TreesStayInOrder) (s : Step) (v : Tree) → IsOrdered v → IsOrdered (without_part s v)
+without_part_ordered stay (field k) (object ms) old = stay.ordered_without k ms old
+without_part_ordered stay (place i) (array ts) old = stay.ordered_without_item i ts old
+without_part_ordered stay s v old = old
 
-replace_part_ordered : (s : Step) (t v : Tree) → IsOrdered t → IsOrdered v → IsOrdered (replace_part s t v)
-replace_part_ordered (field k) t (object ms) new old = replace_ordered k t ms new old
-replace_part_ordered (place i) t (array ts) new old = replace_item_ordered i t ts new old
-replace_part_ordered s t v new old = old
+replace_part_ordered : (stay : TreesStayInOrder) (s : Step) (t v : Tree) → IsOrdered t → IsOrdered v → IsOrdered (replace_part s t v)
+replace_part_ordered stay (field k) t (object ms) new old = stay.ordered_replace k t ms new old
+replace_part_ordered stay (place i) t (array ts) new old = stay.ordered_replace_item i t ts new old
+replace_part_ordered stay s t v new old = old
 
-removed_at : (f : Found) (s : Step) (v : Tree) (each : Tree → Tree) → FoundInOrder f → IsOrdered v → ((u : Tree) → IsOrdered u → IsOrdered (each u)) → IsOrdered (if_there f (λ u. replace_part s (each u) v) v)
-removed_at (there u) s v each part old later = replace_part_ordered s (each u) v (later u part) old
-removed_at missing s v each part old later = old
-removed_at no_place s v each part old later = old
+removed_at : (stay : TreesStayInOrder) (f : Found) (s : Step) (v : Tree) (each : Tree → Tree) → FoundInOrder f → IsOrdered v → ((u : Tree) → IsOrdered u → IsOrdered (each u)) → IsOrdered (if_there f (λ u. replace_part s (each u) v) v)
+removed_at stay (there u) s v each part old later = replace_part_ordered stay s (each u) v (later u part) old
+removed_at stay missing s v each part old later = old
+removed_at stay no_place s v each part old later = old
 
 -- so is one of which a part was taken out
-pub removed_ordered : (v : Tree) (p : List Step) → IsOrdered v → IsOrdered (remove_tree v p)
-removed_ordered v [] old = old
-removed_ordered v (s ∷ []) old = without_part_ordered s v old
-removed_ordered v (s ∷ r ∷ p) old = removed_at (part_at v s) s v (λ u. remove_tree u (r ∷ p)) (part_ordered v s old) old (λ u part. removed_ordered u (r ∷ p) part)
+pub removed_ordered : (stay : TreesStayInOrder) (v : Tree) (p : List Step) → IsOrdered v → IsOrdered (remove_tree v p)
+removed_ordered stay v [] old = old
+removed_ordered stay v (s ∷ []) old = without_part_ordered stay s v old
+removed_ordered stay v (s ∷ r ∷ p) old = removed_at stay (part_at v s) s v (λ u. remove_tree u (r ∷ p)) (part_ordered stay v s old) old (λ u part. removed_ordered stay u (r ∷ p) part)

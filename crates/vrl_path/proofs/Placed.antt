@@ -1,14 +1,12 @@
 -- One step of a set: the container with its new part.
-use Rattle.std.proofs.Common.{◌≡◌, ◌≢◌, ℕ, ◌<◌, List, [], ◌∷◌, Option, Some, None, unwrap_or, refl, sym, ap, ◌∙◌}
+use Rattle.std.proofs.Common.{◌≡◌, ◌≢◌, ℕ, zero, suc, List, [], ◌∷◌, Option, Some, None, refl, ap}
 use Rattle.vrl_value.specs.Laws.{MembersAreMaps}
 use Rattle.vrl_value.specs.Look.{Step, field, place, Found, there, missing, no_place, found_if, item_at, part_at}
 use Rattle.vrl_value.specs.Parts.{put_item, replace, replace_item}
-use Rattle.vrl_value.specs.Tree.{Tree, string, integer, boolean, null, timestamp, regex, array, object, Items, no_items, Members, no_members, find, put}
+use Rattle.vrl_value.specs.Tree.{Tree, null, array, object, Items, no_items, item, Members, find, put}
 use Rattle.vrl_path.specs.Parts.{with_part, replace_part}
 use Rattle.vrl_path.specs.Trees.{chain, if_there, set_tree}
-use Rattle.vrl_path.specs.Write.{items_in, members_in, or_null}
-use Rattle.vrl_path.proofs.Items.{replace_item-found}
-use Rattle.vrl_path.proofs.Members.{find-replace, find-replace_other}
+use Rattle.vrl_path.specs.Write.{items_in, members_in}
 
 -- what was found, or null
 abbrev pub tree_or_null : Found → Tree
@@ -53,6 +51,12 @@ pub placed-field : (v : Tree) (k : List ℕ) (t : Tree) → placed (part_at v (f
 placed-field (object ms) k t = object_at (find k ms) k t ms
 placed-field v k t = refl
 
+-- to replace what is there is to put
+pub replace_item-found : (i : ℕ) (t w : Tree) (ts : Items) → item_at i ts ≡ Some w → replace_item i t ts ≡ put_item i t ts
+replace_item-found i t w no_items found = absurd cc
+replace_item-found zero t w (item u ts) found = refl
+replace_item-found (suc i) t w (item u ts) found = ap (item u) (replace_item-found i t w ts found)
+
 array_at : (o : Option Tree) (i : ℕ) (t : Tree) (ts : Items) → item_at i ts ≡ o → placed (found_if o) (place i) t (array ts) ≡ array (put_item i t ts)
 array_at None i t ts found = refl
 array_at (Some u) i t ts found = ap array (replace_item-found i t u ts found)
@@ -63,14 +67,14 @@ placed-place v i t = refl
 
 find_at : (maps : MembersAreMaps) (o : Option Tree) (k : List ℕ) (t : Tree) (ms : Members) → find k ms ≡ o → find k (member_if o k t ms) ≡ Some t
 find_at maps None k t ms found = maps.find_put k t ms
-find_at maps (Some u) k t ms found = find-replace k t u ms found
+find_at maps (Some u) k t ms found = maps.find_replace k t u ms found
 
 pub find-placed : (maps : MembersAreMaps) (k : List ℕ) (t : Tree) (ms : Members) → find k (placed_member k t ms) ≡ Some t
 find-placed maps k t ms = find_at maps (find k ms) k t ms refl
 
 find_other_at : (maps : MembersAreMaps) (o : Option Tree) (l k : List ℕ) (t : Tree) (ms : Members) → l ≢ k → find l (member_if o k t ms) ≡ find l ms
 find_other_at maps None l k t ms other = maps.find_put_other l k t ms other
-find_other_at maps (Some u) l k t ms other = find-replace_other l k t ms other
+find_other_at maps (Some u) l k t ms other = maps.find_replace_other l k t ms other
 
 pub find-placed_other : (maps : MembersAreMaps) (l k : List ℕ) (t : Tree) (ms : Members) → l ≢ k → find l (placed_member k t ms) ≡ find l ms
 find-placed_other maps l k t ms other = find_other_at maps (find k ms) l k t ms other

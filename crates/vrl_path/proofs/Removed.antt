@@ -1,16 +1,14 @@
 -- What look-up finds in a tree from which a sub-tree was taken out.
 use Rattle.std.proofs.Common.{◌≡◌, ◌≢◌, ℕ, suc, ◌<◌, ◌≤◌, List, [], ◌∷◌, ◌++◌, Option, Some, None, refl, sym, ap, ◌∙◌, subst}
-use Rattle.vrl_value.specs.Look.{Step, field, place, Found, there, missing, no_place, found_if, found_behind, item_at, part_at, raw_at}
-use Rattle.vrl_value.specs.Parts.{replace, replace_item, without, without_item}
-use Rattle.vrl_value.specs.Tree.{Tree, string, integer, boolean, null, timestamp, regex, array, object, Items, Members, find}
+use Rattle.vrl_value.specs.Laws.{ItemsAreLists, MembersAreMaps}
+use Rattle.vrl_value.specs.Look.{Step, field, place, Found, there, missing, no_place, found_if, item_at, part_at, raw_at}
+use Rattle.vrl_value.specs.Tree.{Tree, array, object, Items, Members, find}
 use Rattle.vrl_path.specs.Parts.{replace_part, without_part}
 use Rattle.vrl_path.specs.Read.{tree_found}
 use Rattle.vrl_path.specs.Remove.{removable_at, IsRemoved}
 use Rattle.vrl_path.specs.Trees.{if_there, remove_tree}
-use Rattle.vrl_path.specs.Write.{items_in, members_in, Holds}
+use Rattle.vrl_path.specs.Write.{Holds}
 use Rattle.vrl_path.proofs.Changes.{same_item, same_member}
-use Rattle.vrl_path.proofs.Items.{item_at-replace, item_at-replace_other, item_at-without_before, item_at-without_behind, without_item-none}
-use Rattle.vrl_path.proofs.Members.{find-replace, find-replace_other, find-without, find-without_other, without-none}
 use Rattle.vrl_path.proofs.Sets.{behind}
 
 if_found : (o : Option Tree) (u : Tree) → found_if o ≡ there u → o ≡ Some u
@@ -27,17 +25,17 @@ in_array : (i : ℕ) (u : Tree) (P : Tree → Type 0) → ((ts : Items) → item
 in_array i u P each (array ts) is = each ts (if_found (item_at i ts) u is)
 in_array i u P each v is = absurd cc
 
-part_at-replace : (s : Step) (v u t : Tree) → part_at v s ≡ there u → part_at (replace_part s t v) s ≡ there t
-part_at-replace (field k) v u t is = in_object k u (λ x. part_at (replace_part (field k) t x) (field k) ≡ there t) (λ ms found. ap found_if (find-replace k t u ms found)) v is
-part_at-replace (place i) v u t is = in_array i u (λ x. part_at (replace_part (place i) t x) (place i) ≡ there t) (λ ts found. ap found_if (item_at-replace i t u ts found)) v is
+part_at-replace : (maps : MembersAreMaps) (lists : ItemsAreLists) (s : Step) (v u t : Tree) → part_at v s ≡ there u → part_at (replace_part s t v) s ≡ there t
+part_at-replace maps lists (field k) v u t is = in_object k u (λ x. part_at (replace_part (field k) t x) (field k) ≡ there t) (λ ms found. ap found_if (maps.find_replace k t u ms found)) v is
+part_at-replace maps lists (place i) v u t is = in_array i u (λ x. part_at (replace_part (place i) t x) (place i) ≡ there t) (λ ts found. ap found_if (lists.item_replace i t u ts found)) v is
 
-part_at-replace_other : (s q : Step) (v u t : Tree) → part_at v s ≡ there u → q ≢ s → part_at (replace_part s t v) q ≡ part_at v q
-part_at-replace_other (field k) (field l) v u t is other =
-    in_object k u (λ x. part_at (replace_part (field k) t x) (field l) ≡ part_at x (field l)) (λ ms found. ap found_if (find-replace_other l k t ms (λ e. other (ap field e)))) v is
-part_at-replace_other (field k) (place j) v u t is other = in_object k u (λ x. part_at (replace_part (field k) t x) (place j) ≡ part_at x (place j)) (λ ms found. refl) v is
-part_at-replace_other (place i) (place j) v u t is other =
-    in_array i u (λ x. part_at (replace_part (place i) t x) (place j) ≡ part_at x (place j)) (λ ts found. ap found_if (item_at-replace_other i j t ts (λ e. other (ap place e)))) v is
-part_at-replace_other (place i) (field l) v u t is other = in_array i u (λ x. part_at (replace_part (place i) t x) (field l) ≡ part_at x (field l)) (λ ts found. refl) v is
+part_at-replace_other : (maps : MembersAreMaps) (lists : ItemsAreLists) (s q : Step) (v u t : Tree) → part_at v s ≡ there u → q ≢ s → part_at (replace_part s t v) q ≡ part_at v q
+part_at-replace_other maps lists (field k) (field l) v u t is other =
+    in_object k u (λ x. part_at (replace_part (field k) t x) (field l) ≡ part_at x (field l)) (λ ms found. ap found_if (maps.find_replace_other l k t ms (λ e. other (ap field e)))) v is
+part_at-replace_other maps lists (field k) (place j) v u t is other = in_object k u (λ x. part_at (replace_part (field k) t x) (place j) ≡ part_at x (place j)) (λ ms found. refl) v is
+part_at-replace_other maps lists (place i) (place j) v u t is other =
+    in_array i u (λ x. part_at (replace_part (place i) t x) (place j) ≡ part_at x (place j)) (λ ts found. ap found_if (lists.item_replace_other i j t ts (λ e. other (ap place e)))) v is
+part_at-replace_other maps lists (place i) (field l) v u t is other = in_array i u (λ x. part_at (replace_part (place i) t x) (field l) ≡ part_at x (field l)) (λ ts found. refl) v is
 
 holds_replace : (s : Step) (v u t : Tree) → part_at v s ≡ there u → Holds s (there (replace_part s t v))
 holds_replace (field k) v u t is = in_object k u (λ x. Holds (field k) (there (replace_part (field k) t x))) (λ ms found. refl) v is
@@ -47,19 +45,19 @@ holds_without : (s : Step) (v u : Tree) → part_at v s ≡ there u → Holds s 
 holds_without (field k) v u is = in_object k u (λ x. Holds (field k) (there (without_part (field k) x))) (λ ms found. refl) v is
 holds_without (place i) v u is = in_array i u (λ x. Holds (place i) (there (without_part (place i) x))) (λ ts found. refl) v is
 
-field_gone_at : (k : List ℕ) (v u : Tree) → part_at v (field k) ≡ there u → part_at (without_part (field k) v) (field k) ≡ missing
-field_gone_at k v u is = in_object k u (λ x. part_at (without_part (field k) x) (field k) ≡ missing) (λ ms found. ap found_if (find-without k ms)) v is
+field_gone_at : (maps : MembersAreMaps) (lists : ItemsAreLists) (k : List ℕ) (v u : Tree) → part_at v (field k) ≡ there u → part_at (without_part (field k) v) (field k) ≡ missing
+field_gone_at maps lists k v u is = in_object k u (λ x. part_at (without_part (field k) x) (field k) ≡ missing) (λ ms found. ap found_if (maps.find_without k ms)) v is
 
-beside_field_at : (k : List ℕ) (q : Step) (v u : Tree) → part_at v (field k) ≡ there u → q ≢ field k → part_at (without_part (field k) v) q ≡ part_at v q
-beside_field_at k (field l) v u is other =
-    in_object k u (λ x. part_at (without_part (field k) x) (field l) ≡ part_at x (field l)) (λ ms found. ap found_if (find-without_other l k ms (λ e. other (ap field e)))) v is
-beside_field_at k (place j) v u is other = in_object k u (λ x. part_at (without_part (field k) x) (place j) ≡ part_at x (place j)) (λ ms found. refl) v is
+beside_field_at : (maps : MembersAreMaps) (lists : ItemsAreLists) (k : List ℕ) (q : Step) (v u : Tree) → part_at v (field k) ≡ there u → q ≢ field k → part_at (without_part (field k) v) q ≡ part_at v q
+beside_field_at maps lists k (field l) v u is other =
+    in_object k u (λ x. part_at (without_part (field k) x) (field l) ≡ part_at x (field l)) (λ ms found. ap found_if (maps.find_without_other l k ms (λ e. other (ap field e)))) v is
+beside_field_at maps lists k (place j) v u is other = in_object k u (λ x. part_at (without_part (field k) x) (place j) ≡ part_at x (place j)) (λ ms found. refl) v is
 
-before_place_at : (i j : ℕ) (v u : Tree) → part_at v (place i) ≡ there u → j < i → part_at (without_part (place i) v) (place j) ≡ part_at v (place j)
-before_place_at i j v u is lower = in_array i u (λ x. part_at (without_part (place i) x) (place j) ≡ part_at x (place j)) (λ ts found. ap found_if (item_at-without_before i j ts lower)) v is
+before_place_at : (maps : MembersAreMaps) (lists : ItemsAreLists) (i j : ℕ) (v u : Tree) → part_at v (place i) ≡ there u → j < i → part_at (without_part (place i) v) (place j) ≡ part_at v (place j)
+before_place_at maps lists i j v u is lower = in_array i u (λ x. part_at (without_part (place i) x) (place j) ≡ part_at x (place j)) (λ ts found. ap found_if (lists.item_without_before i j ts lower)) v is
 
-behind_place_at : (i j : ℕ) (v u : Tree) → part_at v (place i) ≡ there u → i ≤ j → part_at (without_part (place i) v) (place j) ≡ part_at v (place (suc j))
-behind_place_at i j v u is higher = in_array i u (λ x. part_at (without_part (place i) x) (place j) ≡ part_at x (place (suc j))) (λ ts found. ap found_if (item_at-without_behind i j ts higher)) v is
+behind_place_at : (maps : MembersAreMaps) (lists : ItemsAreLists) (i j : ℕ) (v u : Tree) → part_at v (place i) ≡ there u → i ≤ j → part_at (without_part (place i) v) (place j) ≡ part_at v (place (suc j))
+behind_place_at maps lists i j v u is higher = in_array i u (λ x. part_at (without_part (place i) x) (place j) ≡ part_at x (place (suc j))) (λ ts found. ap found_if (lists.item_without_behind i j ts higher)) v is
 
 field_at_place_at : (i : ℕ) (l : List ℕ) (v u : Tree) → part_at v (place i) ≡ there u → part_at (without_part (place i) v) (field l) ≡ part_at v (field l)
 field_at_place_at i l v u is = in_array i u (λ x. part_at (without_part (place i) x) (field l) ≡ part_at x (field l)) (λ ts found. refl) v is
@@ -88,64 +86,64 @@ last_at no_place x found = absurd cc
 last : (v : Tree) (s : Step) (x : Tree) → raw_at v (s ∷ []) ≡ there x → part_at v s ≡ there x
 last v s x found = last_at (part_at v s) x found
 
-module _ (v : Tree) (c : Step) (p : List Step) (x : Tree) (o : Opened v c p x) where
+module _ (maps : MembersAreMaps) (lists : ItemsAreLists) (v : Tree) (c : Step) (p : List Step) (x : Tree) (o : Opened v c p x) where
   -- behind the first step look-up goes on in the part, before and after
   after : (q : List Step) → raw_at (remove_tree v (c ∷ p)) (c ∷ q) ≡ raw_at (remove_tree o.part p) q
-  after q = ap (λ w. raw_at w (c ∷ q)) o.removed ∙ ap (behind q) (part_at-replace c v o.part (remove_tree o.part p) o.is)
+  after q = ap (λ w. raw_at w (c ∷ q)) o.removed ∙ ap (behind q) (part_at-replace maps lists c v o.part (remove_tree o.part p) o.is)
 
   before : (q : List Step) → raw_at o.part q ≡ raw_at v (c ∷ q)
   before q = sym (ap (behind q) o.is)
 
-removed_above : (a : List Step) (v : Tree) (s : Step) (r : List Step) (x : Tree) → raw_at v (a ++ s ∷ r) ≡ there x → Holds s (raw_at (remove_tree v (a ++ s ∷ r)) a)
-removed_above [] v s [] x found = holds_without s v x (last v s x found)
-removed_above [] v s (b ∷ r) x found =
+removed_above : (maps : MembersAreMaps) (lists : ItemsAreLists) (a : List Step) (v : Tree) (s : Step) (r : List Step) (x : Tree) → raw_at v (a ++ s ∷ r) ≡ there x → Holds s (raw_at (remove_tree v (a ++ s ∷ r)) a)
+removed_above maps lists [] v s [] x found = holds_without s v x (last v s x found)
+removed_above maps lists [] v s (b ∷ r) x found =
     let o = opened v s [] b r x found in
     subst (λ w. Holds s (there w)) (sym o.removed) (holds_replace s v o.part (remove_tree o.part (b ∷ r)) o.is)
-removed_above (c ∷ a) v s r x found =
+removed_above maps lists (c ∷ a) v s r x found =
     let o = opened v c a s r x found in
-    subst (Holds s) (sym (after v c (a ++ s ∷ r) x o a)) (removed_above a o.part s r x o.found)
+    subst (Holds s) (sym (after maps lists v c (a ++ s ∷ r) x o a)) (removed_above maps lists a o.part s r x o.found)
 
-removed_beside : (a : List Step) (v : Tree) (s t u : Step) (r b : List Step) (x : Tree) → raw_at v (a ++ s ∷ u ∷ r) ≡ there x → t ≢ s → raw_at (remove_tree v (a ++ s ∷ u ∷ r)) (a ++ t ∷ b) ≡ raw_at v (a ++ t ∷ b)
-removed_beside [] v s t u r b x found other =
+removed_beside : (maps : MembersAreMaps) (lists : ItemsAreLists) (a : List Step) (v : Tree) (s t u : Step) (r b : List Step) (x : Tree) → raw_at v (a ++ s ∷ u ∷ r) ≡ there x → t ≢ s → raw_at (remove_tree v (a ++ s ∷ u ∷ r)) (a ++ t ∷ b) ≡ raw_at v (a ++ t ∷ b)
+removed_beside maps lists [] v s t u r b x found other =
     let o = opened v s [] u r x found in
-    ap (λ w. raw_at w (t ∷ b)) o.removed ∙ ap (behind b) (part_at-replace_other s t v o.part (remove_tree o.part (u ∷ r)) o.is other)
-removed_beside (c ∷ a) v s t u r b x found other =
+    ap (λ w. raw_at w (t ∷ b)) o.removed ∙ ap (behind b) (part_at-replace_other maps lists s t v o.part (remove_tree o.part (u ∷ r)) o.is other)
+removed_beside maps lists (c ∷ a) v s t u r b x found other =
     let o = opened v c a s (u ∷ r) x found in
-    after v c (a ++ s ∷ u ∷ r) x o (a ++ t ∷ b) ∙ removed_beside a o.part s t u r b x o.found other ∙ before v c (a ++ s ∷ u ∷ r) x o (a ++ t ∷ b)
+    after maps lists v c (a ++ s ∷ u ∷ r) x o (a ++ t ∷ b) ∙ removed_beside maps lists a o.part s t u r b x o.found other ∙ before maps lists v c (a ++ s ∷ u ∷ r) x o (a ++ t ∷ b)
 
-removed_field_gone : (a : List Step) (v : Tree) (k : List ℕ) (b : List Step) (x : Tree) → raw_at v (a ++ field k ∷ []) ≡ there x → raw_at (remove_tree v (a ++ field k ∷ [])) (a ++ field k ∷ b) ≡ behind b missing
-removed_field_gone [] v k b x found = ap (behind b) (field_gone_at k v x (last v (field k) x found))
-removed_field_gone (c ∷ a) v k b x found =
+removed_field_gone : (maps : MembersAreMaps) (lists : ItemsAreLists) (a : List Step) (v : Tree) (k : List ℕ) (b : List Step) (x : Tree) → raw_at v (a ++ field k ∷ []) ≡ there x → raw_at (remove_tree v (a ++ field k ∷ [])) (a ++ field k ∷ b) ≡ behind b missing
+removed_field_gone maps lists [] v k b x found = ap (behind b) (field_gone_at maps lists k v x (last v (field k) x found))
+removed_field_gone maps lists (c ∷ a) v k b x found =
     let o = opened v c a (field k) [] x found in
-    after v c (a ++ field k ∷ []) x o (a ++ field k ∷ b) ∙ removed_field_gone a o.part k b x o.found
+    after maps lists v c (a ++ field k ∷ []) x o (a ++ field k ∷ b) ∙ removed_field_gone maps lists a o.part k b x o.found
 
-removed_beside_field : (a : List Step) (v : Tree) (k : List ℕ) (t : Step) (b : List Step) (x : Tree) → raw_at v (a ++ field k ∷ []) ≡ there x → t ≢ field k
+removed_beside_field : (maps : MembersAreMaps) (lists : ItemsAreLists) (a : List Step) (v : Tree) (k : List ℕ) (t : Step) (b : List Step) (x : Tree) → raw_at v (a ++ field k ∷ []) ≡ there x → t ≢ field k
     → raw_at (remove_tree v (a ++ field k ∷ [])) (a ++ t ∷ b) ≡ raw_at v (a ++ t ∷ b)
-removed_beside_field [] v k t b x found other = ap (behind b) (beside_field_at k t v x (last v (field k) x found) other)
-removed_beside_field (c ∷ a) v k t b x found other =
+removed_beside_field maps lists [] v k t b x found other = ap (behind b) (beside_field_at maps lists k t v x (last v (field k) x found) other)
+removed_beside_field maps lists (c ∷ a) v k t b x found other =
     let o = opened v c a (field k) [] x found in
-    after v c (a ++ field k ∷ []) x o (a ++ t ∷ b) ∙ removed_beside_field a o.part k t b x o.found other ∙ before v c (a ++ field k ∷ []) x o (a ++ t ∷ b)
+    after maps lists v c (a ++ field k ∷ []) x o (a ++ t ∷ b) ∙ removed_beside_field maps lists a o.part k t b x o.found other ∙ before maps lists v c (a ++ field k ∷ []) x o (a ++ t ∷ b)
 
-removed_before_place : (a : List Step) (v : Tree) (i j : ℕ) (b : List Step) (x : Tree) → raw_at v (a ++ place i ∷ []) ≡ there x → j < i
+removed_before_place : (maps : MembersAreMaps) (lists : ItemsAreLists) (a : List Step) (v : Tree) (i j : ℕ) (b : List Step) (x : Tree) → raw_at v (a ++ place i ∷ []) ≡ there x → j < i
     → raw_at (remove_tree v (a ++ place i ∷ [])) (a ++ place j ∷ b) ≡ raw_at v (a ++ place j ∷ b)
-removed_before_place [] v i j b x found lower = ap (behind b) (before_place_at i j v x (last v (place i) x found) lower)
-removed_before_place (c ∷ a) v i j b x found lower =
+removed_before_place maps lists [] v i j b x found lower = ap (behind b) (before_place_at maps lists i j v x (last v (place i) x found) lower)
+removed_before_place maps lists (c ∷ a) v i j b x found lower =
     let o = opened v c a (place i) [] x found in
-    after v c (a ++ place i ∷ []) x o (a ++ place j ∷ b) ∙ removed_before_place a o.part i j b x o.found lower ∙ before v c (a ++ place i ∷ []) x o (a ++ place j ∷ b)
+    after maps lists v c (a ++ place i ∷ []) x o (a ++ place j ∷ b) ∙ removed_before_place maps lists a o.part i j b x o.found lower ∙ before maps lists v c (a ++ place i ∷ []) x o (a ++ place j ∷ b)
 
-removed_behind_place : (a : List Step) (v : Tree) (i j : ℕ) (b : List Step) (x : Tree) → raw_at v (a ++ place i ∷ []) ≡ there x → i ≤ j
+removed_behind_place : (maps : MembersAreMaps) (lists : ItemsAreLists) (a : List Step) (v : Tree) (i j : ℕ) (b : List Step) (x : Tree) → raw_at v (a ++ place i ∷ []) ≡ there x → i ≤ j
     → raw_at (remove_tree v (a ++ place i ∷ [])) (a ++ place j ∷ b) ≡ raw_at v (a ++ place (suc j) ∷ b)
-removed_behind_place [] v i j b x found higher = ap (behind b) (behind_place_at i j v x (last v (place i) x found) higher)
-removed_behind_place (c ∷ a) v i j b x found higher =
+removed_behind_place maps lists [] v i j b x found higher = ap (behind b) (behind_place_at maps lists i j v x (last v (place i) x found) higher)
+removed_behind_place maps lists (c ∷ a) v i j b x found higher =
     let o = opened v c a (place i) [] x found in
-    after v c (a ++ place i ∷ []) x o (a ++ place j ∷ b) ∙ removed_behind_place a o.part i j b x o.found higher ∙ before v c (a ++ place i ∷ []) x o (a ++ place (suc j) ∷ b)
+    after maps lists v c (a ++ place i ∷ []) x o (a ++ place j ∷ b) ∙ removed_behind_place maps lists a o.part i j b x o.found higher ∙ before maps lists v c (a ++ place i ∷ []) x o (a ++ place (suc j) ∷ b)
 
-removed_field_at_place : (a : List Step) (v : Tree) (i : ℕ) (l : List ℕ) (b : List Step) (x : Tree) → raw_at v (a ++ place i ∷ []) ≡ there x
+removed_field_at_place : (maps : MembersAreMaps) (lists : ItemsAreLists) (a : List Step) (v : Tree) (i : ℕ) (l : List ℕ) (b : List Step) (x : Tree) → raw_at v (a ++ place i ∷ []) ≡ there x
     → raw_at (remove_tree v (a ++ place i ∷ [])) (a ++ field l ∷ b) ≡ raw_at v (a ++ field l ∷ b)
-removed_field_at_place [] v i l b x found = ap (behind b) (field_at_place_at i l v x (last v (place i) x found))
-removed_field_at_place (c ∷ a) v i l b x found =
+removed_field_at_place maps lists [] v i l b x found = ap (behind b) (field_at_place_at i l v x (last v (place i) x found))
+removed_field_at_place maps lists (c ∷ a) v i l b x found =
     let o = opened v c a (place i) [] x found in
-    after v c (a ++ place i ∷ []) x o (a ++ field l ∷ b) ∙ removed_field_at_place a o.part i l b x o.found ∙ before v c (a ++ place i ∷ []) x o (a ++ field l ∷ b)
+    after maps lists v c (a ++ place i ∷ []) x o (a ++ field l ∷ b) ∙ removed_field_at_place maps lists a o.part i l b x o.found ∙ before maps lists v c (a ++ place i ∷ []) x o (a ++ field l ∷ b)
 
 found_there : (f : Found) (x : Tree) → tree_found f ≡ Some x → f ≡ there x
 found_there (there u) x is = cc
@@ -157,19 +155,19 @@ stands v [] x is = absurd cc
 stands v (s ∷ p) x is = found_there (raw_at v (s ∷ p)) x is
 
 -- the walk removes
-pub is_removed : (v : Tree) (p : List Step) (x : Tree) → removable_at v p ≡ Some x → IsRemoved v p (remove_tree v p)
-is_removed v p x is =
+pub is_removed : (maps : MembersAreMaps) (lists : ItemsAreLists) (v : Tree) (p : List Step) (x : Tree) → removable_at v p ≡ Some x → IsRemoved v p (remove_tree v p)
+is_removed maps lists v p x is =
     let found = stands v p x is in
     let at_path = λ (q : List Step) (e : p ≡ q). ap (raw_at v) (sym e) ∙ found in
     let moved = λ (q b : List Step) (e : p ≡ q). ap (λ q. raw_at (remove_tree v q) b) e in
     record {
-      above = λ a s r e. subst (λ q. Holds s (raw_at (remove_tree v q) a)) (sym e) (removed_above a v s r x (at_path (a ++ s ∷ r) e));
-      beside = λ a s t u r b e other. moved (a ++ s ∷ u ∷ r) (a ++ t ∷ b) e ∙ removed_beside a v s t u r b x (at_path (a ++ s ∷ u ∷ r) e) other;
-      field_gone = λ a k b e. moved (a ++ field k ∷ []) (a ++ field k ∷ b) e ∙ removed_field_gone a v k b x (at_path (a ++ field k ∷ []) e);
-      beside_field = λ a k t b e other. moved (a ++ field k ∷ []) (a ++ t ∷ b) e ∙ removed_beside_field a v k t b x (at_path (a ++ field k ∷ []) e) other;
-      before_place = λ a i j b e lower. moved (a ++ place i ∷ []) (a ++ place j ∷ b) e ∙ removed_before_place a v i j b x (at_path (a ++ place i ∷ []) e) lower;
-      behind_place = λ a i j b e higher. moved (a ++ place i ∷ []) (a ++ place j ∷ b) e ∙ removed_behind_place a v i j b x (at_path (a ++ place i ∷ []) e) higher;
-      field_at_place = λ a i l b e. moved (a ++ place i ∷ []) (a ++ field l ∷ b) e ∙ removed_field_at_place a v i l b x (at_path (a ++ place i ∷ []) e);
+      above = λ a s r e. subst (λ q. Holds s (raw_at (remove_tree v q) a)) (sym e) (removed_above maps lists a v s r x (at_path (a ++ s ∷ r) e));
+      beside = λ a s t u r b e other. moved (a ++ s ∷ u ∷ r) (a ++ t ∷ b) e ∙ removed_beside maps lists a v s t u r b x (at_path (a ++ s ∷ u ∷ r) e) other;
+      field_gone = λ a k b e. moved (a ++ field k ∷ []) (a ++ field k ∷ b) e ∙ removed_field_gone maps lists a v k b x (at_path (a ++ field k ∷ []) e);
+      beside_field = λ a k t b e other. moved (a ++ field k ∷ []) (a ++ t ∷ b) e ∙ removed_beside_field maps lists a v k t b x (at_path (a ++ field k ∷ []) e) other;
+      before_place = λ a i j b e lower. moved (a ++ place i ∷ []) (a ++ place j ∷ b) e ∙ removed_before_place maps lists a v i j b x (at_path (a ++ place i ∷ []) e) lower;
+      behind_place = λ a i j b e higher. moved (a ++ place i ∷ []) (a ++ place j ∷ b) e ∙ removed_behind_place maps lists a v i j b x (at_path (a ++ place i ∷ []) e) higher;
+      field_at_place = λ a i l b e. moved (a ++ place i ∷ []) (a ++ field l ∷ b) e ∙ removed_field_at_place maps lists a v i l b x (at_path (a ++ place i ∷ []) e);
     }
 
 replaced_same : (s : Step) (v u : Tree) → part_at v s ≡ there u → replace_part s u v ≡ v
@@ -180,11 +178,11 @@ none_of : (o : Option Tree) → tree_found (behind [] (found_if o)) ≡ None →
 none_of None none = refl
 none_of (Some t) none = absurd cc
 
-nothing_last : (v : Tree) (s : Step) → tree_found (raw_at v (s ∷ [])) ≡ None → without_part s v ≡ v
-nothing_last (object ms) (field k) none = ap object (without-none k ms (none_of (find k ms) none))
-nothing_last (array ts) (place i) none = ap array (without_item-none i ts (none_of (item_at i ts) none))
-nothing_last v (field k) none = refl
-nothing_last v (place i) none = refl
+nothing_last : (maps : MembersAreMaps) (lists : ItemsAreLists) (v : Tree) (s : Step) → tree_found (raw_at v (s ∷ [])) ≡ None → without_part s v ≡ v
+nothing_last maps lists (object ms) (field k) none = ap object (maps.without_none k ms (none_of (find k ms) none))
+nothing_last maps lists (array ts) (place i) none = ap array (lists.item_without_none i ts (none_of (item_at i ts) none))
+nothing_last maps lists v (field k) none = refl
+nothing_last maps lists v (place i) none = refl
 
 nothing_at : (f : Found) (v : Tree) (s r : Step) (p : List Step) → part_at v s ≡ f → tree_found (behind (r ∷ p) f) ≡ None → ((u : Tree) → removable_at u (r ∷ p) ≡ None → remove_tree u (r ∷ p) ≡ u)
     → if_there f (λ u. replace_part s (remove_tree u (r ∷ p)) v) v ≡ v
@@ -193,7 +191,7 @@ nothing_at missing v s r p is none later = refl
 nothing_at no_place v s r p is none later = refl
 
 -- where there is nothing to remove, the walk changes nothing
-pub nothing_removed : (v : Tree) (p : List Step) → removable_at v p ≡ None → remove_tree v p ≡ v
-nothing_removed v [] none = refl
-nothing_removed v (s ∷ []) none = nothing_last v s none
-nothing_removed v (s ∷ r ∷ p) none = nothing_at (part_at v s) v s r p refl none (λ u e. nothing_removed u (r ∷ p) e)
+pub nothing_removed : (maps : MembersAreMaps) (lists : ItemsAreLists) (v : Tree) (p : List Step) → removable_at v p ≡ None → remove_tree v p ≡ v
+nothing_removed maps lists v [] none = refl
+nothing_removed maps lists v (s ∷ []) none = nothing_last maps lists v s none
+nothing_removed maps lists v (s ∷ r ∷ p) none = nothing_at (part_at v s) v s r p refl none (λ u e. nothing_removed maps lists u (r ∷ p) e)

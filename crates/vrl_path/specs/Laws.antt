@@ -1,8 +1,9 @@
 -- Laws of reading, setting and removing at paths.
-use Rattle.std.specs.Prelude.{◌≡◌, List}
+use Rattle.std.specs.Prelude.{◌≡◌, ◌≢◌, List, []}
 use Rattle.vrl_value.specs.Look.{Step, raw_at}
 use Rattle.vrl_value.specs.Tree.{Tree, IsOrdered}
 use Rattle.vrl_path.specs.Read.{signed_raw_at}
+use Rattle.vrl_path.specs.Remove.{IsRemoved}
 use Rattle.vrl_path.specs.Steps.{plain, IsPlain}
 use Rattle.vrl_path.specs.Write.{IsAsDeep, IsSet}
 use Rattle.vrl_path.specs.declared.path.Step.{Step as CodeStep}
@@ -14,6 +15,10 @@ ReadsByLookUp = (t : Tree) (p : List CodeStep) → IsPlain p → signed_raw_at t
 -- among the trees in order a set has one result
 abbrev pub SetsAreOne : Type 0
 SetsAreOne = (v : Tree) (p : List Step) (n w u : Tree) → IsSet v p n w → IsSet v p n u → IsOrdered w → IsOrdered u → w ≡ u
+
+-- among the trees in order a removal at a path of one step at least has one result
+abbrev pub RemovalsAreOne : Type 0
+RemovalsAreOne = (v : Tree) (p : List Step) (w u : Tree) → p ≢ [] → IsRemoved v p w → IsRemoved v p u → IsOrdered w → IsOrdered u → w ≡ u
 
 -- how deep the result of a set is; so where v is within a limit, the result is over it exactly where the path and n are together
 abbrev pub SetsDeepen : Type 0

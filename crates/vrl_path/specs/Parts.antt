@@ -1,8 +1,7 @@
 -- One part of a tree: put into the container that its step fits, or taken out of it.
-use Rattle.std.specs.Prelude.{ℕ, List}
 use Rattle.vrl_value.specs.Look.{Step, field, place, there}
 use Rattle.vrl_value.specs.Parts.{put_item, replace, replace_item, without, without_item}
-use Rattle.vrl_value.specs.Tree.{Tree, string, integer, boolean, null, timestamp, regex, array, object, put}
+use Rattle.vrl_value.specs.Tree.{Tree, array, object, put}
 use Rattle.vrl_path.specs.Write.{members_in, items_in}
 
 -- the tree with t as its part at the step; where it is no container that the step fits, an empty one with t

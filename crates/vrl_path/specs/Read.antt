@@ -1,8 +1,8 @@
 -- What a read finds at a path with negative places, which count from the end of an array.
 use Rattle.std.specs.Prelude.{ℕ, ℤ, suc, ◌-◌, pos, negsuc, nat_lt, if◌then◌else◌, List, [], ◌∷◌, Option, Some, None}
-use Rattle.vrl_value.specs.Look.{Found, there, missing, no_place, item_at, found_if}
+use Rattle.vrl_value.specs.Look.{Found, there, missing, no_place, item_at, found_if, found_behind}
 use Rattle.vrl_value.specs.Parts.{count_of}
-use Rattle.vrl_value.specs.Tree.{Tree, string, integer, boolean, null, timestamp, regex, array, object, Items, find}
+use Rattle.vrl_value.specs.Tree.{Tree, array, object, Items, find}
 use Rattle.vrl_path.specs.declared.path.Step.{Step}
 use Rattle.vrl_path.specs.declared.path.Step.TheVariants.{Field, Place}
 
@@ -22,17 +22,10 @@ signed_part_at (object ms) (Field k) = found_if (find k ms)
 signed_part_at (array ts) (Place i) = item_if (place_of (count_of ts) i) ts
 signed_part_at t s = no_place
 
--- what the steps behind find in what the first one found
-abbrev pub signed_behind : Found → List Step → (Tree → Found) → Found
-signed_behind (there t) p look = look t
-signed_behind missing [] look = missing
-signed_behind missing (s ∷ p) look = no_place
-signed_behind no_place p look = no_place
-
 -- what stands at a path
 abbrev pub signed_raw_at : Tree → List Step → Found
 signed_raw_at t [] = there t
-signed_raw_at t (s ∷ p) = signed_behind (signed_part_at t s) p (λ u. signed_raw_at u p)
+signed_raw_at t (s ∷ p) = found_behind (signed_part_at t s) p (λ u. signed_raw_at u p)
 
 -- the sub-tree that was found
 abbrev pub tree_found : Found → Option Tree

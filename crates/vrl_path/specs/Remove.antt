@@ -1,6 +1,6 @@
 -- What a tree is without its sub-tree at a path, told by what look-up gives at every path.
 use Rattle.std.specs.Prelude.{◌≡◌, ◌≢◌, ℕ, suc, ◌<◌, ◌≤◌, List, [], ◌∷◌, ◌++◌, Option, None}
-use Rattle.vrl_value.specs.Look.{Step, field, place, Found, there, missing, raw_at, found_behind}
+use Rattle.vrl_value.specs.Look.{Step, field, place, missing, raw_at, found_behind}
 use Rattle.vrl_value.specs.Tree.{Tree}
 use Rattle.vrl_path.specs.Read.{tree_found}
 use Rattle.vrl_path.specs.Write.{Holds}

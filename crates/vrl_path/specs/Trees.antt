@@ -1,9 +1,9 @@
 -- Setting and removing on trees, step by step, as the code goes. Only inner functions cite these; the public ones say by look-up
 -- what a change means.
 use Rattle.std.specs.Prelude.{ℕ, List, [], ◌∷◌, Option, Some, None}
-use Rattle.vrl_value.specs.Look.{Step, field, place, Found, there, missing, no_place, item_at, part_at}
+use Rattle.vrl_value.specs.Look.{Step, Found, there, missing, no_place, item_at, part_at}
 use Rattle.vrl_value.specs.Parts.{put_item, replace, replace_item}
-use Rattle.vrl_value.specs.Tree.{Tree, string, integer, boolean, null, timestamp, regex, array, object, Items, Members, find, put}
+use Rattle.vrl_value.specs.Tree.{Tree, null, array, object, Items, Members, find, put}
 use Rattle.vrl_path.specs.Parts.{with_part, replace_part, without_part}
 use Rattle.vrl_path.specs.Remove.{removable_at}
 

@@ -1,8 +1,8 @@
 -- What a tree is with another tree set at a path, told by what look-up gives at every path.
 use Rattle.std.specs.Prelude.{◌≡◌, ◌≢◌, ℕ, ◌+◌, ◌<◌, ◌≤◌, List, [], ◌∷◌, ◌++◌, length, max}
 use Rattle.vrl_value.specs.Depth.{depth_of}
-use Rattle.vrl_value.specs.Look.{Step, field, place, Found, there, missing, no_place, part_at, raw_at, found_behind}
-use Rattle.vrl_value.specs.Tree.{Tree, string, integer, boolean, null, timestamp, regex, array, object, Items, no_items, Members, no_members, IsOrdered}
+use Rattle.vrl_value.specs.Look.{Step, field, place, Found, there, missing, no_place, raw_at, found_behind}
+use Rattle.vrl_value.specs.Tree.{Tree, null, array, object, Items, no_items, Members, no_members, IsOrdered}
 
 -- the members of an object; of what is no object those of the empty one
 abbrev pub members_in : Found → Members

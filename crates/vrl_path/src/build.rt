@@ -10,7 +10,7 @@ use std::alloc::Global;
 use std::collections::BTreeMap;
 use vrl_value::{Fields, Items, Memory, Value};
 
-// The value at the end of the steps, in containers that are all new. `Memory`: want of memory.
+/// The value at the end of the steps, in containers that are all new. `Memory`: want of memory.
 pub fn built(alloc: Global, steps: &[Step], new: Value) -> Result<Value, Memory>
     requires { IsWritable steps.now }
     ensures { IfOk result (λ value. tree_of value ≡ chain (plain steps.now) (tree_of new)) }

@@ -9,13 +9,13 @@ ghost use Rattle.vrl_value.specs.View.{items_of as list_of, members_of, members_
 
 use crate::path::Step;
 use std::collections::BTreeMap;
-use vrl_value::{Fields, Items, Value};
+use vrl_value::{Fields, Items, Value, members_are_maps};
 
 // The greatest depth of a value that a set may leave.
 const LIMIT: u64 = 128;
 
-// Whether the value with a new one at the end of the steps is within the limit of depth. Where the new one
-// and the steps settle it, only the new one is looked at; else each part beside the steps, too.
+/// Whether the value with a new one at the end of the steps is within the limit of depth. Where the new one
+/// and the steps settle it, only the new one is looked at; else each part beside the steps, too.
 pub fn is_within_limit(value: &Value, steps: &[Step], new: &Value) -> bool
     requires { IsWritable steps.now }
     ensures { IsTrue result
@@ -121,6 +121,7 @@ fn are_within(map: &BTreeMap<String, Value>, name: &str, limit: u64) -> bool
     ensures { (t : Tree) → depth_of t ≤ limit
         → (IsTrue result ↔ (members_depth (set_in_fields name.now (members_view map.now.entries) [] t) ≤ limit)) }
 {
+    members_are_maps();
     for (key, part) in map.iter() {
         if !entry_fits(key.as_str(), part, name, limit) {
             return false;

@@ -1,6 +1,6 @@
-ghost use Rattle.vrl_path.specs.Laws.{ReadsByLookUp, SetsAreOne, SetsDeepen};
+ghost use Rattle.vrl_path.specs.Laws.{ReadsByLookUp, RemovalsAreOne, SetsAreOne, SetsDeepen};
 
-use vrl_value::members_are_maps;
+use vrl_value::{items_are_lists, members_are_maps, trees_are_told, trees_stay_in_order};
 
 /// Where no place of a path is negative, a read finds what look-up finds. This takes no time: it is a law
 /// about the definitions.
@@ -12,7 +12,17 @@ pub fn reads_are_look_ups()
 /// about the definitions.
 pub fn sets_are_one()
     ensures { SetsAreOne }
-{}
+{
+    trees_are_told();
+}
+
+/// Among the trees in order, a tree from which a part was taken out at a path has one result. This takes no
+/// time: it is a law about the definitions.
+pub fn removals_are_one()
+    ensures { RemovalsAreOne }
+{
+    trees_are_told();
+}
 
 /// A tree set at a path of another is as deep as the path is long and the new tree is deep, or, by what stands
 /// beside the path, as the other was at most. So where that one is within a limit, the result is over it
@@ -22,4 +32,7 @@ pub fn sets_deepen()
     ensures { SetsDeepen }
 {
     members_are_maps();
+    items_are_lists();
+    trees_stay_in_order();
+    trees_are_told();
 }

@@ -13,7 +13,7 @@ mod removal;
 mod write;
 
 pub use fault::SetFault;
-pub use laws::{reads_are_look_ups, sets_are_one, sets_deepen};
+pub use laws::{reads_are_look_ups, removals_are_one, sets_are_one, sets_deepen};
 pub use path::{Path, Step};
 pub use read::{exists, get};
 pub use removal::remove;

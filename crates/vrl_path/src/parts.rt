@@ -1,17 +1,12 @@
-ghost use Rattle.std.specs.Prelude.{◌≡◌, IfOk, OnErr, OnOk, option_map, ◌≤◌};
-ghost use Rattle.vrl_path.specs.Parts.{without_part, with_part};
+ghost use Rattle.std.specs.Prelude.{◌≡◌, option_map};
+ghost use Rattle.vrl_path.specs.Parts.{without_part};
 ghost use Rattle.vrl_path.specs.Read.{place_of, signed_part_at, tree_found};
-ghost use Rattle.vrl_path.specs.Steps.{plain_step, IsPlainStep, IsWritableStep};
+ghost use Rattle.vrl_path.specs.Steps.{plain_step, IsPlainStep};
 ghost use Rattle.vrl_value.specs.Look.{part_at};
-ghost use Rattle.vrl_value.specs.Parts.{count_of, put_item};
-ghost use Rattle.vrl_value.specs.Tree.{null};
-ghost use Rattle.vrl_value.specs.View.{items_view, items_of, tree_of};
+ghost use Rattle.vrl_value.specs.View.{tree_of};
 
 use crate::path::Step;
-use std::alloc::Global;
-use std::collections::BTreeMap;
-use std::mem;
-use vrl_value::{Fields, Items, Memory, Value};
+use vrl_value::Value;
 
 /// The part of a value at a step. `None`: there is none.
 pub fn part<'a>(value: &'a Value, step: &Step) -> Option<&'a Value>

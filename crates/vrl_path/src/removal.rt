@@ -8,7 +8,7 @@ ghost use Rattle.vrl_value.specs.View.{items_of, members_of, tree_of};
 
 use crate::parts::take_part;
 use crate::path::{Path, Step};
-use vrl_value::{Fields, Items, Value};
+use vrl_value::{Fields, Items, Value, items_are_lists, members_are_maps, trees_stay_in_order};
 
 /// Takes out the part of a value at a path; the places behind one that is taken out of an array move down.
 /// `None`: the path is empty, or nothing stands there; the value stays as it was.
@@ -21,6 +21,9 @@ pub fn remove(value: &mut Value, path: &Path) -> Option<Value>
     ensures ordered { IsOrdered (tree_of value.old) → IsOrdered (tree_of value.new) }
     ensures none { IfNone result (tree_of value.new ≡ tree_of value.old) }
 {
+    members_are_maps();
+    items_are_lists();
+    trees_stay_in_order();
     remove_at(value, path.as_slice())
 }
 

@@ -11,7 +11,9 @@ use crate::depth::is_within_limit;
 use crate::fault::SetFault;
 use crate::path::{Path, Step};
 use std::alloc::Global;
-use vrl_value::{Chars, Fields, Items, Memory, Value, members_are_maps};
+use vrl_value::{
+    Chars, Fields, Items, Memory, Value, items_are_lists, members_are_maps, trees_stay_in_order,
+};
 
 /// Sets a value at a path: a step into what is no fitting container replaces it by one, and an array is
 /// filled up with nulls. The new value is moved in. `TooDeep`: the result would be deeper than 128; `Memory`:
@@ -29,6 +31,8 @@ pub fn set(alloc: Global, value: &mut Value, path: &Path, new: Value) -> Result<
     ensures err { OnErr result (tree_of value.new ≡ tree_of value.old) }
 {
     members_are_maps();
+    items_are_lists();
+    trees_stay_in_order();
     if !is_within_limit(value, path.as_slice(), &new) {
         return Err(SetFault::TooDeep);
     }
@@ -46,6 +50,8 @@ pub fn put(alloc: Global, value: &mut Value, path: &Path, new: Value) -> Result<
     ensures err { OnErr result (tree_of value.new ≡ tree_of value.old) }
 {
     members_are_maps();
+    items_are_lists();
+    trees_stay_in_order();
     put_at(alloc, value, path.as_slice(), new)
 }
 

@@ -1,18 +1,17 @@
 -- A value of an object or an array replaced or taken out, in the code and as trees.
-use Rattle.std.proofs.Common.{◌≡◌, ℕ, List, [], ◌∷◌, Option, Some, None, option_map, String, Global, BTreeMap, Ordering, Less, Equal, Greater, string_bytes, nat_cmp, is_eq, cond, length, refl, sym, ap, ◌∙◌, rules, OnSome}
+use Rattle.std.proofs.Common.{◌≡◌, ℕ, List, [], ◌∷◌, Option, Some, None, option_map, String, Global, BTreeMap, Ordering, Less, Equal, Greater, string_bytes, nat_cmp, is_eq, cond, refl, sym, ap, ◌∙◌, OnSome}
 use Rattle.std.specs.BTreeMap.{is_at}
 use Rattle.std.specs.Cmp.Lexicographic.{slice_cmp}
 use Rattle.std.specs.Map.{lookup, set_value, remove_entry}
 use Rattle.std.specs.Ordering.{match_ordering}
-use Rattle.vrl_value.specs.Parts.{count_of, replace, replace_item, without, without_item}
-use Rattle.vrl_value.specs.Tree.{Tree, Items, no_items, item, Members, no_members, member, find}
-use Rattle.vrl_value.specs.View.{items_of, items_view, members_of, members_view, tree_of}
-use Rattle.vrl_value.specs.declared.value.Value.{Value, the_lemmas}
-use Rattle.vrl_value.specs.declared.value.Items.{Items as CodeItems, out-Items}
+use Rattle.vrl_value.specs.Parts.{replace, without}
+use Rattle.vrl_value.specs.Tree.{Members, member}
+use Rattle.vrl_value.specs.View.{members_of, members_view, tree_of}
+use Rattle.vrl_value.specs.declared.value.Value.{Value}
 use Rattle.vrl_value.specs.declared.value.Fields.{Fields, out-Fields}
-use Rattle.vrl_value.specs.declared.value.Value.TheViews.{roll-Fields, roll-Items}
-use Rattle.vrl_value.proofs.Copies.{items_of-out}
+use Rattle.vrl_value.specs.declared.value.Value.TheViews.{roll-Fields}
 use Rattle.vrl_value.proofs.Find.{tree_of-lookup}
+use Rattle.vrl_value.proofs.Members.{without-none}
 use Rattle.vrl_value.proofs.Put.{members_of-roll, members_of-out}
 
 -- the test of a look-up by these bytes
@@ -45,17 +44,6 @@ members_of-same fields map same = members_of-roll map ∙ ap (λ m. members_view
 pub on_some : {T : Type 0} (o : Option T) (P : Type 0) → P → OnSome o P
 on_some None P p = tt
 on_some (Some x) P p = p
-
--- where nothing is found there is nothing to take out
-none_cases : (o : Ordering) (l : List ℕ) (u : Tree) (ms rest : Members) (found : Option Tree) → (found ≡ None → rest ≡ ms) → match_ordering o found (Some u) found ≡ None
-    → match_ordering o (member l u rest) rest (member l u rest) ≡ member l u ms
-none_cases Less l u ms rest found later none = ap (member l u) (later none)
-none_cases Equal l u ms rest found later none = absurd cc
-none_cases Greater l u ms rest found later none = ap (member l u) (later none)
-
-pub without-none : (k : List ℕ) (ms : Members) → find k ms ≡ None → without k ms ≡ ms
-without-none k no_members none = refl
-without-none k (member l u ms) none = none_cases (slice_cmp nat_cmp k l) l u ms (without k ms) (find k ms) (without-none k ms) none
 
 -- the step of `members_view-remove_entry`, at the order of the name and the first key
 remove_cases : (o : Ordering) (name : List ℕ) (e : String Global × Value) (es left : List (String Global × Value)) (rest : Members) → named name e.0 ≡ o

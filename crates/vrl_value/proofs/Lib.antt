@@ -1,10 +1,15 @@
+pub mod Below
 pub mod Changes
 pub mod Civil
 pub mod Clock
 pub mod Copies
 pub mod Digits
 pub mod Find
+pub mod Listed
+pub mod Looks
 pub mod Members
+pub mod OneTree
+pub mod Order
 pub mod Ordered
 pub mod Places
 pub mod Put

@@ -1,5 +1,5 @@
 -- The values of an array by their places, in the code and as trees.
-use Rattle.std.proofs.Common.{◌≡◌, ℕ, zero, suc, ◌≤◌, ◌<◌, ◌+◌, List, [], ◌∷◌, ◌++◌, replicate, Option, Some, None, option_map, Vec, Global, slice_set, slice_get, length, take, drop, refl, sym, ap, ◌∙◌, rules, arith, ◌-◌, append_assoc, remove, vec_len, Result, Ok, Err, OnOk}
+use Rattle.std.proofs.Common.{◌≡◌, ℕ, zero, suc, ◌≤◌, ◌<◌, ◌+◌, List, [], ◌∷◌, ◌++◌, replicate, Option, Some, None, option_map, Vec, Global, slice_set, slice_get, length, refl, sym, ap, ◌∙◌, rules, arith, ◌-◌, append_assoc, remove, vec_len, Result, Ok, Err, OnOk}
 use Rattle.std.proofs.lemmas.List.{replicate_more}
 use Rattle.std.proofs.lemmas.Option.{slice_get_read, slice_get_past}
 use Rattle.std.specs.List.{ItemBy}

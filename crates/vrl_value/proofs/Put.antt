@@ -1,5 +1,5 @@
 -- A value put at a name among an object's members.
-use Rattle.std.proofs.Common.{◌≡◌, List, [], ◌∷◌, ◌++◌, String, Global, ℕ, BTreeMap, Ordering, Less, Equal, Greater, true, string_bytes, string_cmp, nat_cmp, IsTrue, refl, ap, ◌∙◌, rules}
+use Rattle.std.proofs.Common.{◌≡◌, List, [], ◌∷◌, ◌++◌, length, String, Global, ℕ, suc, BTreeMap, Ordering, Less, Equal, Greater, true, string_bytes, string_cmp, nat_cmp, IsTrue, refl, ap, ◌∙◌, rules}
 use Rattle.std.proofs.lemmas.Bool.{and_from, and_parts}
 use Rattle.std.proofs.lemmas.Cmp.{nat_list_cmp_total}
 use Rattle.std.specs.BTreeMap.{insert_entry}
@@ -8,6 +8,7 @@ use Rattle.std.specs.List.{AllByRecursion}
 use Rattle.std.specs.List.Sorted.{IsStrictlySortedBy}
 use Rattle.std.specs.Map.{keys_of}
 use Rattle.std.specs.Ordering.{match_ordering, ordering_reverse}
+use Rattle.vrl_value.specs.Parts.{members_count}
 use Rattle.vrl_value.specs.Tree.{Tree, Members, no_members, member, put, is_json, members_are_json}
 use Rattle.vrl_value.specs.View.{members_of, members_view, tree_of}
 use Rattle.vrl_value.specs.declared.value.Value.{Value, the_lemmas}
@@ -60,6 +61,14 @@ members_of-roll map = search (rules, the_lemmas)
 
 pub members_of-out : (fields : Fields) → members_view (out-Fields fields).map.entries ≡ members_of fields
 members_of-out fields = search (rules, the_lemmas)
+
+entries_count : (es : List (String Global × Value)) → length es ≡ members_count (members_view es)
+entries_count [] = refl
+entries_count (e ∷ es) = ap suc (entries_count es)
+
+-- the fields over a map are as many as its entries
+pub members_count-out : (fields : Fields) → length (out-Fields fields).map.entries ≡ members_count (members_of fields)
+members_count-out fields = entries_count (out-Fields fields).map.entries ∙ ap members_count (members_of-out fields)
 
 -- the fields over a map into which an entry was inserted
 pub members_of-insert_entry : (fields : Fields) (map : BTreeMap (String Global) Value) (key : String Global) (name : List ℕ) (value : Value)

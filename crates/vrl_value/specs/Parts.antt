@@ -9,6 +9,11 @@ abbrev pub count_of : Items → ℕ
 count_of no_items = 0
 count_of (item t ts) = suc (count_of ts)
 
+-- how many members there are
+abbrev pub members_count : Members → ℕ
+members_count no_members = 0
+members_count (member k t ms) = suc (members_count ms)
+
 -- the items with t at the place i, after nulls where there are fewer than i
 abbrev pub put_item : ℕ → Tree → Items → Items
 put_item zero t no_items = item t no_items

@@ -12,7 +12,10 @@ mod padding;
 mod reading;
 mod value;
 
-pub use laws::{members_are_maps, members_stay_json, moments_read_back};
+pub use laws::{
+    items_are_lists, members_are_maps, members_stay_json, moments_read_back, regexes_stay_below,
+    trees_are_told, trees_stay_in_order,
+};
 pub use lists::{Bytes, Chars, Names};
 pub use memory::Memory;
 pub use moment::Moment;

@@ -1,5 +1,5 @@
 //! The text of a moment.
-ghost use Rattle.std.specs.Prelude.{◌≡◌, ◌<◌, pos, IfOk};
+ghost use Rattle.std.specs.Prelude.{◌≡◌, ◌<◌, IfOk};
 ghost use Rattle.jiff.specs.Words.{civil_nanos};
 ghost use Rattle.vrl_value.specs.Moment.{IsInRange};
 ghost use Rattle.vrl_value.specs.MomentText.{fewest_places, moment_text};

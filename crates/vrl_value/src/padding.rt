@@ -3,8 +3,8 @@ ghost use Rattle.std.specs.Prelude.{◌≡◌, ◌++◌, ◌-◌, ◌≤◌, OnE
 use crate::memory::Memory;
 use crate::value::Value;
 
-// Puts a value at a place behind the last one, with nulls in between. `Memory`: want of memory; the values
-// stay as they were.
+/// Puts a value at a place behind the last one, with nulls in between. `Memory`: want of memory; the values
+/// stay as they were.
 pub fn push_at(values: &mut Vec<Value>, place: usize, value: Value) -> Result<(), Memory>
     requires { vec_len values.old ≤ place }
     ensures ok { OnOk result (values.new.items

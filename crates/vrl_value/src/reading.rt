@@ -156,6 +156,7 @@ fn parts(text: &[u8]) -> Option<Written>
         offset,
     })
 }
+
 // What the clock shows. `None`: the calendar doesn't have the date, or no clock shows the time.
 fn clock(parts: Written) -> Option<DateTime>
     requires { IsSmall parts }

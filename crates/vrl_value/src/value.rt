@@ -1,7 +1,7 @@
 ghost use Rattle.std.specs.Borrow.{sem};
 ghost use Rattle.vrl_value.specs.Lending.{LendsField, LendsItem};
 ghost use Rattle.vrl_value.specs.Look.{item_at};
-ghost use Rattle.vrl_value.specs.Parts.{count_of, put_item, without, without_item};
+ghost use Rattle.vrl_value.specs.Parts.{count_of, members_count, put_item, without, without_item};
 ghost use Rattle.std.specs.Prelude.{◌≡◌, ◌≤◌, ◌↔◌, min, IfOk, IsTrue, OnErr, OnOk, option_map};
 ghost use Rattle.vrl_value.specs.Depth.{depth_of, items_depth, members_depth};
 ghost use Rattle.vrl_value.specs.Order.{order_of};
@@ -61,7 +61,9 @@ impl Value {
     /// its parts, or 1 where it is empty. 2^64 - 1 where it is deeper than that. It looks at each part once.
     #[cycle(depth)]
     pub fn depth(&self) -> u64
-        ensures { result ≡ min (depth_of (tree_of self.now)) u64.MAX }
+        ensures depth { result ≡ min (depth_of (tree_of self.now)) u64.MAX }
+        // Objects are maps, at each level: what is in memory is in order.
+        ensures ordered { IsOrdered (tree_of self.now) }
     {
         match self {
             Value::List(items) => items.deepest().saturating_add(1),
@@ -174,6 +176,13 @@ impl Items {
         self.items.len()
     }
 
+    /// Whether there is no value.
+    pub fn is_empty(&self) -> bool
+        ensures { IsTrue result ↔ (count_of (items_of self.now) ≡ 0) }
+    {
+        self.len() == 0
+    }
+
     /// The value at a place, counted from 0. `None` from the number of values on.
     pub fn get(&self, place: usize) -> Option<&Value>
         ensures { option_map (λ value. tree_of value.now) result ≡ item_at place (items_of self.now) }
@@ -222,7 +231,8 @@ impl Items {
     // The greatest depth of a part, 0 where there is none, and at most 2^64 - 1.
     #[cycle(depth)]
     fn deepest(&self) -> u64
-        ensures { result ≡ min (items_depth (items_of self.now)) u64.MAX }
+        ensures depth { result ≡ min (items_depth (items_of self.now)) u64.MAX }
+        ensures ordered { ItemsAreOrdered (items_of self.now) }
     {
         let mut deepest = 0;
         for item in &self.items {
@@ -283,6 +293,20 @@ impl Fields {
         &self.map
     }
 
+    /// How many fields there are.
+    pub fn len(&self) -> usize
+        ensures { result ≡ members_count (members_of self.now) }
+    {
+        self.map.len()
+    }
+
+    /// Whether there is no field.
+    pub fn is_empty(&self) -> bool
+        ensures { IsTrue result ↔ (members_count (members_of self.now) ≡ 0) }
+    {
+        self.len() == 0
+    }
+
     /// The value at a name. `None` where no field has the name.
     pub fn get(&self, name: &str) -> Option<&Value>
         ensures { option_map (λ value. tree_of value.now) result
@@ -310,7 +334,8 @@ impl Fields {
     // The greatest depth of a value, 0 where there is none, and at most 2^64 - 1.
     #[cycle(depth)]
     fn deepest(&self) -> u64
-        ensures { result ≡ min (members_depth (members_of self.now)) u64.MAX }
+        ensures depth { result ≡ min (members_depth (members_of self.now)) u64.MAX }
+        ensures ordered { MembersAreOrdered (members_of self.now) }
     {
         let mut deepest = 0;
         for (_name, value) in self.map.iter() {

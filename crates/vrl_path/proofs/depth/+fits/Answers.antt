@@ -1,6 +1,5 @@
-use Rattle.std.proofs.Common.{◌≡◌, ◌+◌, ◌≤◌, ◌↔◌, ◌∷◌, List, IsTrue, sym, ap, ◌∙◌, subst, length, arith, refl}
+use Rattle.std.proofs.Common.{◌≤◌, sym, ap, subst, arith, refl}
 use Rattle.vrl_value.specs.Depth.{depth_of, items_depth, members_depth}
-use Rattle.vrl_value.specs.Parts.{put_item}
 use Rattle.vrl_value.specs.View.{items_of, members_of, tree_of}
 use Rattle.vrl_path.specs.Steps.{plain, IsWritableStep}
 use Rattle.vrl_path.specs.Trees.{chain, set_in_fields, set_in_items, set_tree}

@@ -28,7 +28,7 @@ returns c = λ t new.
     let es = c.args.map.now.entries in
     let all = l.invariant.1 ∙ ap (λ rest. l.invariant.0 ++ rest) c.in-None.ensures.steps.0 ∙ append-nil l.invariant.0 in
     let within = subst (λ xs. members_depth (without c.args.name.now (members_view xs)) ≤ c.args.limit) (sym all) l.invariant.2 in
-    (λ yes. (fields_within c.args.name.now t (members_view es) c.args.limit (keys_ascend es c.iter-key-items.ensures.ordered) new).0 within, λ fits. refl)
+    (λ yes. (fields_within c.members_are_maps.ensures c.args.name.now t (members_view es) c.args.limit (keys_ascend es c.iter-key-items.ensures.ordered) new).0 within, λ fits. refl)
 
 pub returns-then-not-entry_fits : goal.returns-then-not-entry_fits
 returns-then-not-entry_fits c = λ t new.
@@ -44,7 +44,7 @@ returns-then-not-entry_fits c = λ t new.
     let decides = rw c.as_str.ensures.value at c.entry_fits.ensures in (
       λ yes. absurd cc,
       λ fits.
-          let within = (fields_within name t (members_view es) c.args.limit (keys_ascend es c.iter-key-items.ensures.ordered) new).1 fits in
+          let within = (fields_within c.members_are_maps.ensures name t (members_view es) c.args.limit (keys_ascend es c.iter-key-items.ensures.ordered) new).1 fits in
           let whole = subst (λ xs. members_depth (without name (members_view xs)) ≤ c.args.limit) all within in
           let one : members_depth (without name (members_view (e ∷ []))) ≤ c.args.limit = omega arith in
           absurd (true≢false (sym (decides.1 one) ∙ c.if-not-entry_fits.true)),

@@ -1,4 +1,4 @@
-use Rattle.std.proofs.Common.{◌≡◌, ◌+◌, ◌≤◌, IsTrue, length, arith}
+use Rattle.std.proofs.Common.{arith}
 use Rattle.vrl_value.specs.View.{tree_of}
 use Rattle.vrl_path.specs.Steps.{plain}
 use Rattle.vrl_path.proofs.Depths.{set_deep}

@@ -1,4 +1,4 @@
-use Rattle.std.proofs.Common.{get_or, ◌≡◌, ◌≢◌, ◌≤◌, ◌<◌, IsTrue, sym, ap, ◌∙◌, subst, length, refl, arith}
+use Rattle.std.proofs.Common.{get_or, ◌≤◌, sym, subst, refl, arith}
 use Rattle.vrl_value.specs.Depth.{depth_of, items_depth}
 use Rattle.vrl_value.specs.Parts.{put_item}
 use Rattle.vrl_value.specs.View.{items_of, tree_of}

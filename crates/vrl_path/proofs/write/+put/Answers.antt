@@ -1,6 +1,5 @@
-use Rattle.std.proofs.Common.{sym, ap, ◌∙◌, subst, ◌≤◌}
+use Rattle.std.proofs.Common.{sym, ◌∙◌, subst, ◌≤◌}
 use Rattle.vrl_value.specs.Parts.{count_of}
-use Rattle.vrl_value.specs.Tree.{find}
 use Rattle.vrl_value.specs.View.{items_of, members_of, tree_of}
 use Rattle.vrl_path.specs.Steps.{plain}
 use Rattle.vrl_path.proofs.Changes.{set_found_field, set_found_item, same_item, same_member, count_of-missing}

@@ -1,4 +1,3 @@
-use Rattle.std.proofs.Common.{ap}
 use Rattle.vrl_value.specs.View.{tree_of}
 use Rattle.vrl_path.specs.Steps.{plain}
 use Rattle.vrl_path.proofs.Options.{on_ok}
@@ -7,7 +6,7 @@ use Rattle.vrl_path.proofs.write.put.Goals as goal
 
 pub returns-clause-set : goal.returns-clause-set
 returns-clause-set c =
-    on_ok c.put_at.result _ _ (λ e. is_set_at c.members_are_maps.ensures (tree_of c.args.value.now) (plain c.args.path.now) (tree_of c.args.new) (tree_of c.put_at.new.value) (rw c.as_slice.ensures at e)) c.put_at.ensures.ok
+    on_ok c.put_at.result _ _ (λ e. is_set_at c.members_are_maps.ensures c.items_are_lists.ensures (tree_of c.args.value.now) (plain c.args.path.now) (tree_of c.args.new) (tree_of c.put_at.new.value) (rw c.as_slice.ensures at e)) c.put_at.ensures.ok
 
 pub returns-clause-depth : goal.returns-clause-depth
 returns-clause-depth c =
@@ -15,4 +14,4 @@ returns-clause-depth c =
 
 pub returns-clause-ordered : goal.returns-clause-ordered
 returns-clause-ordered c =
-    result_ordered c.put_at.result (tree_of c.args.value.now) (plain c.as_slice.result.now) (tree_of c.args.new) (tree_of c.put_at.new.value) c.put_at.ensures.ok c.put_at.ensures.err
+    result_ordered c.trees_stay_in_order.ensures c.put_at.result (tree_of c.args.value.now) (plain c.as_slice.result.now) (tree_of c.args.new) (tree_of c.put_at.new.value) c.put_at.ensures.ok c.put_at.ensures.err

@@ -1,4 +1,4 @@
-use Rattle.std.proofs.Common.{ap, ◌∙◌, sym, option_map}
+use Rattle.std.proofs.Common.{ap, ◌∙◌, option_map}
 use Rattle.vrl_value.specs.View.{tree_of}
 use Rattle.vrl_value.proofs.Changes.{members_of-remove_entry}
 use Rattle.vrl_value.proofs.Find.{tree_of-get}

@@ -1,4 +1,4 @@
-use Rattle.std.proofs.Common.{refl, sym, ap, ◌∙◌, subst, ◌<◌, ◌≤◌, option_map}
+use Rattle.std.proofs.Common.{sym, ap, ◌∙◌, subst, ◌<◌, ◌≤◌, option_map}
 use Rattle.std.proofs.lemmas.Option.{slice_get_read, slice_get_past}
 use Rattle.vrl_value.specs.Look.{item_at}
 use Rattle.vrl_value.specs.Parts.{without_item}

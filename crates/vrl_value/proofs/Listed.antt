@@ -1,5 +1,5 @@
 -- What stands at the places of items that one was put into or taken out of.
-use Rattle.std.proofs.Common.{◌≡◌, ◌≢◌, ℕ, zero, suc, ◌<◌, ◌≤◌, Option, Some, None, unwrap_or, refl, sym, ap, ◌∙◌, arith}
+use Rattle.std.proofs.Common.{◌≡◌, ◌≢◌, ℕ, zero, suc, ◌<◌, ◌≤◌, Some, None, unwrap_or, refl, ap, ◌∙◌, arith}
 use Rattle.vrl_value.specs.Look.{item_at}
 use Rattle.vrl_value.specs.Parts.{put_item, replace_item, without_item}
 use Rattle.vrl_value.specs.Tree.{Tree, null, Items, no_items, item}
@@ -26,12 +26,6 @@ item_at-put_behind zero (suc j) t (item u ts) higher = refl
 item_at-put_behind (suc i) (suc j) t no_items higher = item_at-put_behind i j t no_items (omega arith)
 item_at-put_behind (suc i) (suc j) t (item u ts) higher = item_at-put_behind i j t ts (omega arith)
 
--- to replace what is there is to put
-pub replace_item-found : (i : ℕ) (t w : Tree) (ts : Items) → item_at i ts ≡ Some w → replace_item i t ts ≡ put_item i t ts
-replace_item-found i t w no_items found = absurd cc
-replace_item-found zero t w (item u ts) found = refl
-replace_item-found (suc i) t w (item u ts) found = ap (item u) (replace_item-found i t w ts found)
-
 pub item_at-without_before : (i j : ℕ) (ts : Items) → j < i → item_at j (without_item i ts) ≡ item_at j ts
 item_at-without_before i j no_items lower = refl
 item_at-without_before zero j (item u ts) lower = absurd (omega arith)
@@ -46,7 +40,9 @@ item_at-without_behind (suc i) (suc j) (item u ts) higher = item_at-without_behi
 
 -- what replaced an item is there, and the others are as they were
 pub item_at-replace : (i : ℕ) (t w : Tree) (ts : Items) → item_at i ts ≡ Some w → item_at i (replace_item i t ts) ≡ Some t
-item_at-replace i t w ts found = ap (item_at i) (replace_item-found i t w ts found) ∙ item_at-put i t ts
+item_at-replace i t w no_items found = absurd cc
+item_at-replace zero t w (item u ts) found = refl
+item_at-replace (suc i) t w (item u ts) found = item_at-replace i t w ts found
 
 pub item_at-replace_other : (i j : ℕ) (t : Tree) (ts : Items) → j ≢ i → item_at j (replace_item i t ts) ≡ item_at j ts
 item_at-replace_other i j t no_items other = refl
@@ -60,3 +56,13 @@ pub without_item-none : (i : ℕ) (ts : Items) → item_at i ts ≡ None → wit
 without_item-none i no_items none = refl
 without_item-none zero (item u ts) none = absurd cc
 without_item-none (suc i) (item u ts) none = ap (item u) (without_item-none i ts none)
+
+-- items that have the same at each place are the same
+pub same_items : (a b : Items) → ((i : ℕ) → item_at i a ≡ item_at i b) → a ≡ b
+same_items no_items no_items same = refl
+same_items no_items (item u b) same = let none = same 0 in absurd cc
+same_items (item t a) no_items same = let none = same 0 in absurd cc
+same_items (item t a) (item u b) same =
+    let first : Some t ≡ Some u = same 0 in
+    let e : t ≡ u = cc in
+    ap (λ x. item x a) e ∙ ap (item u) (same_items a b (λ i. same (suc i)))
