@@ -14,6 +14,8 @@ mod scripts;
 #[cfg(test)]
 mod sharing;
 #[cfg(test)]
+mod tokens;
+#[cfg(test)]
 mod trees;
 #[cfg(test)]
 mod values;

@@ -1,0 +1,11 @@
+use denote.Text.{Utf8}
+use denote.Shadow.{shadow}
+use Rattle.std.proofs.Common.{◌≤◌, length}
+use Rattle.vrl_token.proofs.Leading.{IsLed}
+use Rattle.vrl_token.proofs.lexer.lexemes.Given as goal
+
+abbrev pub invariant-loop-rest : goal.invariant-loop-rest
+invariant-loop-rest l = shadow (Utf8 l.rest) × IsLed l.text l.rest l.context l.found.items × (length l.rest ≤ length l.text)
+
+abbrev pub decreases-loop-rest : goal.decreases-loop-rest
+decreases-loop-rest l = length l.rest

@@ -1,0 +1,62 @@
+ghost use Rattle.std.specs.Prelude.{◌≡◌, ◌≤◌, ◌-◌, ◌++◌, List, IfErr, IfOk, OnOk, [], ◌∷◌, length};
+ghost use Rattle.vrl_token.specs.Division.{IsDivision, kept};
+ghost use Rattle.vrl_token.specs.Lexing.{IsLexical};
+ghost use Rattle.vrl_token.specs.declared.piece.Lexeme.{Lexeme as SpecLexeme};
+
+use crate::context::Context;
+use crate::cut::{Cut, cut_first};
+use crate::fault::SyntaxFault;
+use crate::piece::{Lexeme, Piece};
+use std::alloc::Global;
+use vrl_diag::{Diagnostic, Span};
+use vrl_value::Memory;
+
+// What stands between the place behind which `from` bytes stand and the one behind which `left` bytes stand, in a text of `total` bytes.
+fn span_between(total: usize, from: usize, left: usize) -> Span
+    requires fits { total ≤ 65536 }
+    requires starts { from ≤ total }
+    requires ends { left ≤ total }
+    ensures start { result.start ≡ total - from }
+    ensures end_is { result.«end» ≡ total - left }
+{
+    Span {
+        start: (total - from) as u32,
+        end: (total - left) as u32,
+    }
+}
+
+// Takes a piece, unless it is a blank or a comment.
+fn push_kept(found: &mut Vec<Lexeme>, lexeme: Lexeme) -> Result<(), Memory>
+    ensures { OnOk result (found.new.items ≡ found.old.items ++ kept (lexeme ∷ [])) }
+{
+    if !matches!(lexeme.piece, Piece::Blank | Piece::Comment) {
+        found.push(lexeme)?;
+    }
+    Ok(())
+}
+
+/// The pieces of a text but its blanks and comments, in order. `Fault`: the first fault of its spellings. `Memory`: want of memory.
+pub(crate) fn lexemes(alloc: Global, text: &str) -> Result<Vec<Lexeme>, SyntaxFault>
+    requires { length text.now ≤ 65536 }
+    ensures ok { IfOk result (λ found. (pieces : List SpecLexeme) × IsDivision text.now pieces × (found.items ≡ kept pieces)) }
+    ensures fault { IfErr result (IsLexical text.now) }
+{
+    let mut found = Vec::new(alloc);
+    let mut context = Context::start();
+    let mut rest = text;
+    while !rest.is_empty() {
+        match cut_first(alloc, rest, context)? {
+            Cut::Fault(code, left) => {
+                let span = span_between(text.len(), rest.len(), left);
+                return Err(SyntaxFault::Fault(Diagnostic { code, span }));
+            }
+            Cut::Piece(piece, behind) => {
+                context = context.behind(&piece);
+                let span = span_between(text.len(), rest.len(), behind.len());
+                push_kept(&mut found, Lexeme { piece, span })?;
+                rest = behind;
+            }
+        }
+    }
+    Ok(found)
+}

@@ -1,0 +1,110 @@
+ghost use Rattle.std.specs.Prelude.{◌≡◌, ◌-◌, ◌↔◌, ◌∷◌, ℕ, List, IfOk, IsTrue};
+ghost use Rattle.vrl_token.specs.Characters.{Character, HasTemplate, IsKnown, raw_of, text_of};
+ghost use Rattle.std.specs.List.{AllByRecursion};
+ghost use Rattle.vrl_token.specs.Context.{regexes_before};
+ghost use Rattle.vrl_token.specs.Cuts.{IsCutOf};
+ghost use Rattle.vrl_token.specs.Lexical.{BeginsInside, IsDigit};
+ghost use Rattle.vrl_token.specs.Numbers.{IsBehindSign};
+ghost use Rattle.vrl_token.specs.Words.{IsRaw, IsRawLetter, IsTextSpelling, MayHaveSign};
+ghost use Rattle.vrl_token.specs.declared.piece.Piece.{Piece as SpecPiece};
+
+use crate::cut::Cut;
+use crate::number::{behind_float, number_of, split_digits};
+use crate::piece::Piece;
+use crate::quoted::{raw, split_quoted, unescaped};
+use crate::scan::{Class, begins_in};
+use crate::token::Token;
+use std::alloc::Global;
+use vrl_value::{Chars, Memory, Moment};
+
+// A token that a text begins with, and what stands behind it.
+fn token(token: Token, rest: &str) -> Cut<'_>
+    ensures { result ≡ Cut.Piece (Piece.Word token) rest.entry }
+{
+    Cut::Piece(Piece::Word(token), rest)
+}
+
+// Whether a text has `{{` in it.
+fn has_template(text: &str) -> bool
+    ensures { IsTrue result ↔ HasTemplate text.now }
+{
+    match text.split_once("{{") {
+        Some(_) => true,
+        None => false,
+    }
+}
+
+// The token of what stands between the quotes of a text, or that it has a template.
+fn cut_escaped(text: Chars, rest: &str) -> Cut<'_>
+    ensures { (before : List SpecPiece) (opening : List ℕ) (characters : List Character) → IsTextSpelling opening characters rest.now → AllByRecursion IsKnown characters → text ≡ text_of characters
+        → IsCutOf before opening result }
+{
+    if has_template(text.as_str()) {
+        return Cut::Fault(1016, rest.len());
+    }
+    token(Token::Text(text), rest)
+}
+
+/// The text whose opening quote stands before the text given.
+pub(crate) fn cut_text(alloc: Global, behind: &str) -> Result<Cut<'_>, Memory>
+    ensures { IfOk result (λ cut. (before : List SpecPiece) → IsCutOf before (34 ∷ behind.now) cut) }
+{
+    let Some((inner, rest)) = split_quoted(behind, b'"') else {
+        return Ok(Cut::Fault(203, 0));
+    };
+    match unescaped(alloc, inner)? {
+        None => Ok(Cut::Fault(203, rest.len())),
+        Some(text) => Ok(cut_escaped(text, rest)),
+    }
+}
+
+// The token of what stands between the quotes of a raw text, a regex or a timestamp, which begins with this letter.
+fn cut_value<'a>(letter: u8, value: Chars, rest: &'a str, regexes_left: usize) -> Cut<'a>
+    requires { IsRawLetter letter }
+    ensures { (before : List SpecPiece) (text : List ℕ) (characters : List Character) → IsRaw letter text characters rest.now → value ≡ raw_of characters
+        → regexes_left ≡ 256 - regexes_before before → IsCutOf before text result }
+{
+    match letter {
+        b's' => token(Token::RawText(value), rest),
+        b'r' if regexes_left > 0 => token(Token::Regex(value), rest),
+        b'r' => Cut::Fault(1016, rest.len()),
+        _ => match Moment::read(value.as_str()) {
+            Some(moment) => token(Token::Timestamp(moment), rest),
+            None => Cut::Fault(1014, rest.len()),
+        },
+    }
+}
+
+/// The raw text, regex or timestamp whose letter and opening quote stand before a text.
+pub(crate) fn cut_raw<'a>(
+    alloc: Global,
+    letter: u8,
+    behind: &'a str,
+    regexes_left: usize,
+) -> Result<Cut<'a>, Memory>
+    requires { IsRawLetter letter }
+    ensures { IfOk result (λ cut. (before : List SpecPiece) → regexes_left ≡ 256 - regexes_before before → IsCutOf before (letter ∷ 39 ∷ behind.now) cut) }
+{
+    let Some((inner, rest)) = split_quoted(behind, b'\'') else {
+        return Ok(Cut::Fault(203, 0));
+    };
+    Ok(cut_value(letter, raw(alloc, inner)?, rest, regexes_left))
+}
+
+/// The number whose digits a text begins with. Where the flag says so a minus stands before them and belongs to it.
+pub(crate) fn cut_number(negative: bool, unsigned: &str) -> Cut<'_>
+    requires { BeginsInside IsDigit unsigned.now }
+    ensures { (before : List SpecPiece) (text : List ℕ) → MayHaveSign before negative → IsBehindSign negative text unsigned.now → IsCutOf before text result }
+{
+    let (digits, rest) = split_digits(unsigned);
+    if let Some(behind) = behind_float(rest) {
+        return Cut::Fault(1001, behind.len());
+    }
+    if begins_in(rest, Class::NameStart) {
+        return Cut::Fault(203, rest.len());
+    }
+    match number_of(negative, digits) {
+        Some(number) => token(Token::Number(number), rest),
+        None => Cut::Fault(1002, rest.len()),
+    }
+}

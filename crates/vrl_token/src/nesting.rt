@@ -1,0 +1,274 @@
+ghost use Rattle.std.specs.Prelude.{◌≡◌, ◌↔◌, ◌+◌, ◌∷◌, [], IfOk, IsTrue, List, OnOk, get_or, length, reverse, set, suc};
+ghost use Rattle.vrl_token.specs.Depths.{AreCounts, IsPlace, IsTally, first_of, held, levels_of, nesting_behind, nesting_inside, numbers_of};
+ghost use Rattle.vrl_token.specs.Nesting.{IsDeepAt, IsTooDeep, closes, count_in, is_counted, opens, parts, stretches_from, without_innermost};
+ghost use Rattle.vrl_token.specs.Reading.{backwards};
+ghost use Rattle.vrl_token.specs.declared.token.Token.{Token as SpecToken};
+
+use crate::before::Before;
+use crate::token::{Spanned, Token};
+use std::alloc::Global;
+use vrl_value::Memory;
+
+// How deep tokens may be nested.
+const DEPTH: usize = 64;
+
+// How many bodies of closures may be open at once.
+const BODIES: usize = 4;
+
+// Whether a token takes a level of the syntax tree.
+fn is_level(token: &Token) -> bool
+    ensures { result ≡ is_counted token.now }
+{
+    matches!(
+        token,
+        Token::Assign
+            | Token::MergeAssign
+            | Token::Coalesce
+            | Token::Or
+            | Token::And
+            | Token::Equal
+            | Token::Unequal
+            | Token::Less
+            | Token::AtMost
+            | Token::More
+            | Token::AtLeast
+            | Token::Merge
+            | Token::Plus
+            | Token::Minus
+            | Token::Times
+            | Token::Not
+            | Token::Arrow
+            | Token::If
+            | Token::Return
+            | Token::Abort
+    )
+}
+
+// How many levels of the syntax tree a token takes.
+fn levels(token: &Token) -> usize
+    ensures { result ≡ levels_of token.now }
+{
+    if is_level(token) { 1 } else { 0 }
+}
+
+// Whether a token opens a bracket.
+fn is_opening(token: &Token) -> bool
+    ensures { result ≡ opens token.now }
+{
+    matches!(
+        token,
+        Token::OpenParenthesis
+            | Token::OpenBracket
+            | Token::OpenObject
+            | Token::OpenBlock
+            | Token::OpenBars
+    )
+}
+
+// Whether a token closes a bracket.
+fn is_closing(token: &Token) -> bool
+    ensures { result ≡ closes token.now }
+{
+    matches!(
+        token,
+        Token::CloseParenthesis | Token::CloseBracket | Token::CloseBrace | Token::CloseBars
+    )
+}
+
+// Whether a token stands between two stretches of one level.
+fn is_parting(token: &Token) -> bool
+    ensures { result ≡ parts token.now }
+{
+    matches!(token, Token::Separator | Token::Comma | Token::Else)
+}
+
+// The stretches that go on at a place, each with a number.
+#[derive(Drop)]
+struct Stretches {
+    innermost: usize,
+    // The numbers of those that hold it, from the outermost on.
+    around: Vec<usize>,
+}
+
+impl Stretches {
+    // A stretch outside all brackets.
+    fn new(alloc: Global, number: usize) -> Stretches
+        ensures { numbers_of result ≡ number ∷ [] }
+    {
+        Stretches {
+            innermost: number,
+            around: Vec::new(alloc),
+        }
+    }
+
+    // Begins a stretch inside the innermost one.
+    fn open(&mut self, number: usize) -> Result<(), Memory>
+        ensures { OnOk result (numbers_of self.new ≡ number ∷ numbers_of self.old) }
+    {
+        self.around.push(self.innermost)?;
+        self.innermost = number;
+        Ok(())
+    }
+
+    // Goes back to the stretch around the innermost one, where there is one.
+    fn close(&mut self)
+        ensures { numbers_of self.new ≡ without_innermost (numbers_of self.old) }
+    {
+        if let Some(outer) = self.around.pop() {
+            self.innermost = outer;
+        }
+    }
+
+    // Takes one more token; a stretch that begins behind it has the number.
+    fn add(&mut self, token: &Token, number: usize) -> Result<(), Memory>
+        ensures { OnOk result (numbers_of self.new ≡ stretches_from token.now number (numbers_of self.old)) }
+    {
+        if is_opening(token) {
+            return self.open(number);
+        }
+        if is_closing(token) {
+            self.close();
+            return Ok(());
+        }
+        if is_parting(token) {
+            self.innermost = number;
+        }
+        Ok(())
+    }
+
+    // With nestings as numbers: the nesting of a stretch that begins behind the token and has this count.
+    fn nesting_behind(&self, token: &Token, count: usize) -> usize
+        ensures { result ≡ nesting_behind token.now count (numbers_of self.now) }
+    {
+        if is_opening(token) {
+            return nesting_inside(Some(self.innermost), count);
+        }
+        nesting_inside(self.outer(), count)
+    }
+
+    // The number of the stretch around the innermost one.
+    fn outer(&self) -> Option<usize>
+        ensures { result ≡ first_of (reverse self.now.around.items) }
+    {
+        self.around.last().copied()
+    }
+}
+
+// The nesting of a stretch that has this count, in a bracket of one that has this nesting.
+fn nesting_inside(around: Option<usize>, count: usize) -> usize
+    ensures { result ≡ nesting_inside around count }
+{
+    match around {
+        Some(nesting) => nesting.saturating_add(1).saturating_add(count),
+        None => count,
+    }
+}
+
+// How many counted tokens each stretch has so far, by the place at which it begins.
+#[derive(Drop)]
+struct Tally {
+    counts: Vec<usize>,
+    stretches: Stretches,
+}
+
+impl Tally {
+    // Before all tokens.
+    fn start(alloc: Global) -> Result<Tally, Memory>
+        ensures { IfOk result (λ tally. IsTally [] tally) }
+    {
+        let mut counts = Vec::new(alloc);
+        counts.push(0)?;
+        Ok(Tally {
+            counts,
+            stretches: Stretches::new(alloc, 0),
+        })
+    }
+
+    // Adds levels to the count of the innermost stretch.
+    fn count(&mut self, levels: usize)
+        ensures stretches { self.new.stretches ≡ self.old.stretches }
+        ensures counts { let at = self.old.stretches.innermost in self.new.counts.items ≡ set self.old.counts.items at (held (get_or self.old.counts.items at 0 + levels)) }
+    {
+        let place = self.stretches.innermost;
+        if place < self.counts.len() {
+            self.counts[place] = self.counts[place].saturating_add(levels);
+        }
+    }
+
+    // Takes one more token.
+    fn add(&mut self, token: &Token) -> Result<(), Memory>
+        ensures { OnOk result ((before : List SpecToken) → IsTally before self.old → IsTally (token.now ∷ before) self.new) }
+    {
+        let place = self.counts.len();
+        self.count(levels(token));
+        self.counts.push(0)?;
+        self.stretches.add(token, place)?;
+        Ok(())
+    }
+}
+
+// How many counted tokens each stretch has, by the place at which it begins.
+fn counts_of(alloc: Global, tokens: &[Spanned]) -> Result<Vec<usize>, Memory>
+    ensures { IfOk result (λ counts. AreCounts (backwards tokens.now) counts.items) }
+{
+    let mut tally = Tally::start(alloc)?;
+    for spanned in tokens {
+        tally.add(&spanned.token)?;
+    }
+    Ok(tally.counts)
+}
+
+// A place among tokens: how deep the stretches are nested that go on there, and what the tokens before it say.
+#[derive(Drop)]
+struct Place {
+    nestings: Stretches,
+    before: Before,
+}
+
+impl Place {
+    // Before all tokens; the stretch there has this count.
+    fn start(alloc: Global, count: usize) -> Place
+        ensures { (all : List SpecToken) → count ≡ held (count_in 0 all) → IsPlace all [] result }
+    {
+        Place {
+            nestings: Stretches::new(alloc, count),
+            before: Before::start(alloc),
+        }
+    }
+
+    // Behind one more token; a stretch that begins there has this count.
+    fn add(&mut self, token: &Token, count: usize) -> Result<(), Memory>
+        ensures { OnOk result ((all before : List SpecToken) → count ≡ held (count_in (suc (length before)) all) → IsPlace all before self.old → IsPlace all (token.now ∷ before) self.new) }
+    {
+        let nesting = self.nestings.nesting_behind(token, count);
+        self.nestings.add(token, nesting)?;
+        self.before.add(token)?;
+        Ok(())
+    }
+
+    // Whether the tokens are nested too deeply here.
+    fn is_deep(&self) -> bool
+        ensures { (all before : List SpecToken) → IsPlace all before self.now → IsTrue result ↔ IsDeepAt all before }
+    {
+        self.nestings.innermost > DEPTH || self.before.bodies() > BODIES
+    }
+}
+
+/// Whether tokens are nested too deeply: a nesting over 64, or more than four open bodies of closures. Goes over the tokens twice, since
+/// the count of a stretch takes in its tokens behind an inner bracket.
+pub(crate) fn is_nested_too_deeply(alloc: Global, tokens: &[Spanned]) -> Result<bool, Memory>
+    ensures { IfOk result (λ deep. IsTrue deep ↔ IsTooDeep (backwards tokens.now)) }
+{
+    let counts = counts_of(alloc, tokens)?;
+    let mut place = Place::start(alloc, counts[0]);
+    if place.is_deep() {
+        return Ok(true);
+    }
+    for (before, spanned) in tokens.iter().enumerate() {
+        place.add(&spanned.token, counts[before + 1])?;
+        if place.is_deep() {
+            return Ok(true);
+        }
+    }
+    Ok(false)
+}

@@ -1,0 +1,92 @@
+ghost use Rattle.std.specs.Prelude.{◌≡◌, [], ◌∷◌, ◌++◌, List, IfOk, MatchResult, OnOk};
+ghost use Rattle.vrl_token.specs.Gathering.{IsGathered, Keeps};
+ghost use Rattle.vrl_token.specs.Paths.{EventSegments, HasFlaw, HasSteps, Segment as Spelled, Segments};
+ghost use Rattle.vrl_token.specs.Segments.{IsSaid};
+
+use crate::segment::{Flaw, Segment, split_dotted, split_undotted};
+use std::alloc::Global;
+use vrl_path::{Path, Step};
+use vrl_value::Memory;
+
+/// The steps of the segments read so far, and what is wrong with them.
+#[derive(Drop)]
+pub(crate) struct Gathering {
+    steps: Vec<Step>,
+    flaw: Option<Flaw>,
+}
+
+impl Gathering {
+    /// No segments.
+    pub(crate) fn new(alloc: Global) -> Gathering
+        ensures { IsGathered [] result }
+    {
+        Gathering {
+            steps: Vec::new(alloc),
+            flaw: None,
+        }
+    }
+
+    // Notes what is wrong with one more segment; an unknown escape goes before an index out of range.
+    fn note(&mut self, flaw: Flaw)
+        ensures steps { self.new.steps ≡ self.old.steps }
+        ensures flaw { Keeps self.old.flaw flaw self.new.flaw }
+    {
+        self.flaw = match (self.flaw, flaw) {
+            (Some(Flaw::Escape), _) | (_, Flaw::Escape) => Some(Flaw::Escape),
+            _ => Some(Flaw::Range),
+        };
+    }
+
+    /// Takes one more segment.
+    pub(crate) fn add(&mut self, alloc: Global, segment: Segment<'_>) -> Result<(), Memory>
+        ensures { OnOk result ((before : List Spelled) (spelled : Spelled) → IsGathered before self.old → IsSaid segment.entry spelled
+            → IsGathered (before ++ spelled ∷ []) self.new) }
+    {
+        match segment.to_step(alloc)? {
+            Ok(step) => self.steps.push(step)?,
+            Err(flaw) => self.note(flaw),
+        }
+        Ok(())
+    }
+
+    /// Takes all segments that a text begins with, and gives what stands behind them.
+    pub(crate) fn gather<'a>(&mut self, alloc: Global, text: &'a str) -> Result<&'a str, Memory>
+        ensures { IfOk result (λ rest. (before : List Spelled) → IsGathered before self.old
+            → (segments : List Spelled) × Segments text.now segments rest.now × IsGathered (before ++ segments) self.new) }
+    {
+        let mut rest = text;
+        while let Some((segment, behind)) = split_dotted(rest) {
+            self.add(alloc, segment)?;
+            rest = behind;
+        }
+        Ok(rest)
+    }
+
+    /// Takes the segments of the path of the event whose dot stands before a text, and gives what stands behind them.
+    pub(crate) fn gather_event<'a>(
+        &mut self,
+        alloc: Global,
+        text: &'a str,
+    ) -> Result<&'a str, Memory>
+        ensures { IfOk result (λ rest. IsGathered [] self.old → (segments : List Spelled) × EventSegments (46 ∷ text.now) segments rest.now × IsGathered segments self.new) }
+    {
+        match split_undotted(text) {
+            Some((first, next)) => {
+                self.add(alloc, first)?;
+                self.gather(alloc, next)
+            }
+            None => Ok(text),
+        }
+    }
+
+    /// The path of the steps, or the code of what is wrong.
+    pub(crate) fn into_path(self) -> Result<Path, u16>
+        ensures { (segments : List Spelled) → IsGathered segments self → MatchResult result (HasSteps segments) (HasFlaw segments) }
+    {
+        match self.flaw {
+            None => Ok(Path::new(self.steps)),
+            Some(Flaw::Escape) => Err(203),
+            Some(Flaw::Range) => Err(1002),
+        }
+    }
+}

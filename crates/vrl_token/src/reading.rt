@@ -1,0 +1,52 @@
+ghost use Rattle.std.specs.Prelude.{◌≡◌, ◌≤◌, length};
+ghost use Rattle.vrl_token.specs.Reading.{IsRead, IsScriptText};
+
+use crate::fault::SyntaxFault;
+use crate::lexer::lexemes;
+use crate::nesting::is_nested_too_deeply;
+use crate::telling::tell;
+use crate::token::Tokens;
+use std::alloc::Global;
+use vrl_diag::{Diagnostic, Span};
+
+// How many bytes a script may have.
+const LONGEST: usize = 65_536;
+
+// A diagnostic about no part of a text.
+fn of_all(code: u16) -> Diagnostic
+    ensures { result ≡ record { code = code; span = record { start = 0; «end» = 0 } } }
+{
+    Diagnostic {
+        code,
+        span: Span { start: 0, end: 0 },
+    }
+}
+
+/// The text of a script. `Err`: 1009 at 0..0, where there are over 65,536 bytes or they are not UTF-8 (RFC 3629). Takes no memory.
+pub fn script_text(bytes: &[u8]) -> Result<&str, Diagnostic>
+    ensures { IsScriptText bytes.now result }
+{
+    if bytes.len() > LONGEST {
+        return Err(of_all(1009));
+    }
+    match str::from_utf8(bytes) {
+        Ok(text) => Ok(text),
+        Err(_) => Err(of_all(1009)),
+    }
+}
+
+/// The tokens of a text of at most 65,536 bytes. The text is scanned once, and its tokens are gone over a few times.
+///
+/// `Fault`: the first of its spellings that is at fault, by place: 203 for what is no spelling, 1001 for a float, 1002 for a number out of
+/// range, 1003 for an operator that is left out, 1014 for a timestamp that RFC 3339 doesn't read, and 1016 for a template or a 257th regex
+/// literal; and where none is, 1008 for tokens that are nested too deeply. `Memory`: want of memory.
+pub fn tokens(alloc: Global, text: &str) -> Result<Tokens, SyntaxFault>
+    requires { length text.now ≤ 65536 }
+    ensures { IsRead text.now result }
+{
+    let found = tell(alloc, lexemes(alloc, text)?)?;
+    if is_nested_too_deeply(alloc, &found)? {
+        return Err(SyntaxFault::Fault(of_all(1008)));
+    }
+    Ok(Tokens::new(found))
+}

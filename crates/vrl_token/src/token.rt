@@ -1,0 +1,146 @@
+ghost use Rattle.std.specs.Prelude.{◌≡◌};
+
+use std::marker::Model;
+use vrl_diag::Span;
+use vrl_path::Path;
+use vrl_value::{Chars, Moment};
+
+/// A token of a script, with what its spelling says.
+#[derive(Drop)]
+pub enum Token {
+    /// `".."`, with its escapes replaced by what they stand for.
+    Text(Chars),
+    /// `s'..'`, where `\'` is a quote and every other backslash stands for itself.
+    RawText(Chars),
+    /// `r'..'`, a regular expression: its source, in which `\'` is a quote and every other backslash stands
+    /// for itself.
+    Regex(Chars),
+    /// `t'..'`, a date and time of RFC 3339.
+    Timestamp(Moment),
+    /// A whole number, with its sign.
+    Number(i64),
+    /// `true`
+    True,
+    /// `false`
+    False,
+    /// `null`
+    Null,
+    /// `if`
+    If,
+    /// `else`
+    Else,
+    /// `abort`
+    Abort,
+    /// `return`
+    Return,
+    /// A name that is no keyword, with no path, parenthesis or bang behind it.
+    Name(Chars),
+    /// The name of a function directly before `(`: `f` of `f(`.
+    Function(Chars),
+    /// The name of a function and a bang directly before `(`: `f!` of `f!(`. The text lacks the bang.
+    BangFunction(Chars),
+    /// A path of the event: `.`, `.a`, `.a[0]`. For `.` alone it has no steps.
+    EventPath(Path),
+    /// A name that is no keyword, with a path of at least one step directly behind: `a.b`, `a[0]`.
+    NamePath(Chars, Path),
+    /// A path of at least one step directly behind `)` or `]`: `.a[0]` of `f().a[0]`.
+    Suffix(Path),
+    /// `=`
+    Assign,
+    /// `|=`
+    MergeAssign,
+    /// `??`
+    Coalesce,
+    /// `||`
+    Or,
+    /// `&&`
+    And,
+    /// `==`
+    Equal,
+    /// `!=`
+    Unequal,
+    /// `<`
+    Less,
+    /// `<=`
+    AtMost,
+    /// `>`
+    More,
+    /// `>=`
+    AtLeast,
+    /// `|` as the operator that merges objects.
+    Merge,
+    /// `+`
+    Plus,
+    /// `-` as the operator; the minus of a number is part of the number.
+    Minus,
+    /// `*`
+    Times,
+    /// `!` that is no part of a function's name.
+    Not,
+    /// `(`
+    OpenParenthesis,
+    /// `)`
+    CloseParenthesis,
+    /// `[`
+    OpenBracket,
+    /// `]`
+    CloseBracket,
+    /// `{` that opens a block.
+    OpenBlock,
+    /// `{` that opens an object.
+    OpenObject,
+    /// `}`, whatever it closes.
+    CloseBrace,
+    /// `|` behind `->`, which opens the names of a closure.
+    OpenBars,
+    /// `|` that closes the names of a closure.
+    CloseBars,
+    /// `,`
+    Comma,
+    /// `:`
+    Colon,
+    /// `->`
+    Arrow,
+    /// What parts items: `;`, or a newline that parts. Newlines that don't are no tokens.
+    Separator,
+}
+
+/// A token and where it stands.
+#[derive(Drop)]
+pub struct Spanned {
+    /// The token.
+    pub token: Token,
+    /// The bytes of its spelling.
+    pub span: Span,
+}
+
+/// Tokens in the order in which they stand. A contract sees their list.
+#[derive(Drop)]
+pub struct Tokens {
+    tokens: Vec<Spanned>,
+}
+
+impl Model for Tokens {
+    ghost use Rattle.std.specs.Prelude.{List};
+    ghost use Rattle.vrl_token.specs.declared.token.Spanned.{Spanned};
+
+    ghost Value = { List Spanned };
+
+    ghost view = { λ t. t.tokens.items };
+}
+
+impl Tokens {
+    /// These tokens, which it keeps.
+    pub fn new(tokens: Vec<Spanned>) -> Tokens
+        ensures { result ≡ tokens.items }
+    {
+        Tokens { tokens }
+    }
+
+    /// The tokens, borrowed.
+    pub fn as_slice(&self) -> &[Spanned]
+        ensures { result.now ≡ self.now }
+    {
+        &self.tokens
+    }
+}
