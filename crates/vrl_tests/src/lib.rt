@@ -6,6 +6,8 @@ mod devices;
 #[cfg(test)]
 mod diagnostics;
 #[cfg(test)]
+mod kinds;
+#[cfg(test)]
 mod lines;
 #[cfg(test)]
 mod paths;

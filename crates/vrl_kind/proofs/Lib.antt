@@ -1,0 +1,17 @@
+pub mod Ahead
+pub mod Found
+pub mod Gathering
+pub mod Inclusion
+pub mod Inhabiting
+pub mod Joins
+pub mod Known
+pub mod Making
+pub mod Merging
+pub mod Naming
+pub mod OneKind
+pub mod Sameness
+pub mod Shapes
+pub mod Sizes
+pub mod Slices
+pub mod TagTests
+pub mod Texts

@@ -1,0 +1,28 @@
+use Rattle.std.proofs.Common.{◌≡◌, ◌+◌, ◌*◌, ◌-◌, ◌^◌, min, take}
+use Rattle.vrl_kind.specs.Count as count
+use Rattle.vrl_kind.specs.View.{list_of, object_of, places_view, fields_view, rest_of}
+use Rattle.vrl_kind.proofs.count.+nodes.Given as goal
+
+abbrev pub invariant-fields_nodes-loop-field : goal.invariant-fields_nodes-loop-field
+invariant-fields_nodes-loop-field l = l.sum ≡ min (count.fields_nodes (fields_view (take l.field-index l.fields))) (2 ^ 64 - 1)
+
+abbrev pub invariant-places_nodes-loop-kind : goal.invariant-places_nodes-loop-kind
+invariant-places_nodes-loop-kind l = l.sum ≡ min (count.places_nodes (places_view (take l.kind-index l.kinds))) (2 ^ 64 - 1)
+
+abbrev pub decreases-nodes : goal.decreases-nodes
+decreases-nodes l = 3 * count.nodes l.kind.now
+
+abbrev pub decreases-list_nodes : goal.decreases-list_nodes
+decreases-list_nodes l = 3 * count.list_nodes (list_of l.list.now) + 2
+
+abbrev pub decreases-object_nodes : goal.decreases-object_nodes
+decreases-object_nodes l = 3 * count.object_nodes (object_of l.object.now) + 2
+
+abbrev pub decreases-places_nodes : goal.decreases-places_nodes
+decreases-places_nodes l = 3 * count.places_nodes (places_view l.kinds.now) + 1
+
+abbrev pub decreases-fields_nodes : goal.decreases-fields_nodes
+decreases-fields_nodes l = 3 * count.fields_nodes (fields_view l.fields.now) + 1
+
+abbrev pub decreases-rest_nodes : goal.decreases-rest_nodes
+decreases-rest_nodes l = 3 * count.rest_nodes (rest_of l.rest.now) + 1

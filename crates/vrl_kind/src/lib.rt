@@ -1,0 +1,35 @@
+//! Kinds: which sorts of value may stand at each path of an event, a variable or an expression's value.
+//!
+//! A contract sees a [`Kind`] as its tree, and says what it means by the one function `tags_at`, from the
+//! tree and a path to a set of tags. Each kind is kept in one form, so that two kinds that allow the same at
+//! every path are one tree.
+#![tactic(auto)]
+
+mod count;
+mod inference;
+mod joining;
+mod kind;
+mod laws;
+mod limits;
+mod make;
+mod membership;
+mod merge;
+mod order;
+mod printing;
+mod same;
+mod scalars;
+mod seen;
+
+pub use count::{levels, nodes};
+pub use inference::kind_of;
+pub use joining::{join, parts};
+pub use kind::{
+    Kind, KindField, KindFields, Kinds, Rest, has, kind_is_canonical, list_part, object_part,
+};
+pub use laws::equal_tags_are_one_kind;
+pub use limits::{LEVEL_LIMIT, NODE_LIMIT, cut, flatten};
+pub use make::without;
+pub use membership::inhabits;
+pub use order::{TAGS, disjoint, within};
+pub use printing::print;
+pub use scalars::Scalars;
