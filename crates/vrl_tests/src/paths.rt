@@ -1,16 +1,37 @@
+ghost use Rattle.std.specs.Prelude.{IfOk};
+ghost use Rattle.vrl_path.specs.Steps.{IsPlain, IsWritable};
+
 use std::alloc::Global;
 use std::collections::BTreeMap;
 use std::process::Abort;
 use vrl_path::{Path, SetFault, Step, exists, get, put, remove, set};
 use vrl_value::{Chars, Fields, Items, Memory, Value};
 
-// `.a`, and behind it a place, where one is told.
-fn path(alloc: Global, place: Option<i64>) -> Result<Path, Memory> {
+// `.a`
+fn field(alloc: Global) -> Result<Path, Memory>
+    ensures { IfOk result (λ path. IsWritable path) }
+{
     let mut steps = Vec::new(alloc);
     steps.push(Step::Field(Chars::copy_of(alloc, "a")?))?;
-    if let Some(place) = place {
-        steps.push(Step::Place(place))?;
-    }
+    Ok(Path::new(steps))
+}
+
+// A place of `.a`, which is one from 0 to 65,535.
+fn part(alloc: Global, place: u16) -> Result<Path, Memory>
+    ensures writable { IfOk result (λ path. IsWritable path) }
+    ensures plain { IfOk result (λ path. IsPlain path) }
+{
+    let mut steps = Vec::new(alloc);
+    steps.push(Step::Field(Chars::copy_of(alloc, "a")?))?;
+    steps.push(Step::Place(place as i64))?;
+    Ok(Path::new(steps))
+}
+
+// A place of `.a`, whatever its sign.
+fn signed_part(alloc: Global, place: i64) -> Result<Path, Memory> {
+    let mut steps = Vec::new(alloc);
+    steps.push(Step::Field(Chars::copy_of(alloc, "a")?))?;
+    steps.push(Step::Place(place))?;
     Ok(Path::new(steps))
 }
 
@@ -53,7 +74,7 @@ fn expect_read(
     wanted: Option<i64>,
 ) -> Result<(), Memory> {
     let value = object(alloc, array(alloc, &[1, 2])?)?;
-    let path = path(alloc, Some(place))?;
+    let path = signed_part(alloc, place)?;
     let found = match get(&value, &path) {
         Some(Value::Int(number)) => Some(*number),
         _ => None,
@@ -80,9 +101,9 @@ fn reads(rt: HostRuntime) -> Result<(), Memory> {
         expect_read(&rt, alloc, *place, *wanted)?;
     }
     let null = object(alloc, Value::Null)?;
-    assert!(rt; exists(&null, &path(alloc, None)?) && exists(&null, &Path::new(Vec::new(alloc))));
+    assert!(rt; exists(&null, &field(alloc)?) && exists(&null, &Path::new(Vec::new(alloc))));
     let empty = object(alloc, array(alloc, &[])?)?;
-    assert!(rt; get(&empty, &path(alloc, Some(-1))?).is_none());
+    assert!(rt; get(&empty, &signed_part(alloc, -1)?).is_none());
     Ok(())
 }
 
@@ -90,12 +111,12 @@ fn reads(rt: HostRuntime) -> Result<(), Memory> {
 fn sets_and_removals(rt: HostRuntime) -> Result<(), Memory> {
     let alloc = rt.alloc();
     let mut value = object(alloc, Value::Text(Chars::copy_of(alloc, "t")?))?;
-    let third = path(alloc, Some(2))?;
+    let third = part(alloc, 2)?;
     assert!(rt; set(alloc, &mut value, &third, Value::Int(1)).is_ok());
     assert!(rt; value.same(&object(alloc, array(alloc, &[-1, -1, 1])?)?));
 
     let mut pair = object(alloc, array(alloc, &[1, 2])?)?;
-    let removed = remove(&mut pair, &path(alloc, Some(0))?);
+    let removed = remove(&mut pair, &part(alloc, 0)?);
     assert!(rt; matches!(removed, Some(Value::Int(1))));
     assert!(rt; pair.same(&object(alloc, array(alloc, &[2])?)?));
     Ok(())
@@ -104,7 +125,7 @@ fn sets_and_removals(rt: HostRuntime) -> Result<(), Memory> {
 #[test]
 fn depths(rt: HostRuntime) -> Result<(), Memory> {
     let alloc = rt.alloc();
-    let field = path(alloc, None)?;
+    let field = field(alloc)?;
     let mut value = Value::Object(Fields::new(BTreeMap::new(alloc)));
     let outcome = set(alloc, &mut value, &field, nest(alloc, 128)?);
     assert!(rt; outcome == Err(SetFault::TooDeep) && value.depth() == 1 && !exists(&value, &field));
