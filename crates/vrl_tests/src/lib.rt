@@ -1,23 +1,15 @@
-//! The tests of the libraries, in a crate of their own, since a library with a test is proved twice.
+//! The tests of values, paths, lines and devices, in a crate of their own, since a library with a test is proved twice; and
+//! what other crates of tests use.
 #![tactic(auto)]
 
 #[cfg(test)]
 mod devices;
 #[cfg(test)]
-mod diagnostics;
-#[cfg(test)]
-mod kinds;
-#[cfg(test)]
 mod lines;
 #[cfg(test)]
 mod paths;
-#[cfg(test)]
-mod scripts;
-#[cfg(test)]
 mod sharing;
 #[cfg(test)]
-mod tokens;
-#[cfg(test)]
-mod trees;
-#[cfg(test)]
 mod values;
+
+pub use sharing::shareable;

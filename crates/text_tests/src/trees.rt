@@ -1,10 +1,10 @@
 // What a part of a script writes, told of trees that are made by hand.
-use crate::sharing::shareable;
 use std::alloc::Global;
 use std::process::Abort;
 use vrl_diag::Span;
 use vrl_path::{Path, Step};
 use vrl_syntax::{Expr, Exprs, Form, Root, Script, Target, limit_faults, written_roots};
+use vrl_tests::shareable;
 use vrl_value::{Memory, Names, Value};
 
 const SPAN: Span = Span { start: 2, end: 5 };

@@ -1,7 +1,6 @@
 ghost use Rattle.std.specs.Prelude.{◌≤◌, length};
 
 // Scripts, from their text to the event that they leave.
-use crate::sharing::shareable;
 use std::alloc::Global;
 use std::collections::BTreeMap;
 use std::process::Abort;
@@ -10,6 +9,7 @@ use vrl_compile::{
     Chain, Compiled, Diagnostics, Form, Item, Operator, Place, SCRIPT_LIMIT, Span, compile, parse,
     run, scripts_are_sound,
 };
+use vrl_tests::shareable;
 use vrl_value::{Fields, Memory, Value};
 
 /// How many items a text has as a script; `None`: it is none.

@@ -1,0 +1,11 @@
+//! The tests of scripts as texts: diagnostics, tokens, trees, and what is compiled of them.
+#![tactic(auto)]
+
+#[cfg(test)]
+mod diagnostics;
+#[cfg(test)]
+mod scripts;
+#[cfg(test)]
+mod tokens;
+#[cfg(test)]
+mod trees;
