@@ -1,8 +1,9 @@
 -- What the values of a run stand for: words of the code for those of `Meaning`.
 use Rattle.std.specs.Prelude.{◌++◌, codes}
+use Rattle.vrl_value.specs.Tag.{word_of}
 use Rattle.vrl_value.specs.Tree.{Tree}
 use Rattle.vrl_value.specs.View.{tree_of, members_of}
-use Rattle.vrl_compile.specs.Meaning.{Store, Outcome, value, error, sum_of, word_of}
+use Rattle.vrl_compile.specs.Meaning.{Store, Outcome, value, error, sum_of}
 use Rattle.vrl_compile.specs.declared.execution.Store.{Store as CodeStore}
 use Rattle.vrl_compile.specs.declared.execution.Outcome.{Outcome as CodeOutcome}
 use Rattle.vrl_compile.specs.declared.execution.Outcome.TheVariants as code

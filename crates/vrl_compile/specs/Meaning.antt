@@ -3,9 +3,7 @@
 use Rattle.std.specs.Prelude.{ℕ, List, [], ◌∷◌, ◌++◌, unwrap_or, codes}
 use Rattle.std.specs.Int.{w64, int_wrapping_add}
 use Rattle.vrl_value.specs.Tree.{Tree, string, integer, boolean, null, timestamp, regex, array, object, Members, no_members, put, find}
-use Rattle.vrl_value.specs.declared.value.Tag.{Tag}
-use Rattle.vrl_value.specs.declared.value.Tag.TheVariants as tag
-use Rattle.vrl_compile.specs.Tags.{tag_of}
+use Rattle.vrl_value.specs.Tag.{tag_of, word_of}
 use Rattle.vrl_compile.specs.declared.syntax.Place.{Place}
 use Rattle.vrl_compile.specs.declared.syntax.Place.TheVariants.{Field, Variable}
 use Rattle.vrl_compile.specs.declared.syntax.Form.{Form}
@@ -53,18 +51,6 @@ pub data Outcome : Type 0 where
 pub record Ended : Type 0 where
   pub outcome : Outcome
   pub store : Store
-
--- the word of a tag in messages
-abbrev pub word_of : Tag → List ℕ
-word_of tag.Text = codes "string"
-word_of tag.Int = codes "integer"
-word_of tag.Bool = codes "boolean"
-word_of tag.Null = codes "null"
-word_of tag.Time = codes "timestamp"
-word_of tag.Pattern = codes "regex"
-word_of tag.List = codes "array"
-word_of tag.Object = codes "object"
-word_of tag.Absent = codes "absent"
 
 abbrev pub cannot_add : Tree → Tree → Outcome
 cannot_add v w = error (codes "cannot apply + to " ++ (word_of (tag_of v) ++ (codes " and " ++ word_of (tag_of w))))

@@ -5,7 +5,7 @@ use Rattle.std.specs.Option.{option_map_or}
 use Rattle.std.specs.List.{list_all}
 use Rattle.vrl_diag.specs.Codes.{Row, rows, severity_of}
 use Rattle.vrl_diag.specs.Table.{row_in}
-use Rattle.vrl_diag.specs.declared.code.Row.{Row as CodeRow}
+use Rattle.vrl_diag.specs.declared.titles.Row.{Row as CodeRow}
 use Rattle.vrl_diag.specs.declared.diagnostic.Severity.{Severity}
 use Rattle.vrl_diag.specs.declared.diagnostic.Severity.TheVariants.{Warning, Error}
 

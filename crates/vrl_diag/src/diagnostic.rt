@@ -76,4 +76,11 @@ impl Diagnostics {
     {
         &self.diagnostics
     }
+
+    /// The diagnostics, given back. It takes no memory.
+    pub fn into_vec(self) -> Vec<Diagnostic>
+        ensures { result.items ≡ self }
+    {
+        self.diagnostics
+    }
 }

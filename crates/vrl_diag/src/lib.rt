@@ -1,11 +1,12 @@
 //! Diagnostics of a script: what is wrong, where, and how it is told.
 #![tactic(auto)]
 
-mod code;
+pub mod code;
 mod diagnostic;
 mod position;
 mod rendering;
+mod titles;
 
-pub use code::{severity, title};
 pub use diagnostic::{Diagnostic, Diagnostics, Severity, Span};
 pub use rendering::{render, render_all};
+pub use titles::{severity, title};

@@ -2,9 +2,9 @@ ghost use Rattle.std.specs.Prelude.{◌≡◌, ℕ, List, IfOk, take, string_byt
 ghost use Rattle.vrl_diag.specs.Position.{IsEnd};
 ghost use Rattle.vrl_diag.specs.Rendering.{diagnostic_line, diagnostic_lines};
 
-use crate::code::{severity, title};
 use crate::diagnostic::Diagnostic;
 use crate::position::Position;
+use crate::titles::{severity, title};
 use std::alloc::Global;
 use vrl_value::{Chars, Memory};
 

@@ -3,6 +3,8 @@ use Rattle.std.specs.Prelude.{Bool, true, false, ◌&&◌, not, ℕ, ◌++◌, L
 use Rattle.vrl_kind.specs.KindTree.{KindTree, kind, ListTree, no_list, list_part, ObjectTree, no_object, object_part, RestTree, nothing, json_rest, any_rest, exact, Places, no_places, known_place, KnownFields, no_fields, known_field}
 use Rattle.vrl_kind.specs.Canonical.{allows_absent}
 use Rattle.json.specs.Print.{quoted}
+use Rattle.vrl_value.specs.Tag.{word_of}
+use Rattle.vrl_value.specs.declared.value.Tag.TheVariants as tag
 use Rattle.vrl_kind.specs.declared.scalars.Scalars.{Scalars}
 
 -- the words with this between any two
@@ -17,7 +19,7 @@ word_if true w ws = w ∷ ws
 word_if false w ws = ws
 
 abbrev pub scalar_words : Scalars → List (List ℕ) → List (List ℕ)
-scalar_words s ws = word_if s.string (codes "string") (word_if s.integer (codes "integer") (word_if s.boolean (codes "boolean") (word_if s.null (codes "null") (word_if s.timestamp (codes "timestamp") (word_if s.regex (codes "regex") ws)))))
+scalar_words s ws = word_if s.string (word_of tag.Text) (word_if s.integer (word_of tag.Int) (word_if s.boolean (word_of tag.Bool) (word_if s.null (word_of tag.Null) (word_if s.timestamp (word_of tag.Time) (word_if s.regex (word_of tag.Pattern) ws)))))
 
 -- no tag at all but absent
 abbrev pub is_never : KindTree → Bool

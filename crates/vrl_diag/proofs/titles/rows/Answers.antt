@@ -1,6 +1,6 @@
 use Rattle.std.proofs.Common.{refl}
 use Rattle.vrl_diag.specs.Codes.{rows}
-use Rattle.vrl_diag.proofs.code.rows.Goals as goal
+use Rattle.vrl_diag.proofs.titles.rows.Goals as goal
 
 pub returns : goal.returns
 unfolding rows
