@@ -4,6 +4,7 @@ mod Counts
 mod Determined
 mod Digits
 mod Escapes
+mod FaultCodes
 mod Floats
 mod LastTokens
 mod Leading
@@ -11,12 +12,14 @@ mod Nestings
 mod Only
 mod OpenBrackets
 mod Outcomes
+mod Placed
 mod Quotes
 mod Readied
 mod Runs
 mod SegmentLemmas
 mod Shorter
 mod Starts
+mod Stepped
 mod Strays
 mod Told
 mod Unique

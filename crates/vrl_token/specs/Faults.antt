@@ -66,3 +66,7 @@ pub data IsFault (before : List Piece) (text : List ℕ) (code : ℕ) (rest : Li
   coalescing_assignment : text ≡ 63 ∷ 63 ∷ 61 ∷ rest → code ≡ 1003 → IsFault before text code rest
   -- a character that is part of no spelling
   stray : IsStray text → IsBehindCharacter text rest → code ≡ 203 → IsFault before text code rest
+
+-- the codes that a fault of a spelling can have
+abbrev pub spelling_codes : List ℕ
+spelling_codes = 203 ∷ 1001 ∷ 1002 ∷ 1003 ∷ 1014 ∷ 1016 ∷ []

@@ -13,7 +13,9 @@ pub mod Words
 pub mod Pieces
 pub mod Faults
 pub mod Division
-pub mod Lexing
+pub mod OnFault
+pub mod Placing
+pub mod TokenList
 pub mod Brackets
 pub mod Nesting
 pub mod Depths

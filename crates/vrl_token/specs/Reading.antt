@@ -1,15 +1,13 @@
 -- The tokens of a text, and what is wrong with it.
-use Rattle.std.specs.Prelude.{◌≡◌, ℕ, ◌<◌, ◌≤◌, ◌⊎◌, List, [], length, map, reverse, Result, Ok, Err}
-use denote.Ref.{Bor}
+use Rattle.std.specs.Prelude.{◌≡◌, ℕ, ◌<◌, ◌⊎◌, List, [], ◌∷◌, length, map, reverse}
 use Rattle.std.specs.Str.{IsUtf8}
-use Rattle.vrl_token.specs.declared.fault.SyntaxFault.{SyntaxFault}
-use Rattle.vrl_token.specs.declared.fault.SyntaxFault.TheVariants.{Fault, Memory}
 use Rattle.vrl_diag.specs.declared.diagnostic.Diagnostic.{Diagnostic}
 use Rattle.vrl_token.specs.declared.piece.Lexeme.{Lexeme}
 use Rattle.vrl_token.specs.declared.token.Spanned.{Spanned}
 use Rattle.vrl_token.specs.declared.token.Token.{Token}
 use Rattle.vrl_token.specs.Division.{IsDivision, IsFirstFault, kept}
 use Rattle.vrl_token.specs.Brackets.{told}
+use Rattle.vrl_token.specs.Faults.{spelling_codes}
 use Rattle.vrl_token.specs.Nesting.{IsTooDeep}
 
 -- the tokens without their spans, from the last one on
@@ -38,13 +36,10 @@ pub record IsNestedTooDeeply (text : List ℕ) (fault : Diagnostic) : Type 0 whe
 abbrev pub IsWrong : List ℕ → Diagnostic → Type 0
 IsWrong text fault = IsFirstFault text fault ⊎ IsNestedTooDeeply text fault
 
--- the tokens of a text, or what is wrong with it; want of memory says nothing of it
-abbrev pub IsRead : List ℕ → Result (List Spanned) SyntaxFault → Type 0
-IsRead text (Ok tokens) = IsTokenized text tokens
-IsRead text (Err (Fault fault)) = IsWrong text fault
-IsRead text (Err Memory) = Unit {0}
+-- the codes that a fault of a text can have
+abbrev pub lexical_codes : List ℕ
+lexical_codes = 1008 ∷ spelling_codes
 
--- the bytes as a text, or that they are too many or no UTF-8
-abbrev pub IsScriptText : List ℕ → Result (Bor (List ℕ)) Diagnostic → Type 0
-IsScriptText bytes (Ok text) = (text.now ≡ bytes) × (length bytes ≤ 65536) × IsUtf8 bytes
-IsScriptText bytes (Err fault) = ((65536 < length bytes) ⊎ ¬ IsUtf8 bytes) × (fault ≡ record { code = 1009; span = record { start = 0; «end» = 0 } })
+-- the bytes are no script's text: too many, or no UTF-8
+abbrev pub IsNoScript : List ℕ → Type 0
+IsNoScript bytes = (65536 < length bytes) ⊎ ¬ IsUtf8 bytes

@@ -14,6 +14,11 @@ pub enum SyntaxFault {
 }
 
 impl fmt::Display for SyntaxFault {
+    ghost use Rattle.std.specs.Prelude.{Some};
+    ghost use Rattle.vrl_token.specs.OnFault.{fault_text};
+
+    ghost output = { λ fault. Some (fault_text fault) };
+
     fn fmt<W: fmt::Write>(&self, f: &mut fmt::Formatter<W>) -> fmt::Result {
         match self {
             SyntaxFault::Fault(fault) => {

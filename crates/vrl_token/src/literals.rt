@@ -15,6 +15,7 @@ use crate::quoted::{raw, split_quoted, unescaped};
 use crate::scan::{Class, begins_in};
 use crate::token::Token;
 use std::alloc::Global;
+use vrl_diag::code;
 use vrl_value::{Chars, Memory, Moment};
 
 // A token that a text begins with, and what stands behind it.
@@ -40,7 +41,7 @@ fn cut_escaped(text: Chars, rest: &str) -> Cut<'_>
         → IsCutOf before opening result }
 {
     if has_template(text.as_str()) {
-        return Cut::Fault(1016, rest.len());
+        return Cut::Fault(code::TEMPLATE_OR_TOO_MANY_REGEXES, rest.len());
     }
     token(Token::Text(text), rest)
 }
@@ -50,10 +51,10 @@ pub(crate) fn cut_text(alloc: Global, behind: &str) -> Result<Cut<'_>, Memory>
     ensures { IfOk result (λ cut. (before : List SpecPiece) → IsCutOf before (34 ∷ behind.now) cut) }
 {
     let Some((inner, rest)) = split_quoted(behind, b'"') else {
-        return Ok(Cut::Fault(203, 0));
+        return Ok(Cut::Fault(code::UNRECOGNIZED_TOKEN, 0));
     };
     match unescaped(alloc, inner)? {
-        None => Ok(Cut::Fault(203, rest.len())),
+        None => Ok(Cut::Fault(code::UNRECOGNIZED_TOKEN, rest.len())),
         Some(text) => Ok(cut_escaped(text, rest)),
     }
 }
@@ -67,10 +68,10 @@ fn cut_value<'a>(letter: u8, value: Chars, rest: &'a str, regexes_left: usize) -
     match letter {
         b's' => token(Token::RawText(value), rest),
         b'r' if regexes_left > 0 => token(Token::Regex(value), rest),
-        b'r' => Cut::Fault(1016, rest.len()),
+        b'r' => Cut::Fault(code::TEMPLATE_OR_TOO_MANY_REGEXES, rest.len()),
         _ => match Moment::read(value.as_str()) {
             Some(moment) => token(Token::Timestamp(moment), rest),
-            None => Cut::Fault(1014, rest.len()),
+            None => Cut::Fault(code::MALFORMED_TIMESTAMP, rest.len()),
         },
     }
 }
@@ -86,7 +87,7 @@ pub(crate) fn cut_raw<'a>(
     ensures { IfOk result (λ cut. (before : List SpecPiece) → regexes_left ≡ 256 - regexes_before before → IsCutOf before (letter ∷ 39 ∷ behind.now) cut) }
 {
     let Some((inner, rest)) = split_quoted(behind, b'\'') else {
-        return Ok(Cut::Fault(203, 0));
+        return Ok(Cut::Fault(code::UNRECOGNIZED_TOKEN, 0));
     };
     Ok(cut_value(letter, raw(alloc, inner)?, rest, regexes_left))
 }
@@ -98,13 +99,13 @@ pub(crate) fn cut_number(negative: bool, unsigned: &str) -> Cut<'_>
 {
     let (digits, rest) = split_digits(unsigned);
     if let Some(behind) = behind_float(rest) {
-        return Cut::Fault(1001, behind.len());
+        return Cut::Fault(code::FLOAT_LITERAL, behind.len());
     }
     if begins_in(rest, Class::NameStart) {
-        return Cut::Fault(203, rest.len());
+        return Cut::Fault(code::UNRECOGNIZED_TOKEN, rest.len());
     }
     match number_of(negative, digits) {
         Some(number) => token(Token::Number(number), rest),
-        None => Cut::Fault(1002, rest.len()),
+        None => Cut::Fault(code::NUMBER_OUT_OF_RANGE, rest.len()),
     }
 }

@@ -5,6 +5,7 @@ ghost use Rattle.vrl_token.specs.Segments.{IsSaid};
 
 use crate::segment::{Flaw, Segment, split_dotted, split_undotted};
 use std::alloc::Global;
+use vrl_diag::code;
 use vrl_path::{Path, Step};
 use vrl_value::Memory;
 
@@ -85,8 +86,8 @@ impl Gathering {
     {
         match self.flaw {
             None => Ok(Path::new(self.steps)),
-            Some(Flaw::Escape) => Err(203),
-            Some(Flaw::Range) => Err(1002),
+            Some(Flaw::Escape) => Err(code::UNRECOGNIZED_TOKEN),
+            Some(Flaw::Range) => Err(code::NUMBER_OUT_OF_RANGE),
         }
     }
 }

@@ -1,13 +1,17 @@
-ghost use Rattle.std.specs.Prelude.{◌≡◌, ◌≤◌, length};
-ghost use Rattle.vrl_token.specs.Reading.{IsRead, IsScriptText};
+ghost use Rattle.std.specs.Prelude.{◌≡◌, ◌≤◌, All, Contains, IfErr, IfOk, IsErr, IsUtf8, List, length, ◌↔◌};
+ghost use Rattle.vrl_token.specs.OnFault.{OnFault};
+ghost use Rattle.vrl_token.specs.Placing.{HasStep, InOrderFrom, spans_of};
+ghost use Rattle.vrl_token.specs.Reading.{IsNoScript, IsTokenized, IsWrong, lexical_codes};
+ghost use Rattle.vrl_token.specs.declared.token.Spanned.{Spanned as SpecSpanned};
 
 use crate::fault::SyntaxFault;
+use crate::laws::tokens_are_determined;
 use crate::lexer::lexemes;
 use crate::nesting::is_nested_too_deeply;
 use crate::telling::tell;
 use crate::token::Tokens;
 use std::alloc::Global;
-use vrl_diag::{Diagnostic, Span};
+use vrl_diag::{Diagnostic, Span, code};
 
 // How many bytes a script may have.
 const LONGEST: usize = 65_536;
@@ -24,14 +28,17 @@ fn of_all(code: u16) -> Diagnostic
 
 /// The text of a script. `Err`: 1009 at 0..0, where there are over 65,536 bytes or they are not UTF-8 (RFC 3629). Takes no memory.
 pub fn script_text(bytes: &[u8]) -> Result<&str, Diagnostic>
-    ensures { IsScriptText bytes.now result }
+    ensures text { IfOk result (λ text. text.now ≡ bytes.now) }
+    ensures ok { IfOk result (λ text. (length text.now ≤ 65536) × IsUtf8 text.now) }
+    ensures err { IsErr result ↔ IsNoScript bytes.now }
+    ensures fault { IfErr result (λ fault. fault ≡ record { code = 1009; span = record { start = 0; «end» = 0 } }) }
 {
     if bytes.len() > LONGEST {
-        return Err(of_all(1009));
+        return Err(of_all(code::SCRIPT_TOO_LONG_OR_NOT_UTF8));
     }
     match str::from_utf8(bytes) {
         Ok(text) => Ok(text),
-        Err(_) => Err(of_all(1009)),
+        Err(_) => Err(of_all(code::SCRIPT_TOO_LONG_OR_NOT_UTF8)),
     }
 }
 
@@ -42,11 +49,18 @@ pub fn script_text(bytes: &[u8]) -> Result<&str, Diagnostic>
 /// literal; and where none is, 1008 for tokens that are nested too deeply. `Memory`: want of memory.
 pub fn tokens(alloc: Global, text: &str) -> Result<Tokens, SyntaxFault>
     requires { length text.now ≤ 65536 }
-    ensures { IsRead text.now result }
+    ensures ok { IfOk result (λ found. IsTokenized text.now found.tokens) }
+    ensures end_is { IfOk result (λ found. found.«end» ≡ length text.now) }
+    ensures spans { IfOk result (λ found. InOrderFrom 0 (length text.now) (spans_of found.tokens)) }
+    ensures steps { IfOk result (λ found. All (λ t. HasStep t.token) found.tokens) }
+    ensures fault { IfErr result (OnFault (IsWrong text.now)) }
+    ensures code { IfErr result (OnFault (λ d. Contains lexical_codes d.code)) }
+    ensures no_tokens { IfErr result (OnFault (λ _. (tokens : List SpecSpanned) → ¬ IsTokenized text.now tokens)) }
 {
+    tokens_are_determined();
     let found = tell(alloc, lexemes(alloc, text)?)?;
     if is_nested_too_deeply(alloc, &found)? {
-        return Err(SyntaxFault::Fault(of_all(1008)));
+        return Err(SyntaxFault::Fault(of_all(code::NESTED_TOO_DEEPLY)));
     }
-    Ok(Tokens::new(found))
+    Ok(Tokens::new(found, text.len() as u32))
 }

@@ -9,6 +9,7 @@ use crate::cut::Cut;
 use crate::piece::Piece;
 use crate::scan::strip_mark;
 use crate::token::Token;
+use vrl_diag::code;
 
 // A sign that may go on with `=`: the token alone, or joined with it. The sign's first byte stands before the text.
 fn cut_equals(alone: Token, joined: Token, behind: &str) -> Cut<'_>
@@ -38,10 +39,13 @@ fn cut_question(behind: &str) -> Cut<'_>
     ensures { (before : List SpecPiece) → IsCutOf before (63 ∷ behind.now) result }
 {
     let Some(rest) = strip_mark(behind, '?') else {
-        return Cut::Fault(203, left_behind_character(behind.as_bytes()));
+        return Cut::Fault(
+            code::UNRECOGNIZED_TOKEN,
+            left_behind_character(behind.as_bytes()),
+        );
     };
     match strip_mark(rest, '=') {
-        Some(end) => Cut::Fault(1003, end.len()),
+        Some(end) => Cut::Fault(code::OPERATOR_LEFT_OUT, end.len()),
         None => Cut::Piece(Piece::Word(Token::Coalesce), rest),
     }
 }
@@ -52,7 +56,10 @@ fn cut_ampersand(behind: &str) -> Cut<'_>
 {
     match strip_mark(behind, '&') {
         Some(rest) => Cut::Piece(Piece::Word(Token::And), rest),
-        None => Cut::Fault(203, left_behind_character(behind.as_bytes())),
+        None => Cut::Fault(
+            code::UNRECOGNIZED_TOKEN,
+            left_behind_character(behind.as_bytes()),
+        ),
     }
 }
 
@@ -117,7 +124,7 @@ pub(crate) fn cut_stray(text: &str) -> Cut<'_>
     ensures { (before : List SpecPiece) → IsCutOf before text.now result }
 {
     let (_, behind) = text.as_bytes().split_at(1);
-    Cut::Fault(203, left_behind_character(behind))
+    Cut::Fault(code::UNRECOGNIZED_TOKEN, left_behind_character(behind))
 }
 
 /// The sign whose first byte stands before the text, or what is wrong with it.
@@ -135,11 +142,14 @@ pub(crate) fn cut_sign(first: u8, behind: &str) -> Cut<'_>
         b'&' => cut_ampersand(behind),
         b'-' => cut_dash(behind),
         b'{' => Cut::Piece(Piece::Brace, behind),
-        b'/' => Cut::Fault(1003, behind.len()),
-        b'%' => Cut::Fault(1003, behind.len()),
+        b'/' => Cut::Fault(code::OPERATOR_LEFT_OUT, behind.len()),
+        b'%' => Cut::Fault(code::OPERATOR_LEFT_OUT, behind.len()),
         _ => match single(first) {
             Some(sign) => Cut::Piece(Piece::Word(sign), behind),
-            None => Cut::Fault(203, left_behind_character(behind.as_bytes())),
+            None => Cut::Fault(
+                code::UNRECOGNIZED_TOKEN,
+                left_behind_character(behind.as_bytes()),
+            ),
         },
     }
 }

@@ -114,33 +114,47 @@ pub struct Spanned {
     pub span: Span,
 }
 
-/// Tokens in the order in which they stand. A contract sees their list.
+/// Tokens in the order in which they stand, and where their text ends. A contract sees their list and that place.
 #[derive(Drop)]
 pub struct Tokens {
     tokens: Vec<Spanned>,
+    end: u32,
 }
 
 impl Model for Tokens {
-    ghost use Rattle.std.specs.Prelude.{List};
-    ghost use Rattle.vrl_token.specs.declared.token.Spanned.{Spanned};
+    ghost use Rattle.vrl_token.specs.TokenList.{TokenList};
 
-    ghost Value = { List Spanned };
+    ghost Value = { TokenList };
 
-    ghost view = { λ t. t.tokens.items };
+    ghost view = { λ t. record { tokens = t.tokens.items; «end» = t.«end» } };
 }
 
 impl Tokens {
-    /// These tokens, which it keeps.
-    pub fn new(tokens: Vec<Spanned>) -> Tokens
-        ensures { result ≡ tokens.items }
+    /// These tokens, which it keeps, of a text with so many bytes.
+    pub fn new(tokens: Vec<Spanned>, end: u32) -> Tokens
+        ensures { result ≡ record { tokens = tokens.items; «end» = end } }
     {
-        Tokens { tokens }
+        Tokens { tokens, end }
     }
 
     /// The tokens, borrowed.
     pub fn as_slice(&self) -> &[Spanned]
-        ensures { result.now ≡ self.now }
+        ensures { result.now ≡ self.now.tokens }
     {
         &self.tokens
+    }
+
+    /// The tokens, given back. It takes no memory.
+    pub fn into_vec(self) -> Vec<Spanned>
+        ensures { result.items ≡ self.tokens }
+    {
+        self.tokens
+    }
+
+    /// Where their text ends: how many bytes it has.
+    pub fn end(&self) -> u32
+        ensures { result ≡ self.now.«end» }
+    {
+        self.end
     }
 }

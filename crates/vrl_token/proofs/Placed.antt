@@ -1,0 +1,59 @@
+-- Where tokens stand: the pieces of a text stand in order, and tokens where their pieces do.
+use Rattle.std.proofs.Common.{◌≡◌, ℕ, ◌-◌, ◌<◌, ◌≤◌, Bool, true, false, if◌then◌else◌, Option, Some, None, List, [], ◌∷◌, length, map, refl, sym, ap, subst, arith}
+use Rattle.vrl_diag.specs.declared.diagnostic.Span.{Span}
+use Rattle.vrl_token.specs.declared.piece.Piece.{Piece}
+use Rattle.vrl_token.specs.declared.piece.Lexeme.{Lexeme}
+use Rattle.vrl_token.specs.declared.token.Spanned.{Spanned}
+use Rattle.vrl_token.specs.declared.token.Token.{Token}
+use Rattle.vrl_token.specs.Brackets.{told, token_of, with_spanned, with_token}
+use Rattle.vrl_token.specs.Division.{Leads, is_kept, kept}
+use Rattle.vrl_token.specs.Placing.{InOrderFrom, spans_of}
+use Rattle.vrl_token.specs.Reading.{HasTokens}
+use Rattle.vrl_token.proofs.Shorter.{piece_longer}
+
+abbrev pieces_at : List Lexeme → List Span
+pieces_at ps = map (λ p. p.span) ps
+
+-- what stands in order from a place does from each place before it
+from_before : (a b stop : ℕ) (ss : List Span) → a ≤ b → InOrderFrom b stop ss → InOrderFrom a stop ss
+from_before a b stop [] less is = omega arith
+from_before a b stop (s ∷ ss) less is = (let first = is.0 in omega arith, is.1, is.2)
+
+led_in_order : (total : ℕ) (before : List Piece) (text : List ℕ) (ps : List Lexeme) (rest : List ℕ) → length text ≤ total → Leads total before text ps rest → InOrderFrom (total - length text) (total - length rest) (pieces_at ps)
+led_in_order total before text [] rest within leads = let same = ap length leads in omega arith
+led_in_order total before text (p ∷ ps) rest within leads =
+    let shorter = piece_longer before p.piece text leads.0 leads.1 in
+    let start = ap (λ s. s.start) leads.2 in
+    let stop = ap (λ s. s.«end») leads.2 in
+    let within_next : length leads.0 ≤ total = omega arith in
+    let more = led_in_order total (p.piece ∷ before) leads.0 ps rest within_next leads.3 in
+    (omega arith, omega arith, subst (λ n. InOrderFrom n (total - length rest) (pieces_at ps)) (sym stop) more)
+
+kept_in_order : (start stop : ℕ) (ps : List Lexeme) → InOrderFrom start stop (pieces_at ps) → InOrderFrom start stop (pieces_at (kept ps))
+kept_in_order start stop [] is = is
+kept_in_order start stop (p ∷ ps) is =
+    let more = kept_in_order p.span.«end» stop ps is.2 in
+    let first = is.0 in
+    let some = is.1 in
+    elim (is_kept p) as (λ b. InOrderFrom start stop (pieces_at (if b then p ∷ kept ps else kept ps))) [
+      | true ↦ (first, some, more)
+      | false ↦ from_before start p.span.«end» stop (pieces_at (kept ps)) (omega arith) more
+    ]
+
+with_in_order : (o : Option Token) (s : Span) (start stop : ℕ) (ts : List Spanned) → start ≤ s.start → s.start < s.«end» → InOrderFrom s.«end» stop (spans_of ts) → InOrderFrom start stop (spans_of (with_spanned o s ts))
+with_in_order None s start stop ts first some more = from_before start s.«end» stop (spans_of ts) (omega arith) more
+with_in_order (Some t) s start stop ts first some more = (first, some, more)
+
+told_in_order : (start stop : ℕ) (before : List Token) (ps : List Lexeme) → InOrderFrom start stop (pieces_at ps) → InOrderFrom start stop (spans_of (told before ps))
+told_in_order start stop before [] is = is
+told_in_order start stop before (p ∷ ps) is =
+    let token = token_of before p.piece ps in
+    with_in_order token p.span start stop (told (with_token token before) ps) is.0 is.1 (told_in_order p.span.«end» stop (with_token token before) ps is.2)
+
+-- the tokens of a text stand in it in order
+pub tokens_in_order : (text : List ℕ) (tokens : List Spanned) → HasTokens text tokens → InOrderFrom 0 (length text) (spans_of tokens)
+tokens_in_order text tokens has =
+    let none : length text - length text ≡ 0 = omega arith in
+    let led = led_in_order (length text) [] text has.pieces [] (omega arith) has.division in
+    let pieces = subst (λ n. InOrderFrom n (length text) (pieces_at has.pieces)) none led in
+    subst (λ ts. InOrderFrom 0 (length text) (spans_of ts)) (sym has.tells) (told_in_order 0 (length text) [] (kept has.pieces) (kept_in_order 0 (length text) has.pieces pieces))

@@ -1,0 +1,20 @@
+-- Where tokens stand in their text, and which of them have a path with a step.
+use Rattle.std.specs.Prelude.{ℕ, ◌<◌, ◌≤◌, List, [], ◌∷◌, length, map}
+use Rattle.vrl_diag.specs.declared.diagnostic.Span.{Span}
+use Rattle.vrl_token.specs.declared.token.Spanned.{Spanned}
+use Rattle.vrl_token.specs.declared.token.Token.{Token}
+use Rattle.vrl_token.specs.declared.token.Token.TheVariants as token
+
+-- the spans lie between two places one behind another, none over another, and each has a byte
+abbrev pub InOrderFrom : ℕ → ℕ → List Span → Type 0
+InOrderFrom start stop [] = start ≤ stop
+InOrderFrom start stop (s ∷ ss) = (start ≤ s.start) × (s.start < s.«end») × InOrderFrom s.«end» stop ss
+
+abbrev pub spans_of : List Spanned → List Span
+spans_of tokens = map (λ t. t.span) tokens
+
+-- a path directly behind a name or an operand has a step
+abbrev pub HasStep : Token → Type 0
+HasStep (token.NamePath name path) = 0 < length path
+HasStep (token.Suffix path) = 0 < length path
+HasStep _ = Unit {0}
