@@ -233,5 +233,12 @@ fn nestings(rt: HostRuntime) -> Result<(), Memory> {
 fn texts(rt: HostRuntime) -> Result<(), Memory> {
     assert!(rt; script_text(b"\xff").is_err());
     assert!(rt; script_text(b".x = 1").is_ok());
+    match tokens(rt.alloc(), ".x = 1 # c") {
+        Ok(found) => {
+            assert!(rt; found.end() == 10);
+            assert!(rt; found.into_vec().len() == 3);
+        }
+        Err(fault) => assert!(rt; false, "{fault}"),
+    }
     Ok(())
 }

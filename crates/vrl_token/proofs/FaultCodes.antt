@@ -1,10 +1,16 @@
--- The codes of faults.
-use Rattle.std.proofs.Common.{◌≡◌, ℕ, suc, ◌<◌, ◌⊎◌, Contains, List, [], ◌∷◌, length, inl, inr, refl, sym, ap, subst, arith}
+-- The codes of faults, and what a fault excludes.
+use Rattle.std.proofs.Common.{◌≡◌, ℕ, suc, ◌<◌, ◌⊎◌, Contains, IsErrAnd, IfErr, Result, Ok, Err, List, [], ◌∷◌, length, inl, inr, refl, sym, ap, subst, arith}
 use Rattle.vrl_diag.specs.declared.diagnostic.Diagnostic.{Diagnostic}
+use Rattle.vrl_token.specs.declared.fault.SyntaxFault.{SyntaxFault}
+use Rattle.vrl_token.specs.declared.fault.SyntaxFault.TheVariants.{Fault, Memory}
 use Rattle.vrl_token.specs.declared.piece.Piece.{Piece}
+use Rattle.vrl_token.specs.declared.token.Spanned.{Spanned}
+use Rattle.vrl_token.specs.Division.{IsFirstFault}
 use Rattle.vrl_token.specs.Faults.{IsFault, spelling_codes, unclosed_text, unclosed_raw, unknown_escape, template, many_regexes, no_moment, float, joined_number, large_number, event_path, name_path, suffix, division, remainder, coalescing_assignment, stray}
+use Rattle.vrl_token.specs.Laws.{TokensAreDetermined}
+use Rattle.vrl_token.specs.OnFault.{OnFault}
 use Rattle.vrl_token.specs.Paths.{HasFlaw, Segment}
-use Rattle.vrl_token.specs.Reading.{IsWrong, lexical_codes}
+use Rattle.vrl_token.specs.Reading.{IsTokenized, IsWrong, lexical_codes}
 
 is_203 : {code : ℕ} → code ≡ 203 → Contains spelling_codes code
 is_203 is = (0, omega arith, sym is)
@@ -24,8 +30,8 @@ is_1014 is = (4, omega arith, sym is)
 is_1016 : {code : ℕ} → code ≡ 1016 → Contains spelling_codes code
 is_1016 is = (5, omega arith, sym is)
 
-flaw_code : {code : ℕ} {segments : List Segment} → HasFlaw segments code → Contains spelling_codes code
-flaw_code flaw = elim flaw [ inl escape ↦ is_203 escape.0 | inr range ↦ is_1002 range.0 ]
+flaw_code : {code : ℕ} (segments : List Segment) → HasFlaw segments code → Contains spelling_codes code
+flaw_code segments flaw = elim flaw [ inl escape ↦ is_203 escape.0 | inr range ↦ is_1002 range.0 ]
 
 fault_code : {before : List Piece} {text rest : List ℕ} {code : ℕ} → IsFault before text code rest → Contains spelling_codes code
 fault_code (unclosed_text behind opens un none code) = is_203 code
@@ -37,9 +43,9 @@ fault_code (no_moment cs is none code) = is_1014 code
 fault_code (float negative digits behind may is tail code) = is_1001 code
 fault_code (joined_number negative digits is joined code) = is_203 code
 fault_code (large_number negative digits is apart large code) = is_1002 code
-fault_code (event_path segments walk apart flaw) = flaw_code flaw
-fault_code (name_path name behind segments free walk some flaw) = flaw_code flaw
-fault_code (suffix segments closes walk some flaw) = flaw_code flaw
+fault_code (event_path segments walk apart flaw) = flaw_code segments flaw
+fault_code (name_path name behind segments free walk some flaw) = flaw_code segments flaw
+fault_code (suffix segments closes walk some flaw) = flaw_code segments flaw
 fault_code (division is code) = is_1003 code
 fault_code (remainder is code) = is_1003 code
 fault_code (coalescing_assignment is code) = is_1003 code
@@ -52,3 +58,17 @@ spelling_is_lexical is = (suc is.0, let below = is.1 in omega arith, is.2)
 pub wrong_code : (text : List ℕ) (d : Diagnostic) → IsWrong text d → Contains lexical_codes d.code
 wrong_code text d (inl first) = spelling_is_lexical (fault_code first.is_fault)
 wrong_code text d (inr nested) = (0, omega arith, sym (ap (λ x. x.code) nested.told))
+
+-- the first fault of a text, which has then no tokens
+pub first_codes : (text : List ℕ) (f : SyntaxFault) → OnFault (IsFirstFault text) f → OnFault (λ d. Contains lexical_codes d.code) f
+first_codes text (Fault d) is = wrong_code text d (inl is)
+first_codes text Memory is = tt
+
+pub first_excludes : TokensAreDetermined → (text : List ℕ) (f : SyntaxFault) → OnFault (IsFirstFault text) f → OnFault (λ d. (tokens : List Spanned) → ¬ IsTokenized text tokens) f
+first_excludes law text (Fault d) is = λ tokens has. law.not_both text tokens d has (inl is)
+first_excludes law text Memory is = tt
+
+-- what holds of a fault holds of what hands it on
+pub passed_on : {X : Type 0} (result : Result X SyntaxFault) (f : SyntaxFault) (P : SyntaxFault → Type 0) → IsErrAnd result (λ g. g ≡ f) → P f → IfErr result P
+passed_on (Ok x) f P is holds = tt
+passed_on (Err g) f P is holds = subst P (sym is) holds

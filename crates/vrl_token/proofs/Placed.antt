@@ -19,15 +19,15 @@ from_before : (a b stop : ℕ) (ss : List Span) → a ≤ b → InOrderFrom b st
 from_before a b stop [] less is = omega arith
 from_before a b stop (s ∷ ss) less is = (let first = is.0 in omega arith, is.1, is.2)
 
-led_in_order : (total : ℕ) (before : List Piece) (text : List ℕ) (ps : List Lexeme) (rest : List ℕ) → length text ≤ total → Leads total before text ps rest → InOrderFrom (total - length text) (total - length rest) (pieces_at ps)
-led_in_order total before text [] rest within leads = let same = ap length leads in omega arith
-led_in_order total before text (p ∷ ps) rest within leads =
-    let shorter = piece_longer before p.piece text leads.0 leads.1 in
-    let start = ap (λ s. s.start) leads.2 in
-    let stop = ap (λ s. s.«end») leads.2 in
+led_in_order : (total : ℕ) (before : List Piece) (text : List ℕ) (ps : List Lexeme) (rest : List ℕ) (start stop : ℕ) → start ≡ total - length text → stop ≡ total - length rest → length text ≤ total → Leads total before text ps rest
+    → InOrderFrom start stop (pieces_at ps)
+led_in_order total before text [] rest start stop starts stops within leads = let same = ap length leads in omega arith
+led_in_order total before text (p ∷ ps) rest start stop starts stops within leads =
+    let shorter : length leads.0 < length text = piece_longer before p.piece text leads.0 leads.1 in
+    let from : p.span.start ≡ total - length text = ap (λ s. s.start) leads.2 in
+    let to : p.span.«end» ≡ total - length leads.0 = ap (λ s. s.«end») leads.2 in
     let within_next : length leads.0 ≤ total = omega arith in
-    let more = led_in_order total (p.piece ∷ before) leads.0 ps rest within_next leads.3 in
-    (omega arith, omega arith, subst (λ n. InOrderFrom n (total - length rest) (pieces_at ps)) (sym stop) more)
+    (omega arith, omega arith, led_in_order total (p.piece ∷ before) leads.0 ps rest p.span.«end» stop to stops within_next leads.3)
 
 kept_in_order : (start stop : ℕ) (ps : List Lexeme) → InOrderFrom start stop (pieces_at ps) → InOrderFrom start stop (pieces_at (kept ps))
 kept_in_order start stop [] is = is
@@ -53,7 +53,5 @@ told_in_order start stop before (p ∷ ps) is =
 -- the tokens of a text stand in it in order
 pub tokens_in_order : (text : List ℕ) (tokens : List Spanned) → HasTokens text tokens → InOrderFrom 0 (length text) (spans_of tokens)
 tokens_in_order text tokens has =
-    let none : length text - length text ≡ 0 = omega arith in
-    let led = led_in_order (length text) [] text has.pieces [] (omega arith) has.division in
-    let pieces = subst (λ n. InOrderFrom n (length text) (pieces_at has.pieces)) none led in
+    let pieces = led_in_order (length text) [] text has.pieces [] 0 (length text) (omega arith) (omega arith) (omega arith) has.division in
     subst (λ ts. InOrderFrom 0 (length text) (spans_of ts)) (sym has.tells) (told_in_order 0 (length text) [] (kept has.pieces) (kept_in_order 0 (length text) has.pieces pieces))

@@ -1,0 +1,28 @@
+use Rattle.std.proofs.Common.{rules}
+use Rattle.vrl_token.specs.Reading.{IsTokenized, IsWrong}
+use Rattle.vrl_token.proofs.FaultCodes.{first_codes, first_excludes, passed_on}
+use Rattle.vrl_token.proofs.Placed.{tokens_in_order}
+use Rattle.vrl_token.proofs.Stepped.{tokens_have_steps}
+use Rattle.vrl_token.proofs.reading.tokens.Goals as goal
+
+pub returns-in_err-lexemes-clause-code : goal.returns-in_err-lexemes-clause-code
+returns-in_err-lexemes-clause-code c = passed_on c.from_residual.result c.in_err-lexemes.field-0.0 _ c.from_residual.ensures.1 (first_codes c.args.text.now c.in_err-lexemes.field-0.0 c.in_err-lexemes.ensures.fault)
+
+pub returns-in_err-lexemes-clause-no_tokens : goal.returns-in_err-lexemes-clause-no_tokens
+returns-in_err-lexemes-clause-no_tokens c =
+    passed_on c.from_residual.result c.in_err-lexemes.field-0.0 _ c.from_residual.ensures.1 (first_excludes c.tokens_are_determined.ensures c.args.text.now c.in_err-lexemes.field-0.0 c.in_err-lexemes.ensures.fault)
+
+pub returns-then-branch-clause-no_tokens : goal.returns-then-branch-clause-no_tokens
+returns-then-branch-clause-no_tokens c =
+    let wrong : IsWrong c.args.text.now c.of_all.result = search rules in
+    λ tokens is. c.tokens_are_determined.ensures.not_both c.args.text.now tokens c.of_all.result is wrong
+
+pub returns-clause-spans : goal.returns-clause-spans
+returns-clause-spans c =
+    let is : IsTokenized c.args.text.now c.new.result.tokens = search rules in
+    tokens_in_order c.args.text.now c.new.result.tokens is.has
+
+pub returns-clause-steps : goal.returns-clause-steps
+returns-clause-steps c =
+    let is : IsTokenized c.args.text.now c.new.result.tokens = search rules in
+    tokens_have_steps c.args.text.now c.new.result.tokens is.has
