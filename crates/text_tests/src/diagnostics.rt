@@ -54,7 +54,10 @@ fn lines_of_a_script(rt: HostRuntime) -> Result<(), Memory> {
         told.as_slice(),
         b"error[E650] 2:1 chained comparison\nerror[E100] 1:1 unhandled error\n".as_slice()
     );
-    assert_eq!(rt; severity(code::UNNECESSARY_ERROR_COALESCING), Severity::Warning);
+    assert_eq!(rt;
+        severity(code::UNNECESSARY_ERROR_COALESCING),
+        Severity::Warning
+    );
     assert_eq!(rt; title(code::FORM_NOT_BUILT), "form not built yet");
     assert!(rt; list.into_vec().len() == 2);
     Ok(())

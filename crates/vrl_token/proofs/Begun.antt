@@ -1,7 +1,7 @@
 -- Each piece and each fault that a text begins with is what its first byte says.
-use Rattle.std.proofs.Common.{◌≡◌, ◌≢◌, ℕ, ◌<◌, ◌≤◌, ◌⊎◌, ℤ, Bool, true, false, List, [], ◌∷◌, ◌++◌, length, inl, inr, refl, sym, ap, ◌∙◌, subst, arith}
+use Rattle.std.proofs.Common.{◌≡◌, ◌≢◌, ℕ, ◌<◌, ◌⊎◌, Bool, true, false, List, [], ◌∷◌, ◌++◌, length, inl, inr, refl, sym, ap, ◌∙◌, subst, arith}
 use Rattle.std.specs.Prelude.{codes}
-use Rattle.std.specs.List.{AllByRecursion, Contains}
+use Rattle.std.specs.List.{Contains}
 use Rattle.vrl_value.specs.Laws.{MomentsReadBack}
 use Rattle.vrl_path.specs.declared.path.Step.{Step}
 use Rattle.vrl_token.specs.declared.piece.Piece.{Piece}
@@ -9,18 +9,17 @@ use Rattle.vrl_token.specs.declared.piece.Piece.TheVariants.{Blank, Comment, New
 use Rattle.vrl_token.specs.declared.token.Token.{Token}
 use Rattle.vrl_token.specs.declared.token.Token.TheVariants as token
 use Rattle.vrl_token.specs.Lexical.{BeginsInside, BeginsOutside, IsBlank, IsDigit, IsLongestRun, IsName, IsNamePart, IsNameStart, keywords}
-use Rattle.vrl_token.specs.Characters.{Character, HasTemplate, IsKnown, IsQuoted, IsUnclosed, raw_of, text_of}
-use Rattle.vrl_token.specs.Numbers.{DigitsGoOn, IsBehindSign, IsDigits, IsFloat, IsNumber, IsNumeral}
-use Rattle.vrl_token.specs.Paths.{BeginsDotted, EventSegments, HasFlaw, HasSteps, IsInRange, IsReadable, Segment, Segments, field, index, quoted}
-use Rattle.vrl_token.specs.Context.{closes_before, operand_before, regexes_before}
-use Rattle.vrl_token.specs.Words.{BeginsRaw, BeginsWith, BeginsWithToken, BeginsWithout, IsCallRest, IsFreeName, IsNameRun, IsNonempty, IsRaw, IsRawLetter, IsTextSpelling, MayHaveSign, NoSegment, NoSuffix}
+use Rattle.vrl_token.specs.Characters.{Character, HasTemplate}
+use Rattle.vrl_token.specs.Numbers.{DigitsGoOn, IsBehindSign, IsDigits, IsNumeral}
+use Rattle.vrl_token.specs.Paths.{BeginsDotted, EventSegments, HasFlaw, HasSteps, Segment, Segments, field, index, quoted}
+use Rattle.vrl_token.specs.Context.{closes_before}
+use Rattle.vrl_token.specs.Words.{BeginsRaw, BeginsWith, BeginsWithToken, IsCallRest, IsFreeName, IsNameRun, IsNonempty, IsRaw, IsRawLetter, IsTextSpelling, MayHaveSign, NoSegment, NoSuffix}
 use Rattle.vrl_token.specs.Pieces.{Begins}
-use Rattle.vrl_token.specs.Faults.{IsBehindCharacter, IsFault, IsStart, IsStray, unclosed_text, unclosed_raw, unknown_escape, template, many_regexes, no_moment, float, joined_number, large_number, event_path, name_path, suffix, division, remainder, coalescing_assignment, stray as stray_character}
-use Rattle.vrl_token.proofs.Runs.{heads}
+use Rattle.vrl_token.specs.Faults.{IsBehindCharacter, IsFault, IsStray, unclosed_text, unclosed_raw, unknown_escape, template, many_regexes, no_moment, float, joined_number, large_number, event_path, name_path, suffix, division, remainder, coalescing_assignment, stray as stray_character}
 use Rattle.vrl_token.proofs.SegmentLemmas.{closed_not_unclosed}
-use Rattle.vrl_token.proofs.Only.{Branch, Is, OnlyOne, Outcome, With, fault, finish, first, piece, second}
-use Rattle.vrl_token.proofs.Unique.{digits_begin, tails}
-use Rattle.vrl_token.proofs.Starts.{FreeWay, IsBangCall, IsOperator, IsSuffixed, NameWay, NumeralWay, PathWay, RawWay, Start, StepsWay, TextWay, Way, WayOf, ampersand, blank, digit, dot, keyword_of, letter, minus, only_start, question, square, start_blank, start_digit, start_letter, start_of, start_stray, stray}
+use Rattle.vrl_token.proofs.Only.{Outcome, fault, finish, first, piece, second}
+use Rattle.vrl_token.proofs.Unique.{digits_begin}
+use Rattle.vrl_token.proofs.Starts.{FreeWay, IsBangCall, IsSuffixed, NameWay, NumeralWay, RawWay, Start, StepsWay, TextWay, Way, WayOf, ampersand, blank, digit, dot, keyword_of, letter, only_start, question, square, start_blank, start_digit, start_letter, start_of, start_stray, stray}
 
 -- what the definitions say that the text begins with
 abbrev pub Reads : List Piece → List ℕ → Outcome → Type 0

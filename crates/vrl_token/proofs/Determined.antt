@@ -1,7 +1,6 @@
 -- A text has one division into pieces, or one first fault, and never both.
-use Rattle.std.proofs.Common.{◌≡◌, ℕ, ◌⊎◌, List, [], ◌∷◌, length, inl, inr, refl, sym, ap, ◌∙◌, subst}
+use Rattle.std.proofs.Common.{◌≡◌, ℕ, List, [], ◌∷◌, length, inl, inr, refl, sym, ap, ◌∙◌, subst}
 use Rattle.vrl_diag.specs.declared.diagnostic.Diagnostic.{Diagnostic}
-use Rattle.vrl_diag.specs.declared.diagnostic.Span.{Span}
 use Rattle.vrl_value.specs.Laws.{MomentsReadBack}
 use Rattle.vrl_token.specs.declared.piece.Piece.{Piece}
 use Rattle.vrl_token.specs.declared.piece.Lexeme.{Lexeme}
@@ -10,7 +9,7 @@ use Rattle.vrl_token.specs.Brackets.{told}
 use Rattle.vrl_token.specs.Division.{IsDivision, IsFirstFault, Leads, kept, pieces_behind, span_between}
 use Rattle.vrl_token.specs.Laws.{TokensAreDetermined}
 use Rattle.vrl_token.specs.Nesting.{IsTooDeep}
-use Rattle.vrl_token.specs.Reading.{HasTokens, IsNestedTooDeeply, IsTokenized, IsWrong, backwards}
+use Rattle.vrl_token.specs.Reading.{HasTokens, IsTokenized, IsWrong, backwards}
 use Rattle.vrl_token.proofs.Only.{Outcome, fault, finish, piece}
 use Rattle.vrl_token.proofs.Begun.{Reads, one_start}
 

@@ -1,8 +1,8 @@
 -- Exponents and fractions: what stands behind them.
-use Rattle.std.proofs.Common.{◌≡◌, ◌≢◌, ℕ, ◌<◌, ◌⊎◌, List, [], ◌∷◌, ◌++◌, length, inl, inr, refl, sym, ap, ◌∙◌, subst, arith}
+use Rattle.std.proofs.Common.{◌≡◌, ℕ, ◌<◌, ◌⊎◌, List, [], ◌∷◌, ◌++◌, length, inl, inr, refl, sym, ap, ◌∙◌, subst, arith}
 use Rattle.std.specs.List.{AllByRecursion}
 use Rattle.vrl_token.specs.Lexical.{IsDigit, IsLongestRun}
-use Rattle.vrl_token.specs.Numbers.{IsDigitRun, IsExponent, IsFloat, IsFraction, IsFractional, IsPowerSign}
+use Rattle.vrl_token.specs.Numbers.{IsDigitRun, IsExponent, IsFloat, IsFraction, IsPowerSign}
 use Rattle.vrl_token.specs.Numerals.{NoPowerLetter, PowerLetter, PowerSign}
 use Rattle.vrl_token.proofs.Runs.{same_longest_run}
 

@@ -1,9 +1,9 @@
 -- What the last token says.
-use Rattle.std.proofs.Common.{◌≡◌, Bool, true, false, not, ◌&&◌, if◌then◌else◌, List, [], ◌∷◌, refl}
+use Rattle.std.proofs.Common.{◌≡◌, List, [], ◌∷◌, refl}
 use Rattle.vrl_token.specs.declared.token.Token.{Token}
 use Rattle.vrl_token.specs.declared.token.Token.TheVariants as token
-use Rattle.vrl_token.specs.Brackets.{arrow_before, block_follows, goes_on, goes_on_behind}
-use Rattle.vrl_token.specs.Telling.{is_arrow, last_before, last_goes_on, last_of, wants_block}
+use Rattle.vrl_token.specs.Brackets.{arrow_before, block_follows, goes_on_behind}
+use Rattle.vrl_token.specs.Telling.{is_arrow, last_before, last_goes_on, wants_block}
 
 -- what is kept of the last token says what the rules ask of it
 pub record Agrees (tokens : List Token) : Type 0 where

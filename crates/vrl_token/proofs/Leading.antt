@@ -1,12 +1,11 @@
 -- Pieces read one behind another.
-use Rattle.std.proofs.Common.{◌≡◌, ℕ, ◌-◌, ◌<◌, ◌≤◌, Bool, true, false, if◌then◌else◌, List, [], ◌∷◌, ◌++◌, length, filter, refl, sym, ap, ◌∙◌, subst, append_assoc}
-use Rattle.std.proofs.lemmas.List.{append-nil}
+use Rattle.std.proofs.Common.{◌≡◌, ℕ, ◌-◌, true, false, if◌then◌else◌, List, [], ◌∷◌, ◌++◌, length, refl, sym, ap, ◌∙◌, subst}
 use Rattle.vrl_diag.specs.declared.diagnostic.Span.{Span}
 use Rattle.vrl_token.specs.declared.context.Context.{Context}
 use Rattle.vrl_token.specs.declared.piece.Piece.{Piece}
 use Rattle.vrl_token.specs.declared.piece.Lexeme.{Lexeme}
 use Rattle.vrl_token.specs.Cuts.{IsContext}
-use Rattle.vrl_token.specs.Division.{IsDivision, Leads, is_kept, kept, pieces_behind, span_between}
+use Rattle.vrl_token.specs.Division.{Leads, is_kept, kept, pieces_behind, span_between}
 use Rattle.vrl_token.specs.Pieces.{Begins}
 
 -- the pieces from the start of a text to a place, the context there and the pieces kept

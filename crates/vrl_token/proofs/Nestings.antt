@@ -1,5 +1,5 @@
 -- Nestings of stretches, and the places of a list of tokens.
-use Rattle.std.proofs.Common.{◌≡◌, ◌≢◌, ℕ, suc, ◌+◌, ◌-◌, ◌^◌, ◌<◌, ◌≤◌, ◌⊎◌, if◌then◌else◌, min, Bool, true, false, IsTrue, List, [], ◌∷◌, ◌++◌, length, reverse, get_or, set, take, drop, map, inl, inr, refl, sym, ap, ◌∙◌, subst, arith, length-append}
+use Rattle.std.proofs.Common.{◌≡◌, ℕ, suc, ◌+◌, ◌<◌, ◌≤◌, if◌then◌else◌, min, Bool, true, false, IsTrue, List, [], ◌∷◌, ◌++◌, length, reverse, get_or, take, drop, map, inl, inr, refl, sym, ap, ◌∙◌, subst, arith, length-append}
 use Rattle.std.proofs.lemmas.Bool.{cases_lt}
 use Rattle.std.proofs.lemmas.List.{length-map, length-reverse, length-take-le, map-append, reverse-append, reverse-reverse, take-append-drop, take-map, take_more}
 use Rattle.std.proofs.lemmas.Grind.{get_or_default_zero}

@@ -1,6 +1,5 @@
 -- Open brackets, counted.
-use Rattle.std.proofs.Common.{◌≡◌, ℕ, suc, ◌+◌, ◌-◌, ◌<◌, ◌≤◌, ◌^◌, if◌then◌else◌, Bool, true, false, List, [], ◌∷◌, ◌++◌, length, reverse, refl, sym, ap, ◌∙◌, subst, arith}
-use Rattle.std.proofs.lemmas.List.{length-reverse, reverse-append}
+use Rattle.std.proofs.Common.{◌≡◌, ◌+◌, ◌<◌, ◌≤◌, if◌then◌else◌, true, false, List, [], ◌∷◌, length, refl, sym, arith}
 use Rattle.std.specs.List.{list_any}
 use Rattle.vrl_token.specs.declared.bracket.Bracket.{Bracket}
 use Rattle.vrl_token.specs.declared.bracket.Bracket.TheVariants as bracket

@@ -1,5 +1,5 @@
 -- What a test chooses between, and what follows from each outcome.
-use Rattle.std.proofs.Common.{◌≡◌, ℕ, ◌<◌, ◌==◌, ◌⊎◌, Bool, true, false, not, IsTrue, ◌↔◌, Option, Some, None, MatchOption, List, [], ◌∷◌, length, Result, Ok, Err, ◌++◌, IfOk, inl, inr, refl, subst, arith}
+use Rattle.std.proofs.Common.{◌≡◌, ℕ, ◌<◌, ◌==◌, Bool, true, false, not, IsTrue, ◌↔◌, Option, Some, None, MatchOption, List, [], ◌∷◌, length, Result, Ok, Err, IfOk, inl, inr, refl, subst, arith}
 use Rattle.std.proofs.lemmas.Bool.Decides.{eqb_tells}
 use Rattle.vrl_token.specs.Lexical.{BeginsInside, BeginsOutside, IsLongestRun, IsName, IsNamePart, IsNameStart}
 use Rattle.std.specs.Bool.{then_some}

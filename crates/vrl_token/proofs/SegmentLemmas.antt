@@ -1,7 +1,7 @@
 -- The segment that a text begins with.
-use Rattle.std.proofs.Common.{◌≡◌, ◌≢◌, ℕ, ◌<◌, ◌⊎◌, Bool, true, false, List, [], ◌∷◌, ◌++◌, length, inl, inr, refl, sym, ap, ◌∙◌, subst, append_assoc, arith}
+use Rattle.std.proofs.Common.{◌≡◌, ◌≢◌, ℕ, ◌<◌, ◌⊎◌, Bool, true, false, List, [], ◌∷◌, ◌++◌, length, inl, inr, refl, sym, ap, ◌∙◌, subst, arith}
 use Rattle.std.specs.List.{AllByRecursion}
-use Rattle.vrl_token.specs.Lexical.{BeginsOutside, IsDigit, IsFieldPart, IsLongestRun}
+use Rattle.vrl_token.specs.Lexical.{IsDigit, IsFieldPart, IsLongestRun}
 use Rattle.vrl_token.specs.Characters.{Character, IsInside, IsQuoted, IsUnclosed, escaped, plain, spelling_of}
 use Rattle.vrl_token.specs.Numbers.{IsDigitRun}
 use Rattle.vrl_token.specs.Paths.{BeginsDotted, BeginsUndotted, Segment, field, index, minus_text, quoted}

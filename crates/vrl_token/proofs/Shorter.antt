@@ -1,15 +1,15 @@
 -- A piece and a spelling at fault take something of the text.
-use Rattle.std.proofs.Common.{◌≡◌, ℕ, suc, ◌+◌, ◌<◌, ◌≤◌, ◌⊎◌, Bool, true, false, List, [], ◌∷◌, ◌++◌, length, inl, inr, refl, sym, ap, ◌∙◌, subst, arith, length-append}
+use Rattle.std.proofs.Common.{◌≡◌, ℕ, ◌<◌, ◌≤◌, Bool, true, false, List, [], ◌∷◌, ◌++◌, length, inl, inr, ap, ◌∙◌, arith, length-append}
 use Rattle.std.specs.Prelude.{codes}
 use Rattle.vrl_token.specs.declared.piece.Piece.{Piece}
 use Rattle.vrl_token.specs.declared.piece.Piece.TheVariants.{Blank, Comment, Newline, Brace, Bar, Word}
 use Rattle.vrl_token.specs.declared.token.Token.{Token}
 use Rattle.vrl_token.specs.declared.token.Token.TheVariants as token
-use Rattle.vrl_token.specs.Lexical.{IsLongestRun, IsName, IsNamePart}
+use Rattle.vrl_token.specs.Lexical.{IsLongestRun, IsName}
 use Rattle.vrl_token.specs.Characters.{Character, IsQuoted, spelling_of}
 use Rattle.vrl_token.specs.Numbers.{IsBehindSign, IsDigits, IsExponent, IsFloat, IsNumeral}
 use Rattle.vrl_token.specs.Paths.{EventSegments, Segment, Segments}
-use Rattle.vrl_token.specs.Words.{BeginsWithToken, IsFreeName, IsNameRun, IsNonempty, IsRaw, IsTextSpelling}
+use Rattle.vrl_token.specs.Words.{BeginsWithToken, IsNonempty, IsRaw, IsTextSpelling}
 use Rattle.vrl_token.specs.Pieces.{Begins}
 use Rattle.vrl_token.specs.Faults.{IsFault, unclosed_text, unclosed_raw, unknown_escape, template, many_regexes, no_moment, float, joined_number, large_number, event_path, name_path, suffix, division, remainder, coalescing_assignment, stray}
 use Rattle.vrl_token.proofs.Walks.{begins_longer, segments_shorter, undotted_longer}

@@ -1,7 +1,7 @@
 -- What a text begins with, by its first byte.
-use Rattle.std.proofs.Common.{◌≡◌, ◌≢◌, ℕ, ◌<◌, ◌≤◌, ◌⊎◌, ◌==◌, if◌then◌else◌, ℤ, Bool, true, false, ◌&&◌, ◌||◌, List, [], ◌∷◌, ◌++◌, inl, inr, refl, sym, ap, ◌∙◌, subst, arith}
+use Rattle.std.proofs.Common.{◌≡◌, ◌≢◌, ℕ, ◌<◌, ◌⊎◌, ◌==◌, if◌then◌else◌, ℤ, Bool, true, false, ◌&&◌, ◌||◌, List, [], ◌∷◌, inl, inr, refl, sym, ap, ◌∙◌, arith}
 use Rattle.std.proofs.Math.Dec.{ltb}
-use Rattle.std.proofs.lemmas.Bool.Decides.{Decides-and, Decides-eqb, Decides-like, Decides-ltb, Decides-or, nat_tests}
+use Rattle.std.proofs.lemmas.Bool.Decides.{Decides-and, Decides-eqb, Decides-like, Decides-ltb, Decides-or}
 use Rattle.std.specs.Bool.{Decides}
 use Rattle.std.specs.List.{AllByRecursion, Contains}
 use Rattle.vrl_value.specs.Laws.{MomentsReadBack}
@@ -11,13 +11,13 @@ use Rattle.vrl_token.specs.declared.piece.Piece.{Piece}
 use Rattle.vrl_token.specs.declared.piece.Piece.TheVariants.{Blank, Comment, Newline, Brace, Bar, Word}
 use Rattle.vrl_token.specs.declared.token.Token.{Token}
 use Rattle.vrl_token.specs.declared.token.Token.TheVariants as token
-use Rattle.vrl_token.specs.Lexical.{BeginsInside, BeginsOutside, IsBlank, IsDigit, IsLongestRun, IsNamePart, IsNameStart, keywords}
+use Rattle.vrl_token.specs.Lexical.{BeginsInside, BeginsOutside, IsBlank, IsDigit, IsLongestRun, IsNameStart, keywords}
 use Rattle.vrl_token.specs.Characters.{Character, HasTemplate, IsKnown, IsQuoted, IsUnclosed, raw_of, text_of}
 use Rattle.vrl_token.specs.Numbers.{IsFloat, IsNumber, IsNumeral}
 use Rattle.vrl_token.specs.Paths.{EventSegments, IsInRange, IsReadable, Segment, Segments, steps_of}
 use Rattle.vrl_token.specs.Context.{closes_before, operand_before, regexes_before}
 use Rattle.vrl_token.specs.Words.{BeginsRaw, BeginsWith, IsNameRun, NoSegment}
-use Rattle.vrl_token.specs.Faults.{IsContinuation, IsMark, IsStart}
+use Rattle.vrl_token.specs.Faults.{IsContinuation, IsStart}
 use Rattle.vrl_token.proofs.Runs.{same_longest_run}
 use Rattle.vrl_token.proofs.Only.{Branch, Is, OnlyOne, Outcome, With, fault, finish, only_branch, only_is, only_with, piece, same_pair}
 use Rattle.vrl_token.proofs.Unique.{same_event, same_float, same_numeral, same_quoted, same_segments, tails}

@@ -1,5 +1,5 @@
 -- Paths behind a name or an operand have a step, since their spelling has a segment.
-use Rattle.std.proofs.Common.{◌≡◌, ℕ, ◌<◌, ◌&&◌, not, Bool, true, false, if◌then◌else◌, Option, Some, None, All, List, [], ◌∷◌, length, sym, subst, arith}
+use Rattle.std.proofs.Common.{ℕ, ◌<◌, ◌&&◌, not, Bool, true, false, if◌then◌else◌, Option, Some, None, All, List, [], ◌∷◌, length, sym, subst, arith}
 use Rattle.std.specs.List.{AllByRecursion, list_any}
 use Rattle.std.proofs.lemmas.List.Elements.{All-from_recursion}
 use Rattle.vrl_diag.specs.declared.diagnostic.Span.{Span}

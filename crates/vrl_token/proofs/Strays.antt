@@ -1,7 +1,7 @@
 -- Characters that are part of no spelling.
-use Rattle.std.proofs.Common.{◌≡◌, ◌≢◌, ℕ, ◌<◌, ◌≤◌, ◌⊎◌, List, [], ◌∷◌, length, drop, inl, inr, refl, subst, arith}
+use Rattle.std.proofs.Common.{◌≡◌, ◌≢◌, ℕ, ◌<◌, ◌≤◌, List, [], ◌∷◌, length, drop, inl, inr, refl, subst, arith}
 use Rattle.vrl_token.specs.declared.piece.Piece.{Piece}
-use Rattle.vrl_token.specs.Faults.{IsFault, IsMark, IsStart, IsStray, stray}
+use Rattle.vrl_token.specs.Faults.{IsMark, IsStart, IsStray, stray}
 use Rattle.vrl_token.specs.declared.token.Token.{Token}
 use Rattle.vrl_token.specs.declared.token.Token.TheVariants as token
 use Rattle.vrl_token.specs.Cuts.{FaultsBefore, IsNoOther, IsSingle, LeavesBehind}

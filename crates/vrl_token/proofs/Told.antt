@@ -1,6 +1,5 @@
 -- Tokens told from pieces one behind another.
-use Rattle.std.proofs.Common.{◌≡◌, Option, Some, None, List, [], ◌∷◌, ◌++◌, reverse, refl, sym, ap, ◌∙◌, subst, append_assoc}
-use Rattle.vrl_diag.specs.declared.diagnostic.Span.{Span}
+use Rattle.std.proofs.Common.{◌≡◌, Some, None, List, [], ◌∷◌, ◌++◌, reverse, refl, sym, ap, ◌∙◌, subst, append_assoc}
 use Rattle.vrl_token.specs.declared.ahead.Ready.{Ready}
 use Rattle.vrl_token.specs.declared.before.Before.{Before}
 use Rattle.vrl_token.specs.declared.piece.Lexeme.{Lexeme}

@@ -1,9 +1,9 @@
 -- There is one way to cut a quoted text, a number, a float and a path off a text.
-use Rattle.std.proofs.Common.{◌≡◌, ◌≢◌, ℕ, ◌<◌, ◌⊎◌, Bool, true, false, List, [], ◌∷◌, ◌++◌, length, inl, inr, refl, sym, ap, ◌∙◌, subst, arith}
+use Rattle.std.proofs.Common.{◌≡◌, ◌≢◌, ℕ, ◌⊎◌, Bool, true, false, List, [], ◌∷◌, ◌++◌, inl, inr, refl, sym, ap, ◌∙◌, subst, arith}
 use Rattle.std.specs.List.{AllByRecursion}
-use Rattle.vrl_token.specs.Lexical.{BeginsInside, BeginsOutside, IsDigit, IsFieldPart, IsLongestRun}
+use Rattle.vrl_token.specs.Lexical.{BeginsInside, IsDigit, IsFieldPart}
 use Rattle.vrl_token.specs.Characters.{Character, IsInside, IsQuoted, escaped, plain, spelling_of}
-use Rattle.vrl_token.specs.Numbers.{DigitsGoOn, GoesOnFrom, IsBehindSign, IsDigitRun, IsDigits, IsExponent, IsFloat, IsFraction, IsFractional, IsNumeral, IsPowerSign}
+use Rattle.vrl_token.specs.Numbers.{DigitsGoOn, GoesOnFrom, IsDigitRun, IsDigits, IsExponent, IsFloat, IsFraction, IsNumeral, IsPowerSign}
 use Rattle.vrl_token.specs.Paths.{BeginsDotted, BeginsUndotted, Ends, EventSegments, IsSegment, Segment, Segments, dotted, field, index, quoted, undotted}
 use Rattle.vrl_token.proofs.Floats.{no_sign, same_digit_run}
 use Rattle.vrl_token.proofs.Runs.{heads, same_cut}

@@ -1,5 +1,5 @@
 -- Segments read one behind another.
-use Rattle.std.proofs.Common.{◌≡◌, ◌≢◌, ℕ, ◌+◌, ◌<◌, ◌≤◌, ◌⊎◌, Option, Some, None, MatchOption, Bool, List, [], ◌∷◌, ◌++◌, length, inl, inr, refl, sym, ap, ◌∙◌, subst, append_assoc, arith}
+use Rattle.std.proofs.Common.{◌≡◌, ◌≢◌, ℕ, ◌<◌, ◌≤◌, Option, Some, None, MatchOption, List, [], ◌∷◌, ◌++◌, length, inl, inr, refl, sym, ap, ◌∙◌, subst, append_assoc, arith}
 use Rattle.std.proofs.lemmas.List.{append-nil, length-append}
 use Rattle.std.specs.List.{AllByRecursion}
 use Rattle.vrl_path.specs.declared.path.Step.{Step}
@@ -7,8 +7,8 @@ use Rattle.vrl_token.specs.declared.path.Gathering.{Gathering}
 use Rattle.vrl_token.specs.declared.segment.Flaw.{Flaw}
 use Rattle.vrl_token.specs.declared.segment.Flaw.TheVariants.{Escape, Range}
 use Rattle.vrl_token.specs.Gathering.{IsFlawOfAll, IsGathered, Keeps}
-use Rattle.vrl_token.specs.Segments.{IsFlawOf, StepOf}
-use Rattle.vrl_token.specs.Paths.{BeginsDotted, HasFlaw, HasSteps, IsInRange, IsReadable, IsSegment, Segment, Segments, dotted, field, index, minus_text, quoted, step_of, steps_of, undotted}
+use Rattle.vrl_token.specs.Segments.{IsFlawOf}
+use Rattle.vrl_token.specs.Paths.{BeginsDotted, HasSteps, IsInRange, IsReadable, IsSegment, Segment, Segments, dotted, field, index, minus_text, quoted, step_of, steps_of, undotted}
 use Rattle.vrl_token.specs.Characters.{spelling_of}
 use Rattle.vrl_token.specs.Words.{IsNonempty, NoSegment}
 use Rattle.vrl_token.proofs.Quotes.{all-append}

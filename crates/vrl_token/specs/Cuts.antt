@@ -1,5 +1,5 @@
 -- Words of the code for cutting off one piece; the pieces are those of `Pieces`, and the faults those of `Faults`.
-use Rattle.std.specs.Prelude.{◌≡◌, ◌≢◌, ℕ, ◌-◌, ◌<◌, ◌⊎◌, Bool, true, false, List, [], ◌∷◌, length, codes}
+use Rattle.std.specs.Prelude.{◌≡◌, ◌≢◌, ℕ, ◌-◌, ◌<◌, ◌⊎◌, true, List, ◌∷◌, length, codes}
 use Rattle.vrl_token.specs.declared.context.Context.{Context}
 use Rattle.vrl_token.specs.declared.cut.Cut.{Cut}
 use Rattle.vrl_token.specs.declared.cut.Cut.TheVariants as cut

@@ -1,13 +1,13 @@
 -- What can be wrong with the text at a place, and how far the spelling at fault goes.
-use Rattle.std.specs.Prelude.{◌≡◌, ◌≢◌, ℕ, ◌≤◌, ◌⊎◌, ℤ, Bool, true, List, [], ◌∷◌, ◌++◌}
+use Rattle.std.specs.Prelude.{◌≡◌, ℕ, ◌≤◌, ◌⊎◌, ℤ, Bool, true, List, [], ◌∷◌}
 use Rattle.std.specs.List.{AllByRecursion}
 use Rattle.vrl_value.specs.Rfc3339.{IsReading}
 use Rattle.vrl_token.specs.declared.piece.Piece.{Piece}
 use Rattle.vrl_token.specs.Lexical.{BeginsInside, BeginsOutside, IsBlank, IsDigit, IsLongestRun, IsNameStart}
-use Rattle.vrl_token.specs.Characters.{Character, HasTemplate, IsKnown, IsQuoted, IsUnclosed, raw_of, text_of}
+use Rattle.vrl_token.specs.Characters.{Character, HasTemplate, IsKnown, IsUnclosed, raw_of, text_of}
 use Rattle.vrl_token.specs.Numbers.{IsFloat, IsNumber, IsNumeral}
 use Rattle.vrl_token.specs.Paths.{EventSegments, HasFlaw, Segment, Segments}
-use Rattle.vrl_token.specs.Context.{closes_before, operand_before, regexes_before}
+use Rattle.vrl_token.specs.Context.{closes_before, regexes_before}
 use Rattle.vrl_token.specs.Words.{BeginsWithout, IsFreeName, IsNonempty, IsNumberToken, IsRaw, IsRawLetter, IsTextSpelling, MayHaveSign, NoSuffix}
 
 -- newline, `#`, `"`, `.`, `=`, `|`, `!`, `<`, `>`, `+`, `-`, `*`, `?`, `&`, `(`, `)`, `[`, `]`, `{`, `}`, `,`, `:`, `;`, `/` or `%`

@@ -1,5 +1,5 @@
 -- Words of the code for reading numbers; the spellings are those of `Numbers`.
-use Rattle.std.specs.Prelude.{◌≡◌, ℕ, ◌+◌, ◌*◌, ◌-◌, ◌⊎◌, ◌==◌, if◌then◌else◌, List, ◌∷◌, ◌++◌, [], ◌≢◌}
+use Rattle.std.specs.Prelude.{◌≡◌, ℕ, ◌+◌, ◌*◌, ◌-◌, ◌⊎◌, ◌==◌, if◌then◌else◌, List, ◌∷◌, ◌++◌, ◌≢◌}
 use Rattle.vrl_token.specs.Numbers.{DigitsGoOn, IsDigits}
 
 -- the value of digits with one more of them

@@ -1,5 +1,5 @@
 -- Words of the code for cutting a text at its closing quote, and for reading its escapes; the characters are those of `Characters`.
-use Rattle.std.specs.Prelude.{◌≡◌, ◌≢◌, ℕ, ◌+◌, ◌⊎◌, List, [], ◌∷◌, ◌++◌, length, drop}
+use Rattle.std.specs.Prelude.{◌≡◌, ◌≢◌, ℕ, ◌⊎◌, List, [], ◌∷◌, length}
 use Rattle.std.specs.List.{AllByRecursion}
 use Rattle.vrl_token.specs.Characters.{Character, IsInside, IsQuoted, spelling_of}
 

@@ -1,5 +1,5 @@
 -- Words of the code for cutting a path into segments; the segments are those of `Paths`.
-use Rattle.std.specs.Prelude.{◌≡◌, ◌≢◌, ℕ, ◌<◌, ◌⊎◌, Bool, true, false, List, [], ◌∷◌, ◌++◌, length, Option, MatchOption, Result, MatchResult}
+use Rattle.std.specs.Prelude.{◌≡◌, ◌≢◌, ℕ, Bool, true, false, List, ◌∷◌, Option, MatchOption, Result, MatchResult}
 use denote.Ref.{Bor}
 use Rattle.vrl_path.specs.declared.path.Step.{Step}
 use Rattle.vrl_token.specs.declared.segment.Segment.{Segment as Cut}
@@ -8,7 +8,7 @@ use Rattle.vrl_token.specs.declared.segment.Flaw.{Flaw}
 use Rattle.vrl_token.specs.declared.segment.Flaw.TheVariants.{Escape, Range}
 use Rattle.vrl_token.specs.Characters.{Character}
 use Rattle.vrl_token.specs.Quoted.{IsInner}
-use Rattle.vrl_token.specs.Paths.{BeginsDotted, BeginsUndotted, HasFlaw, HasSteps, IsInRange, IsReadable, IsSegment, Segment, field, index, quoted, step_of}
+use Rattle.vrl_token.specs.Paths.{BeginsDotted, BeginsUndotted, IsInRange, IsReadable, IsSegment, Segment, field, index, quoted, step_of}
 
 -- the code's segment is this one
 abbrev pub IsSaid : Cut → Segment → Type 0

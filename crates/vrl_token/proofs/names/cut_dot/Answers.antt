@@ -1,4 +1,4 @@
-use Rattle.std.proofs.Common.{List, ℕ, subst, sym}
+use Rattle.std.proofs.Common.{subst, sym}
 use Rattle.vrl_token.specs.Cuts.{IsCutOf}
 use Rattle.vrl_token.specs.Words.{NoSuffix}
 use Rattle.vrl_token.proofs.Outcomes.{ok_weaker}

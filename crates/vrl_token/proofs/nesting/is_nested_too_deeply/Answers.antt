@@ -1,4 +1,4 @@
-use Rattle.std.proofs.Common.{[], refl, take, arith}
+use Rattle.std.proofs.Common.{refl, take, arith}
 use Rattle.vrl_token.specs.Reading.{backwards}
 use Rattle.vrl_token.proofs.Nestings.{count_behind, count_first, deep_at, deep_behind, never, not_deep, shallow_all, shallow_first, shallow_more}
 use Rattle.vrl_token.proofs.nesting.is_nested_too_deeply.Goals as goal

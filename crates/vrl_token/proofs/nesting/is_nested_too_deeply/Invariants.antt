@@ -1,4 +1,3 @@
-use Rattle.std.proofs.Common.{length}
 use Rattle.vrl_token.proofs.Nestings.{IsShallow}
 use Rattle.vrl_token.proofs.nesting.is_nested_too_deeply.Given as goal
 

@@ -1,4 +1,4 @@
-use Rattle.std.proofs.Common.{◌≡◌, ◌++◌, ◌∙◌, ap, sym, subst, rules}
+use Rattle.std.proofs.Common.{◌++◌, ◌∙◌, ap, sym, subst, rules}
 use Rattle.vrl_token.proofs.Escapes.{IsRawSoFar, raw_end, raw_escape}
 use Rattle.vrl_token.proofs.quoted.raw.Goals as goal
 

@@ -1,5 +1,4 @@
-use Rattle.std.proofs.Common.{◌≡◌, ◌++◌, ◌∙◌, ap, sym, subst, rules}
-use Rattle.std.specs.String.{string_bytes}
+use Rattle.std.proofs.Common.{◌++◌, ◌∙◌, ap, sym, subst, rules}
 use Rattle.vrl_token.proofs.Escapes.{IsReadSoFar, read_end, read_escape, unknown_byte, unknown_letter}
 use Rattle.vrl_token.proofs.quoted.unescaped.Goals as goal
 

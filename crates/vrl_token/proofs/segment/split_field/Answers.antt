@@ -1,4 +1,4 @@
-use Rattle.std.proofs.Common.{◌≡◌, List, ℕ, [], ◌∷◌, refl, subst, sym, ◌∙◌, ap}
+use Rattle.std.proofs.Common.{◌∷◌, refl, subst, sym, ◌∙◌, ap}
 use Rattle.vrl_token.specs.Characters.{IsUnclosed}
 use Rattle.vrl_token.specs.Lexical.{IsFieldPart, IsLongestRun}
 use Rattle.vrl_token.specs.Paths.{quoted}

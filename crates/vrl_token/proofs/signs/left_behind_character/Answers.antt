@@ -1,4 +1,4 @@
-use Rattle.std.proofs.Common.{take, drop, refl, sym, length, arith}
+use Rattle.std.proofs.Common.{take, drop, refl, sym}
 use Rattle.std.proofs.lemmas.List.{length-drop}
 use Rattle.vrl_token.specs.Faults.{IsContinuation}
 use Rattle.vrl_token.proofs.Runs.{longest_run_at}
