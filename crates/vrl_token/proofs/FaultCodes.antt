@@ -1,4 +1,4 @@
--- The codes of faults, and what a fault excludes.
+-- The codes and places of faults, and what a fault excludes.
 use Rattle.std.proofs.Common.{◌≡◌, ℕ, suc, Contains, IsErrAnd, IfErr, Result, Ok, Err, List, inl, inr, sym, ap, subst, arith}
 use Rattle.vrl_diag.specs.declared.diagnostic.Diagnostic.{Diagnostic}
 use Rattle.vrl_token.specs.declared.fault.SyntaxFault.{SyntaxFault}
@@ -10,6 +10,8 @@ use Rattle.vrl_token.specs.Faults.{IsFault, spelling_codes, unclosed_text, unclo
 use Rattle.vrl_token.specs.Laws.{TokensAreDetermined}
 use Rattle.vrl_token.specs.OnFault.{OnFault}
 use Rattle.vrl_token.specs.Paths.{HasFlaw, Segment}
+use Rattle.vrl_token.specs.Placing.{IsWithin}
+use Rattle.vrl_token.proofs.Shorter.{fault_longer}
 use Rattle.vrl_token.specs.Reading.{IsTokenized, IsWrong, lexical_codes}
 
 is_203 : {code : ℕ} → code ≡ 203 → Contains spelling_codes code
@@ -59,10 +61,26 @@ pub wrong_code : (text : List ℕ) (d : Diagnostic) → IsWrong text d → Conta
 wrong_code text d (inl first) = spelling_is_lexical (fault_code first.is_fault)
 wrong_code text d (inr nested) = (0, omega arith, sym (ap (λ x. x.code) nested.told))
 
+-- and stands in the text
+pub wrong_within : (text : List ℕ) (d : Diagnostic) → IsWrong text d → IsWithin (length text) d.span
+wrong_within text d (inl first) =
+    let shorter : length first.rest ≤ length first.place = fault_longer first.is_fault in
+    let start : d.span.start ≡ length text - length first.place = ap (λ s. s.start) first.span in
+    let stop : d.span.«end» ≡ length text - length first.rest = ap (λ s. s.«end») first.span in
+    (omega arith, omega arith)
+wrong_within text d (inr nested) =
+    let start : d.span.start ≡ 0 = ap (λ x. x.span.start) nested.told in
+    let stop : d.span.«end» ≡ 0 = ap (λ x. x.span.«end») nested.told in
+    (omega arith, omega arith)
+
 -- the first fault of a text, which has then no tokens
 pub first_codes : (text : List ℕ) (f : SyntaxFault) → OnFault (IsFirstFault text) f → OnFault (λ d. Contains lexical_codes d.code) f
 first_codes text (Fault d) is = wrong_code text d (inl is)
 first_codes text Memory is = tt
+
+pub first_within : (text : List ℕ) (f : SyntaxFault) → OnFault (IsFirstFault text) f → OnFault (λ d. IsWithin (length text) d.span) f
+first_within text (Fault d) is = wrong_within text d (inl is)
+first_within text Memory is = tt
 
 pub first_excludes : TokensAreDetermined → (text : List ℕ) (f : SyntaxFault) → OnFault (IsFirstFault text) f → OnFault (λ d. (tokens : List Spanned) → ¬ IsTokenized text tokens) f
 first_excludes law text (Fault d) is = λ tokens has. law.not_both text tokens d has (inl is)

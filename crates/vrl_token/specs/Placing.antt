@@ -10,6 +10,10 @@ abbrev pub InOrderFrom : ℕ → ℕ → List Span → Type 0
 InOrderFrom start stop [] = start ≤ stop
 InOrderFrom start stop (s ∷ ss) = (start ≤ s.start) × (s.start < s.«end») × InOrderFrom s.«end» stop ss
 
+-- the span lies in a text of so many bytes; it may be empty
+abbrev pub IsWithin : ℕ → Span → Type 0
+IsWithin total s = (s.start ≤ s.«end») × (s.«end» ≤ total)
+
 abbrev pub spans_of : List Spanned → List Span
 spans_of tokens = map (λ t. t.span) tokens
 

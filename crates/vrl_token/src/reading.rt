@@ -1,6 +1,6 @@
 ghost use Rattle.std.specs.Prelude.{◌≡◌, ◌≤◌, All, Contains, IfErr, IfOk, IsErr, IsUtf8, List, length, ◌↔◌};
 ghost use Rattle.vrl_token.specs.OnFault.{OnFault};
-ghost use Rattle.vrl_token.specs.Placing.{HasStep, InOrderFrom, spans_of};
+ghost use Rattle.vrl_token.specs.Placing.{HasStep, InOrderFrom, IsWithin, spans_of};
 ghost use Rattle.vrl_token.specs.Reading.{IsNoScript, IsTokenized, IsWrong, lexical_codes};
 ghost use Rattle.vrl_token.specs.declared.token.Spanned.{Spanned as SpecSpanned};
 
@@ -55,6 +55,7 @@ pub fn tokens(alloc: Global, text: &str) -> Result<Tokens, SyntaxFault>
     ensures steps { IfOk result (λ found. All (λ t. HasStep t.token) found.tokens) }
     ensures fault { IfErr result (OnFault (IsWrong text.now)) }
     ensures code { IfErr result (OnFault (λ d. Contains lexical_codes d.code)) }
+    ensures place { IfErr result (OnFault (λ d. IsWithin (length text.now) d.span)) }
     ensures no_tokens { IfErr result (OnFault (λ _. (tokens : List SpecSpanned) → ¬ IsTokenized text.now tokens)) }
 {
     tokens_are_determined();

@@ -1,12 +1,15 @@
 use Rattle.std.proofs.Common.{rules}
 use Rattle.vrl_token.specs.Reading.{IsTokenized, IsWrong}
-use Rattle.vrl_token.proofs.FaultCodes.{first_codes, first_excludes, passed_on}
+use Rattle.vrl_token.proofs.FaultCodes.{first_codes, first_excludes, first_within, passed_on}
 use Rattle.vrl_token.proofs.Placed.{tokens_in_order}
 use Rattle.vrl_token.proofs.Stepped.{tokens_have_steps}
 use Rattle.vrl_token.proofs.reading.tokens.Goals as goal
 
 pub returns-in_err-lexemes-clause-code : goal.returns-in_err-lexemes-clause-code
 returns-in_err-lexemes-clause-code c = passed_on c.from_residual.result c.in_err-lexemes.field-0.0 _ c.from_residual.ensures.1 (first_codes c.args.text.now c.in_err-lexemes.field-0.0 c.in_err-lexemes.ensures.fault)
+
+pub returns-in_err-lexemes-clause-place : goal.returns-in_err-lexemes-clause-place
+returns-in_err-lexemes-clause-place c = passed_on c.from_residual.result c.in_err-lexemes.field-0.0 _ c.from_residual.ensures.1 (first_within c.args.text.now c.in_err-lexemes.field-0.0 c.in_err-lexemes.ensures.fault)
 
 pub returns-in_err-lexemes-clause-no_tokens : goal.returns-in_err-lexemes-clause-no_tokens
 returns-in_err-lexemes-clause-no_tokens c =
