@@ -1,4 +1,5 @@
 pub mod Ahead
+pub mod Changing
 pub mod Found
 pub mod Gathering
 pub mod Inclusion

@@ -1,5 +1,5 @@
 -- Kinds put into a map by their names, and taken from it as known fields.
-use Rattle.std.proofs.Common.{◌≡◌, ◌≢◌, ℕ, zero, suc, ◌||◌, Bool, true, false, IsTrue, List, [], ◌∷◌, ◌++◌, length, Option, Some, None, String, Global, string_bytes, string_cmp, Ordering, Less, Equal, Greater, nat_cmp, is_eq, refl, sym, ap, ◌∙◌, subst, arith}
+use Rattle.std.proofs.Common.{◌≡◌, ℕ, ◌||◌, true, List, [], ◌∷◌, length, Some, None, String, Global, string_bytes, string_cmp, Ordering, Less, Equal, Greater, nat_cmp, refl, sym, ap, ◌∙◌, subst, arith}
 use Rattle.std.proofs.lemmas.Cmp.{nat_list_cmp_total, tied_itself}
 use Rattle.std.proofs.lemmas.Map.Keys.{sorted_head, sorted_tail}
 use Rattle.std.specs.BTreeMap.{insert_entry}
@@ -7,15 +7,16 @@ use Rattle.std.specs.Cmp.Lexicographic.{slice_cmp}
 use Rattle.std.specs.List.{AllByRecursion}
 use Rattle.std.specs.List.Sorted.{IsStrictlySortedBy}
 use Rattle.std.specs.Map.{keys_of}
-use Rattle.std.specs.Ordering.{match_ordering, ordering_reverse}
+use Rattle.std.specs.Ordering.{match_ordering}
 use Rattle.vrl_value.specs.Look.{Step, field, place}
 use Rattle.vrl_value.specs.declared.value.Tag.{Tag}
-use Rattle.vrl_kind.specs.KindTree.{KindTree, KnownFields, no_fields, known_field, ObjectTree, no_object, object_part, RestTree, kind, no_list}
-use Rattle.vrl_kind.specs.Canonical.{never_kind, no_scalars, rest_kind, field_or, IsBeforeFields, IsCanonical, NoFieldIs}
+use Rattle.vrl_kind.specs.KindTree.{KindTree, KnownFields, no_fields, known_field, ObjectTree, no_object, object_part, RestTree, kind, ListTree}
+use Rattle.vrl_kind.specs.Canonical.{never_kind, rest_kind, field_or, scalars_of, list_tree, IsBeforeFields, IsCanonical}
 use Rattle.vrl_kind.specs.Kinds.{tags_at, IsJoin, SameTags, has_object, object_at}
-use Rattle.vrl_kind.specs.Make.{entries_view, SameFields, AreKnown, IsKnownPushed, IsObjectFor, last_first, named_view, object_kind}
-use Rattle.vrl_kind.specs.Merge.{FieldsAreSorted, IsTurn, IsEnd}
-use Rattle.vrl_kind.proofs.Ahead.{greater, not_first}
+use Rattle.vrl_kind.specs.Make.{entries_view, SameFields, AreKnown, IsKnownPushed, IsObjectFor, last_first, named_view}
+use Rattle.vrl_kind.specs.Change.{with_object}
+use Rattle.vrl_kind.specs.declared.scalars.Scalars.{Scalars}
+use Rattle.vrl_kind.specs.Merge.{FieldsAreSorted, IsTurn}
 use Rattle.vrl_kind.proofs.Joins.{NamesSoFar, names_first, names_next, names_end, or_no}
 use Rattle.vrl_kind.proofs.Known.{object_field, never_tags}
 use Rattle.vrl_kind.proofs.Merging.{one_name}
@@ -145,8 +146,13 @@ object_for all fs ds r own (object_part gs q) is named known for n p t =
     ∙ ap (λ k. tags_at (field_or all k n) p t) is
     ∙ ap (λ T. T t) (sym (object_field all r n p))
 
+object_over : (s : Scalars) (l : ListTree) (all fs ds : KnownFields) (r : RestTree) (own : KindTree) (o : ObjectTree) → own ≡ rest_kind r → SameFields all fs → AreKnown own fs ds → IsObjectFor ds own o → SameTags (kind s l o) (kind s l (object_part all r))
+object_over s l all fs ds r own o is named known for [] t = same_root s l l o (object_part all r) refl (object_has ds own o for) t
+object_over s l all fs ds r own o is named known for (place i ∷ p) t = refl
+object_over s l all fs ds r own o is named known for (field n ∷ p) t = object_for all fs ds r own o is named known for n p t
+
 -- the kind over the known ones of these fields has the tags that were asked for
-pub object_made : (all fs ds : KnownFields) (r : RestTree) (own : KindTree) (o : ObjectTree) → own ≡ rest_kind r → SameFields all fs → AreKnown own fs ds → IsObjectFor ds own o → SameTags (kind no_scalars no_list o) (object_kind all r)
-object_made all fs ds r own o is named known for [] t = same_root no_scalars no_list no_list o (object_part all r) refl (object_has ds own o for) t
-object_made all fs ds r own o is named known for (place i ∷ p) t = refl
-object_made all fs ds r own o is named known for (field n ∷ p) t = object_for all fs ds r own o is named known for n p t
+pub object_made : (k : KindTree) (s : Scalars) (l : ListTree) (all fs ds : KnownFields) (r : RestTree) (own : KindTree) (o : ObjectTree) → s ≡ scalars_of k → l ≡ list_tree k → own ≡ rest_kind r → SameFields all fs → AreKnown own fs ds → IsObjectFor ds own o → SameTags (kind s l o) (with_object k all r)
+object_made (kind u m q) s l all fs ds r own o scalars lists is named known for =
+    subst (λ x. SameTags (kind x l o) (kind u m (object_part all r))) (sym scalars)
+    (subst (λ x. SameTags (kind u x o) (kind u m (object_part all r))) (sym lists) (object_over u m all fs ds r own o is named known for))

@@ -1,13 +1,14 @@
 -- What the makers give at each path.
-use Rattle.std.proofs.Common.{◌≡◌, ℕ, Bool, true, false, ◌&&◌, not, cond, IsTrue, List, [], ◌∷◌, Option, Some, None, is_some, refl, sym, ap, ◌∙◌}
+use Rattle.std.proofs.Common.{◌≡◌, ℕ, Bool, true, false, ◌&&◌, not, IsTrue, List, [], ◌∷◌, Option, Some, None, is_some, refl, sym, ap, ◌∙◌, subst}
 use Rattle.vrl_value.specs.Look.{Step, field, place}
 use Rattle.vrl_value.specs.declared.value.Tag.{Tag}
 use Rattle.vrl_value.specs.declared.value.Tag.TheVariants as tag
-use Rattle.vrl_kind.specs.KindTree.{KindTree, kind, ListTree, no_list, list_part, ObjectTree, no_object, object_part, RestTree, any_rest, Places, no_places, KnownFields, no_fields}
+use Rattle.vrl_kind.specs.KindTree.{KindTree, kind, ListTree, no_list, list_part, ObjectTree, no_object, object_part, RestTree, Places}
 use Rattle.vrl_kind.specs.declared.scalars.Scalars.{Scalars}
-use Rattle.vrl_kind.specs.Canonical.{no_scalars, rest_kind, place_or, list_if, object_if}
-use Rattle.vrl_kind.specs.Kinds.{tags_at, SameTags, IsWithin, list_at, object_at, only_at, flat_at, without_at, step_tag, has_list, has_object, or_absent, any_at, rest_at}
-use Rattle.vrl_kind.specs.Make.{list_unless, object_unless, IsListFor, array_kind, object_kind}
+use Rattle.vrl_kind.specs.Canonical.{rest_kind, place_or, list_if, object_if, scalars_of, object_tree}
+use Rattle.vrl_kind.specs.Change.{with_list}
+use Rattle.vrl_kind.specs.Kinds.{tags_at, SameTags, IsWithin, list_at, object_at, only_at, flat_at, without_at, has_list, has_object, or_absent, any_at}
+use Rattle.vrl_kind.specs.Make.{list_unless, object_unless, IsListFor}
 use Rattle.vrl_kind.specs.Cut.{flat, flat_list, flat_object}
 use Rattle.vrl_kind.specs.Scalars.{scalars_only, scalars_without}
 use Rattle.vrl_kind.specs.Tags.{same_tag, only}
@@ -42,11 +43,16 @@ list_is : (ps : Places) (K : KindTree) (l : ListTree) → IsListFor ps K l → h
 list_is ps K no_list for = absurd for
 list_is ps K (list_part zs s) for = refl
 
+list_over : (s : Scalars) (o : ObjectTree) (ps : Places) (r : RestTree) (K : KindTree) (l : ListTree) → K ≡ rest_kind r → IsListFor ps K l → SameTags (kind s l o) (kind s (list_part ps r) o)
+list_over s o ps r K l own for [] t = same_root s l (list_part ps r) o o (list_is ps K l for) refl t
+list_over s o ps r K l own for (place i ∷ p) t = list_for ps r K l own for i p t
+list_over s o ps r K l own for (field n ∷ p) t = refl
+
 -- the kind over such arrays has the tags that were asked for
-pub list_made : (ps : Places) (r : RestTree) (K : KindTree) (l : ListTree) → K ≡ rest_kind r → IsListFor ps K l → SameTags (kind no_scalars l no_object) (array_kind ps r)
-list_made ps r K l own for [] t = same_root no_scalars l (list_part ps r) no_object no_object (list_is ps K l for) refl t
-list_made ps r K l own for (place i ∷ p) t = list_for ps r K l own for i p t
-list_made ps r K l own for (field n ∷ p) t = refl
+pub list_made : (k : KindTree) (s : Scalars) (o : ObjectTree) (ps : Places) (r : RestTree) (K : KindTree) (l : ListTree) → s ≡ scalars_of k → o ≡ object_tree k → K ≡ rest_kind r → IsListFor ps K l → SameTags (kind s l o) (with_list k ps r)
+list_made (kind u m q) s o ps r K l scalars objects own for =
+    subst (λ x. SameTags (kind x l o) (kind u (list_part ps r) q)) (sym scalars)
+    (subst (λ x. SameTags (kind u l x) (kind u (list_part ps r) q)) (sym objects) (list_over u q ps r K l own for))
 
 only_root : (u t : Tag) → tags_at (kind (scalars_only u) (list_if (same_tag u tag.List)) (object_if (same_tag u tag.Object))) [] t ≡ only u t
 only_root tag.Text tag.Text = refl

@@ -1,4 +1,5 @@
 pub mod Canonical
+pub mod Change
 pub mod Count
 pub mod Cut
 pub mod Inference

@@ -5,6 +5,7 @@
 //! every path are one tree.
 #![tactic(auto)]
 
+mod change;
 mod count;
 mod inference;
 mod joining;

@@ -10,7 +10,6 @@ use crate::kind::{
     Kind, KindField, KindFields, Kinds, ListPart, ObjectPart, Rest, is_tag, kind_is_canonical,
 };
 use crate::same::same;
-use crate::scalars::Scalars;
 use crate::seen::{Part, Seen, SeenList, SeenObject};
 use std::alloc::Global;
 use std::collections::BTreeMap;
@@ -22,13 +21,7 @@ impl Kind {
     pub fn list(alloc: Global, places: Vec<Kind>, rest: Rest) -> Result<Kind, Memory>
         ensures { IfOk result (λ kind. SameTags kind (array_kind (places_view places.items) (rest_of rest))) }
     {
-        all_canonical(&places);
-        let own = rest.into_kind(alloc)?;
-        Ok(Kind {
-            scalars: Scalars::NONE,
-            list: Some(ListPart::of(alloc, places, own)?),
-            object: None,
-        })
+        Kind::never(alloc)?.with_list(alloc, places, rest)
     }
 
     /// The kind of the objects with these kinds at these fields, of equal names the last, and this rest at
@@ -36,13 +29,7 @@ impl Kind {
     pub fn object(alloc: Global, fields: Vec<(Chars, Kind)>, rest: Rest) -> Result<Kind, Memory>
         ensures { IfOk result (λ kind. SameTags kind (object_kind (named_view fields.items) (rest_of rest))) }
     {
-        let own = rest.into_kind(alloc)?;
-        let known = known_fields(alloc, by_name(alloc, fields)?, &own)?;
-        Ok(Kind {
-            scalars: Scalars::NONE,
-            list: None,
-            object: Some(ObjectPart::of(alloc, known, own)?),
-        })
+        Kind::never(alloc)?.with_object(alloc, fields, rest)
     }
 
     /// An equal kind. `Memory`: want of memory.
@@ -187,7 +174,7 @@ impl Rest {
     }
 
     // The same of a rest that is let go.
-    fn into_kind(self, alloc: Global) -> Result<Kind, Memory>
+    pub(crate) fn into_kind(self, alloc: Global) -> Result<Kind, Memory>
         ensures tree { IfOk result (λ kind. kind ≡ rest_kind (rest_of self)) }
         ensures canonical { IfOk result (λ kind. IsCanonical kind) }
     {
@@ -268,7 +255,10 @@ impl ObjectPart {
 }
 
 // The kinds by their names, of equal names the last.
-fn by_name(alloc: Global, fields: Vec<(Chars, Kind)>) -> Result<BTreeMap<String, Kind>, Memory>
+pub(crate) fn by_name(
+    alloc: Global,
+    fields: Vec<(Chars, Kind)>,
+) -> Result<BTreeMap<String, Kind>, Memory>
     ensures { IfOk result (λ named. SameFields (named_view fields.items) (entries_view named.entries)) }
 {
     let mut named = BTreeMap::new(alloc);
@@ -279,7 +269,7 @@ fn by_name(alloc: Global, fields: Vec<(Chars, Kind)>) -> Result<BTreeMap<String,
 }
 
 // The kinds, in the order of their names' bytes, that say more than the rest, whose own kind this is.
-fn known_fields(
+pub(crate) fn known_fields(
     alloc: Global,
     named: BTreeMap<String, Kind>,
     own: &Kind,
@@ -310,7 +300,7 @@ pub(crate) fn push_known(
 }
 
 // Each kind of a vector is in the one form. This changes nothing: it is a law of the type.
-fn all_canonical(kinds: &[Kind])
+pub(crate) fn all_canonical(kinds: &[Kind])
     ensures { PlacesAreCanonical (places_view kinds.now) }
 {
     for kind in kinds {

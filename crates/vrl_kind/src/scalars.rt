@@ -1,4 +1,5 @@
 ghost use Rattle.std.specs.Prelude.{◌≡◌, ◌↔◌, ◌||◌, ◌&&◌, not, IsTrue};
+ghost use Rattle.vrl_kind.specs.Change.{scalars_filled};
 ghost use Rattle.vrl_kind.specs.Scalars.{scalar_union, scalars_only, scalars_without, ScalarsAreWithin};
 ghost use Rattle.vrl_kind.specs.Tags.{same_tag};
 
@@ -84,6 +85,17 @@ impl Scalars {
             timestamp: stays(self.timestamp, Tag::Time, tag),
             regex: stays(self.regex, Tag::Pattern, tag),
             absent: stays(self.absent, Tag::Absent, tag),
+        }
+    }
+
+    // Null where absent was among them, and absent no more.
+    pub(crate) fn null_for_absent(self) -> Scalars
+        ensures { result ≡ scalars_filled self }
+    {
+        Scalars {
+            null: either(self.null, self.absent),
+            absent: false,
+            ..self
         }
     }
 

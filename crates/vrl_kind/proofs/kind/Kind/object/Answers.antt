@@ -1,7 +1,4 @@
-use Rattle.std.proofs.Common.{Some}
-use Rattle.vrl_kind.specs.View.{object_of}
-use Rattle.vrl_kind.proofs.Naming.{object_made}
 use Rattle.vrl_kind.proofs.kind.Kind.object.Goals as goal
 
 pub returns : goal.returns
-returns c = object_made _ _ _ _ _ (object_of (Some c.in_ok-of.field-0)) c.in_ok-own.ensures.tree c.in_ok-by_name.ensures c.in_ok-known.ensures c.in_ok-of.ensures.meaning
+returns c = rw (c.in_ok-never.ensures.tree) at c.with_object-2.ensures
