@@ -1,5 +1,6 @@
 pub mod Ahead
 pub mod Changing
+pub mod Cuts
 pub mod Found
 pub mod Gathering
 pub mod Inclusion
