@@ -1,5 +1,5 @@
 -- The codes and places of faults, and what a fault excludes.
-use Rattle.std.proofs.Common.{◌≡◌, ℕ, suc, Contains, IsErrAnd, IfErr, Result, Ok, Err, List, inl, inr, sym, ap, subst, arith}
+use Rattle.std.proofs.Common.{◌≡◌, ℕ, suc, ◌-◌, ◌≤◌, Contains, IsErrAnd, IfErr, Result, Ok, Err, List, length, inl, inr, sym, ap, subst, arith}
 use Rattle.vrl_diag.specs.declared.diagnostic.Diagnostic.{Diagnostic}
 use Rattle.vrl_token.specs.declared.fault.SyntaxFault.{SyntaxFault}
 use Rattle.vrl_token.specs.declared.fault.SyntaxFault.TheVariants.{Fault, Memory}
