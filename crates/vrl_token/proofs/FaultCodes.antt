@@ -11,7 +11,8 @@ use Rattle.vrl_token.specs.Laws.{TokensAreDetermined}
 use Rattle.vrl_token.specs.OnFault.{OnFault}
 use Rattle.vrl_token.specs.Paths.{HasFlaw, Segment}
 use Rattle.vrl_token.specs.Placing.{IsWithin}
-use Rattle.vrl_token.proofs.Shorter.{fault_longer}
+use Rattle.vrl_token.proofs.Ends.{is_no_longer}
+use Rattle.vrl_token.proofs.Taking.{fault_end}
 use Rattle.vrl_token.specs.Reading.{IsTokenized, IsWrong, lexical_codes}
 
 is_203 : {code : ℕ} → code ≡ 203 → Contains spelling_codes code
@@ -64,7 +65,7 @@ wrong_code text d (inr nested) = (0, omega arith, sym (ap (λ x. x.code) nested.
 -- and stands in the text
 pub wrong_within : (text : List ℕ) (d : Diagnostic) → IsWrong text d → IsWithin (length text) d.span
 wrong_within text d (inl first) =
-    let shorter : length first.rest ≤ length first.place = fault_longer first.is_fault in
+    let shorter : length first.rest ≤ length first.place = is_no_longer (fault_end first.is_fault) in
     let start : d.span.start ≡ length text - length first.place = ap (λ s. s.start) first.span in
     let stop : d.span.«end» ≡ length text - length first.rest = ap (λ s. s.«end») first.span in
     (omega arith, omega arith)

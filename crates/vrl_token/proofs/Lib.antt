@@ -3,6 +3,7 @@ mod Classes
 mod Counts
 mod Determined
 mod Digits
+mod Ends
 mod Escapes
 mod FaultCodes
 mod Floats
@@ -17,10 +18,10 @@ mod Quotes
 mod Readied
 mod Runs
 mod SegmentLemmas
-mod Shorter
 mod Starts
 mod Stepped
 mod Strays
+mod Taking
 mod Told
 mod Unique
 mod Walks

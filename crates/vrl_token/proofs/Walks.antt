@@ -1,6 +1,6 @@
 -- Segments read one behind another.
-use Rattle.std.proofs.Common.{◌≡◌, ◌≢◌, ℕ, ◌<◌, ◌≤◌, Option, Some, None, MatchOption, List, [], ◌∷◌, ◌++◌, length, inl, inr, refl, sym, ap, ◌∙◌, subst, append_assoc, arith}
-use Rattle.std.proofs.lemmas.List.{append-nil, length-append}
+use Rattle.std.proofs.Common.{◌≡◌, ◌≢◌, ℕ, Option, Some, None, MatchOption, List, [], ◌∷◌, ◌++◌, length, inl, inr, refl, sym, ap, ◌∙◌, subst, append_assoc, arith}
+use Rattle.std.proofs.lemmas.List.{append-nil}
 use Rattle.std.specs.List.{AllByRecursion}
 use Rattle.vrl_path.specs.declared.path.Step.{Step}
 use Rattle.vrl_token.specs.declared.path.Gathering.{Gathering}
@@ -11,6 +11,7 @@ use Rattle.vrl_token.specs.Segments.{IsFlawOf}
 use Rattle.vrl_token.specs.Paths.{BeginsDotted, HasSteps, IsInRange, IsReadable, IsSegment, Segment, Segments, dotted, field, index, minus_text, quoted, step_of, steps_of, undotted}
 use Rattle.vrl_token.specs.Characters.{spelling_of}
 use Rattle.vrl_token.specs.Words.{IsNonempty, NoSegment}
+use Rattle.vrl_token.proofs.Ends.{EndsWith, Takes, ends_on, is_end, is_no_longer, is_shorter, first_byte, front_of, same_end, takes_on}
 use Rattle.vrl_token.proofs.Quotes.{all-append}
 
 -- the segments between two places, and what was gathered of them behind others
@@ -82,26 +83,27 @@ flaw_noted before (Some Range) flaw new steps more s keeps is has = rw keeps (ne
 
 -- ---- whether there were any
 
-pub undotted_longer : (segment : Segment) (rest : List ℕ) → IsSegment segment → length rest < length (undotted segment rest)
-undotted_longer (field name) rest is = rw (length-append name rest) (let some = is.0 in omega arith)
-undotted_longer (quoted cs) rest is = rw (length-append (spelling_of cs) (34 ∷ rest)) (omega arith)
-undotted_longer (index negative digits) rest is = rw (length-append (minus_text negative) (digits ++ 93 ∷ rest), length-append digits (93 ∷ rest)) (omega arith)
+pub undotted_takes : (segment : Segment) (rest : List ℕ) → IsSegment segment → Takes (undotted segment rest) rest
+undotted_takes (field name) rest is = record { front = name; parts = refl; some = is.0 }
+undotted_takes (quoted cs) rest is = takes_on (first_byte 34 (spelling_of cs ++ 34 ∷ rest)) (ends_on (front_of (spelling_of cs) (34 ∷ rest)) (is_end (first_byte 34 rest)))
+undotted_takes (index negative digits) rest is =
+    takes_on (first_byte 91 (minus_text negative ++ (digits ++ 93 ∷ rest))) (ends_on (front_of (minus_text negative) (digits ++ 93 ∷ rest)) (ends_on (front_of digits (93 ∷ rest)) (is_end (first_byte 93 rest))))
 
-dotted_longer : (segment : Segment) (rest : List ℕ) → IsSegment segment → length rest < length (dotted segment rest)
-dotted_longer (field name) rest is = let more = undotted_longer (field name) rest is in omega arith
-dotted_longer (quoted cs) rest is = let more = undotted_longer (quoted cs) rest is in omega arith
-dotted_longer (index negative digits) rest is = undotted_longer (index negative digits) rest is
+dotted_takes : (segment : Segment) (rest : List ℕ) → IsSegment segment → Takes (dotted segment rest) rest
+dotted_takes (field name) rest is = takes_on (first_byte 46 (undotted (field name) rest)) (is_end (undotted_takes (field name) rest is))
+dotted_takes (quoted cs) rest is = takes_on (first_byte 46 (undotted (quoted cs) rest)) (is_end (undotted_takes (quoted cs) rest is))
+dotted_takes (index negative digits) rest is = undotted_takes (index negative digits) rest is
 
-pub begins_longer : {text rest : List ℕ} (segment : Segment) → BeginsDotted text segment rest → length rest < length text
-begins_longer segment begins = rw begins.parts (dotted_longer segment _ begins.is_segment)
+pub begins_takes : {text rest : List ℕ} (segment : Segment) → BeginsDotted text segment rest → Takes text rest
+begins_takes {text} {rest} segment begins = subst (λ t. Takes t rest) (sym begins.parts) (dotted_takes segment rest begins.is_segment)
 
-pub segments_shorter : (segments : List Segment) (text rest : List ℕ) → Segments text segments rest → length rest ≤ length text
-segments_shorter [] text rest walk = rw walk.0 (omega arith)
-segments_shorter (s ∷ ss) text rest walk = let one = begins_longer s walk.1 in let more = segments_shorter ss walk.0 rest walk.2 in omega arith
+pub segments_end : (segments : List Segment) (text rest : List ℕ) → Segments text segments rest → EndsWith text rest
+segments_end [] text rest walk = same_end walk.0
+segments_end (s ∷ ss) text rest walk = ends_on (is_end (begins_takes s walk.1)) (segments_end ss walk.0 rest walk.2)
 
 pub nothing_walked : (text rest : List ℕ) (segments : List Segment) → Segments text segments rest → length rest ≡ length text → NoSegment text
 nothing_walked text rest [] walk same = walk.1
-nothing_walked text rest (s ∷ ss) walk same = let one = begins_longer s walk.1 in let more = segments_shorter ss walk.0 rest walk.2 in absurd (omega arith)
+nothing_walked text rest (s ∷ ss) walk same = let one = is_shorter (begins_takes s walk.1) in let more = is_no_longer (segments_end ss walk.0 rest walk.2) in absurd (omega arith)
 
 pub something_walked : (text rest : List ℕ) (segments : List Segment) → Segments text segments rest → length rest ≢ length text → IsNonempty segments
 something_walked text rest [] walk other = absurd (other (ap length (sym walk.0)))

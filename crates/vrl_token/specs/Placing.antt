@@ -1,5 +1,5 @@
 -- Where tokens stand in their text, and which of them have a path with a step.
-use Rattle.std.specs.Prelude.{ℕ, ◌<◌, ◌≤◌, List, [], ◌∷◌, length, map}
+use Rattle.std.specs.Prelude.{ℕ, ◌<◌, ◌≤◌, IsCharBoundary, List, [], ◌∷◌, length, map}
 use Rattle.vrl_diag.specs.declared.diagnostic.Span.{Span}
 use Rattle.vrl_token.specs.declared.token.Spanned.{Spanned}
 use Rattle.vrl_token.specs.declared.token.Token.{Token}
@@ -13,6 +13,10 @@ InOrderFrom start stop (s ∷ ss) = (start ≤ s.start) × (s.start < s.«end»)
 -- the span lies in a text of so many bytes; it may be empty
 abbrev pub IsWithin : ℕ → Span → Type 0
 IsWithin total s = (s.start ≤ s.«end») × (s.«end» ≤ total)
+
+-- a character of the text begins where the span does, and where it ends unless the text ends there
+abbrev pub IsOnCharacters : List ℕ → Span → Type 0
+IsOnCharacters text s = IsCharBoundary text s.start × IsCharBoundary text s.«end»
 
 abbrev pub spans_of : List Spanned → List Span
 spans_of tokens = map (λ t. t.span) tokens

@@ -1,6 +1,8 @@
 ghost use Rattle.std.specs.Prelude.{◌≡◌, ◌≤◌, ◌-◌, ◌++◌, List, IfErr, IfOk, OnOk, [], ◌∷◌, length};
+ghost use Rattle.std.specs.List.{AllByRecursion};
 ghost use Rattle.vrl_token.specs.Division.{IsDivision, IsFirstFault, kept};
 ghost use Rattle.vrl_token.specs.OnFault.{OnFault};
+ghost use Rattle.vrl_token.specs.Placing.{IsOnCharacters};
 ghost use Rattle.vrl_token.specs.declared.piece.Lexeme.{Lexeme as SpecLexeme};
 
 use crate::context::Context;
@@ -39,6 +41,7 @@ fn push_kept(found: &mut Vec<Lexeme>, lexeme: Lexeme) -> Result<(), Memory>
 pub(crate) fn lexemes(alloc: Global, text: &str) -> Result<Vec<Lexeme>, SyntaxFault>
     requires { length text.now ≤ 65536 }
     ensures ok { IfOk result (λ found. (pieces : List SpecLexeme) × IsDivision text.now pieces × (found.items ≡ kept pieces)) }
+    ensures characters { IfOk result (λ found. AllByRecursion (λ l. IsOnCharacters text.now l.span) found.items) }
     ensures fault { IfErr result (OnFault (IsFirstFault text.now)) }
 {
     let mut found = Vec::new(alloc);

@@ -1,6 +1,6 @@
 ghost use Rattle.std.specs.Prelude.{◌≡◌, ◌≤◌, All, Contains, IfErr, IfOk, IsErr, IsUtf8, List, length, ◌↔◌};
 ghost use Rattle.vrl_token.specs.OnFault.{OnFault};
-ghost use Rattle.vrl_token.specs.Placing.{HasStep, InOrderFrom, IsWithin, spans_of};
+ghost use Rattle.vrl_token.specs.Placing.{HasStep, InOrderFrom, IsOnCharacters, IsWithin, spans_of};
 ghost use Rattle.vrl_token.specs.Reading.{IsNoScript, IsTokenized, IsWrong, lexical_codes};
 ghost use Rattle.vrl_token.specs.declared.token.Spanned.{Spanned as SpecSpanned};
 
@@ -52,6 +52,7 @@ pub fn tokens(alloc: Global, text: &str) -> Result<Tokens, SyntaxFault>
     ensures ok { IfOk result (λ found. IsTokenized text.now found.tokens) }
     ensures end_is { IfOk result (λ found. found.«end» ≡ length text.now) }
     ensures spans { IfOk result (λ found. InOrderFrom 0 (length text.now) (spans_of found.tokens)) }
+    ensures characters { IfOk result (λ found. All (λ t. IsOnCharacters text.now t.span) found.tokens) }
     ensures steps { IfOk result (λ found. All (λ t. HasStep t.token) found.tokens) }
     ensures fault { IfErr result (OnFault (IsWrong text.now)) }
     ensures code { IfErr result (OnFault (λ d. Contains lexical_codes d.code)) }

@@ -1,7 +1,8 @@
-use Rattle.std.proofs.Common.{rules}
+use Rattle.std.proofs.Common.{rules, ◌≡◌, []}
+use Rattle.vrl_token.specs.Brackets.{told}
 use Rattle.vrl_token.specs.Reading.{IsTokenized, IsWrong}
 use Rattle.vrl_token.proofs.FaultCodes.{first_codes, first_excludes, first_within, passed_on}
-use Rattle.vrl_token.proofs.Placed.{tokens_in_order}
+use Rattle.vrl_token.proofs.Placed.{tokens_in_order, tokens_on_characters}
 use Rattle.vrl_token.proofs.Stepped.{tokens_have_steps}
 use Rattle.vrl_token.proofs.reading.tokens.Goals as goal
 
@@ -29,3 +30,8 @@ pub returns-clause-steps : goal.returns-clause-steps
 returns-clause-steps c =
     let is : IsTokenized c.args.text.now c.new.result.tokens = search rules in
     tokens_have_steps c.args.text.now c.new.result.tokens is.has
+
+pub returns-clause-characters : goal.returns-clause-characters
+returns-clause-characters c =
+    let tells : c.new.result.tokens ≡ told [] c.in_ok-lexemes.field-0.items = search rules in
+    tokens_on_characters c.args.text.now c.new.result.tokens c.in_ok-lexemes.field-0.items tells c.in_ok-lexemes.ensures.characters
