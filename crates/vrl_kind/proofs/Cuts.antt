@@ -17,5 +17,5 @@ same_is_wider K M e = subst (IsWithin K) (sym e) (λ p t h. h)
 pub cuts_are_wider : CutsAreWider
 cuts_are_wider K M c =
     ⊎_elim (λ many. flat_is_wider K M (c.too_many many))
-      (λ few. ⊎_elim (λ deep. flat_is_wider K M (c.too_deep deep)) (λ flat. same_is_wider K M (c.kept few flat)) (cases_lt level_limit (levels K)))
-      (cases_lt node_limit (nodes K))
+    (λ few. ⊎_elim (λ deep. flat_is_wider K M (c.too_deep deep)) (λ flat. same_is_wider K M (c.kept few flat)) (cases_lt level_limit (levels K)))
+    (cases_lt node_limit (nodes K))

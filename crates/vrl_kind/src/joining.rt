@@ -15,7 +15,8 @@ use std::alloc::Global;
 use vrl_value::{Chars, Memory, Tag};
 
 /// The kind of what is of either kind: at each path it allows what either allows there, and nothing else.
-/// It walks each kind once. `Memory`: want of memory.
+/// It walks both kinds side by side, and a rest once for each part that the other kind knows in its place, so it takes
+/// time linear in both and in what it gives. `Memory`: want of memory.
 pub fn join(alloc: Global, a: &Kind, b: &Kind) -> Result<Kind, Memory>
     ensures union { IfOk result (λ kind. IsJoin a.now b.now kind) }
     ensures above { IfOk result (λ kind. IsWithin a.now kind × IsWithin b.now kind) }
