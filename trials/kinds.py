@@ -2,9 +2,10 @@
 
     python3 trials/kinds.py [--seed N] [--count N] [--out FILE]
 
-Each answer is worked out twice: by walks over trees, and by the definition at every path to depth three over the
-fields and places that occur and one fresh of each. Where the two differ, or a tree isn't of the one form, the
-program says so and ends with 1. With --out the cases go to FILE, for a driver of the product to read.
+Each answer is worked out twice: by walks over trees, and by the definition at every path over the fields and places
+that occur and one fresh of each. The paths go one step below the deepest tree of the case: further down no set of
+tags changes any more. Where the two differ, or a tree isn't of the one form, the program says so and ends with 1.
+With --out the cases go to FILE, for a driver of the product to read.
 
 One case stands on one line, as a JSON object with the members `call` and `want` and the call's own:
 
@@ -515,20 +516,47 @@ def b_without(f, tag):
     return result
 
 
-FIELDS, LAST = ("a", "b", "é", "fresh"), 5
-STEPS = FIELDS + tuple(range(LAST))
+FIELDS, FRESH = ("a", "b", "é", "fresh"), "other"
 
 
-def same_at(f, g, depth=3, path=()):
-    """Whether two functions agree at every path to this depth that either has a container for."""
-    found, wanted = f(path), g(path)
-    if found != wanted:
-        return False
-    if depth == 0:
-        return True
-    steps = [s for s in STEPS if fit(s) in found]
-    steps += [s for s in ("fresh", 0) if fit(s) not in found]
-    return all(same_at(f, g, depth - 1 if fit(s) in found else 0, path + (s,)) for s in steps)
+def known(kind):
+    """The fields and the places that a kind knows anywhere."""
+    names = {name for name, _ in kind.object[0]} if kind.object else set()
+    places = set(range(len(kind.array[0]))) if kind.array else set()
+    return names.union(places, *(known(one) for one in children(kind)))
+
+
+class Paths:
+    """The paths of a case: the fields and places that occur in it, one fresh of each, and how far down sets may change."""
+
+    def __init__(self, kinds, path=()):
+        found = set(path).union(*(known(kind) for kind in kinds))
+        self.places = list(range(max([-1] + [step for step in found if isinstance(step, int)]) + 2))
+        self.steps = sorted(step for step in found if isinstance(step, str)) + [FRESH] + self.places
+        self.depth = 1 + max(levels(kind) for kind in kinds)
+
+    def same(self, f, g, path=()):
+        """Whether two functions agree at every path that either has a container for."""
+        found, wanted = f(path), g(path)
+        if found != wanted:
+            return False
+        if len(path) == self.depth:
+            return True
+        if not all(f(path + (s,)) == g(path + (s,)) for s in (FRESH, self.places[-1]) if fit(s) not in found):
+            return False
+        return all(self.same(f, g, path + (s,)) for s in self.steps if fit(s) in found)
+
+    def within(self, f, g, path=()):
+        """Whether the first function's set is part of the second's at every path."""
+        found = f(path)
+        if not found <= g(path):
+            return False
+        return len(path) == self.depth or all(self.within(f, g, path + (s,)) for s in self.steps if fit(s) in found)
+
+    def inhabits(self, value, f, path=()):
+        """Whether what is found at each path, absent too, is in the function's set there."""
+        found = found_at(value, path)
+        return found in f(path) and all(self.inhabits(value, f, path + (s,)) for s in self.steps if found == fit(s))
 
 
 # ---- cases at random
@@ -713,7 +741,7 @@ class Maker:
             if call == "join":
                 law = b_join(at(a), at(b))
             elif call == "within":
-                assert answer == same_at(b_join(at(a), at(b)), at(b))
+                assert answer == Paths([a, b]).within(at(a), at(b)), (told, answer)
         elif call == "has":
             told["a"], told["tag"] = a, self.rng.choice(SCALARS + ("array", "object", ABSENT))
             answer = told["tag"] in tags_at(a, ())
@@ -723,13 +751,11 @@ class Maker:
         elif call in ("cut", "nodes", "levels", "flatten", "parts", "print"):
             told["a"] = a = self.big() if call in ("cut", "nodes", "levels") and self.rng.random() < 0.1 else a
             answer = {"cut": cut, "nodes": nodes, "levels": levels, "flatten": flatten, "parts": parts, "print": lambda k: k}[call](a)
-            law = {"flatten": b_flatten(at(a)), "parts": b_parts(at(a), STEPS), "print": at(a)}.get(call)
+            law = {"flatten": b_flatten(at(a)), "parts": b_parts(at(a), Paths([a]).steps), "print": at(a)}.get(call)
         elif call == "inhabits":
             told["a"], told["value"] = a, self.value(a, 3)
             answer = inhabits(told["value"], a)
-            told_at = lambda q: found_at(told["value"], q)
-            every = [()] + [(s,) for s in STEPS] + [(s, t) for s in STEPS for t in STEPS] + [(s, t, u) for s in STEPS for t in STEPS for u in STEPS]
-            assert answer == all(told_at(q) is None or told_at(q) in tags_at(a, q) for q in every)
+            assert answer == Paths([a, kind_of(told["value"])]).inhabits(told["value"], at(a)), (told, answer)
         elif call == "kind_of":
             told["value"] = self.value(a, 3)
             answer = kind_of(told["value"])
@@ -738,9 +764,9 @@ class Maker:
             told["a"], told["path"] = a, self.path(3, call == "read", a)
             answer = {"read": read, "remove": remove, "may_be_absent": may_be_absent}[call](a, told["path"])
             if call == "may_be_absent":
-                assert answer == b_absent(at(a), told["path"])
+                assert answer == b_absent(at(a), told["path"]), (told, answer)
             else:
-                law = b_read(at(a), told["path"], range(LAST + 1)) if call == "read" else b_remove(at(a), told["path"])
+                law = b_read(at(a), told["path"], Paths([a]).places) if call == "read" else b_remove(at(a), told["path"])
         elif call == "write":
             told["a"], told["path"], told["b"] = a, self.path(3, False, a), self.kind(1)
             answer, law = write(a, told["path"], told["b"]), b_write(at(a), told["path"], at(told["b"]))
@@ -761,7 +787,8 @@ class Maker:
             answer = kind_file(data)
         if isinstance(answer, Kind):
             assert canonical(answer), (told, answer)
-            assert law is None or same_at(at(answer), law), (told, answer)
+            kinds = [one for one in told.values() if isinstance(one, Kind)] + [answer]
+            assert law is None or Paths(kinds, told.get("path", ())).same(at(answer), law), (told, answer)
             answer = print_kind(answer)
         told["want"] = answer
         return told
