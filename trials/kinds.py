@@ -516,6 +516,14 @@ def b_without(f, tag):
     return result
 
 
+def b_made(tag, inner, rest):
+    def result(q):
+        if not q:
+            return {tag}
+        return tags_at(inner.get(q[0], own(rest)), q[1:]) if fit(q[0]) == tag else set()
+    return result
+
+
 FIELDS, FRESH = ("a", "b", "é", "fresh"), "other"
 
 
@@ -773,21 +781,22 @@ class Maker:
         elif call == "list":
             places, rest = self.array(2)
             told["places"], told["rest"] = places, rest
-            answer = make((), (places, rest))
+            answer, law = make((), (places, rest)), b_made("array", dict(enumerate(places)), rest)
         elif call == "object":
             fields, rest = self.object(2)
             pairs = list(fields.items())
             if pairs and self.rng.random() < 0.3:
                 pairs.insert(0, (pairs[-1][0], self.kind(1)))
             told["fields"], told["rest"] = pairs, rest
-            answer = make((), None, (fields, rest))
+            answer, law = make((), None, (fields, rest)), b_made("object", dict(pairs), rest)
         else:
             data = self.file_bytes()
             told["hex"] = data.hex()
             answer = kind_file(data)
         if isinstance(answer, Kind):
             assert canonical(answer), (told, answer)
-            kinds = [one for one in told.values() if isinstance(one, Kind)] + [answer]
+            given = list(told.values()) + told.get("places", []) + [one for _, one in told.get("fields", [])]
+            kinds = [one for one in given if isinstance(one, Kind)] + [answer]
             assert law is None or Paths(kinds, told.get("path", ())).same(at(answer), law), (told, answer)
             answer = print_kind(answer)
         told["want"] = answer
