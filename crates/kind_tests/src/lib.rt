@@ -1,5 +1,7 @@
-//! The tests of what is known of events before they come: kinds.
+//! The tests of what is known of events before they come: kinds, and the files that declare them.
 #![tactic(auto)]
 
+#[cfg(test)]
+mod kind_files;
 #[cfg(test)]
 mod kinds;

@@ -1,0 +1,10 @@
+pub mod Allowed
+pub mod Alternatives
+pub mod Gathered
+pub mod Known
+pub mod OneAnswer
+pub mod Optional
+pub mod Refusals
+pub mod Shaping
+pub mod Sizes
+pub mod Words

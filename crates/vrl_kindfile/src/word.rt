@@ -1,0 +1,22 @@
+ghost use Rattle.std.specs.Prelude.{◌≡◌, None, IfOk, MatchOption};
+ghost use Rattle.vrl_value.specs.Tree.{string};
+ghost use Rattle.vrl_kindfile.specs.Shapes.{word_tags};
+ghost use Rattle.vrl_kindfile.specs.Walk.{IsWordKind};
+
+use std::alloc::Global;
+use vrl_kind::Kind;
+use vrl_value::{Memory, Tag};
+
+/// The kind that a word names. `None`: it names none. `Memory`: want of memory.
+pub(crate) fn word_kind(alloc: Global, word: &str) -> Result<Option<Kind>, Memory>
+    ensures { IfOk result (λ found. MatchOption found (word_tags word.now ≡ None) (IsWordKind word.now)) }
+{
+    match word {
+        "string" => Ok(Some(Kind::of(alloc, Tag::Text)?)),
+        "integer" => Ok(Some(Kind::of(alloc, Tag::Int)?)),
+        "boolean" => Ok(Some(Kind::of(alloc, Tag::Bool)?)),
+        "null" => Ok(Some(Kind::of(alloc, Tag::Null)?)),
+        "json" => Ok(Some(Kind::json(alloc)?)),
+        _ => Ok(None),
+    }
+}
