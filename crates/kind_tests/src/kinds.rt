@@ -57,7 +57,7 @@ fn kind_of_word(alloc: Global, word: &str) -> Result<Kind, Memory> {
 }
 
 // The join of the kinds of words, which stand between strokes.
-fn kind_of_words(alloc: Global, words: &str) -> Result<Kind, Memory> {
+pub(crate) fn kind_of_words(alloc: Global, words: &str) -> Result<Kind, Memory> {
     let mut kind = Kind::never(alloc)?;
     for word in words.split('|') {
         kind = join(alloc, &kind, &kind_of_word(alloc, word)?)?;

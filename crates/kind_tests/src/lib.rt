@@ -1,7 +1,9 @@
-//! The tests of what is known of events before they come: kinds, and the files that declare them.
+//! The tests of what is known of events before they come: kinds, what is at a path of one, and the files that declare them.
 #![tactic(auto)]
 
 #[cfg(test)]
 mod kind_files;
 #[cfg(test)]
 mod kinds;
+#[cfg(test)]
+mod places;

@@ -1,0 +1,12 @@
+pub mod Changed
+pub mod Looked
+pub mod Orders
+pub mod Reading
+pub mod Removed
+pub mod Removing
+pub mod Same
+pub mod Tags
+pub mod Values
+pub mod Views
+pub mod Writing
+pub mod Written

@@ -1,0 +1,189 @@
+-- The kind that a read makes has just the tags that a read may find.
+use Rattle.std.proofs.Common.{◌≡◌, ◌≢◌, inl, inr, ℕ, ℤ, pos, negsuc, Some, None, Bool, true, false, ◌||◌, ◌&&◌, not, IsTrue, List, [], ◌∷◌, length, refl, sym, ap, ◌∙◌, subst, arith}
+use Rattle.std.proofs.lemmas.Bool.{true≢false}
+use Rattle.vrl_value.specs.Look.{Step, field, place}
+use Rattle.vrl_value.specs.declared.value.Tag.{Tag}
+use Rattle.vrl_value.specs.declared.value.Tag.TheVariants as tag
+use Rattle.vrl_path.specs.declared.path.Step.{Step as CodeStep}
+use Rattle.vrl_path.specs.declared.path.Step.TheVariants.{Field, Place}
+use Rattle.vrl_kind.specs.KindTree.{KindTree}
+use Rattle.vrl_kind.specs.Change.{Sets, null_for_absent}
+use Rattle.vrl_kind.specs.Kinds.{IsParts, step_tag, tags_at, without_at}
+use Rattle.vrl_kind.specs.Tags.{Tags, same_tag}
+use Rattle.vrl_place.specs.Inner.{AreSomePlaces, from_start}
+use Rattle.vrl_place.specs.Read.{Allowed, AllowsOther, HasJust, allowed, read, read_part, read_some_place, read_step}
+use Rattle.vrl_place.specs.Sets.{SameSets, has_other, or_absent_if, part}
+use Rattle.vrl_place.proofs.Same.{one_sets}
+use Rattle.vrl_place.proofs.Tags.{both, differ, first_of_both, left_of, not_same, one_of_both, one_tag, other_there, right_of, second_of_both, some_other, step_not_null, step_present}
+
+abbrev Within : Allowed → Allowed → Type 0
+Within A B = (p : List Step) (t : Tag) → A p t → B p t
+
+part_within : (A B : Allowed) (s : Step) → Within A B → Within (read_part A s) (read_part B s)
+part_within A B s w [] t (inl x) = inl (x.0, w (s ∷ []) t x.1)
+part_within A B s w [] t (inr (e, inl a)) = inr (e, inl (w (s ∷ []) tag.Absent a))
+part_within A B s w [] t (inr (e, inr x)) = inr (e, inr (x.0, x.1, w [] x.0 x.2))
+part_within A B s w (q ∷ p) t a = w (s ∷ q ∷ p) t a
+
+some_within : (A B : Allowed) → Within A B → Within (read_some_place A) (read_some_place B)
+some_within A B w [] t (inl x) = inl (x.0, (x.1.0, w (place x.1.0 ∷ []) t x.1.1))
+some_within A B w [] t (inr e) = inr e
+some_within A B w (q ∷ p) t x = (x.0, w (place x.0 ∷ q ∷ p) t x.1)
+
+step_within : (A B : Allowed) (s : CodeStep) → Within A B → Within (read_step A s) (read_step B s)
+step_within A B (Field k) w = part_within A B (field k) w
+step_within A B (Place (pos i)) w = part_within A B (place i) w
+step_within A B (Place (negsuc i)) w = some_within A B w
+
+read_within : (r : List CodeStep) (A B : Allowed) → Within A B → Within (read A r) (read B r)
+read_within [] A B w = w
+read_within (s ∷ r) A B w = read_within r (read_step A s) (read_step B s) (step_within A B s w)
+
+-- a part that may be absent where another tag may stand, with null for absent, is the part that is read
+part_cases : (P : Tags) (O : Bool) (t : Tag) (G : Type 0) → IsTrue (((P t || (O && same_tag t tag.Absent)) && not (same_tag t tag.Absent)) || ((P tag.Absent || (O && true)) && same_tag t tag.Null))
+    → (t ≢ tag.Absent → IsTrue (P t) → G) → (t ≡ tag.Null → IsTrue (P tag.Absent) → G) → (t ≡ tag.Null → IsTrue O → G) → G
+part_cases P O t G h here absent other =
+    one_of_both ((P t || (O && same_tag t tag.Absent)) && not (same_tag t tag.Absent)) ((P tag.Absent || (O && true)) && same_tag t tag.Null) G h
+    (λ x. let ne : t ≢ tag.Absent = differ t tag.Absent (second_of_both (P t || (O && same_tag t tag.Absent)) (not (same_tag t tag.Absent)) x) in
+    one_of_both (P t) (O && same_tag t tag.Absent) G (first_of_both (P t || (O && same_tag t tag.Absent)) (not (same_tag t tag.Absent)) x)
+    (here ne) (λ b. absurd (ne (one_tag t tag.Absent (second_of_both O (same_tag t tag.Absent) b)))))
+    (λ x. let e : t ≡ tag.Null = one_tag t tag.Null (second_of_both (P tag.Absent || (O && true)) (same_tag t tag.Null) x) in
+    one_of_both (P tag.Absent) (O && true) G (first_of_both (P tag.Absent || (O && true)) (same_tag t tag.Null) x)
+    (absent e) (λ b. other e (first_of_both O true b)))
+
+part_to : (A : Sets) (s : Step) → Within (allowed (null_for_absent (or_absent_if (has_other (A []) (step_tag s)) (part A s)))) (read_part (allowed A) s)
+part_to A s (q ∷ p) t h = h
+part_to A s [] t h = part_cases (A (s ∷ [])) (has_other (A []) (step_tag s)) t (read_part (allowed A) s [] t) h
+    (λ ne a. inl (ne, a)) (λ e a. inr (e, inl a))
+    (λ e o. let x = some_other (A []) (step_tag s) o in inr (e, inr (x.other, x.differs, x.allowed)))
+
+part_from : (A : Sets) (s : Step) → Within (read_part (allowed A) s) (allowed (null_for_absent (or_absent_if (has_other (A []) (step_tag s)) (part A s))))
+part_from A s (q ∷ p) t h = h
+part_from A s [] t (inl x) = left_of _ _ (both _ _ (left_of _ _ x.1) (not_same t tag.Absent x.0))
+part_from A s [] t (inr (e, inl a)) = right_of _ _ (both _ _ (left_of _ _ a) (ap (λ u. same_tag u tag.Null) e))
+part_from A s [] t (inr (e, inr x)) = right_of _ _ (both _ _ (right_of _ _ (both _ _ (other_there (A []) (step_tag s) x.0 x.2 x.1) refl)) (ap (λ u. same_tag u tag.Null) e))
+
+-- the same for any place
+some_to : (A M : Sets) → AreSomePlaces A M → Within (allowed (null_for_absent (or_absent_if true M))) (read_some_place (allowed A))
+some_to A M are (q ∷ p) t h = ((are.at (q ∷ p) t).0 h).0
+some_to A M are [] t h = part_cases (M []) true t (read_some_place (allowed A) [] t) h (λ ne a. inl (ne, ((are.at [] t).0 a).0)) (λ e a. inr e) (λ e o. inr e)
+
+some_from : (A M : Sets) → AreSomePlaces A M → Within (read_some_place (allowed A)) (allowed (null_for_absent (or_absent_if true M)))
+some_from A M are (q ∷ p) t h = (are.at (q ∷ p) t).1 (h, refl)
+some_from A M are [] t (inl x) = left_of _ _ (both _ _ (left_of _ _ ((are.at [] t).1 (x.1, not_same t tag.Absent x.0))) (not_same t tag.Absent x.0))
+some_from A M are [] t (inr e) = right_of _ _ (both _ _ (right_of (M [] tag.Absent) true refl) (ap (λ u. same_tag u tag.Null) e))
+
+-- with null for absent a step reads the same
+filled_to : (A : Sets) (s : Step) → Within (read_part (allowed A) s) (read_part (allowed (null_for_absent A)) s)
+filled_to A s (q ∷ p) t h = h
+filled_to A s [] t (inl x) = inl x
+filled_to A s [] t (inr (e, inl a)) = inr (e, inl a)
+filled_to A s [] t (inr (e, inr x)) = inr (e, inr (other (same_tag x.0 tag.Absent) refl))
+  where
+    other : (b : Bool) → same_tag x.0 tag.Absent ≡ b → AllowsOther (allowed (null_for_absent A)) s
+    other true is = (tag.Null, step_not_null s, right_of _ _ (both _ _ (ap (A []) (sym (one_tag x.0 tag.Absent is)) ∙ x.2) refl))
+    other false is = (x.0, x.1, left_of _ _ (both _ _ x.2 (ap not is)))
+
+filled_from : (A : Sets) (s : Step) → Within (read_part (allowed (null_for_absent A)) s) (read_part (allowed A) s)
+filled_from A s (q ∷ p) t h = h
+filled_from A s [] t (inl x) = inl x
+filled_from A s [] t (inr (e, inl a)) = inr (e, inl a)
+filled_from A s [] t (inr (e, inr x)) = inr (
+  e,
+  inr (one_of_both (A [] x.0 && not (same_tag x.0 tag.Absent)) (A [] tag.Absent && same_tag x.0 tag.Null) (AllowsOther (allowed A) s) x.2
+      (λ a. (x.0, x.1, first_of_both (A [] x.0) (not (same_tag x.0 tag.Absent)) a))
+      (λ b. (tag.Absent, step_present s, first_of_both (A [] tag.Absent) (same_tag x.0 tag.Null) b))),
+)
+
+step_filled_to : (A : Sets) (s : CodeStep) → Within (read_step (allowed A) s) (read_step (allowed (null_for_absent A)) s)
+step_filled_to A (Field k) p t h = filled_to A (field k) p t h
+step_filled_to A (Place (pos i)) p t h = filled_to A (place i) p t h
+step_filled_to A (Place (negsuc i)) [] t h = h
+step_filled_to A (Place (negsuc i)) (q ∷ p) t h = h
+
+step_filled_from : (A : Sets) (s : CodeStep) → Within (read_step (allowed (null_for_absent A)) s) (read_step (allowed A) s)
+step_filled_from A (Field k) p t h = filled_from A (field k) p t h
+step_filled_from A (Place (pos i)) p t h = filled_from A (place i) p t h
+step_filled_from A (Place (negsuc i)) [] t h = h
+step_filled_from A (Place (negsuc i)) (q ∷ p) t h = h
+
+-- what a read of all that is left finds
+pub read_end : (A k K : Sets) → SameSets k A → SameSets K (null_for_absent k) → HasJust K (allowed (null_for_absent A))
+read_end A k K first same p t =
+    let e : K p t ≡ null_for_absent A p t = same p t ∙ ap (λ B. null_for_absent B p t) (one_sets k A first) in
+    (λ h. sym e ∙ h, λ h. e ∙ h)
+
+pub read_more : (A K : Sets) (s : CodeStep) (r : List CodeStep) → HasJust K (read (read_step (allowed A) s) r) → HasJust K (read (allowed (null_for_absent A)) (s ∷ r))
+read_more A K s r has p t =
+    (λ h. read_within r _ _ (step_filled_to A s) p t ((has p t).0 h), λ h. (has p t).1 (read_within r _ _ (step_filled_from A s) p t h))
+
+-- what a read behind a step finds, where the part was opened
+pub read_opened : (A z g K : Sets) (s : Step) (b : Bool) (r : List CodeStep) → b ≡ has_other (A []) (step_tag s) → SameSets z (part A s) → SameSets g (or_absent_if b z) → HasJust K (read (allowed (null_for_absent g)) r) → HasJust K (read (read_part (allowed A) s) r)
+read_opened A z g K s b r other zs gs has p t =
+    let e : g ≡ or_absent_if (has_other (A []) (step_tag s)) (part A s) = one_sets g (or_absent_if b z) gs ∙ ap (or_absent_if b) (one_sets z (part A s) zs) ∙ ap (λ c. or_absent_if c (part A s)) other in
+    let now : HasJust K (read (allowed (null_for_absent (or_absent_if (has_other (A []) (step_tag s)) (part A s)))) r) = subst (λ B. HasJust K (read (allowed (null_for_absent B)) r)) e has in
+    (λ h. read_within r _ _ (part_to A s) p t ((now p t).0 h), λ h. (now p t).1 (read_within r _ _ (part_from A s) p t h))
+
+pub read_some : (A M z g K : Sets) (r : List CodeStep) → AreSomePlaces A M → SameSets z M → SameSets g (or_absent_if true z) → HasJust K (read (allowed (null_for_absent g)) r) → HasJust K (read (read_some_place (allowed A)) r)
+read_some A M z g K r are zs gs has p t =
+    let e : g ≡ or_absent_if true M = one_sets g (or_absent_if true z) gs ∙ ap (or_absent_if true) (one_sets z M zs) in
+    let now : HasJust K (read (allowed (null_for_absent (or_absent_if true M))) r) = subst (λ B. HasJust K (read (allowed (null_for_absent B)) r)) e has in
+    (λ h. read_within r _ _ (some_to A M are) p t ((now p t).0 h), λ h. (now p t).1 (read_within r _ _ (some_from A M are) p t h))
+
+no_object_step : (s : Step) → IsTrue (not (same_tag (step_tag s) tag.Object)) → (P : Step → Type 0) → P s → (i : ℕ) × P (place i)
+no_object_step (field k) h P a = absurd (true≢false (sym h))
+no_object_step (place i) h P a = (i, a)
+
+-- the parts of the kind without objects are those at some place
+pub some_parts : (A : Sets) (K L M : KindTree) → SameSets (tags_at K) A → ((p : List Step) → tags_at L p ≡ without_at K tag.Object p) → IsParts L M → AreSomePlaces A (tags_at M)
+some_parts A K L M same lower parts = record {
+  at = λ p t. (
+    λ h. let x = (parts p t).0 h in
+        let it = ap (λ T. T t) (sym (lower (x.0.0 ∷ p))) ∙ x.0.1 in
+        (no_object_step x.0.0 (second_of_both _ _ it) (λ s. IsTrue (A (s ∷ p) t)) (sym (same (x.0.0 ∷ p) t) ∙ first_of_both _ _ it), x.1),
+    λ h. (parts p t).1 ((place h.0.0, ap (λ T. T t) (lower (place h.0.0 ∷ p)) ∙ both _ _ (same (place h.0.0 ∷ p) t ∙ h.0.1) refl), h.1),
+  );
+}
+
+absent_not_null : tag.Absent ≢ tag.Null
+absent_not_null e = cc
+
+no_absent_step : (A : Allowed) (s : CodeStep) → read_step A s [] tag.Absent → ⊥
+no_absent_step A (Field k) (inl x) = x.0 refl
+no_absent_step A (Field k) (inr x) = absent_not_null x.0
+no_absent_step A (Place (pos i)) (inl x) = x.0 refl
+no_absent_step A (Place (pos i)) (inr x) = absent_not_null x.0
+no_absent_step A (Place (negsuc i)) (inl x) = x.0 refl
+no_absent_step A (Place (negsuc i)) (inr e) = absent_not_null e
+
+no_absent_read : (r : List CodeStep) (A : Allowed) → (A [] tag.Absent → ⊥) → read A r [] tag.Absent → ⊥
+no_absent_read [] A none h = none h
+no_absent_read (s ∷ r) A none h = no_absent_read r (read_step A s) (no_absent_step A s) h
+
+not_true : (b : Bool) → (b ≡ true → ⊥) → b ≡ false
+not_true true h = absurd (h refl)
+not_true false h = refl
+
+pub read_present : (A K : Sets) (r : List CodeStep) → HasJust K (read (allowed A) r) → A [] tag.Absent ≡ false → K [] tag.Absent ≡ false
+read_present A K r has present = not_true (K [] tag.Absent) (λ h. no_absent_read r (allowed A) (λ a. true≢false (sym a ∙ present)) ((has [] tag.Absent).0 h))
+
+the_place : {j i : ℕ} → Some j ≡ Some i → j ≡ i
+the_place e = cc
+
+-- what a place reads, where it counts from the start, and where it counts from the end
+pub read_from_start : (A K : Sets) (s : CodeStep) (z : ℤ) (i : ℕ) (r : List CodeStep) → s ≡ Place z → from_start z ≡ Some i → HasJust K (read (read_part (allowed A) (place i)) r) → HasJust K (read (read_step (allowed A) s) r)
+read_from_start A K s (pos j) i r is from has = subst (λ x. HasJust K (read (read_step (allowed A) x) r)) (sym is) (subst (λ n. HasJust K (read (read_part (allowed A) (place n)) r)) (sym (the_place from)) has)
+read_from_start A K s (negsuc j) i r is from has = cc
+
+pub read_from_end : (A K : Sets) (s : CodeStep) (z : ℤ) (r : List CodeStep) → s ≡ Place z → from_start z ≡ None → HasJust K (read (read_some_place (allowed A)) r) → HasJust K (read (read_step (allowed A) s) r)
+read_from_end A K s (pos j) r is from has = cc
+read_from_end A K s (negsuc j) r is from has = subst (λ x. HasJust K (read (read_step (allowed A) x) r)) (sym is) has
+
+-- no steps are left
+pub read_none : (A K : Sets) (r : List CodeStep) → length r ≡ 0 → HasJust K (allowed (null_for_absent A)) → HasJust K (read (allowed (null_for_absent A)) r)
+read_none A K [] none has = has
+read_none A K (s ∷ r) none has = absurd (omega arith)
+
+-- the same of sets and a path that are the same
+pub read_same : (A B K : Sets) (s : CodeStep) (r p : List CodeStep) → SameSets A B → p ≡ s ∷ r → HasJust K (read (read_step (allowed A) s) r) → HasJust K (read (allowed B) p)
+read_same A B K s r p same e has = subst (λ q. HasJust K (read (allowed B) q)) (sym e) (subst (λ C. HasJust K (read (read_step (allowed C) s) r)) (one_sets A B same) has)

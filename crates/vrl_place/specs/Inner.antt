@@ -1,0 +1,96 @@
+-- What inner functions promise: the parts of a kind in memory, and those of a changed kind. No public function cites these.
+use Rattle.std.specs.Prelude.{◌≡◌, ◌≢◌, ◌<◌, ◌↔◌, ◌||◌, not, Bool, true, false, ℕ, suc, ℤ, pos, negsuc, Option, Some, None, List, [], ◌∷◌, length, IsTrue}
+use Rattle.std.specs.Cmp.Lexicographic.{slice_cmp}
+use Rattle.std.specs.Ordering.{nat_cmp}
+use Rattle.std.specs.declared.cmp.Ordering.TheVariants.{Equal}
+use Rattle.vrl_value.specs.Look.{Step, field, place}
+use Rattle.vrl_value.specs.declared.value.Tag.{Tag}
+use Rattle.vrl_value.specs.declared.value.Tag.TheVariants as tag
+use Rattle.vrl_kind.specs.KindTree.{KindTree, Places as KnownPlaces, KnownFields, RestTree}
+use Rattle.vrl_kind.specs.Change.{Sets, null_for_absent}
+use Rattle.vrl_kind.specs.Kinds.{any_at, json_at, never_at, rest_at, tags_at, places_at, fields_at, is_absence}
+use Rattle.vrl_kind.specs.Make.{named_view}
+use Rattle.vrl_kind.specs.Tags.{same_tag}
+use Rattle.vrl_kind.specs.View.{places_view, fields_view}
+use Rattle.vrl_kind.specs.declared.kind.KindField.{KindField}
+use Rattle.vrl_place.specs.Sets.{or_absent_if, by_step}
+use Rattle.vrl_place.specs.declared.fields.Fields.{Fields}
+use Rattle.vrl_place.specs.declared.places.Places.{Places}
+use Rattle.vrl_place.specs.declared.spot.Bare.{Bare}
+use Rattle.vrl_place.specs.declared.spot.Bare.TheVariants as bare
+use Rattle.vrl_place.specs.declared.spot.Spot.{Spot}
+
+abbrev pub bare_sets : Bare → Sets
+bare_sets bare.Nothing = never_at
+bare_sets bare.Json = json_at
+bare_sets bare.Any = any_at
+bare_sets (bare.Exact kind) = tags_at kind.now
+
+abbrev pub spot_sets : Spot → Sets
+spot_sets spot = or_absent_if spot.absent (bare_sets spot.bare)
+
+-- A with these arrays, or these objects, in place of its own
+abbrev pub sets_with_list : Sets → KnownPlaces → RestTree → Sets
+sets_with_list A ps r [] t = A [] t || same_tag t tag.List
+sets_with_list A ps r (place i ∷ p) t = places_at ps i p (rest_at r p) t
+sets_with_list A ps r (field n ∷ p) t = A (field n ∷ p) t
+
+abbrev pub sets_with_object : Sets → KnownFields → RestTree → Sets
+sets_with_object A fs r [] t = A [] t || same_tag t tag.Object
+sets_with_object A fs r (place i ∷ p) t = A (place i ∷ p) t
+sets_with_object A fs r (field n ∷ p) t = fields_at fs n p (rest_at r p) t
+
+abbrev pub places_sets : Places → ℕ → Sets
+places_sets ps i p = places_at (places_view ps.known.now) i p (spot_sets ps.behind p)
+
+abbrev pub fields_sets : Fields → List ℕ → Sets
+fields_sets fs n p = fields_at (fields_view fs.known.now) n p (spot_sets fs.behind p)
+
+-- what A allows at the places of an array; where A allows an array, those behind may be absent
+pub record PlacesAreOf (A : Sets) (ps : Places) : Type 0 where
+  pub at : (i : ℕ) (p : List Step) (t : Tag) → A (place i ∷ p) t ≡ places_sets ps i p t
+  pub absent : IsTrue (A [] tag.List) → ps.behind.absent ≡ true
+
+-- what A allows at the fields of an object; where A allows an object, those that aren't known may be absent
+pub record FieldsAreOf (A : Sets) (fs : Fields) : Type 0 where
+  pub at : (n : List ℕ) (p : List Step) (t : Tag) → A (field n ∷ p) t ≡ fields_sets fs n p t
+  pub absent : IsTrue (A [] tag.Object) → fs.behind.absent ≡ true
+
+-- the kinds at the first places
+pub record ArePlaces (ks : List KindTree) (S : ℕ → Sets) : Type 0 where
+  pub at : (i : ℕ) → i < length ks → (p : List Step) (T : Tag → Bool) (t : Tag) → places_at (places_view ks) i p T t ≡ S i p t
+
+abbrev pub null_if : Bool → Sets → Sets
+null_if true A = null_for_absent A
+null_if false A = A
+
+-- the places below one that is written or changed
+abbrev pub lower_place : Places → Bool → Bool → ℕ → Sets
+lower_place ps absent filled i = null_if filled (or_absent_if absent (places_sets ps i))
+
+-- the places with M at the place k
+abbrev pub changed_place : Places → ℕ → Sets → Bool → Bool → ℕ → Sets
+changed_place ps k M absent filled i = by_step (place i) (place k) (lower_place ps absent filled i) M (or_absent_if absent (places_sets ps i)) never_at
+
+-- the places without the one at k
+abbrev pub moved_place : Places → ℕ → Bool → ℕ → Sets
+moved_place ps k absent i = by_step (place i) (place k) (places_sets ps i) (or_absent_if absent (places_sets ps (suc i))) (or_absent_if absent (places_sets ps (suc i))) never_at
+
+-- the fields with M at the name k
+pub record FieldsAre (fs : Fields) (k : List ℕ) (M : Sets) (absent : Bool) (named : List (List ℕ × KindTree)) : Type 0 where
+  pub at : (n : List ℕ) (p : List Step) (t : Tag) → fields_at (named_view named) n p (or_absent_if absent (spot_sets fs.behind) p) t
+      ≡ by_step (field n) (field k) (or_absent_if absent (fields_sets fs n)) M (or_absent_if absent (fields_sets fs n)) never_at p t
+
+-- the fields but for the one with the name k
+pub record OthersAre (absent : Bool) (k : List ℕ) (fs : List KindField) (named : List (List ℕ × KindTree)) : Type 0 where
+  pub at : (n : List ℕ) → slice_cmp nat_cmp n k ≢ Equal → (B : Sets) (p : List Step) (t : Tag) → fields_at (named_view named) n p (or_absent_if absent B p) t
+      ≡ or_absent_if absent (λ q. fields_at (fields_view fs) n q (B q)) p t
+
+-- a place that counts from the start
+abbrev pub from_start : ℤ → Option ℕ
+from_start (pos i) = Some i
+from_start (negsuc i) = None
+
+-- what A allows at some place, but for absent
+pub record AreSomePlaces (A M : Sets) : Type 0 where
+  pub at : (p : List Step) (t : Tag) → IsTrue (M p t) ↔ (((i : ℕ) × IsTrue (A (place i ∷ p) t)) × IsTrue (not (is_absence p t)))

@@ -1,0 +1,6 @@
+pub mod Absence
+pub mod Inner
+pub mod Read
+pub mod Remove
+pub mod Sets
+pub mod Write

@@ -1,0 +1,105 @@
+ghost use Rattle.std.specs.Prelude.{◌≡◌, IfOk, [], false, unwrap_or};
+ghost use Rattle.vrl_kind.specs.Change.{null_for_absent};
+ghost use Rattle.vrl_kind.specs.Kinds.{Inhabits, tags_at};
+ghost use Rattle.vrl_path.specs.Read.{read_at};
+ghost use Rattle.vrl_place.specs.Inner.{AreSomePlaces, from_start, spot_sets};
+ghost use Rattle.vrl_place.specs.Read.{HasJust, allowed, read, read_part, read_some_place, read_step};
+ghost use Rattle.vrl_value.specs.Look.{field, place};
+ghost use Rattle.vrl_value.specs.Tree.{Tree, null};
+ghost use Rattle.vrl_value.specs.declared.value.Tag.TheVariants as tag;
+
+use crate::spot::Spot;
+use std::alloc::Global;
+use vrl_kind::{Kind, parts, without};
+use vrl_path::{Path, Step};
+use vrl_value::{Chars, Memory, Tag};
+
+/// The kind of what a read at the path finds in a value of `kind`, where it finds null if nothing stands
+/// there. A negative place, which counts from the end of its array, may be each place, or none. `Memory`:
+/// want of memory.
+///
+/// It copies what the path leads to, and for each negative place all that the kind knows of the array.
+pub fn read_kind(alloc: Global, kind: &Kind, path: &Path) -> Result<Kind, Memory>
+    ensures tags { IfOk result (λ found. HasJust (tags_at found) (read (allowed (tags_at kind.now)) path.now)) }
+    ensures inhabited { IfOk result (λ found. (value : Tree) → Inhabits value kind.now
+        → Inhabits (unwrap_or (read_at value path.now) null) found) }
+    ensures present { IfOk result (λ found. tags_at kind.now [] tag.Absent ≡ false
+        → tags_at found [] tag.Absent ≡ false) }
+{
+    match path.as_slice().split_first() {
+        None => kind.copy(alloc),
+        Some((step, behind)) => read_behind(alloc, Spot::of(kind), step, behind),
+    }
+}
+
+// The kind of what a read finds at the end of the steps, where null stands here for absent.
+#[cycle(read)]
+fn read_at(alloc: Global, spot: Spot<'_>, steps: &[Step]) -> Result<Kind, Memory>
+    ensures { IfOk result (λ kind. HasJust (tags_at kind)
+        (read (allowed (null_for_absent (spot_sets spot.entry))) steps.now)) }
+{
+    match steps.split_first() {
+        None => Ok(spot.kind(alloc)?.null_for_absent()),
+        Some((step, behind)) => read_behind(alloc, spot, step, behind),
+    }
+}
+
+// The same behind a step. The tags here, but for absent, count for it alone.
+#[cycle(read)]
+fn read_behind(alloc: Global, spot: Spot<'_>, step: &Step, behind: &[Step]) -> Result<Kind, Memory>
+    ensures { IfOk result (λ kind. HasJust (tags_at kind)
+        (read (read_step (allowed (spot_sets spot.entry)) step.now) behind.now)) }
+{
+    match step {
+        Step::Field(name) => read_field(alloc, spot, name, behind),
+        Step::Place(at) => match from_start(*at) {
+            Some(at) => read_place(alloc, spot, at, behind),
+            None => read_some_place(alloc, spot, behind),
+        },
+    }
+}
+
+#[cycle(read)]
+fn read_field(alloc: Global, spot: Spot<'_>, name: &Chars, behind: &[Step]) -> Result<Kind, Memory>
+    ensures { IfOk result (λ kind. HasJust (tags_at kind)
+        (read (read_part (allowed (spot_sets spot.entry)) (field name.now)) behind.now)) }
+{
+    let part = spot.fields().field(name);
+    let open = part.or_absent_if(spot.has_other(Tag::Object));
+    read_at(alloc, open, behind)
+}
+
+#[cycle(read)]
+fn read_place(alloc: Global, spot: Spot<'_>, at: usize, behind: &[Step]) -> Result<Kind, Memory>
+    ensures { IfOk result (λ kind. HasJust (tags_at kind)
+        (read (read_part (allowed (spot_sets spot.entry)) (place at)) behind.now)) }
+{
+    let part = spot.places().place(at);
+    let open = part.or_absent_if(spot.has_other(Tag::List));
+    read_at(alloc, open, behind)
+}
+
+#[cycle(read)]
+fn read_some_place(alloc: Global, spot: Spot<'_>, behind: &[Step]) -> Result<Kind, Memory>
+    ensures { IfOk result (λ kind. HasJust (tags_at kind)
+        (read (read_some_place (allowed (spot_sets spot.entry))) behind.now)) }
+{
+    let part = some_place(alloc, spot)?;
+    let open = Spot::of(&part).or_absent_if(true);
+    read_at(alloc, open, behind)
+}
+
+// The place, where it counts from the start. `None`: it counts from the end.
+fn from_start(place: i64) -> Option<usize>
+    ensures { result ≡ from_start place }
+{
+    let distance = place.unsigned_abs() as usize;
+    if place >= 0 { Some(distance) } else { None }
+}
+
+// What may stand at any place. `Memory`: want of memory.
+fn some_place(alloc: Global, spot: Spot<'_>) -> Result<Kind, Memory>
+    ensures { IfOk result (λ kind. AreSomePlaces (spot_sets spot.entry) (tags_at kind)) }
+{
+    parts(alloc, &without(alloc, &spot.kind(alloc)?, Tag::Object)?)
+}
