@@ -44,7 +44,8 @@ fn read_at(alloc: Global, spot: Spot<'_>, steps: &[Step]) -> Result<Kind, Memory
     }
 }
 
-// The same behind a step. The tags here, but for absent, count for it alone.
+// The kind of what a read finds behind a step and at the end of the steps behind it. Whether null stands
+// here for absent changes nothing there.
 #[cycle(read)]
 fn read_behind(alloc: Global, spot: Spot<'_>, step: &Step, behind: &[Step]) -> Result<Kind, Memory>
     ensures { IfOk result (λ kind. HasJust (tags_at kind)
