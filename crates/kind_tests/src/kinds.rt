@@ -33,7 +33,7 @@ fn list_of(alloc: Global, kind: Kind) -> Result<Kind, Memory> {
 }
 
 // The kind of a word, or else that of a JSON value.
-fn kind_of_word(alloc: Global, word: &str) -> Result<Kind, Memory> {
+pub(crate) fn kind_of_word(alloc: Global, word: &str) -> Result<Kind, Memory> {
     match word {
         "never" => Kind::never(alloc),
         "any" => Kind::any(alloc),

@@ -1,4 +1,4 @@
-//! The tests of what is known of events before they come: kinds, what is at a path of one, and the files that declare them.
+//! The tests of what is known of events before they come: kinds, what is at a path of one, the files that declare them, and states.
 #![tactic(auto)]
 
 #[cfg(test)]
@@ -7,3 +7,5 @@ mod kind_files;
 mod kinds;
 #[cfg(test)]
 mod places;
+#[cfg(test)]
+mod states;

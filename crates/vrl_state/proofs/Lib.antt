@@ -1,0 +1,7 @@
+pub mod Along
+pub mod Finite
+pub mod Fitting
+pub mod Limits
+pub mod Named
+pub mod Stack
+pub mod Steps

@@ -1,0 +1,5 @@
+use Rattle.vrl_state.proofs.Limits.{kept_as}
+use Rattle.vrl_state.proofs.roots.KnownRoots.leave.Goals as goal
+
+pub invariant_of-self : goal.invariant_of-self
+invariant_of-self c = kept_as c.args.block.now _ _ _ c.in_ok-variables.ensures c.self.invariant

@@ -1,0 +1,187 @@
+-- What is known at a place of a script, before any event is there: the kinds of the event and of the variables, and the scopes that
+-- are open. The rules are those by which the Vector Remap Language types a script: a write changes what is known from there on, and
+-- behind branches only what each of them leaves is known.
+use Rattle.std.specs.Prelude.{◌≡◌, ◌≤◌, Bool, ◌||◌, false, ℕ, List, [], ◌∷◌, Option, Some, None, option_map, is_some, IsSomeAnd, MatchOption, ⊤}
+use Rattle.std.specs.Cmp.Lexicographic.{slice_cmp}
+use Rattle.std.specs.FinMap as map
+use Rattle.std.specs.FinSet as set
+use Rattle.std.specs.Ordering.{nat_cmp}
+use Rattle.vrl_value.specs.Look.{Step}
+use Rattle.vrl_value.specs.declared.value.Tag.TheVariants as tag
+use Rattle.vrl_syntax.specs.declared.root.Root.{Root}
+use Rattle.vrl_syntax.specs.declared.root.Root.TheVariants.{Event, Name}
+use Rattle.vrl_kind.specs.Canonical.{IsCanonical, any_kind}
+use Rattle.vrl_kind.specs.Change.{Sets}
+use Rattle.vrl_kind.specs.Count.{nodes, levels}
+use Rattle.vrl_kind.specs.Cut.{IsCut, level_limit, node_limit}
+use Rattle.vrl_kind.specs.KindTree.{KindTree}
+use Rattle.vrl_kind.specs.Kinds as kinds
+use Rattle.vrl_kind.specs.Kinds.{tags_at}
+use Rattle.vrl_place.specs.Remove.{remove}
+use Rattle.vrl_place.specs.Sets.{SameSets}
+use Rattle.vrl_place.specs.Write.{write}
+
+-- ---- what a state is
+
+-- the kinds of variables, by the bytes of their names
+abbrev pub Variables : Type 0
+Variables = map.FinMap (slice_cmp nat_cmp) KindTree
+
+-- each root with its kind: the event, and each variable that is known
+pub record RootMap : Type 0 where
+  pub event : KindTree
+  pub variables : Variables
+
+-- a block that is open: the names of the variables that were known where it began
+pub record Scope : Type 0 where
+  pub known : set.FinSet (slice_cmp nat_cmp)
+
+pub record State : Type 0 where
+  -- none where no way leads: the state is dead
+  pub known : Option RootMap
+  -- the innermost scope first
+  pub scopes : List Scope
+
+-- the kind of a root; a variable that isn't known has none
+abbrev pub kind_of : Root → RootMap → Option KindTree
+kind_of Event roots = Some roots.event
+kind_of (Name x) roots = map.get roots.variables x
+
+-- the same of a state: a dead one knows no root
+abbrev pub kind_in : Root → Option RootMap → Option KindTree
+kind_in root None = None
+kind_in root (Some roots) = kind_of root roots
+
+-- the root has this kind
+abbrev pub with_kind : Root → KindTree → RootMap → RootMap
+with_kind Event K roots = record roots { event = K }
+with_kind (Name x) K roots = record roots { variables = map.insert roots.variables x K }
+
+-- ---- the kinds of a state
+
+-- the kind that allows these tags at each path, cut to the limits
+pub record IsCutOf (A : Sets) (M : KindTree) : Type 0 where
+  pub whole : KindTree
+  pub canonical : IsCanonical whole
+  pub tags : SameSets (tags_at whole) A
+  pub cut : IsCut whole M
+
+-- what is of the kind is never absent
+abbrev pub IsPresent : KindTree → Type 0
+IsPresent K = tags_at K [] tag.Absent ≡ false
+
+-- a root's kind is within the limits, and the root is never absent
+pub record IsRootKind (K : KindTree) : Type 0 where
+  pub canonical : IsCanonical K
+  pub present : IsPresent K
+  pub nodes : nodes K ≤ node_limit
+  pub levels : levels K ≤ level_limit
+
+abbrev pub IsRootKindIf : Option KindTree → Type 0
+IsRootKindIf None = ⊤
+IsRootKindIf (Some K) = IsRootKind K
+
+-- each root's kind is one
+pub record HasRootKinds (roots : RootMap) : Type 0 where
+  pub event : IsRootKind roots.event
+  pub variables : (x : List ℕ) → IsRootKindIf (map.get roots.variables x)
+
+-- ---- the state at the start of a script, whose event is of this kind
+pub record IsStart (K : KindTree) (state : State) : Type 0 where
+  pub roots : RootMap
+  pub known : state.known ≡ Some roots
+  pub event : IsCut K roots.event
+  pub variables : roots.variables ≡ map.empty
+  pub scopes : state.scopes ≡ []
+
+-- ---- writes and removals
+
+-- the kind that a write starts from. A variable that isn't known may still be there, from a way that a join dropped, with any value
+abbrev pub written_from : Option KindTree → KindTree
+written_from None = any_kind
+written_from (Some K) = K
+
+-- the root has the kind with these tags, cut
+abbrev pub HasNow : Root → Sets → RootMap → Option RootMap → Type 0
+HasNow root A roots after = (M : KindTree) × IsCutOf A M × (after ≡ Some (with_kind root M roots))
+
+-- the root's kind with N written at the path; a dead state stays dead
+abbrev pub IsWritten : Root → List Step → KindTree → Option RootMap → Option RootMap → Type 0
+IsWritten root p N None after = after ≡ None
+IsWritten root p N (Some roots) after = HasNow root (write (tags_at (written_from (kind_of root roots))) p (tags_at N)) roots after
+
+-- the root's kind without what stands at the path; a root that isn't known is passed over
+abbrev pub IsTakenOut : Root → List Step → Option RootMap → Option RootMap → Type 0
+IsTakenOut root p None after = after ≡ None
+IsTakenOut root p (Some roots) after = MatchOption (kind_of root roots) (after ≡ Some roots) (λ K. HasNow root (remove (tags_at K) p) roots after)
+
+-- ---- joins
+
+-- at each path the tags of both
+abbrev pub either : KindTree → KindTree → Sets
+either K L p t = tags_at K p t || tags_at L p t
+
+abbrev pub IsEither : KindTree → KindTree → KindTree → Type 0
+IsEither K L M = IsCutOf (either K L) M
+
+-- a variable that only one side knows is dropped
+abbrev pub IsEitherVariable : Option KindTree → Option KindTree → Option KindTree → Type 0
+IsEitherVariable None L M = M ≡ None
+IsEitherVariable (Some K) None M = M ≡ None
+IsEitherVariable (Some K) (Some L) M = IsSomeAnd M (IsEither K L)
+
+-- what is known on either way
+pub record IsEitherMap (a b c : RootMap) : Type 0 where
+  pub event : IsEither a.event b.event c.event
+  pub variables : (x : List ℕ) → IsEitherVariable (map.get a.variables x) (map.get b.variables x) (map.get c.variables x)
+
+-- a dead side gives the other
+abbrev pub IsJoined : Option RootMap → Option RootMap → Option RootMap → Type 0
+IsJoined None b c = c ≡ b
+IsJoined (Some a) None c = c ≡ Some a
+IsJoined (Some a) (Some b) c = IsSomeAnd c (IsEitherMap a b)
+
+-- both stand in the same blocks
+abbrev pub HaveSameScopes : State → State → Type 0
+HaveSameScopes a b = a.scopes ≡ b.scopes
+
+-- ---- order
+
+-- a variable that the second side knows, the first knows with a kind within it
+abbrev pub IsVariableWithin : Option KindTree → Option KindTree → Type 0
+IsVariableWithin K None = ⊤
+IsVariableWithin None (Some L) = ⊥
+IsVariableWithin (Some K) (Some L) = kinds.IsWithin K L
+
+pub record IsMapWithin (a b : RootMap) : Type 0 where
+  pub event : kinds.IsWithin a.event b.event
+  pub variables : (x : List ℕ) → IsVariableWithin (map.get a.variables x) (map.get b.variables x)
+
+-- a dead state is within each other one
+abbrev pub IsKnownWithin : Option RootMap → Option RootMap → Type 0
+IsKnownWithin None b = ⊤
+IsKnownWithin (Some a) None = ⊥
+IsKnownWithin (Some a) (Some b) = IsMapWithin a b
+
+-- ---- blocks
+
+-- whether a variable is known
+abbrev pub knows : Option RootMap → List ℕ → Bool
+knows known x = is_some (kind_in (Name x) known)
+
+-- a block begins: what is known stays, and its names are kept
+pub record IsEntered (before after : State) : Type 0 where
+  pub scope : Scope
+  pub names : (x : List ℕ) → set.contains scope.known x ≡ knows before.known x
+  pub scopes : after.scopes ≡ scope ∷ before.scopes
+  pub known : after.known ≡ before.known
+
+-- the block's own variables, which weren't known where it began, end with it
+abbrev pub kept : Scope → RootMap → RootMap
+kept scope roots = record roots { variables = map.retain_keys roots.variables (λ x. set.contains scope.known x) }
+
+-- the innermost block ends
+pub record IsLeft (before after : State) : Type 0 where
+  pub scope : Scope
+  pub scopes : before.scopes ≡ scope ∷ after.scopes
+  pub known : after.known ≡ option_map (kept scope) before.known

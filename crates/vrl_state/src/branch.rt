@@ -1,0 +1,81 @@
+ghost use Rattle.std.specs.Prelude.{◌≡◌, ◌≢◌, [], ◌∷◌, IfOk, OnErr, OnOk};
+ghost use Rattle.vrl_state.specs.Known.{known_as};
+ghost use Rattle.vrl_state.specs.States.{HaveSameScopes, IsJoined, IsLeft, Scope};
+ghost use Rattle.vrl_state.specs.Stores.{store_kept, Fits, HoldsNames, Store};
+
+use crate::known::Known;
+use crate::state::State;
+use std::alloc::Global;
+use std::marker::Model;
+use vrl_value::Memory;
+
+/// A state that was marked, to come back to. A contract sees that state.
+#[derive(Drop)]
+pub struct Mark {
+    pub(crate) state: State,
+}
+
+impl Model for Mark {
+    ghost use Rattle.vrl_state.specs.States as states;
+    ghost use Rattle.vrl_state.specs.Codes.{state_code};
+
+    ghost Value = { states.State };
+
+    ghost coded = { state_code };
+
+    ghost view = { λ m. m.state };
+}
+
+/// The state at the end of a branch. A contract sees that state.
+#[derive(Drop)]
+pub struct Branch {
+    pub(crate) state: State,
+}
+
+impl Model for Branch {
+    ghost use Rattle.vrl_state.specs.States as states;
+    ghost use Rattle.vrl_state.specs.Codes.{state_code};
+
+    ghost Value = { states.State };
+
+    ghost coded = { state_code };
+
+    ghost view = { λ b. b.state };
+}
+
+impl Branch {
+    /// Joins another branch to this one: what is known on either way. Kinds are joined and cut, a variable
+    /// that only one of them knows is dropped, and a dead branch gives the other. `Memory`: want of memory;
+    /// the branch stays as it was.
+    pub fn join(&mut self, alloc: Global, other: &Branch) -> Result<(), Memory>
+        requires { HaveSameScopes self.old other.now }
+        ensures known { OnOk result (IsJoined self.old.known other.now.known self.new.known) }
+        ensures scopes { self.new.scopes ≡ self.old.scopes }
+        ensures first { OnOk result ((store : Store) → Fits store self.old → Fits store self.new) }
+        ensures second { OnOk result ((store : Store) → Fits store other.now → Fits store self.new) }
+        ensures err { OnErr result (self.new ≡ self.old) }
+    {
+        self.state.join(alloc, other)?;
+        Ok(())
+    }
+
+    /// Ends the innermost block: the variables that were not known where it began are dropped. `Memory`: want
+    /// of memory; the branch stays as it was.
+    pub fn leave(&mut self, alloc: Global) -> Result<(), Memory>
+        requires { self.old.scopes ≢ [] }
+        ensures left { OnOk result (IsLeft self.old self.new) }
+        ensures fits { OnOk result ((scope : Scope) (before after : Store) → self.old.scopes ≡ scope ∷ self.new.scopes
+            → HoldsNames before scope → Fits after self.old → Fits (store_kept before after) self.new) }
+        ensures err { OnErr result (self.new ≡ self.old) }
+    {
+        self.state.leave(alloc)?;
+        Ok(())
+    }
+
+    /// What is known at the end of the branch. `Memory`: want of memory.
+    pub fn known(&self, alloc: Global) -> Result<Known, Memory>
+        ensures { IfOk result (λ known. known ≡ known_as self.now.known) }
+    {
+        self.state.list(alloc)
+    }
+}

@@ -1,0 +1,47 @@
+ghost use Rattle.std.specs.Prelude.{◌≡◌, ◌≢◌, [], IfOk, None};
+ghost use Rattle.vrl_value.specs.Tree.{Tree};
+ghost use Rattle.vrl_path.specs.Remove.{removable_at, IsRemoved};
+ghost use Rattle.vrl_path.specs.Steps.{plain, IsPlain, IsWritable};
+ghost use Rattle.vrl_path.specs.Write.{IsSet};
+ghost use Rattle.vrl_kind.specs.Kinds.{Inhabits, tags_at};
+ghost use Rattle.vrl_place.specs.Remove.{remove};
+ghost use Rattle.vrl_place.specs.Write.{write};
+ghost use Rattle.vrl_state.specs.States.{IsCutOf, IsEither};
+
+use std::alloc::Global;
+use vrl_kind::{Kind, cut, join, kind_is_canonical};
+use vrl_path::Path;
+use vrl_place::{remove_kind, write_kind};
+use vrl_value::Memory;
+
+// The kind of what is of either kind, cut. `Memory`: want of memory.
+pub(crate) fn either(alloc: Global, a: &Kind, b: &Kind) -> Result<Kind, Memory>
+    ensures { IfOk result (λ kind. IsEither a.now b.now kind) }
+{
+    let joined = join(alloc, a, b)?;
+    kind_is_canonical(&joined);
+    cut(alloc, &joined)
+}
+
+// The kind with another written at a path, cut. `Memory`: want of memory.
+pub(crate) fn written(alloc: Global, kind: &Kind, path: &Path, new: &Kind) -> Result<Kind, Memory>
+    requires { IsWritable path.now }
+    ensures tags { IfOk result (λ after. IsCutOf (write (tags_at kind.now) (plain path.now) (tags_at new.now)) after) }
+    ensures inhabited { IfOk result (λ after. (v n w : Tree) → Inhabits v kind.now → Inhabits n new.now → IsSet v (plain path.now) n w → Inhabits w after) }
+{
+    let written = write_kind(alloc, kind, path, new)?;
+    kind_is_canonical(&written);
+    cut(alloc, &written)
+}
+
+// The kind without what stands at a path, cut. `Memory`: want of memory.
+pub(crate) fn taken_out(alloc: Global, kind: &Kind, path: &Path) -> Result<Kind, Memory>
+    requires { IsPlain path.now }
+    ensures tags { IfOk result (λ after. IsCutOf (remove (tags_at kind.now) (plain path.now)) after) }
+    ensures inhabited { IfOk result (λ after. (v w : Tree) → Inhabits v kind.now → plain path.now ≢ [] → IsRemoved v (plain path.now) w → Inhabits w after) }
+    ensures unchanged { IfOk result (λ after. (v : Tree) → Inhabits v kind.now → removable_at v (plain path.now) ≡ None → Inhabits v after) }
+{
+    let left = remove_kind(alloc, kind, path)?;
+    kind_is_canonical(&left);
+    cut(alloc, &left)
+}
