@@ -1,8 +1,8 @@
 -- How the parts of an answer make the whole of it.
-use Rattle.std.proofs.Common.{◌≡◌, ℕ, ◌≤◌, List, [], length, map, Option, Some, None, Result, Ok, Err, IfSome, IfOk, unwrap_or, ◌⊎◌, refl, arith, sym, ap, ◌∙◌, subst}
-use Rattle.std.specs.Str.{IsUtf8}
+use Rattle.std.proofs.Common.{◌≡◌, ℕ, List, [], map, Option, Some, None, Result, Ok, Err, IfSome, IfOk, unwrap_or, ◌⊎◌, inl, inr, refl, arith, sym, ap, ◌∙◌, subst}
 use Rattle.vrl_compile.specs.Answer.{IsAnswer}
-use Rattle.vrl_compile.specs.declared.syntax.Item.{Item}
+use Rattle.vrl_token.specs.Reading.{IsNoScript}
+use Rattle.vrl_syntax.specs.Tree.{Exprs}
 use Rattle.vrl_diag.specs.declared.diagnostic.Diagnostic.{Diagnostic}
 use Rattle.vrl_compile.specs.declared.script.Compiled.{Compiled}
 use Rattle.vrl_compile.specs.declared.script.Compiled.TheVariants as compiled
@@ -10,19 +10,19 @@ use Rattle.vrl_value.specs.declared.memory.Memory.{Memory as WantOfMemory}
 use Rattle.remap_tool.specs.Answer.{answer_to, run_of, line_result, LineResult}
 use Rattle.remap_tool.specs.Lines.{event_lines}
 use Rattle.vrl_diag.specs.Rendering.{diagnostic_lines}
-use Rattle.remap_tool.specs.Request.{Held, Asks, AsksByScript, IsRunOf, IsScriptAnswer, IsRefused, IsAccepted, IsLoaded, Request, has_error, bad_words, bad_script, run}
+use Rattle.remap_tool.specs.Request.{Held, Asks, AsksByScript, IsRunOf, IsScriptAnswer, IsRefused, IsAccepted, IsLoaded, IsScriptAccepted, Request, has_error, bad_words, bad_script, run}
 use Rattle.remap_tool.specs.Results.{IsRun, answer_of}
-use Rattle.remap_tool.specs.Devices.{Devices, IsAsked, IsWhole, IsAnswer as IsAnswerStatus}
+use Rattle.remap_tool.specs.Devices.{Devices, IsAsked, IsAtMostFront, IsWhole, IsAnswer as IsAnswerStatus}
 use Rattle.remap_tool.specs.Words.{Command, usage, script}
 use Rattle.remap_tool.specs.declared.results.Results.{Results}
 use Rattle.remap_tool.specs.declared.status.Status.{Status}
 use Rattle.remap_tool.specs.declared.status.Status.TheVariants.{Done, Refused, Usage, ReadFault, WriteFault, Memory, Marked, TooMuch}
 
--- a text of at most the limit is a script exactly where it compiles
-pub script_answer : (text : List ℕ) (r : Result Compiled WantOfMemory) → length text ≤ 65536 → IsUtf8 text → IfOk r (IsAnswer text) → IfOk r (IsScriptAnswer text)
-script_answer text (Err e) within utf8 is = is
-script_answer text (Ok (compiled.Accepted program warnings)) within utf8 is = record { is_text = (within, utf8); is_script = is.0; no_error = is.1; ordered = is.2 }
-script_answer text (Ok (compiled.Refused diagnostics)) within utf8 is = has_error (within, utf8) is.0 is.1
+-- what compiling answers for a text is what it answers for its bytes
+pub script_answer : (text : List ℕ) (r : Result Compiled WantOfMemory) → ¬ IsNoScript text → IfOk r (IsAnswer text) → IfOk r (IsScriptAnswer text)
+script_answer text (Err e) is_text is = is
+script_answer text (Ok (compiled.Accepted program warnings)) is_text is = record { is_text = is_text; accepted = is }
+script_answer text (Ok (compiled.Refused diagnostics)) is_text is = has_error is_text is
 
 -- what a source that tells nothing may have held
 pub some_input : (left : Option (List ℕ)) → IfSome left (λ bytes. bytes ≡ unwrap_or left [])
@@ -33,7 +33,7 @@ some_input (Some bytes) = refl
 pub answer_of-run : (warnings : List ℕ) (r : Results) (results : List LineResult) → IsRun warnings r results → answer_of r ≡ run_of warnings results
 answer_of-run warnings r results is = rw (is.marked, is.output, is.report) refl
 
-abbrev pub asked_run : (text : List ℕ) (items : List Item) (diagnostics : List Diagnostic) (warnings : List ℕ) (left : Option (List ℕ)) (input : List ℕ) (r : Results) → warnings ≡ diagnostic_lines text diagnostics → IfSome left (λ bytes. bytes ≡ input) → IsRun warnings r (map (line_result items) (event_lines input)) → IsAsked (IsRunOf text items diagnostics) left (answer_of r)
+abbrev pub asked_run : (text : List ℕ) (items : Exprs) (diagnostics : List Diagnostic) (warnings : List ℕ) (left : Option (List ℕ)) (input : List ℕ) (r : Results) → warnings ≡ diagnostic_lines text diagnostics → IfSome left (λ bytes. bytes ≡ input) → IsRun warnings r (map (line_result items) (event_lines input)) → IsAsked (IsRunOf text items diagnostics) left (answer_of r)
 asked_run text items diagnostics warnings left input r told is_left is = record {
   request = run text items diagnostics;
   asked = refl;
@@ -56,13 +56,32 @@ is_whole-by asks asks_too status before after has whole =
       clock_is = whole.clock_is;
     }
 
+-- and so is a front
+pub is_front-by : (asks asks_too : Request → Type 0) (before after : Devices) → ((request : Request) → asks request → asks_too request) → IsAtMostFront asks before after → IsAtMostFront asks_too before after
+is_front-by asks asks_too before after has (inl nothing) = inl nothing
+is_front-by asks asks_too before after has (inr front) =
+    let asked = front.asked in
+    inr (record {
+      answer = front.answer;
+      asked = record { request = asked.request; asked = has asked.request asked.asked; input = asked.input; is_left = asked.is_left; answered = asked.answered };
+      output = front.output;
+      report = front.report;
+    })
+
 -- a run that was accepted is what its text asks
-pub asks_run : (text : List ℕ) (items : List Item) (warnings : List Diagnostic) → IsAccepted text items warnings → (request : Request) → IsRunOf text items warnings request → AsksByScript text request
+pub asks_run : (text : List ℕ) (items : Exprs) (warnings : List Diagnostic) → IsAccepted text items warnings → (request : Request) → IsRunOf text items warnings request → AsksByScript text request
 asks_run text items warnings accepted request is = subst (AsksByScript text) (sym is) (refl, accepted)
 
 -- and what a text asks that was loaded is what its name asks
 pub asks_named : (held : Held) (command : Command) (name text : List ℕ) → command ≡ script name → IsLoaded held name text → (request : Request) → AsksByScript text request → Asks held command request
 asks_named held command name text is loaded request asks = subst (λ c. Asks held c request) (sym is) (text, loaded, asks)
+
+-- the text that was loaded from a name is accepted, or something else holds
+pub accepted_named : {other : Type 0} (held : Held) (command : Command) (name text : List ℕ) → command ≡ script name → IsLoaded held name text
+    → other ⊎ ((items : Exprs) × (warnings : List Diagnostic) × IsAccepted text items warnings) → other ⊎ IsScriptAccepted held command
+accepted_named held command name text is loaded (inl first) = inl first
+accepted_named held command name text is loaded (inr accepted) =
+    inr (text, accepted.0, accepted.1, asks_named held command name text is loaded (run text accepted.0 accepted.1) (refl, accepted.2))
 
 pub asked_script : (text : List ℕ) (diagnostics : List Diagnostic) (left : Option (List ℕ)) → IsRefused text diagnostics → IsAsked (AsksByScript text) left (answer_to (bad_script text diagnostics) [])
 asked_script text diagnostics left refused = record { request = bad_script text diagnostics; asked = (refl, refused); input = unwrap_or left []; is_left = some_input left; answered = refl }

@@ -2,7 +2,7 @@
 use Rattle.std.proofs.Common.{◌≡◌, ℕ, suc, List, [], ◌∷◌, ◌++◌, length, map, Bool, false, ◌||◌, Option, Some, None, ℤ, refl, sym, ap, ◌∙◌, append_assoc, subst, add-one, arith}
 use Rattle.std.proofs.lemmas.Grind.{common_steps}
 use Rattle.std.specs.List.{flat_map, list_any}
-use Rattle.vrl_compile.specs.declared.syntax.Item.{Item}
+use Rattle.vrl_syntax.specs.Tree.{Exprs}
 use Rattle.vrl_io.specs.Moments.{Advances}
 use Rattle.remap_tool.specs.Answer.{LineResult, line_result}
 use Rattle.remap_tool.specs.Lines.{lines_of, is_blank, event_lines_from, event_lines}
@@ -11,7 +11,7 @@ use Rattle.remap_tool.specs.Devices.{MovesOn}
 use Rattle.remap_tool.specs.declared.results.Results.{Results}
 
 -- these results are done, and those of the rest of the input are left
-pub record IsRunTo (items : List Item) (warnings : List ℕ) (input rest : List ℕ) (number : ℕ) (run : Results) (ahead ahead_after : Option (ℕ → ℤ)) : Type 0 where
+pub record IsRunTo (items : Exprs) (warnings : List ℕ) (input rest : List ℕ) (number : ℕ) (run : Results) (ahead ahead_after : Option (ℕ → ℤ)) : Type 0 where
   pub done : List LineResult
   pub is_run : IsRun warnings run done
   pub divides : map (line_result items) (event_lines input) ≡ done ++ map (line_result items) (event_lines_from (suc number) rest)
@@ -49,7 +49,7 @@ event_lines_from-event n bytes line behind first event = rw (first, event, add-o
 length-push : (done : List LineResult) (r : LineResult) → length (done ++ r ∷ []) ≡ suc (length done)
 length-push done r = grind (arith, common_steps)
 
-is_run_to-event_at : (items : List Item) (warnings input bytes line behind : List ℕ) (number : ℕ) (run run_after : Results) (ahead middle after : Option (ℕ → ℤ)) (moment : ℤ) → lines_of bytes ≡ line ∷ lines_of behind → is_blank line ≡ false → IsRunTo items warnings input bytes number run ahead middle → Advances middle moment after → AddsResult run run_after (line_result items (suc number, line)) → IsRunTo items warnings input behind (suc number) run_after ahead after
+is_run_to-event_at : (items : Exprs) (warnings input bytes line behind : List ℕ) (number : ℕ) (run run_after : Results) (ahead middle after : Option (ℕ → ℤ)) (moment : ℤ) → lines_of bytes ≡ line ∷ lines_of behind → is_blank line ≡ false → IsRunTo items warnings input bytes number run ahead middle → Advances middle moment after → AddsResult run run_after (line_result items (suc number, line)) → IsRunTo items warnings input behind (suc number) run_after ahead after
 is_run_to-event_at items warnings input bytes line behind number run run_after ahead middle after moment first event to advances adds =
     let r = line_result items (suc number, line) in
     let left = ap (map (line_result items)) (event_lines_from-event (suc number) bytes line behind first event) in
@@ -61,7 +61,7 @@ is_run_to-event_at items warnings input bytes line behind number run run_after a
     }
 
 -- the result of the next event joins those that are done
-pub is_run_to-event : (items : List Item) (warnings input bytes line behind : List ℕ) (number next : ℕ) (run run_after : Results) (ahead middle after : Option (ℕ → ℤ)) (moment : ℤ) → next ≡ suc number → lines_of bytes ≡ line ∷ lines_of behind → is_blank line ≡ false → IsRunTo items warnings input bytes number run ahead middle → Advances middle moment after → AddsResult run run_after (line_result items (next, line)) → IsRunTo items warnings input behind next run_after ahead after
+pub is_run_to-event : (items : Exprs) (warnings input bytes line behind : List ℕ) (number next : ℕ) (run run_after : Results) (ahead middle after : Option (ℕ → ℤ)) (moment : ℤ) → next ≡ suc number → lines_of bytes ≡ line ∷ lines_of behind → is_blank line ≡ false → IsRunTo items warnings input bytes number run ahead middle → Advances middle moment after → AddsResult run run_after (line_result items (next, line)) → IsRunTo items warnings input behind next run_after ahead after
 is_run_to-event items warnings input bytes line behind number next run run_after ahead middle after moment is first event to advances =
     subst (λ n. AddsResult run run_after (line_result items (n, line)) → IsRunTo items warnings input behind n run_after ahead after) (sym is)
     (is_run_to-event_at items warnings input bytes line behind number run run_after ahead middle after moment first event to advances)

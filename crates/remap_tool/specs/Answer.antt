@@ -4,7 +4,9 @@ use Rattle.std.specs.List.{flat_map, list_any}
 use Rattle.vrl_json.specs.Line.{Reading, not_json, not_whole, whole, reading_of, line_text}
 use Rattle.vrl_value.specs.Tree.{Tree, is_object}
 use Rattle.vrl_compile.specs.Meaning.{run_script, Outcome, value, error}
-use Rattle.vrl_compile.specs.declared.syntax.Item.{Item}
+use Rattle.vrl_compile.specs.Answer.{IsUnread, unread_at}
+use Rattle.vrl_diag.specs.declared.diagnostic.Span.{Span}
+use Rattle.vrl_syntax.specs.Tree.{Exprs}
 use Rattle.remap_tool.specs.Lines.{event_lines}
 use Rattle.vrl_diag.specs.Rendering.{diagnostic_lines}
 use Rattle.remap_tool.specs.Request.{Request, bad_words, bad_script, run}
@@ -46,17 +48,17 @@ result_of_end (value v) event = record { output = line_text [] event ++ 10 ∷ [
 result_of_end (error text) event = record { output = []; report = []; is_refused = false }
 
 -- the result of a line that stands for this tree; the declared kind is an object of any fields
-abbrev pub result_of_tree : List Item → ℕ → Tree → LineResult
+abbrev pub result_of_tree : Exprs → ℕ → Tree → LineResult
 result_of_tree items number event = if is_object event then (let ended = run_script items event in result_of_end ended.outcome ended.store.event) else refused_line NotDeclared number
 
 -- the result of a line that is short enough
-abbrev pub result_of_reading : List Item → ℕ → Reading → LineResult
+abbrev pub result_of_reading : Exprs → ℕ → Reading → LineResult
 result_of_reading items number not_json = refused_line NotJson number
 result_of_reading items number not_whole = refused_line NotWhole number
 result_of_reading items number (whole event) = result_of_tree items number event
 
 -- the result of a line, given with its number; of the reasons to refuse it the first that holds is reported
-abbrev pub line_result : List Item → ℕ × List ℕ → LineResult
+abbrev pub line_result : Exprs → ℕ × List ℕ → LineResult
 line_result items line = if nat_lt line_limit (length line.1) then refused_line TooLong line.0 else result_of_reading items line.0 (reading_of line.1)
 
 -- ---- the answer of a call
@@ -83,6 +85,11 @@ answer_to bad_words input = record { status = Usage; output = []; report = usage
 answer_to (bad_script text diagnostics) input = record { status = Refused; output = []; report = diagnostic_lines text diagnostics }
 answer_to (run text items warnings) input = run_of (diagnostic_lines text warnings) (map (line_result items) (event_lines input))
 
--- all that is asked has one answer, over each input
+-- two requests have the same answer over each input, or they tell at two places that the grammar reads no script in one text
+pub data AreAnsweredAlike (a b : Request) : Type 0 where
+  same : ((input : List ℕ) → answer_to a input ≡ answer_to b input) → AreAnsweredAlike a b
+  both_unread : (text : List ℕ) → IsUnread text → (s t : Span) → a ≡ bad_script text (unread_at s) → b ≡ bad_script text (unread_at t) → AreAnsweredAlike a b
+
+-- all that is asked has one answer, but for that place
 abbrev pub HasOneAnswer : (Request → Type 0) → Type 0
-HasOneAnswer asks = (a b : Request) → asks a → asks b → (input : List ℕ) → answer_to a input ≡ answer_to b input
+HasOneAnswer asks = (a b : Request) → asks a → asks b → AreAnsweredAlike a b

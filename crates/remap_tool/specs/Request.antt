@@ -1,14 +1,10 @@
 -- What a call asks: the words tell it, and the script that they name.
-use Rattle.std.specs.Prelude.{◌≡◌, ℕ, ◌+◌, ◌≤◌, List, length, take, Option, Some, option_map, IfSome, true}
-use Rattle.std.specs.List.{list_any}
-use Rattle.std.specs.Str.{IsUtf8}
-use Rattle.vrl_compile.specs.Answer.{not_built, AreDiagnostics, AreOrdered}
-use Rattle.vrl_compile.specs.Judgement.{judge_script, is_error}
+use Rattle.std.specs.Prelude.{◌≡◌, ℕ, ◌+◌, List, [], ◌∷◌, take, Option, Some, option_map, IfSome}
+use Rattle.vrl_compile.specs.Answer.{IsAccepted as IsAcceptedText, IsRefused as IsRefusedText}
 use Rattle.vrl_compile.specs.Program.{items_of}
-use Rattle.vrl_compile.specs.Script.{IsScript}
-use Rattle.vrl_compile.specs.Soundness.{HasNoError}
 use Rattle.vrl_diag.specs.declared.diagnostic.Diagnostic.{Diagnostic}
-use Rattle.vrl_compile.specs.declared.syntax.Item.{Item}
+use Rattle.vrl_syntax.specs.Tree.{Exprs}
+use Rattle.vrl_token.specs.Reading.{IsNoScript}
 use Rattle.vrl_compile.specs.declared.script.Compiled.{Compiled}
 use Rattle.vrl_compile.specs.declared.script.Compiled.TheVariants.{Accepted, Refused}
 use Rattle.remap_tool.specs.Words.{Command, usage, script}
@@ -21,21 +17,19 @@ Held = Option (List ℕ → Option (List ℕ))
 abbrev pub script_limit : ℕ
 script_limit = 65536
 
--- the bytes may be a script's: they are a text of at most the limit
-abbrev pub IsScriptText : List ℕ → Type 0
-IsScriptText text = (length text ≤ script_limit) × IsUtf8 text
+-- 1009, script too long or not UTF-8
+abbrev pub no_script_text : List Diagnostic
+no_script_text = record { code = 1009; span = record { start = 0; end = 0 } } ∷ []
 
 -- the bytes are those of a script that is accepted: its items, of which no diagnostic is an error, and its warnings
-pub record IsAccepted (text : List ℕ) (items : List Item) (warnings : List Diagnostic) : Type 0 where
-  pub is_text : IsScriptText text
-  pub is_script : IsScript text items
-  pub no_error : HasNoError (judge_script items).codes
-  pub ordered : AreOrdered (judge_script items).codes warnings
+pub record IsAccepted (text : List ℕ) (items : Exprs) (warnings : List Diagnostic) : Type 0 where
+  pub is_text : ¬ IsNoScript text
+  pub accepted : IsAcceptedText text items warnings
 
 -- the bytes are those of a script that is refused, with these diagnostics
 pub data IsRefused (text : List ℕ) (diagnostics : List Diagnostic) : Type 0 where
-  no_text : ¬ IsScriptText text → diagnostics ≡ not_built → IsRefused text diagnostics
-  has_error : IsScriptText text → AreDiagnostics text diagnostics → list_any is_error diagnostics ≡ true → IsRefused text diagnostics
+  no_text : IsNoScript text → diagnostics ≡ no_script_text → IsRefused text diagnostics
+  has_error : ¬ IsNoScript text → IsRefusedText text diagnostics → IsRefused text diagnostics
 
 -- what compiling the bytes of a script answers
 abbrev pub IsScriptAnswer : List ℕ → Compiled → Type 0
@@ -52,7 +46,7 @@ pub data Request : Type 0 where
   -- the script is refused: its text, and what is wrong with it
   bad_script : List ℕ → List Diagnostic → Request
   -- the script runs over the input: its text, its items and its warnings
-  run : List ℕ → List Item → List Diagnostic → Request
+  run : List ℕ → Exprs → List Diagnostic → Request
 
 abbrev pub AsksByScript : List ℕ → Request → Type 0
 AsksByScript text bad_words = ⊥
@@ -66,8 +60,8 @@ Asks held (script name) request = (text : List ℕ) × IsLoaded held name text �
 
 -- a script was loaded and accepted
 abbrev pub IsScriptAccepted : Held → Command → Type 0
-IsScriptAccepted held command = (text : List ℕ) × (items : List Item) × (warnings : List Diagnostic) × Asks held command (run text items warnings)
+IsScriptAccepted held command = (text : List ℕ) × (items : Exprs) × (warnings : List Diagnostic) × Asks held command (run text items warnings)
 
 -- the request to run this script
-abbrev pub IsRunOf : List ℕ → List Item → List Diagnostic → Request → Type 0
+abbrev pub IsRunOf : List ℕ → Exprs → List Diagnostic → Request → Type 0
 IsRunOf text items warnings request = request ≡ run text items warnings

@@ -130,6 +130,8 @@ fn expect_rows<R: Threads + Sync + Abort>(
 
 const NOT_BUILT: &str = "error[E1099] 1:1 form not built yet\n";
 
+const NO_SCRIPT: &str = "error[E1009] 1:1 script too long or not UTF-8\n";
+
 #[test]
 #[rattlefmt::skip]
 fn scripts_and_inputs(rt: HostRuntime) -> Result<(), Memory> {
@@ -139,13 +141,16 @@ fn scripts_and_inputs(rt: HostRuntime) -> Result<(), Memory> {
         (".x = 1", "{}", Status::Done, "{\"x\":1}\n", ""),
         (".b = -2", "{\"c\":1}", Status::Done, "{\"b\":-2,\"c\":1}\n", ""),
         (".x = y", "{}", Status::Refused, "", "error[E701] 1:6 undefined variable\n"),
-        (".x =", "{}", Status::Refused, "", NOT_BUILT),
+        (".x =", "{}", Status::Refused, "", "error[E203] 1:5 unrecognized token\n"),
+        (".x = (1)", "{}", Status::Refused, "", NOT_BUILT),
         (".x = 1", "[1]\n{}", Status::Marked, "{\"x\":1}\n", "line 1: refused: not of the declared kind\n"),
         (".x = 1", "\n \t\r\n{\"a\":\"b\"}\n", Status::Done, "{\"a\":\"b\",\"x\":1}\n", ""),
         (".x = 1", "{\"p\":1.5}\n{\n\n{\"a\":1}\n{", Status::Marked, "{\"a\":1,\"x\":1}\n",
             "line 1: refused: not whole numbers\nline 2: refused: not JSON\nline 5: refused: not JSON\n"),
         (".n = -9223372036854775808", "{}", Status::Done, "{\"n\":-9223372036854775808}\n", ""),
-        (".n = 9223372036854775808", "{}", Status::Refused, "", NOT_BUILT),
+        (".n = 9223372036854775808", "{}", Status::Refused, "", "error[E1002] 1:6 number out of range\n"),
+        (".a[65536] = 1", "{}", Status::Refused, "", "error[E1012] 1:1 written or deleted index too large or path too long\n"),
+        (".a[-1] = 1", "{}", Status::Refused, "", "error[E1007] 1:1 negative index written or deleted\n"),
         (".x = 1", "", Status::Done, "", ""),
         ("", "{\"b\":1,\"a\":2}", Status::Done, "{\"a\":2,\"b\":1}\n", ""),
         ("", "{\"a\":1,\"a\":2}", Status::Done, "{\"a\":2}\n", ""),
@@ -187,7 +192,7 @@ fn padded(
 
 const LIMITS: [(usize, usize, &str, Status, &str, &str); 4] = [
     (65_536, 6, "\"}", Status::Done, "{\"a\":1}\n", ""),
-    (65_537, 6, "\"}", Status::Refused, "", NOT_BUILT),
+    (65_537, 6, "\"}", Status::Refused, "", NO_SCRIPT),
     (6, 1_048_574, "\"}", Status::Done, "{\"a\":1}\n", ""),
     (
         6,
@@ -213,7 +218,7 @@ fn scripts_and_lines_at_the_limit(rt: HostRuntime) -> Result<(), Memory> {
     }
     // A byte that no UTF-8 has.
     let answer = call(&rt, alloc, "|s", b".x = \"\xff\"", b"{}", &NONE)?;
-    assert!(rt; is_answer(&answer, Status::Refused, "", NOT_BUILT));
+    assert!(rt; is_answer(&answer, Status::Refused, "", NO_SCRIPT));
     Ok(())
 }
 

@@ -1,4 +1,4 @@
-ghost use Rattle.std.specs.Prelude.{◌≡◌, ◌⊎◌, ◌+◌, ◌≤◌, Some, IfOk, IsSome, IsTrue, List, ℕ, length};
+ghost use Rattle.std.specs.Prelude.{◌≡◌, ◌⊎◌, Some, IfOk, IsSome, IsTrue, List, ℕ};
 ghost use Rattle.vrl_io.specs.Faults.{HasRisen};
 ghost use Rattle.vrl_json.specs.Line.{reading_of, whole};
 ghost use Rattle.vrl_value.specs.Tree.{Tree, is_object};
@@ -6,7 +6,7 @@ ghost use Rattle.vrl_compile.specs.Judgement.{judge_script};
 ghost use Rattle.vrl_compile.specs.Program.{items_of};
 ghost use Rattle.vrl_compile.specs.Soundness.{HasNoError, IsSoundOver};
 ghost use Rattle.vrl_diag.specs.declared.diagnostic.Diagnostic.{Diagnostic as SpecDiagnostic};
-ghost use Rattle.vrl_compile.specs.declared.syntax.Item.{Item};
+ghost use Rattle.vrl_syntax.specs.Tree.{Exprs};
 ghost use Rattle.remap_tool.specs.Words.{command, usage};
 ghost use Rattle.vrl_diag.specs.Rendering.{diagnostic_lines};
 ghost use Rattle.remap_tool.specs.Answer.{HasOneAnswer, usage_line};
@@ -22,12 +22,13 @@ use crate::words::script_name;
 use std::alloc::Global;
 use std::thread::Threads;
 use vrl_compile::{
-    Compiled, Diagnostic, Diagnostics, Program, SCRIPT_LIMIT, Span, compile,
-    diagnostics_are_determined, scripts_are_sound, scripts_have_one_reading,
+    Compiled, Diagnostic, Diagnostics, Program, SCRIPT_LIMIT, compile, diagnostics_are_determined,
+    scripts_are_sound, scripts_have_one_reading,
 };
 use vrl_diag::render_all;
 use vrl_io::{Clock, LoadFault, Sink, Source, Store};
 use vrl_json::lines_are_json;
+use vrl_token::script_text;
 use vrl_value::Memory;
 
 // An accepted script: its text, what it does, and the warnings about it.
@@ -68,7 +69,8 @@ pub fn remap<R: Threads + Sync, F: Store, S: Source, O: Sink, E: Sink, C: Clock>
         (devices (S.left input.new) (S.taken input.new) (C.ahead clock.new)
         (O.written output.new) (E.written report.new)) }
 
-    // Where the store tells what it holds, one answer fits what is asked; a script that is refused is told so.
+    // Where the store tells what it holds, one answer fits what is asked, but for the place where the grammar
+    // reads no script; a script that is refused is told so.
     ensures one_answer { IsSome (F.held files.old) → HasOneAnswer (Asks (F.held files.old)
         (command words.now)) }
     ensures refused { IsSome (F.held files.old) → (text : List ℕ) (diagnostics : List SpecDiagnostic)
@@ -83,7 +85,7 @@ pub fn remap<R: Threads + Sync, F: Store, S: Source, O: Sink, E: Sink, C: Clock>
 
     // A script that runs ends with a value over the event of each line, never with an error that it did not
     // handle; that value, the variables and the event's fields are of their kinds.
-    ensures sound { (text : List ℕ) (items : List Item) (warnings : List SpecDiagnostic)
+    ensures sound { (text : List ℕ) (items : Exprs) (warnings : List SpecDiagnostic)
         → Asks (F.held files.old) (command words.now)
         (run_request text items warnings) → (line : List ℕ) (event : Tree)
         → reading_of line ≡ whole event → IsTrue (is_object event) → IsSoundOver items event }
@@ -133,7 +135,6 @@ fn run_script<S: Source, O: Sink, E: Sink, C: Clock>(
     report: &mut E,
     clock: &mut C,
 ) -> Status
-    requires { length text.now ≤ SCRIPT_LIMIT + 1 }
     ensures whole { IsAnswer result → IsWhole (AsksByScript text.now) result
         (devices (S.left input.old) (S.taken input.old) (C.ahead clock.old)
         (O.written output.old) (E.written report.old))
@@ -145,9 +146,9 @@ fn run_script<S: Source, O: Sink, E: Sink, C: Clock>(
         (devices (S.left input.new) (S.taken input.new) (C.ahead clock.new)
         (O.written output.new) (E.written report.new)) }
     ensures refused { IsRefusal result
-        ⊎ ((items : List Item) × (warnings : List SpecDiagnostic) × IsAccepted text.now items warnings) }
+        ⊎ ((items : Exprs) × (warnings : List SpecDiagnostic) × IsAccepted text.now items warnings) }
     ensures accepted_first { ((input.new ≡ input.old) × (clock.new ≡ clock.old))
-        ⊎ ((items : List Item) × (warnings : List SpecDiagnostic) × IsAccepted text.now items warnings) }
+        ⊎ ((items : Exprs) × (warnings : List SpecDiagnostic) × IsAccepted text.now items warnings) }
     ensures unread { IsUnread result → (input.new ≡ input.old) × (clock.new ≡ clock.old) }
     ensures end { IsOfLines result → IsTrue (S.ended input.new) }
     ensures read_fault { result ≡ Status.ReadFault
@@ -176,21 +177,14 @@ fn run_script<S: Source, O: Sink, E: Sink, C: Clock>(
     }
 }
 
-// What the bytes of a script are: a text of at most the limit is compiled, and anything else is no built form.
-fn compile_bytes(alloc: Global, text: &[u8]) -> Result<Compiled, Memory>
-    requires { length text.now ≤ SCRIPT_LIMIT + 1 }
-    ensures { IfOk result (IsScriptAnswer text.now) }
+// What the bytes of a script are: a text of at most the limit is compiled, and anything else is refused.
+fn compile_bytes(alloc: Global, bytes: &[u8]) -> Result<Compiled, Memory>
+    ensures { IfOk result (IsScriptAnswer bytes.now) }
 {
-    if text.len() <= SCRIPT_LIMIT
-        && let Ok(text) = str::from_utf8(text)
-    {
-        return compile(alloc, text);
+    match script_text(bytes) {
+        Ok(text) => compile(alloc, text),
+        Err(fault) => Ok(Compiled::Refused(Diagnostics::new(vec![in alloc; fault]?))),
     }
-    let diagnostic = Diagnostic {
-        code: 1099,
-        span: Span { start: 0, end: 0 },
-    };
-    Ok(Compiled::Refused(Diagnostics::new(vec![in alloc; diagnostic]?)))
 }
 
 // Runs a script over the lines of the input.

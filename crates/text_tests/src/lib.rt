@@ -4,6 +4,8 @@
 #[cfg(test)]
 mod diagnostics;
 #[cfg(test)]
+mod parsing;
+#[cfg(test)]
 mod scripts;
 #[cfg(test)]
 mod tokens;

@@ -4,135 +4,9 @@ ghost use Rattle.std.specs.Prelude.{◌≤◌, length};
 use std::alloc::Global;
 use std::collections::BTreeMap;
 use std::process::Abort;
-use std::test::Fail;
-use vrl_compile::{
-    Chain, Compiled, Diagnostics, Form, Item, Operator, Place, SCRIPT_LIMIT, Span, compile, parse,
-    run, scripts_are_sound,
-};
+use vrl_compile::{Compiled, Diagnostics, SCRIPT_LIMIT, compile, run, scripts_are_sound};
 use vrl_tests::shareable;
 use vrl_value::{Fields, Memory, Value};
-
-/// How many items a text has as a script; `None`: it is none.
-fn count_items(alloc: Global, text: &str) -> Result<Option<usize>, Memory>
-    requires { length text.now ≤ SCRIPT_LIMIT }
-{
-    match parse(alloc, text)? {
-        Some(items) => Ok(Some(items.len())),
-        None => Ok(None),
-    }
-}
-
-fn expect_items(
-    rt: &impl Abort,
-    alloc: Global,
-    rows: &[(&str, Option<usize>)],
-) -> Result<(), Memory> {
-    for (text, count) in rows {
-        assert!(rt; text.len() <= SCRIPT_LIMIT);
-        assert!(rt; count_items(alloc, text)? == *count, "at {text:?}");
-    }
-    Ok(())
-}
-
-/// Pushes where a part stands: its start and its end.
-fn push_span(spans: &mut Vec<u32>, span: Span) -> Result<(), Memory> {
-    spans.push(span.start)?;
-    spans.push(span.end)?;
-    Ok(())
-}
-
-fn push_operands(spans: &mut Vec<u32>, chain: &Chain) -> Result<(), Memory> {
-    push_span(spans, chain.first.span)?;
-    for (_, operand) in &chain.others {
-        push_span(spans, operand.span)?;
-    }
-    Ok(())
-}
-
-fn push_item(spans: &mut Vec<u32>, item: &Item) -> Result<(), Memory> {
-    match item {
-        Item::Assign(span, _, chain) => {
-            push_span(spans, *span)?;
-            push_operands(spans, chain)
-        }
-        Item::Expression(chain) => push_operands(spans, chain),
-    }
-}
-
-/// Where each assignment and each operand stands, in order.
-fn spans_of(alloc: Global, items: &[Item]) -> Result<Vec<u32>, Memory> {
-    let mut spans = Vec::new(alloc);
-    for item in items {
-        push_item(&mut spans, item)?;
-    }
-    Ok(spans)
-}
-
-/// Whether these are `.y = FIELD + "b" ?? 1`.
-fn is_y_of_three(items: &[Item]) -> bool {
-    let [Item::Assign(_, Place::Field(name), chain)] = items else {
-        return false;
-    };
-    let [(Operator::Plus, second), (Operator::Coalesce, third)] = chain.others.as_slice() else {
-        return false;
-    };
-    name.as_str() == "y"
-        && matches!(&chain.first.form, Form::Read(Place::Field(_)))
-        && matches!(&second.form, Form::Text(text) if text.as_str() == "b")
-        && matches!(&third.form, Form::Number(1))
-}
-
-#[test]
-fn scripts_are_read(rt: HostRuntime) -> Result<(), Fail> {
-    let alloc = rt.alloc();
-    expect_items(
-        &rt,
-        alloc,
-        &[
-            ("", Some(0)),
-            (" \t\r\n\r\n", Some(0)),
-            ("1", Some(1)),
-            (".y = .a + 1 ?? 0", Some(1)),
-            ("x = \"a\" + .b", Some(1)),
-            (" .a\t=\r1 ?? 2 + 3 ", Some(1)),
-            (".x=-5", Some(1)),
-            ("a+b??c", Some(1)),
-            ("\"é \t'\" ?? -0", Some(1)),
-            (".if = null_ + .true", Some(1)),
-            ("\n.x = 1\n \r\n\nx_1 = .x\r\nx_1 + 2\n", Some(3)),
-            (".x = ", None),
-            (".x = 1 +", None),
-            ("x = y = 1", None),
-            ("if = 1", None),
-            (".x = true", None),
-            ("_ = 1", None),
-            ("\"a\\n\"", None),
-            ("\"{\"", None),
-            ("\"a", None),
-            ("\"a\nb\"", None),
-            (".x == 1", None),
-            ("1 -1", None),
-            ("(1)", None),
-            (".x = 1 ? 2", None),
-            (".x = 1 ?? ?? 2", None),
-            (".x = 9223372036854775808", None),
-            (".a.b = 1", None),
-            ("x y", None),
-            (". x = 1", None),
-            (".x =\n1", None),
-            ("1\n=", None),
-            ("# 1", None),
-        ],
-    )?;
-    let first = parse(alloc, " \n .y = .a + \"b\" ?? 1 \n")?.ok_or("not read")?;
-    assert!(rt; is_y_of_three(&first));
-    assert!(rt; spans_of(alloc, &first)?.as_slice() == [3, 21, 8, 10, 13, 16, 20, 21].as_slice());
-    let second = parse(alloc, ".y = .a + 1\n\"é\" + x")?.ok_or("not read")?;
-    assert!(rt;
-        spans_of(alloc, &second)?.as_slice() == [0, 11, 5, 7, 10, 11, 12, 16, 19, 20].as_slice()
-    );
-    Ok(())
-}
 
 /// What is wrong with a script, whether or not it is accepted.
 fn diagnostics_of(alloc: Global, text: &str) -> Result<Diagnostics, Memory>
@@ -160,20 +34,111 @@ fn expect_codes(
     Ok(())
 }
 
+/// Whether a script is accepted without a warning.
+fn is_accepted(alloc: Global, text: &str) -> Result<bool, Memory>
+    requires { length text.now ≤ SCRIPT_LIMIT }
+{
+    match compile(alloc, text)? {
+        Compiled::Accepted(_, warnings) => Ok(warnings.as_slice().is_empty()),
+        Compiled::Refused(_) => Ok(false),
+    }
+}
+
+/// Scripts that are accepted without a warning.
+fn expect_accepted(rt: &impl Abort, alloc: Global, rows: &[&str]) -> Result<(), Memory> {
+    for text in rows {
+        assert!(rt; text.len() <= SCRIPT_LIMIT);
+        assert!(rt; is_accepted(alloc, text)?, "at {text:?}");
+    }
+    Ok(())
+}
+
 #[test]
-fn scripts_are_judged(rt: HostRuntime) -> Result<(), Memory> {
-    expect_codes(
+fn built_scripts_are_accepted(rt: HostRuntime) -> Result<(), Memory> {
+    expect_accepted(
         &rt,
         rt.alloc(),
         &[
-            (".y = .a + 1", 103, 0, 11),
-            (".a + 1", 100, 0, 6),
-            (".y = 1 ?? 2", 651, 5, 11),
-            (".y = z", 701, 5, 6),
-            (".y = \"a\" + 1\n.z = q", 103, 0, 12),
+            "",
+            " \t\r\n\r\n",
+            "# 1",
+            "1",
+            ".y = .a + 1 ?? 0",
+            "x = \"a\" + \"b\"",
+            " .a\t=\r.b + \"\" ?? 2 + 3 ",
+            ".x=-5",
+            "\"é \t'\" # b",
+            ".if = .null_",
+            "\n.x = 1\n \r\n\nx_1 = .x\r\nx_1 + 2\n",
+            ".x = 1; .y = 2",
+            ".x =\n1",
+            ".x = .y + 1\n?? 2",
+            ".\"a b\" = s'\\n'",
+            ".x = \"\\n{\"",
+            ".x = 1_000",
         ],
-    )?;
-    Ok(())
+    )
+}
+
+/// 65 brackets, each in the one before it.
+const NESTED: &str = "(((((((((((((((((((((((((((((((((((((((((((((((((((((((((((((((((";
+
+#[test]
+#[rattlefmt::skip]
+fn scripts_are_refused(rt: HostRuntime) -> Result<(), Memory> {
+    expect_codes(&rt, rt.alloc(), &[
+        // Spellings at fault.
+        (".x = \"a", 203, 5, 7),
+        (".x = \"{{ a }}\"", 1016, 5, 14),
+        (".x = 1.5", 1001, 5, 8),
+        (".n = 9223372036854775808", 1002, 5, 24),
+        (".x = 1 / 2", 1003, 7, 8),
+        (".x = t'now'", 1014, 5, 11),
+        // Nesting.
+        (NESTED, 1008, 0, 0),
+        // No script.
+        (".x =", 203, 4, 4),
+        (".x = 1 +", 203, 8, 8),
+        ("if = 1", 203, 3, 4),
+        (".x = 1 ?? ?? 2", 203, 10, 12),
+        ("x y", 203, 2, 3),
+        ("1\n=", 203, 2, 3),
+        // Paths beyond the limits.
+        (".a[-1] = 1", 1007, 0, 6),
+        (".a[65536] = 1", 1012, 0, 9),
+        (".a[65536] = 1; .a[-1] = 2", 1012, 0, 9),
+        ("del(.a[-1])", 1007, 4, 10),
+        // Forms that aren't built.
+        (".x = true", 1099, 0, 0),
+        (".x = r'('", 1099, 0, 0),
+        (".x = (1)", 1099, 0, 0),
+        (".x = [1]", 1099, 0, 0),
+        (".x = {\"a\": 1}", 1099, 0, 0),
+        (".x = .a[0]", 1099, 0, 0),
+        (".x = x.a", 1099, 0, 0),
+        (".x = 1 - 1", 1099, 0, 0),
+        (".x == 1", 1099, 0, 0),
+        (".x = y = 1", 1099, 0, 0),
+        ("_ = 1", 1099, 0, 0),
+        (". = 1", 1099, 0, 0),
+        (".a.b = 1", 1099, 0, 0),
+        (".x |= 1", 1099, 0, 0),
+        (".x, e = 1", 1099, 0, 0),
+        ("!x", 1099, 0, 0),
+        ("f(1)", 1099, 0, 0),
+        ("{ 1 }", 1099, 0, 0),
+        ("if x { 1 }", 1099, 0, 0),
+        ("abort", 1099, 0, 0),
+        ("return q", 1099, 0, 0),
+        // The judgement.
+        (".y = .a + 1", 103, 0, 11),
+        (".a + 1", 100, 0, 6),
+        (".y = 1 ?? 2", 651, 5, 11),
+        (".x = 1\n?? 2", 651, 5, 11),
+        (".y = z", 701, 5, 6),
+        (".y = _", 701, 5, 6),
+        (".y = \"a\" + 1\n.z = q", 103, 0, 12),
+    ])
 }
 
 #[test]

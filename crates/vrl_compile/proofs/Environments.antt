@@ -10,7 +10,7 @@ use Rattle.vrl_compile.specs.Tags.{Tags}
 use Rattle.vrl_compile.specs.KindTags.{tags_of}
 use Rattle.vrl_compile.specs.declared.kind.Kind.{Kind}
 use Rattle.vrl_compile.specs.declared.environment.Environment.{Environment}
-use Rattle.vrl_compile.specs.declared.syntax.Place.TheVariants.{Field, Variable}
+use Rattle.vrl_compile.specs.Built.{field, variable}
 use Rattle.vrl_compile.specs.Environment.{known_of, field_kind, variable_kind}
 use Rattle.vrl_compile.specs.Judgement.{Known, alive, start, write_known}
 
@@ -53,14 +53,14 @@ variable_where true kind old = refl
 variable_where false kind old = refl
 
 pub field_written : (e after : Environment) (key : String Global) (name : List ℕ) (kind : Kind) → string_bytes key ≡ name → UpdatesBy string_cmp (string_cmp key) e.fields after.fields (Some kind)
-    → after.variables ≡ e.variables → known_of after ≡ write_known (Field name) (tags_of kind) (known_of e)
+    → after.variables ≡ e.variables → known_of after ≡ write_known (field name) (tags_of kind) (known_of e)
 unfolding known_of
 field_written e after key name kind is updates same = same_known _ _
     (λ f. ap field_kind (inserted e.fields after.fields key name kind is updates f) ∙ field_where (bytes_eq f name) kind _)
     (λ x. rw same refl)
 
 pub variable_written : (e after : Environment) (key : String Global) (name : List ℕ) (kind : Kind) → string_bytes key ≡ name → UpdatesBy string_cmp (string_cmp key) e.variables after.variables (Some kind)
-    → after.fields ≡ e.fields → known_of after ≡ write_known (Variable name) (tags_of kind) (known_of e)
+    → after.fields ≡ e.fields → known_of after ≡ write_known (variable name) (tags_of kind) (known_of e)
 unfolding known_of
 variable_written e after key name kind is updates same = same_known _ _
     (λ f. rw same refl)

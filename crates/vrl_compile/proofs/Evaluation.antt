@@ -1,15 +1,11 @@
--- The outcome of a chain, operand by operand.
-use Rattle.std.proofs.Common.{◌≡◌, List, [], ◌∷◌, Option, Some, None, refl, sym, ap, ◌∙◌, subst}
+-- The outcome of an expression, by those of its sides.
+use Rattle.std.proofs.Common.{◌≡◌, refl, sym, ap, ◌∙◌}
+use Rattle.vrl_diag.specs.declared.diagnostic.Span.{Span}
+use Rattle.vrl_syntax.specs.Tree.{Expr, expr, Form, literal, read, binary}
+use Rattle.vrl_syntax.specs.declared.root.Op.TheVariants.{Plus, Coalesce}
 use Rattle.vrl_value.specs.Tree.{Tree}
-use Rattle.vrl_compile.specs.declared.syntax.Chain.{Chain}
-use Rattle.vrl_compile.specs.declared.syntax.Operand.{Operand}
-use Rattle.vrl_compile.specs.declared.syntax.Operator.{Operator}
-use Rattle.vrl_compile.specs.declared.syntax.Operator.TheVariants.{Plus, Coalesce}
 use Rattle.vrl_compile.specs.Execution.{sum_with}
-use Rattle.vrl_compile.specs.Meaning.{Store, Outcome, value, error, Ended, IsUnhandled, eval, on_value, on_error, sum_of, value_of_form}
-use Rattle.vrl_compile.specs.Judged.{with_left}
-use Rattle.vrl_compile.specs.Syntax.{Expr, operand, plus, coalesce, expr_of}
-use Rattle.vrl_compile.proofs.Grouping.{grouped, grouped-expr_of}
+use Rattle.vrl_compile.specs.Meaning.{Store, Outcome, value, error, Ended, ends, eval, eval_form, on_value, on_error, sum_of, IsUnhandled}
 
 on_value-store : (o : Outcome) (s t : Store) (next : Tree → Store → Ended) → s ≡ t → ((v : Tree) → (next v s).store ≡ t) → (on_value o s next).store ≡ t
 on_value-store (value v) s t next is then = then v
@@ -20,71 +16,62 @@ on_error-store (value v) s t next is then = is
 on_error-store (error text) s t next is then = then
 
 -- an expression writes nothing
-pub eval-store : (e : Expr) (store : Store) → (eval e store).store ≡ store
-eval-store (operand o) store = refl
-eval-store (plus l r) store =
-    let left = eval l store in
-    let both = eval-store r left.store ∙ eval-store l store in
-    on_value-store left.outcome left.store store _ (eval-store l store) (λ v. on_value-store (eval r left.store).outcome (eval r left.store).store store _ both (λ w. both))
-eval-store (coalesce l r) store =
-    let left = eval l store in
-    on_error-store left.outcome left.store store (eval r) (eval-store l store) (eval-store r left.store ∙ eval-store l store)
+mutual
+  pub eval-store : (e : Expr) (store : Store) → (eval e store).store ≡ store
+  eval-store (expr span f) store = eval_form-store f store
 
--- the outcome of a chain, from that of the sum so far
-abbrev pub end_of : Store → Outcome → List (Operator × Operand) → Outcome
-end_of store o [] = o
-end_of store o ((Plus, x) ∷ others) = end_of store (sum_with o (value_of_form x.form store)) others
-end_of store (value v) ((Coalesce, x) ∷ others) = value v
-end_of store (error text) ((Coalesce, x) ∷ others) = end_of store (value (value_of_form x.form store)) others
+  pub eval_form-store : (f : Form) (store : Store) → (eval_form f store).store ≡ store
+  eval_form-store (literal v) store = refl
+  eval_form-store (read root path) store = refl
+  eval_form-store (binary Plus l r) store =
+      let left = eval l store in
+      let both = eval-store r left.store ∙ eval-store l store in
+      on_value-store left.outcome left.store store _ (eval-store l store) (λ v. on_value-store (eval r left.store).outcome (eval r left.store).store store _ both (λ w. both))
+  eval_form-store (binary Coalesce l r) store =
+      let left = eval l store in
+      on_error-store left.outcome left.store store (eval r) (eval-store l store) (eval-store r left.store ∙ eval-store l store)
+  eval_form-store f store = refl
 
-sum_at : (o : Outcome) (s : Store) (x : Operand)
-    → (on_value o s (λ v after. on_value (value (value_of_form x.form after)) after (λ w end. record { outcome = sum_of v w; store = end }))).outcome ≡ sum_with o (value_of_form x.form s)
-sum_at (value v) s x = refl
-sum_at (error text) s x = refl
+-- what `+` ends with, by how its sides end; the second counts only behind a value
+abbrev sum_behind : Outcome → Outcome → Outcome
+sum_behind (value v) second = sum_with v second
+sum_behind (error text) second = error text
 
-eval-plus : (sum : Expr) (x : Operand) (store : Store) → (eval (plus sum (operand x)) store).outcome ≡ sum_with (eval sum store).outcome (value_of_form x.form store)
-eval-plus sum x store =
-    sum_at (eval sum store).outcome (eval sum store).store x
-    ∙ ap (λ s. sum_with (eval sum store).outcome (value_of_form x.form s)) (eval-store sum store)
+sum_second : (v : Tree) (o : Outcome) (s : Store) → (on_value o s (λ w end. ends (sum_of v w) end)).outcome ≡ sum_with v o
+sum_second v (value w) s = refl
+sum_second v (error text) s = refl
 
-value_stays : (o : Outcome) (s : Store) (next : Store → Ended) (v : Tree) → o ≡ value v → (on_error o s next).outcome ≡ value v
-value_stays (value w) s next v is = is
-value_stays (error text) s next v is = absurd (cc)
+sum_first : (o : Outcome) (s : Store) (r : Expr) → (on_value o s (λ v after. let right = eval r after in on_value right.outcome right.store (λ w end. ends (sum_of v w) end))).outcome ≡ sum_behind o (eval r s).outcome
+sum_first (value v) s r = sum_second v (eval r s).outcome (eval r s).store
+sum_first (error text) s r = refl
 
-error_goes_on : (o : Outcome) (s t : Store) (next : Store → Ended) → IsUnhandled o → s ≡ t → (on_error o s next).outcome ≡ (next t).outcome
-error_goes_on (value v) s t next fails is = absurd fails
-error_goes_on (error text) s t next fails is = ap (λ r. (next r).outcome) is
+eval-plus : (span : Span) (l r : Expr) (store : Store) → (eval (expr span (binary Plus l r)) store).outcome ≡ sum_behind (eval l store).outcome (eval r store).outcome
+eval-plus span l r store = sum_first (eval l store).outcome (eval l store).store r ∙ ap (λ s. sum_behind (eval l store).outcome (eval r s).outcome) (eval-store l store)
 
--- a value on the left of a `??` is the outcome, whatever follows
-grouped-value : (left sum : Expr) (others : List (Operator × Operand)) (store : Store) (v : Tree) → (eval left store).outcome ≡ value v → (eval (grouped (Some left) sum others) store).outcome ≡ value v
-grouped-value left sum [] store v is = value_stays (eval left store).outcome (eval left store).store (eval sum) v is
-grouped-value left sum ((Plus, x) ∷ others) store v is = grouped-value left (plus sum (operand x)) others store v is
-grouped-value left sum ((Coalesce, x) ∷ others) store v is =
-    grouped-value (coalesce left sum) (operand x) others store v (value_stays (eval left store).outcome (eval left store).store (eval sum) v is)
+-- a sum, by the value on its left and the outcome on its right
+pub sum_evaluated : (span : Span) (l r : Expr) (store : Store) (v : Tree) (second sum : Outcome) → value v ≡ (eval l store).outcome → second ≡ (eval r store).outcome → sum ≡ sum_with v second
+    → sum ≡ (eval (expr span (binary Plus l r)) store).outcome
+sum_evaluated span l r store v second sum left right is =
+    is ∙ ap (sum_with v) right ∙ ap (λ o. sum_behind o (eval r store).outcome) left ∙ sym (eval-plus span l r store)
 
--- what stands on the left of a `??`, if one is there, ends with an error
-abbrev IsFailing : Option Expr → Store → Type 0
-IsFailing None store = Unit {0}
-IsFailing (Some left) store = IsUnhandled (eval left store).outcome
+-- what `??` ends with
+abbrev chosen : Outcome → Outcome → Outcome
+chosen (value v) second = value v
+chosen (error text) second = second
 
-with_left-outcome : (left : Option Expr) (sum : Expr) (store : Store) → IsFailing left store → (eval (with_left left sum) store).outcome ≡ (eval sum store).outcome
-with_left-outcome None sum store fails = refl
-with_left-outcome (Some left) sum store fails = error_goes_on (eval left store).outcome (eval left store).store store (eval sum) fails (eval-store left store)
+chosen_at : (o : Outcome) (s : Store) (r : Expr) → (on_error o s (λ after. eval r after)).outcome ≡ chosen o (eval r s).outcome
+chosen_at (value v) s r = refl
+chosen_at (error text) s r = refl
 
-behind : (left : Expr) (x : Operand) (others : List (Operator × Operand)) (store : Store) (o : Outcome) → (eval left store).outcome ≡ o
-    → (IsFailing (Some left) store → (eval (grouped (Some left) (operand x) others) store).outcome ≡ end_of store (value (value_of_form x.form store)) others)
-    → (eval (grouped (Some left) (operand x) others) store).outcome ≡ end_of store o ((Coalesce, x) ∷ others)
-behind left x others store (value v) is goes_on = grouped-value left (operand x) others store v is
-behind left x others store (error text) is goes_on = goes_on (subst IsUnhandled (sym is) tt)
+eval-coalesce : (span : Span) (l r : Expr) (store : Store) → (eval (expr span (binary Coalesce l r)) store).outcome ≡ chosen (eval l store).outcome (eval r store).outcome
+eval-coalesce span l r store = chosen_at (eval l store).outcome (eval l store).store r ∙ ap (λ s. chosen (eval l store).outcome (eval r s).outcome) (eval-store l store)
 
--- what a tree of operands ends with is what its operands end with, one after the other
-pub grouped-outcome : (left : Option Expr) (sum : Expr) (others : List (Operator × Operand)) (store : Store) → IsFailing left store → (eval (grouped left sum others) store).outcome ≡ end_of store (eval sum store).outcome others
-grouped-outcome left sum [] store fails = with_left-outcome left sum store fails
-grouped-outcome left sum ((Plus, x) ∷ others) store fails =
-    grouped-outcome left (plus sum (operand x)) others store fails ∙ ap (λ o. end_of store o others) (eval-plus sum x store)
-grouped-outcome left sum ((Coalesce, x) ∷ others) store fails =
-    behind (with_left left sum) x others store _ (with_left-outcome left sum store fails) (grouped-outcome (Some (with_left left sum)) (operand x) others store)
-
--- of a whole chain
-pub expr_of-outcome : (chain : Chain) (store : Store) → (eval (expr_of chain) store).outcome ≡ end_of store (value (value_of_form chain.first.form store)) chain.others.items
-expr_of-outcome chain store = ap (λ e. (eval e store).outcome) (sym (grouped-expr_of chain)) ∙ grouped-outcome None (operand chain.first) chain.others.items store tt
+-- behind an error, `??` ends as its right side does
+pub fallback_evaluated : (span : Span) (l r : Expr) (store : Store) (first second : Outcome) → IsUnhandled first → first ≡ (eval l store).outcome → second ≡ (eval r store).outcome
+    → second ≡ (eval (expr span (binary Coalesce l r)) store).outcome
+fallback_evaluated span l r store first second fails left right =
+    right ∙ chosen_error first (eval r store).outcome fails ∙ ap (λ o. chosen o (eval r store).outcome) left ∙ sym (eval-coalesce span l r store)
+  where
+    chosen_error : (o second : Outcome) → IsUnhandled o → second ≡ chosen o second
+    chosen_error (value v) second fails = absurd fails
+    chosen_error (error text) second fails = refl

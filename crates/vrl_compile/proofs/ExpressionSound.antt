@@ -3,17 +3,16 @@ use Rattle.std.proofs.Common.{◌≡◌, List, ◌++◌, true, false, Option, So
 use Rattle.std.specs.List.{list_any}
 use Rattle.std.proofs.lemmas.Bool.{true≢false, false_from_ne_true, or_cases, or_left, or_right, or_parts, and_from}
 use Rattle.std.proofs.lemmas.List.Folds.{list_any-append}
-use Rattle.vrl_value.specs.Tree.{Tree, string, null, find}
+use Rattle.vrl_value.specs.Tree.{Tree, string, integer, null, find}
 use Rattle.vrl_value.specs.declared.value.Tag.TheVariants as tag
 use Rattle.vrl_compile.specs.Tags.{Tags, same_tag, tag_of, union, Inhabits}
 use Rattle.vrl_diag.specs.declared.diagnostic.Diagnostic.{Diagnostic}
 use Rattle.vrl_diag.specs.declared.diagnostic.Span.{Span}
-use Rattle.vrl_compile.specs.declared.syntax.Place.TheVariants.{Field, Variable}
-use Rattle.vrl_compile.specs.declared.syntax.Form.{Form}
-use Rattle.vrl_compile.specs.declared.syntax.Form.TheVariants.{Number, Text, Read}
-use Rattle.vrl_compile.specs.Syntax.{Expr, operand, plus, coalesce, span_of}
-use Rattle.vrl_compile.specs.Judgement.{Known, State, dead, alive, Judgement, judge, judge_form, judge_variable, judge_plus, judge_coalesce, start_of_right, needless, join, read_kind, plus_kind, plus_may_succeed, plus_may_fail, is_error}
-use Rattle.vrl_compile.specs.Meaning.{Store, fields_of, Outcome, value, error, Ended, eval, value_of_form, sum_of, on_value, on_error}
+use Rattle.vrl_syntax.specs.Tree.{Expr, expr, Form, literal, read, binary}
+use Rattle.vrl_syntax.specs.declared.root.Op.TheVariants.{Plus, Coalesce}
+use Rattle.vrl_compile.specs.Built.{Place, field, variable, place_at}
+use Rattle.vrl_compile.specs.Judgement.{Known, State, dead, alive, Judgement, judge, judge_form, judge_literal, judge_read, judge_variable, judge_plus, judge_coalesce, start_of_right, needless, join, read_kind, plus_kind, plus_may_succeed, plus_may_fail, is_error}
+use Rattle.vrl_compile.specs.Meaning.{Store, fields_of, Outcome, value, error, Ended, ends, eval, eval_form, literal_outcome, read_outcome, sum_of, on_value, on_error}
 use Rattle.vrl_compile.specs.Soundness.{ExpressionsAreSound, Fits, FitsKnown, HasNoError, IsSoundEnd, tag_at}
 use Rattle.vrl_compile.proofs.Fitting.{fits-join_left, fits-join_right}
 use Rattle.vrl_compile.proofs.PlusSound.{sum_is_sound}
@@ -41,12 +40,14 @@ cause-variable : (span : Span) (known : Known) (K : Option Tags) → HasCause (j
 cause-variable span known None poisoned = refl
 cause-variable span known (Some K) poisoned = absurd (true≢false (sym poisoned))
 
--- an operand is poisoned by its own code
-cause-form : (span : Span) (form : Form) (known : Known) → HasCause (judge_form span form known)
-cause-form span (Number n) known poisoned = absurd (true≢false (sym poisoned))
-cause-form span (Text s) known poisoned = absurd (true≢false (sym poisoned))
-cause-form span (Read (Field name)) known poisoned = absurd (true≢false (sym poisoned))
-cause-form span (Read (Variable name)) known poisoned = cause-variable span known (known.variables name) poisoned
+cause-read : (span : Span) (place : Option Place) (known : Known) → HasCause (judge_read span place known)
+cause-read span (Some (field name)) known poisoned = absurd (true≢false (sym poisoned))
+cause-read span (Some (variable name)) known poisoned = cause-variable span known (known.variables name) poisoned
+cause-read span None known poisoned = absurd (true≢false (sym poisoned))
+
+cause-literal : (v : Tree) (known : Known) → HasCause (judge_literal v known)
+cause-literal (string s) known poisoned = absurd (true≢false (sym poisoned))
+cause-literal v known poisoned = absurd (true≢false (sym poisoned))
 
 -- a sum is poisoned by a code of its operands
 cause-plus : (l r : Judgement) → HasCause l → HasCause r → HasCause (judge_plus l r)
@@ -60,15 +61,21 @@ cause-coalesce : (span : Span) (l r : Judgement) → HasCause l → HasCause r �
 cause-coalesce span l r left right poisoned = error_first (l.codes ++ r.codes) (needless span l) (cause-plus l r left right poisoned)
 
 -- an expression is poisoned by a code that it gives
-has_cause : (e : Expr) (state : State) → HasCause (judge e state)
-has_cause e dead poisoned = absurd (true≢false (sym poisoned))
-has_cause (operand o) (alive known) poisoned = cause-form o.span o.form known poisoned
-has_cause (plus l r) (alive known) poisoned =
-    let left = judge l (alive known) in
-    cause-plus left (judge r left.ok) (has_cause l (alive known)) (has_cause r left.ok) poisoned
-has_cause (coalesce l r) (alive known) poisoned =
-    let left = judge l (alive known) in
-    cause-coalesce (span_of (coalesce l r)) left (judge r (start_of_right left)) (has_cause l (alive known)) (has_cause r (start_of_right left)) poisoned
+mutual
+  has_cause : (e : Expr) (state : State) → HasCause (judge e state)
+  has_cause e dead poisoned = absurd (true≢false (sym poisoned))
+  has_cause (expr span f) (alive known) poisoned = cause-form span f known poisoned
+
+  cause-form : (span : Span) (f : Form) (known : Known) → HasCause (judge_form span f known)
+  cause-form span (literal v) known poisoned = cause-literal v known poisoned
+  cause-form span (read root path) known poisoned = cause-read span (place_at root path) known poisoned
+  cause-form span (binary Plus l r) known poisoned =
+      let left = judge l (alive known) in
+      cause-plus left (judge r left.ok) (has_cause l (alive known)) (has_cause r left.ok) poisoned
+  cause-form span (binary Coalesce l r) known poisoned =
+      let left = judge l (alive known) in
+      cause-coalesce span left (judge r (start_of_right left)) (has_cause l (alive known)) (has_cause r (start_of_right left)) poisoned
+  cause-form span f known poisoned = absurd (true≢false (sym poisoned))
 
 -- without an error code a judgement isn't poisoned
 not_poisoned : (e : Expr) (state : State) → HasNoError (judge e state).codes → (judge e state).poisoned ≡ false
@@ -102,14 +109,18 @@ variable_ok : (span : Span) (known : Known) (K : Option Tags) → (judge_variabl
 variable_ok span known None = refl
 variable_ok span known (Some K) = refl
 
--- an operand ends with a value of its kind, and changes no store
-form_is_sound : (span : Span) (form : Form) (known : Known) (store : Store) → HasNoError (judge_form span form known).codes → FitsKnown store known
-    → IsSound (judge_form span form known) (record { outcome = value (value_of_form form store); store = store })
-form_is_sound span (Number n) known store none fits = (refl, fits)
-form_is_sound span (Text s) known store none fits = (refl, fits)
-form_is_sound span (Read (Field name)) known store none fits = (read_is_sound (known.fields name) (find name (fields_of store.event)) (fits.fields name), fits)
-form_is_sound span (Read (Variable name)) known store none fits =
+-- a read of a place ends with a value of its kind, and changes no store
+place_is_sound : (span : Span) (place : Option Place) (known : Known) (store : Store) → HasNoError (judge_read span place known).codes → FitsKnown store known
+    → IsSound (judge_read span place known) (ends (read_outcome place store) store)
+place_is_sound span (Some (field name)) known store none fits = (read_is_sound (known.fields name) (find name (fields_of store.event)) (fits.fields name), fits)
+place_is_sound span (Some (variable name)) known store none fits =
     (variable_is_sound span known (known.variables name) (find name store.variables) none (fits.variables name), rw (variable_ok span known (known.variables name)) fits)
+place_is_sound span None known store none fits = fits
+
+literal_is_sound : (v : Tree) (known : Known) (store : Store) → FitsKnown store known → IsSound (judge_literal v known) (ends (literal_outcome v) store)
+literal_is_sound (string s) known store fits = (refl, fits)
+literal_is_sound (integer n) known store fits = (refl, fits)
+literal_is_sound v known store fits = fits
 
 -- ---- operators
 
@@ -176,19 +187,24 @@ coalesce_is_sound span l r run outcome store left right first second =
 -- ---- expressions
 
 -- what the judgement says of an expression holds of its meaning
-pub expression_is_sound : ExpressionsAreSound
-expression_is_sound e dead store none fits = absurd fits
-expression_is_sound (operand o) (alive known) store none fits = form_is_sound o.span o.form known store none fits
-expression_is_sound (plus l r) (alive known) store none fits =
-    let left = judge l (alive known) in
-    let right = judge r left.ok in
-    let parts = no_error_parts left.codes right.codes none in
-    plus_is_sound left right (eval r) (eval l store).outcome (eval l store).store (not_poisoned l (alive known) parts.0) (not_poisoned r left.ok parts.1)
-    (expression_is_sound l (alive known) store parts.0 fits) (λ after ok. expression_is_sound r left.ok after parts.1 ok)
-expression_is_sound (coalesce l r) (alive known) store none fits =
-    let left = judge l (alive known) in
-    let right = judge r (start_of_right left) in
-    let span = span_of (coalesce l r) in
-    let parts = no_error_parts left.codes right.codes (no_error_parts (left.codes ++ right.codes) (needless span left) none).0 in
-    coalesce_is_sound span left right (eval r) (eval l store).outcome (eval l store).store (not_poisoned l (alive known) parts.0) (not_poisoned r (start_of_right left) parts.1)
-    (expression_is_sound l (alive known) store parts.0 fits) (λ after ok. expression_is_sound r (start_of_right left) after parts.1 ok)
+mutual
+  pub expression_is_sound : ExpressionsAreSound
+  expression_is_sound e dead store none fits = absurd fits
+  expression_is_sound (expr span f) (alive known) store none fits = form_is_sound span f known store none fits
+
+  pub form_is_sound : (span : Span) (f : Form) (known : Known) (store : Store) → HasNoError (judge_form span f known).codes → FitsKnown store known → IsSound (judge_form span f known) (eval_form f store)
+  form_is_sound span (literal v) known store none fits = literal_is_sound v known store fits
+  form_is_sound span (read root path) known store none fits = place_is_sound span (place_at root path) known store none fits
+  form_is_sound span (binary Plus l r) known store none fits =
+      let left = judge l (alive known) in
+      let right = judge r left.ok in
+      let parts = no_error_parts left.codes right.codes none in
+      plus_is_sound left right (eval r) (eval l store).outcome (eval l store).store (not_poisoned l (alive known) parts.0) (not_poisoned r left.ok parts.1)
+      (expression_is_sound l (alive known) store parts.0 fits) (λ after ok. expression_is_sound r left.ok after parts.1 ok)
+  form_is_sound span (binary Coalesce l r) known store none fits =
+      let left = judge l (alive known) in
+      let right = judge r (start_of_right left) in
+      let parts = no_error_parts left.codes right.codes (no_error_parts (left.codes ++ right.codes) (needless span left) none).0 in
+      coalesce_is_sound span left right (eval r) (eval l store).outcome (eval l store).store (not_poisoned l (alive known) parts.0) (not_poisoned r (start_of_right left) parts.1)
+      (expression_is_sound l (alive known) store parts.0 fits) (λ after ok. expression_is_sound r (start_of_right left) after parts.1 ok)
+  form_is_sound span f known store none fits = fits

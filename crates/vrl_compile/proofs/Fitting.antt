@@ -6,8 +6,7 @@ use Rattle.vrl_value.specs.Laws.{MembersAreMaps, MembersStayJson}
 use Rattle.vrl_value.specs.Tree.{Tree, string, integer, boolean, null, timestamp, regex, array, object, Members, is_json, put, find}
 use Rattle.vrl_value.specs.declared.value.Tag.TheVariants as tag
 use Rattle.vrl_compile.specs.Tags.{Tags, json, only, union, Inhabits}
-use Rattle.vrl_compile.specs.declared.syntax.Place.{Place}
-use Rattle.vrl_compile.specs.declared.syntax.Place.TheVariants.{Field, Variable}
+use Rattle.vrl_compile.specs.Built.{Place, field, variable}
 use Rattle.vrl_compile.specs.Judgement.{State, dead, alive, join, join_kinds, start, write as write_kind}
 use Rattle.vrl_compile.specs.Meaning.{Store, fields_of, store_of, write as write_value}
 use Rattle.vrl_compile.specs.Soundness.{Fits, IsDeclared, tag_at}
@@ -83,12 +82,12 @@ variable_written maps x name v K J l ms false is of_kind knows before = rw (maps
 -- once a value of a kind stands at a place, the store fits the state that has the kind there
 pub fits-write : MembersAreMaps → (place : Place) (v : Tree) (K : Tags) (store : Store) (state : State) → Inhabits v K → Fits store state → Fits (write_value place v store) (write_kind place K state)
 fits-write maps place v K store dead of_kind fits = absurd fits
-fits-write maps (Field name) v K store (alive known) of_kind fits = record {
+fits-write maps (field name) v K store (alive known) of_kind fits = record {
   event = refl;
   fields = λ f. field_written maps f name v K (known.fields f) (fields_of store.event) _ refl of_kind (fits.fields f);
   variables = fits.variables;
 }
-fits-write maps (Variable name) v K store (alive known) of_kind fits = record {
+fits-write maps (variable name) v K store (alive known) of_kind fits = record {
   event = fits.event;
   fields = fits.fields;
   variables = λ x J knows. variable_written maps x name v K J (known.variables x) store.variables _ refl of_kind knows (fits.variables x J);

@@ -1,63 +1,47 @@
 -- The judgement of items, by how each of them ends.
-use Rattle.std.proofs.Common.{◌≡◌, ℕ, ◌+◌, ◌≤◌, Bool, true, false, List, if◌then◌else◌, length, take, get_or, refl, sym, ap, ◌∙◌}
-use Rattle.std.proofs.lemmas.List.{take_all}
+use Rattle.std.proofs.Common.{◌≡◌, ℕ, ◌+◌, ◌<◌, ◌≤◌, Bool, true, false, List, [], ◌∷◌, ◌++◌, if◌then◌else◌, length, drop, get_or, Option, Some, refl, sym, ap, ◌∙◌}
+use Rattle.std.proofs.lemmas.List.{drop_all, drop_more}
 use Rattle.std.specs.List.Sorted.{IsSorted}
 use Rattle.std.specs.Ordering.{is_lt, nat_cmp, ordering_then}
 use Rattle.std.specs.declared.cmp.Ordering.{Ordering}
 use Rattle.std.specs.declared.cmp.Ordering.TheVariants.{Less, Equal, Greater}
 use Rattle.vrl_compile.specs.Answer.{diagnostic_cmp}
-use Rattle.vrl_compile.specs.Tags.{Tags}
+use Rattle.vrl_compile.specs.Tags.{Tags, only}
+use Rattle.vrl_value.specs.declared.value.Tag.TheVariants as tag
 use Rattle.vrl_compile.specs.KindTags.{tags_of}
 use Rattle.vrl_diag.specs.declared.diagnostic.Diagnostic.{Diagnostic}
 use Rattle.vrl_diag.specs.declared.diagnostic.Span.{Span}
 use Rattle.vrl_compile.specs.declared.judgement.Ending.{Ending}
 use Rattle.vrl_compile.specs.declared.judgement.Judged.{Judged}
-use Rattle.vrl_compile.specs.declared.syntax.Item.{Item}
-use Rattle.vrl_compile.specs.declared.syntax.Place.{Place}
-use Rattle.vrl_compile.specs.Judged.{IsEnding, IsJudged, judgement_of, state_at, with_code}
-use Rattle.vrl_compile.specs.Judgement.{Known, is_alive, write, write_known, Judgement, unhandled, assigned, judge_script}
+use Rattle.vrl_syntax.specs.Tree.{Exprs}
+use Rattle.vrl_syntax.specs.View.{expr_of, exprs_view}
+use Rattle.vrl_syntax.specs.declared.tree.Expr.{Expr as CodeExpr}
+use Rattle.vrl_compile.specs.Built.{Place}
+use Rattle.vrl_compile.specs.Judged.{IsEnding, judgement_of, state_at, with_code}
+use Rattle.vrl_compile.specs.Judgement.{Known, alive, start, is_alive, write, write_known, Judgement, ScriptJudgement, unhandled, judge_assign, judge_item, judge_script, then_item, then_items}
 use Rattle.vrl_compile.proofs.Judgements.{is_alive-state_at}
-
--- ---- one item
-
-chosen_ok : (b : Bool) (j poisoned : Judgement) → poisoned.ok ≡ j.ok → j.ok ≡ (if b then poisoned else j).ok
-chosen_ok true j poisoned same = sym same
-chosen_ok false j poisoned same = refl
-
-chosen_codes : (b : Bool) (code : ℕ) (span : Span) (j poisoned : Judgement) → poisoned.codes ≡ with_code code span true j.codes → with_code code span b j.codes ≡ (if b then poisoned else j).codes
-chosen_codes true code span j poisoned same = sym same
-chosen_codes false code span j poisoned same = refl
-
-write-state_at : (place : Place) (K : Tags) (b : Bool) (known : Known) → state_at b (write_known place K known) ≡ write place K (state_at b known)
-write-state_at place K true known = refl
-write-state_at place K false known = refl
-
-assigned_end : (known after : Known) (span : Span) (place : Place) (judged : Judged) (ending : Ending) → after ≡ write_known place (tags_of judged.kind) known
-    → ending.alive ≡ judged.ok → ending.codes.items ≡ with_code 103 span judged.fail judged.codes.items
-    → IsEnding after (unhandled 103 span (assigned place (judgement_of judged known))) ending
-assigned_end known after span place judged ending written ok codes =
-    let j = assigned place (judgement_of judged known) in
-    record {
-      ok = rw (written, ok) (write-state_at place (tags_of judged.kind) judged.ok known ∙ chosen_ok (is_alive j.fail) j _ refl);
-      codes = codes ∙ ap (λ b. with_code 103 span b judged.codes.items) (is_alive-state_at known judged.fail) ∙ chosen_codes (is_alive j.fail) 103 span j _ refl;
-    }
-
--- an assignment's end, by the judgement of its expression
-pub assignment_end : (known after : Known) (span of : Span) (place : Place) (judgement : Judgement) (judged : Judged) (ending : Ending) → IsJudged known of judgement judged → after ≡ write_known place (tags_of judged.kind) known
-    → ending.alive ≡ judged.ok → ending.codes.items ≡ with_code 103 span judged.fail judged.codes.items
-    → IsEnding after (unhandled 103 span (assigned place judgement)) ending
-assignment_end known after span of place judgement judged ending is written ok codes =
-    rw (← is.is) (assigned_end known after span place judged ending written ok codes)
 
 -- ---- items
 
--- the first n items are judged
-pub record AreJudgedTo (items : List Item) (n : ℕ) (known : Known) (reached : Bool) (codes : List Diagnostic) : Type 0 where
-  pub ok_is : state_at reached known ≡ (judge_script (take n items)).ok
-  pub codes_are : codes ≡ (judge_script (take n items)).codes
+-- the items up to those that are left are judged
+pub record AreJudgedTo (items : Exprs) (left : List CodeExpr) (known : Known) (reached : Bool) (codes : List Diagnostic) : Type 0 where
+  pub script : ScriptJudgement
+  pub ok_is : state_at reached known ≡ script.ok
+  pub codes_are : codes ≡ script.codes
+  pub goes_on : then_items script (exprs_view left) ≡ judge_script items
 
-pub all_judged : (items : List Item) (n : ℕ) (known : Known) (reached : Bool) (codes : List Diagnostic) → length items ≤ n → AreJudgedTo items n known reached codes → (judge_script items).codes ≡ codes
-all_judged items n known reached codes past judged = ap (λ is. (judge_script is).codes) (sym (take_all n items past)) ∙ sym judged.codes_are
+-- none of them is judged yet
+pub none_judged : (items : Exprs) (all : List CodeExpr) (known : Known) (codes : List Diagnostic) → alive known ≡ start → codes ≡ [] → exprs_view all ≡ items → AreJudgedTo items all known true codes
+none_judged items all known codes starts none are = record {
+  script = record { kind = only tag.Null; ok = start; codes = [] };
+  ok_is = starts;
+  codes_are = none;
+  goes_on = ap judge_script are;
+}
+
+pub all_judged : (items : Exprs) (all : List CodeExpr) (n : ℕ) (known : Known) (reached : Bool) (codes : List Diagnostic) → length all ≤ n → AreJudgedTo items (drop n all) known reached codes → (judge_script items).codes ≡ codes
+all_judged items all n known reached codes past judged =
+    ap (λ j. j.codes) (sym judged.goes_on ∙ ap (λ left. then_items judged.script (exprs_view left)) (drop_all n all past)) ∙ sym judged.codes_are
 
 -- ---- the order of codes
 

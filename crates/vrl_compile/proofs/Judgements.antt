@@ -1,5 +1,5 @@
 -- Judgements whose states are all one, or dead.
-use Rattle.std.proofs.Common.{◌≡◌, Bool, true, false, ◌||◌, ◌&&◌, not, List, ◌++◌, Option, Some, None, if◌then◌else◌, refl, sym, ap, ◌∙◌, append-nil}
+use Rattle.std.proofs.Common.{◌≡◌, ℕ, Bool, true, false, ◌||◌, ◌&&◌, not, List, ◌++◌, Option, Some, None, if◌then◌else◌, refl, sym, ap, ◌∙◌, append-nil}
 use Rattle.std.proofs.Math.Bool.{and-false}
 use Rattle.std.proofs.Math.Path.{fun_ext}
 use Rattle.vrl_value.specs.declared.value.Tag.{Tag}
@@ -9,11 +9,12 @@ use Rattle.vrl_compile.specs.KindTags.{tags_of}
 use Rattle.vrl_diag.specs.declared.diagnostic.Diagnostic.{Diagnostic}
 use Rattle.vrl_diag.specs.declared.diagnostic.Span.{Span}
 use Rattle.vrl_compile.specs.declared.judgement.Judged.{Judged}
-use Rattle.vrl_compile.specs.declared.syntax.Operand.{Operand}
+use Rattle.vrl_syntax.specs.Tree.{Expr, expr, binary}
+use Rattle.vrl_syntax.specs.declared.root.Op.TheVariants.{Plus, Coalesce}
 use Rattle.vrl_compile.specs.Addition.{only_where}
+use Rattle.vrl_compile.specs.Built.{Place, field, variable}
 use Rattle.vrl_compile.specs.Judged.{judgement_of, state_at, with_code}
-use Rattle.vrl_compile.specs.Judgement.{Known, State, dead, alive, is_alive, join, join_known, join_kinds, Judgement, nothing, judge, judge_plus, judge_coalesce, plus_kind, plus_may_succeed, plus_may_fail, needless, read_kind}
-use Rattle.vrl_compile.specs.Syntax.{Expr, operand, plus}
+use Rattle.vrl_compile.specs.Judgement.{Known, dead, alive, is_alive, join, join_known, join_kinds, Judgement, gives, judge, judge_plus, judge_coalesce, judge_read, judge_variable, plus_kind, plus_may_succeed, plus_may_fail, needless, start_of_right, read_kind}
 use Rattle.vrl_compile.proofs.Environments.{same_known}
 
 -- ---- states
@@ -76,14 +77,13 @@ judge_plus-by_parts known l r sum poisoned kind ok fail codes =
       failed known (l.poisoned || r.poisoned) l.fail r.fail r.ok (plus_may_fail (tags_of l.kind) (tags_of r.kind)),
     ) refl
 
--- no sum is judged in a dead state
-judge_plus-nothing : judge_plus nothing nothing ≡ nothing
-unfolding plus_kind plus_may_succeed plus_may_fail
-judge_plus-nothing = refl
-
-pub judge-plus : (e : Expr) (o : Operand) (state : State) → judge_plus (judge e state) (judge (operand o) (judge e state).ok) ≡ judge (plus e (operand o)) state
-judge-plus e o dead = judge_plus-nothing
-judge-plus e o (alive known) = refl
+-- a sum, by the judgements of its sides
+pub plus_judged : (known : Known) (span : Span) (l r : Expr) (left right whole : Judged) → judgement_of left known ≡ judge l (alive known) → judgement_of right known ≡ judge r (state_at left.ok known)
+    → judgement_of whole known ≡ judge_plus (judgement_of left known) (judgement_of right known) → judgement_of whole known ≡ judge (expr span (binary Plus l r)) (alive known)
+plus_judged known span l r left right whole left_is right_is both =
+    both
+    ∙ ap (λ j. judge_plus j (judgement_of right known)) left_is
+    ∙ ap (judge_plus (judge l (alive known))) (right_is ∙ ap (λ j. judge r j.ok) left_is)
 
 -- ---- `??`
 
@@ -107,9 +107,14 @@ judge_coalesce-by_parts known span l r whole poisoned kind ok fail codes =
     let needless_code = with_needless span (judgement_of l known) (l.codes.items ++ r.codes.items) (l.poisoned || l.fail) (ap (λ b. l.poisoned || b) (is_alive-state_at known l.fail)) in
     rw (kind, ok, fail, codes, poisoned, join-state_at known l.ok r.ok, handled known (l.poisoned || r.poisoned) r.fail, needless_code) refl
 
-reached : (known : Known) (poisoned fail : Bool) → state_at (not poisoned && fail) known ≡ (if poisoned then dead else state_at fail known)
-reached known true fail = refl
-reached known false fail = refl
+-- a `??`, by the judgements of its sides
+pub coalesce_judged : (known : Known) (span : Span) (l r : Expr) (left right whole : Judged) (reached : Bool) → judgement_of left known ≡ judge l (alive known) → state_at reached known ≡ start_of_right (judgement_of left known)
+    → judgement_of right known ≡ judge r (state_at reached known) → judgement_of whole known ≡ judge_coalesce span (judgement_of left known) (judgement_of right known)
+    → judgement_of whole known ≡ judge (expr span (binary Coalesce l r)) (alive known)
+coalesce_judged known span l r left right whole reached left_is starts right_is both =
+    both
+    ∙ ap (λ j. judge_coalesce span j (judgement_of right known)) left_is
+    ∙ ap (judge_coalesce span (judge l (alive known))) (right_is ∙ ap (judge r) starts ∙ ap (λ j. judge r (start_of_right j)) left_is)
 
 -- ---- reads
 
@@ -127,6 +132,17 @@ read_kind-at K tag.Pattern = ap (λ b. without K tag.Absent tag.Pattern || b) (a
 read_kind-at K tag.List = ap (λ b. without K tag.Absent tag.List || b) (and-false (K tag.Absent))
 read_kind-at K tag.Object = ap (λ b. without K tag.Absent tag.Object || b) (and-false (K tag.Absent))
 read_kind-at K tag.Absent = ap (λ b. without K tag.Absent tag.Absent || b) (and-false (K tag.Absent))
+
+-- a field that is read, by its kind
+pub field_read : (span : Span) (known : Known) (target : Option Place) (place : Place) (name : List ℕ) (K : Tags) (j : Judgement) → Some place ≡ target → place ≡ field name → K ≡ read_kind (known.fields name) → j ≡ gives K known
+    → j ≡ judge_read span target known
+field_read span known target place name K j at is kind given = given ∙ ap (λ k. gives k known) kind ∙ ap (λ p. judge_read span (Some p) known) (sym is) ∙ ap (λ p. judge_read span p known) at
+
+-- and a variable
+pub variable_read : (span : Span) (known : Known) (target : Option Place) (place : Place) (name : List ℕ) (K : Option Tags) (j : Judgement) → Some place ≡ target → place ≡ variable name → K ≡ known.variables name
+    → j ≡ judge_variable span known K → j ≡ judge_read span target known
+variable_read span known target place name K j at is kind given =
+    given ∙ ap (judge_variable span known) kind ∙ ap (λ p. judge_read span (Some p) known) (sym is) ∙ ap (λ p. judge_read span p known) at
 
 pub read_kind-by_parts : (K : Tags) → union (without K tag.Absent) (only_where (K tag.Absent) tag.Null) ≡ read_kind K
 read_kind-by_parts K = fun_ext (read_kind-at K)

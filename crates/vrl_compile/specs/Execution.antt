@@ -3,7 +3,7 @@ use Rattle.std.specs.Prelude.{◌++◌, codes}
 use Rattle.vrl_value.specs.Tag.{word_of}
 use Rattle.vrl_value.specs.Tree.{Tree}
 use Rattle.vrl_value.specs.View.{tree_of, members_of}
-use Rattle.vrl_compile.specs.Meaning.{Store, Outcome, value, error, sum_of}
+use Rattle.vrl_compile.specs.Meaning.{Store, Outcome, value, error, not_built, sum_of}
 use Rattle.vrl_compile.specs.declared.execution.Store.{Store as CodeStore}
 use Rattle.vrl_compile.specs.declared.execution.Outcome.{Outcome as CodeOutcome}
 use Rattle.vrl_compile.specs.declared.execution.Outcome.TheVariants as code
@@ -16,8 +16,9 @@ store_view store = record { event = tree_of store.event; variables = members_of 
 abbrev pub outcome_view : CodeOutcome → Outcome
 outcome_view (code.Value v) = value (tree_of v)
 outcome_view (code.CannotAdd left right) = error (codes "cannot apply + to " ++ (word_of left ++ (codes " and " ++ word_of right)))
+outcome_view code.NotBuilt = not_built
 
--- the sum of what came before and a value; an error stays
-abbrev pub sum_with : Outcome → Tree → Outcome
-sum_with (value v) w = sum_of v w
-sum_with (error text) w = error text
+-- the sum of a value and what came behind it; an error stays
+abbrev pub sum_with : Tree → Outcome → Outcome
+sum_with v (value w) = sum_of v w
+sum_with v (error text) = error text

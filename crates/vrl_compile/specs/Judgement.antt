@@ -1,19 +1,17 @@
 -- The judgement: what a state and an expression give, before any event is there. The rules are those of the Vector Remap
 -- Language, which refuses a script that leaves an error unhandled; the codes 100, 103, 651 and 701 are of its error reference.
-use Rattle.std.specs.Prelude.{ℕ, Bool, true, false, ◌||◌, ◌&&◌, not, ◌==◌, List, [], ◌∷◌, ◌++◌, Option, Some, None, is_some, bytes_eq, fold, if◌then◌else◌}
+-- A form that isn't built is judged to end with an error; no script with one is compiled.
+use Rattle.std.specs.Prelude.{ℕ, Bool, true, false, ◌||◌, ◌&&◌, not, ◌==◌, List, [], ◌∷◌, ◌++◌, Option, Some, None, is_some, bytes_eq, if◌then◌else◌}
 use Rattle.std.specs.List.{list_any}
 use Rattle.vrl_value.specs.declared.value.Tag.{Tag}
 use Rattle.vrl_value.specs.declared.value.Tag.TheVariants as tag
 use Rattle.vrl_compile.specs.Tags.{Tags, all_tags, same_tag, never, any, json, only, union}
 use Rattle.vrl_diag.specs.declared.diagnostic.Span.{Span}
 use Rattle.vrl_diag.specs.declared.diagnostic.Diagnostic.{Diagnostic}
-use Rattle.vrl_compile.specs.declared.syntax.Place.{Place}
-use Rattle.vrl_compile.specs.declared.syntax.Place.TheVariants.{Field, Variable}
-use Rattle.vrl_compile.specs.declared.syntax.Form.{Form}
-use Rattle.vrl_compile.specs.declared.syntax.Form.TheVariants.{Number, Text, Read}
-use Rattle.vrl_compile.specs.declared.syntax.Item.{Item}
-use Rattle.vrl_compile.specs.declared.syntax.Item.TheVariants.{Assign, Expression}
-use Rattle.vrl_compile.specs.Syntax.{Expr, operand, plus, coalesce, span_of, expr_of}
+use Rattle.vrl_syntax.specs.Tree.{Expr, expr, Form, literal, read, binary, assign, Exprs, no_exprs, exprs}
+use Rattle.vrl_syntax.specs.declared.root.Op.TheVariants.{Plus, Coalesce}
+use Rattle.vrl_value.specs.Tree.{Tree, string, integer}
+use Rattle.vrl_compile.specs.Built.{Place, field, variable, place_at, target_place}
 
 -- ---- states
 
@@ -47,8 +45,8 @@ join (alive a) dead = alive a
 join (alive a) (alive b) = alive (join_known a b)
 
 abbrev pub write_known : Place → Tags → Known → Known
-write_known (Field name) K known = record known { fields = λ f. if bytes_eq f name then K else known.fields f }
-write_known (Variable name) K known = record known { variables = λ x. if bytes_eq x name then Some K else known.variables x }
+write_known (field name) K known = record known { fields = λ f. if bytes_eq f name then K else known.fields f }
+write_known (variable name) K known = record known { variables = λ x. if bytes_eq x name then Some K else known.variables x }
 
 -- the state once a value of the kind stands at the place
 abbrev pub write : Place → Tags → State → State
@@ -78,6 +76,10 @@ nothing = record { kind = never; ok = dead; fail = dead; poisoned = false; codes
 abbrev pub gives : Tags → Known → Judgement
 gives K known = record { kind = K; ok = alive known; fail = dead; poisoned = false; codes = [] }
 
+-- what always ends with an error
+abbrev pub fails : Known → Judgement
+fails known = record { kind = never; ok = dead; fail = alive known; poisoned = false; codes = [] }
+
 abbrev pub at_span : ℕ → Span → List Diagnostic
 at_span code span = record { span = span; code = code } ∷ []
 
@@ -90,11 +92,15 @@ abbrev pub judge_variable : Span → Known → Option Tags → Judgement
 judge_variable span known (Some K) = gives K known
 judge_variable span known None = record { kind = any; ok = alive known; fail = dead; poisoned = true; codes = at_span 701 span }
 
-abbrev pub judge_form : Span → Form → Known → Judgement
-judge_form span (Number n) known = gives (only tag.Int) known
-judge_form span (Text s) known = gives (only tag.Text) known
-judge_form span (Read (Field name)) known = gives (read_kind (known.fields name)) known
-judge_form span (Read (Variable name)) known = judge_variable span known (known.variables name)
+abbrev pub judge_read : Span → Option Place → Known → Judgement
+judge_read span (Some (field name)) known = gives (read_kind (known.fields name)) known
+judge_read span (Some (variable name)) known = judge_variable span known (known.variables name)
+judge_read span None known = fails known
+
+abbrev pub judge_literal : Tree → Known → Judgement
+judge_literal (string s) known = gives (only tag.Text) known
+judge_literal (integer n) known = gives (only tag.Int) known
+judge_literal v known = fails known
 
 -- ---- operators
 
@@ -158,11 +164,17 @@ judge_coalesce span l r =
     }
 
 -- the judgement of an expression
-abbrev pub judge : Expr → State → Judgement
-judge e dead = nothing
-judge (operand o) (alive known) = judge_form o.span o.form known
-judge (plus l r) (alive known) = let left = judge l (alive known) in judge_plus left (judge r left.ok)
-judge (coalesce l r) (alive known) = let left = judge l (alive known) in judge_coalesce (span_of (coalesce l r)) left (judge r (start_of_right left))
+abbrev mutual
+  pub judge : Expr → State → Judgement
+  judge e dead = nothing
+  judge (expr span f) (alive known) = judge_form span f known
+
+  pub judge_form : Span → Form → Known → Judgement
+  judge_form span (literal v) known = judge_literal v known
+  judge_form span (read root path) known = judge_read span (place_at root path) known
+  judge_form span (binary Plus l r) known = let left = judge l (alive known) in judge_plus left (judge r left.ok)
+  judge_form span (binary Coalesce l r) known = let left = judge l (alive known) in judge_coalesce span left (judge r (start_of_right left))
+  judge_form span f known = fails known
 
 -- ---- items and scripts
 
@@ -171,13 +183,14 @@ abbrev pub unhandled : ℕ → Span → Judgement → Judgement
 unhandled code span j = if is_alive j.fail then record { kind = any; ok = j.ok; fail = dead; poisoned = true; codes = j.codes ++ at_span code span } else j
 
 -- an assignment writes the kind of its expression
-abbrev pub assigned : Place → Judgement → Judgement
-assigned place j = record j { ok = write place j.kind j.ok }
+abbrev pub judge_assign : Option Place → Judgement → Known → Judgement
+judge_assign (Some place) j known = record j { ok = write place j.kind j.ok }
+judge_assign None j known = fails known
 
-abbrev pub judge_item : Item → State → Judgement
-judge_item item dead = nothing
-judge_item (Assign span place chain) (alive known) = unhandled 103 span (assigned place (judge (expr_of chain) (alive known)))
-judge_item (Expression chain) (alive known) = unhandled 100 (span_of (expr_of chain)) (judge (expr_of chain) (alive known))
+abbrev pub judge_item : Expr → State → Judgement
+judge_item e dead = nothing
+judge_item (expr span (assign t e)) (alive known) = unhandled 103 span (judge_assign (target_place t) (judge e (alive known)) known)
+judge_item (expr span f) (alive known) = unhandled 100 span (judge_form span f known)
 
 -- the judgement of items, each in the state where the one before it ended with a value
 pub record ScriptJudgement : Type 0 where
@@ -186,11 +199,15 @@ pub record ScriptJudgement : Type 0 where
   pub ok : State
   pub codes : List Diagnostic
 
-abbrev pub then_item : ScriptJudgement → Item → ScriptJudgement
-then_item script item = let j = judge_item item script.ok in record { kind = j.kind; ok = j.ok; codes = script.codes ++ j.codes }
+abbrev pub then_item : ScriptJudgement → Expr → ScriptJudgement
+then_item script e = let j = judge_item e script.ok in record { kind = j.kind; ok = j.ok; codes = script.codes ++ j.codes }
 
-abbrev pub judge_script : List Item → ScriptJudgement
-judge_script items = fold then_item (record { kind = only tag.Null; ok = start; codes = [] }) items
+abbrev pub then_items : ScriptJudgement → Exprs → ScriptJudgement
+then_items script no_exprs = script
+then_items script (exprs e es) = then_items (then_item script e) es
+
+abbrev pub judge_script : Exprs → ScriptJudgement
+judge_script es = then_items (record { kind = only tag.Null; ok = start; codes = [] }) es
 
 -- ---- diagnostics
 

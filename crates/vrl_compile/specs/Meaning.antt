@@ -1,16 +1,13 @@
 -- The meaning: what a script does to an event and its variables, as the Vector Remap Language's expression reference has it
--- (literals, paths, variables, arithmetic, coalesce, assignment).
-use Rattle.std.specs.Prelude.{ℕ, List, [], ◌∷◌, ◌++◌, unwrap_or, codes}
+-- (literals, paths, variables, arithmetic, coalesce, assignment). A form that isn't built ends with an error of empty text; no
+-- script with one is compiled.
+use Rattle.std.specs.Prelude.{ℕ, List, [], ◌++◌, Option, Some, None, unwrap_or, codes}
 use Rattle.std.specs.Int.{w64, int_wrapping_add}
 use Rattle.vrl_value.specs.Tree.{Tree, string, integer, boolean, null, timestamp, regex, array, object, Members, no_members, put, find}
 use Rattle.vrl_value.specs.Tag.{tag_of, word_of}
-use Rattle.vrl_compile.specs.declared.syntax.Place.{Place}
-use Rattle.vrl_compile.specs.declared.syntax.Place.TheVariants.{Field, Variable}
-use Rattle.vrl_compile.specs.declared.syntax.Form.{Form}
-use Rattle.vrl_compile.specs.declared.syntax.Form.TheVariants.{Number, Text, Read}
-use Rattle.vrl_compile.specs.declared.syntax.Item.{Item}
-use Rattle.vrl_compile.specs.declared.syntax.Item.TheVariants.{Assign, Expression}
-use Rattle.vrl_compile.specs.Syntax.{Expr, operand, plus, coalesce, expr_of}
+use Rattle.vrl_syntax.specs.Tree.{Expr, expr, Form, literal, read, binary, assign, Exprs, no_exprs, exprs}
+use Rattle.vrl_syntax.specs.declared.root.Op.TheVariants.{Plus, Coalesce}
+use Rattle.vrl_compile.specs.Built.{Place, field, variable, place_at, target_place}
 
 -- ---- stores
 
@@ -31,14 +28,14 @@ fields_of (array ts) = no_members
 fields_of (object ms) = ms
 
 -- what stands at a place; null where nothing does
-abbrev pub read : Place → Store → Tree
-read (Field name) store = unwrap_or (find name (fields_of store.event)) null
-read (Variable name) store = unwrap_or (find name store.variables) null
+abbrev pub found : Place → Store → Tree
+found (field name) store = unwrap_or (find name (fields_of store.event)) null
+found (variable name) store = unwrap_or (find name store.variables) null
 
 -- the store once the value stands at the place; an event that isn't an object is replaced by one
 abbrev pub write : Place → Tree → Store → Store
-write (Field name) v store = record store { event = object (put name v (fields_of store.event)) }
-write (Variable name) v store = record store { variables = put name v store.variables }
+write (field name) v store = record store { event = object (put name v (fields_of store.event)) }
+write (variable name) v store = record store { variables = put name v store.variables }
 
 -- ---- expressions
 
@@ -63,48 +60,68 @@ sum_of (string s) null = value (string s)
 sum_of null (string t) = value (string t)
 sum_of v w = cannot_add v w
 
-abbrev pub value_of_form : Form → Store → Tree
-value_of_form (Number n) store = integer n
-value_of_form (Text s) store = string s
-value_of_form (Read place) store = read place store
+abbrev pub not_built : Outcome
+not_built = error []
+
+abbrev pub literal_outcome : Tree → Outcome
+literal_outcome (string s) = value (string s)
+literal_outcome (integer n) = value (integer n)
+literal_outcome v = not_built
+
+abbrev pub read_outcome : Option Place → Store → Outcome
+read_outcome (Some place) store = value (found place store)
+read_outcome None store = not_built
+
+abbrev pub ends : Outcome → Store → Ended
+ends outcome store = record { outcome = outcome; store = store }
 
 -- what follows where a value came; an error ends all
 abbrev pub on_value : Outcome → Store → (Tree → Store → Ended) → Ended
 on_value (value v) store next = next v store
-on_value (error text) store next = record { outcome = error text; store = store }
+on_value (error text) store next = ends (error text) store
 
 -- what follows where an error came; a value stays
 abbrev pub on_error : Outcome → Store → (Store → Ended) → Ended
-on_error (value v) store next = record { outcome = value v; store = store }
+on_error (value v) store next = ends (value v) store
 on_error (error text) store next = next store
 
 -- the meaning of an expression; what was written before an error stays
-abbrev pub eval : Expr → Store → Ended
-eval (operand o) store = record { outcome = value (value_of_form o.form store); store = store }
-eval (plus l r) store =
-    let left = eval l store in
-    on_value left.outcome left.store (λ v after. let right = eval r after in on_value right.outcome right.store (λ w end. record { outcome = sum_of v w; store = end }))
-eval (coalesce l r) store = let left = eval l store in on_error left.outcome left.store (λ after. eval r after)
+abbrev mutual
+  pub eval : Expr → Store → Ended
+  eval (expr span f) store = eval_form f store
+
+  pub eval_form : Form → Store → Ended
+  eval_form (literal v) store = ends (literal_outcome v) store
+  eval_form (read root path) store = ends (read_outcome (place_at root path) store) store
+  eval_form (binary Plus l r) store =
+      let left = eval l store in
+      on_value left.outcome left.store (λ v after. let right = eval r after in on_value right.outcome right.store (λ w end. ends (sum_of v w) end))
+  eval_form (binary Coalesce l r) store = let left = eval l store in on_error left.outcome left.store (λ after. eval r after)
+  eval_form f store = ends not_built store
 
 -- ---- items and scripts
 
 -- an assignment writes its value, and gives it
-abbrev pub run_item : Item → Store → Ended
-run_item (Assign span place chain) store = let given = eval (expr_of chain) store in on_value given.outcome given.store (λ v after. record { outcome = value v; store = write place v after })
-run_item (Expression chain) store = eval (expr_of chain) store
+abbrev pub run_assign : Option Place → Expr → Store → Ended
+run_assign (Some place) e store = let given = eval e store in on_value given.outcome given.store (λ v after. ends (value v) (write place v after))
+run_assign None e store = ends not_built store
+
+abbrev pub run_item : Expr → Store → Ended
+run_item (expr span (assign t e)) store = run_assign (target_place t) e store
+run_item (expr span f) store = eval_form f store
 
 -- items in order, each in the store that the one before it left; the value of the last is their value
-abbrev pub run_items : Tree → List Item → Store → Ended
-run_items last [] store = record { outcome = value last; store = store }
-run_items last (item ∷ items) store = let given = run_item item store in on_value given.outcome given.store (λ v after. run_items v items after)
+abbrev pub run_items : Tree → Exprs → Store → Ended
+run_items last no_exprs store = ends (value last) store
+run_items last (exprs e es) store = let given = run_item e store in on_value given.outcome given.store (λ v after. run_items v es after)
 
 -- the store that a run starts with
 abbrev pub store_of : Tree → Store
 store_of event = record { event = event; variables = no_members }
 
 -- how a script ends over an event; an error here is one that the script did not handle
-abbrev pub run_script : List Item → Tree → Ended
-run_script items event = run_items null items (store_of event)
+abbrev pub run_script : Exprs → Tree → Ended
+run_script es event = run_items null es (store_of event)
 
 abbrev pub IsUnhandled : Outcome → Type 0
 IsUnhandled (value v) = ⊥

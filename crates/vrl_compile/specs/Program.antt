@@ -1,8 +1,8 @@
--- What an accepted script is: a word of the code for the items of `Script`.
-use Rattle.std.specs.Prelude.{List}
-use Rattle.vrl_compile.specs.declared.syntax.Item.{Item}
+-- What an accepted script is: a word of the code.
+use Rattle.vrl_syntax.specs.Tree.{Exprs}
+use Rattle.vrl_syntax.specs.View.{exprs_of}
 use Rattle.vrl_compile.specs.declared.script.Program.{Program}
 
--- its items in order
-abbrev pub items_of : Program → List Item
-items_of program = program.items.items
+-- its items as a tree
+abbrev pub items_of : Program → Exprs
+items_of program = exprs_of program.items

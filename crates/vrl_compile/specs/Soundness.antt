@@ -7,8 +7,7 @@ use Rattle.vrl_value.specs.declared.value.Tag.{Tag}
 use Rattle.vrl_value.specs.declared.value.Tag.TheVariants as tag
 use Rattle.vrl_compile.specs.Tags.{Tags, tag_of, Inhabits}
 use Rattle.vrl_diag.specs.declared.diagnostic.Diagnostic.{Diagnostic}
-use Rattle.vrl_compile.specs.declared.syntax.Item.{Item}
-use Rattle.vrl_compile.specs.Syntax.{Expr}
+use Rattle.vrl_syntax.specs.Tree.{Expr, Exprs}
 use Rattle.vrl_compile.specs.Judgement.{Known, State, dead, alive, judge, judge_script, is_error, plus_tag}
 use Rattle.vrl_compile.specs.Meaning.{Store, fields_of, Outcome, value, error, eval, run_script, sum_of}
 
@@ -48,16 +47,16 @@ abbrev pub IsDeclared : Tree → Type 0
 IsDeclared event = IsTrue (is_object event) × IsTrue (is_json event)
 
 -- the script ends with a value, which is of its kind, and leaves a store that fits its state
-abbrev pub IsSoundOver : List Item → Tree → Type 0
+abbrev pub IsSoundOver : Exprs → Tree → Type 0
 IsSoundOver items event = let judged = judge_script items in let ended = run_script items event in IsSoundEnd judged.kind judged.ok dead ended.outcome ended.store
 
 -- so it never ends with an error that it did not handle, over any event of the declared kind
-abbrev pub IsSoundScript : List Item → Type 0
+abbrev pub IsSoundScript : Exprs → Type 0
 IsSoundScript items = (event : Tree) → IsDeclared event → IsSoundOver items event
 
 -- of every script without an error code
 abbrev pub ScriptsAreSound : Type 0
-ScriptsAreSound = (items : List Item) → HasNoError (judge_script items).codes → IsSoundScript items
+ScriptsAreSound = (items : Exprs) → HasNoError (judge_script items).codes → IsSoundScript items
 
 -- ---- the table of `+`
 

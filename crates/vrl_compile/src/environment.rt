@@ -2,9 +2,10 @@ ghost use Rattle.std.specs.Prelude.{◌≡◌, IfOk, OnOk};
 ghost use Rattle.vrl_compile.specs.KindTags.{tags_of};
 ghost use Rattle.vrl_compile.specs.Environment.{known_of, variable_kind};
 ghost use Rattle.vrl_compile.specs.Judgement.{alive, start, write_known};
+ghost use Rattle.vrl_compile.specs.Places.{place_view};
 
 use crate::kind::{Kind, join};
-use crate::syntax::Place;
+use crate::place::Place;
 use std::alloc::Global;
 use std::collections::BTreeMap;
 use vrl_value::{Memory, Tag};
@@ -51,7 +52,7 @@ impl Environment {
     /// Writes a kind at a place.
     pub(crate) fn write(&mut self, alloc: Global, place: &Place, kind: Kind) -> Result<(), Memory>
         ensures { OnOk result (known_of self.new
-            ≡ write_known place.now (tags_of kind) (known_of self.old)) }
+            ≡ write_known (place_view place.now) (tags_of kind) (known_of self.old)) }
     {
         match place {
             Place::Field(name) => {

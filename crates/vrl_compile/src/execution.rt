@@ -1,15 +1,19 @@
 ghost use Rattle.std.specs.Prelude.{◌≡◌, IfOk, IsTrue, OnOk, option_map, unwrap_or};
+ghost use Rattle.vrl_syntax.specs.View.{expr_of};
 ghost use Rattle.vrl_value.specs.Tree.{is_json, null};
 ghost use Rattle.vrl_value.specs.View.{tree_of};
+ghost use Rattle.vrl_compile.specs.Built.{place_at, target_place};
 ghost use Rattle.vrl_compile.specs.Execution.{outcome_view, store_view, sum_with};
-ghost use Rattle.vrl_compile.specs.Meaning.{eval, read, run_item, run_script, sum_of, value_of_form, write, IsUnhandled};
+ghost use Rattle.vrl_compile.specs.Meaning.{eval, found, literal_outcome, read_outcome, run_assign, run_item, run_script, sum_of, write, IsUnhandled};
+ghost use Rattle.vrl_compile.specs.Places.{place_view};
 ghost use Rattle.vrl_compile.specs.Program.{items_of};
-ghost use Rattle.vrl_compile.specs.Syntax.{expr_of};
 
+use crate::place::{Place, place_at, target_place};
 use crate::script::Program;
-use crate::syntax::{Chain, Form, Item, Operator, Place};
 use std::alloc::Global;
 use std::collections::BTreeMap;
+use vrl_path::Path;
+use vrl_syntax::{Expr, Form, Op, Root, Target};
 use vrl_value::{Chars, Fields, Memory, Tag, Value, members_stay_json};
 
 /// Runs an accepted script over an event, and gives the event as the script leaves it. A field that the script
@@ -34,7 +38,7 @@ pub fn run(alloc: Global, program: &Program, event: Value) -> Result<Value, Memo
         event,
         variables: Fields::new(BTreeMap::new(alloc)),
     };
-    for item in &program.items {
+    for item in program.items.as_slice() {
         store.run_item(alloc, item)?;
     }
     Ok(store.event)
@@ -47,17 +51,19 @@ enum Outcome {
     Value(Value),
     // With the error that values of these tags can't be added.
     CannotAdd(Tag, Tag),
+    // With that of a form that isn't built.
+    NotBuilt,
 }
 
 impl Outcome {
-    // The sum of what came before and a value; an error stays.
-    fn plus(self, right: Value) -> Result<Outcome, Memory>
+    // The sum of a value and what came behind it; an error stays.
+    fn added_to(self, left: Value) -> Result<Outcome, Memory>
         ensures { IfOk result (λ sum. outcome_view sum
-            ≡ sum_with (outcome_view self) (tree_of right)) }
+            ≡ sum_with (tree_of left) (outcome_view self)) }
     {
         match self {
-            Outcome::Value(left) => sum(left, right),
-            Outcome::CannotAdd(..) => Ok(self),
+            Outcome::Value(right) => sum(left, right),
+            Outcome::CannotAdd(..) | Outcome::NotBuilt => Ok(self),
         }
     }
 }
@@ -94,7 +100,7 @@ impl Store {
     // What stands at a place, if anything does.
     fn find(&self, place: &Place) -> Option<&Value>
         ensures { unwrap_or (option_map (λ value. tree_of value.now) result) null
-            ≡ read place.now (store_view self.now) }
+            ≡ found (place_view place.now) (store_view self.now) }
     {
         match (place, &self.event) {
             (Place::Field(name), Value::Object(fields)) => fields.get(name.as_str()),
@@ -103,42 +109,48 @@ impl Store {
         }
     }
 
-    // The value that an operand has.
-    fn value_of(&self, alloc: Global, form: &Form) -> Result<Value, Memory>
-        ensures { IfOk result (λ value. tree_of value
-            ≡ value_of_form form.now (store_view self.now)) }
+    // What stands at a path; null where nothing does.
+    fn read(&self, alloc: Global, root: &Root, path: &Path) -> Result<Outcome, Memory>
+        ensures { IfOk result (λ outcome. outcome_view outcome
+            ≡ read_outcome (place_at root.now path.now) (store_view self.now)) }
     {
-        match form {
-            Form::Number(number) => Ok(Value::Int(*number)),
-            Form::Text(text) => Ok(Value::Text(text.copy(alloc)?)),
-            Form::Read(place) => match self.find(place) {
-                Some(value) => value.copy(alloc),
-                None => Ok(Value::Null),
+        match place_at(root, path) {
+            Some(place) => match self.find(&place) {
+                Some(value) => Ok(Outcome::Value(value.copy(alloc)?)),
+                None => Ok(Outcome::Value(Value::Null)),
             },
+            None => Ok(Outcome::NotBuilt),
         }
     }
 
-    // How a chain ends. What stands to the right of a `??` is evaluated only where an error stands on its
+    // How an expression ends. What stands to the right of a `??` is evaluated only where an error stands on its
     // left.
-    fn evaluate(&self, alloc: Global, chain: &Chain) -> Result<Outcome, Memory>
+    fn evaluate(&self, alloc: Global, expr: &Expr) -> Result<Outcome, Memory>
         ensures { IfOk result (λ outcome. outcome_view outcome
-            ≡ (eval (expr_of chain.now) (store_view self.now)).outcome) }
+            ≡ (eval (expr_of expr.now) (store_view self.now)).outcome) }
     {
-        let mut outcome = Outcome::Value(self.value_of(alloc, &chain.first.form)?);
-        for (operator, operand) in &chain.others {
-            outcome = match (operator, outcome) {
-                (Operator::Coalesce, Outcome::Value(value)) => return Ok(Outcome::Value(value)),
-                (Operator::Coalesce, _) => Outcome::Value(self.value_of(alloc, &operand.form)?),
-                (Operator::Plus, sum) => sum.plus(self.value_of(alloc, &operand.form)?)?,
-            };
+        match &expr.form {
+            Form::Literal(value) => literal(alloc, value),
+            Form::Read(root, path) => self.read(alloc, root, path),
+            Form::Binary(op, left, right) => match op {
+                Op::Plus => match self.evaluate(alloc, left)? {
+                    Outcome::Value(left) => self.evaluate(alloc, right)?.added_to(left),
+                    error => Ok(error),
+                },
+                Op::Coalesce => match self.evaluate(alloc, left)? {
+                    Outcome::Value(value) => Ok(Outcome::Value(value)),
+                    _ => self.evaluate(alloc, right),
+                },
+                _ => Ok(Outcome::NotBuilt),
+            },
+            _ => Ok(Outcome::NotBuilt),
         }
-        Ok(outcome)
     }
 
     // Puts a value at a place. An event that isn't an object is replaced by one.
     fn write(&mut self, alloc: Global, place: &Place, value: Value) -> Result<(), Memory>
         ensures { OnOk result (store_view self.new
-            ≡ write place.now (tree_of value) (store_view self.old)) }
+            ≡ write (place_view place.now) (tree_of value) (store_view self.old)) }
     {
         match place {
             Place::Field(name) => {
@@ -157,17 +169,40 @@ impl Store {
     }
 
     // Runs an item that ends with a value. An expression writes nothing, so it is left out.
-    fn run_item(&mut self, alloc: Global, item: &Item) -> Result<(), Memory>
-        requires { ¬ IsUnhandled (run_item item.now (store_view self.old)).outcome }
+    fn run_item(&mut self, alloc: Global, item: &Expr) -> Result<(), Memory>
+        requires { ¬ IsUnhandled (run_item (expr_of item.now) (store_view self.old)).outcome }
         ensures { OnOk result (store_view self.new
-            ≡ (run_item item.now (store_view self.old)).store) }
+            ≡ (run_item (expr_of item.now) (store_view self.old)).store) }
     {
-        match item {
-            Item::Assign(_, place, chain) => match self.evaluate(alloc, chain)? {
-                Outcome::Value(value) => self.write(alloc, place, value),
-                Outcome::CannotAdd(..) => unreachable!(),
-            },
-            Item::Expression(_) => Ok(()),
+        match &item.form {
+            Form::Assign(target, value) => self.assign(alloc, target, value),
+            _ => Ok(()),
         }
+    }
+
+    // Runs an assignment that ends with a value.
+    fn assign(&mut self, alloc: Global, target: &Target, value: &Expr) -> Result<(), Memory>
+        requires { ¬ IsUnhandled (run_assign (target_place target.now) (expr_of value.now)
+            (store_view self.old)).outcome }
+        ensures { OnOk result (store_view self.new ≡ (run_assign (target_place target.now)
+            (expr_of value.now) (store_view self.old)).store) }
+    {
+        let Some(place) = target_place(target) else {
+            unreachable!()
+        };
+        match self.evaluate(alloc, value)? {
+            Outcome::Value(value) => self.write(alloc, &place, value),
+            _ => unreachable!(),
+        }
+    }
+}
+
+// The value of a literal.
+fn literal(alloc: Global, value: &Value) -> Result<Outcome, Memory>
+    ensures { IfOk result (λ outcome. outcome_view outcome ≡ literal_outcome (tree_of value.now)) }
+{
+    match value {
+        Value::Text(_) | Value::Int(_) => Ok(Outcome::Value(value.copy(alloc)?)),
+        _ => Ok(Outcome::NotBuilt),
     }
 }

@@ -1,25 +1,29 @@
-ghost use Rattle.std.specs.Prelude.{◌≡◌, ◌||◌, ◌&&◌, not, ◌++◌, IfOk, Option as SpecOption, if◌then◌else◌};
+ghost use Rattle.std.specs.Prelude.{◌≡◌, ◌||◌, ◌&&◌, not, ◌++◌, IfOk, if◌then◌else◌};
+ghost use Rattle.vrl_diag.specs.declared.diagnostic.Span.{Span};
+ghost use Rattle.vrl_syntax.specs.View.{expr_of, exprs_of};
+ghost use Rattle.vrl_value.specs.View.{tree_of};
 ghost use Rattle.vrl_compile.specs.Tags.{any, union};
 ghost use Rattle.vrl_compile.specs.KindTags.{tags_of};
 ghost use Rattle.vrl_compile.specs.Answer.{AreOrdered};
+ghost use Rattle.vrl_compile.specs.Built.{place_at, target_place};
 ghost use Rattle.vrl_compile.specs.Environment.{known_of, variable_kind};
-ghost use Rattle.vrl_compile.specs.Judged.{IsEnding, IsJudged, IsPart, across, judgement_of, next_left, next_sum, state_at, with_code, with_left};
-ghost use Rattle.vrl_compile.specs.Judgement.{Known, alive, gives, judge, judge_coalesce, judge_form, judge_item, judge_plus, judge_script, judge_variable, nothing, plus_kind, plus_may_fail, plus_may_succeed, read_kind, start_of_right};
-ghost use Rattle.vrl_compile.specs.Syntax.{Expr, expr_of, operand, span_of};
+ghost use Rattle.vrl_compile.specs.Judged.{IsEnding, judgement_of, state_at, with_code};
+ghost use Rattle.vrl_compile.specs.Judgement.{Known, alive, fails, gives, judge, judge_assign, judge_coalesce, judge_item, judge_literal, judge_plus, judge_read, judge_script, judge_variable, nothing, plus_kind, plus_may_fail, plus_may_succeed, read_kind, start_of_right, unhandled};
 
 use crate::addition::{kind_of_sum, kind_where, may_fail, may_succeed};
 use crate::environment::Environment;
 use crate::kind::{Kind, has, join, without};
-use crate::syntax::{Chain, Form, Item, Operand, Operator, Place};
+use crate::place::{Place, place_at, target_place};
 use std::alloc::Global;
-use vrl_diag::{Diagnostic, Span};
-use vrl_value::{Memory, Tag};
+use vrl_diag::{Diagnostic, Span, code};
+use vrl_path::Path;
+use vrl_syntax::{Expr, Exprs, Form, Op, Root, Target};
+use vrl_value::{Memory, Tag, Value};
 
 // What an expression, which starts where an environment is known, is judged to be. It changes nothing that is known,
 // so each state is that environment or dead.
 #[derive(Drop)]
 struct Judged {
-    span: Span,
     // The kind of its value.
     kind: Kind,
     // Whether it may end with a value.
@@ -31,13 +35,6 @@ struct Judged {
     codes: Vec<Diagnostic>,
 }
 
-// The part of a chain that is read: what stands before its last `??`, and the sum behind that.
-#[derive(Drop)]
-struct Part {
-    left: Option<Judged>,
-    sum: Judged,
-}
-
 // How an item ends: whether a way leads behind it, and what is wrong with it.
 #[derive(Drop)]
 struct Ending {
@@ -46,14 +43,14 @@ struct Ending {
 }
 
 /// What is wrong with the items of a script, in order.
-pub(crate) fn diagnostics_of(alloc: Global, items: &[Item]) -> Result<Vec<Diagnostic>, Memory>
+pub(crate) fn diagnostics_of(alloc: Global, items: &Exprs) -> Result<Vec<Diagnostic>, Memory>
     ensures { IfOk result (λ diagnostics.
-        AreOrdered (judge_script items.now).codes diagnostics.items) }
+        AreOrdered (judge_script (exprs_of items.now)).codes diagnostics.items) }
 {
     let mut environment = Environment::new(alloc);
     let mut alive = true;
     let mut codes = Vec::new(alloc);
-    for item in items {
+    for item in items.as_slice() {
         let ending = end_of(alloc, item, alive, &mut environment)?;
         alive = ending.alive;
         codes.extend_from_slice(&ending.codes)?;
@@ -65,51 +62,78 @@ pub(crate) fn diagnostics_of(alloc: Global, items: &[Item]) -> Result<Vec<Diagno
 // The end of an item. Where no way leads to it, it has no codes.
 fn end_of(
     alloc: Global,
-    item: &Item,
+    item: &Expr,
     alive: bool,
     environment: &mut Environment,
 ) -> Result<Ending, Memory>
     ensures { IfOk result (IsEnding (known_of environment.new)
-        (judge_item item.now (state_at alive (known_of environment.old)))) }
+        (judge_item (expr_of item.now) (state_at alive (known_of environment.old)))) }
 {
-    if alive {
-        end_of_reached(alloc, item, environment)
-    } else {
-        Ok(Ending {
+    if !alive {
+        return Ok(Ending {
             alive,
             codes: Vec::new(alloc),
-        })
+        });
+    }
+    match &item.form {
+        Form::Assign(target, value) => {
+            end_of_assignment(alloc, item.span, target, value, environment)
+        }
+        _ => end_of_expression(alloc, item, environment),
     }
 }
 
-// The end of an item that a way leads to. An assignment writes the kind of its expression.
-fn end_of_reached(
+// The end of an assignment that a way leads to. It writes the kind of its expression.
+fn end_of_assignment(
     alloc: Global,
-    item: &Item,
+    span: Span,
+    target: &Target,
+    value: &Expr,
     environment: &mut Environment,
 ) -> Result<Ending, Memory>
-    ensures { IfOk result (IsEnding (known_of environment.new)
-        (judge_item item.now (alive (known_of environment.old)))) }
+    ensures { let known = known_of environment.old in IfOk result (IsEnding (known_of environment.new)
+        (unhandled 103 span (judge_assign (target_place target.now)
+        (judge (expr_of value.now) (alive known)) known))) }
 {
-    match item {
-        Item::Assign(span, place, chain) => {
-            let judged = judge_chain(alloc, chain, environment)?;
-            let codes = with_code(103, *span, judged.fail, judged.codes)?;
-            environment.write(alloc, place, judged.kind)?;
-            Ok(Ending {
-                alive: judged.ok,
-                codes,
-            })
-        }
-        Item::Expression(chain) => {
-            let judged = judge_chain(alloc, chain, environment)?;
-            let codes = with_code(100, judged.span, judged.fail, judged.codes)?;
-            Ok(Ending {
-                alive: judged.ok,
-                codes,
-            })
-        }
-    }
+    let Some(place) = target_place(target) else {
+        return Ok(Ending {
+            alive: false,
+            codes: with_code(
+                code::UNHANDLED_FALLIBLE_ASSIGNMENT,
+                span,
+                true,
+                Vec::new(alloc),
+            )?,
+        });
+    };
+    let judged = judge(alloc, value, environment, true)?;
+    let codes = with_code(
+        code::UNHANDLED_FALLIBLE_ASSIGNMENT,
+        span,
+        judged.fail,
+        judged.codes,
+    )?;
+    environment.write(alloc, &place, judged.kind)?;
+    Ok(Ending {
+        alive: judged.ok,
+        codes,
+    })
+}
+
+// The end of an expression alone that a way leads to.
+fn end_of_expression(
+    alloc: Global,
+    item: &Expr,
+    environment: &Environment,
+) -> Result<Ending, Memory>
+    ensures { let known = known_of environment.now in IfOk result (IsEnding known
+        (unhandled 100 item.now.span (judge (expr_of item.now) (alive known)))) }
+{
+    let judged = judge(alloc, item, environment, true)?;
+    Ok(Ending {
+        alive: judged.ok,
+        codes: with_code(code::UNHANDLED_ERROR, item.span, judged.fail, judged.codes)?,
+    })
 }
 
 // The codes, and one more where it stands.
@@ -127,72 +151,70 @@ fn with_code(
     Ok(codes)
 }
 
-// The judgement of an expression where an environment is known.
-fn judge_chain(alloc: Global, chain: &Chain, environment: &Environment) -> Result<Judged, Memory>
-    ensures { IfOk result (IsJudged (known_of environment.now) (span_of (expr_of chain.now))
-        (judge (expr_of chain.now) (alive (known_of environment.now)))) }
-{
-    let sum = judge_operand(alloc, &chain.first, environment, true)?;
-    let mut part = Part { left: None, sum };
-    for (operator, right) in &chain.others {
-        part = read_on(alloc, part, *operator, right, environment)?;
-    }
-    whole(alloc, part)
-}
-
-// The part with one more operator and operand.
-fn read_on(
+// The judgement of an expression, which is reached or not.
+fn judge(
     alloc: Global,
-    part: Part,
-    operator: Operator,
-    right: &Operand,
+    expr: &Expr,
     environment: &Environment,
-) -> Result<Part, Memory>
-    ensures { (left : SpecOption Expr) (sum : Expr)
-        → IsPart (known_of environment.now) left sum part
-        → IfOk result (IsPart (known_of environment.now) (next_left left sum operator)
-        (next_sum sum operator right.now)) }
+    alive: bool,
+) -> Result<Judged, Memory>
+    ensures { let known = known_of environment.now in IfOk result (λ judged. judgement_of judged known
+        ≡ judge (expr_of expr.now) (state_at alive known)) }
 {
-    match operator {
-        Operator::Plus => {
-            let Part { left, sum } = part;
-            let right = judge_operand(alloc, right, environment, sum.ok)?;
-            Ok(Part {
-                left,
-                sum: add(alloc, sum, right)?,
-            })
-        }
-        Operator::Coalesce => {
-            let left = whole(alloc, part)?;
-            let sum = judge_operand(alloc, right, environment, reaches_right(&left))?;
-            Ok(Part {
-                left: Some(left),
-                sum,
-            })
-        }
+    if !alive {
+        return unreached(alloc);
+    }
+    match &expr.form {
+        Form::Literal(value) => judge_literal(alloc, value),
+        Form::Read(root, path) => judge_read(alloc, expr.span, root, path, environment),
+        Form::Binary(op, left, right) => match op {
+            Op::Plus => {
+                let left = judge(alloc, left, environment, true)?;
+                let right = judge(alloc, right, environment, left.ok)?;
+                add(alloc, left, right)
+            }
+            Op::Coalesce => {
+                let left = judge(alloc, left, environment, true)?;
+                let right = judge(alloc, right, environment, reaches_right(&left))?;
+                coalesce(alloc, expr.span, left, right)
+            }
+            _ => failing(alloc),
+        },
+        _ => failing(alloc),
     }
 }
 
-// The judgement of a part as a whole expression.
-fn whole(alloc: Global, part: Part) -> Result<Judged, Memory>
-    ensures { (known : Known) (left : SpecOption Expr) (sum : Expr) → IsPart known left sum part
-        → IfOk result (IsJudged known (span_of (with_left left sum))
-        (judge (with_left left sum) (alive known))) }
+// The judgement of what isn't reached.
+fn unreached(alloc: Global) -> Result<Judged, Memory>
+    ensures { (known : Known) → IfOk result (λ judged. judgement_of judged known ≡ nothing) }
 {
-    let Part { left, sum } = part;
-    match left {
-        None => Ok(sum),
-        Some(left) => coalesce(alloc, left, sum),
-    }
+    Ok(Judged {
+        kind: Kind::never(alloc)?,
+        ok: false,
+        fail: false,
+        poisoned: false,
+        codes: Vec::new(alloc),
+    })
+}
+
+// The judgement of what always ends with an error.
+fn failing(alloc: Global) -> Result<Judged, Memory>
+    ensures { (known : Known) → IfOk result (λ judged. judgement_of judged known ≡ fails known) }
+{
+    Ok(Judged {
+        kind: Kind::never(alloc)?,
+        ok: false,
+        fail: true,
+        poisoned: false,
+        codes: Vec::new(alloc),
+    })
 }
 
 // The judgement of `??` between two expressions.
-fn coalesce(alloc: Global, left: Judged, right: Judged) -> Result<Judged, Memory>
-    ensures { (known : Known) → IfOk result (IsJudged known (across left.span right.span)
-        (judge_coalesce (across left.span right.span)
-        (judgement_of left known) (judgement_of right known))) }
+fn coalesce(alloc: Global, span: Span, left: Judged, right: Judged) -> Result<Judged, Memory>
+    ensures { (known : Known) → IfOk result (λ judged. judgement_of judged known
+        ≡ judge_coalesce span (judgement_of left known) (judgement_of right known)) }
 {
-    let span = across(left.span, right.span);
     let poisoned = either(left.poisoned, right.poisoned);
     let kind = kind_of_either(alloc, poisoned, &left.kind, &right.kind)?;
     let needless = !either(left.poisoned, left.fail);
@@ -200,12 +222,11 @@ fn coalesce(alloc: Global, left: Judged, right: Judged) -> Result<Judged, Memory
     let fail = coalesce_fails(poisoned, &right);
     let codes = appended(left.codes, &right.codes)?;
     Ok(Judged {
-        span,
         kind,
         ok,
         fail,
         poisoned,
-        codes: with_code(651, span, needless, codes)?,
+        codes: with_code(code::UNNECESSARY_ERROR_COALESCING, span, needless, codes)?,
     })
 }
 
@@ -226,15 +247,14 @@ fn reaches_right(left: &Judged) -> bool
 
 // The judgement of `+` between two expressions.
 fn add(alloc: Global, left: Judged, right: Judged) -> Result<Judged, Memory>
-    ensures { (known : Known) → IfOk result (IsJudged known (across left.span right.span)
-        (judge_plus (judgement_of left known) (judgement_of right known))) }
+    ensures { (known : Known) → IfOk result (λ judged. judgement_of judged known
+        ≡ judge_plus (judgement_of left known) (judgement_of right known)) }
 {
     let poisoned = either(left.poisoned, right.poisoned);
     let kind = kind_of_addition(alloc, poisoned, &left.kind, &right.kind)?;
     let ok = sum_gives(poisoned, &left, &right);
     let fail = sum_fails(poisoned, &left, &right);
     Ok(Judged {
-        span: across(left.span, right.span),
         kind,
         ok,
         fail,
@@ -265,16 +285,6 @@ fn either(a: bool, b: bool) -> bool
     a || b
 }
 
-// From the start of the one to the end of the other.
-fn across(left: Span, right: Span) -> Span
-    ensures { result ≡ across left right }
-{
-    Span {
-        start: left.start,
-        end: right.end,
-    }
-}
-
 // The codes of both sides.
 fn appended(mut left: Vec<Diagnostic>, right: &[Diagnostic]) -> Result<Vec<Diagnostic>, Memory>
     ensures { IfOk result (λ both. both.items ≡ left.items ++ right.now) }
@@ -283,96 +293,63 @@ fn appended(mut left: Vec<Diagnostic>, right: &[Diagnostic]) -> Result<Vec<Diagn
     Ok(left)
 }
 
-// The judgement of an operand, which is reached or not.
-fn judge_operand(
-    alloc: Global,
-    read: &Operand,
-    environment: &Environment,
-    alive: bool,
-) -> Result<Judged, Memory>
-    ensures { IfOk result (IsJudged (known_of environment.now) read.now.span
-        (judge (operand read.now) (state_at alive (known_of environment.now)))) }
+// The judgement of a literal.
+fn judge_literal(alloc: Global, value: &Value) -> Result<Judged, Memory>
+    ensures { (known : Known) → IfOk result (λ judged. judgement_of judged known
+        ≡ judge_literal (tree_of value.now) known) }
 {
-    if alive {
-        judge_reached(alloc, read.span, &read.form, environment)
-    } else {
-        Ok(Judged {
-            span: read.span,
-            kind: Kind::never(alloc)?,
-            ok: false,
-            fail: false,
-            poisoned: false,
-            codes: Vec::new(alloc),
-        })
+    match value {
+        Value::Text(_) => Ok(sure(alloc, Kind::of(alloc, Tag::Text)?)),
+        Value::Int(_) => Ok(sure(alloc, Kind::of(alloc, Tag::Int)?)),
+        _ => failing(alloc),
     }
 }
 
-// The judgement of an operand that is reached.
-fn judge_reached(
-    alloc: Global,
-    span: Span,
-    form: &Form,
-    environment: &Environment,
-) -> Result<Judged, Memory>
-    ensures { IfOk result (IsJudged (known_of environment.now) span
-        (judge_form span form.now (known_of environment.now))) }
-{
-    match form {
-        Form::Number(_) => Ok(sure(alloc, span, Kind::of(alloc, Tag::Int)?)),
-        Form::Text(_) => Ok(sure(alloc, span, Kind::of(alloc, Tag::Text)?)),
-        Form::Read(place) => judge_read(alloc, span, place, environment),
-    }
-}
-
-// The judgement of a place that is read.
+// The judgement of what stands at a path.
 fn judge_read(
     alloc: Global,
     span: Span,
-    place: &Place,
+    root: &Root,
+    path: &Path,
     environment: &Environment,
 ) -> Result<Judged, Memory>
-    ensures { IfOk result (IsJudged (known_of environment.now) span
-        (judge_form span (Form.Read place.now) (known_of environment.now))) }
+    ensures { let known = known_of environment.now in IfOk result (λ judged. judgement_of judged known
+        ≡ judge_read span (place_at root.now path.now) known) }
 {
-    match place {
-        Place::Field(name) => {
+    match place_at(root, path) {
+        Some(Place::Field(name)) => {
             let kind = environment.field(alloc, name.as_str())?;
-            Ok(sure(alloc, span, kind_of_read(alloc, &kind)?))
+            Ok(sure(alloc, kind_of_read(alloc, &kind)?))
         }
-        Place::Variable(name) => {
+        Some(Place::Variable(name)) => {
             judge_variable(alloc, span, environment.variable(alloc, name.as_str())?)
         }
+        None => failing(alloc),
     }
 }
 
 // The judgement of a variable, by the kind that is known of it.
 fn judge_variable(alloc: Global, span: Span, known: Option<Kind>) -> Result<Judged, Memory>
-    ensures { (environment : Known) → IfOk result (IsJudged environment span
-        (judge_variable span environment (variable_kind known))) }
+    ensures { (environment : Known) → IfOk result (λ judged. judgement_of judged environment
+        ≡ judge_variable span environment (variable_kind known)) }
 {
     match known {
-        Some(kind) => Ok(sure(alloc, span, kind)),
-        None => {
-            let mut codes = Vec::new(alloc);
-            codes.push(Diagnostic { code: 701, span })?;
-            Ok(Judged {
-                span,
-                kind: Kind::any(alloc)?,
-                ok: true,
-                fail: false,
-                poisoned: true,
-                codes,
-            })
-        }
+        Some(kind) => Ok(sure(alloc, kind)),
+        None => Ok(Judged {
+            kind: Kind::any(alloc)?,
+            ok: true,
+            fail: false,
+            poisoned: true,
+            codes: with_code(code::UNDEFINED_VARIABLE, span, true, Vec::new(alloc))?,
+        }),
     }
 }
 
 // The judgement of what can't fail.
-fn sure(alloc: Global, span: Span, kind: Kind) -> Judged
-    ensures { (known : Known) → IsJudged known span (gives (tags_of kind) known) result }
+fn sure(alloc: Global, kind: Kind) -> Judged
+    ensures { (known : Known) → judgement_of result known ≡ gives (tags_of kind) known }
 {
     Judged {
-        span,
         kind,
         ok: true,
         fail: false,

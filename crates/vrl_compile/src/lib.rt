@@ -2,23 +2,18 @@
 #![tactic(auto)]
 
 mod addition;
-mod chain;
+mod built;
 mod environment;
 mod execution;
 mod judgement;
 mod kind;
-mod parsing;
+mod place;
 mod reading;
-mod scan;
 mod script;
 mod soundness;
-mod syntax;
-mod token;
 
 pub use execution::run;
-pub use parsing::parse;
 pub use reading::{diagnostics_are_determined, scripts_have_one_reading};
 pub use script::{Compiled, Program, SCRIPT_LIMIT, compile};
 pub use soundness::{expressions_are_sound, scripts_are_sound, sums_are_tabled};
-pub use syntax::{Chain, Form, Item, Operand, Operator, Place};
 pub use vrl_diag::{Diagnostic, Diagnostics, Span};

@@ -1,12 +1,21 @@
 ghost use Rattle.vrl_compile.specs.Reading.{ScriptsHaveOneReading, DiagnosticsAreDetermined};
 
-/// A text has one reading: two scripts that it is say the same, so they are judged alike and do the same. This
-/// takes no time: it is a law about the definitions.
+use vrl_parse::scripts_are_determined;
+use vrl_token::tokens_are_determined;
+
+/// A text has one reading as a script. This takes no time: it is a law about the definitions.
 pub fn scripts_have_one_reading()
     ensures { ScriptsHaveOneReading }
-{}
+{
+    tokens_are_determined();
+    scripts_are_determined();
+}
 
-/// The diagnostics of a text are one list. This takes no time: it is a law about the definitions.
+/// The diagnostics of a text are one list, but for the place where the grammar reads no script. This takes no time:
+/// it is a law about the definitions.
 pub fn diagnostics_are_determined()
     ensures { DiagnosticsAreDetermined }
-{}
+{
+    tokens_are_determined();
+    scripts_are_determined();
+}

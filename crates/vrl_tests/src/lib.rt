@@ -7,6 +7,8 @@ mod devices;
 #[cfg(test)]
 mod lines;
 #[cfg(test)]
+mod parsing;
+#[cfg(test)]
 mod paths;
 mod sharing;
 #[cfg(test)]

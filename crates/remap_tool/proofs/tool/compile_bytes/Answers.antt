@@ -1,11 +1,11 @@
-use Rattle.std.proofs.Common.{subst, arith}
+use Rattle.std.proofs.Common.{subst}
+use Rattle.std.proofs.lemmas.Bool.{false≢true}
 use Rattle.std.specs.Result.{IfOk}
 use Rattle.vrl_compile.specs.Answer.{IsAnswer}
 use Rattle.remap_tool.proofs.AnswerLemmas.{script_answer}
 use Rattle.remap_tool.proofs.tool.compile_bytes.Goals as goal
 
-pub returns : goal.returns
-returns c =
-    let text = c.in-Ok.ensures.cases in
-    let compiled = subst (λ t. IfOk c.compile.result (IsAnswer t)) text.0 c.compile.ensures in
-    script_answer c.args.text.now c.compile.result (omega arith) text.1 compiled
+pub returns-in-Ok : goal.returns-in-Ok
+returns-in-Ok c =
+    let compiled = subst (λ t. IfOk c.compile.result (IsAnswer t)) c.in-Ok.ensures.text c.compile.ensures in
+    script_answer c.args.bytes.now c.compile.result (λ none. false≢true (c.in-Ok.ensures.err.1 none)) compiled

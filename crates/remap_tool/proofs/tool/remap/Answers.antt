@@ -1,6 +1,6 @@
 use Rattle.std.proofs.Common.{subst, [], inr}
 use Rattle.remap_tool.specs.Devices.{IsOfLines}
-use Rattle.remap_tool.proofs.AnswerLemmas.{asked_words, asks_named, is_whole-by, usage_only}
+use Rattle.remap_tool.proofs.AnswerLemmas.{accepted_named, asked_words, asks_named, is_whole-by, usage_only}
 use Rattle.remap_tool.proofs.OneAnswer.{is_refusal, one_answer}
 use Rattle.remap_tool.proofs.SinkLemmas.{appends-nil, appends_front-nil}
 use Rattle.remap_tool.proofs.tool.remap.Goals as goal
@@ -41,3 +41,7 @@ returns-in-Err-Memory-clause-one_answer g c told = one_answer c.scripts_have_one
 pub returns-in-Ok-clause-refused : goal.returns-in-Ok-clause-refused
 returns-in-Ok-clause-refused g c told text diagnostics asks =
     is_refusal c.diagnostics_are_determined.ensures _ _ c.in-Some.name.now c.in-Ok.script c.run_script.result c.in-Some.ensures c.in-Ok.ensures.bytes (rw c.as_slice.ensures at c.run_script.ensures.refused) told text diagnostics asks
+
+pub returns-in-Ok-clause-accepted_first : goal.returns-in-Ok-clause-accepted_first
+returns-in-Ok-clause-accepted_first g c =
+    accepted_named _ _ c.in-Some.name.now c.in-Ok.script c.in-Some.ensures c.in-Ok.ensures.bytes (rw c.as_slice.ensures at c.run_script.ensures.accepted_first)

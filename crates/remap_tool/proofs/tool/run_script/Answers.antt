@@ -1,6 +1,6 @@
 use Rattle.std.proofs.Common.{subst, [], inr}
 use Rattle.remap_tool.specs.Devices.{IsOfLines}
-use Rattle.remap_tool.proofs.AnswerLemmas.{asked_script, asks_run, is_whole-by, refused_only}
+use Rattle.remap_tool.proofs.AnswerLemmas.{asked_script, asks_run, is_front-by, is_whole-by, refused_only}
 use Rattle.remap_tool.proofs.SinkLemmas.{appends-nil, appends_front-nil}
 use Rattle.remap_tool.proofs.tool.run_script.Goals as goal
 
@@ -29,3 +29,8 @@ pub returns-in-Ok-Accepted-clause-whole : goal.returns-in-Ok-Accepted-clause-who
 returns-in-Ok-Accepted-clause-whole g c answered =
     let accepted = rw c.in-Ok-Accepted.field-0-is at c.in-Ok-Accepted.ensures in
     is_whole-by _ _ _ _ _ (asks_run _ _ _ accepted) (rw c.as_slice.ensures at (c.run_program.ensures.whole answered))
+
+pub returns-in-Ok-Accepted-clause-front : goal.returns-in-Ok-Accepted-clause-front
+returns-in-Ok-Accepted-clause-front g c =
+    let accepted = rw c.in-Ok-Accepted.field-0-is at c.in-Ok-Accepted.ensures in
+    is_front-by _ _ _ _ (asks_run _ _ _ accepted) (rw c.as_slice.ensures at c.run_program.ensures.front)

@@ -1,0 +1,9 @@
+mod Beginnings
+mod Descended
+mod OneOutcome
+mod Scripts
+mod Spelled
+pub mod Ends
+pub mod Loops
+pub mod Steps
+pub mod Walks

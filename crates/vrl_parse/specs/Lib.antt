@@ -1,0 +1,6 @@
+pub mod Descent
+pub mod FirstWords
+pub mod Grammar
+pub mod Reading
+pub mod Signs
+pub mod Words

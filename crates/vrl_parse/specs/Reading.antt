@@ -1,0 +1,27 @@
+-- The script of a list of tokens, and what is wrong with tokens.
+use Rattle.std.specs.Prelude.{◌≡◌, ℕ, List, [], ◌∷◌, ◌++◌}
+use Rattle.vrl_diag.specs.declared.diagnostic.Diagnostic.{Diagnostic}
+use Rattle.vrl_syntax.specs.Limits.{exprs_faults}
+use Rattle.vrl_syntax.specs.Tree.{Script}
+use Rattle.vrl_token.specs.declared.token.Spanned.{Spanned}
+use Rattle.vrl_parse.specs.Grammar.{IsScript}
+use Rattle.vrl_parse.specs.Words.{regex_of, words_from}
+
+-- the sources of the regex literals, in order
+abbrev pub sources_of : List Spanned → List (List ℕ)
+sources_of [] = []
+sources_of (t ∷ ts) = regex_of t.token ++ sources_of ts
+
+-- the tokens are those of this script
+pub record Reads (ts : List Spanned) (s : Script) : Type 0 where
+  pub items : IsScript (words_from 0 ts) s.items
+  pub patterns : s.patterns ≡ sources_of ts
+
+-- what is wrong with tokens: that no script is read from them, or the first path that breaks a limit
+pub data IsWrong (ts : List Spanned) (d : Diagnostic) : Type 0 where
+  no_script : d.code ≡ 203 → ((s : Script) → ¬ Reads ts s) → IsWrong ts d
+  path_fault : {s : Script} {ds : List Diagnostic} → Reads ts s → exprs_faults s.items ≡ d ∷ ds → IsWrong ts d
+
+-- tokens have at most one script
+abbrev pub ScriptsAreDetermined : Type 0
+ScriptsAreDetermined = (ts : List Spanned) (s t : Script) → Reads ts s → Reads ts t → s ≡ t

@@ -1,0 +1,20 @@
+//! The script of a list of tokens, by the grammar of the Vector Remap Language (vector.dev/docs/reference/vrl).
+#![tactic(auto)]
+
+mod calls;
+mod closures;
+mod conditionals;
+mod forms;
+mod items;
+mod laws;
+mod operands;
+mod operators;
+mod parser;
+mod parts;
+mod reading;
+mod sign;
+mod single;
+mod word;
+
+pub use laws::scripts_are_determined;
+pub use reading::parse;

@@ -1,0 +1,76 @@
+ghost use Rattle.std.specs.Prelude.{◌≡◌, ◌++◌, ◌∷◌, IfErr, IfOk, List, MatchOption, OnOk};
+ghost use Rattle.vrl_diag.specs.declared.diagnostic.Diagnostic.{Diagnostic as SpecDiagnostic};
+ghost use Rattle.vrl_syntax.specs.Limits.{exprs_faults, KeepsLimits};
+ghost use Rattle.vrl_syntax.specs.View.{exprs_of, script_of};
+ghost use Rattle.vrl_token.specs.OnFault.{OnFault};
+ghost use Rattle.vrl_parse.specs.Reading.{IsWrong, Reads, sources_of};
+ghost use Rattle.vrl_parse.specs.Words.{regex_of};
+
+use crate::parser::Parser;
+use std::alloc::Global;
+use vrl_diag::Diagnostic;
+use vrl_syntax::{Exprs, Script, limit_faults};
+use vrl_token::{Spanned, SyntaxFault, Token, Tokens};
+use vrl_value::{Chars, Memory, Names};
+
+/// The script that the grammar reads in these tokens, whose written and deleted paths keep their limits.
+///
+/// # Errors
+///
+/// `Fault`: 203 where no script is read, at the first token with which none goes on, or at the end of the text; else
+/// the first, by place, of the paths that are written or deleted and have a negative index (1007), or an index above
+/// 65,535 or more than 128 steps (1012). `Memory`: want of memory.
+pub fn parse(alloc: Global, tokens: &Tokens) -> Result<Script, SyntaxFault>
+    ensures script { IfOk result (λ script. Reads tokens.now.tokens (script_of script)) }
+    ensures limits { IfOk result (λ script. KeepsLimits (exprs_of script.items)) }
+    ensures fault { IfErr result (OnFault (IsWrong tokens.now.tokens)) }
+{
+    let words = tokens.as_slice();
+    let mut parser = Parser::new(alloc, words, tokens.end());
+    let items = parser.script()?;
+    if !parser.is_done() {
+        return Err(parser.fault());
+    }
+    if let Some(fault) = first_fault(alloc, &items)? {
+        return Err(SyntaxFault::Fault(fault));
+    }
+    let patterns = sources(alloc, words)?;
+    Ok(Script { items, patterns })
+}
+
+// The first thing that is wrong with the paths that items write or delete.
+fn first_fault(alloc: Global, items: &Exprs) -> Result<Option<Diagnostic>, Memory>
+    ensures { IfOk result (λ first. MatchOption first (KeepsLimits (exprs_of items.now)) (λ fault. (others : List SpecDiagnostic) × (exprs_faults (exprs_of items.now) ≡ fault ∷ others))) }
+{
+    let faults = limit_faults(alloc, items)?;
+    match faults.as_slice().split_first() {
+        Some((first, _)) => Ok(Some(*first)),
+        None => Ok(None),
+    }
+}
+
+// The sources of the regex literals, in order.
+fn sources(alloc: Global, words: &[Spanned]) -> Result<Names, Memory>
+    ensures { IfOk result (λ names. names ≡ sources_of words.now) }
+{
+    let mut found: Vec<Chars> = Vec::new(alloc);
+    let mut rest = words;
+    while let Some((first, behind)) = rest.split_first() {
+        add_source(alloc, &first.token, &mut found)?;
+        rest = behind;
+    }
+    Ok(Names::new(found))
+}
+
+// Adds the source of a token that is a regex literal.
+fn add_source(alloc: Global, token: &Token, found: &mut Vec<Chars>) -> Result<(), Memory>
+    ensures { OnOk result (found.new.items ≡ found.old.items ++ regex_of token.now) }
+{
+    match token {
+        Token::Regex(source) => {
+            found.push(source.copy(alloc)?)?;
+            Ok(())
+        }
+        _ => Ok(()),
+    }
+}
