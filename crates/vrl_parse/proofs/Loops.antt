@@ -1,5 +1,5 @@
 -- What a loop has done of a rule, when it has come to the words that are left.
-use Rattle.std.proofs.Common.{◌≡◌, ℕ, Option, List, [], ◌∷◌, ◌++◌, refl, ap, sym, subst, ◌∙◌}
+use Rattle.std.proofs.Common.{◌≡◌, ℕ, List, [], ◌∷◌, ◌++◌, refl, ap, sym, subst, ◌∙◌}
 use Rattle.std.proofs.lemmas.List.{append_assoc}
 use Rattle.vrl_syntax.specs.Tree.{Expr, Exprs, no_exprs, exprs, Pairs, no_pairs, pair, Arms, no_arms, arm, Args, no_args, arg}
 use Rattle.vrl_syntax.specs.View.{expr_of, arg_of, arm_of, exprs_view, pairs_view, args_view, arms_view}
@@ -8,7 +8,7 @@ use Rattle.vrl_syntax.specs.declared.tree.Arm.{Arm as CodeArm}
 use Rattle.vrl_syntax.specs.declared.tree.Arg.{Arg as CodeArg}
 use Rattle.vrl_parse.specs.Words.{Word}
 use Rattle.vrl_diag.specs.declared.diagnostic.Span.{Span}
-use Rattle.vrl_parse.specs.Descent.{Meaning, Rule, RuleRefuses, RuleTakes, Takes, arguments, arms, chain, done, gone, level, more_names, name_word, names, not_gone, pairs, parts, program_of, ran, refused, Runs, script, taken, took}
+use Rattle.vrl_parse.specs.Descent.{Meaning, Rule, RuleRefuses, RuleTakes, Takes, gone, more_names, name_word, names, not_gone, taken}
 use Rattle.vrl_parse.proofs.Walks.{answered}
 
 -- what is read from here on, with what was read before, is what the rule reads from the start

@@ -10,7 +10,7 @@ use Rattle.vrl_token.specs.declared.token.Token.{Token}
 use Rattle.vrl_token.specs.declared.token.Token.TheVariants as token
 use Rattle.vrl_parse.specs.declared.sign.Sign.{Sign}
 use Rattle.vrl_parse.specs.declared.sign.Sign.TheVariants as sign
-use Rattle.vrl_parse.specs.Descent.{Lacks, Piece, Said, Says, Takes, takes, sign_word}
+use Rattle.vrl_parse.specs.Descent.{Lacks, Piece, Said, Says, Takes, takes}
 use Rattle.vrl_parse.specs.Signs.{sign_of, token_of}
 use Rattle.vrl_parse.specs.Words.{Word, function_of, operator_of, path_of, regex_of, target_at, words_from}
 

@@ -1,5 +1,5 @@
 -- Steps of the programs that a function's clauses tell.
-use Rattle.std.proofs.Common.{◌≡◌, ℕ, suc, ◌+◌, add-one, Bool, true, false, List, Result, Ok, Err, refl, sym, subst}
+use Rattle.std.proofs.Common.{◌≡◌, ℕ, suc, ◌+◌, add-one, Bool, true, false, List, Result, Ok, Err, sym, subst}
 use Rattle.std.specs.Result.{IfErr, IfOk, IsErr, IsErrAnd}
 use Rattle.std.proofs.lemmas.Result.{IfOk-weaker}
 use Rattle.vrl_diag.specs.declared.diagnostic.Diagnostic.{Diagnostic}
@@ -8,8 +8,8 @@ use Rattle.vrl_token.specs.declared.fault.SyntaxFault.{SyntaxFault}
 use Rattle.vrl_token.specs.declared.fault.SyntaxFault.TheVariants.{Fault, Memory}
 use Rattle.vrl_parse.specs.Words.{Word}
 use Rattle.vrl_syntax.specs.Tree.{Expr}
-use Rattle.vrl_parse.specs.Descent.{chain, level, operand, program_of, suffixed, Lacks, Look, Meaning, Outcome, Piece, Program, Rule, Runs, Said, done, look, ran, refuse, refused, refuses, seen, take, took, unseen, untaken}
-use Rattle.vrl_parse.specs.FirstWords.{Missing, Refused, Tells, Without}
+use Rattle.vrl_parse.specs.Descent.{chain, level, operand, program_of, suffixed, Look, Meaning, Outcome, Piece, Program, Rule, Runs, Said, done, look, ran, refuse, refused, refuses, seen, take, took, unseen, untaken}
+use Rattle.vrl_parse.specs.FirstWords.{Missing, Tells, Without}
 use Rattle.vrl_token.specs.OnFault.{OnFault}
 
 -- an answer that is the same

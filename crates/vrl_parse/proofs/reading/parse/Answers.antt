@@ -1,11 +1,10 @@
-use Rattle.std.proofs.Common.{◌≡◌, ◌∙◌, ap, refl, List, subst, rules, true, false}
-use Rattle.vrl_diag.specs.declared.diagnostic.Diagnostic.{Diagnostic}
+use Rattle.std.proofs.Common.{◌≡◌, ◌∙◌, ap, refl, subst, rules}
 use Rattle.vrl_syntax.specs.Tree.{Script}
 use Rattle.vrl_syntax.specs.View.{exprs_of}
 use Rattle.vrl_parse.specs.Descent.{program_of, refused, Runs, script, took}
 use Rattle.vrl_parse.specs.FirstWords.{words_left}
 use Rattle.vrl_parse.specs.Reading.{no_script, sources_of}
-use Rattle.vrl_parse.specs.Words.{Word, words_from}
+use Rattle.vrl_parse.specs.Words.{words_from}
 use Rattle.vrl_parse.proofs.Ends.{read_all, unread, wrong_path}
 use Rattle.vrl_parse.proofs.Scripts.{unread_refusal}
 use Rattle.vrl_parse.proofs.Walks.{leave, weaker}

@@ -1,6 +1,4 @@
-use Rattle.std.proofs.Common.{ℕ, ◌+◌, ◌-◌, ◌*◌, ◌<◌, ◌≤◌, length}
-use Rattle.vrl_syntax.specs.Tree.{Arms, Else}
-use Rattle.vrl_diag.specs.declared.diagnostic.Span.{Span}
+use Rattle.std.proofs.Common.{◌+◌, ◌-◌, ◌*◌, ◌<◌, ◌≤◌, length}
 use Rattle.vrl_syntax.specs.View.{expr_of}
 use Rattle.vrl_parse.specs.Descent.{arguments, arms, chain, level, pairs, parts, script}
 use Rattle.vrl_parse.specs.FirstWords.{words_left}

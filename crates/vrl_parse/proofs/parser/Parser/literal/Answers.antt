@@ -1,4 +1,4 @@
-use Rattle.std.proofs.Common.{◌≡◌, option_map, sym, ap, ◌∙◌}
+use Rattle.std.proofs.Common.{option_map, sym, ap, ◌∙◌}
 use Rattle.vrl_value.specs.View.{tree_of}
 use Rattle.vrl_parse.specs.Descent.{literal_word}
 use Rattle.vrl_parse.proofs.Steps.{takes_counted}

@@ -1,4 +1,4 @@
-use Rattle.std.proofs.Common.{◌≡◌, ap, ◌∙◌}
+use Rattle.std.proofs.Common.{ap, ◌∙◌}
 use Rattle.vrl_syntax.specs.Tree.{expr, query}
 use Rattle.vrl_syntax.specs.View.{expr_of}
 use Rattle.vrl_parse.specs.Grammar.{span_of}
