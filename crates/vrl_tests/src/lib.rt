@@ -2,15 +2,14 @@
 //! what other crates of tests use.
 #![tactic(auto)]
 
+mod sharing;
+
 #[cfg(test)]
 mod devices;
 #[cfg(test)]
 mod lines;
 #[cfg(test)]
-mod parsing;
-#[cfg(test)]
 mod paths;
-mod sharing;
 #[cfg(test)]
 mod values;
 
