@@ -1,5 +1,5 @@
 // What is known along branches and blocks of a script, after writes that words tell.
-ghost use Rattle.std.specs.Prelude.{◌≡◌, [], IfOk};
+ghost use Rattle.std.specs.Prelude.{◌≡◌, [], IfOk, OnOk};
 ghost use Rattle.vrl_path.specs.Steps.{IsPlain, IsWritable};
 
 use crate::kinds::kind_of_word;
@@ -62,7 +62,7 @@ fn assign(alloc: Global, state: &mut State, path: &str, kind: &Kind) -> Result<(
 
 // Words, which stand between semicolons.
 fn write_all(alloc: Global, state: &mut State, words: &str) -> Result<(), Memory>
-    ensures { state.new.scopes ≡ state.old.scopes }
+    ensures { OnOk result (state.new.scopes ≡ state.old.scopes) }
 {
     for word in words.split(';') {
         write(alloc, state, word)?;
