@@ -2,14 +2,13 @@
 //! what other crates of tests use.
 #![tactic(auto)]
 
-mod sharing;
-
 #[cfg(test)]
 mod devices;
 #[cfg(test)]
 mod lines;
 #[cfg(test)]
 mod paths;
+mod sharing;
 #[cfg(test)]
 mod values;
 
