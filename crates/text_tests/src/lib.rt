@@ -1,10 +1,12 @@
-//! The tests of scripts as texts: diagnostics, tokens, trees, and what is compiled of them.
+//! The tests of scripts as texts: diagnostics, tokens, trees, regexes, and what is compiled of them.
 #![tactic(auto)]
 
 #[cfg(test)]
 mod diagnostics;
 #[cfg(test)]
 mod parsing;
+#[cfg(test)]
+mod patterns;
 #[cfg(test)]
 mod scripts;
 #[cfg(test)]

@@ -1,0 +1,13 @@
+//! The regex literals of a script: whether each is well formed, and which groups it has.
+//!
+//! What a source means is told by the grammar of the crate `regex` under its own options. A contract sees
+//! [`Patterns`] as the list of their sources.
+#![tactic(auto)]
+
+mod fault;
+mod groups;
+mod malformed;
+mod patterns;
+
+pub use fault::{BuildFault, Numbers};
+pub use patterns::Patterns;

@@ -1,0 +1,71 @@
+ghost use Rattle.std.specs.Prelude.{◌≡◌, ◌<◌, [], IfOk, IfErr, length, slice_index_or};
+ghost use Rattle.vrl_pattern.specs.Groups.{groups_of};
+ghost use Rattle.vrl_pattern.specs.Malformed.{malformed_from, IsFaultOf};
+
+use crate::fault::{BuildFault, Numbers};
+use crate::groups::group_names;
+use crate::malformed::malformed_numbers;
+use std::alloc::Global;
+use std::marker::Model;
+use vrl_value::{Chars, Memory, Names};
+
+/// The regex literals of a script, of which none is malformed. A contract sees the list of their sources.
+///
+/// Nothing but the sources is kept, since nothing is matched yet.
+#[derive(Drop)]
+pub struct Patterns {
+    sources: Vec<Chars>,
+}
+
+impl Model for Patterns {
+    ghost use Rattle.std.specs.Prelude.{List, ℕ};
+
+    ghost Value = { List (List ℕ) };
+
+    ghost view = { λ p. p.sources.items };
+}
+
+// An equal list of texts. `Memory`: want of memory.
+fn copy_of(alloc: Global, texts: &[Chars]) -> Result<Vec<Chars>, Memory>
+    ensures { IfOk result (λ copy. copy.items ≡ texts.now) }
+{
+    let mut copy = Vec::with_capacity(alloc, texts.len())?;
+    for text in texts {
+        copy.push(text.copy(alloc)?)?;
+    }
+    Ok(copy)
+}
+
+impl Patterns {
+    /// Builds the regexes of these sources. `Malformed`: the numbers of all that the grammar of the crate `regex` doesn't read, or that
+    /// nest deeper than it allows, at least one. `Memory`: want of memory, also where a pattern would take more than that crate's budget.
+    pub fn build(alloc: Global, sources: &Names) -> Result<Patterns, BuildFault>
+        ensures sources { IfOk result (λ patterns. patterns ≡ sources.now) }
+        ensures formed { IfOk result (λ _. malformed_from 0 sources.now ≡ []) }
+        ensures refused { IfErr result (IsFaultOf sources.now) }
+    {
+        let malformed = malformed_numbers(alloc, sources.as_slice())?;
+        if !malformed.is_empty() {
+            return Err(BuildFault::Malformed(Numbers::new(malformed)));
+        }
+        Ok(Patterns {
+            sources: copy_of(alloc, sources.as_slice())?,
+        })
+    }
+
+    /// All sources in order, borrowed.
+    pub fn sources(&self) -> &[Chars]
+        ensures { result.now ≡ self.now }
+    {
+        &self.sources
+    }
+
+    /// The names of the capturing groups of the regex with this number: one for each, from group 0 on, which is the whole match; that of
+    /// a group without a name is empty. `Memory`: want of memory.
+    pub fn names(&self, alloc: Global, number: u32) -> Result<Names, Memory>
+        requires { number < length self.now }
+        ensures { IfOk result (λ names. names ≡ groups_of (slice_index_or self.now number [])) }
+    {
+        group_names(alloc, self.sources[number as usize].as_str())
+    }
+}
