@@ -9,8 +9,10 @@ pub mod Joins
 pub mod Known
 pub mod Making
 pub mod Merging
+pub mod Namewise
 pub mod Naming
 pub mod OneKind
+pub mod Overlays
 pub mod Sameness
 pub mod Shapes
 pub mod Sizes

@@ -1,5 +1,5 @@
 -- Kinds put into a map by their names, and taken from it as known fields.
-use Rattle.std.proofs.Common.{◌≡◌, ℕ, ◌||◌, true, List, [], ◌∷◌, length, Some, None, String, Global, string_bytes, string_cmp, Ordering, Less, Equal, Greater, nat_cmp, refl, sym, ap, ◌∙◌, subst, arith}
+use Rattle.std.proofs.Common.{◌≡◌, ℕ, true, List, [], ◌∷◌, length, Some, None, String, Global, string_bytes, string_cmp, Ordering, Less, Equal, Greater, nat_cmp, refl, sym, ap, ◌∙◌, subst, arith}
 use Rattle.std.proofs.lemmas.Cmp.{nat_list_cmp_total, tied_itself}
 use Rattle.std.proofs.lemmas.Map.Keys.{sorted_head, sorted_tail}
 use Rattle.std.specs.BTreeMap.{insert_entry}
@@ -12,14 +12,14 @@ use Rattle.vrl_value.specs.Look.{Step, field, place}
 use Rattle.vrl_value.specs.declared.value.Tag.{Tag}
 use Rattle.vrl_kind.specs.KindTree.{KindTree, KnownFields, no_fields, known_field, ObjectTree, no_object, object_part, RestTree, kind, ListTree}
 use Rattle.vrl_kind.specs.Canonical.{never_kind, rest_kind, field_or, scalars_of, list_tree, IsBeforeFields, IsCanonical}
-use Rattle.vrl_kind.specs.Kinds.{tags_at, IsJoin, SameTags, has_object, object_at}
+use Rattle.vrl_kind.specs.Kinds.{tags_at, SameTags, has_object, object_at}
 use Rattle.vrl_kind.specs.Make.{entries_view, SameFields, AreKnown, IsKnownPushed, IsObjectFor, last_first, named_view}
-use Rattle.vrl_kind.specs.Change.{with_object}
+use Rattle.vrl_kind.specs.Change.{Sets, with_object}
 use Rattle.vrl_kind.specs.declared.scalars.Scalars.{Scalars}
 use Rattle.vrl_kind.specs.Merge.{FieldsAreSorted, IsTurn}
-use Rattle.vrl_kind.proofs.Joins.{NamesSoFar, names_first, names_next, names_end, or_no}
-use Rattle.vrl_kind.proofs.Known.{object_field, never_tags}
+use Rattle.vrl_kind.proofs.Known.{object_field}
 use Rattle.vrl_kind.proofs.Merging.{one_name}
+use Rattle.vrl_kind.proofs.Namewise.{NamesSoFar, names_first, names_next, names_end}
 use Rattle.vrl_kind.proofs.Shapes.{same_root}
 
 abbrev pub Entry : Type 0
@@ -101,15 +101,16 @@ entries_sorted : (es : List Entry) → IsStrictlySortedBy string_cmp (keys_of es
 entries_sorted [] sorted = tt
 entries_sorted (e ∷ es) sorted = (before_keys e.0 es (sorted_head string_cmp e.0 (keys_of es) sorted), entries_sorted es (sorted_tail string_cmp e.0 (keys_of es) sorted))
 
-join_never : (k : KindTree) → IsJoin k never_kind k
-join_never k p t = or_no (tags_at k p t) ∙ ap (λ T. tags_at k p t || T t) (sym (never_tags p))
+-- the sets of the first side
+abbrev pub first_at : Sets → Sets → Sets
+first_at A B = A
 
 -- what the loop has put behind each other, and what it has still ahead
 abbrev pub KnownSoFar : KindTree → KnownFields → KnownFields → KnownFields → Type 0
-KnownSoFar own all fs ds = NamesSoFar own never_kind own all no_fields fs no_fields ds
+KnownSoFar own all fs ds = NamesSoFar first_at own never_kind own all no_fields fs no_fields ds
 
 pub known_first : (own : KindTree) (es xs : List Entry) (ds : KnownFields) → xs ≡ es → ds ≡ no_fields → IsStrictlySortedBy string_cmp (keys_of es) → KnownSoFar own (entries_view es) (entries_view xs) ds
-known_first own es xs ds is none sorted = subst (λ ys. KnownSoFar own (entries_view es) (entries_view ys) ds) (sym is) (names_first own never_kind own (entries_view es) no_fields ds none (entries_sorted es sorted) tt)
+known_first own es xs ds is none sorted = subst (λ ys. KnownSoFar own (entries_view es) (entries_view ys) ds) (sym is) (names_first first_at own never_kind own (entries_view es) no_fields ds none (entries_sorted es sorted) tt)
 
 pub known_next : (own k : KindTree) (n : List ℕ) (all fs fs' ds es : KnownFields) → KnownSoFar own all fs ds → fs ≡ known_field n k fs' → IsCanonical k → IsKnownPushed n k own ds es → KnownSoFar own all fs' es
 known_next own k n all fs fs' ds es far is canonical pushed =
@@ -120,16 +121,12 @@ known_next own k n all fs fs' ds es far is canonical pushed =
       before_left = λ sorted other. (subst FieldsAreSorted is sorted).0;
       before_right = λ sorted other. tt;
     } in
-    names_next own never_kind own k n (Some k) None all no_fields fs no_fields fs' no_fields ds es far turn (join_never k) canonical (join_never own) pushed
+    names_next first_at own never_kind own k n (Some k) None all no_fields fs no_fields fs' no_fields ds es far turn (λ p t. refl) canonical (λ p t. refl) pushed
 
 pub known_end : (own : KindTree) (all fs ds : KnownFields) → KnownSoFar own all fs ds → fs ≡ no_fields → AreKnown own all ds
 known_end own all fs ds far none =
-    let joined = names_end own never_kind own all no_fields fs no_fields ds far record { left = none; right = refl } (join_never own) in
-    record {
-      same = λ n p t. joined.union n p t ∙ sym (or_no (tags_at (field_or all own n) p t) ∙ ap (λ T. tags_at (field_or all own n) p t || T t) (sym (never_tags p)));
-      canonical = joined.canonical;
-      known = joined.known;
-    }
+    let all_known = names_end first_at own never_kind own all no_fields fs no_fields ds far record { left = none; right = refl } (λ p t. refl) in
+    record { same = all_known.at; canonical = all_known.canonical; known = all_known.known }
 
 object_has : (fs : KnownFields) (K : KindTree) (o : ObjectTree) → IsObjectFor fs K o → has_object o ≡ true
 object_has fs K no_object for = absurd for

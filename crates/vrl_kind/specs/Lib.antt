@@ -11,6 +11,7 @@ pub mod Laws
 pub mod Make
 pub mod Membership
 pub mod Merge
+pub mod Overlay
 pub mod Parts
 pub mod Print
 pub mod Scalars

@@ -1,9 +1,10 @@
 -- What arrays, and what objects, of one kind allow beside those of another.
-use Rattle.std.specs.Prelude.{Bool, ◌||◌, ◌≡◌, ◌⊎◌, ℕ, List, IsTrue}
+use Rattle.std.specs.Prelude.{◌||◌, ◌≡◌, ◌⊎◌, ℕ, List, IsTrue}
 use Rattle.vrl_value.specs.Look.{Step}
 use Rattle.vrl_value.specs.declared.value.Tag.{Tag}
 use Rattle.vrl_kind.specs.KindTree.{KindTree, ListTree, ObjectTree, KnownFields}
 use Rattle.vrl_kind.specs.Canonical.{field_or, FieldsAreCanonical, NoFieldIs}
+use Rattle.vrl_kind.specs.Change.{Sets}
 use Rattle.vrl_kind.specs.Kinds.{tags_at, IsWithin, has_list, has_object, list_at, object_at}
 use Rattle.vrl_kind.specs.Tags.{Tags}
 use Rattle.vrl_kind.specs.Tags as tags
@@ -24,11 +25,19 @@ pub record IsObjectJoin (o q j : ObjectTree) : Type 0 where
   pub outer : has_object j ≡ (has_object o || has_object q)
   pub inner : (n : List ℕ) (p : List Step) (t : Tag) → object_at j n p t ≡ (object_at o n p t || object_at q n p t)
 
--- the fields of a join: at each name, where J stands for what isn't known, they allow what either side does
-pub record AreJoined (K L J : KindTree) (fs gs ds : KnownFields) : Type 0 where
-  pub union : (n : List ℕ) (p : List Step) (t : Tag) → tags_at (field_or ds J n) p t ≡ (tags_at (field_or fs K n) p t || tags_at (field_or gs L n) p t)
+-- the sets of either
+abbrev pub either_at : Sets → Sets → Sets
+either_at A B p t = A p t || B p t
+
+-- M allows at each path what C makes of the sets of both
+abbrev pub IsCombined : (Sets → Sets → Sets) → KindTree → KindTree → KindTree → Type 0
+IsCombined C K L M = (p : List Step) (t : Tag) → tags_at M p t ≡ C (tags_at K) (tags_at L) p t
+
+-- the fields of two objects, combined: at each name, where K, L and M stand for what isn't known, they allow what C makes of both sides
+pub record AreCombined (C : Sets → Sets → Sets) (K L M : KindTree) (fs gs ds : KnownFields) : Type 0 where
+  pub at : (n : List ℕ) (p : List Step) (t : Tag) → tags_at (field_or ds M n) p t ≡ C (tags_at (field_or fs K n)) (tags_at (field_or gs L n)) p t
   pub canonical : FieldsAreCanonical ds
-  pub known : NoFieldIs J ds
+  pub known : NoFieldIs M ds
 
 -- M allows what F does and what stands at any of these parts, and nothing else
 pub record AddsParts {I : Type 0} (part_at : I → List Step → Tags) (F M : KindTree) : Type 0 where

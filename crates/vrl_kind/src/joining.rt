@@ -3,7 +3,7 @@ ghost use Rattle.vrl_value.specs.Tree.{Tree};
 ghost use Rattle.vrl_kind.specs.KindTree.{KindTree};
 ghost use Rattle.vrl_kind.specs.Canonical.{IsCanonical, ListIsCanonical, ObjectIsCanonical, rest_kind, with_absent};
 ghost use Rattle.vrl_kind.specs.Kinds.{Inhabits, IsJoin, IsParts, IsWithin, list_at, object_at};
-ghost use Rattle.vrl_kind.specs.Parts.{AddsParts, AreJoined, IsListJoin, IsObjectJoin};
+ghost use Rattle.vrl_kind.specs.Parts.{AddsParts, AreCombined, IsListJoin, IsObjectJoin, either_at};
 ghost use Rattle.vrl_kind.specs.Seen.{part_rest, seen_tree, seen_list, seen_object, weight};
 ghost use Rattle.vrl_kind.specs.View.{fields_view, list_of, object_of};
 
@@ -81,7 +81,7 @@ fn join_fields_into(alloc: Global, first: Kind, object: SeenObject<'_>) -> Resul
 }
 
 #[cycle(join)]
-fn join_seen(alloc: Global, a: Seen<'_>, b: Seen<'_>) -> Result<Kind, Memory>
+pub(crate) fn join_seen(alloc: Global, a: Seen<'_>, b: Seen<'_>) -> Result<Kind, Memory>
     ensures union { IfOk result (λ kind. IsJoin (seen_tree a.entry) (seen_tree b.entry) kind) }
     ensures canonical { IfOk result (λ kind. IsCanonical kind) }
 {
@@ -97,7 +97,7 @@ fn join_seen(alloc: Global, a: Seen<'_>, b: Seen<'_>) -> Result<Kind, Memory>
 }
 
 // The kind, which may be absent where either of two may.
-fn with_either(kind: Kind, first: bool, second: bool) -> Kind
+pub(crate) fn with_either(kind: Kind, first: bool, second: bool) -> Kind
     ensures kind { result ≡ with_absent (first || second) kind }
     ensures canonical { IsCanonical result }
 {
@@ -192,7 +192,7 @@ fn join_known(
     requires a_canonical { ObjectIsCanonical (seen_object (Some a)) }
     requires b_canonical { ObjectIsCanonical (seen_object (Some b)) }
     requires rests { IsJoin (rest_kind (part_rest a.rest)) (rest_kind (part_rest b.rest)) own.now }
-    ensures { IfOk result (λ known. AreJoined (rest_kind (part_rest a.entry.rest)) (rest_kind (part_rest b.entry.rest)) own.now
+    ensures { IfOk result (λ known. AreCombined either_at (rest_kind (part_rest a.entry.rest)) (rest_kind (part_rest b.entry.rest)) own.now
         (fields_view a.entry.fields.now) (fields_view b.entry.fields.now) (fields_view known.items)) }
 {
     let mut known: Vec<KindField> = Vec::new(alloc);

@@ -1,4 +1,4 @@
-use Rattle.std.proofs.Common.{◌≡◌, ◌≤◌, ◌+◌, refl, sym, ap, ◌∙◌, arith, length, subst}
+use Rattle.std.proofs.Common.{◌≤◌, ◌+◌, sym, ap, ◌∙◌, arith, length, subst}
 use Rattle.std.proofs.lemmas.Result.{IfOk-weaker}
 use Rattle.vrl_kind.specs.KindTree.{KindTree}
 use Rattle.vrl_kind.specs.Canonical.{with_absent}
@@ -9,7 +9,8 @@ use Rattle.vrl_kind.specs.Seen.{part_rest}
 use Rattle.vrl_kind.specs.View.{fields_view}
 use Rattle.vrl_kind.proofs.Ahead.{fields_sorted}
 use Rattle.vrl_kind.proofs.Inclusion.{uncovered, end_of}
-use Rattle.vrl_kind.proofs.Joins.{join_rests, join_rests_other, join_parts, places_next, list_join, names_first, names_next, names_end, object_join, join_allows, join_along, list_join_along, object_join_along}
+use Rattle.vrl_kind.proofs.Joins.{join_rests, join_rests_other, join_parts, places_next, list_join, object_join, join_allows, join_along, list_join_along, object_join_along}
+use Rattle.vrl_kind.proofs.Namewise.{names_first, names_next, names_end}
 use Rattle.vrl_kind.proofs.joining.+join.Goals as goal
 
 pub join_seen-returns-then-covers-clause-union : goal.join_seen-returns-then-covers-clause-union
@@ -43,15 +44,15 @@ join_places-returns-clause-union t c =
     IfOk-weaker _ _ _ (λ part made. list_join _ _ _ _ _ _ _ c.loop-at.at a b c.loop-at.invariant (join_along _ _ _ _ _ c.of_rest.ensures.tree c.of_rest-2.ensures.tree c.in_ok-own.ensures.union) made.meaning) c.of.ensures
 
 pub join_known-loop-pair-init : goal.join_known-loop-pair-init
-join_known-loop-pair-init t c = names_first _ _ _ _ _ _ (ap fields_view c.new-known.ensures.items) (fields_sorted _ c.requires.a_canonical.0) (fields_sorted _ c.requires.b_canonical.0)
+join_known-loop-pair-init t c = names_first _ _ _ _ _ _ _ (ap fields_view c.new-known.ensures.items) (fields_sorted _ c.requires.a_canonical.0) (fields_sorted _ c.requires.b_canonical.0)
 
 pub join_known-loop-pair-preserved : goal.join_known-loop-pair-preserved
 join_known-loop-pair-preserved t c =
     let pushed = subst (λ n. IsKnownPushed n c.in_ok-kind.kind c.args.own.now (fields_view c.loop-pair.known.items) (fields_view c.push_known.new.fields.items)) c.in_ok-name.ensures c.in_ok-push_known.ensures in
-    names_next _ _ _ _ _ _ _ _ _ _ _ _ _ _ _ c.loop-pair.invariant c.in-Some.ensures (join_along _ _ _ _ _ c.known_or_rest.ensures.kind c.known_or_rest-in-Some.ensures.kind c.in_ok-kind.ensures.union) c.in_ok-kind.ensures.canonical c.requires.rests pushed
+    names_next _ _ _ _ _ _ _ _ _ _ _ _ _ _ _ _ c.loop-pair.invariant c.in-Some.ensures (join_along _ _ _ _ _ c.known_or_rest.ensures.kind c.known_or_rest-in-Some.ensures.kind c.in_ok-kind.ensures.union) c.in_ok-kind.ensures.canonical c.requires.rests pushed
 
 pub join_known-returns : goal.join_known-returns
-join_known-returns t c = names_end _ _ _ _ _ _ _ _ c.loop-pair.invariant (end_of _ _ _ c.next.ensures c.in_default.not-Some) c.requires.rests
+join_known-returns t c = names_end _ _ _ _ _ _ _ _ _ c.loop-pair.invariant (end_of _ _ _ c.next.ensures c.in_default.not-Some) c.requires.rests
 
 pub join_fields-returns-clause-union : goal.join_fields-returns-clause-union
 join_fields-returns-clause-union t c = IfOk-weaker _ _ _ (λ part made. object_join _ _ _ _ _ _ _ c.in_ok-known.ensures made.meaning) c.of.ensures

@@ -1,10 +1,12 @@
-use Rattle.std.proofs.Common.{ℕ, ◌+◌, ◌*◌, ◌<◌}
-use Rattle.vrl_kind.specs.Canonical.{place_or, rest_kind}
+use Rattle.std.proofs.Common.{◌+◌, ◌*◌}
+use Rattle.vrl_kind.specs.Canonical.{rest_kind}
 use Rattle.vrl_kind.specs.Count.{list_nodes, object_nodes}
+use Rattle.vrl_kind.specs.Parts.{either_at}
 use Rattle.vrl_kind.specs.Seen.{weight, list_weight, object_weight, part_rest, seen_list, seen_object}
 use Rattle.vrl_kind.specs.View.{places_view, fields_view}
 use Rattle.vrl_kind.proofs.Ahead.{fields_count}
-use Rattle.vrl_kind.proofs.Joins.{PlacesSoFar, NamesSoFar}
+use Rattle.vrl_kind.proofs.Joins.{PlacesSoFar}
+use Rattle.vrl_kind.proofs.Namewise.{NamesSoFar}
 use Rattle.vrl_kind.proofs.joining.+join.Given as goal
 
 abbrev pub invariant-join_places-loop-at : goal.invariant-join_places-loop-at
@@ -13,7 +15,7 @@ invariant-join_places-loop-at l =
 
 abbrev pub invariant-join_known-loop-pair : goal.invariant-join_known-loop-pair
 invariant-join_known-loop-pair l =
-    NamesSoFar (rest_kind (part_rest l.a.rest)) (rest_kind (part_rest l.b.rest)) l.own (fields_view l.a.fields.now) (fields_view l.b.fields.now) (fields_view l.merge.left.now) (fields_view l.merge.right.now) (fields_view l.known.items)
+    NamesSoFar either_at (rest_kind (part_rest l.a.rest)) (rest_kind (part_rest l.b.rest)) l.own (fields_view l.a.fields.now) (fields_view l.b.fields.now) (fields_view l.merge.left.now) (fields_view l.merge.right.now) (fields_view l.known.items)
 
 abbrev pub decreases-join_known-loop-pair : goal.decreases-join_known-loop-pair
 decreases-join_known-loop-pair l = fields_count (fields_view l.merge.left.now) + fields_count (fields_view l.merge.right.now)
