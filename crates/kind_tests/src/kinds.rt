@@ -32,47 +32,112 @@ fn list_of(alloc: Global, kind: Kind) -> Result<Kind, Memory> {
     open(alloc, true, Rest::Exact(Box::new(alloc, kind)?))
 }
 
-// The kind of a word, or else that of a JSON value.
-pub(crate) fn kind_of_word(alloc: Global, word: &str) -> Result<Kind, Memory> {
+// The tag of a word that is the name of one.
+fn tag_of(word: &str) -> Option<Tag> {
+    match word {
+        "string" => Some(Tag::Text),
+        "integer" => Some(Tag::Int),
+        "timestamp" => Some(Tag::Time),
+        "regex" => Some(Tag::Pattern),
+        "array" => Some(Tag::List),
+        "object" => Some(Tag::Object),
+        "absent" => Some(Tag::Absent),
+        _ => None,
+    }
+}
+
+// The word of the rest of an array of which only that is known.
+fn rest_of(word: &str) -> Option<&str> {
+    match word {
+        "[..string]" => Some("string"),
+        "[..integer]" => Some("integer"),
+        "[..exactly any]" => Some("any"),
+        "[..exactly json]" => Some("json"),
+        "[..exactly never]" => Some("never"),
+        _ => None,
+    }
+}
+
+// The kind of the value of a text.
+fn kind_of_text(alloc: Global, text: &str) -> Result<Kind, Memory> {
+    kind_of(alloc, &value_of(alloc, text)?)
+}
+
+// The kind of a word that tells no rest, or else that of a JSON value.
+fn kind_of_name(alloc: Global, word: &str) -> Result<Kind, Memory> {
     match word {
         "never" => Kind::never(alloc),
         "any" => Kind::any(alloc),
         "json" => Kind::json(alloc),
-        "string" => Kind::of(alloc, Tag::Text),
-        "integer" => Kind::of(alloc, Tag::Int),
-        "timestamp" => Kind::of(alloc, Tag::Time),
-        "regex" => Kind::of(alloc, Tag::Pattern),
-        "array" => Kind::of(alloc, Tag::List),
-        "object" => Kind::of(alloc, Tag::Object),
-        "absent" => Kind::of(alloc, Tag::Absent),
+        _ => match tag_of(word) {
+            Some(tag) => Kind::of(alloc, tag),
+            None => kind_of_text(alloc, word),
+        },
+    }
+}
+
+// An array with one place.
+fn list_around(alloc: Global, kind: Kind) -> Result<Kind, Memory> {
+    let mut places = Vec::new(alloc);
+    places.push(kind)?;
+    Kind::list(alloc, places, Rest::Nothing)
+}
+
+// Arrays in one another, this many, around a number.
+fn nest(alloc: Global, depth: u64) -> Result<Kind, Memory> {
+    let mut kind = Kind::of(alloc, Tag::Int)?;
+    for _level in 0..depth {
+        kind = list_around(alloc, kind)?;
+    }
+    Ok(kind)
+}
+
+// An object with one field.
+fn object_with(alloc: Global, name: Chars, kind: Kind) -> Result<Kind, Memory> {
+    let mut fields = Vec::new(alloc);
+    fields.push((name, kind))?;
+    Kind::object(alloc, fields, Rest::Json)
+}
+
+// An object that lacks a field.
+fn object_lacking(alloc: Global, name: &str) -> Result<Kind, Memory> {
+    let name = Chars::copy_of(alloc, name)?;
+    object_with(alloc, name, Kind::of(alloc, Tag::Absent)?)
+}
+
+// The kind of a word, or else that of a JSON value.
+pub(crate) fn kind_of_word(alloc: Global, word: &str) -> Result<Kind, Memory> {
+    match word {
         "[..json]" => open(alloc, true, Rest::Json),
         "{..json}" => open(alloc, false, Rest::Json),
-        "[..string]" => list_of(alloc, Kind::of(alloc, Tag::Text)?),
-        "[..integer]" => list_of(alloc, Kind::of(alloc, Tag::Int)?),
-        "[..exactly any]" => list_of(alloc, Kind::any(alloc)?),
-        "[..exactly json]" => list_of(alloc, Kind::json(alloc)?),
-        "[..exactly never]" => list_of(alloc, Kind::never(alloc)?),
-        text => kind_of(alloc, &value_of(alloc, text)?),
+        "{a absent, ..json}" => object_lacking(alloc, "a"),
+        "32 arrays" => nest(alloc, 32),
+        "33 arrays" => nest(alloc, 33),
+        _ => match rest_of(word) {
+            Some(rest) => list_of(alloc, kind_of_name(alloc, rest)?),
+            None => kind_of_name(alloc, word),
+        },
     }
+}
+
+// The join of a kind and that of a word.
+fn join_word(alloc: Global, kind: &Kind, word: &str) -> Result<Kind, Memory> {
+    join(alloc, kind, &kind_of_word(alloc, word)?)
 }
 
 // The join of the kinds of words, which stand between strokes.
 pub(crate) fn kind_of_words(alloc: Global, words: &str) -> Result<Kind, Memory> {
     let mut kind = Kind::never(alloc)?;
     for word in words.split('|') {
-        kind = join(alloc, &kind, &kind_of_word(alloc, word)?)?;
+        kind = join_word(alloc, &kind, word)?;
     }
     Ok(kind)
 }
 
-// Words, and how the join of their kinds is told.
-fn expect_joins(rt: &impl Abort, alloc: Global, rows: &[(&str, &str)]) -> Result<(), Memory> {
-    for (words, told) in rows {
-        let kind = kind_of_words(alloc, words)?;
-        let text = print(alloc, &kind)?;
-        assert!(rt; text.as_str() == *told, "at {words:?}");
-    }
-    Ok(())
+// Whether the value of a text is of the join of the kinds of words.
+fn is_of(alloc: Global, text: &str, words: &str) -> Result<bool, Memory> {
+    let kind = kind_of_words(alloc, words)?;
+    Ok(inhabits(&value_of(alloc, text)?, &kind))
 }
 
 // A value, words, and whether the value is of the join of their kinds.
@@ -82,147 +147,185 @@ fn expect_inhabits(
     rows: &[(&str, &str, bool)],
 ) -> Result<(), Memory> {
     for (value, words, wanted) in rows {
-        let kind = kind_of_words(alloc, words)?;
-        let value = value_of(alloc, value)?;
-        assert!(rt; inhabits(&value, &kind) == *wanted, "at {words:?}");
+        let is_of_kind = is_of(alloc, value, words)?;
+        assert!(rt; is_of_kind == *wanted, "at {words:?}");
     }
     Ok(())
 }
 
-// Words, and how the parts, the outer tags and the kind without null of their join are told.
-fn expect_changes(
+// What is made of a kind.
+#[derive(Clone, Copy)]
+enum Change {
+    Nothing,
+    Parts,
+    Flat,
+    WithoutNull,
+    Cut,
+}
+
+fn changed(alloc: Global, change: Change, kind: &Kind) -> Result<Kind, Memory> {
+    match change {
+        Change::Nothing => kind.copy(alloc),
+        Change::Parts => parts(alloc, kind),
+        Change::Flat => flatten(alloc, kind),
+        Change::WithoutNull => without(alloc, kind, Tag::Null),
+        Change::Cut => cut(alloc, kind),
+    }
+}
+
+// How what is made of the join of the kinds of words is told.
+fn told(alloc: Global, change: Change, words: &str) -> Result<Chars, Memory> {
+    let kind = kind_of_words(alloc, words)?;
+    print(alloc, &changed(alloc, change, &kind)?)
+}
+
+// Whether what is made of it is within it.
+fn is_within(alloc: Global, change: Change, words: &str) -> Result<bool, Memory> {
+    let kind = kind_of_words(alloc, words)?;
+    Ok(within(&changed(alloc, change, &kind)?, &kind))
+}
+
+// Words, and how what is made of the join of their kinds is told.
+fn expect_told(
     rt: &impl Abort,
     alloc: Global,
-    rows: &[(&str, &str, &str, &str)],
+    change: Change,
+    rows: &[(&str, &str)],
 ) -> Result<(), Memory> {
-    for (words, inner, outer, lower) in rows {
-        let kind = kind_of_words(alloc, words)?;
-        assert!(rt;
-            print(alloc, &parts(alloc, &kind)?)?.as_str() == *inner,
-            "parts of {words:?}"
-        );
-        assert!(rt;
-            print(alloc, &flatten(alloc, &kind)?)?.as_str() == *outer,
-            "flat {words:?}"
-        );
-        let lower_kind = without(alloc, &kind, Tag::Null)?;
-        assert!(rt;
-            print(alloc, &lower_kind)?.as_str() == *lower,
-            "lower {words:?}"
-        );
-        assert!(rt; within(&lower_kind, &kind), "within {words:?}");
+    for (words, wanted) in rows {
+        let text = told(alloc, change, words)?;
+        assert!(rt; text.as_str() == *wanted, "at {words:?}");
     }
     Ok(())
 }
+
+// Words, where what is made of the join of their kinds is within it.
+fn expect_within(
+    rt: &impl Abort,
+    alloc: Global,
+    change: Change,
+    rows: &[&str],
+) -> Result<(), Memory> {
+    for words in rows {
+        assert!(rt; is_within(alloc, change, words)?, "at {words:?}");
+    }
+    Ok(())
+}
+
+const JOINS: [(&str, &str); 29] = [
+    ("{a absent, ..json}", "{\"a\"?: never, ..json}"),
+    ("never", "never"),
+    ("any", "any"),
+    ("json", "json"),
+    ("string", "string"),
+    ("timestamp|regex", "timestamp|regex"),
+    ("absent", "never"),
+    ("array", "[..any]"),
+    ("object", "{..any}"),
+    ("null|string", "string|null"),
+    ("json|any", "any"),
+    ("json|never", "json"),
+    (
+        "json|timestamp",
+        "string|integer|boolean|null|timestamp|[..json]|{..json}",
+    ),
+    ("[..string]", "[..string]"),
+    ("[..exactly any]", "[..any]"),
+    ("[..exactly json]", "[..json]"),
+    ("[..exactly never]", "[]"),
+    ("[1]|[]", "[?integer]"),
+    ("[1,\"s\"]|[1]", "[integer, ?string]"),
+    ("[1]|1", "integer|[integer]"),
+    ("[..integer]|[1]", "[..integer]"),
+    ("[..integer]|[\"s\"]", "[?string|integer, ..integer]"),
+    ("[..integer]|[..string]", "[..string|integer]"),
+    ("[..json]|[[1]]", "[..json]"),
+    (
+        "{\"a\":1}|{\"b\":\"s\"}",
+        "{\"a\"?: integer, \"b\"?: string}",
+    ),
+    (
+        "{\"b\":1,\"a\":[true]}",
+        "{\"a\": [boolean], \"b\": integer}",
+    ),
+    ("{..json}|{\"a\":1}", "{..json}"),
+    ("{\"a\":1}|{\"a\":null}|[]", "[]|{\"a\": integer|null}"),
+    (
+        "{\"q\\\"\\\\\\n\\u0001\u{e9}\":1}",
+        "{\"q\\\"\\\\\\n\\u0001\u{e9}\": integer}",
+    ),
+];
 
 #[test]
 fn kinds_are_joined_and_told(rt: HostRuntime) -> Result<(), Memory> {
-    let joins = [
-        ("never", "never"),
-        ("any", "any"),
-        ("json", "json"),
-        ("string", "string"),
-        ("timestamp|regex", "timestamp|regex"),
-        ("absent", "never"),
-        ("array", "[..any]"),
-        ("object", "{..any}"),
-        ("null|string", "string|null"),
-        ("json|any", "any"),
-        ("json|never", "json"),
-        (
-            "json|timestamp",
-            "string|integer|boolean|null|timestamp|[..json]|{..json}",
-        ),
-        ("[..string]", "[..string]"),
-        ("[..exactly any]", "[..any]"),
-        ("[..exactly json]", "[..json]"),
-        ("[..exactly never]", "[]"),
-        ("[1]|[]", "[?integer]"),
-        ("[1,\"s\"]|[1]", "[integer, ?string]"),
-        ("[1]|1", "integer|[integer]"),
-        ("[..integer]|[1]", "[..integer]"),
-        ("[..integer]|[\"s\"]", "[?string|integer, ..integer]"),
-        ("[..integer]|[..string]", "[..string|integer]"),
-        ("[..json]|[[1]]", "[..json]"),
-        (
-            "{\"a\":1}|{\"b\":\"s\"}",
-            "{\"a\"?: integer, \"b\"?: string}",
-        ),
-        (
-            "{\"b\":1,\"a\":[true]}",
-            "{\"a\": [boolean], \"b\": integer}",
-        ),
-        ("{..json}|{\"a\":1}", "{..json}"),
-        ("{\"a\":1}|{\"a\":null}|[]", "[]|{\"a\": integer|null}"),
-        (
-            "{\"q\\\"\\\\\\n\\u0001\u{e9}\":1}",
-            "{\"q\\\"\\\\\\n\\u0001\u{e9}\": integer}",
-        ),
-    ];
-    expect_joins(&rt, rt.alloc(), &joins)
+    expect_told(&rt, rt.alloc(), Change::Nothing, &JOINS)
 }
+
+const VALUES: [(&str, &str, bool); 13] = [
+    (
+        "{\"a\":[null,true],\"b\":1}",
+        "{\"a\":[null,true],\"b\":1}",
+        true,
+    ),
+    ("{\"a\":[null,true],\"b\":1}", "json", true),
+    ("{\"a\":[null,true],\"b\":1}", "any", true),
+    ("{\"a\":[null,true],\"b\":1}", "integer", false),
+    ("{\"a\":[null,true],\"b\":1}", "{\"b\":1}", false),
+    ("{\"a\":1}", "{\"a\":1}|{\"b\":1}", true),
+    ("{}", "{\"a\":1}|{\"b\":1}", true),
+    ("{\"c\":1}", "{\"a\":1}|{\"b\":1}", false),
+    ("{\"a\":\"s\"}", "{\"a\":1}|{\"b\":1}", false),
+    ("[1,2]", "[..integer]", true),
+    ("[1,\"s\"]", "[..integer]", false),
+    ("[]", "[1]", false),
+    ("[1]", "[1,1]|[]", true),
+];
 
 #[test]
 fn values_are_of_kinds(rt: HostRuntime) -> Result<(), Memory> {
-    let rows = [
-        (
-            "{\"a\":[null,true],\"b\":1}",
-            "{\"a\":[null,true],\"b\":1}",
-            true,
-        ),
-        ("{\"a\":[null,true],\"b\":1}", "json", true),
-        ("{\"a\":[null,true],\"b\":1}", "any", true),
-        ("{\"a\":[null,true],\"b\":1}", "integer", false),
-        ("{\"a\":[null,true],\"b\":1}", "{\"b\":1}", false),
-        ("{\"a\":1}", "{\"a\":1}|{\"b\":1}", true),
-        ("{}", "{\"a\":1}|{\"b\":1}", true),
-        ("{\"c\":1}", "{\"a\":1}|{\"b\":1}", false),
-        ("{\"a\":\"s\"}", "{\"a\":1}|{\"b\":1}", false),
-        ("[1,2]", "[..integer]", true),
-        ("[1,\"s\"]", "[..integer]", false),
-        ("[]", "[1]", false),
-        ("[1]", "[1,1]|[]", true),
-    ];
-    expect_inhabits(&rt, rt.alloc(), &rows)?;
-    let changes = [
-        (
-            "{\"a\":\"s\",\"b\":1}|{\"b\":1}",
-            "string|integer",
-            "{..any}",
-            "{\"a\"?: string, \"b\": integer}",
-        ),
-        ("null|string", "never", "string|null", "string"),
-        (
-            "[1,null]|[..string]",
-            "string|integer|null",
-            "[..any]",
-            "[?string|integer, ?string|null, ..string]",
-        ),
-    ];
-    expect_changes(&rt, rt.alloc(), &changes)
+    expect_inhabits(&rt, rt.alloc(), &VALUES)
 }
 
-// Arrays in one another, this many, around a number.
-fn nest(alloc: Global, depth: u64) -> Result<Kind, Memory> {
-    let mut kind = Kind::of(alloc, Tag::Int)?;
-    for _level in 0..depth {
-        let mut places = Vec::new(alloc);
-        places.push(kind)?;
-        kind = Kind::list(alloc, places, Rest::Nothing)?;
-    }
-    Ok(kind)
+const OBJECTS: &str = "{\"a\":\"s\",\"b\":1}|{\"b\":1}";
+
+const ARRAYS: &str = "[1,null]|[..string]";
+
+const PARTS: [(&str, &str); 3] = [
+    (OBJECTS, "string|integer"),
+    ("null|string", "never"),
+    (ARRAYS, "string|integer|null"),
+];
+
+const FLAT: [(&str, &str); 3] = [
+    (OBJECTS, "{..any}"),
+    ("null|string", "string|null"),
+    (ARRAYS, "[..any]"),
+];
+
+const WITHOUT_NULL: [(&str, &str); 3] = [
+    (OBJECTS, "{\"a\"?: string, \"b\": integer}"),
+    ("null|string", "string"),
+    (ARRAYS, "[?string|integer, ?string|null, ..string]"),
+];
+
+#[test]
+fn kinds_are_changed(rt: HostRuntime) -> Result<(), Memory> {
+    expect_told(&rt, rt.alloc(), Change::Parts, &PARTS)?;
+    expect_told(&rt, rt.alloc(), Change::Flat, &FLAT)?;
+    expect_told(&rt, rt.alloc(), Change::WithoutNull, &WITHOUT_NULL)?;
+    let words = [OBJECTS, "null|string", ARRAYS];
+    expect_within(&rt, rt.alloc(), Change::WithoutNull, &words)
+}
+
+// Whether the deepest arrays that a cut keeps have so many levels and nodes.
+fn are_deepest(alloc: Global) -> Result<bool, Memory> {
+    let kept = shareable(kind_of_word(alloc, "32 arrays")?);
+    Ok(levels(&kept) == 32 && nodes(&kept) == 33 && has(&kept, Tag::List))
 }
 
 #[test]
 fn kinds_are_cut(rt: HostRuntime) -> Result<(), Memory> {
-    let alloc = rt.alloc();
-    let kept = shareable(nest(alloc, 32)?);
-    assert!(rt; levels(&kept) == 32 && nodes(&kept) == 33 && has(&kept, Tag::List));
-    assert!(rt; within(&cut(alloc, &kept)?, &kept));
-    assert!(rt; print(alloc, &cut(alloc, &nest(alloc, 33)?)?)?.as_str() == "[..any]");
-    let mut fields = Vec::new(alloc);
-    fields.push((Chars::copy_of(alloc, "a")?, Kind::of(alloc, Tag::Absent)?))?;
-    let kind = Kind::object(alloc, fields, Rest::Json)?;
-    assert!(rt; print(alloc, &kind)?.as_str() == "{\"a\"?: never, ..json}");
-    Ok(())
+    assert!(rt; are_deepest(rt.alloc())?);
+    expect_within(&rt, rt.alloc(), Change::Cut, &["32 arrays"])?;
+    expect_told(&rt, rt.alloc(), Change::Cut, &[("33 arrays", "[..any]")])
 }

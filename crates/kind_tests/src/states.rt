@@ -1,23 +1,32 @@
 // What is known along branches and blocks of a script, after writes that words tell.
-ghost use Rattle.std.specs.Prelude.{◌≡◌, [], IfOk, OnOk};
+ghost use Rattle.std.specs.Prelude.{◌≡◌, ◌≢◌, [], IfOk, OnOk};
+ghost use Rattle.vrl_state.specs.States.{IsPresent};
 ghost use Rattle.vrl_path.specs.Steps.{IsPlain, IsWritable};
 
 use crate::kinds::kind_of_word;
+use crate::places::path_to;
 use std::alloc::Global;
 use std::process::Abort;
 use vrl_kind::{Kind, has, print};
-use vrl_path::{Path, Step};
+use vrl_path::Path;
 use vrl_state::{Branch, Known, RootKind, State};
 use vrl_syntax::Root;
 use vrl_value::{Chars, Memory, Tag};
 
+// What stands before the point of a path, and behind it.
+fn halves(path: &str) -> (&str, &str) {
+    match path.split_once('.') {
+        Some(halves) => halves,
+        None => (path, ""),
+    }
+}
+
 // The root of a path: the event where the path begins with a point, else the variable before the point.
 fn root_of(alloc: Global, path: &str) -> Result<Root, Memory> {
-    match path.split_once('.') {
-        Some(("", _)) => Ok(Root::Event),
-        Some((name, _)) => Ok(Root::Name(Chars::copy_of(alloc, name)?)),
-        None => Ok(Root::Name(Chars::copy_of(alloc, path)?)),
+    if path.starts_with('.') {
+        return Ok(Root::Event);
     }
+    Ok(Root::Name(Chars::copy_of(alloc, halves(path).0)?))
 }
 
 // The field behind the point, if there is one.
@@ -25,13 +34,47 @@ fn steps_of(alloc: Global, path: &str) -> Result<Path, Memory>
     ensures writable { IfOk result (λ path. IsWritable path) }
     ensures plain { IfOk result (λ path. IsPlain path) }
 {
-    let mut steps = Vec::new(alloc);
-    if let Some((_, field)) = path.split_once('.') {
-        if !field.is_empty() {
-            steps.push(Step::Field(Chars::copy_of(alloc, field)?))?;
-        }
+    path_to(alloc, halves(path).1, None)
+}
+
+fn remove_at(alloc: Global, state: &mut State, root: &Root, path: &str) -> Result<(), Memory>
+    ensures { state.new.scopes ≡ state.old.scopes }
+{
+    state.remove(alloc, root, &steps_of(alloc, path)?)
+}
+
+fn remove(alloc: Global, state: &mut State, path: &str) -> Result<(), Memory>
+    ensures { state.new.scopes ≡ state.old.scopes }
+{
+    remove_at(alloc, state, &root_of(alloc, path)?, path)
+}
+
+fn assign_at(
+    alloc: Global,
+    state: &mut State,
+    root: &Root,
+    path: &str,
+    kind: &Kind,
+) -> Result<(), Memory>
+    requires { IsPresent kind.now }
+    ensures { state.new.scopes ≡ state.old.scopes }
+{
+    state.assign(alloc, root, &steps_of(alloc, path)?, kind)
+}
+
+fn assign_kind(alloc: Global, state: &mut State, path: &str, kind: &Kind) -> Result<(), Memory>
+    ensures { state.new.scopes ≡ state.old.scopes }
+{
+    if has(kind, Tag::Absent) {
+        return Ok(());
     }
-    Ok(Path::new(steps))
+    assign_at(alloc, state, &root_of(alloc, path)?, path, kind)
+}
+
+fn assign(alloc: Global, state: &mut State, path: &str, word: &str) -> Result<(), Memory>
+    ensures { state.new.scopes ≡ state.old.scopes }
+{
+    assign_kind(alloc, state, path, &kind_of_word(alloc, word)?)
 }
 
 // One word: `!` makes the state dead, `-path` removes, and `path=kind` writes.
@@ -43,21 +86,12 @@ fn write(alloc: Global, state: &mut State, word: &str) -> Result<(), Memory>
         return Ok(());
     }
     if let Some(path) = word.strip_prefix('-') {
-        return state.remove(alloc, &root_of(alloc, path)?, &steps_of(alloc, path)?);
+        return remove(alloc, state, path);
     }
     match word.split_once('=') {
-        Some((path, kind)) => assign(alloc, state, path, &kind_of_word(alloc, kind)?),
+        Some((path, kind)) => assign(alloc, state, path, kind),
         None => Ok(()),
     }
-}
-
-fn assign(alloc: Global, state: &mut State, path: &str, kind: &Kind) -> Result<(), Memory>
-    ensures { state.new.scopes ≡ state.old.scopes }
-{
-    if has(kind, Tag::Absent) {
-        return Ok(());
-    }
-    state.assign(alloc, &root_of(alloc, path)?, &steps_of(alloc, path)?, kind)
 }
 
 // Words, which stand between semicolons.
@@ -70,117 +104,243 @@ fn write_all(alloc: Global, state: &mut State, words: &str) -> Result<(), Memory
     Ok(())
 }
 
-fn add_root(alloc: Global, text: &mut String, root: &RootKind) -> Result<(), Memory> {
-    match &root.root {
-        Root::Event => text.push_str(".")?,
-        Root::Name(name) => {
-            text.push_str("; ")?;
-            text.push_str(name.as_str())?;
-        }
+fn name_of(root: &Root) -> &str {
+    match root {
+        Root::Event => ".",
+        Root::Name(name) => name.as_str(),
     }
+}
+
+fn add_root(alloc: Global, text: &mut String, root: &RootKind) -> Result<(), Memory> {
+    if !text.is_empty() {
+        text.push_str("; ")?;
+    }
+    text.push_str(name_of(&root.root))?;
     text.push_str("=")?;
     text.push_str(print(alloc, &root.kind)?.as_str())?;
     Ok(())
 }
 
-// What is known, in text.
-fn told(alloc: Global, branch: &Branch) -> Result<String, Memory> {
-    let mut text = String::new(alloc);
-    match branch.known(alloc)? {
-        Known::Dead => text.push_str("dead")?,
-        Known::Alive(roots) => {
-            for root in roots.as_slice() {
-                add_root(alloc, &mut text, root)?;
-            }
-        }
+fn add_roots(alloc: Global, text: &mut String, roots: &[RootKind]) -> Result<(), Memory> {
+    for root in roots {
+        add_root(alloc, text, root)?;
     }
+    Ok(())
+}
+
+fn add_known(alloc: Global, text: &mut String, known: &Known) -> Result<(), Memory> {
+    match known {
+        Known::Dead => text.push_str("dead")?,
+        Known::Alive(roots) => add_roots(alloc, text, roots.as_slice())?,
+    }
+    Ok(())
+}
+
+fn known_told(alloc: Global, known: &Known) -> Result<String, Memory> {
+    let mut text = String::new(alloc);
+    add_known(alloc, &mut text, known)?;
     Ok(text)
 }
 
-// The state of a script whose event is an object of JSON, after these words.
+// What is known, in text.
+fn told(alloc: Global, branch: &Branch) -> Result<String, Memory> {
+    known_told(alloc, &branch.known(alloc)?)
+}
+
+// The state of a script with such an event.
+fn start(alloc: Global, event: &Kind) -> Result<State, Memory>
+    ensures { IfOk result (λ state. state.scopes ≡ []) }
+{
+    if has(event, Tag::Absent) {
+        return Err(Memory);
+    }
+    State::start(alloc, event)
+}
+
+// The state of a script whose event is an object of JSON.
+fn start_of_json(alloc: Global) -> Result<State, Memory>
+    ensures { IfOk result (λ state. state.scopes ≡ []) }
+{
+    start(alloc, &kind_of_word(alloc, "{..json}")?)
+}
+
+// The same after these words.
 fn state_after(alloc: Global, words: &str) -> Result<State, Memory>
     ensures { IfOk result (λ state. state.scopes ≡ []) }
 {
-    let event = kind_of_word(alloc, "{..json}")?;
-    if has(&event, Tag::Absent) {
-        return Err(Memory);
-    }
-    let mut state = State::start(alloc, &event)?;
+    let mut state = start_of_json(alloc)?;
     write_all(alloc, &mut state, words)?;
     Ok(state)
 }
 
-// Two ways on from a state, as a branch and the state itself.
-fn ways(alloc: Global, before: &str, first: &str, second: &str) -> Result<(Branch, State), Memory>
-    ensures branch { IfOk result (λ ways. ways.0.scopes ≡ []) }
-    ensures state { IfOk result (λ ways. ways.1.scopes ≡ []) }
+// A branch with these words; the state is as before.
+fn branch_of(alloc: Global, state: &mut State, words: &str) -> Result<Branch, Memory>
+    ensures branch { IfOk result (λ branch. branch.scopes ≡ state.old.scopes) }
+    ensures state { OnOk result (state.new ≡ state.old) }
 {
-    let mut state = state_after(alloc, before)?;
     let mark = state.mark(alloc)?;
-    write_all(alloc, &mut state, first)?;
-    let branch = state.back(mark);
-    write_all(alloc, &mut state, second)?;
-    Ok((branch, state))
+    write_all(alloc, state, words)?;
+    Ok(state.back(mark))
 }
 
-// The state with the branch joined to it.
-fn join_to_state(alloc: Global, before: &str, first: &str, second: &str) -> Result<String, Memory> {
-    let (branch, mut state) = ways(alloc, before, first, second)?;
-    let mark = state.mark(alloc)?;
-    state.join(alloc, &branch)?;
-    told(alloc, &state.back(mark))
+// The state after these words, with the branch joined to it, as a branch.
+fn join_to_state(
+    alloc: Global,
+    state: &mut State,
+    branch: &Branch,
+    words: &str,
+) -> Result<Branch, Memory>
+    requires { branch.now.scopes ≡ state.old.scopes }
+{
+    write_all(alloc, state, words)?;
+    state.join(alloc, branch)?;
+    branch_of(alloc, state, "")
 }
 
-// The branch with the state, as another branch, joined to it.
+// The state with two ways on joined to it.
+fn state_joined(
+    alloc: Global,
+    state: &mut State,
+    first: &str,
+    second: &str,
+) -> Result<Branch, Memory> {
+    let branch = branch_of(alloc, state, first)?;
+    join_to_state(alloc, state, &branch, second)
+}
+
+// Joins a second branch to a first one.
 fn join_to_branch(
     alloc: Global,
+    state: &mut State,
+    branch: &mut Branch,
+    words: &str,
+) -> Result<(), Memory>
+    requires { branch.old.scopes ≡ state.old.scopes }
+{
+    branch.join(alloc, &branch_of(alloc, state, words)?)
+}
+
+// The branch of the first way with that of the second one joined to it.
+fn branch_joined(
+    alloc: Global,
+    state: &mut State,
+    first: &str,
+    second: &str,
+) -> Result<Branch, Memory> {
+    let mut branch = branch_of(alloc, state, first)?;
+    join_to_branch(alloc, state, &mut branch, second)?;
+    Ok(branch)
+}
+
+// Opens a block and writes these words in it.
+fn write_block(alloc: Global, state: &mut State, inside: &str) -> Result<(), Memory>
+    ensures { OnOk result (state.new.scopes ≢ []) }
+{
+    state.enter(alloc)?;
+    write_all(alloc, state, inside)
+}
+
+// What is known behind a block with these words in it, left in the state.
+fn state_left(alloc: Global, state: &mut State, inside: &str) -> Result<Branch, Memory> {
+    write_block(alloc, state, inside)?;
+    state.leave(alloc)?;
+    branch_of(alloc, state, "")
+}
+
+// A branch that ends in a block.
+fn block(alloc: Global, state: &mut State, inside: &str) -> Result<Branch, Memory>
+    ensures { IfOk result (λ branch. branch.scopes ≢ []) }
+{
+    let mark = state.mark(alloc)?;
+    write_block(alloc, state, inside)?;
+    Ok(state.back(mark))
+}
+
+// The same as `state_left`, left in the branch that ends in the block.
+fn branch_left(alloc: Global, state: &mut State, inside: &str) -> Result<Branch, Memory> {
+    let mut branch = block(alloc, state, inside)?;
+    branch.leave(alloc)?;
+    Ok(branch)
+}
+
+// How two ways on, or a block, come to one branch.
+#[derive(Clone, Copy)]
+enum End {
+    StateJoined,
+    BranchJoined,
+    StateLeft,
+    BranchLeft,
+}
+
+// The branch at this end; a block has the first words in it.
+fn end_of(
+    alloc: Global,
+    end: End,
+    state: &mut State,
+    first: &str,
+    second: &str,
+) -> Result<Branch, Memory> {
+    match end {
+        End::StateJoined => state_joined(alloc, state, first, second),
+        End::BranchJoined => branch_joined(alloc, state, first, second),
+        End::StateLeft => state_left(alloc, state, first),
+        End::BranchLeft => branch_left(alloc, state, first),
+    }
+}
+
+fn end_told(
+    alloc: Global,
+    end: End,
+    state: &mut State,
+    first: &str,
+    second: &str,
+) -> Result<String, Memory> {
+    told(alloc, &end_of(alloc, end, state, first, second)?)
+}
+
+// What is known at this end, from a state after words.
+fn ways_told(
+    alloc: Global,
+    end: End,
     before: &str,
     first: &str,
     second: &str,
 ) -> Result<String, Memory> {
-    let (mut branch, mut state) = ways(alloc, before, first, second)?;
-    let mark = state.mark(alloc)?;
-    branch.join(alloc, &state.back(mark))?;
-    told(alloc, &branch)
+    let mut state = state_after(alloc, before)?;
+    end_told(alloc, end, &mut state, first, second)
 }
 
 // Whether the state of the second way is within the branch of the first one.
-fn is_within(alloc: Global, first: &str, second: &str) -> Result<bool, Memory> {
-    let (branch, state) = ways(alloc, "", first, second)?;
+fn is_within(alloc: Global, state: &mut State, first: &str, second: &str) -> Result<bool, Memory> {
+    let branch = branch_of(alloc, state, first)?;
+    write_all(alloc, state, second)?;
     Ok(state.within(&branch))
 }
 
-// What is known behind a block with these words in it, left in the state.
-fn leave_state(alloc: Global, before: &str, inside: &str) -> Result<String, Memory> {
-    let mut state = state_after(alloc, before)?;
-    let mark = state.mark(alloc)?;
-    state.enter(alloc)?;
-    write_all(alloc, &mut state, inside)?;
-    state.leave(alloc)?;
-    told(alloc, &state.back(mark))
-}
-
-// The same, left in the branch that ends in the block.
-fn leave_branch(alloc: Global, before: &str, inside: &str) -> Result<String, Memory> {
-    let mut state = state_after(alloc, before)?;
-    let mark = state.mark(alloc)?;
-    state.enter(alloc)?;
-    write_all(alloc, &mut state, inside)?;
-    let mut branch = state.back(mark);
-    branch.leave(alloc)?;
-    told(alloc, &branch)
+// The same from the start of a script.
+fn are_within(alloc: Global, first: &str, second: &str) -> Result<bool, Memory> {
+    let mut state = start_of_json(alloc)?;
+    is_within(alloc, &mut state, first, second)
 }
 
 // The kind of a root, or `dead`, or `unknown`.
-fn kind_told(alloc: Global, words: &str, path: &str) -> Result<Chars, Memory> {
-    let state = state_after(alloc, words)?;
+fn root_told(alloc: Global, state: &State, root: &Root) -> Result<Chars, Memory> {
     if state.is_dead() {
         return Chars::copy_of(alloc, "dead");
     }
-    match state.kind(&root_of(alloc, path)?) {
+    match state.kind(root) {
         Some(kind) => print(alloc, kind),
         None => Chars::copy_of(alloc, "unknown"),
     }
+}
+
+fn path_told(alloc: Global, state: &State, path: &str) -> Result<Chars, Memory> {
+    root_told(alloc, state, &root_of(alloc, path)?)
+}
+
+// The kind of a root after words.
+fn kind_told(alloc: Global, words: &str, path: &str) -> Result<Chars, Memory> {
+    path_told(alloc, &state_after(alloc, words)?, path)
 }
 
 // Words, a root, and its kind.
@@ -192,38 +352,33 @@ fn expect_kinds(rt: &impl Abort, alloc: Global, rows: &[(&str, &str, &str)]) -> 
     Ok(())
 }
 
-// Words before two branches, words of each, and what their join knows.
-fn expect_joins(
+// Words before two ways on, words of each, and what is known at this end of them.
+fn expect_ends(
     rt: &impl Abort,
     alloc: Global,
+    end: End,
     rows: &[(&str, &str, &str, &str)],
 ) -> Result<(), Memory> {
     for (before, first, second, wanted) in rows {
-        let state = join_to_state(alloc, before, first, second)?;
+        let text = ways_told(alloc, end, before, first, second)?;
         assert!(rt;
-            state.as_str() == *wanted,
-            "{before:?}, {first:?} or {second:?}"
-        );
-        let branch = join_to_branch(alloc, before, first, second)?;
-        assert!(rt;
-            branch.as_str() == *wanted,
+            text.as_str() == *wanted,
             "{before:?}, {first:?} and {second:?}"
         );
     }
     Ok(())
 }
 
-// Words before a block, words in it, and what is known behind it.
+// Words before a block, words in it, and what is known at this end of it.
 fn expect_blocks(
     rt: &impl Abort,
     alloc: Global,
+    end: End,
     rows: &[(&str, &str, &str)],
 ) -> Result<(), Memory> {
     for (before, inside, wanted) in rows {
-        let state = leave_state(alloc, before, inside)?;
-        assert!(rt; state.as_str() == *wanted, "{before:?} around {inside:?}");
-        let branch = leave_branch(alloc, before, inside)?;
-        assert!(rt; branch.as_str() == *wanted, "{before:?} before {inside:?}");
+        let text = ways_told(alloc, end, before, inside, "")?;
+        assert!(rt; text.as_str() == *wanted, "{before:?} around {inside:?}");
     }
     Ok(())
 }
@@ -235,91 +390,95 @@ fn expect_within(
     rows: &[(&str, &str, bool)],
 ) -> Result<(), Memory> {
     for (first, second, wanted) in rows {
-        assert!(rt;
-            is_within(alloc, first, second)? == *wanted,
-            "{second:?} within {first:?}"
-        );
+        let is_known = are_within(alloc, first, second)?;
+        assert!(rt; is_known == *wanted, "{second:?} within {first:?}");
     }
     Ok(())
 }
 
+const KINDS: [(&str, &str, &str); 14] = [
+    ("", ".", "{..json}"),
+    ("", "x", "unknown"),
+    ("!", ".", "dead"),
+    ("!;x=string", "x", "dead"),
+    ("x=string", "x", "string"),
+    ("x=string;x=integer", "x", "integer"),
+    ("x=string;y=integer", "x", "string"),
+    (".a=integer", ".", "{\"a\": integer, ..json}"),
+    (".a=integer;-.a", ".", "{\"a\"?: never, ..json}"),
+    ("-x.a", "x", "unknown"),
+    ("x={\"a\":1};-x.a", "x", "{}"),
+    // It may hold any value, from a way that a join dropped.
+    ("x.a=integer", "x", "{\"a\": integer, ..any}"),
+    ("x=string;x.a=integer", "x", "{\"a\": integer}"),
+    // Deeper than the limit.
+    (
+        "x=[[[[[[[[[[[[[[[[[[[[[[[[[[[[[[[[[[[[[[[[]]]]]]]]]]]]]]]]]]]]]]]]]]]]]]]]]]]]]]]]",
+        "x",
+        "[..any]",
+    ),
+];
+
 #[test]
 fn writes_and_removals_change_what_is_known(rt: HostRuntime) -> Result<(), Memory> {
-    let kinds = [
-        ("", ".", "{..json}"),
-        ("", "x", "unknown"),
-        ("!", ".", "dead"),
-        ("!;x=string", "x", "dead"),
-        ("x=string", "x", "string"),
-        ("x=string;x=integer", "x", "integer"),
-        ("x=string;y=integer", "x", "string"),
-        (".a=integer", ".", "{\"a\": integer, ..json}"),
-        (".a=integer;-.a", ".", "{\"a\"?: never, ..json}"),
-        ("-x.a", "x", "unknown"),
-        ("x={\"a\":1};-x.a", "x", "{}"),
-        // It may hold any value, from a way that a join dropped.
-        ("x.a=integer", "x", "{\"a\": integer, ..any}"),
-        ("x=string;x.a=integer", "x", "{\"a\": integer}"),
-        // Deeper than the limit.
-        (
-            "x=[[[[[[[[[[[[[[[[[[[[[[[[[[[[[[[[[[[[[[[[]]]]]]]]]]]]]]]]]]]]]]]]]]]]]]]]]]]]]]]]",
-            "x",
-            "[..any]",
-        ),
-    ];
-    expect_kinds(&rt, rt.alloc(), &kinds)
+    expect_kinds(&rt, rt.alloc(), &KINDS)
 }
+
+const JOINS: [(&str, &str, &str, &str); 9] = [
+    ("", "", "", ".={..json}"),
+    (
+        "",
+        "x=integer;y=string",
+        "x=string;z=null",
+        ".={..json}; x=string|integer",
+    ),
+    ("x=integer", "", "x=string", ".={..json}; x=string|integer"),
+    ("x=integer", "!", "x=string", ".={..json}; x=string"),
+    ("x=integer", "x=string", "!", ".={..json}; x=string"),
+    ("x=integer", "!", "!", "dead"),
+    (
+        "",
+        ".a=integer",
+        ".a=string",
+        ".={\"a\": string|integer, ..json}",
+    ),
+    (".a=integer", "-.a", "", ".={\"a\"?: integer, ..json}"),
+    ("b=null;a=null", "", "", ".={..json}; a=null; b=null"),
+];
 
 #[test]
 fn joins_know_what_both_branches_know(rt: HostRuntime) -> Result<(), Memory> {
-    let joins = [
-        ("", "", "", ".={..json}"),
-        (
-            "",
-            "x=integer;y=string",
-            "x=string;z=null",
-            ".={..json}; x=string|integer",
-        ),
-        ("x=integer", "", "x=string", ".={..json}; x=string|integer"),
-        ("x=integer", "!", "x=string", ".={..json}; x=string"),
-        ("x=integer", "x=string", "!", ".={..json}; x=string"),
-        ("x=integer", "!", "!", "dead"),
-        (
-            "",
-            ".a=integer",
-            ".a=string",
-            ".={\"a\": string|integer, ..json}",
-        ),
-        (".a=integer", "-.a", "", ".={\"a\"?: integer, ..json}"),
-        ("b=null;a=null", "", "", ".={..json}; a=null; b=null"),
-    ];
-    expect_joins(&rt, rt.alloc(), &joins)
+    expect_ends(&rt, rt.alloc(), End::StateJoined, &JOINS)?;
+    expect_ends(&rt, rt.alloc(), End::BranchJoined, &JOINS)
 }
+
+const BLOCKS: [(&str, &str, &str); 5] = [
+    ("", "x=integer", ".={..json}"),
+    ("x=integer", "x=string;y=null", ".={..json}; x=string"),
+    ("x=integer", ".a=null", ".={\"a\": null, ..json}; x=integer"),
+    ("x=integer", "!", "dead"),
+    ("!", "x=integer", "dead"),
+];
 
 #[test]
 fn blocks_end_with_their_names(rt: HostRuntime) -> Result<(), Memory> {
-    let blocks = [
-        ("", "x=integer", ".={..json}"),
-        ("x=integer", "x=string;y=null", ".={..json}; x=string"),
-        ("x=integer", ".a=null", ".={\"a\": null, ..json}; x=integer"),
-        ("x=integer", "!", "dead"),
-        ("!", "x=integer", "dead"),
-    ];
-    expect_blocks(&rt, rt.alloc(), &blocks)
+    expect_blocks(&rt, rt.alloc(), End::StateLeft, &BLOCKS)?;
+    expect_blocks(&rt, rt.alloc(), End::BranchLeft, &BLOCKS)
 }
+
+const WITHIN: [(&str, &str, bool); 9] = [
+    ("", "", true),
+    ("", "x=integer", true),
+    ("x=integer", "", false),
+    ("x=json", "x=integer", true),
+    ("x=integer", "x=json", false),
+    ("x=integer", "!", true),
+    ("!", "x=integer", false),
+    ("", ".a=integer", true),
+    (".a=integer", "", false),
+];
 
 #[test]
 fn states_are_ordered_by_what_they_know(rt: HostRuntime) -> Result<(), Memory> {
-    let within = [
-        ("", "", true),
-        ("", "x=integer", true),
-        ("x=integer", "", false),
-        ("x=json", "x=integer", true),
-        ("x=integer", "x=json", false),
-        ("x=integer", "!", true),
-        ("!", "x=integer", false),
-        ("", ".a=integer", true),
-        (".a=integer", "", false),
-    ];
-    expect_within(&rt, rt.alloc(), &within)
+    expect_within(&rt, rt.alloc(), &WITHIN)
 }
