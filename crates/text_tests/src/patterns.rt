@@ -2,7 +2,7 @@
 use regex::Regex;
 use std::alloc::Global;
 use std::process::Abort;
-use vrl_pattern::{BuildFault, Patterns};
+use vrl_pattern::{BuildFault, Numbers, Patterns};
 use vrl_tests::shareable;
 use vrl_value::{Chars, Memory, Names};
 
@@ -15,19 +15,22 @@ fn sources_in(alloc: Global, text: &str) -> Result<Names, Memory> {
     Ok(Names::new(sources))
 }
 
-// The malformed ones of these sources: a digit for each, in order; `!` for want of memory.
-fn malformed_in(alloc: Global, sources: &Names) -> Result<String, Memory> {
+// A digit for each of these numbers, in order.
+fn digits_of(alloc: Global, numbers: &Numbers) -> Result<String, Memory> {
     let mut told = String::new(alloc);
-    match Patterns::build(alloc, sources) {
-        Ok(_) => {}
-        Err(BuildFault::Malformed(numbers)) => {
-            for number in numbers.as_slice() {
-                told.push_str(format!(in alloc; "{number}")?.as_str())?;
-            }
-        }
-        Err(BuildFault::Memory) => told.push('!')?,
+    for number in numbers.as_slice() {
+        told.push_str(format!(in alloc; "{number}")?.as_str())?;
     }
     Ok(told)
+}
+
+// The malformed ones of these sources: a digit for each, in order; `!` for want of memory.
+fn malformed_in(alloc: Global, sources: &Names) -> Result<String, Memory> {
+    match Patterns::build(alloc, sources) {
+        Ok(_patterns) => Ok(String::new(alloc)),
+        Err(BuildFault::Malformed(numbers)) => digits_of(alloc, &numbers),
+        Err(BuildFault::Memory) => Ok(String::from_str(alloc, "!")?),
+    }
 }
 
 fn expect_malformed(rt: &(impl Abort + AllocGlobal), rows: &[(&str, &str)]) -> Result<(), Memory> {
@@ -38,19 +41,25 @@ fn expect_malformed(rt: &(impl Abort + AllocGlobal), rows: &[(&str, &str)]) -> R
     Ok(())
 }
 
-// The names of the groups of one source, each with `,` behind it; `!` where it isn't built.
-fn names_in(alloc: Global, source: &str) -> Result<String, Memory> {
+// The names of the groups of the first source, each with `,` behind it.
+fn names_of_first(alloc: Global, patterns: &Patterns) -> Result<String, Memory> {
     let mut told = String::new(alloc);
-    match Patterns::build(alloc, &sources_in(alloc, source)?) {
-        Ok(patterns) if !patterns.sources().is_empty() => {
-            for name in patterns.names(alloc, 0)?.as_slice() {
-                told.push_str(name.as_str())?;
-                told.push(',')?;
-            }
-        }
-        _ => told.push('!')?,
+    if patterns.sources().is_empty() {
+        return Ok(told);
+    }
+    for name in patterns.names(alloc, 0)?.as_slice() {
+        told.push_str(name.as_str())?;
+        told.push(',')?;
     }
     Ok(told)
+}
+
+// The same of the only source; `!` where it isn't built.
+fn names_in(alloc: Global, source: &str) -> Result<String, Memory> {
+    match Patterns::build(alloc, &sources_in(alloc, source)?) {
+        Ok(patterns) => names_of_first(alloc, &patterns),
+        Err(_fault) => Ok(String::from_str(alloc, "!")?),
+    }
 }
 
 // The names that the crate `regex` gives the groups of a source, told in the same way.
