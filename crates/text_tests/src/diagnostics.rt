@@ -3,37 +3,38 @@ use vrl_diag::{
 };
 use vrl_value::Memory;
 
+const LINES: [(u16, u32, &str, &str); 5] = [
+    (
+        103,
+        6,
+        "x = 1\n.r = 2",
+        "error[E103] 2:1 unhandled fallible assignment",
+    ),
+    (
+        651,
+        5,
+        ".m = a ?? b",
+        "warning[E651] 1:6 unnecessary error coalescing",
+    ),
+    (203, 99, ".x =\n", "error[E203] 2:1 unrecognized token"),
+    (
+        701,
+        10,
+        "\"\u{e9}\u{20ac}\" + y",
+        "error[E701] 1:8 undefined variable",
+    ),
+    (999, 0, "", "error[E999] 1:1 "),
+];
+
 #[test]
 fn lines(rt: HostRuntime) -> Result<(), Memory> {
-    let rows = [
-        (
-            103,
-            6,
-            "x = 1\n.r = 2",
-            "error[E103] 2:1 unhandled fallible assignment",
-        ),
-        (
-            651,
-            5,
-            ".m = a ?? b",
-            "warning[E651] 1:6 unnecessary error coalescing",
-        ),
-        (203, 99, ".x =\n", "error[E203] 2:1 unrecognized token"),
-        (
-            701,
-            10,
-            "\"\u{e9}\u{20ac}\" + y",
-            "error[E701] 1:8 undefined variable",
-        ),
-        (999, 0, "", "error[E999] 1:1 "),
-    ];
-    for (code, start, text, line) in rows {
-        let end = start + 1;
+    for (code, start, text, line) in &LINES {
+        let end = *start + 1;
         let one = Diagnostic {
-            code,
-            span: Span { start, end },
+            code: *code,
+            span: Span { start: *start, end },
         };
-        assert_eq!(rt; render(rt.alloc(), &one, text)?.as_str(), line);
+        assert_eq!(rt; render(rt.alloc(), &one, text)?.as_str(), *line);
     }
     Ok(())
 }

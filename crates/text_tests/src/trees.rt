@@ -38,21 +38,19 @@ fn expect_faults(rt: &impl Abort, alloc: Global, rows: &[(i64, usize, u16)]) -> 
     Ok(())
 }
 
+const WRITES: [(i64, usize, u16); 6] = [
+    (0, 0, 0),
+    (65_535, 127, 0),
+    (65_536, 0, 1012),
+    (0, 128, 1012),
+    (-1, 0, 1007),
+    (-1, 128, 1007),
+];
+
 #[test]
 fn what_an_assignment_writes(rt: HostRuntime) -> Result<(), Memory> {
     let alloc = rt.alloc();
-    expect_faults(
-        &rt,
-        alloc,
-        &[
-            (0, 0, 0),
-            (65_535, 127, 0),
-            (65_536, 0, 1012),
-            (0, 128, 1012),
-            (-1, 0, 1007),
-            (-1, 128, 1007),
-        ],
-    )?;
+    expect_faults(&rt, alloc, &WRITES)?;
     let script = shareable(Script {
         items: assignment(alloc, 0, 0)?,
         patterns: Names::new(Vec::new(alloc)),

@@ -27,25 +27,23 @@ fn expect_pieces<S: Source>(rt: &impl Abort, source: &mut S, rows: &[Option<&[u8
     }
 }
 
+const PIECES: [Option<&[u8]>; 8] = [
+    Some(b"ab"),
+    None,
+    Some(b"c"),
+    None,
+    Some(b"defg"),
+    Some(b"h"),
+    Some(b""),
+    Some(b""),
+];
+
 #[test]
 fn memory_source_gives_its_pieces(rt: HostRuntime) -> Result<(), Fail> {
     let bytes = b"abcdefgh".to_vec(rt.alloc())?;
     let pieces = vec![in rt.alloc(); 2, 0, 100]?;
     let mut source = MemorySource::new(bytes, pieces, vec![in rt.alloc(); 1, 3]?);
-    expect_pieces(
-        &rt,
-        &mut source,
-        &[
-            Some(b"ab"),
-            None,
-            Some(b"c"),
-            None,
-            Some(b"defg"),
-            Some(b"h"),
-            Some(b""),
-            Some(b""),
-        ],
-    );
+    expect_pieces(&rt, &mut source, &PIECES);
     Ok(())
 }
 
@@ -177,14 +175,12 @@ fn make_scripted(alloc: Global) -> Result<Scripted, AllocError> {
     })
 }
 
+const SCRIPTED_PIECES: [Option<&[u8]>; 5] = [Some(b"xx"), None, Some(b"x"), Some(b""), Some(b"")];
+
 #[test]
 fn std_source_reads(rt: HostRuntime) -> Result<(), Fail> {
     let mut source = StdSource::new(make_scripted(rt.alloc())?);
-    expect_pieces(
-        &rt,
-        &mut source,
-        &[Some(b"xx"), None, Some(b"x"), Some(b""), Some(b"")],
-    );
+    expect_pieces(&rt, &mut source, &SCRIPTED_PIECES);
     Ok(())
 }
 

@@ -86,18 +86,19 @@ fn expect_read(
     Ok(())
 }
 
+const READS: [(i64, Option<i64>); 6] = [
+    (0, Some(1)),
+    (1, Some(2)),
+    (2, None),
+    (-1, Some(2)),
+    (-2, Some(1)),
+    (-3, None),
+];
+
 #[test]
 fn reads(rt: HostRuntime) -> Result<(), Memory> {
     let alloc = rt.alloc();
-    let rows = [
-        (0, Some(1)),
-        (1, Some(2)),
-        (2, None),
-        (-1, Some(2)),
-        (-2, Some(1)),
-        (-3, None),
-    ];
-    for (place, wanted) in &rows {
+    for (place, wanted) in &READS {
         expect_read(&rt, alloc, *place, *wanted)?;
     }
     let null = object(alloc, Value::Null)?;
