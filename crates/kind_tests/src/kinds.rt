@@ -3,8 +3,8 @@ use std::alloc::Global;
 use std::process::Abort;
 use vrl_json::{JsonFault, from_line};
 use vrl_kind::{
-    Kind, Rest, cut, flatten, has, inhabits, join, kind_of, levels, nodes, parts, print, within,
-    without,
+    Kind, Rest, cut, flatten, has, inhabits, join, kind_of, levels, nodes, overlaid, parts, print,
+    within, without,
 };
 use vrl_tests::shareable;
 use vrl_value::{Chars, Memory, Tag, Value};
@@ -315,6 +315,54 @@ fn kinds_are_changed(rt: HostRuntime) -> Result<(), Memory> {
     expect_told(&rt, rt.alloc(), Change::WithoutNull, &WITHOUT_NULL)?;
     let words = [OBJECTS, "null|string", ARRAYS];
     expect_within(&rt, rt.alloc(), Change::WithoutNull, &words)
+}
+
+// The objects of one kind with the fields of those of another put over their own, where both have some.
+fn objects_over(alloc: Global, lower: &Kind, upper: &Kind) -> Result<Kind, Memory> {
+    if !has(lower, Tag::Object) {
+        return Kind::never(alloc);
+    }
+    if !has(upper, Tag::Object) {
+        return Kind::never(alloc);
+    }
+    overlaid(alloc, lower, upper)
+}
+
+// How that is told of the joins of the kinds of words.
+fn told_over(alloc: Global, lower: &str, upper: &str) -> Result<Chars, Memory> {
+    let lower = kind_of_words(alloc, lower)?;
+    print(
+        alloc,
+        &objects_over(alloc, &lower, &kind_of_words(alloc, upper)?)?,
+    )
+}
+
+// Words, words, and how the objects of their kinds, the second ones over the first, are told.
+fn expect_over(rt: &impl Abort, alloc: Global, rows: &[(&str, &str, &str)]) -> Result<(), Memory> {
+    for (lower, upper, wanted) in rows {
+        let text = told_over(alloc, lower, upper)?;
+        assert!(rt; text.as_str() == *wanted, "at {upper:?}");
+    }
+    Ok(())
+}
+
+const OVER: [(&str, &str, &str); 7] = [
+    (
+        "{\"a\":1}",
+        "{\"b\":\"s\"}",
+        "{\"a\": integer, \"b\": string}",
+    ),
+    ("{\"a\":1}", "{\"a\":\"s\"}", "{\"a\": string}"),
+    ("{\"a\":1}", "{\"a\":\"s\"}|{}", "{\"a\": string|integer}"),
+    ("{}", "{\"a\":1}|{}", "{\"a\"?: integer}"),
+    ("{..json}", "{\"a\":1}", "{\"a\": integer, ..json}"),
+    ("{\"a\":1}", "{..json}", "{\"a\": json, ..json}"),
+    ("[1]|{\"a\":1}|{}", "null|{}", "{\"a\"?: integer}"),
+];
+
+#[test]
+fn objects_are_put_over_others(rt: HostRuntime) -> Result<(), Memory> {
+    expect_over(&rt, rt.alloc(), &OVER)
 }
 
 // Whether the deepest arrays that a cut keeps have so many levels and nodes.

@@ -18,7 +18,7 @@ use Rattle.vrl_kind.specs.View.{places_view}
 use Rattle.vrl_kind.proofs.Inclusion.{side, covers_within}
 use Rattle.vrl_kind.proofs.Known.{list_place}
 use Rattle.vrl_kind.proofs.Making.{canonical_more}
-use Rattle.vrl_kind.proofs.Namewise.{object_combined}
+use Rattle.vrl_kind.proofs.Namewise.{combined_along, object_combined}
 use Rattle.vrl_kind.proofs.Slices.{place_beyond}
 
 pub or_no : (b : Bool) → b ≡ (b || false)
@@ -184,7 +184,7 @@ object_join J r q fs gs ds (object_part zs s) joined for = record { outer = refl
 
 -- a join over sides that equal these
 pub join_along : (k k' l l' j : KindTree) → k ≡ k' → l ≡ l' → IsJoin k l j → IsJoin k' l' j
-join_along k k' l l' j e f join = subst (λ v. IsJoin v l' j) e (subst (λ v. IsJoin k v j) f join)
+join_along = combined_along either_at
 
 pub list_join_along : (l l' m m' j : ListTree) → l ≡ l' → m ≡ m' → IsListJoin l m j → IsListJoin l' m' j
 list_join_along l l' m m' j e f join = subst (λ v. IsListJoin v m' j) e (subst (λ v. IsListJoin l v j) f join)
@@ -201,7 +201,7 @@ pub inhabits_above : (v : Tree) (k l : KindTree) → IsWithin k l → Inhabits v
 inhabits_above v k l within is p = above_some (tag_found (raw_at v p)) (tags_at k p) (tags_at l p) (within p) (is p)
 
 -- where both sides may be absent the join may
-rest_absent_at : (k : KindTree) → tags_at (with_absent true k) [] tag.Absent ≡ true
+pub rest_absent_at : (k : KindTree) → tags_at (with_absent true k) [] tag.Absent ≡ true
 rest_absent_at (kind s l o) = refl
 
 pub join_allows : (j : KindTree) (r q : RestTree) → IsJoin (rest_kind r) (rest_kind q) j → allows_absent j ≡ true

@@ -166,6 +166,10 @@ end_at C K L J fs0 gs0 fs gs ds far end rest n p t =
 pub names_end : (C : Sets → Sets → Sets) (K L J : KindTree) (fs0 gs0 fs gs ds : KnownFields) → NamesSoFar C K L J fs0 gs0 fs gs ds → IsEnd fs gs → IsCombined C K L J → AreCombined C K L J fs0 gs0 ds
 names_end C K L J fs0 gs0 fs gs ds far end rest = record { at = end_at C K L J fs0 gs0 fs gs ds far end rest; canonical = far.canonical; known = far.known }
 
+-- what is made of sides that equal these
+pub combined_along : (C : Sets → Sets → Sets) (K K' L L' M : KindTree) → K ≡ K' → L ≡ L' → IsCombined C K L M → IsCombined C K' L' M
+combined_along C K K' L L' M e f all = subst (λ v. IsCombined C v L' M) e (subst (λ v. IsCombined C K v M) f all)
+
 object_at_field : (fs : KnownFields) (r : RestTree) (n : List ℕ) → object_at (object_part fs r) n ≡ tags_at (field_or fs (rest_kind r) n)
 object_at_field fs r n = λ i p. object_field fs r n p i
 

@@ -1,5 +1,5 @@
 -- Objects with the fields of others put over their own.
-use Rattle.std.proofs.Common.{◌≡◌, Bool, true, false, ◌||◌, ◌&&◌, not, List, [], ◌∷◌, ℕ, refl, sym, ap, ◌∙◌, subst}
+use Rattle.std.proofs.Common.{◌≡◌, Bool, true, false, ◌||◌, ◌&&◌, not, List, [], ◌∷◌, ℕ, refl, sym, ap, ◌∙◌}
 use Rattle.vrl_value.specs.Look.{Step, field, place}
 use Rattle.vrl_value.specs.declared.value.Tag.{Tag}
 use Rattle.vrl_value.specs.declared.value.Tag.TheVariants as tag
@@ -8,6 +8,7 @@ use Rattle.vrl_kind.specs.KindTree.{KindTree, kind, ObjectTree, RestTree, no_lis
 use Rattle.vrl_kind.specs.Kinds.{has_object, is_absence, object_at, tags_at, IsJoin}
 use Rattle.vrl_kind.specs.Overlay.{over_at, overlaid_at}
 use Rattle.vrl_kind.specs.Parts.{IsCombined}
+use Rattle.vrl_kind.proofs.Joins.{rest_absent_at}
 use Rattle.vrl_kind.proofs.Shapes.{and_no, and_yes}
 
 -- what is left of a kind where it isn't absent
@@ -29,13 +30,6 @@ pub over_join : (K k j : KindTree) (b : Bool) → b ≡ true → IsJoin (with_ab
 over_join K (kind s l o) j b may join p t =
     join p t ∙ ap (λ x. x || tags_at K p t) (present_at (kind s l o) b p t)
     ∙ sym (ap (λ a. (tags_at (with_absent b (kind s l o)) p t && not (is_absence p t)) || (a && tags_at K p t)) may)
-
--- one over sides that equal these
-pub over_along : (K K' L L' j : KindTree) → K ≡ K' → L ≡ L' → IsCombined over_at K L j → IsCombined over_at K' L' j
-over_along K K' L L' j e f over = subst (λ v. IsCombined over_at v L' j) e (subst (λ v. IsCombined over_at K v j) f over)
-
-rest_absent_at : (k : KindTree) → tags_at (with_absent true k) [] tag.Absent ≡ true
-rest_absent_at (kind s l o) = refl
 
 -- where both may be absent, so may what is put together
 pub over_allows : (j : KindTree) (r q : RestTree) → IsCombined over_at (rest_kind r) (rest_kind q) j → allows_absent j ≡ true

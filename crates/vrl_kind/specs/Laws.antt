@@ -14,6 +14,10 @@ EqualTagsAreOneKind = (K L : KindTree) → IsCanonical K → IsCanonical L → S
 abbrev pub CutsAreWider : Type 0
 CutsAreWider = (K M : KindTree) → IsCut K M → IsWithin K M
 
+-- a value of a kind is of each that the kind is within
+abbrev pub WiderKindsHoldMore : Type 0
+WiderKindsHoldMore = (value : Tree) (K L : KindTree) → IsWithin K L → Inhabits value K → Inhabits value L
+
 -- every value is of the kind of all
 abbrev pub AnyHoldsAll : Type 0
 AnyHoldsAll = (value : Tree) → Inhabits value any_kind

@@ -1,5 +1,6 @@
 pub mod Absence
 pub mod Inner
+pub mod Laws
 pub mod Read
 pub mod Remove
 pub mod Sets

@@ -4,6 +4,7 @@
 
 mod absence;
 mod fields;
+mod laws;
 mod places;
 mod read;
 mod remove;
@@ -11,6 +12,10 @@ mod spot;
 mod write;
 
 pub use absence::may_be_absent;
+pub use laws::{
+    nothing_removed_is_of_the_kind, reads_are_of_their_cut, reads_are_of_their_kind,
+    removals_are_of_their_kind, writes_are_of_their_kind,
+};
 pub use read::read_kind;
 pub use remove::remove_kind;
 pub use write::write_kind;

@@ -1,5 +1,6 @@
 -- That stores go on fitting what is known of them.
-use Rattle.std.proofs.Common.{◌≡◌, Bool, true, false, ◌||◌, cond, List, [], ◌∷◌, Option, Some, None, IfSome, IsTrue, option_map, MatchOption, ◌≢◌, unwrap_or, refl, sym, ap, ◌∙◌, subst}
+use Rattle.std.proofs.Common.{◌≡◌, ◌⊎◌, inl, inr, Bool, true, false, ◌||◌, cond, List, [], ◌∷◌, Option, Some, None, IfSome, IsTrue, is_some, MatchOption, ◌≢◌, unwrap_or, refl, sym, ap, ◌∙◌, subst}
+use Rattle.std.proofs.lemmas.Bool.{true≢false}
 use Rattle.std.specs.FinMap as map
 use Rattle.std.specs.FinSet as set
 use Rattle.vrl_value.specs.Look.{Step, raw_at, tag_found}
@@ -7,88 +8,88 @@ use Rattle.vrl_value.specs.Tree.{Tree, null}
 use Rattle.vrl_value.specs.declared.value.Tag.{Tag}
 use Rattle.vrl_syntax.specs.declared.root.Root.{Root}
 use Rattle.vrl_syntax.specs.declared.root.Root.TheVariants.{Event, Name}
+use Rattle.vrl_kind.specs.Canonical.{any_kind}
 use Rattle.vrl_kind.specs.Cut.{IsCut}
 use Rattle.vrl_kind.specs.KindTree.{KindTree}
-use Rattle.vrl_kind.specs.Kinds.{tags_at, Inhabits, IsWithin}
-use Rattle.vrl_kind.specs.Laws.{CutsAreWider}
+use Rattle.vrl_kind.specs.Kinds.{tags_at, Inhabits}
+use Rattle.vrl_kind.specs.Laws.{AnyHoldsAll, CutsAreWider, WiderKindsHoldMore}
 use Rattle.vrl_kind.specs.Tags.{Tags}
-use Rattle.vrl_state.specs.States.{kept, kind_of, with_kind, IsEither, IsEitherMap, IsEitherVariable, IsJoined, RootMap, Scope}
+use Rattle.vrl_place.specs.Laws.{NothingRemovedIsOfTheKind, RemovalsAreOfTheirKind, WritesAreOfTheirKind}
+use Rattle.vrl_place.specs.Remove.{remove}
+use Rattle.vrl_place.specs.Write.{write}
+use Rattle.vrl_state.specs.Laws.{BlocksKeepFits, BlocksKeepHeldNames, CutsHoldTheAllowed, EitherHoldsBoth, JoinsKeepFits, RemovalsKeepFits, StartsFit, WritesKeepFits}
+use Rattle.vrl_state.specs.States.{either, kept, kind_of, with_kind, written_from, HasNow, IsCutOf, IsEitherMap, IsEitherVariable, RootMap, Scope}
 use Rattle.vrl_path.specs.Remove.{removable_at, IsRemoved}
 use Rattle.vrl_path.specs.Write.{IsSet}
-use Rattle.vrl_state.specs.Stores.{store_kept, value_of, with_value, FitsKind, FitsKnown, FitsMap, HoldsNames, IsStoreTakenOut, IsStoreWritten, IsWithout, Store}
+use Rattle.vrl_state.specs.Stores.{store_kept, value_of, with_value, FitsKind, FitsKnown, FitsMap, HoldsNames, IsStoreTakenOut, IsWithout, Store}
 use Rattle.vrl_state.proofs.Finite.{at_kept, at_name, at_other, by_name}
 
-allowed_within : (found : Option Tag) (S T : Tags) → ((t : Tag) → IsTrue (S t) → IsTrue (T t)) → IfSome found (λ t. IsTrue (S t)) → IfSome found (λ t. IsTrue (T t))
-allowed_within None S T within h = tt
-allowed_within (Some t) S T within h = within t h
+cut_holds : CutsAreWider → WiderKindsHoldMore → (v : Tree) (K M : KindTree) → IsCut K M → Inhabits v K → Inhabits v M
+cut_holds wider more v K M c = more v K M (wider K M c)
 
-inhabits_within : (v : Tree) (K M : KindTree) → IsWithin K M → Inhabits v K → Inhabits v M
-inhabits_within v K M within h p = allowed_within (tag_found (raw_at v p)) (tags_at K p) (tags_at M p) (within p) (h p)
+allowed_as : (found : Option Tag) (S T : Tags) → ((t : Tag) → T t ≡ S t) → IfSome found (λ t. IsTrue (S t)) → IfSome found (λ t. IsTrue (T t))
+allowed_as None S T same h = tt
+allowed_as (Some t) S T same h = same t ∙ h
 
-pub cut_inhabits : CutsAreWider → (v : Tree) (K M : KindTree) → IsCut K M → Inhabits v K → Inhabits v M
-cut_inhabits wider v K M c = inhabits_within v K M (wider K M c)
+pub cut_holds_allowed : CutsAreWider → WiderKindsHoldMore → CutsHoldTheAllowed
+cut_holds_allowed wider more v A M c h = cut_holds wider more v c.whole M c.cut (λ p. allowed_as (tag_found (raw_at v p)) (A p) (tags_at c.whole p) (c.tags p) (h p))
+
+first_allowed : (found : Option Tag) (S T : Tags) → IfSome found (λ t. IsTrue (S t)) → IfSome found (λ t. IsTrue (S t || T t))
+first_allowed None S T h = tt
+first_allowed (Some t) S T h = ap (λ b. b || T t) h
 
 or_second : (a b : Bool) → b ≡ true → (a || b) ≡ true
 or_second true b h = refl
 or_second false b h = h
 
-either_first : CutsAreWider → (K L M : KindTree) → IsEither K L M → (v : Tree) → Inhabits v K → Inhabits v M
-either_first wider K L M c v h =
-    cut_inhabits wider v c.whole M c.cut (inhabits_within v K c.whole (λ p t is. c.tags p t ∙ ap (λ b. b || tags_at L p t) is) h)
+second_allowed : (found : Option Tag) (S T : Tags) → IfSome found (λ t. IsTrue (T t)) → IfSome found (λ t. IsTrue (S t || T t))
+second_allowed None S T h = tt
+second_allowed (Some t) S T h = or_second (S t) (T t) h
 
-either_second : CutsAreWider → (K L M : KindTree) → IsEither K L M → (v : Tree) → Inhabits v L → Inhabits v M
-either_second wider K L M c v h =
-    cut_inhabits wider v c.whole M c.cut (inhabits_within v L c.whole (λ p t is. c.tags p t ∙ or_second (tags_at K p t) (tags_at L p t) is) h)
+pub either_holds : CutsHoldTheAllowed → EitherHoldsBoth
+either_holds holds v K L M c (inl h) = holds v (either K L) M c (λ p. first_allowed (tag_found (raw_at v p)) (tags_at K p) (tags_at L p) (h p))
+either_holds holds v K L M c (inr h) = holds v (either K L) M c (λ p. second_allowed (tag_found (raw_at v p)) (tags_at K p) (tags_at L p) (h p))
 
 -- ---- joins
 
-first_fits : CutsAreWider → (v : Option Tree) (K L M : Option KindTree) → IsEitherVariable K L M → FitsKind v K → FitsKind v M
-first_fits wider v None L M is h = subst (FitsKind v) (sym is) tt
-first_fits wider v (Some K) None M is h = subst (FitsKind v) (sym is) tt
-first_fits wider v (Some K) (Some L) None is h = tt
-first_fits wider None (Some K) (Some L) (Some M) is h = absurd h
-first_fits wider (Some v) (Some K) (Some L) (Some M) is h = either_first wider K L M is v h
+side_fits : EitherHoldsBoth → (v : Option Tree) (K L M : Option KindTree) → IsEitherVariable K L M → FitsKind v K ⊎ FitsKind v L → FitsKind v M
+side_fits holds v None L M is h = subst (FitsKind v) (sym is) tt
+side_fits holds v (Some K) None M is h = subst (FitsKind v) (sym is) tt
+side_fits holds v (Some K) (Some L) None is h = tt
+side_fits holds None (Some K) (Some L) (Some M) is (inl h) = absurd h
+side_fits holds None (Some K) (Some L) (Some M) is (inr h) = absurd h
+side_fits holds (Some v) (Some K) (Some L) (Some M) is h = holds v K L M is h
 
-second_fits : CutsAreWider → (v : Option Tree) (K L M : Option KindTree) → IsEitherVariable K L M → FitsKind v L → FitsKind v M
-second_fits wider v None L M is h = subst (FitsKind v) (sym is) tt
-second_fits wider v (Some K) None M is h = subst (FitsKind v) (sym is) tt
-second_fits wider v (Some K) (Some L) None is h = tt
-second_fits wider None (Some K) (Some L) (Some M) is h = absurd h
-second_fits wider (Some v) (Some K) (Some L) (Some M) is h = either_second wider K L M is v h
-
-first_map : CutsAreWider → (store : Store) (a b c : RootMap) → IsEitherMap a b c → FitsMap store a → FitsMap store c
-first_map wider store a b c is fits = record {
-  event = either_first wider a.event b.event c.event is.event store.event fits.event;
-  variables = λ x. first_fits wider (map.get store.variables x) (map.get a.variables x) (map.get b.variables x) (map.get c.variables x) (is.variables x) (fits.variables x);
+first_map : EitherHoldsBoth → (store : Store) (a b c : RootMap) → IsEitherMap a b c → FitsMap store a → FitsMap store c
+first_map holds store a b c is fits = record {
+  event = holds store.event a.event b.event c.event is.event (inl fits.event);
+  variables = λ x. side_fits holds (map.get store.variables x) (map.get a.variables x) (map.get b.variables x) (map.get c.variables x) (is.variables x) (inl (fits.variables x));
 }
 
-second_map : CutsAreWider → (store : Store) (a b c : RootMap) → IsEitherMap a b c → FitsMap store b → FitsMap store c
-second_map wider store a b c is fits = record {
-  event = either_second wider a.event b.event c.event is.event store.event fits.event;
-  variables = λ x. second_fits wider (map.get store.variables x) (map.get a.variables x) (map.get b.variables x) (map.get c.variables x) (is.variables x) (fits.variables x);
+second_map : EitherHoldsBoth → (store : Store) (a b c : RootMap) → IsEitherMap a b c → FitsMap store b → FitsMap store c
+second_map holds store a b c is fits = record {
+  event = holds store.event a.event b.event c.event is.event (inr fits.event);
+  variables = λ x. side_fits holds (map.get store.variables x) (map.get a.variables x) (map.get b.variables x) (map.get c.variables x) (is.variables x) (inr (fits.variables x));
 }
 
 -- what fits either side of a join fits the join
-pub first_joined : CutsAreWider → (store : Store) (a b c : Option RootMap) → IsJoined a b c → FitsKnown store a → FitsKnown store c
-first_joined wider store None b c is fits = absurd fits
-first_joined wider store (Some a) None c is fits = subst (FitsKnown store) (sym is) fits
-first_joined wider store (Some a) (Some b) None is fits = absurd is
-first_joined wider store (Some a) (Some b) (Some c) is fits = first_map wider store a b c is fits
-
-pub second_joined : CutsAreWider → (store : Store) (a b c : Option RootMap) → IsJoined a b c → FitsKnown store b → FitsKnown store c
-second_joined wider store None b c is fits = subst (FitsKnown store) (sym is) fits
-second_joined wider store (Some a) None c is fits = absurd fits
-second_joined wider store (Some a) (Some b) None is fits = absurd is
-second_joined wider store (Some a) (Some b) (Some c) is fits = second_map wider store a b c is fits
+pub joins_fit : EitherHoldsBoth → JoinsKeepFits
+joins_fit holds None b c store is (inl fits) = absurd fits
+joins_fit holds None b c store is (inr fits) = subst (FitsKnown store) (sym is) fits
+joins_fit holds (Some a) None c store is (inl fits) = subst (FitsKnown store) (sym is) fits
+joins_fit holds (Some a) None c store is (inr fits) = absurd fits
+joins_fit holds (Some a) (Some b) None store is fits = absurd is
+joins_fit holds (Some a) (Some b) (Some c) store is (inl fits) = first_map holds store a b c is fits
+joins_fit holds (Some a) (Some b) (Some c) store is (inr fits) = second_map holds store a b c is fits
 
 -- ---- one root
 
-pub fits_root : (root : Root) (store : Store) (roots : RootMap) → FitsMap store roots → FitsKind (value_of root store) (kind_of root roots)
+fits_root : (root : Root) (store : Store) (roots : RootMap) → FitsMap store roots → FitsKind (value_of root store) (kind_of root roots)
 fits_root Event store roots fits = fits.event
 fits_root (Name x) store roots fits = fits.variables x
 
 -- a root with a new value and its new kind
-pub fits_with : (root : Root) (store : Store) (roots : RootMap) (v : Tree) (K : KindTree) → FitsMap store roots → Inhabits v K → FitsMap (with_value root v store) (with_kind root K roots)
+fits_with : (root : Root) (store : Store) (roots : RootMap) (v : Tree) (K : KindTree) → FitsMap store roots → Inhabits v K → FitsMap (with_value root v store) (with_kind root K roots)
 fits_with Event store roots v K fits h = record { event = h; variables = fits.variables }
 fits_with (Name x) store roots v K fits h =
     record {
@@ -114,10 +115,18 @@ fits_unknown (Name x) store roots v none fits =
 
 -- ---- writes and removals
 
-pub fits_written : (root : Root) (p : List Step) (n : Tree) (before after : Store) (roots roots' : RootMap) (M : KindTree) → roots' ≡ with_kind root M roots
-    → ((w : Tree) → IsSet (unwrap_or (value_of root before) null) p n w → Inhabits w M) → FitsMap before roots → IsStoreWritten root p n before after → FitsMap after roots'
-fits_written root p n before after roots roots' M is inhabited fits set =
-    subst (FitsMap after) (sym is) (subst (λ s. FitsMap s (with_kind root M roots)) (sym set.store) (fits_with root before roots set.value M fits (inhabited set.value set.set)))
+-- the value of a root, known or not, with another set in it
+set_holds : AnyHoldsAll → CutsAreWider → WiderKindsHoldMore → WritesAreOfTheirKind → (v : Option Tree) (K : Option KindTree) (p : List Step) (N M : KindTree) (n w : Tree)
+    → IsCutOf (write (tags_at (written_from K)) p (tags_at N)) M → FitsKind v K → Inhabits n N → IsSet (unwrap_or v null) p n w → Inhabits w M
+set_holds any wider more writes v None p N M n w c h new set = cut_holds wider more w c.whole M c.cut (writes (unwrap_or v null) n w p any_kind N c.whole c.tags (any (unwrap_or v null)) new set)
+set_holds any wider more writes None (Some K) p N M n w c h new set = absurd h
+set_holds any wider more writes (Some v) (Some K) p N M n w c h new set = cut_holds wider more w c.whole M c.cut (writes v n w p K N c.whole c.tags h new set)
+
+pub writes_fit : AnyHoldsAll → CutsAreWider → WiderKindsHoldMore → WritesAreOfTheirKind → WritesKeepFits
+writes_fit any wider more writes root p N value None known' before after is fits new written = absurd fits
+writes_fit any wider more writes root p N value (Some roots) known' before after is fits new written =
+    let here = set_holds any wider more writes (value_of root before) (kind_of root roots) p N is.0 value written.value is.1 (fits_root root before roots fits) new written.set in
+    subst (FitsKnown after) (sym is.2) (subst (λ s. FitsMap s (with_kind root is.0 roots)) (sym written.store) (fits_with root before roots written.value is.0 fits here))
 
 -- what holds of a value without a part
 without_inhabits : (v w : Tree) (p : List Step) (K M : KindTree) → ((u : Tree) → Inhabits u K → removable_at u p ≡ None → Inhabits u M) → ((u t : Tree) → Inhabits u K → p ≢ [] → IsRemoved u p t → Inhabits t M)
@@ -128,21 +137,34 @@ without_inhabits v w (s ∷ r) K M same less h is = by_found (removable_at v (s 
   by_found None none is = subst (λ t. Inhabits t M) (sym is) (same v h none)
   by_found (Some t) some is = less v w h (λ e. cc) is
 
-pub fits_taken_out : (root : Root) (p : List Step) (before after : Store) (roots roots' : RootMap) (K M : KindTree) → kind_of root roots ≡ Some K → roots' ≡ with_kind root M roots
+fits_taken_out : (root : Root) (p : List Step) (before after : Store) (roots : RootMap) (K M : KindTree) → kind_of root roots ≡ Some K
     → ((u : Tree) → Inhabits u K → removable_at u p ≡ None → Inhabits u M) → ((u t : Tree) → Inhabits u K → p ≢ [] → IsRemoved u p t → Inhabits t M)
-    → FitsMap before roots → IsStoreTakenOut root p before after → FitsMap after roots'
-fits_taken_out root p before after roots roots' K M known is same less fits taken = by_value (value_of root before) refl taken where
-  by_value : (o : Option Tree) → value_of root before ≡ o → MatchOption o (after ≡ before) (λ v. (w : Tree) × IsWithout v p w × (after ≡ with_value root w before)) → FitsMap after roots'
+    → FitsMap before roots → IsStoreTakenOut root p before after → FitsMap after (with_kind root M roots)
+fits_taken_out root p before after roots K M known same less fits taken = by_value (value_of root before) refl taken where
+  by_value : (o : Option Tree) → value_of root before ≡ o → MatchOption o (after ≡ before) (λ v. (w : Tree) × IsWithout v p w × (after ≡ with_value root w before)) → FitsMap after (with_kind root M roots)
   by_value None lacks taken = absurd (subst (λ o. FitsKind o (Some K)) lacks (subst (FitsKind (value_of root before)) known (fits_root root before roots fits)))
   by_value (Some v) has taken =
       let h : Inhabits v K = subst (λ o. FitsKind o (Some K)) has (subst (FitsKind (value_of root before)) known (fits_root root before roots fits)) in
-      subst (FitsMap after) (sym is) (subst (λ s. FitsMap s (with_kind root M roots)) (sym taken.2) (fits_with root before roots taken.0 M fits (without_inhabits v taken.0 p K M same less h taken.1)))
+      subst (λ s. FitsMap s (with_kind root M roots)) (sym taken.2) (fits_with root before roots taken.0 M fits (without_inhabits v taken.0 p K M same less h taken.1))
 
-pub fits_passed_over : (root : Root) (p : List Step) (before after : Store) (roots : RootMap) → kind_of root roots ≡ None → FitsMap before roots → IsStoreTakenOut root p before after → FitsMap after roots
+fits_passed_over : (root : Root) (p : List Step) (before after : Store) (roots : RootMap) → kind_of root roots ≡ None → FitsMap before roots → IsStoreTakenOut root p before after → FitsMap after roots
 fits_passed_over root p before after roots unknown fits taken = by_value (value_of root before) taken where
   by_value : (o : Option Tree) → MatchOption o (after ≡ before) (λ v. (w : Tree) × IsWithout v p w × (after ≡ with_value root w before)) → FitsMap after roots
   by_value None taken = subst (λ s. FitsMap s roots) (sym taken) fits
   by_value (Some v) taken = subst (λ s. FitsMap s roots) (sym taken.2) (fits_unknown root before roots taken.0 unknown fits)
+
+pub removals_fit : CutsAreWider → WiderKindsHoldMore → RemovalsAreOfTheirKind → NothingRemovedIsOfTheKind → RemovalsKeepFits
+removals_fit wider more removals nothing root p None known' before after is fits taken = absurd fits
+removals_fit wider more removals nothing root p (Some roots) known' before after is fits taken = by_kind (kind_of root roots) refl is where
+  by_kind : (k : Option KindTree) → kind_of root roots ≡ k → MatchOption k (known' ≡ Some roots) (λ K. HasNow root (remove (tags_at K) p) roots known') → FitsKnown after known'
+  by_kind None unknown same = subst (FitsKnown after) (sym same) (fits_passed_over root p before after roots unknown fits taken)
+  by_kind (Some K) known now =
+      let M = now.0 in
+      let c = now.1 in
+      subst (FitsKnown after) (sym now.2) (fits_taken_out root p before after roots K M known
+      (λ u old none. cut_holds wider more u c.whole M c.cut (nothing u p K c.whole c.tags old none))
+      (λ u t old some removed. cut_holds wider more t c.whole M c.cut (removals u t p K c.whole c.tags old some removed))
+      fits taken)
 
 -- ---- blocks
 
@@ -153,7 +175,7 @@ kept_fits true false v K holds h = absurd_false (holds refl) where
   absurd_false : {A : Type 0} → false ≡ true → A
   absurd_false e = cc
 
-pub fits_kept : (scope : Scope) (before after : Store) (roots : RootMap) → HoldsNames before scope → FitsMap after roots → FitsMap (store_kept before after) (kept scope roots)
+fits_kept : (scope : Scope) (before after : Store) (roots : RootMap) → HoldsNames before scope → FitsMap after roots → FitsMap (store_kept before after) (kept scope roots)
 fits_kept scope before after roots holds fits = record {
   event = fits.event;
   variables = λ x. rw (at_kept after.variables (λ y. map.contains_key before.variables y) x, at_kept roots.variables (λ y. set.contains scope.known y) x)
@@ -161,12 +183,24 @@ fits_kept scope before after roots holds fits = record {
 }
 
 -- behind a block only its scope's names are held and known
-pub fits_left : (scope : Scope) (before after : Store) (known : Option RootMap) → HoldsNames before scope → FitsKnown after known → FitsKnown (store_kept before after) (option_map (kept scope) known)
-fits_left scope before after None holds fits = fits
-fits_left scope before after (Some roots) holds fits = fits_kept scope before after roots holds fits
+pub blocks_fit : BlocksKeepFits
+blocks_fit scope None before after holds fits = fits
+blocks_fit scope (Some roots) before after holds fits = fits_kept scope before after roots holds fits
 
-pub fits_start : CutsAreWider → (store : Store) (K : KindTree) (roots : RootMap) → IsCut K roots.event → roots.variables ≡ map.empty → Inhabits store.event K → FitsMap store roots
-fits_start wider store K roots c none h = record {
-  event = cut_inhabits wider store.event K roots.event c h;
-  variables = λ x. any_fits _ (map.get roots.variables x) (ap (λ m. map.get m x) none ∙ map.get-empty _ x);
-}
+is_held : (v : Option Tree) (K : Option KindTree) → FitsKind v K → is_some K ≡ true → is_some v ≡ true
+is_held v None fits known = absurd (true≢false (sym known))
+is_held None (Some K) fits known = absurd fits
+is_held (Some v) (Some K) fits known = refl
+
+-- what is known is held
+pub names_held : BlocksKeepHeldNames
+names_held scope None store names fits = absurd fits
+names_held scope (Some roots) store names fits = λ x keeps. is_held (map.get store.variables x) (map.get roots.variables x) (fits.variables x) (sym (names x) ∙ keeps)
+
+pub starts_fit : CutsAreWider → WiderKindsHoldMore → StartsFit
+starts_fit wider more K state store start h =
+    let roots = start.roots in
+    subst (FitsKnown store) (sym start.known) record {
+      event = cut_holds wider more store.event K roots.event start.event h;
+      variables = λ x. any_fits _ (map.get roots.variables x) (ap (λ m. map.get m x) start.variables ∙ map.get-empty _ x);
+    }

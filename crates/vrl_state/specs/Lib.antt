@@ -1,5 +1,6 @@
 pub mod Codes
 pub mod Known
+pub mod Laws
 pub mod Merging
 pub mod States
 pub mod Stores

@@ -1,5 +1,5 @@
 ghost use Rattle.std.specs.Prelude.{◌≡◌, ◌≢◌, [], ◌∷◌, IfOk, OnErr, OnOk};
-ghost use Rattle.vrl_state.specs.Known.{known_as};
+ghost use Rattle.vrl_state.specs.Known.{known_as, HaveRootKinds};
 ghost use Rattle.vrl_state.specs.States.{HaveSameScopes, IsJoined, IsLeft, Scope};
 ghost use Rattle.vrl_state.specs.Stores.{store_kept, Fits, HoldsNames, Store};
 
@@ -72,9 +72,10 @@ impl Branch {
         Ok(())
     }
 
-    /// What is known at the end of the branch. `Memory`: want of memory.
+    /// What is known at the end of the branch: each kind is cut, and never allows absent. `Memory`: want of memory.
     pub fn known(&self, alloc: Global) -> Result<Known, Memory>
-        ensures { IfOk result (λ known. known ≡ known_as self.now.known) }
+        ensures known { IfOk result (λ known. known ≡ known_as self.now.known) }
+        ensures kinds { IfOk result HaveRootKinds }
     {
         self.state.list(alloc)
     }

@@ -1,9 +1,6 @@
-ghost use Rattle.std.specs.Prelude.{◌≡◌, ◌≢◌, [], IfOk, None};
-ghost use Rattle.vrl_value.specs.Tree.{Tree};
-ghost use Rattle.vrl_path.specs.Remove.{removable_at, IsRemoved};
+ghost use Rattle.std.specs.Prelude.{IfOk};
 ghost use Rattle.vrl_path.specs.Steps.{plain, IsPlain, IsWritable};
-ghost use Rattle.vrl_path.specs.Write.{IsSet};
-ghost use Rattle.vrl_kind.specs.Kinds.{Inhabits, tags_at};
+ghost use Rattle.vrl_kind.specs.Kinds.{tags_at};
 ghost use Rattle.vrl_place.specs.Remove.{remove};
 ghost use Rattle.vrl_place.specs.Write.{write};
 ghost use Rattle.vrl_state.specs.States.{IsCutOf, IsEither};
@@ -26,8 +23,7 @@ pub(crate) fn either(alloc: Global, a: &Kind, b: &Kind) -> Result<Kind, Memory>
 // The kind with another written at a path, cut. `Memory`: want of memory.
 pub(crate) fn written(alloc: Global, kind: &Kind, path: &Path, new: &Kind) -> Result<Kind, Memory>
     requires { IsWritable path.now }
-    ensures tags { IfOk result (λ after. IsCutOf (write (tags_at kind.now) (plain path.now) (tags_at new.now)) after) }
-    ensures inhabited { IfOk result (λ after. (v n w : Tree) → Inhabits v kind.now → Inhabits n new.now → IsSet v (plain path.now) n w → Inhabits w after) }
+    ensures { IfOk result (λ after. IsCutOf (write (tags_at kind.now) (plain path.now) (tags_at new.now)) after) }
 {
     let written = write_kind(alloc, kind, path, new)?;
     kind_is_canonical(&written);
@@ -37,9 +33,7 @@ pub(crate) fn written(alloc: Global, kind: &Kind, path: &Path, new: &Kind) -> Re
 // The kind without what stands at a path, cut. `Memory`: want of memory.
 pub(crate) fn taken_out(alloc: Global, kind: &Kind, path: &Path) -> Result<Kind, Memory>
     requires { IsPlain path.now }
-    ensures tags { IfOk result (λ after. IsCutOf (remove (tags_at kind.now) (plain path.now)) after) }
-    ensures inhabited { IfOk result (λ after. (v w : Tree) → Inhabits v kind.now → plain path.now ≢ [] → IsRemoved v (plain path.now) w → Inhabits w after) }
-    ensures unchanged { IfOk result (λ after. (v : Tree) → Inhabits v kind.now → removable_at v (plain path.now) ≡ None → Inhabits v after) }
+    ensures { IfOk result (λ after. IsCutOf (remove (tags_at kind.now) (plain path.now)) after) }
 {
     let left = remove_kind(alloc, kind, path)?;
     kind_is_canonical(&left);

@@ -1,15 +1,12 @@
-ghost use Rattle.std.specs.Prelude.{◌≡◌, ◌↔◌, IfOk, IfSome, IsTrue, OnErr, OnOk, Some, Option, option_map, unwrap_or, List, ℕ};
+ghost use Rattle.std.specs.Prelude.{◌≡◌, ◌↔◌, IfOk, IfSome, IsTrue, OnErr, OnOk, Some, option_map, List, ℕ};
 ghost use Rattle.std.specs.FinMap as map;
 ghost use Rattle.std.specs.FinSet as set;
-ghost use Rattle.vrl_value.specs.Tree.{Tree, null};
 ghost use Rattle.vrl_path.specs.Steps.{plain, IsPlain, IsWritable};
-ghost use Rattle.vrl_path.specs.Write.{IsSet};
 ghost use Rattle.vrl_kind.specs.Cut.{IsCut};
-ghost use Rattle.vrl_kind.specs.Kinds.{Inhabits, tags_at};
+ghost use Rattle.vrl_kind.specs.Kinds.{tags_at};
 ghost use Rattle.vrl_place.specs.Write.{write};
 ghost use Rattle.vrl_state.specs.Known.{root_kinds};
 ghost use Rattle.vrl_state.specs.States.{kept, kind_of, with_kind, written_from, HasRootKinds, IsCutOf, IsEitherMap, IsMapWithin, IsPresent, IsRootKind, IsTakenOut, IsWritten};
-ghost use Rattle.vrl_state.specs.Stores.{FitsKind, FitsMap, IsStoreTakenOut, IsStoreWritten, Store};
 
 use crate::block::Block;
 use crate::kinds::{either, taken_out, written};
@@ -17,7 +14,7 @@ use crate::known::{RootKind, RootKinds};
 use crate::variables::VariableKinds;
 use std::alloc::Global;
 use std::marker::Model;
-use vrl_kind::{Kind, any_holds_all, cut, kind_is_canonical, within};
+use vrl_kind::{Kind, cut, kind_is_canonical, within};
 use vrl_path::Path;
 use vrl_syntax::Root;
 use vrl_value::Memory;
@@ -89,11 +86,8 @@ impl KnownRoots {
     // The kind of a root with another written at a path. `Memory`: want of memory.
     fn written(&self, alloc: Global, root: &Root, path: &Path, new: &Kind) -> Result<Kind, Memory>
         requires { IsWritable path.now }
-        ensures tags { IfOk result (λ after. IsCutOf (write (tags_at (written_from (kind_of root.now self.now))) (plain path.now) (tags_at new.now)) after) }
-        ensures inhabited { IfOk result (λ after. (v : Option Tree) (n w : Tree) → FitsKind v (kind_of root.now self.now)
-            → Inhabits n new.now → IsSet (unwrap_or v null) (plain path.now) n w → Inhabits w after) }
+        ensures { IfOk result (λ after. IsCutOf (write (tags_at (written_from (kind_of root.now self.now))) (plain path.now) (tags_at new.now)) after) }
     {
-        any_holds_all();
         match self.kind(root) {
             Some(kind) => written(alloc, kind, path, new),
             None => written(alloc, &Kind::any(alloc)?, path, new),
@@ -111,8 +105,6 @@ impl KnownRoots {
         requires writable { IsWritable path.now }
         requires present { IsPresent new.now }
         ensures ok { OnOk result (IsWritten root.now (plain path.now) new.now (Some self.old) (Some self.new)) }
-        ensures fits { OnOk result ((value : Tree) (before after : Store) → FitsMap before self.old → Inhabits value new.now
-            → IsStoreWritten root.now (plain path.now) value before after → FitsMap after self.new) }
         ensures err { OnErr result (self.new ≡ self.old) }
     {
         let kind = self.written(alloc, root, path, new)?;
@@ -125,8 +117,6 @@ impl KnownRoots {
     pub(crate) fn remove(&mut self, alloc: Global, root: &Root, path: &Path) -> Result<(), Memory>
         requires { IsPlain path.now }
         ensures ok { OnOk result (IsTakenOut root.now (plain path.now) (Some self.old) (Some self.new)) }
-        ensures fits { OnOk result ((before after : Store) → FitsMap before self.old
-            → IsStoreTakenOut root.now (plain path.now) before after → FitsMap after self.new) }
         ensures err { OnErr result (self.new ≡ self.old) }
     {
         match self.kind(root) {
@@ -184,6 +174,13 @@ impl KnownRoots {
         ensures { IfOk result (λ block. (x : List ℕ) → set.contains block.known x ≡ map.contains_key self.now.variables x) }
     {
         self.variables.block(alloc)
+    }
+
+    // Each kind is one of a root. This changes nothing: it is a law of the type.
+    pub(crate) fn have_root_kinds(&self)
+        ensures { HasRootKinds self.now }
+    {
+        let _event = &self.event;
     }
 
     // The event and its kind, then each variable with its kind, by the bytes of the names. `Memory`: want of

@@ -3,18 +3,21 @@ ghost use Rattle.std.specs.FinSet as set;
 ghost use Rattle.vrl_value.specs.Tree.{Tree};
 ghost use Rattle.vrl_path.specs.Steps.{plain, IsPlain, IsWritable};
 ghost use Rattle.vrl_kind.specs.Kinds.{Inhabits};
-ghost use Rattle.vrl_state.specs.Known.{known_as};
+ghost use Rattle.vrl_state.specs.Known.{known_as, HaveRootKinds};
 ghost use Rattle.vrl_state.specs.States.{kept, kind_in, knows, HaveSameScopes, IsEntered, IsJoined, IsKnownWithin, IsLeft, IsPresent, IsRootKind, IsStart, IsTakenOut, IsWritten, Scope};
-ghost use Rattle.vrl_state.specs.Stores.{store_kept, Fits, FitsKnown, HoldsNames, IsStoreTakenOut, IsStoreWritten, Store};
+ghost use Rattle.vrl_state.specs.Stores.{store_kept, Fits, HoldsNames, IsStoreTakenOut, IsStoreWritten, Store};
 
 use crate::block::Block;
 use crate::branch::{Branch, Mark};
 use crate::known::Known;
+use crate::laws::{
+    blocks_keep_fits, joins_keep_fits, removals_keep_fits, starts_fit, writes_keep_fits,
+};
 use crate::roots::KnownRoots;
 use std::alloc::Global;
 use std::marker::Model;
 use std::mem;
-use vrl_kind::{Kind, cuts_are_wider};
+use vrl_kind::Kind;
 use vrl_path::Path;
 use vrl_syntax::Root;
 use vrl_value::Memory;
@@ -48,7 +51,7 @@ impl State {
         ensures state { IfOk result (λ state. IsStart event.now state) }
         ensures fits { IfOk result (λ state. (store : Store) → Inhabits store.event event.now → Fits store state) }
     {
-        cuts_are_wider();
+        starts_fit();
         let known = KnownRoots::start(alloc, event)?;
         Ok(State {
             known: Some(known),
@@ -99,6 +102,7 @@ impl State {
             → IsStoreWritten root.now (plain path.now) value before after → Fits after self.new) }
         ensures err { OnErr result (self.new ≡ self.old) }
     {
+        writes_keep_fits();
         assign(alloc, &mut self.known, root, path, new)?;
         Ok(())
     }
@@ -113,6 +117,7 @@ impl State {
             → IsStoreTakenOut root.now (plain path.now) before after → Fits after self.new) }
         ensures err { OnErr result (self.new ≡ self.old) }
     {
+        removals_keep_fits();
         remove(alloc, &mut self.known, root, path)?;
         Ok(())
     }
@@ -128,6 +133,7 @@ impl State {
         ensures second { OnOk result ((store : Store) → Fits store other.now → Fits store self.new) }
         ensures err { OnErr result (self.new ≡ self.old) }
     {
+        joins_keep_fits();
         let known = joined(alloc, &self.known, &other.state.known)?;
         self.known = known;
         Ok(())
@@ -151,6 +157,7 @@ impl State {
             → HoldsNames before scope → Fits after self.old → Fits (store_kept before after) self.new) }
         ensures err { OnErr result (self.new ≡ self.old) }
     {
+        blocks_keep_fits();
         leave(alloc, &mut self.known, &mut self.blocks)?;
         Ok(())
     }
@@ -197,11 +204,15 @@ impl State {
 
     // What is known, as a list. `Memory`: want of memory.
     pub(crate) fn list(&self, alloc: Global) -> Result<Known, Memory>
-        ensures { IfOk result (λ known. known ≡ known_as self.now.known) }
+        ensures known { IfOk result (λ known. known ≡ known_as self.now.known) }
+        ensures kinds { IfOk result HaveRootKinds }
     {
         match &self.known {
             None => Ok(Known::Dead),
-            Some(known) => Ok(Known::Alive(known.list(alloc)?)),
+            Some(known) => {
+                known.have_root_kinds();
+                Ok(Known::Alive(known.list(alloc)?))
+            }
         }
     }
 }
@@ -217,8 +228,6 @@ fn assign(
     requires writable { IsWritable path.now }
     requires present { IsPresent new.now }
     ensures written { OnOk result (IsWritten root.now (plain path.now) new.now known.old known.new) }
-    ensures fits { OnOk result ((value : Tree) (before after : Store) → FitsKnown before known.old → Inhabits value new.now
-        → IsStoreWritten root.now (plain path.now) value before after → FitsKnown after known.new) }
     ensures err { OnErr result (known.new ≡ known.old) }
 {
     let Some(known) = known else {
@@ -237,8 +246,6 @@ fn remove(
 ) -> Result<(), Memory>
     requires { IsPlain path.now }
     ensures removed { OnOk result (IsTakenOut root.now (plain path.now) known.old known.new) }
-    ensures fits { OnOk result ((before after : Store) → FitsKnown before known.old
-        → IsStoreTakenOut root.now (plain path.now) before after → FitsKnown after known.new) }
     ensures err { OnErr result (known.new ≡ known.old) }
 {
     let Some(known) = known else {
@@ -250,20 +257,6 @@ fn remove(
 
 // What is known on either way; a dead side gives the other. `Memory`: want of memory.
 fn joined(
-    alloc: Global,
-    a: &Option<KnownRoots>,
-    b: &Option<KnownRoots>,
-) -> Result<Option<KnownRoots>, Memory>
-    ensures known { IfOk result (λ joined. IsJoined a.now b.now joined) }
-    ensures first { IfOk result (λ joined. (store : Store) → FitsKnown store a.now → FitsKnown store joined) }
-    ensures second { IfOk result (λ joined. (store : Store) → FitsKnown store b.now → FitsKnown store joined) }
-{
-    cuts_are_wider();
-    let known = either_known(alloc, a, b)?;
-    Ok(known)
-}
-
-fn either_known(
     alloc: Global,
     a: &Option<KnownRoots>,
     b: &Option<KnownRoots>,
@@ -336,8 +329,6 @@ fn leave(
     requires { reverse blocks.old.items ≢ [] }
     ensures left { OnOk result (IsLeft (record { known = known.old; scopes = reverse blocks.old.items })
         (record { known = known.new; scopes = reverse blocks.new.items })) }
-    ensures fits { OnOk result ((scope : Scope) (before after : Store) → reverse blocks.old.items ≡ scope ∷ reverse blocks.new.items
-        → HoldsNames before scope → FitsKnown after known.old → FitsKnown (store_kept before after) known.new) }
     ensures known_err { OnErr result (known.new ≡ known.old) }
     ensures blocks_err { OnErr result (blocks.new.items ≡ blocks.old.items) }
 {

@@ -1,9 +1,8 @@
 use Rattle.std.proofs.Common.{reverse, ap, refl}
-use Rattle.vrl_state.proofs.Fitting.{fits_start}
 use Rattle.vrl_state.proofs.state.State.start.Goals as goal
 
 pub returns-clause-state : goal.returns-clause-state
 returns-clause-state c = record { roots = c.in_ok-known.known; known = refl; event = c.in_ok-known.ensures.event; variables = c.in_ok-known.ensures.variables; scopes = ap reverse c.new.ensures.items }
 
 pub returns-clause-fits : goal.returns-clause-fits
-returns-clause-fits c = λ store h. fits_start c.cuts_are_wider.ensures store c.args.event.now c.in_ok-known.known c.in_ok-known.ensures.event c.in_ok-known.ensures.variables h
+returns-clause-fits c = λ store h. c.starts_fit.ensures c.args.event.now _ store (returns-clause-state c) h

@@ -1,0 +1,80 @@
+ghost use Rattle.vrl_state.specs.Laws.{BlocksKeepFits, BlocksKeepHeldNames, CutsAreRootKinds, CutsHoldTheAllowed, EitherHoldsBoth, JoinsKeepFits, RemovalsKeepFits, StartsFit, WritesKeepFits};
+
+use vrl_kind::{any_holds_all, cuts_are_wider, wider_kinds_hold_more};
+use vrl_place::{
+    nothing_removed_is_of_the_kind, removals_are_of_their_kind, writes_are_of_their_kind,
+};
+
+/// A value that sets of tags allow at every path is of the kind that has these sets, cut. This takes no time:
+/// it is a law about the definitions.
+pub fn cuts_hold_the_allowed()
+    ensures { CutsHoldTheAllowed }
+{
+    cuts_are_wider();
+    wider_kinds_hold_more();
+}
+
+/// The kind that has sets of tags, without absent at the root, is the kind of a root once it is cut. This takes
+/// no time: it is a law about the definitions.
+pub fn cuts_are_root_kinds()
+    ensures { CutsAreRootKinds }
+{}
+
+/// A value of one kind or of another is of their join, cut. This takes no time: it is a law about the
+/// definitions.
+pub fn either_holds_both()
+    ensures { EitherHoldsBoth }
+{
+    cuts_hold_the_allowed();
+}
+
+/// A store whose event is of a kind fits the state at the start of a script over that kind. This takes no time:
+/// it is a law about the definitions.
+pub fn starts_fit()
+    ensures { StartsFit }
+{
+    cuts_are_wider();
+    wider_kinds_hold_more();
+}
+
+/// A store that fits what is known, once a value of a kind is written in it, fits what is known after a write
+/// of that kind. This takes no time: it is a law about the definitions.
+pub fn writes_keep_fits()
+    ensures { WritesKeepFits }
+{
+    any_holds_all();
+    cuts_are_wider();
+    wider_kinds_hold_more();
+    writes_are_of_their_kind();
+}
+
+/// A store that fits what is known, once something is taken out of it, fits what is known after that removal.
+/// This takes no time: it is a law about the definitions.
+pub fn removals_keep_fits()
+    ensures { RemovalsKeepFits }
+{
+    cuts_are_wider();
+    wider_kinds_hold_more();
+    removals_are_of_their_kind();
+    nothing_removed_is_of_the_kind();
+}
+
+/// A store that fits either side of a join fits the join. This takes no time: it is a law about the
+/// definitions.
+pub fn joins_keep_fits()
+    ensures { JoinsKeepFits }
+{
+    either_holds_both();
+}
+
+/// A store that fits what is known where a block begins holds the names that the block's scope keeps. This takes
+/// no time: it is a law about the definitions.
+pub fn blocks_keep_held_names()
+    ensures { BlocksKeepHeldNames }
+{}
+
+/// A store that fits what is known in a block, cut back to the names that it held where the block began, fits
+/// what is known behind the block. This takes no time: it is a law about the definitions.
+pub fn blocks_keep_fits()
+    ensures { BlocksKeepFits }
+{}
