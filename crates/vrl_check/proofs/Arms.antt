@@ -1,0 +1,302 @@
+-- The ways of an `if`, one beside another.
+use Rattle.std.proofs.Common.{◌≡◌, ◌≤◌, ◌<◌, ◌+◌, ℕ, suc, false, ◌||◌, List, [], ◌∷◌, ◌++◌, length, drop, get_or, drop-cons, add-one, None, refl, sym, ap, ◌∙◌, subst, append-nil, arith}
+use Rattle.std.proofs.lemmas.List.{drop_all}
+use Rattle.std.specs.List.{list_any}
+use Rattle.vrl_value.specs.declared.value.Tag.{Tag}
+use Rattle.vrl_diag.specs.declared.diagnostic.Diagnostic.{Diagnostic}
+use Rattle.vrl_diag.specs.declared.diagnostic.Span.{Span}
+use Rattle.vrl_syntax.specs.Limits.{arms_faults, expr_faults, exprs_faults}
+use Rattle.vrl_syntax.specs.Tree.{Expr, Exprs, Arms, no_arms, arm, Else, no_else, else_block, conditional}
+use Rattle.vrl_syntax.specs.View.{ArmTree, arm_of, arms_view}
+use Rattle.vrl_syntax.specs.declared.tree.Arm.{Arm as CodeArm}
+use Rattle.vrl_kind.specs.Canonical.{never_kind}
+use Rattle.vrl_state.specs.States.{IsEither, IsJoined, IsRootKind, Scope, State}
+use Rattle.vrl_check.specs.Branching.{no_ways, AreWays, IsBlockBeside, IsLastBeside, IsPredicateBeside}
+use Rattle.vrl_check.specs.Calls.{arms_hold_call, expr_holds_call, exprs_hold_call}
+use Rattle.vrl_check.specs.Judgement.{Judgement, JudgesArms, JudgesBlock, a_conditional, a_missing_else, an_arm, an_else, gives, is_error, nothing, of_predicate, settle, span_of, IsBeside}
+use Rattle.vrl_check.specs.Judging.{known_on, predicate_of, AreEnds, AreJoinedEnds, ArmsCanBeJudged, CanBeJudged, HasJudged, HasWays, IsAnywhereAs, IsArmAs, IsArmBehind, IsBlockAs, IsElseAs, IsJudgedAs, IsReported, ItemsCanBeJudged}
+use Rattle.vrl_check.specs.Seen.{seen, seen_ways}
+use Rattle.vrl_check.specs.declared.branches.Ways.{Ways}
+use Rattle.vrl_check.specs.declared.checker.Checker.{Checker}
+use Rattle.vrl_check.specs.declared.ends.Ends.{Ends}
+use Rattle.vrl_check.specs.declared.outcome.Outcome.{Outcome}
+use Rattle.vrl_check.proofs.Capable.{neither, none_of_both}
+use Rattle.vrl_check.proofs.RootKinds.{either_root, never_either, never_root}
+use Rattle.vrl_check.proofs.Sizes.{arms_size}
+use Rattle.vrl_check.proofs.Told.{as_seen, gathers_both, gathers_moved, gathers_reported, told, told_block, told_expr, told_of, Gathers, IsTold, IsToldBlock, IsToldExpr}
+use Rattle.vrl_check.proofs.Ways.{join_none, no_ends_are}
+
+-- ---- ways as they were told
+
+as_seen_ways : (before now : Checker) (ways : Ways) (w : Judgement) → HasWays before now ways w → w ≡ seen_ways ways w.codes w.empties
+as_seen_ways before now ways w has = λ i. record {
+  kind = sym has.kind i;
+  ok = sym has.ok i;
+  fail = sym has.ends.fail i;
+  ret = sym has.ends.ret i;
+  returned = sym has.ends.returned i;
+  poisoned = sym has.ends.poisoned i;
+  codes = w.codes;
+  empties = w.empties;
+}
+
+record AreTold (before now : Checker) (ways : Ways) (ds : List Diagnostic) (ts : List Tag) : Type 0 where
+  pub root : IsRootKind ways.kind
+  pub are : AreWays before.state.scopes ways
+  pub gathers : Gathers before now ds ts
+
+ways_told_of : (before now : Checker) (ways : Ways) (w : Judgement) → HasWays before now ways w → AreTold before now ways w.codes w.empties
+ways_told_of before now ways w has = record {
+  root = subst IsRootKind (sym has.kind) has.root;
+  are = record { ok = has.alive; ends = has.ends.are };
+  gathers = record { scopes = has.scopes; diagnostics = has.diagnostics; empties = has.empties };
+}
+
+ways_told : (before now : Checker) (ways : Ways) (ds : List Diagnostic) (ts : List Tag) → AreTold before now ways ds ts → HasWays before now ways (seen_ways ways ds ts)
+ways_told before now ways ds ts is = record {
+  kind = refl;
+  root = is.root;
+  alive = is.are.ok;
+  ok = refl;
+  ends = record { are = is.are.ends; fail = refl; ret = refl; returned = refl; poisoned = refl };
+  scopes = is.gathers.scopes;
+  diagnostics = is.gathers.diagnostics;
+  empties = is.gathers.empties;
+}
+
+pub ways_in : (ways : Ways) (scopes scopes' : List Scope) → scopes ≡ scopes' → AreWays scopes ways → AreWays scopes' ways
+ways_in ways scopes scopes' same are = subst (λ s. AreWays s ways) same are
+
+-- where the ways stand, for a call behind them
+pub ways_here : (before now : Checker) (ways : Ways) (w : Judgement) → HasWays before now ways w → AreWays now.state.scopes ways
+ways_here before now ways w has = ways_in ways before.state.scopes now.state.scopes (sym has.scopes) (ways_told_of before now ways w has).are
+
+-- ---- one arm
+
+beside_predicate : (p : Expr) (ways middle : Ways) (b c : Checker) (part : Outcome) (ds es : List Diagnostic) (ts us : List Tag) → IsRootKind ways.kind
+    → IsPredicateBeside (span_of p) part ways b c middle
+    → IsBeside (seen_ways ways ds ts) (record (predicate_of p (seen part b es us)) { kind = never_kind; ok = None }) (seen_ways middle (ds ++ (es ++ of_predicate (span_of p) (seen part b [] []))) (ts ++ us))
+beside_predicate p ways middle b c part ds es ts us root is =
+    let joined : AreJoinedEnds ways.ends (record part.ends { poisoned = part.ends.poisoned || list_any is_error (of_predicate (span_of p) (seen part b [] [])) }) middle.ends =
+    subst (λ ends. AreJoinedEnds ways.ends ends middle.ends) is.reported.ends is.ends
+    in
+    record {
+      kind = subst (λ K. IsEither ways.kind never_kind K) (sym is.kind) (never_either ways.kind root);
+      ok = subst (λ ok. IsJoined (known_on ways.ok) None (known_on ok)) (sym is.ok) (join_none (known_on ways.ok));
+      fail = joined.fail;
+      ret = joined.ret.state;
+      returned = joined.ret.kind;
+      poisoned = joined.poisoned;
+      codes = refl;
+      empties = refl;
+    }
+
+beside_block : (middle all : Ways) (e f : Checker) (mark : State) (block : Outcome) (ds es : List Diagnostic) (ts us : List Tag) → IsBlockBeside mark block middle e f all
+    → IsBeside (seen_ways middle ds ts) (seen block e es us) (seen_ways all (ds ++ es) (ts ++ us))
+beside_block middle all e f mark block ds es ts us is = record {
+  kind = is.kind;
+  ok = is.ok;
+  fail = is.ends.fail;
+  ret = is.ends.ret.state;
+  returned = is.ends.ret.kind;
+  poisoned = is.ends.poisoned;
+  codes = refl;
+  empties = refl;
+}
+
+-- the state that was marked, and the one behind the predicate
+gathers_arm : (before a b c e : Checker) (s mark : State) (part block : Outcome) (old new : Ends) (ds es ps qs : List Diagnostic) (ts us vs : List Tag) → Gathers before a ds ts → Gathers a b es us → IsReported ps b c old new → s ≡ c.state → Gathers (record c { state = s }) e qs vs → mark ≡ c.state
+    → Gathers before (record e { state = mark }) ((ds ++ (es ++ ps)) ++ qs) ((ts ++ us) ++ vs)
+gathers_arm before a b c e s mark part block old new ds es ps qs ts us vs first second reported same third marked =
+    let here = gathers_both before a c ds (es ++ ps) ts us first (gathers_reported a b c es ps us old new second reported) in
+    let there = gathers_both before c e (ds ++ (es ++ ps)) qs (ts ++ us) vs here (record { scopes = third.scopes ∙ ap (λ x. x.scopes) same; diagnostics = third.diagnostics; empties = third.empties }) in
+    record { scopes = ap (λ x. x.scopes) marked ∙ here.scopes; diagnostics = there.diagnostics; empties = there.empties }
+
+arm_told : (t : ArmTree) (before a b c e f : Checker) (s mark : State) (ways middle all : Ways) (part block : Outcome) (ds : List Diagnostic) (ts : List Tag) → AreTold before a ways ds ts → IsToldExpr t.0 a b part
+    → IsPredicateBeside (span_of t.0) part ways b c middle → s ≡ c.state → mark ≡ c.state → IsToldBlock t.1 (record c { state = s }) e block → IsBlockBeside mark block middle e f all
+    → IsArmAs t (seen_ways ways ds ts) before a f all
+arm_told t before a b c e f s mark ways middle all part block ds ts w x predicate same marked y behind =
+    let ps = of_predicate (span_of t.0) (seen part b [] []) in
+    let gone : Gathers before (record e { state = mark }) ((ds ++ (x.codes ++ ps)) ++ y.codes) ((ts ++ x.tags) ++ y.tags) =
+    gathers_arm before a b c e s mark part block part.ends predicate.predicate ds x.codes ps y.codes ts x.tags y.tags w.gathers x.ended.gathers predicate.reported same y.ended.gathers marked
+    in
+    let scopes : e.state.scopes ≡ before.state.scopes = y.ended.gathers.scopes ∙ ap (λ x. x.scopes) same ∙ ap (λ x. x.scopes) predicate.reported.state ∙ x.ended.gathers.scopes ∙ w.gathers.scopes in
+    record {
+      j = seen part b x.codes x.tags;
+      k = seen block e y.codes y.tags;
+      with_predicate = seen_ways middle (ds ++ (x.codes ++ ps)) (ts ++ x.tags);
+      all = seen_ways all ((ds ++ (x.codes ++ ps)) ++ y.codes) ((ts ++ x.tags) ++ y.tags);
+      predicate = x.judges;
+      first = beside_predicate t.0 ways middle b c part ds x.codes ts x.tags w.root predicate;
+      block = subst (λ known. JudgesBlock known t.1 (seen block e y.codes y.tags)) (ap (λ x. x.known) (same ∙ predicate.reported.state)) y.judges;
+      second = beside_block middle all e f mark block (ds ++ (x.codes ++ ps)) y.codes (ts ++ x.tags) y.tags behind;
+      known = ap (λ x. x.state.known) behind.back ∙ ap (λ x. x.known) (marked ∙ predicate.reported.state);
+      told = ways_told before f all ((ds ++ (x.codes ++ ps)) ++ y.codes) ((ts ++ x.tags) ++ y.tags) (record {
+        root = either_root middle.kind block.kind all.kind (subst IsRootKind (sym predicate.kind) w.root) y.ended.root behind.kind;
+        are = ways_in all e.state.scopes before.state.scopes scopes behind.are;
+        gathers = subst (λ z. Gathers before z ((ds ++ (x.codes ++ ps)) ++ y.codes) ((ts ++ x.tags) ++ y.tags)) (sym behind.back) gone;
+      });
+    }
+
+pub arm_judged : (t : ArmTree) (span : Span) (a b c e f : Checker) (s mark : State) (ways middle all : Ways) (part block : Outcome) → IsJudgedAs t.0 a b part → span ≡ span_of t.0
+    → IsPredicateBeside span part ways b c middle → s ≡ c.state → mark ≡ c.state → IsBlockAs t.1 (record c { state = s }) e block → IsBlockBeside mark block middle e f all
+    → IsArmBehind t ways a f all
+arm_judged t span a b c e f s mark ways middle all part block first spans predicate same marked second behind = λ before w has.
+    subst (λ v. IsArmAs t v before a f all) (sym (as_seen_ways before a ways w has))
+    (arm_told t before a b c e f s mark ways middle all part block w.codes w.empties (ways_told_of before a ways w has) (told_expr t.0 a b part first)
+    (subst (λ s. IsPredicateBeside s part ways b c middle) spans predicate) same marked (told_block t.1 (record c { state = s }) e block second) behind)
+
+-- where the ways with the predicate stand behind the block
+pub middle_here : (p : Expr) (es : Exprs) (span : Span) (a b c e : Checker) (s : State) (ways middle : Ways) (part block : Outcome) → IsPredicateBeside span part ways b c middle → s ≡ c.state → IsBlockAs es (record c { state = s }) e block
+    → AreWays e.state.scopes middle
+middle_here p es span a b c e s ways middle part block predicate same second =
+    ways_in middle b.state.scopes e.state.scopes (sym (second.2.gathered.scopes ∙ ap (λ x. x.scopes) (same ∙ predicate.reported.state))) predicate.are
+
+-- ---- what can be judged
+
+pub predicate_can : (p : Expr) (es : Exprs) (gs : Arms) → ArmsCanBeJudged (arm p es gs) → CanBeJudged p
+predicate_can p es gs can = record {
+  calls = (neither (expr_holds_call p) (exprs_hold_call es || arms_hold_call gs) can.calls).0;
+  limits = (none_of_both (expr_faults p) (exprs_faults es ++ arms_faults gs) can.limits).0;
+}
+
+behind_predicate : (p : Expr) (es : Exprs) (gs : Arms) → ArmsCanBeJudged (arm p es gs) → ((exprs_hold_call es || arms_hold_call gs) ≡ false) × (exprs_faults es ++ arms_faults gs ≡ [])
+behind_predicate p es gs can = (
+  (neither (expr_holds_call p) (exprs_hold_call es || arms_hold_call gs) can.calls).1,
+  (none_of_both (expr_faults p) (exprs_faults es ++ arms_faults gs) can.limits).1,
+)
+
+pub items_can : (p : Expr) (es : Exprs) (gs : Arms) → ArmsCanBeJudged (arm p es gs) → ItemsCanBeJudged es
+items_can p es gs can =
+    let rest = behind_predicate p es gs can in
+    record { calls = (neither (exprs_hold_call es) (arms_hold_call gs) rest.0).0; limits = (none_of_both (exprs_faults es) (arms_faults gs) rest.1).0 }
+
+pub arms_can : (p : Expr) (es : Exprs) (gs : Arms) → ArmsCanBeJudged (arm p es gs) → ArmsCanBeJudged gs
+arms_can p es gs can =
+    let rest = behind_predicate p es gs can in
+    record { calls = (neither (exprs_hold_call es) (arms_hold_call gs) rest.0).1; limits = (none_of_both (exprs_faults es) (arms_faults gs) rest.1).1 }
+
+-- ---- all arms
+
+-- the arms that were judged so far: what the rest gives from here, the whole gives from the start
+pub record AreJudged (whole : Arms) (otherwise : Else) (rest : Arms) (start now : Checker) (ways : Ways) : Type 0 where
+  pub w : Judgement
+  pub told : HasWays start now ways w
+  pub can : ArmsCanBeJudged rest
+  pub size : arms_size rest ≤ arms_size whole
+  pub judges : (all : Judgement) → JudgesArms now.state.known w rest otherwise all → JudgesArms start.state.known (nothing []) whole otherwise all
+
+pub none_judged : (whole : Arms) (otherwise : Else) (start : Checker) (ways : Ways) → ways ≡ no_ways → ArmsCanBeJudged whole → AreJudged whole otherwise whole start start ways
+none_judged whole otherwise start ways none can = subst (AreJudged whole otherwise whole start start) (sym none) (record {
+  w = nothing [];
+  told = record {
+    kind = refl;
+    root = never_root;
+    alive = refl;
+    ok = refl;
+    ends = record { are = no_ends_are start.state.scopes; fail = refl; ret = refl; returned = refl; poisoned = refl };
+    scopes = refl;
+    diagnostics = sym (append-nil start.diagnostics.items);
+    empties = sym (append-nil start.empties.items);
+  };
+  can = can;
+  size = omega arith;
+  judges = λ all is. is;
+})
+
+pub one_judged : (whole : Arms) (otherwise : Else) (t : ArmTree) (rest : Arms) (start now after : Checker) (ways all : Ways) → AreJudged whole otherwise (arm t.0 t.1 rest) start now ways → IsArmBehind t ways now after all
+    → AreJudged whole otherwise rest start after all
+one_judged whole otherwise t rest start now after ways all so_far next =
+    let is = next start so_far.w so_far.told in
+    record {
+      w = is.all;
+      told = is.told;
+      can = arms_can t.0 t.1 rest so_far.can;
+      size = omega (arith, so_far.size);
+      judges = λ end more. so_far.judges end (an_arm is.predicate is.first is.block is.second (subst (λ known. JudgesArms known is.all rest otherwise end) is.known more));
+    }
+
+-- ---- a list of arms
+
+pub next_arm : (items : List CodeArm) (i : ℕ) (it : CodeArm) → i < length items → it ≡ get_or items i it → arms_view (drop i items) ≡ arm (arm_of it).0 (arm_of it).1 (arms_view (drop (i + 1) items))
+next_arm items i it within is =
+    let front : drop i items ≡ it ∷ drop (i + 1) items = rw add-one (drop-cons items i it within ∙ ap (λ x. x ∷ drop (suc i) items) (sym is)) in
+    ap arms_view front
+
+pub no_arm_left : (items : List CodeArm) (i : ℕ) → length items ≤ i → arms_view (drop i items) ≡ no_arms
+no_arm_left items i past = ap arms_view (drop_all i items past)
+
+pub first_arms : (whole : Arms) (otherwise : Else) (items : List CodeArm) (start : Checker) (ways : Ways) → arms_view items ≡ whole → ways ≡ no_ways → ArmsCanBeJudged whole → AreJudged whole otherwise (arms_view items) start start ways
+first_arms whole otherwise items start ways is none can = subst (λ rest. AreJudged whole otherwise rest start start ways) (sym is) (none_judged whole otherwise start ways none can)
+
+pub more_arms : (whole rest : Arms) (otherwise : Else) (t : ArmTree) (left : Arms) (start now after : Checker) (ways all : Ways) → left ≡ arm t.0 t.1 rest → AreJudged whole otherwise left start now ways → IsArmBehind t ways now after all
+    → AreJudged whole otherwise rest start after all
+more_arms whole rest otherwise t left start now after ways all is so_far next = one_judged whole otherwise t rest start now after ways all (subst (λ gs. AreJudged whole otherwise gs start now ways) is so_far) next
+
+-- what the next arm requires
+pub next_can : (whole rest : Arms) (otherwise : Else) (t : ArmTree) (left : Arms) (start now : Checker) (ways : Ways) → left ≡ arm t.0 t.1 rest → AreJudged whole otherwise left start now ways → CanBeJudged t.0 × ItemsCanBeJudged t.1
+next_can whole rest otherwise t left start now ways is so_far =
+    let can = subst ArmsCanBeJudged is so_far.can in
+    (predicate_can t.0 t.1 rest can, items_can t.0 t.1 rest can)
+
+-- ---- the last way
+
+-- what a last `else`, or a missing one, gives
+record IsLast (w : Judgement) (otherwise : Else) (now after : Checker) (last : Outcome) : Type 0 where
+  pub k : Judgement
+  pub judged : HasJudged now after last k
+  pub judges : (all : Judgement) → IsBeside w k all → JudgesArms now.state.known w no_arms otherwise all
+
+is_last : (w : Judgement) (otherwise : Else) (now after : Checker) (last : Outcome) → IsElseAs otherwise now after last → IsLast w otherwise now after last
+is_last w (else_block es) now after last is = record { k = is.0; judged = is.2; judges = λ all beside. an_else is.1 beside }
+is_last w no_else now after last is = record { k = settle (gives is.0 now.state.known); judged = is.2; judges = λ all beside. a_missing_else is.1 beside }
+
+-- where it stands, for a call behind it
+pub last_ends : (otherwise : Else) (now after : Checker) (last : Outcome) → IsElseAs otherwise now after last → AreEnds after.state.scopes last.ends
+last_ends otherwise now after last is =
+    let l = is_last (nothing []) otherwise now after last is in
+    subst (λ scopes. AreEnds scopes last.ends) (sym l.judged.gathered.scopes) l.judged.ends.are
+
+-- where the ways before it stand
+pub ways_behind : (otherwise : Else) (start now after : Checker) (ways : Ways) (w : Judgement) (last : Outcome) → HasWays start now ways w → IsElseAs otherwise now after last → AreWays after.state.scopes ways
+ways_behind otherwise start now after ways w last has is =
+    ways_in ways now.state.scopes after.state.scopes (sym (is_last w otherwise now after last is).judged.gathered.scopes) (ways_here start now ways w has)
+
+beside_last : (ways : Ways) (last outcome : Outcome) (after end : Checker) (ds es : List Diagnostic) (ts us : List Tag) → IsLastBeside ways last after end outcome
+    → IsBeside (seen_ways ways ds ts) (seen last after es us) (seen outcome end (ds ++ es) (ts ++ us))
+beside_last ways last outcome after end ds es ts us is = record {
+  kind = is.kind;
+  ok = is.known;
+  fail = is.ends.fail;
+  ret = is.ends.ret.state;
+  returned = is.ends.ret.kind;
+  poisoned = is.ends.poisoned;
+  codes = refl;
+  empties = refl;
+}
+
+last_told : (otherwise : Else) (start now after end : Checker) (ways : Ways) (last outcome : Outcome) (ds : List Diagnostic) (ts : List Tag) → AreTold start now ways ds ts → IsLast (seen_ways ways ds ts) otherwise now after last → IsLastBeside ways last after end outcome
+    → (j : Judgement) × JudgesArms now.state.known (seen_ways ways ds ts) no_arms otherwise j × HasJudged start end outcome j
+last_told otherwise start now after end ways last outcome ds ts w is behind =
+    let es = is.k.codes in
+    let us = is.k.empties in
+    let x : IsTold now after last es us = told_of now after last is.k is.judged in (
+      seen outcome end (ds ++ es) (ts ++ us),
+      is.judges (seen outcome end (ds ++ es) (ts ++ us)) (subst (λ k. IsBeside (seen_ways ways ds ts) k (seen outcome end (ds ++ es) (ts ++ us))) (sym (as_seen now after last is.k is.judged)) (beside_last ways last outcome after end ds es ts us behind)),
+      told start end outcome (ds ++ es) (ts ++ us) (record {
+        root = either_root ways.kind last.kind outcome.kind w.root x.root behind.kind;
+        are = subst (λ scopes. AreEnds scopes outcome.ends) (x.gathers.scopes ∙ w.gathers.scopes) behind.are;
+        gathers = gathers_moved start after end (ds ++ es) (ts ++ us) (gathers_both start now after ds es ts us w.gathers x.gathers) behind.moved;
+      }),
+    )
+
+pub conditional_judged : (whole : Arms) (otherwise : Else) (start now after end : Checker) (ways : Ways) (last outcome : Outcome) → AreJudged whole otherwise no_arms start now ways → IsElseAs otherwise now after last → IsLastBeside ways last after end outcome
+    → IsAnywhereAs (conditional whole otherwise) start end outcome
+conditional_judged whole otherwise start now after end ways last outcome so_far is behind = λ span known alive.
+    let same = as_seen_ways start now ways so_far.w so_far.told in
+    let v = seen_ways ways so_far.w.codes so_far.w.empties in
+    let ended = last_told otherwise start now after end ways last outcome so_far.w.codes so_far.w.empties (ways_told_of start now ways so_far.w so_far.told) (is_last v otherwise now after last is) behind in (
+      ended.0,
+      a_conditional (subst (λ s. JudgesArms s (nothing []) whole otherwise ended.0) alive (so_far.judges ended.0 (subst (λ u. JudgesArms now.state.known u no_arms otherwise ended.0) (sym same) ended.1))),
+      ended.2,
+    )

@@ -1,0 +1,16 @@
+pub mod Answering
+pub mod Arms
+pub mod Assigning
+pub mod Between
+pub mod Branching
+pub mod Capable
+pub mod Containers
+pub mod Forms
+pub mod Order
+pub mod Parts
+pub mod Partway
+pub mod RootKinds
+pub mod Scalars
+pub mod Sizes
+pub mod Told
+pub mod Ways

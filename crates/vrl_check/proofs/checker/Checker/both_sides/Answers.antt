@@ -1,0 +1,13 @@
+use Rattle.vrl_check.proofs.Ways.{common}
+use Rattle.vrl_check.proofs.checker.Checker.both_sides.Goals as goal
+
+pub and-requires : goal.and-requires
+and-requires c = common c.args.self.now.state.scopes c.args.left.part.ends c.args.right c.requires.left.ends c.requires.right
+
+pub returns : goal.returns
+returns c = record {
+  moved = c.join_behind_if.ensures.others;
+  known = c.in_ok-join_behind_if.ensures.known;
+  ends = c.in_ok-ends.ensures.joined;
+  are = c.in_ok-ends.ensures.scopes c.args.self.now.state.scopes c.requires.left.ends c.requires.right;
+}

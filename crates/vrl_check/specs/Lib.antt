@@ -1,0 +1,10 @@
+pub mod Answer
+pub mod Assigning
+pub mod Branching
+pub mod Calls
+pub mod Empties
+pub mod Judgement
+pub mod Judging
+pub mod Ordered
+pub mod Partners
+pub mod Seen

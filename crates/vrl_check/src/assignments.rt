@@ -1,0 +1,264 @@
+ghost use Rattle.std.specs.Prelude.{◌≡◌, ◌&&◌, ◌||◌, [], false, is_some, not, IfOk, OnOk};
+ghost use Rattle.vrl_kind.specs.Canonical.{allows_absent};
+ghost use Rattle.vrl_state.specs.States.{IsRootKind};
+ghost use Rattle.vrl_syntax.specs.Limits.{target_faults};
+ghost use Rattle.vrl_syntax.specs.Tree.{assign as assign_form, both as both_form, merge as merge_form};
+ghost use Rattle.vrl_syntax.specs.View.{expr_of};
+ghost use Rattle.vrl_check.specs.Assigning.{AreAssigned};
+ghost use Rattle.vrl_check.specs.Judgement.{is_event as is_event_itself, is_no_event as is_no_event_at, is_nowhere as takes_nothing, of_error_assignment, IsWritten, Judgement};
+ghost use Rattle.vrl_check.specs.Judging.{known_on, AreBothWritten, AreEnds, CanBeJudged, HasEnds, IsAssignedAs, IsGivenAs, IsMoved, IsPutAt, IsReported, IsWay};
+
+use crate::checker::Checker;
+use crate::ends::Ends;
+use crate::kinds::{cut_kind_of, either, empty_tag, empty_value, may_be_event, scalar};
+use crate::outcome::Outcome;
+use vrl_diag::Span;
+use vrl_kind::Kind;
+use vrl_state::Branch;
+use vrl_syntax::{Expr, Root, Target};
+use vrl_value::{Memory, Tag};
+
+impl Checker {
+    // Writes a kind where a target says; one that takes nothing changes nothing. `Memory`: want of memory.
+    fn write(&mut self, target: &Target, kind: &Kind) -> Result<(), Memory>
+        requires target { target_faults target.now ≡ [] }
+        requires present { allows_absent kind.now ≡ false }
+        ensures written { OnOk result (IsWritten target.now kind.now self.old.state.known self.new.state.known) }
+        ensures others { IsMoved self.old self.new }
+    {
+        match target {
+            Target::Nowhere => Ok(()),
+            Target::Place(_, root, path) => self.state.assign(self.alloc, root, path, kind),
+        }
+    }
+
+    // `t = e`
+    #[cycle(judge)]
+    pub(crate) fn assignment(
+        &mut self,
+        span: Span,
+        target: &Target,
+        value: &Expr,
+    ) -> Result<Outcome, Memory>
+        requires target { target_faults target.now ≡ [] }
+        requires value { CanBeJudged (expr_of value.now) }
+        ensures { IfOk result (λ outcome. IsGivenAs span (assign_form target.now (expr_of value.now)) self.old self.new outcome) }
+    {
+        let part = self.expr(value)?;
+        self.assigned(span, target, part)
+    }
+
+    // An expression that may fail is 103, a target that takes nothing 640, and an event that is neither an
+    // object nor an array 1006.
+    fn assigned(&mut self, span: Span, target: &Target, part: Outcome) -> Result<Outcome, Memory>
+        requires target { target_faults target.now ≡ [] }
+        requires present { allows_absent part.kind ≡ false }
+        ensures { IfOk result (λ outcome. IsAssignedAs span target.now part self.old self.new outcome) }
+    {
+        let fallible = part.is_fallible();
+        let no_event = self.puts_no_event(target, &part);
+        let ends = self.report(part.ends, fallible, 103, span)?;
+        let ends = self.report(ends, is_nowhere(target), 640, span)?;
+        let ends = self.report(ends, no_event, 1006, span)?;
+        let kind = part.kind;
+        self.write(target, &kind)?;
+        Ok(Outcome { kind, ends })
+    }
+
+    // Whether the event gets a value that can't stand there.
+    fn puts_no_event(&self, target: &Target, part: &Outcome) -> bool
+        ensures { result ≡ (is_some self.now.state.known && not part.now.ends.poisoned && is_no_event_at target.now part.now.kind) }
+    {
+        self.is_known(part) && is_no_event(target, &part.kind)
+    }
+
+    // `t |= e` is `t = t | e`, but that a target that takes nothing is 640 and no more.
+    #[cycle(judge)]
+    pub(crate) fn merge_assignment(
+        &mut self,
+        span: Span,
+        target: &Target,
+        value: &Expr,
+    ) -> Result<Outcome, Memory>
+        requires target { target_faults target.now ≡ [] }
+        requires value { CanBeJudged (expr_of value.now) }
+        ensures { IfOk result (λ outcome. IsGivenAs span (merge_form target.now (expr_of value.now)) self.old self.new outcome) }
+    {
+        match target {
+            Target::Nowhere => {
+                let part = self.expr(value)?;
+                let ends = self.report(part.ends, true, 640, span)?;
+                let kind = part.kind;
+                Ok(Outcome { kind, ends })
+            }
+            Target::Place(place, root, path) => {
+                let whole = self.merge_into(*place, root, path, value)?;
+                let merged = self.settled(whole)?;
+                self.assigned(span, target, merged)
+            }
+        }
+    }
+
+    // `t, u = e`: behind a value the value and null are written; behind an error the empty value and a text.
+    #[cycle(judge)]
+    pub(crate) fn error_assignment(
+        &mut self,
+        span: Span,
+        ok: &Target,
+        err: &Target,
+        value: &Expr,
+    ) -> Result<Outcome, Memory>
+        requires ok { target_faults ok.now ≡ [] }
+        requires err { target_faults err.now ≡ [] }
+        requires value { CanBeJudged (expr_of value.now) }
+        ensures { IfOk result (λ outcome. IsGivenAs span (both_form ok.now err.now (expr_of value.now)) self.old self.new outcome) }
+    {
+        let place = self.empties.len();
+        self.empties.push(Tag::Null)?;
+        let part = self.expr(value)?;
+        self.both_assigned(span, ok, err, place, part)
+    }
+
+    // The same behind the expression, with the place of its empty value.
+    fn both_assigned(
+        &mut self,
+        span: Span,
+        ok: &Target,
+        err: &Target,
+        place: usize,
+        part: Outcome,
+    ) -> Result<Outcome, Memory>
+        requires ok { target_faults ok.now ≡ [] }
+        requires err { target_faults err.now ≡ [] }
+        requires kind { IsRootKind part.kind }
+        requires ends { AreEnds self.old.state.scopes part.ends }
+        ensures { IfOk result (AreAssigned span ok.now err.now place part self.old self.new) }
+    {
+        let tag = empty_tag(&part.kind);
+        self.put_empty(place, tag);
+        let value = empty_value(self.alloc, tag)?;
+        let empty = cut_kind_of(self.alloc, &value)?;
+        let kind = either(self.alloc, &part.kind, &empty)?;
+        let ends = self.error_codes(span, ok, err, part.ends, &kind)?;
+        let Ends {
+            fail,
+            ret,
+            poisoned,
+        } = ends;
+        self.write_both(ok, err, &part.kind, &empty, fail)?;
+        let ends = Ends {
+            fail: None,
+            ret,
+            poisoned,
+        };
+        Ok(Outcome { kind, ends })
+    }
+
+    // The empty value of an error assignment whose place was kept.
+    fn put_empty(&mut self, place: usize, tag: Tag)
+        ensures empties { IsPutAt place tag self.old.empties.items self.new.empties.items }
+        ensures state { self.new.state ≡ self.old.state }
+        ensures diagnostics { self.new.diagnostics ≡ self.old.diagnostics }
+    {
+        if place < self.empties.len() {
+            self.empties[place] = tag;
+        }
+    }
+
+    // An expression that can't fail is 104, and two targets that take nothing are 640. An event that is
+    // neither an object nor an array is 1006, once.
+    fn error_codes(
+        &mut self,
+        span: Span,
+        ok: &Target,
+        err: &Target,
+        ends: Ends,
+        kind: &Kind,
+    ) -> Result<Ends, Memory>
+        ensures { IfOk result (λ all. (j : Judgement) → self.old.state.known ≡ j.ok → HasEnds self.old.state.scopes ends j
+            → IsReported (of_error_assignment span ok.now err.now j kind.now) self.old self.new ends all) }
+    {
+        let needless = is_needless(&ends);
+        let no_event = self.writes_no_event(ok, err, &ends, kind);
+        let ends = self.report(ends, needless, 104, span)?;
+        let ends = self.report(ends, are_nowhere(ok, err), 640, span)?;
+        self.report(ends, no_event, 1006, span)
+    }
+
+    // Whether the event may get a value that can't stand there, where the assignment is reached.
+    fn writes_no_event(&self, ok: &Target, err: &Target, ends: &Ends, kind: &Kind) -> bool
+        ensures { result ≡ ((is_some self.now.state.known || is_some ends.now.fail)
+            && ((not ends.now.poisoned && is_no_event_at ok.now kind.now) || is_event_itself err.now)) }
+    {
+        let reached = self.is_alive() || ends.fail.is_some();
+        let no_event = (!ends.poisoned && is_no_event(ok, kind)) || is_event(err);
+        reached && no_event
+    }
+
+    // Writes both targets behind a value, and behind an error, and joins what is known then.
+    fn write_both(
+        &mut self,
+        ok: &Target,
+        err: &Target,
+        kind: &Kind,
+        empty: &Kind,
+        fail: Option<Branch>,
+    ) -> Result<(), Memory>
+        requires ok { target_faults ok.now ≡ [] }
+        requires err { target_faults err.now ≡ [] }
+        requires present { allows_absent kind.now ≡ false }
+        requires empty { allows_absent empty.now ≡ false }
+        requires way { IsWay self.old.state.scopes fail }
+        ensures written { OnOk result (AreBothWritten ok.now err.now kind.now empty.now self.old.state.known (known_on fail) self.new.state.known) }
+        ensures others { IsMoved self.old self.new }
+    {
+        let null = scalar(self.alloc, Tag::Null)?;
+        let text = scalar(self.alloc, Tag::Text)?;
+        self.write(ok, kind)?;
+        self.write(err, &null)?;
+        if fail.is_none() {
+            return Ok(());
+        }
+        let mark = self.state.mark(self.alloc)?;
+        self.go_to(fail)?;
+        self.write(ok, empty)?;
+        self.write(err, &text)?;
+        self.join_behind(mark)
+    }
+}
+
+// Whether an expression can't fail, and no code tells why.
+pub(crate) fn is_needless(ends: &Ends) -> bool
+    ensures { result ≡ not (ends.now.poisoned || is_some ends.now.fail) }
+{
+    !(ends.poisoned || ends.fail.is_some())
+}
+
+fn are_nowhere(ok: &Target, err: &Target) -> bool
+    ensures { result ≡ (takes_nothing ok.now && takes_nothing err.now) }
+{
+    is_nowhere(ok) && is_nowhere(err)
+}
+
+fn is_nowhere(target: &Target) -> bool
+    ensures { result ≡ takes_nothing target.now }
+{
+    matches!(target, Target::Nowhere)
+}
+
+// Whether a target is the event itself.
+fn is_event(target: &Target) -> bool
+    ensures { result ≡ is_event_itself target.now }
+{
+    match target {
+        Target::Place(_, Root::Event, path) => path.as_slice().is_empty(),
+        _ => false,
+    }
+}
+
+// Whether a target is the event itself, and the kind neither an array nor an object.
+fn is_no_event(target: &Target, kind: &Kind) -> bool
+    ensures { result ≡ is_no_event_at target.now kind.now }
+{
+    is_event(target) && !may_be_event(kind)
+}

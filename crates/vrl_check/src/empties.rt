@@ -1,0 +1,120 @@
+ghost use Rattle.std.specs.Prelude.{◌≡◌, ◌++◌, IfOk, OnOk};
+ghost use Rattle.vrl_syntax.specs.View.{args_of, arms_of, call_of, expr_of, exprs_of, pairs_of};
+ghost use Rattle.vrl_check.specs.Empties.{args_empties, arms_empties, expr_empties, exprs_empties, form_empties, pairs_empties};
+ghost use Rattle.vrl_check.specs.Judgement.{nothing};
+ghost use Rattle.vrl_check.specs.Judging.{HasJudged};
+
+use crate::checker::Checker;
+use crate::outcome::Outcome;
+use vrl_syntax::{Args, Arms, Call, Expr, Exprs, Form, Pairs};
+use vrl_value::{Memory, Tag};
+
+impl Checker {
+    // What isn't judged gives nothing but its empty values, and the state stays. `Memory`: want of memory.
+    pub(crate) fn pass(&mut self, expr: &Expr) -> Result<Outcome, Memory>
+        ensures { IfOk result (λ outcome. HasJudged self.old self.new outcome (record (nothing (expr_empties (expr_of expr.now))) { ok = self.old.state.known })) }
+    {
+        add_expr(expr, &mut self.empties)?;
+        Outcome::nothing(self.alloc)
+    }
+
+    // The same of items. `Memory`: want of memory.
+    pub(crate) fn pass_items(&mut self, items: &Exprs) -> Result<Outcome, Memory>
+        ensures { IfOk result (λ outcome. HasJudged self.old self.new outcome (record (nothing (exprs_empties (exprs_of items.now))) { ok = self.old.state.known })) }
+    {
+        add_exprs(items, &mut self.empties)?;
+        Outcome::nothing(self.alloc)
+    }
+}
+
+// Adds null for each error assignment of an expression.
+#[cycle(empties)]
+fn add_expr(expr: &Expr, empties: &mut Vec<Tag>) -> Result<(), Memory>
+    ensures { OnOk result (empties.new.items ≡ empties.old.items ++ expr_empties (expr_of expr.now)) }
+{
+    match &expr.form {
+        Form::Literal(_) | Form::Read(..) | Form::Abort(None) => Ok(()),
+        Form::Array(exprs) | Form::Block(exprs) => add_exprs(exprs, empties),
+        Form::Map(pairs) => add_pairs(pairs, empties),
+        Form::Query(inner, _)
+        | Form::Group(inner)
+        | Form::Not(inner)
+        | Form::Assign(_, inner)
+        | Form::Merge(_, inner)
+        | Form::Return(inner)
+        | Form::Abort(Some(inner)) => add_expr(inner, empties),
+        Form::If(arms, otherwise) => {
+            add_arms(arms, empties)?;
+            match otherwise {
+                Some(exprs) => add_exprs(exprs, empties),
+                None => Ok(()),
+            }
+        }
+        Form::Binary(_, left, right) => {
+            add_expr(left, empties)?;
+            add_expr(right, empties)
+        }
+        Form::Both(_, _, part) => {
+            empties.push(Tag::Null)?;
+            add_expr(part, empties)
+        }
+        Form::Call(call) => add_call(call, empties),
+    }
+}
+
+// Adds those of a call.
+#[cycle(empties)]
+fn add_call(call: &Call, empties: &mut Vec<Tag>) -> Result<(), Memory>
+    ensures { OnOk result (empties.new.items ≡ empties.old.items ++ form_empties (call_of call.now)) }
+{
+    add_args(&call.args, empties)?;
+    match &call.closure {
+        Some(closure) => add_exprs(&closure.body, empties),
+        None => Ok(()),
+    }
+}
+
+// Adds those of expressions.
+#[cycle(empties)]
+fn add_exprs(exprs: &Exprs, empties: &mut Vec<Tag>) -> Result<(), Memory>
+    ensures { OnOk result (empties.new.items ≡ empties.old.items ++ exprs_empties (exprs_of exprs.now)) }
+{
+    for expr in exprs.as_slice() {
+        add_expr(expr, empties)?;
+    }
+    Ok(())
+}
+
+// Adds those of the values of an object.
+#[cycle(empties)]
+fn add_pairs(pairs: &Pairs, empties: &mut Vec<Tag>) -> Result<(), Memory>
+    ensures { OnOk result (empties.new.items ≡ empties.old.items ++ pairs_empties (pairs_of pairs.now)) }
+{
+    for (_, value) in pairs.as_slice() {
+        add_expr(value, empties)?;
+    }
+    Ok(())
+}
+
+// Adds those of predicates and their blocks.
+#[cycle(empties)]
+fn add_arms(arms: &Arms, empties: &mut Vec<Tag>) -> Result<(), Memory>
+    ensures { OnOk result (empties.new.items ≡ empties.old.items ++ arms_empties (arms_of arms.now)) }
+{
+    for arm in arms.as_slice() {
+        add_expr(&arm.predicate, empties)?;
+        add_exprs(&arm.body, empties)?;
+    }
+    Ok(())
+}
+
+// Adds those of the arguments of a call.
+#[cycle(empties)]
+fn add_args(args: &Args, empties: &mut Vec<Tag>) -> Result<(), Memory>
+    ensures { OnOk result (empties.new.items ≡ empties.old.items ++ args_empties (args_of args.now)) }
+{
+    for arg in args.as_slice() {
+        add_expr(&arg.value, empties)?;
+    }
+    Ok(())
+}

@@ -1,0 +1,92 @@
+ghost use Rattle.std.specs.Prelude.{◌≡◌, IfOk, List};
+ghost use Rattle.vrl_state.specs.States.{Scope};
+ghost use Rattle.vrl_syntax.specs.View.{expr_of, exprs_of};
+ghost use Rattle.vrl_check.specs.Judging.{AreEnds, AreJoinedEnds, CanBeJudged, HaveCommonScopes, IsBlockAs, IsBlockEndAs, IsInBlock, IsItemAs, IsScriptAs, IsSequenceAs, ItemsCanBeJudged};
+
+use crate::checker::Checker;
+use crate::kinds::scalar;
+use crate::outcome::Outcome;
+use std::alloc::Global;
+use vrl_syntax::{Expr, Exprs};
+use vrl_value::{Memory, Tag};
+
+impl Checker {
+    // Judges the items of a block or a branch, whose names end with it. `Memory`: want of memory.
+    #[cycle(judge)]
+    pub(crate) fn block(&mut self, items: &Exprs) -> Result<Outcome, Memory>
+        requires { ItemsCanBeJudged (exprs_of items.now) }
+        ensures { IfOk result (λ outcome. IsBlockAs (exprs_of items.now) self.old self.new outcome) }
+    {
+        if self.state.is_dead() {
+            return self.pass_items(items);
+        }
+        self.state.enter(self.alloc)?;
+        let part = self.sequence(items)?;
+        self.end_block(part)
+    }
+
+    // Ends the innermost block, behind its items. `Memory`: want of memory.
+    fn end_block(&mut self, part: Outcome) -> Result<Outcome, Memory>
+        requires { IsInBlock self.old part }
+        ensures { IfOk result (λ outcome. IsBlockEndAs part self.old self.new outcome) }
+    {
+        self.state.leave(self.alloc)?;
+        let ends = part.ends.leave(self.alloc)?;
+        let kind = part.kind;
+        self.settled(Outcome { kind, ends })
+    }
+
+    // Judges items in order; no item gives null. `Memory`: want of memory.
+    #[cycle(judge)]
+    fn sequence(&mut self, items: &Exprs) -> Result<Outcome, Memory>
+        requires { ItemsCanBeJudged (exprs_of items.now) }
+        ensures { IfOk result (λ outcome. IsSequenceAs (exprs_of items.now) self.old self.new outcome) }
+    {
+        let mut last = Outcome::value(scalar(self.alloc, Tag::Null)?);
+        for item in items.as_slice() {
+            let part = self.expr(item)?;
+            last = last.then(self.alloc, part)?;
+        }
+        Ok(last)
+    }
+
+    // Judges the items of a script. `Memory`: want of memory.
+    pub(crate) fn script(&mut self, items: &Exprs) -> Result<Outcome, Memory>
+        requires { ItemsCanBeJudged (exprs_of items.now) }
+        ensures { IfOk result (λ outcome. IsScriptAs (exprs_of items.now) self.old self.new outcome) }
+    {
+        let mut last = Outcome::value(scalar(self.alloc, Tag::Null)?);
+        for item in items.as_slice() {
+            let part = self.item(item)?;
+            last = last.then(self.alloc, part)?;
+        }
+        self.settled(last)
+    }
+
+    // An item of the script itself that may fail is 100.
+    fn item(&mut self, item: &Expr) -> Result<Outcome, Memory>
+        requires { CanBeJudged (expr_of item.now) }
+        ensures { IfOk result (λ outcome. IsItemAs (expr_of item.now) self.old self.new outcome) }
+    {
+        let outcome = self.expr(item)?;
+        let fallible = outcome.is_fallible();
+        let ends = self.report(outcome.ends, fallible, 100, item.span)?;
+        let kind = outcome.kind;
+        Ok(Outcome { kind, ends })
+    }
+}
+
+impl Outcome {
+    // One part behind others: it ends with a value where the last one does, and otherwise where any of them
+    // does. `Memory`: want of memory.
+    fn then(self, alloc: Global, part: Outcome) -> Result<Outcome, Memory>
+        requires { HaveCommonScopes self.ends part.ends }
+        ensures kind { IfOk result (λ outcome. outcome.kind ≡ part.kind) }
+        ensures joined { IfOk result (λ outcome. AreJoinedEnds self.ends part.ends outcome.ends) }
+        ensures scopes { IfOk result (λ outcome. (scopes : List Scope) → AreEnds scopes self.ends → AreEnds scopes part.ends → AreEnds scopes outcome.ends) }
+    {
+        let ends = self.ends.and(alloc, part.ends)?;
+        let kind = part.kind;
+        Ok(Outcome { kind, ends })
+    }
+}

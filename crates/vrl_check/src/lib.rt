@@ -1,0 +1,25 @@
+//! The judgement of scripts: what each form gives before any event is there, and what is wrong with it.
+//!
+//! A contract says it by `Judges`, which names the kind of a form's value and what is known where it ends with
+//! a value, with an error and with a return.
+#![tactic(auto)]
+
+mod assignments;
+mod branches;
+mod calls;
+mod checker;
+mod empties;
+mod ends;
+mod items;
+mod judged;
+mod kinds;
+mod operators;
+mod outcome;
+mod script;
+mod tables;
+mod values;
+
+pub use calls::holds_call;
+pub use ends::Returned;
+pub use judged::{Ending, Judged};
+pub use script::{check, ending};

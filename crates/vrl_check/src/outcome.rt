@@ -1,0 +1,63 @@
+ghost use Rattle.std.specs.Prelude.{◌≡◌, is_some, IfOk};
+ghost use Rattle.vrl_kind.specs.Canonical.{never_kind};
+ghost use Rattle.vrl_check.specs.Judgement.{settled_kind as kind_settled};
+ghost use Rattle.vrl_check.specs.Judging.{no_ends, settled_ends};
+
+use crate::ends::Ends;
+use std::alloc::Global;
+use vrl_kind::Kind;
+use vrl_value::Memory;
+
+// What an expression was judged to be.
+#[derive(Drop)]
+pub(crate) struct Outcome {
+    // The kind of its value; never where it can't end with one, and any where it is poisoned.
+    pub(crate) kind: Kind,
+    pub(crate) ends: Ends,
+}
+
+impl Outcome {
+    // A value of this kind, and nothing else.
+    pub(crate) fn value(kind: Kind) -> Outcome
+        ensures kind { result.kind ≡ kind }
+        ensures ends { result.ends ≡ no_ends }
+    {
+        let ends = Ends::none();
+        Outcome { kind, ends }
+    }
+
+    // Nothing can happen. `Memory`: want of memory.
+    pub(crate) fn nothing(alloc: Global) -> Result<Outcome, Memory>
+        ensures kind { IfOk result (λ outcome. outcome.kind ≡ never_kind) }
+        ensures ends { IfOk result (λ outcome. outcome.ends ≡ no_ends) }
+    {
+        Ok(Outcome::value(Kind::never(alloc)?))
+    }
+
+    // Whether it may end with an error.
+    pub(crate) fn is_fallible(&self) -> bool
+        ensures { result ≡ is_some self.now.ends.fail }
+    {
+        self.ends.fail.is_some()
+    }
+
+    // What is poisoned has kind any and no error is left of it; what can't end with a value has kind never.
+    // `Memory`: want of memory.
+    pub(crate) fn settled(self, alloc: Global, alive: bool) -> Result<Outcome, Memory>
+        ensures kind { IfOk result (λ outcome. outcome.kind ≡ kind_settled self.ends.poisoned alive self.kind) }
+        ensures ends { IfOk result (λ outcome. outcome.ends ≡ settled_ends self.ends) }
+    {
+        let kind = settled_kind(alloc, self.ends.poisoned, alive, self.kind)?;
+        let ends = self.ends.settled();
+        Ok(Outcome { kind, ends })
+    }
+}
+
+fn settled_kind(alloc: Global, poisoned: bool, alive: bool, kind: Kind) -> Result<Kind, Memory>
+    ensures { IfOk result (λ settled. settled ≡ kind_settled poisoned alive kind) }
+{
+    if poisoned {
+        return Kind::any(alloc);
+    }
+    if alive { Ok(kind) } else { Kind::never(alloc) }
+}

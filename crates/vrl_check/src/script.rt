@@ -1,0 +1,95 @@
+ghost use Rattle.std.specs.Prelude.{◌≡◌, false, None, IfOk};
+ghost use Rattle.vrl_kind.specs.Canonical.{allows_absent};
+ghost use Rattle.vrl_state.specs.Known.{known_as};
+ghost use Rattle.vrl_syntax.specs.Limits.{KeepsLimits};
+ghost use Rattle.vrl_syntax.specs.View.{exprs_of};
+ghost use Rattle.vrl_check.specs.Answer.{EndsOutside, IsEnding, IsJudged};
+ghost use Rattle.vrl_check.specs.Calls.{exprs_hold_call};
+ghost use Rattle.vrl_check.specs.Judgement.{JudgesScript, Judgement};
+ghost use Rattle.vrl_check.specs.Ordered.{AreOrdered};
+
+use crate::checker::Checker;
+use crate::judged::{Ending, Judged};
+use crate::kinds::either;
+use std::alloc::Global;
+use vrl_diag::{Diagnostic, Diagnostics};
+use vrl_kind::Kind;
+use vrl_state::{Branch, Knowns, State};
+use vrl_syntax::{Empties, Script};
+use vrl_value::Memory;
+
+/// Judges a script over events of a kind. It walks the script once. `Memory`: want of memory.
+pub fn check(alloc: Global, script: &Script, start: &Kind) -> Result<Judged, Memory>
+    requires calls { exprs_hold_call (exprs_of script.now.items) ≡ false }
+    requires limits { KeepsLimits (exprs_of script.now.items) }
+    requires present { allows_absent start.now ≡ false }
+    ensures judged { IfOk result (λ judged. (j : Judgement) × JudgesScript start.now (exprs_of script.now.items) j × IsJudged j judged) }
+    ensures outside { IfOk result (λ judged. EndsOutside judged) }
+{
+    let mut checker = Checker::start(alloc, start)?;
+    let outcome = checker.script(&script.items)?;
+    let diagnostics = ordered(checker.diagnostics)?;
+    let (ok, none) = split(alloc, checker.state)?;
+    Ok(Judged {
+        kind: outcome.kind,
+        ok,
+        fail: outcome.ends.fail.unwrap_or(none),
+        ret: outcome.ends.ret,
+        empties: Empties::new(checker.empties),
+        loops: Knowns::new(Vec::new(alloc)),
+        diagnostics: Diagnostics::new(diagnostics),
+    })
+}
+
+// Codes by start, end and code. `Memory`: want of memory.
+fn ordered(diagnostics: Vec<Diagnostic>) -> Result<Vec<Diagnostic>, Memory>
+    ensures { IfOk result (λ ordered. AreOrdered diagnostics.items ordered.items) }
+{
+    let mut diagnostics = diagnostics;
+    diagnostics.sort_by_key(|d: &Diagnostic| (d.span.start, d.span.end, d.code))?;
+    Ok(diagnostics)
+}
+
+// The state as a branch, and a dead one beside it. `Memory`: want of memory.
+fn split(alloc: Global, state: State) -> Result<(Branch, Branch), Memory>
+    ensures state { IfOk result (λ branches. branches.0 ≡ state) }
+    ensures none { IfOk result (λ branches. branches.1 ≡ record state { known = None }) }
+{
+    let mut state = state;
+    let copy = state.mark(alloc)?;
+    let ok = state.back(copy);
+    state.kill();
+    let copy = state.mark(alloc)?;
+    let none = state.back(copy);
+    Ok((ok, none))
+}
+
+/// The kind of a script's value, from its end or from a return, and what is known there. `Memory`: want of
+/// memory.
+pub fn ending(alloc: Global, judged: &Judged) -> Result<Ending, Memory>
+    requires { EndsOutside judged.now }
+    ensures { IfOk result (λ ending. IsEnding judged.now ending) }
+{
+    let mut state = State::start(alloc, &Kind::never(alloc)?)?;
+    state.kill();
+    state.join(alloc, &judged.ok)?;
+    match &judged.ret {
+        None => end(
+            alloc,
+            state,
+            either(alloc, &judged.kind, &Kind::never(alloc)?)?,
+        ),
+        Some(ret) => {
+            state.join(alloc, &ret.state)?;
+            end(alloc, state, either(alloc, &judged.kind, &ret.kind)?)
+        }
+    }
+}
+
+fn end(alloc: Global, state: State, kind: Kind) -> Result<Ending, Memory>
+    ensures { IfOk result (λ ending. ending ≡ record { kind = kind; state = known_as state.known }) }
+{
+    let (branch, _none) = split(alloc, state)?;
+    let state = branch.known(alloc)?;
+    Ok(Ending { kind, state })
+}
