@@ -1,5 +1,5 @@
 -- How the parts of an answer make the whole of it.
-use Rattle.std.proofs.Common.{◌≡◌, ℕ, List, [], map, Option, Some, None, Result, Ok, Err, IfSome, IfOk, unwrap_or, ◌⊎◌, inl, inr, refl, arith, sym, ap, ◌∙◌, subst}
+use Rattle.std.proofs.Common.{◌≡◌, ℕ, Bool, true, false, if◌then◌else◌, List, [], map, Option, Some, None, Result, Ok, Err, IfSome, IfOk, unwrap_or, ◌⊎◌, inl, inr, refl, arith, sym, ap, ◌∙◌, subst}
 use Rattle.vrl_compile.specs.Answer.{IsAnswer}
 use Rattle.vrl_token.specs.Reading.{IsNoScript}
 use Rattle.vrl_syntax.specs.Tree.{Exprs}
@@ -10,18 +10,19 @@ use Rattle.vrl_value.specs.declared.memory.Memory.{Memory as WantOfMemory}
 use Rattle.remap_tool.specs.Answer.{answer_to, run_of, line_result, LineResult}
 use Rattle.remap_tool.specs.Lines.{event_lines}
 use Rattle.vrl_diag.specs.Rendering.{diagnostic_lines}
-use Rattle.remap_tool.specs.Request.{Held, Asks, AsksByScript, IsRunOf, IsScriptAnswer, IsRefused, IsAccepted, IsLoaded, IsScriptAccepted, Request, has_error, bad_words, bad_script, run}
+use Rattle.remap_tool.specs.Request.{Held, Asks, AsksByScript, IsRunOf, IsScriptAnswer, IsRefused, IsAccepted, IsLoaded, IsScriptAccepted, Request, event_kind, has_error, bad_words, bad_script, run}
 use Rattle.remap_tool.specs.Results.{IsRun, answer_of}
-use Rattle.remap_tool.specs.Devices.{Devices, IsAsked, IsAtMostFront, IsWhole, IsAnswer as IsAnswerStatus}
+use Rattle.remap_tool.specs.Devices.{Devices, IsAsked, IsAtMostFront, IsUnread, IsWhole, IsAnswer as IsAnswerStatus}
 use Rattle.remap_tool.specs.Words.{Command, usage, script}
 use Rattle.remap_tool.specs.declared.results.Results.{Results}
 use Rattle.remap_tool.specs.declared.status.Status.{Status}
 use Rattle.remap_tool.specs.declared.status.Status.TheVariants.{Done, Refused, Usage, ReadFault, WriteFault, Memory, Marked, TooMuch}
 
 -- what compiling answers for a text is what it answers for its bytes
-pub script_answer : (text : List ℕ) (r : Result Compiled WantOfMemory) → ¬ IsNoScript text → IfOk r (IsAnswer text) → IfOk r (IsScriptAnswer text)
+pub script_answer : (text : List ℕ) (r : Result Compiled WantOfMemory) → ¬ IsNoScript text → IfOk r (IsAnswer event_kind text) → IfOk r (IsScriptAnswer text)
 script_answer text (Err e) is_text is = is
-script_answer text (Ok (compiled.Accepted program warnings)) is_text is = record { is_text = is_text; accepted = is }
+script_answer text (Ok (compiled.Accepted accepted)) is_text is =
+    record { is_text = is_text; script = _; items_are = refl; judgement = is.judgement; accepted = is.accepted; ordered = is.judged.diagnostics }
 script_answer text (Ok (compiled.Refused diagnostics)) is_text is = has_error is_text is
 
 -- what a source that tells nothing may have held
@@ -109,3 +110,26 @@ usage_only WriteFault either answered = absurd answered
 usage_only Memory either answered = absurd answered
 usage_only Marked either answered = grind arith
 usage_only TooMuch either answered = absurd answered
+
+-- ---- a run reads the lines
+
+lines_are_read : (marked : Bool) (s : Status) → s ≡ (if marked then Marked else Done) → ¬ IsUnread s
+lines_are_read true s is unread = subst IsUnread is unread
+lines_are_read false s is unread = subst IsUnread is unread
+
+unread_answers : (s : Status) → IsUnread s → IsAnswerStatus s
+unread_answers Done unread = absurd unread
+unread_answers Refused unread = tt
+unread_answers Usage unread = tt
+unread_answers ReadFault unread = absurd unread
+unread_answers WriteFault unread = absurd unread
+unread_answers Memory unread = absurd unread
+unread_answers Marked unread = absurd unread
+unread_answers TooMuch unread = absurd unread
+
+-- no answer to a run says that the words or the script were refused
+pub run_is_read : (text : List ℕ) (items : Exprs) (warnings : List Diagnostic) (status : Status) (before after : Devices) → (IsAnswerStatus status → IsWhole (IsRunOf text items warnings) status before after) → ¬ IsUnread status
+run_is_read text items warnings status before after whole unread =
+    let is = whole (unread_answers status unread) in
+    let asked = is.asked in
+    lines_are_read _ status (is.status_is ∙ ap (λ a. a.status) asked.answered ∙ ap (λ r. (answer_to r asked.input).status) asked.asked) unread

@@ -2,26 +2,26 @@
 use Rattle.std.proofs.Common.{◌≡◌, ℕ, List, ◌∷◌, [], Option, Some, None, IsSome, true, false, refl, sym, ap, ◌∙◌, subst, ◌⊎◌, inl, inr}
 use Rattle.std.specs.List.{list_any}
 use Rattle.std.proofs.lemmas.List.Sorted.{list_any-IsPermutation}
-use Rattle.vrl_compile.specs.Answer.{AreDiagnostics, IsAccepted as IsAcceptedText, judged, of_items, unread_at}
-use Rattle.vrl_compile.specs.Judgement.{judge_script, is_error}
+use Rattle.vrl_check.specs.Judgement.{is_error}
+use Rattle.vrl_compile.specs.Answer.{AreDiagnostics, judged, of_script, unread_at}
 use Rattle.vrl_compile.specs.Reading.{AreAlike, DiagnosticsAreDetermined, ScriptsHaveOneReading, same as same_list, both_unread}
 use Rattle.vrl_diag.specs.declared.diagnostic.Diagnostic.{Diagnostic}
 use Rattle.vrl_diag.specs.declared.diagnostic.Span.{Span}
 use Rattle.vrl_syntax.specs.Tree.{Exprs}
 use Rattle.remap_tool.specs.Answer.{AreAnsweredAlike, HasOneAnswer, answer_to, same as same_answer, both_unread as both_unread_answers}
-use Rattle.remap_tool.specs.Request.{Asks, AsksByScript, Held, IsAccepted, IsLoaded, IsRefused, Request, bad_script, bad_words, has_error, no_text, run}
+use Rattle.remap_tool.specs.Request.{Asks, AsksByScript, Held, IsAccepted, IsLoaded, IsRefused, Request, bad_script, bad_words, event_kind, has_error, no_text, run}
 use Rattle.remap_tool.specs.Devices.{IsRefusal}
 use Rattle.remap_tool.specs.Words.{Command, script, usage}
 use Rattle.remap_tool.specs.declared.status.Status.{Status}
 
 -- ---- a text is refused or accepted, in one way
 
-accepted_diagnostics : {text : List ℕ} {items : Exprs} {warnings : List Diagnostic} → IsAccepted text items warnings → AreDiagnostics text warnings
-accepted_diagnostics {items = items} is = let accepted = is.accepted in of_items items accepted.has_items (judged accepted.limits accepted.built accepted.ordered)
+accepted_diagnostics : {text : List ℕ} {items : Exprs} {warnings : List Diagnostic} → IsAccepted text items warnings → AreDiagnostics event_kind text warnings
+accepted_diagnostics is = let accepted = is.accepted in of_script accepted.tokens is.script accepted.is_script (judged accepted.can_be_judged is.judgement accepted.judges is.ordered)
 
 -- warnings alone aren't an unread text's
-no_warning : {text : List ℕ} {items : Exprs} {warnings : List Diagnostic} → IsAcceptedText text items warnings → list_any is_error warnings ≡ false
-no_warning {items = items} {warnings = warnings} accepted = sym (list_any-IsPermutation is_error (judge_script items).codes warnings accepted.ordered.same) ∙ accepted.no_error
+no_warning : {text : List ℕ} {items : Exprs} {warnings : List Diagnostic} → IsAccepted text items warnings → list_any is_error warnings ≡ false
+no_warning {warnings = warnings} is = sym (list_any-IsPermutation is_error is.judgement.codes warnings is.ordered.same) ∙ is.accepted.no_error
 
 not_alike : (text : List ℕ) (ds es : List Diagnostic) → list_any is_error ds ≡ true → list_any is_error es ≡ false → ¬ AreAlike text ds es
 not_alike text ds es error none (same_list is) = let wrong : true ≡ false = sym error ∙ ap (list_any is_error) is ∙ none in cc
@@ -30,7 +30,7 @@ not_alike text ds es error none (both_unread unread s t one two) = let wrong : t
 pub not_refused_and_accepted : DiagnosticsAreDetermined → {text : List ℕ} {ds : List Diagnostic} {items : Exprs} {warnings : List Diagnostic} → IsRefused text ds → ¬ IsAccepted text items warnings
 not_refused_and_accepted determined (no_text none is) accepted = accepted.is_text none
 not_refused_and_accepted determined {text} {ds} {items} {warnings} (has_error is refused) accepted =
-    not_alike text ds warnings refused.error (no_warning accepted.accepted) (determined text ds warnings refused.are (accepted_diagnostics accepted))
+    not_alike text ds warnings refused.error (no_warning accepted) (determined event_kind text ds warnings refused.are (accepted_diagnostics accepted))
 
 -- ---- requests
 
@@ -42,7 +42,7 @@ refused_alike : DiagnosticsAreDetermined → (text : List ℕ) (ds es : List Dia
 refused_alike determined text ds es (no_text none one) (no_text too two) = told_alike text ds es (same_list (one ∙ sym two))
 refused_alike determined text ds es (no_text none one) (has_error is two) = absurd (is none)
 refused_alike determined text ds es (has_error is one) (no_text none two) = absurd (is none)
-refused_alike determined text ds es (has_error is one) (has_error too two) = told_alike text ds es (determined text ds es one.are two.are)
+refused_alike determined text ds es (has_error is one) (has_error too two) = told_alike text ds es (determined event_kind text ds es one.are two.are)
 
 same_warnings : (text : List ℕ) (ds es : List Diagnostic) → list_any is_error ds ≡ false → AreAlike text ds es → ds ≡ es
 same_warnings text ds es none (same_list is) = is
@@ -59,8 +59,9 @@ one_answer_by_script one_reading determined text (run told items warnings) bad_w
 one_answer_by_script one_reading determined text (run told items warnings) (bad_script too ds) one two = absurd (not_refused_and_accepted determined two.1 one.1)
 one_answer_by_script one_reading determined text (run told items warnings) (run too others warned) one two =
     let texts : told ≡ too = one.0 ∙ sym two.0 in
-    let items_are : items ≡ others = one_reading text items others one.1.accepted.has_items two.1.accepted.has_items in
-    let warnings_are : warnings ≡ warned = same_warnings text warnings warned (no_warning one.1.accepted) (determined text warnings warned (accepted_diagnostics one.1) (accepted_diagnostics two.1)) in
+    let scripts = one_reading text one.1.accepted.tokens two.1.accepted.tokens one.1.script two.1.script one.1.accepted.is_script two.1.accepted.is_script in
+    let items_are : items ≡ others = sym one.1.items_are ∙ ap (λ s. s.items) scripts.script_is ∙ two.1.items_are in
+    let warnings_are : warnings ≡ warned = same_warnings text warnings warned (no_warning one.1) (determined event_kind text warnings warned (accepted_diagnostics one.1) (accepted_diagnostics two.1)) in
     same_answer (λ input. rw (texts, items_are, warnings_are) refl)
 
 pub one_text : (held : Held) (name : List ℕ) (text other : List ℕ) → IsSome held → IsLoaded held name text → IsLoaded held name other → text ≡ other

@@ -3,7 +3,11 @@ use Rattle.std.specs.Prelude.{◌≡◌, ℕ, ◌+◌, List, [], ◌∷◌, take
 use Rattle.vrl_compile.specs.Answer.{IsAccepted as IsAcceptedText, IsRefused as IsRefusedText}
 use Rattle.vrl_compile.specs.Program.{items_of}
 use Rattle.vrl_diag.specs.declared.diagnostic.Diagnostic.{Diagnostic}
-use Rattle.vrl_syntax.specs.Tree.{Exprs}
+use Rattle.vrl_kind.specs.KindTree.{KindTree, json_rest, no_fields}
+use Rattle.vrl_kind.specs.Make.{object_kind}
+use Rattle.vrl_check.specs.Judgement.{Judgement}
+use Rattle.vrl_check.specs.Ordered.{AreOrdered}
+use Rattle.vrl_syntax.specs.Tree.{Exprs, Script}
 use Rattle.vrl_token.specs.Reading.{IsNoScript}
 use Rattle.vrl_compile.specs.declared.script.Compiled.{Compiled}
 use Rattle.vrl_compile.specs.declared.script.Compiled.TheVariants.{Accepted, Refused}
@@ -21,19 +25,27 @@ script_limit = 65536
 abbrev pub no_script_text : List Diagnostic
 no_script_text = record { code = 1009; span = record { start = 0; end = 0 } } ∷ []
 
--- the bytes are those of a script that is accepted: its items, of which no diagnostic is an error, and its warnings
+-- the kind of the events that are taken: an object whose fields are any of JSON
+abbrev pub event_kind : KindTree
+event_kind = object_kind no_fields json_rest
+
+-- the bytes are those of a script that is accepted over such events: its items, of which no diagnostic is an error, and its warnings
 pub record IsAccepted (text : List ℕ) (items : Exprs) (warnings : List Diagnostic) : Type 0 where
   pub is_text : ¬ IsNoScript text
-  pub accepted : IsAcceptedText text items warnings
+  pub script : Script
+  pub items_are : script.items ≡ items
+  pub judgement : Judgement
+  pub accepted : IsAcceptedText event_kind text script judgement
+  pub ordered : AreOrdered judgement.codes warnings
 
 -- the bytes are those of a script that is refused, with these diagnostics
 pub data IsRefused (text : List ℕ) (diagnostics : List Diagnostic) : Type 0 where
   no_text : IsNoScript text → diagnostics ≡ no_script_text → IsRefused text diagnostics
-  has_error : ¬ IsNoScript text → IsRefusedText text diagnostics → IsRefused text diagnostics
+  has_error : ¬ IsNoScript text → IsRefusedText event_kind text diagnostics → IsRefused text diagnostics
 
 -- what compiling the bytes of a script answers
 abbrev pub IsScriptAnswer : List ℕ → Compiled → Type 0
-IsScriptAnswer text (Accepted program warnings) = IsAccepted text (items_of program) warnings
+IsScriptAnswer text (Accepted accepted) = IsAccepted text (items_of accepted.program) accepted.judged.diagnostics
 IsScriptAnswer text (Refused diagnostics) = IsRefused text diagnostics
 
 -- the bytes were loaded from the name: they are what it holds, and no more of it than one byte over the limit

@@ -1,22 +1,23 @@
 ghost use Rattle.std.specs.Prelude.{◌≡◌, IfOk, IsTrue, OnOk, length, map};
-ghost use Rattle.vrl_value.specs.Tree.{is_json, is_object};
+ghost use Rattle.vrl_value.specs.Tree.{is_json};
 ghost use Rattle.vrl_value.specs.View.{tree_of};
-ghost use Rattle.vrl_compile.specs.Judgement.{judge_script};
-ghost use Rattle.vrl_compile.specs.Meaning.{run_script};
+ghost use Rattle.vrl_compile.specs.Meaning.{run_script, IsUnhandled};
 ghost use Rattle.vrl_compile.specs.Program.{items_of};
-ghost use Rattle.vrl_compile.specs.Soundness.{HasNoError, IsDeclared};
+ghost use Rattle.vrl_compile.specs.Soundness.{HandlesErrors};
 ghost use Rattle.remap_tool.specs.Lines.{event_lines};
 ghost use Rattle.remap_tool.specs.Answer.{line_result, refused_line, result_of_end, result_of_tree};
 ghost use Rattle.remap_tool.specs.Devices.{MovesOn};
+ghost use Rattle.remap_tool.specs.Request.{event_kind};
 ghost use Rattle.remap_tool.specs.Results.{IsRun, AddsResult};
 
 use crate::lines::{is_blank, split_line};
 use std::alloc::Global;
 use std::fmt;
-use vrl_compile::{Program, run, scripts_are_sound};
+use vrl_compile::{Program, run};
 use vrl_io::Clock;
 use vrl_json::{JsonFault, from_line, json_needs_no_sources, lines_are_json, to_line};
-use vrl_value::{Memory, Value};
+use vrl_kind::{Kind, inhabits};
+use vrl_value::{Memory, Value, members_stay_json};
 
 /// The most bytes of a line, its newline not counted.
 const LINE_LIMIT: usize = 1_048_576;
@@ -30,7 +31,7 @@ pub enum Reason {
     NotJson,
     /// A number of its value is not a whole number of 64 bits with a sign.
     NotWhole,
-    /// Its value is not of the declared kind, which is an object.
+    /// Its value is not of the declared kind.
     NotDeclared,
 }
 
@@ -66,11 +67,13 @@ pub struct Results {
 pub fn run_lines<C: Clock>(
     alloc: Global,
     program: &Program,
+    declared: &Kind,
     report: Vec<u8>,
     input: &[u8],
     clock: &mut C,
 ) -> Result<Results, Memory>
-    requires { HasNoError (judge_script (items_of program.now)).codes }
+    requires declared { declared.now ≡ event_kind }
+    requires handled { HandlesErrors event_kind (items_of program.now) }
     ensures results { IfOk result (λ r. IsRun report.items r
         (map (line_result (items_of program.now)) (event_lines input.now))) }
     ensures clock { OnOk result (MovesOn (C.ahead clock.old) (length (event_lines input.now))
@@ -88,7 +91,7 @@ pub fn run_lines<C: Clock>(
         number += 1;
         if !is_blank(line) {
             let _moment = clock.moment();
-            add_line(alloc, program, number, line, &mut results)?;
+            add_line(alloc, program, declared, number, line, &mut results)?;
         }
         rest = behind;
     }
@@ -99,11 +102,13 @@ pub fn run_lines<C: Clock>(
 fn add_line(
     alloc: Global,
     program: &Program,
+    declared: &Kind,
     number: usize,
     line: &[u8],
     results: &mut Results,
 ) -> Result<(), Memory>
-    requires { HasNoError (judge_script (items_of program.now)).codes }
+    requires declared { declared.now ≡ event_kind }
+    requires handled { HandlesErrors event_kind (items_of program.now) }
     ensures { OnOk result (AddsResult results.old results.new
         (line_result (items_of program.now) (number, line.now))) }
 {
@@ -112,7 +117,7 @@ fn add_line(
     }
     lines_are_json();
     match from_line(alloc, line) {
-        Ok(value) => add_value(alloc, program, number, value, results),
+        Ok(value) => add_value(alloc, program, declared, number, value, results),
         Err(JsonFault::NotJson) => add_refused(alloc, number, Reason::NotJson, results),
         Err(JsonFault::NotWhole) => add_refused(alloc, number, Reason::NotWhole, results),
         Err(JsonFault::Memory) => Err(Memory),
@@ -123,26 +128,23 @@ fn add_line(
 fn add_value(
     alloc: Global,
     program: &Program,
+    declared: &Kind,
     number: usize,
     value: Value,
     results: &mut Results,
 ) -> Result<(), Memory>
-    requires no_error { HasNoError (judge_script (items_of program.now)).codes }
+    requires declared { declared.now ≡ event_kind }
+    requires handled { HandlesErrors event_kind (items_of program.now) }
     requires json { IsTrue (is_json (tree_of value)) }
     ensures { OnOk result (AddsResult results.old results.new
         (result_of_tree (items_of program.now) number (tree_of value))) }
 {
-    if is_object(&value) {
+    members_stay_json();
+    if inhabits(&value, declared) {
         add_event(alloc, program, value, results)
     } else {
         add_refused(alloc, number, Reason::NotDeclared, results)
     }
-}
-
-fn is_object(value: &Value) -> bool
-    ensures { result ≡ is_object (tree_of value.now) }
-{
-    matches!(value, Value::Object(_))
 }
 
 // Adds the result of a line that is an event of the declared kind.
@@ -152,13 +154,11 @@ fn add_event(
     event: Value,
     results: &mut Results,
 ) -> Result<(), Memory>
-    requires no_error { HasNoError (judge_script (items_of program.now)).codes }
-    requires declared { IsDeclared (tree_of event) }
+    requires handled { ¬ IsUnhandled (run_script (items_of program.now) (tree_of event)).outcome }
+    requires json { IsTrue (is_json (tree_of event)) }
     ensures { let ended = run_script (items_of program.now) (tree_of event) in OnOk result
         (AddsResult results.old results.new (result_of_end ended.outcome ended.store.event)) }
 {
-    // An accepted script handles each of its errors.
-    scripts_are_sound();
     json_needs_no_sources();
     let event = run(alloc, program, event)?;
     let line = to_line(alloc, &event, &[])?;

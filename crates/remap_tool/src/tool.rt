@@ -2,15 +2,15 @@ ghost use Rattle.std.specs.Prelude.{◌≡◌, ◌⊎◌, Some, IfOk, IsSome, Is
 ghost use Rattle.vrl_io.specs.Faults.{HasRisen};
 ghost use Rattle.vrl_json.specs.Line.{reading_of, whole};
 ghost use Rattle.vrl_value.specs.Tree.{Tree, is_object};
-ghost use Rattle.vrl_compile.specs.Judgement.{judge_script};
+ghost use Rattle.vrl_check.specs.Judgement.{Judgement, JudgesScript};
 ghost use Rattle.vrl_compile.specs.Program.{items_of};
-ghost use Rattle.vrl_compile.specs.Soundness.{HasNoError, IsSoundOver};
+ghost use Rattle.vrl_compile.specs.Soundness.{HandlesErrors, IsSoundOver};
 ghost use Rattle.vrl_diag.specs.declared.diagnostic.Diagnostic.{Diagnostic as SpecDiagnostic};
 ghost use Rattle.vrl_syntax.specs.Tree.{Exprs};
 ghost use Rattle.remap_tool.specs.Words.{command, usage};
 ghost use Rattle.vrl_diag.specs.Rendering.{diagnostic_lines};
 ghost use Rattle.remap_tool.specs.Answer.{HasOneAnswer, usage_line};
-ghost use Rattle.remap_tool.specs.Request.{Asks, AsksByScript, IsAccepted, IsScriptAccepted, IsRunOf, IsScriptAnswer, bad_script, run as run_request};
+ghost use Rattle.remap_tool.specs.Request.{Asks, AsksByScript, IsAccepted, IsScriptAccepted, IsRunOf, IsScriptAnswer, bad_script, event_kind, run as run_request};
 ghost use Rattle.remap_tool.specs.Results.{answer_of};
 ghost use Rattle.remap_tool.specs.Devices.{devices, IsAnswer, IsOfLines, IsUnread, IsRefusal, IsWhole, IsAtMostFront, Appends, AppendsFront, IsLoadFailed, IsWithinLimit};
 
@@ -23,19 +23,21 @@ use std::alloc::Global;
 use std::thread::Threads;
 use vrl_compile::{
     Compiled, Diagnostic, Diagnostics, Program, SCRIPT_LIMIT, compile, diagnostics_are_determined,
-    scripts_are_sound, scripts_have_one_reading,
+    judgements_are_determined, scripts_are_sound, scripts_have_one_reading,
 };
 use vrl_diag::render_all;
 use vrl_io::{Clock, LoadFault, Sink, Source, Store};
 use vrl_json::lines_are_json;
+use vrl_kind::{Kind, Rest, equal_tags_are_one_kind, kind_is_canonical};
 use vrl_token::script_text;
-use vrl_value::Memory;
+use vrl_value::{Memory, members_stay_json};
 
-// An accepted script: its text, what it does, and the warnings about it.
+// An accepted script: its text, what it does, the kind of the events that it takes, and the warnings about it.
 #[derive(Drop)]
 struct Script<'a> {
     text: &'a [u8],
     program: &'a Program,
+    declared: &'a Kind,
     warnings: &'a [Diagnostic],
 }
 
@@ -87,8 +89,10 @@ pub fn remap<R: Threads + Sync, F: Store, S: Source, O: Sink, E: Sink, C: Clock>
     // handle; that value, the variables and the event's fields are of their kinds.
     ensures sound { (text : List ℕ) (items : Exprs) (warnings : List SpecDiagnostic)
         → Asks (F.held files.old) (command words.now)
-        (run_request text items warnings) → (line : List ℕ) (event : Tree)
-        → reading_of line ≡ whole event → IsTrue (is_object event) → IsSoundOver items event }
+        (run_request text items warnings)
+        → (judgement : Judgement) → JudgesScript event_kind items judgement
+        → (line : List ℕ) (event : Tree) → reading_of line ≡ whole event → IsTrue (is_object event)
+        → IsSoundOver judgement items event }
 
     // Why each other status comes.
     ensures read_fault { result ≡ Status.ReadFault
@@ -113,8 +117,10 @@ pub fn remap<R: Threads + Sync, F: Store, S: Source, O: Sink, E: Sink, C: Clock>
 {
     scripts_are_sound();
     scripts_have_one_reading();
+    judgements_are_determined();
     diagnostics_are_determined();
     lines_are_json();
+    members_stay_json();
     let name = match script_name(words) {
         Some(name) => name,
         None => return refuse_words(report),
@@ -161,12 +167,17 @@ fn run_script<S: Source, O: Sink, E: Sink, C: Clock>(
         (devices (S.left input.new) (S.taken input.new) (C.ahead clock.new)
         (O.written output.new) (E.written report.new)) }
 {
-    match compile_bytes(alloc, text) {
-        Ok(Compiled::Accepted(program, warnings)) => {
+    let Ok(declared) = event_kind(alloc) else {
+        return Status::Memory;
+    };
+    match compile_bytes(alloc, text, &declared) {
+        Ok(Compiled::Accepted(accepted)) => {
+            scripts_are_sound();
             let script = Script {
                 text,
-                program: &program,
-                warnings: warnings.as_slice(),
+                program: &accepted.program,
+                declared: &declared,
+                warnings: accepted.judged.diagnostics.as_slice(),
             };
             run_program(alloc, &script, input, output, report, clock)
         }
@@ -177,12 +188,23 @@ fn run_script<S: Source, O: Sink, E: Sink, C: Clock>(
     }
 }
 
+// The kind of the events that are taken: an object whose fields are any of JSON.
+fn event_kind(alloc: Global) -> Result<Kind, Memory>
+    ensures { IfOk result (λ kind. kind ≡ event_kind) }
+{
+    equal_tags_are_one_kind();
+    let kind = Kind::object(alloc, Vec::new(alloc), Rest::Json)?;
+    kind_is_canonical(&kind);
+    Ok(kind)
+}
+
 // What the bytes of a script are: a text of at most the limit is compiled, and anything else is refused.
-fn compile_bytes(alloc: Global, bytes: &[u8]) -> Result<Compiled, Memory>
+fn compile_bytes(alloc: Global, bytes: &[u8], declared: &Kind) -> Result<Compiled, Memory>
+    requires { declared.now ≡ event_kind }
     ensures { IfOk result (IsScriptAnswer bytes.now) }
 {
     match script_text(bytes) {
-        Ok(text) => compile(alloc, text),
+        Ok(text) => compile(alloc, text, declared),
         Err(fault) => Ok(Compiled::Refused(Diagnostics::new(vec![in alloc; fault]?))),
     }
 }
@@ -196,7 +218,8 @@ fn run_program<S: Source, O: Sink, E: Sink, C: Clock>(
     report: &mut E,
     clock: &mut C,
 ) -> Status
-    requires { HasNoError (judge_script (items_of script.now.program.now)).codes }
+    requires declared { script.now.declared.now ≡ event_kind }
+    requires handled { HandlesErrors event_kind (items_of script.now.program.now) }
     ensures whole { IsAnswer result → IsWhole
         (IsRunOf script.now.text.now (items_of script.now.program.now) script.now.warnings.now)
         result
@@ -226,10 +249,19 @@ fn run_program<S: Source, O: Sink, E: Sink, C: Clock>(
         Err(Memory) => return Status::Memory,
     };
     match gather(alloc, input) {
-        Ok(bytes) => match run_lines(alloc, script.program, warnings, &bytes, clock) {
-            Ok(results) => write_results(&results, output, report),
-            Err(Memory) => Status::Memory,
-        },
+        Ok(bytes) => {
+            match run_lines(
+                alloc,
+                script.program,
+                script.declared,
+                warnings,
+                &bytes,
+                clock,
+            ) {
+                Ok(results) => write_results(&results, output, report),
+                Err(Memory) => Status::Memory,
+            }
+        }
         Err(GatherFault::Read) => Status::ReadFault,
         Err(GatherFault::TooMuch) => Status::TooMuch,
         Err(GatherFault::Memory) => Status::Memory,

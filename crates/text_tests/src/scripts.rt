@@ -4,7 +4,8 @@ ghost use Rattle.std.specs.Prelude.{◌≤◌, length};
 use std::alloc::Global;
 use std::collections::BTreeMap;
 use std::process::Abort;
-use vrl_compile::{Compiled, Diagnostics, SCRIPT_LIMIT, compile, run, scripts_are_sound};
+use vrl_compile::{Compiled, Diagnostics, SCRIPT_LIMIT, compile, run};
+use vrl_kind::{Kind, any_holds_all};
 use vrl_tests::shareable;
 use vrl_value::{Fields, Memory, Value};
 
@@ -12,8 +13,8 @@ use vrl_value::{Fields, Memory, Value};
 fn diagnostics_of(alloc: Global, text: &str) -> Result<Diagnostics, Memory>
     requires { length text.now ≤ SCRIPT_LIMIT }
 {
-    match compile(alloc, text)? {
-        Compiled::Accepted(_, diagnostics) => Ok(diagnostics),
+    match compile(alloc, text, &Kind::any(alloc)?)? {
+        Compiled::Accepted(accepted) => Ok(accepted.judged.diagnostics),
         Compiled::Refused(diagnostics) => Ok(diagnostics),
     }
 }
@@ -38,8 +39,8 @@ fn expect_codes(
 fn is_accepted(alloc: Global, text: &str) -> Result<bool, Memory>
     requires { length text.now ≤ SCRIPT_LIMIT }
 {
-    match compile(alloc, text)? {
-        Compiled::Accepted(_, warnings) => Ok(warnings.as_slice().is_empty()),
+    match compile(alloc, text, &Kind::any(alloc)?)? {
+        Compiled::Accepted(accepted) => Ok(accepted.judged.diagnostics.as_slice().is_empty()),
         Compiled::Refused(_) => Ok(false),
     }
 }
@@ -81,7 +82,7 @@ fn built_scripts_are_accepted(rt: HostRuntime) -> Result<(), Memory> {
 /// 65 brackets, each in the one before it.
 const NESTED: &str = "(((((((((((((((((((((((((((((((((((((((((((((((((((((((((((((((((";
 
-const REFUSED: [(&str, u16, u32, u32); 45] = [
+const REFUSED: [(&str, u16, u32, u32); 47] = [
     // Spellings at fault.
     (".x = \"a", 203, 5, 7),
     (".x = \"{{ a }}\"", 1016, 5, 14),
@@ -105,7 +106,9 @@ const REFUSED: [(&str, u16, u32, u32); 45] = [
     ("del(.a[-1])", 1007, 4, 10),
     // Forms that aren't built.
     (".x = true", 1099, 0, 0),
+    (".x = r'a'", 1099, 0, 0),
     (".x = r'('", 1099, 0, 0),
+    ("f(r'a', r'[')", 1099, 0, 0),
     (".x = (1)", 1099, 0, 0),
     (".x = [1]", 1099, 0, 0),
     (".x = {\"a\": 1}", 1099, 0, 0),
@@ -143,13 +146,16 @@ fn scripts_are_refused(rt: HostRuntime) -> Result<(), Memory> {
 #[test]
 fn a_script_runs_over_an_event(rt: HostRuntime) -> Result<(), Memory> {
     let alloc = rt.alloc();
-    let Compiled::Accepted(program, warnings) = shareable(compile(alloc, ".x = .y ?? 1")?) else {
+    let declared = Kind::any(alloc)?;
+    let compiled = shareable(compile(alloc, ".x = .y ?? 1", &declared)?);
+    let Compiled::Accepted(accepted) = compiled else {
         panic!(rt; "refused");
     };
-    assert!(rt; warnings.as_slice().len() == 1);
-    scripts_are_sound();
+    assert!(rt; accepted.judged.diagnostics.as_slice().len() == 1);
+    assert!(rt; accepted.sources.as_slice().is_empty());
+    any_holds_all();
     let event = shareable(Value::Object(Fields::new(BTreeMap::new(alloc))));
-    let Value::Object(fields) = run(alloc, &program, event)? else {
+    let Value::Object(fields) = run(alloc, &accepted.program, event)? else {
         panic!(rt; "no object");
     };
     assert!(rt; matches!(fields.get("x"), Some(Value::Null)));

@@ -1,8 +1,11 @@
 -- What `compile` answers, by what was read and judged.
-use Rattle.std.proofs.Common.{◌≡◌, ℕ, true, false, List, [], ◌∷◌, Result, Ok, Err, IfErr, IsErrAnd, refl, sym, ap, ◌∙◌, subst}
+use Rattle.std.proofs.Common.{◌≡◌, ℕ, Bool, true, false, List, [], ◌∷◌, ◌++◌, if◌then◌else◌, ◌≢◌, Result, Ok, Err, IfErr, IsErrAnd, length, arith, refl, sym, ap, ◌∙◌, subst}
 use Rattle.std.specs.List.{Contains, list_any}
+use Rattle.std.proofs.lemmas.Bool.{or_left}
 use Rattle.std.proofs.lemmas.List.Sorted.{list_any-IsPermutation}
 use Rattle.vrl_diag.specs.declared.diagnostic.Diagnostic.{Diagnostic}
+use Rattle.vrl_diag.specs.declared.diagnostic.Span.{Span}
+use Rattle.vrl_kind.specs.KindTree.{KindTree}
 use Rattle.vrl_syntax.specs.Limits.{KeepsLimits}
 use Rattle.vrl_syntax.specs.Tree.{Exprs, Script}
 use Rattle.vrl_token.specs.Reading.{IsTokenized, IsWrong, lexical_codes}
@@ -10,39 +13,37 @@ use Rattle.vrl_token.specs.OnFault.{OnFault}
 use Rattle.vrl_token.specs.declared.fault.SyntaxFault.{SyntaxFault}
 use Rattle.vrl_token.specs.declared.fault.SyntaxFault.TheVariants.{Fault, Memory}
 use Rattle.vrl_token.specs.declared.token.Spanned.{Spanned}
+use Rattle.vrl_pattern.specs.Malformed.{is_malformed}
+use Rattle.vrl_parse.specs.Words.{regex_of}
 use Rattle.vrl_parse.specs.Reading.{IsWrong as IsWrongScript, no_script, path_fault, Reads}
-use Rattle.vrl_compile.specs.Answer.{AreOrdered, HasItems, IsAccepted, IsRefused, beyond, judged, not_built, of_items, unbuilt, unread, unread_at, wrong}
+use Rattle.vrl_check.specs.Judgement.{Judgement, JudgesScript, is_error}
+use Rattle.vrl_check.specs.Ordered.{AreOrdered}
+use Rattle.vrl_compile.specs.Answer.{CanBeJudged, IsAccepted, IsRefused, IsScript, beyond, judged, malformed, malformed_at, malformed_literals, not_built, of_script, unbuilt, unread, unread_at, wrong}
 use Rattle.vrl_compile.specs.Built.{are_built}
-use Rattle.vrl_compile.specs.Judgement.{judge_script, is_error}
 use Rattle.vrl_compile.proofs.FaultCodes.{beyond_is_error, coded, lexical_is_error}
-
--- ---- readings
-
-pub read : (text : List ℕ) (tokens : List Spanned) (script : Script) → IsTokenized text tokens → Reads tokens script → HasItems text script.items
-read text tokens script tokenized reads = record { script = script; is_script = record { tokens = tokens; tokenized = tokenized; reads = reads }; items_are = refl }
 
 -- ---- refusals before the judgement
 
-refused_text : (text : List ℕ) (fault : Diagnostic) → IsWrong text fault → Contains lexical_codes fault.code → IsRefused text (fault ∷ [])
-refused_text text fault is among = record { are = wrong fault is refl; error = lexical_is_error fault among }
+refused_text : (text : List ℕ) (fault : Diagnostic) → IsWrong text fault → Contains lexical_codes fault.code → (declared : KindTree) → IsRefused declared text (fault ∷ [])
+refused_text text fault is among declared = record { are = wrong fault is refl; error = lexical_is_error fault among }
 
 unread_diagnostic : (fault : Diagnostic) → fault.code ≡ 203 → (fault ∷ []) ≡ unread_at fault.span
 unread_diagnostic fault is =
     let made : ℕ → Diagnostic = λ code. record { code = code; span = fault.span } in
     ap (λ code. made code ∷ []) is
 
-refused_tokens : (text : List ℕ) (tokens : List Spanned) (fault : Diagnostic) → IsTokenized text tokens → IsWrongScript tokens fault → IsRefused text (fault ∷ [])
-refused_tokens text tokens fault tokenized (no_script is none) =
+refused_tokens : (text : List ℕ) (tokens : List Spanned) (fault : Diagnostic) → IsTokenized text tokens → IsWrongScript tokens fault → (declared : KindTree) → IsRefused declared text (fault ∷ [])
+refused_tokens text tokens fault tokenized (no_script is none) declared =
     record { are = unread fault.span (record { tokens = tokens; tokenized = tokenized; unread = none }) (unread_diagnostic fault is); error = coded fault 203 is refl }
-refused_tokens text tokens fault tokenized (path_fault {s} {ds} reads faults) =
-    record { are = of_items s.items (read text tokens s tokenized reads) (beyond fault ds faults refl); error = beyond_is_error s.items fault ds faults }
+refused_tokens text tokens fault tokenized (path_fault {s} {ds} reads faults) declared =
+    record { are = of_script tokens s (record { tokenized = tokenized; reads = reads }) (beyond fault ds faults refl); error = beyond_is_error s.items fault ds faults }
 
 -- the same of a fault that is handed on
-pub text_fault : (text : List ℕ) (f : SyntaxFault) → OnFault (IsWrong text) f → OnFault (λ d. Contains lexical_codes d.code) f → OnFault (λ d. IsRefused text (d ∷ [])) f
+pub text_fault : (text : List ℕ) (f : SyntaxFault) → OnFault (IsWrong text) f → OnFault (λ d. Contains lexical_codes d.code) f → OnFault (λ d. (declared : KindTree) → IsRefused declared text (d ∷ [])) f
 text_fault text (Fault d) is among = refused_text text d is among
 text_fault text Memory is among = tt
 
-pub tokens_fault : (text : List ℕ) (tokens : List Spanned) (f : SyntaxFault) → IsTokenized text tokens → OnFault (IsWrongScript tokens) f → OnFault (λ d. IsRefused text (d ∷ [])) f
+pub tokens_fault : (text : List ℕ) (tokens : List Spanned) (f : SyntaxFault) → IsTokenized text tokens → OnFault (IsWrongScript tokens) f → OnFault (λ d. (declared : KindTree) → IsRefused declared text (d ∷ [])) f
 tokens_fault text tokens (Fault d) tokenized is = refused_tokens text tokens d tokenized is
 tokens_fault text tokens Memory tokenized is = tt
 
@@ -50,22 +51,51 @@ pub handed_on : {X : Type 0} (result : Result X SyntaxFault) (f : SyntaxFault) (
 handed_on (Ok x) f P is holds = tt
 handed_on (Err g) f P is holds = subst P (sym is) holds
 
--- ---- items
+-- ---- scripts
 
-pub refused_unbuilt : (text : List ℕ) (items : Exprs) (shown : List Diagnostic) → HasItems text items → KeepsLimits items → are_built items ≡ false → shown ≡ not_built → IsRefused text shown
-refused_unbuilt text items shown has limits built is = record { are = of_items items has (unbuilt limits built is); error = ap (list_any is_error) is }
+-- a malformed literal is an error
+literal_is_error : (span : Span) (told : Bool) (ds : List Diagnostic) (first : Diagnostic) (others : List Diagnostic) → (if told then record { code = 101; span = span } ∷ [] else []) ++ ds ≡ first ∷ others → (ds ≡ first ∷ others → is_error first ≡ true)
+    → is_error first ≡ true
+literal_is_error span true ds first others is behind = subst (λ d. is_error d ≡ true) (first_is is) refl where
+  first_is : (record { code = 101; span = span }) ∷ ds ≡ first ∷ others → record { code = 101; span = span } ≡ first
+  first_is same = cc
+literal_is_error span false ds first others is behind = behind is
 
-pub refused : (text : List ℕ) (items : Exprs) (ds shown : List Diagnostic) → HasItems text items → KeepsLimits items → are_built items ≡ true → AreOrdered (judge_script items).codes ds → list_any is_error ds ≡ true → shown ≡ ds
-    → IsRefused text shown
-refused text items ds shown has limits built ordered error same =
-    subst (IsRefused text) (sym same) (record { are = of_items items has (judged limits built ordered); error = error })
+at_is_error : (span : Span) (sources : List (List ℕ)) (ds : List Diagnostic) (first : Diagnostic) (others : List Diagnostic) → malformed_at span sources ++ ds ≡ first ∷ others → (ds ≡ first ∷ others → is_error first ≡ true) → is_error first ≡ true
+at_is_error span [] ds first others is behind = behind is
+at_is_error span (source ∷ sources) ds first others is behind = literal_is_error span (is_malformed source) ds first others is behind
 
-pub accepted : (text : List ℕ) (items : Exprs) (ds shown : List Diagnostic) → HasItems text items → KeepsLimits items → are_built items ≡ true → AreOrdered (judge_script items).codes ds → list_any is_error ds ≡ false → shown ≡ ds
-    → IsAccepted text items shown
-accepted text items ds shown has limits built ordered none same = record {
-  has_items = has;
-  limits = limits;
-  built = built;
-  no_error = list_any-IsPermutation is_error (judge_script items).codes ds ordered.same ∙ none;
-  ordered = subst (AreOrdered (judge_script items).codes) (sym same) ordered;
+malformed_is_error : (tokens : List Spanned) (first : Diagnostic) (others : List Diagnostic) → malformed_literals tokens ≡ first ∷ others → is_error first ≡ true
+malformed_is_error [] first others is = cc
+malformed_is_error (t ∷ ts) first others is = at_is_error t.span (regex_of t.token) (malformed_literals ts) first others is (malformed_is_error ts first others)
+
+pub refused_unbuilt : (declared : KindTree) (text : List ℕ) (tokens : List Spanned) (script : Script) (shown : List Diagnostic) → IsScript text tokens script → KeepsLimits script.items → are_built script.items ≡ false → shown ≡ not_built
+    → IsRefused declared text shown
+refused_unbuilt declared text tokens script shown is limits built same = record { are = of_script tokens script is (unbuilt limits built same); error = ap (list_any is_error) same }
+
+pub refused_malformed : (declared : KindTree) (text : List ℕ) (tokens : List Spanned) (script : Script) (found : List Diagnostic) → IsScript text tokens script → KeepsLimits script.items → are_built script.items ≡ true → found ≡ malformed_literals tokens
+    → length found ≢ 0 → IsRefused declared text found
+refused_malformed declared text tokens script [] is limits built found some = absurd (some refl)
+refused_malformed declared text tokens script (first ∷ others) is limits built found some =
+    record { are = of_script tokens script is (malformed limits built first others (sym found) refl); error = or_left _ _ (malformed_is_error tokens first others (sym found)) }
+
+none_found : (found : List Diagnostic) → length found ≡ 0 → found ≡ []
+none_found [] none = refl
+none_found (first ∷ others) none = absurd (omega (arith, none))
+
+pub can_be_judged : (tokens : List Spanned) (script : Script) (found : List Diagnostic) → KeepsLimits script.items → are_built script.items ≡ true → found ≡ malformed_literals tokens → length found ≡ 0 → CanBeJudged tokens script
+can_be_judged tokens script found limits built told none = record { limits = limits; built = built; well_formed = sym told ∙ none_found found none }
+
+pub refused : (declared : KindTree) (text : List ℕ) (tokens : List Spanned) (script : Script) (j : Judgement) (shown : List Diagnostic) → IsScript text tokens script → CanBeJudged tokens script → JudgesScript declared script.items j → AreOrdered j.codes shown
+    → list_any is_error shown ≡ true → IsRefused declared text shown
+refused declared text tokens script j shown is can judges ordered error = record { are = of_script tokens script is (judged can j judges ordered); error = error }
+
+pub accepted : (declared : KindTree) (text : List ℕ) (tokens : List Spanned) (script : Script) (j : Judgement) (shown : List Diagnostic) → IsScript text tokens script → CanBeJudged tokens script → JudgesScript declared script.items j → AreOrdered j.codes shown
+    → list_any is_error shown ≡ false → IsAccepted declared text script j
+accepted declared text tokens script j shown is can judges ordered none = record {
+  tokens = tokens;
+  is_script = is;
+  can_be_judged = can;
+  judges = judges;
+  no_error = list_any-IsPermutation is_error j.codes shown ordered.same ∙ none;
 }

@@ -1,5 +1,6 @@
 -- A text has one reading, and its diagnostics are one list.
 use Rattle.std.proofs.Common.{◌≡◌, ℕ, true, false, List, [], ◌∷◌, refl, sym, ap, ◌∙◌, subst, arith}
+use Rattle.std.proofs.lemmas.Bool.{true≢false}
 use Rattle.std.specs.Cmp.{IsTotalOrder}
 use Rattle.std.specs.Ordering.{nat_cmp, ordering_then}
 use Rattle.std.specs.declared.cmp.Ordering.{Ordering}
@@ -7,30 +8,30 @@ use Rattle.std.specs.declared.cmp.Ordering.TheVariants.{Less, Equal, Greater}
 use Rattle.std.proofs.lemmas.Cmp.{nat_cmp_total, on_total, then_total}
 use Rattle.vrl_diag.specs.declared.diagnostic.Diagnostic.{Diagnostic}
 use Rattle.vrl_diag.specs.declared.diagnostic.Span.{Span}
+use Rattle.vrl_kind.specs.KindTree.{KindTree}
 use Rattle.vrl_syntax.specs.Limits.{exprs_faults}
 use Rattle.vrl_syntax.specs.Tree.{Exprs, Script}
 use Rattle.vrl_token.specs.Laws.{TokensAreDetermined}
+use Rattle.vrl_token.specs.declared.token.Spanned.{Spanned}
 use Rattle.vrl_parse.specs.Reading.{Reads, ScriptsAreDetermined}
-use Rattle.vrl_compile.specs.Answer.{AreOfItems, AreOrdered, HasItems, IsScript, IsUnread, beyond, diagnostic_cmp, judged, of_items, unbuilt, unread, wrong}
-use Rattle.vrl_compile.specs.Judgement.{judge_script}
-use Rattle.vrl_compile.specs.Reading.{DiagnosticsAreDetermined, ScriptsHaveOneReading, same as one_list, both_unread}
+use Rattle.vrl_check.specs.Judgement.{Judgement}
+use Rattle.vrl_check.specs.Ordered.{AreOrdered, diagnostic_cmp}
+use Rattle.vrl_compile.specs.Answer.{AreOfScript, IsScript, IsUnread, beyond, judged, malformed, malformed_literals, of_script, unbuilt, unread, wrong}
+use Rattle.vrl_compile.specs.Built.{are_built}
+use Rattle.vrl_compile.specs.Reading.{DiagnosticsAreDetermined, JudgementsAreDetermined, ScriptsHaveOneReading, same as one_list, both_unread}
 use Rattle.vrl_compile.proofs.Sorting.{one_order}
 
 -- ---- readings
 
-one_script : TokensAreDetermined → ScriptsAreDetermined → (text : List ℕ) (a b : Script) → IsScript text a → IsScript text b → a ≡ b
-one_script tokens scripts text a b one two =
-    let lists = tokens.one_list text one.tokens two.tokens one.tokenized two.tokenized in
-    scripts two.tokens a b (subst (λ ts. Reads ts a) lists one.reads) two.reads
-
 pub one_reading : TokensAreDetermined → ScriptsAreDetermined → ScriptsHaveOneReading
-one_reading tokens scripts text a b one two = sym one.items_are ∙ ap (λ s. s.items) (one_script tokens scripts text one.script two.script one.is_script two.is_script) ∙ two.items_are
+one_reading tokens scripts text ts us s t one two =
+    let lists = tokens.one_list text ts us one.tokenized two.tokenized in
+    record { tokens_are = lists; script_is = scripts us s t (subst (λ xs. Reads xs s) lists one.reads) two.reads }
 
 -- tokens in which no script is read are no script's
-read_and_unread : TokensAreDetermined → (text : List ℕ) (items : Exprs) → HasItems text items → ¬ IsUnread text
-read_and_unread tokens text items has none =
-    let is = has.is_script in
-    none.unread has.script (subst (λ ts. Reads ts has.script) (tokens.one_list text is.tokens none.tokens is.tokenized none.tokenized) is.reads)
+read_and_unread : TokensAreDetermined → (text : List ℕ) (ts : List Spanned) (s : Script) → IsScript text ts s → ¬ IsUnread text
+read_and_unread tokens text ts s is none =
+    none.unread s (subst (λ xs. Reads xs s) (tokens.one_list text ts none.tokens is.tokenized none.tokenized) is.reads)
 
 -- ---- the order of diagnostics
 
@@ -71,26 +72,41 @@ one_first faults ds es xs ys d e one two first second =
     let heads : d ≡ e = cc in
     first ∙ ap (λ x. x ∷ []) heads ∙ sym second
 
-of_one_items : (items : Exprs) (xs ys : List Diagnostic) → AreOfItems items xs → AreOfItems items ys → xs ≡ ys
-of_one_items items xs ys (beyond d ds one first) (beyond e es two second) = one_first (exprs_faults items) ds es xs ys d e one two first second
-of_one_items items xs ys (beyond d ds one first) (unbuilt limits built is) = let none : d ∷ ds ≡ [] = sym one ∙ limits in cc
-of_one_items items xs ys (beyond d ds one first) (judged limits built ordered) = let none : d ∷ ds ≡ [] = sym one ∙ limits in cc
-of_one_items items xs ys (unbuilt limits built is) (beyond e es two second) = let none : e ∷ es ≡ [] = sym two ∙ limits in cc
-of_one_items items xs ys (unbuilt limits built one) (unbuilt too built_too two) = one ∙ sym two
-of_one_items items xs ys (unbuilt limits built is) (judged too built_too ordered) = let wrong : false ≡ true = sym built ∙ built_too in cc
-of_one_items items xs ys (judged limits built ordered) (beyond e es two second) = let none : e ∷ es ≡ [] = sym two ∙ limits in cc
-of_one_items items xs ys (judged limits built ordered) (unbuilt too built_too is) = let wrong : true ≡ false = sym built ∙ built_too in cc
-of_one_items items xs ys (judged limits built one) (judged too built_too two) = one_order_of (judge_script items).codes xs ys one two
+nothing_first : {P : Type 0} (faults ds : List Diagnostic) (d : Diagnostic) → faults ≡ d ∷ ds → faults ≡ [] → P
+nothing_first faults ds d some none = let wrong : d ∷ ds ≡ [] = sym some ∙ none in cc
 
-pub determined : TokensAreDetermined → ScriptsAreDetermined → DiagnosticsAreDetermined
-determined tokens scripts text xs ys (wrong d one first) (wrong e two second) = one_list (first ∙ ap (λ x. x ∷ []) (tokens.one_fault text d e one two) ∙ sym second)
-determined tokens scripts text xs ys (wrong d one first) (unread span none is) = absurd (tokens.not_both text none.tokens d none.tokenized one)
-determined tokens scripts text xs ys (wrong d one first) (of_items items has of) = absurd (tokens.not_both text has.is_script.tokens d has.is_script.tokenized one)
-determined tokens scripts text xs ys (unread span none is) (wrong e two second) = absurd (tokens.not_both text none.tokens e none.tokenized two)
-determined tokens scripts text xs ys (unread span none is) (unread place too also) = both_unread none span place is also
-determined tokens scripts text xs ys (unread span none is) (of_items items has of) = absurd (read_and_unread tokens text items has none)
-determined tokens scripts text xs ys (of_items items has of) (wrong e two second) = absurd (tokens.not_both text has.is_script.tokens e has.is_script.tokenized two)
-determined tokens scripts text xs ys (of_items items has of) (unread span none is) = absurd (read_and_unread tokens text items has none)
-determined tokens scripts text xs ys (of_items items has of) (of_items others too also) =
-    let items_are = one_reading tokens scripts text others items too has in
-    one_list (of_one_items items xs ys of (subst (λ es. AreOfItems es ys) items_are also))
+-- a form is built, or it isn't
+built_or_not : {P : Type 0} (items : Exprs) → are_built items ≡ true → are_built items ≡ false → P
+built_or_not items built unbuilt_too = absurd (true≢false (sym built ∙ unbuilt_too))
+
+of_one_script : JudgementsAreDetermined → (declared : KindTree) (ts : List Spanned) (s : Script) (xs ys : List Diagnostic) → AreOfScript declared ts s xs → AreOfScript declared ts s ys → xs ≡ ys
+of_one_script one declared ts s xs ys (beyond d ds is first) (beyond e es too second) = one_first (exprs_faults s.items) ds es xs ys d e is too first second
+of_one_script one declared ts s xs ys (beyond d ds is first) (unbuilt limits built second) = nothing_first (exprs_faults s.items) ds d is limits
+of_one_script one declared ts s xs ys (beyond d ds is first) (malformed limits built e es some second) = nothing_first (exprs_faults s.items) ds d is limits
+of_one_script one declared ts s xs ys (beyond d ds is first) (judged can j judges ordered) = nothing_first (exprs_faults s.items) ds d is can.limits
+of_one_script one declared ts s xs ys (unbuilt limits built first) (beyond e es too second) = nothing_first (exprs_faults s.items) es e too limits
+of_one_script one declared ts s xs ys (unbuilt limits built first) (unbuilt limits_too built_too second) = first ∙ sym second
+of_one_script one declared ts s xs ys (unbuilt limits built first) (malformed limits_too built_too e es some second) = built_or_not s.items built_too built
+of_one_script one declared ts s xs ys (unbuilt limits built first) (judged can j judges ordered) = built_or_not s.items can.built built
+of_one_script one declared ts s xs ys (malformed limits built d ds some first) (beyond e es too second) = nothing_first (exprs_faults s.items) es e too limits
+of_one_script one declared ts s xs ys (malformed limits built d ds some first) (unbuilt limits_too built_too second) = built_or_not s.items built built_too
+of_one_script one declared ts s xs ys (malformed limits built d ds some first) (malformed limits_too built_too e es too second) = first ∙ sym some ∙ too ∙ sym second
+of_one_script one declared ts s xs ys (malformed limits built d ds some first) (judged can j judges ordered) = nothing_first (malformed_literals ts) ds d some can.well_formed
+of_one_script one declared ts s xs ys (judged can j judges ordered) (beyond e es too second) = nothing_first (exprs_faults s.items) es e too can.limits
+of_one_script one declared ts s xs ys (judged can j judges ordered) (unbuilt limits built second) = built_or_not s.items can.built built
+of_one_script one declared ts s xs ys (judged can j judges ordered) (malformed limits built e es some second) = nothing_first (malformed_literals ts) es e some can.well_formed
+of_one_script one declared ts s xs ys (judged can j judges ordered) (judged can_too k judges_too ordered_too) =
+    one_order_of k.codes xs ys (subst (λ x. AreOrdered x.codes xs) (one declared s.items j k can.built judges judges_too) ordered) ordered_too
+
+pub determined : TokensAreDetermined → ScriptsAreDetermined → JudgementsAreDetermined → DiagnosticsAreDetermined
+determined tokens scripts one declared text xs ys (wrong d is first) (wrong e too second) = one_list (first ∙ ap (λ x. x ∷ []) (tokens.one_fault text d e is too) ∙ sym second)
+determined tokens scripts one declared text xs ys (wrong d is first) (unread span none also) = absurd (tokens.not_both text none.tokens d none.tokenized is)
+determined tokens scripts one declared text xs ys (wrong d is first) (of_script ts s has of) = absurd (tokens.not_both text ts d has.tokenized is)
+determined tokens scripts one declared text xs ys (unread span none is) (wrong e too second) = absurd (tokens.not_both text none.tokens e none.tokenized too)
+determined tokens scripts one declared text xs ys (unread span none is) (unread place too also) = both_unread none span place is also
+determined tokens scripts one declared text xs ys (unread span none is) (of_script ts s has of) = absurd (read_and_unread tokens text ts s has none)
+determined tokens scripts one declared text xs ys (of_script ts s has of) (wrong e too second) = absurd (tokens.not_both text ts e has.tokenized too)
+determined tokens scripts one declared text xs ys (of_script ts s has of) (unread span none is) = absurd (read_and_unread tokens text ts s has none)
+determined tokens scripts one declared text xs ys (of_script ts s has of) (of_script us t too also) =
+    let same = one_reading tokens scripts text us ts t s too has in
+    one_list (of_one_script one declared ts s xs ys of (subst (λ x. AreOfScript declared ts x ys) same.script_is (subst (λ x. AreOfScript declared x t ys) same.tokens_are also)))

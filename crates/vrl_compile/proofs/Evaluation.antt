@@ -5,7 +5,8 @@ use Rattle.vrl_syntax.specs.Tree.{Expr, expr, Form, literal, read, binary}
 use Rattle.vrl_syntax.specs.declared.root.Op.TheVariants.{Plus, Coalesce}
 use Rattle.vrl_value.specs.Tree.{Tree}
 use Rattle.vrl_compile.specs.Execution.{sum_with}
-use Rattle.vrl_compile.specs.Meaning.{Store, Outcome, value, error, Ended, ends, eval, eval_form, on_value, on_error, sum_of, IsUnhandled}
+use Rattle.vrl_state.specs.Stores.{Store}
+use Rattle.vrl_compile.specs.Meaning.{Outcome, value, error, Ended, ends, eval, eval_form, on_value, on_error, sum_of, IsUnhandled}
 
 on_value-store : (o : Outcome) (s t : Store) (next : Tree → Store → Ended) → s ≡ t → ((v : Tree) → (next v s).store ≡ t) → (on_value o s next).store ≡ t
 on_value-store (value v) s t next is then = then v

@@ -1,20 +1,32 @@
 -- What the judgement says of an expression holds of its meaning.
-use Rattle.std.proofs.Common.{◌≡◌, List, ◌++◌, true, false, Option, Some, None, inl, inr, IsTrue, IsSomeAnd, unwrap_or, not, if◌then◌else◌, refl, sym, ◌∙◌}
+use Rattle.std.proofs.Common.{◌≡◌, ℕ, List, [], ◌∷◌, ◌++◌, true, false, Bool, ◌||◌, not, is_some, Option, Some, None, IsTrue, inl, inr, unwrap_or, refl, sym, ap, ◌∙◌, subst}
+use Rattle.std.specs.FinMap as map
 use Rattle.std.specs.List.{list_any}
-use Rattle.std.proofs.lemmas.Bool.{true≢false, false_from_ne_true, or_cases, or_left, or_right, or_parts, and_from}
+use Rattle.std.proofs.lemmas.Bool.{true≢false, false≢true, or_left, or_right, or_parts, and_parts}
 use Rattle.std.proofs.lemmas.List.Folds.{list_any-append}
-use Rattle.vrl_value.specs.Tree.{Tree, string, integer, null, find}
-use Rattle.vrl_value.specs.declared.value.Tag.TheVariants as tag
-use Rattle.vrl_compile.specs.Tags.{Tags, same_tag, tag_of, union, Inhabits}
+use Rattle.vrl_value.specs.Tree.{Tree, string, integer, boolean, null, timestamp, regex, array, object, Members, find}
+use Rattle.vrl_value.specs.Look.{found_behind, found_if}
+use Rattle.vrl_value.specs.declared.value.Tag.{Tag}
+use Rattle.vrl_path.specs.Read.{read_at, signed_raw_at, tree_found}
+use Rattle.vrl_path.specs.declared.path.Step.{Step as CodeStep}
+use Rattle.vrl_path.specs.declared.path.Step.TheVariants as step
 use Rattle.vrl_diag.specs.declared.diagnostic.Diagnostic.{Diagnostic}
 use Rattle.vrl_diag.specs.declared.diagnostic.Span.{Span}
 use Rattle.vrl_syntax.specs.Tree.{Expr, expr, Form, literal, read, binary}
 use Rattle.vrl_syntax.specs.declared.root.Op.TheVariants.{Plus, Coalesce}
-use Rattle.vrl_compile.specs.Built.{Place, field, variable, place_at}
-use Rattle.vrl_compile.specs.Judgement.{Known, State, dead, alive, Judgement, judge, judge_form, judge_literal, judge_read, judge_variable, judge_plus, judge_coalesce, start_of_right, needless, join, read_kind, plus_kind, plus_may_succeed, plus_may_fail, is_error}
-use Rattle.vrl_compile.specs.Meaning.{Store, fields_of, Outcome, value, error, Ended, ends, eval, eval_form, literal_outcome, read_outcome, sum_of, on_value, on_error}
-use Rattle.vrl_compile.specs.Soundness.{ExpressionsAreSound, Fits, FitsKnown, HasNoError, IsSoundEnd, tag_at}
-use Rattle.vrl_compile.proofs.Fitting.{fits-join_left, fits-join_right}
+use Rattle.vrl_syntax.specs.declared.root.Root.{Root}
+use Rattle.vrl_syntax.specs.declared.root.Root.TheVariants.{Event, Name}
+use Rattle.vrl_kind.specs.KindTree.{KindTree}
+use Rattle.vrl_kind.specs.Kinds.{found_at, Inhabits}
+use Rattle.vrl_state.specs.States.{IsCutOf, IsEither, IsJoined, kind_of, RootMap}
+use Rattle.vrl_state.specs.Stores.{FitsKind, FitsKnown, FitsMap, Store}
+use Rattle.vrl_check.specs.Judgement as check
+use Rattle.vrl_check.specs.Judgement.{Judgement, Judges, Gives, IsBehind, IsReadAt, IsThen, unreached, reached, a_literal, a_known_root, an_unknown_root, an_equality, of_table, a_coalescing, operands, chained, if_state, is_alive, is_error, is_fallible, settle, settled_kind, scalars_at, some_pair, sum_tag, table_tags, with_codes}
+use Rattle.vrl_compile.specs.Built.{field, variable, is_built, is_built_form, is_built_literal, place_at}
+use Rattle.vrl_compile.specs.Meaning.{fields_of, found, Outcome, value, error, Ended, ends, eval, eval_form, literal_outcome, read_outcome, sum_of, on_value, on_error}
+use Rattle.vrl_compile.specs.Soundness.{ExpressionsAreSound, HasNoError, IsSoundEnd}
+use Rattle.vrl_compile.proofs.Inhabiting.{of_own_kind}
+use Rattle.vrl_compile.proofs.LowerLaws.{LowerLaws}
 use Rattle.vrl_compile.proofs.PlusSound.{sum_is_sound}
 
 -- ---- error codes
@@ -23,188 +35,174 @@ use Rattle.vrl_compile.proofs.PlusSound.{sum_is_sound}
 pub no_error_parts : (first second : List Diagnostic) → HasNoError (first ++ second) → HasNoError first × HasNoError second
 no_error_parts first second none = or_parts _ _ (sym (list_any-append is_error first second) ∙ none)
 
--- an error in the first list
-error_first : (first second : List Diagnostic) → list_any is_error first ≡ true → list_any is_error (first ++ second) ≡ true
-error_first first second some = list_any-append is_error first second ∙ or_left _ _ some
+-- a judgement is poisoned exactly where it has an error code
+abbrev pub HasCause : Judgement → Type 0
+HasCause j = j.poisoned ≡ list_any is_error j.codes
 
--- an error in the second list
-error_second : (first second : List Diagnostic) → list_any is_error second ≡ true → list_any is_error (first ++ second) ≡ true
-error_second first second some = list_any-append is_error first second ∙ or_right _ _ some
+-- and so it is with codes of its own
+pub cause_with_codes : (ds : List Diagnostic) (j : Judgement) → HasCause j → HasCause (with_codes ds j)
+cause_with_codes ds j cause = ap (λ b. b || list_any is_error ds) cause ∙ sym (list_any-append is_error j.codes ds)
 
--- a poisoned judgement has an error code
-abbrev HasCause : Judgement → Type 0
-HasCause j = j.poisoned ≡ true → list_any is_error j.codes ≡ true
+-- and so are two parts
+pub cause_behind : (before part after : Judgement) → IsBehind before part after → HasCause before → HasCause part → HasCause after
+cause_behind before part after is first second =
+    is.poisoned ∙ ap (λ b. b || part.poisoned) first ∙ ap (λ b. list_any is_error before.codes || b) second ∙ sym (list_any-append is_error before.codes part.codes) ∙ ap (list_any is_error) (sym is.codes)
 
--- a variable is poisoned by its own code
-cause-variable : (span : Span) (known : Known) (K : Option Tags) → HasCause (judge_variable span known K)
-cause-variable span known None poisoned = refl
-cause-variable span known (Some K) poisoned = absurd (true≢false (sym poisoned))
-
-cause-read : (span : Span) (place : Option Place) (known : Known) → HasCause (judge_read span place known)
-cause-read span (Some (field name)) known poisoned = absurd (true≢false (sym poisoned))
-cause-read span (Some (variable name)) known poisoned = cause-variable span known (known.variables name) poisoned
-cause-read span None known poisoned = absurd (true≢false (sym poisoned))
-
-cause-literal : (v : Tree) (known : Known) → HasCause (judge_literal v known)
-cause-literal (string s) known poisoned = absurd (true≢false (sym poisoned))
-cause-literal v known poisoned = absurd (true≢false (sym poisoned))
-
--- a sum is poisoned by a code of its operands
-cause-plus : (l r : Judgement) → HasCause l → HasCause r → HasCause (judge_plus l r)
-cause-plus l r left right poisoned = elim (or_cases _ _ poisoned) [
-  | inl first ↦ error_first l.codes r.codes (left first)
-  | inr second ↦ error_second l.codes r.codes (right second)
-]
-
--- a `??` is poisoned by a code of its operands
-cause-coalesce : (span : Span) (l r : Judgement) → HasCause l → HasCause r → HasCause (judge_coalesce span l r)
-cause-coalesce span l r left right poisoned = error_first (l.codes ++ r.codes) (needless span l) (cause-plus l r left right poisoned)
-
--- an expression is poisoned by a code that it gives
 mutual
-  has_cause : (e : Expr) (state : State) → HasCause (judge e state)
-  has_cause e dead poisoned = absurd (true≢false (sym poisoned))
-  has_cause (expr span f) (alive known) poisoned = cause-form span f known poisoned
+  pub has_cause : (e : Expr) (known : Option RootMap) (j : Judgement) → is_built e ≡ true → Judges known e j → HasCause j
+  has_cause e None j built unreached = refl
+  has_cause (expr span f) (Some known) j built (reached {j = k} gives) = cause_given span f known k built gives
 
-  cause-form : (span : Span) (f : Form) (known : Known) → HasCause (judge_form span f known)
-  cause-form span (literal v) known poisoned = cause-literal v known poisoned
-  cause-form span (read root path) known poisoned = cause-read span (place_at root path) known poisoned
-  cause-form span (binary Plus l r) known poisoned =
-      let left = judge l (alive known) in
-      cause-plus left (judge r left.ok) (has_cause l (alive known)) (has_cause r left.ok) poisoned
-  cause-form span (binary Coalesce l r) known poisoned =
-      let left = judge l (alive known) in
-      cause-coalesce span left (judge r (start_of_right left)) (has_cause l (alive known)) (has_cause r (start_of_right left)) poisoned
-  cause-form span f known poisoned = absurd (true≢false (sym poisoned))
+  cause_given : (span : Span) (f : Form) (known : RootMap) (j : Judgement) → is_built_form f ≡ true → Gives known span f j → HasCause j
+  cause_given span (literal v) known j built (a_literal cut) = refl
+  cause_given span (read root path) known j built (a_known_root is at) = refl
+  cause_given span (read root path) known j built (an_unknown_root none) = refl
+  cause_given span (binary Plus l r) known j built (of_table {table = t} {j = a} {k = b} {whole = c} is (operands first second then) cut fails) =
+      let parts = and_parts _ _ built in
+      cause_with_codes [] c (cause_behind a b c then.behind (has_cause l (Some known) a parts.0 first) (has_cause r a.ok b parts.1 second))
+  cause_given span (binary Plus l r) known j built (an_equality is both cut) = absurd (false≢true is)
+  cause_given span (binary Coalesce l r) known j built (a_coalescing {j = a} {k = b} {whole = c} first second behind either joined) =
+      let parts = and_parts _ _ built in
+      cause_with_codes (check.when (not (a.poisoned || is_fallible a)) (check.at 651 span)) c (cause_behind a b c behind (has_cause l (Some known) a parts.0 first) (has_cause r a.fail b parts.1 second))
+  cause_given span (binary Coalesce l r) known j built (an_equality is both cut) = absurd (false≢true is)
+  cause_given span (binary Coalesce l r) known j built (of_table {table = t} is both cut fails) = let wrong : None ≡ Some t = is in cc
+  cause_given span f known j built gives = absurd (false≢true built)
 
--- without an error code a judgement isn't poisoned
-not_poisoned : (e : Expr) (state : State) → HasNoError (judge e state).codes → (judge e state).poisoned ≡ false
-not_poisoned e state none = false_from_ne_true _ (λ poisoned. true≢false (sym (has_cause e state poisoned) ∙ none))
-
--- ---- operands
+-- ---- ends
 
 -- the end of what was judged so
 abbrev pub IsSound : Judgement → Ended → Type 0
 IsSound j ended = IsSoundEnd j.kind j.ok j.fail ended.outcome ended.store
 
--- a value isn't absent
-present : (v : Tree) → not (same_tag (tag_of v) tag.Absent) ≡ true
-present (string s) = refl
-present v = refl
+settled_end : (K : KindTree) (ok fail : Option RootMap) (poisoned : Bool) (outcome : Outcome) (store : Store) → poisoned ≡ false → IsSoundEnd K ok fail outcome store → IsSoundEnd (settled_kind poisoned (is_alive ok) K) ok (if_state (not poisoned) fail) outcome store
+settled_end K ok fail true outcome store is sound = absurd (true≢false is)
+settled_end K None fail false (value v) store is sound = absurd sound.1
+settled_end K (Some known) fail false (value v) store is sound = sound
+settled_end K ok fail false (error text) store is sound = sound
 
--- a read of a field has the read kind: null where nothing is found
-read_is_sound : (K : Tags) (found : Option Tree) → IsTrue (K (tag_at found)) → Inhabits (unwrap_or found null) (read_kind K)
-read_is_sound K None is = or_right _ _ is
-read_is_sound K (Some v) is = or_left _ _ (and_from _ _ is (present v))
+-- what isn't poisoned is settled as it is
+pub sound_settled : (j : Judgement) (ended : Ended) → HasCause j → HasNoError j.codes → IsSound j ended → IsSound (settle j) ended
+sound_settled j ended cause none sound = settled_end j.kind j.ok j.fail j.poisoned ended.outcome ended.store (cause ∙ none) sound
 
--- a read of a known variable has its kind
-variable_is_sound : (span : Span) (known : Known) (K : Option Tags) (found : Option Tree) → HasNoError (judge_variable span known K).codes → ((L : Tags) → K ≡ Some L → IsSomeAnd found (λ v. Inhabits v L))
-    → Inhabits (unwrap_or found null) (judge_variable span known K).kind
-variable_is_sound span known None found none knows = absurd (true≢false none)
-variable_is_sound span known (Some K) None none knows = absurd (knows K refl)
-variable_is_sound span known (Some K) (Some v) none knows = knows K refl
+-- ---- literals and reads
 
--- a read of a variable changes no state
-variable_ok : (span : Span) (known : Known) (K : Option Tags) → (judge_variable span known K).ok ≡ alive known
-variable_ok span known None = refl
-variable_ok span known (Some K) = refl
+literal_is_sound : LowerLaws → (v : Tree) (K : KindTree) (known : RootMap) (store : Store) → is_built_literal v ≡ true → IsCutOf (found_at v) K → FitsMap store known → IsSound (check.gives K (Some known)) (ends (literal_outcome v) store)
+literal_is_sound laws (string s) K known store built cut fits = (of_own_kind laws.cuts (string s) K cut, fits)
+literal_is_sound laws (integer n) K known store built cut fits = (of_own_kind laws.cuts (integer n) K cut, fits)
+literal_is_sound laws v K known store built cut fits = absurd (false≢true built)
 
--- a read of a place ends with a value of its kind, and changes no store
-place_is_sound : (span : Span) (place : Option Place) (known : Known) (store : Store) → HasNoError (judge_read span place known).codes → FitsKnown store known
-    → IsSound (judge_read span place known) (ends (read_outcome place store) store)
-place_is_sound span (Some (field name)) known store none fits = (read_is_sound (known.fields name) (find name (fields_of store.event)) (fits.fields name), fits)
-place_is_sound span (Some (variable name)) known store none fits =
-    (variable_is_sound span known (known.variables name) (find name store.variables) none (fits.variables name), rw (variable_ok span known (known.variables name)) fits)
-place_is_sound span None known store none fits = fits
+-- what a read finds is of the kind that was judged
+read_inhabits : LowerLaws → (K M : KindTree) (path : List CodeStep) (v : Tree) → IsReadAt K path M → Inhabits v K → Inhabits (unwrap_or (read_at v path) null) M
+read_inhabits laws K M path v is h = laws.reads v path K is.whole M is.tags is.is_cut h
 
-literal_is_sound : (v : Tree) (known : Known) (store : Store) → FitsKnown store known → IsSound (judge_literal v known) (ends (literal_outcome v) store)
-literal_is_sound (string s) known store fits = (refl, fits)
-literal_is_sound (integer n) known store fits = (refl, fits)
-literal_is_sound v known store fits = fits
+part_found : (o : Option Tree) → tree_found (found_behind {S = CodeStep} (found_if o) [] (λ u. signed_raw_at u [])) ≡ o
+part_found None = refl
+part_found (Some t) = refl
+
+-- the field of an event is what is read at its name
+field_read : (v : Tree) (name : List ℕ) → read_at v (step.Field name ∷ []) ≡ find name (fields_of v)
+field_read (string s) name = refl
+field_read (integer n) name = refl
+field_read (boolean b) name = refl
+field_read null name = refl
+field_read (timestamp t) name = refl
+field_read (regex n) name = refl
+field_read (array ts) name = refl
+field_read (object ms) name = part_found (find name ms)
+
+variable_fits : (v : Option Tree) (K : Option KindTree) (L : KindTree) → K ≡ Some L → FitsKind v K → Inhabits (unwrap_or v null) L
+variable_fits v None L is fits = cc
+variable_fits None (Some K) L is fits = absurd fits
+variable_fits (Some v) (Some K) L is fits = let same : K ≡ L = cc in subst (Inhabits v) same fits
+
+read_is_sound : LowerLaws → (root : Root) (path : List CodeStep) (K M : KindTree) (known : RootMap) (store : Store) → is_some (place_at root path) ≡ true → kind_of root known ≡ Some K → IsReadAt K path M → FitsMap store known
+    → IsSound (check.gives M (Some known)) (ends (read_outcome (place_at root path) store) store)
+read_is_sound laws Event (step.Field name ∷ []) K M known store built is at fits =
+    let event : Inhabits store.event K = variable_fits (Some store.event) (Some known.event) K is fits.event in
+    (subst (λ found. Inhabits (unwrap_or found null) M) (field_read store.event name) (read_inhabits laws K M (step.Field name ∷ []) store.event at event), fits)
+read_is_sound laws (Name x) [] K M known store built is at fits =
+    let v = unwrap_or (map.get store.variables x) null in
+    (read_inhabits laws K M [] v at (variable_fits (map.get store.variables x) (map.get known.variables x) K is (fits.variables x)), fits)
+read_is_sound laws root path K M known store built is at fits = absurd (false≢true built)
 
 -- ---- operators
 
--- what the judgement of a right operand says of it, in every store that fits the state that it was judged in
-abbrev IsSoundFrom : State → Judgement → (Store → Ended) → Type 0
-IsSoundFrom state j run = (after : Store) → Fits after state → IsSound j (run after)
+-- what the judgement of a right side says of it, in every store that fits what is known where it was judged
+abbrev IsSoundFrom : Option RootMap → Judgement → (Store → Ended) → Type 0
+IsSoundFrom known j run = (after : Store) → FitsKnown after known → IsSound j (run after)
 
--- an end stays sound where more states may come after an error
-more_ways_to_fail : (kind : Tags) (ok other fail : State) (outcome : Outcome) (store : Store) → IsSoundEnd kind ok fail outcome store → IsSoundEnd kind ok (join other fail) outcome store
-more_ways_to_fail kind ok other fail (value v) store sound = sound
-more_ways_to_fail kind ok other fail (error text) store sound = fits-join_right store other fail sound
-
--- the end of `+` where nothing is poisoned
-abbrev IsSoundSum : (l r : Judgement) → Ended → Type 0
-IsSoundSum l r ended =
-    IsSoundEnd (plus_kind l.kind r.kind) (if plus_may_succeed l.kind r.kind then r.ok else dead) (join (join l.fail r.fail) (if plus_may_fail l.kind r.kind then r.ok else dead)) ended.outcome ended.store
+-- a value behind which a pair of the table is possible
+more_ok : (poisoned possible : Bool) (known : Option RootMap) (store : Store) → FitsKnown store (if_state possible known) → FitsKnown store (if_state (poisoned || possible) known)
+more_ok true true known store fits = fits
+more_ok true false known store fits = absurd fits
+more_ok false possible known store fits = fits
 
 -- what follows the first operand's value, once the second ended so
 abbrev add_second : Tree → Ended → Ended
 add_second v second = on_value second.outcome second.store (λ w end. record { outcome = sum_of v w; store = end })
 
--- a sum, once the second operand ended so
-sum_after_second : (l r : Judgement) (v : Tree) (outcome : Outcome) (store : Store) → Inhabits v l.kind → IsSoundEnd r.kind r.ok r.fail outcome store → IsSoundSum l r (add_second v (record { outcome = outcome; store = store }))
-sum_after_second l r v (value w) store of_kind second =
-    more_ways_to_fail (plus_kind l.kind r.kind) _ (join l.fail r.fail) _ (sum_of v w) store (sum_is_sound v w l.kind r.kind store r.ok of_kind second.0 second.1)
-sum_after_second l r v (error text) store of_kind second = fits-join_left store (join l.fail r.fail) _ (fits-join_right store l.fail r.fail second)
+-- the sum of two values, where more may be known at an error, and a code may stand before it
+sum_ends : LowerLaws → (M : KindTree) (poisoned possible : Bool) (known before other fail : Option RootMap) (outcome : Outcome) (store : Store) → IsJoined before other fail → IsSoundEnd M (if_state possible known) other outcome store
+    → IsSoundEnd M (if_state (poisoned || possible) known) fail outcome store
+sum_ends laws M poisoned possible known before other fail (value u) store joined sound = (sound.0, more_ok poisoned possible known store sound.1)
+sum_ends laws M poisoned possible known before other fail (error text) store joined sound = laws.joins before other fail store joined (inr sound)
 
--- a sum, once the first operand ended so
-sum_after_first : (l r : Judgement) (run : Store → Ended) (outcome : Outcome) (store : Store) → IsSoundEnd l.kind l.ok l.fail outcome store → IsSoundFrom l.ok r run
-    → IsSoundSum l r (on_value outcome store (λ v after. add_second v (run after)))
-sum_after_first l r run (value v) store first second = sum_after_second l r v (run store).outcome (run store).store first.0 (second store first.1)
-sum_after_first l r run (error text) store first second = fits-join_left store (join l.fail r.fail) _ (fits-join_left store l.fail r.fail first)
+abbrev IsSum : (l r whole : Judgement) (K : KindTree) (fail : Option RootMap) → Ended → Type 0
+IsSum l r whole K fail ended = IsSound (check.of_pairs sum_tag l r (with_codes [] whole) K fail) ended
 
--- a sum is judged soundly where its operands are
-plus_is_sound : (l r : Judgement) (run : Store → Ended) (outcome : Outcome) (store : Store) → l.poisoned ≡ false → r.poisoned ≡ false → IsSoundEnd l.kind l.ok l.fail outcome store → IsSoundFrom l.ok r run
-    → IsSound (judge_plus l r) (on_value outcome store (λ v after. add_second v (run after)))
-plus_is_sound l r run outcome store left right first second = rw (left, right) (sum_after_first l r run outcome store first second)
+module _ (laws : LowerLaws) (l r whole : Judgement) (K : KindTree) (fail : Option RootMap) (then : IsThen l r whole) (cut : IsCutOf (scalars_at (table_tags sum_tag l.kind r.kind)) K)
+    (fails : IsJoined whole.fail (if_state (some_pair (λ a b. not (is_some (sum_tag a b))) l.kind r.kind) whole.ok) fail) where
+  sum_behind_second : (v : Tree) (outcome : Outcome) (store : Store) → Inhabits v l.kind → IsSoundEnd r.kind r.ok r.fail outcome store → IsSum l r whole K fail (add_second v (record { outcome = outcome; store = store }))
+  sum_behind_second v (value w) store of_kind second =
+      let ok : FitsKnown store whole.ok = subst (FitsKnown store) (sym then.behind.ok) second.1 in
+      sum_ends laws K (whole.poisoned || false) (some_pair (λ a b. is_some (sum_tag a b)) l.kind r.kind) whole.ok whole.fail _ fail (sum_of v w) store fails (sum_is_sound laws.cuts v w l.kind r.kind K store whole.ok cut of_kind second.0 ok)
+  sum_behind_second v (error text) store of_kind second =
+      laws.joins whole.fail _ fail store fails (inl (laws.joins l.fail r.fail whole.fail store then.fail (inr second)))
 
--- the end of `??` where nothing is poisoned
-abbrev IsSoundChoice : (l r : Judgement) → Ended → Type 0
-IsSoundChoice l r ended = IsSoundEnd (union l.kind r.kind) (join l.ok r.ok) r.fail ended.outcome ended.store
+  sum_behind_first : (run : Store → Ended) (outcome : Outcome) (store : Store) → IsSoundEnd l.kind l.ok l.fail outcome store → IsSoundFrom l.ok r run
+      → IsSum l r whole K fail (on_value outcome store (λ v after. add_second v (run after)))
+  sum_behind_first run (value v) store first second = sum_behind_second v (run store).outcome (run store).store first.0 (second store first.1)
+  sum_behind_first run (error text) store first second =
+      laws.joins whole.fail _ fail store fails (inl (laws.joins l.fail r.fail whole.fail store then.fail (inl first)))
 
--- a `??`, once the right side ended so
-choice_after_second : (l r : Judgement) (outcome : Outcome) (store : Store) → IsSoundEnd r.kind r.ok r.fail outcome store → IsSoundChoice l r (record { outcome = outcome; store = store })
-choice_after_second l r (value w) store second = (or_right _ _ second.0, fits-join_right store l.ok r.ok second.1)
-choice_after_second l r (error text) store second = second
+-- the end of `??`
+choice_behind_second : LowerLaws → (l r : Judgement) (K : KindTree) (ok : Option RootMap) (outcome : Outcome) (store : Store) → IsEither l.kind r.kind K → IsJoined l.ok r.ok ok → IsSoundEnd r.kind r.ok r.fail outcome store
+    → IsSoundEnd K ok r.fail outcome store
+choice_behind_second laws l r K ok (value w) store either joined second = (laws.either w l.kind r.kind K either (inr second.0), laws.joins l.ok r.ok ok store joined (inr second.1))
+choice_behind_second laws l r K ok (error text) store either joined second = second
 
--- a `??`, once the left side ended so
-choice_after_first : (l r : Judgement) (run : Store → Ended) (outcome : Outcome) (store : Store) → IsSoundEnd l.kind l.ok l.fail outcome store → IsSoundFrom l.fail r run
-    → IsSoundChoice l r (on_error outcome store run)
-choice_after_first l r run (value v) store first second = (or_left _ _ first.0, fits-join_left store l.ok r.ok first.1)
-choice_after_first l r run (error text) store first second = choice_after_second l r (run store).outcome (run store).store (second store first)
-
--- the right side is judged where the left one failed
-right_starts : (l : Judgement) → l.poisoned ≡ false → start_of_right l ≡ l.fail
-right_starts l left = rw left
-
--- a `??` is judged soundly where its operands are
-coalesce_is_sound : (span : Span) (l r : Judgement) (run : Store → Ended) (outcome : Outcome) (store : Store) → l.poisoned ≡ false → r.poisoned ≡ false → IsSoundEnd l.kind l.ok l.fail outcome store
-    → IsSoundFrom (start_of_right l) r run → IsSound (judge_coalesce span l r) (on_error outcome store run)
-coalesce_is_sound span l r run outcome store left right first second =
-    rw (left, right) (choice_after_first l r run outcome store first (λ after fits. second after (rw (right_starts l left) fits)))
+choice_behind_first : LowerLaws → (l r : Judgement) (K : KindTree) (ok : Option RootMap) (run : Store → Ended) (outcome : Outcome) (store : Store) → IsEither l.kind r.kind K → IsJoined l.ok r.ok ok → IsSoundEnd l.kind l.ok l.fail outcome store → IsSoundFrom l.fail r run
+    → IsSoundEnd K ok r.fail (on_error outcome store run).outcome (on_error outcome store run).store
+choice_behind_first laws l r K ok run (value v) store either joined first second = (laws.either v l.kind r.kind K either (inl first.0), laws.joins l.ok r.ok ok store joined (inl first.1))
+choice_behind_first laws l r K ok run (error text) store either joined first second = choice_behind_second laws l r K ok (run store).outcome (run store).store either joined (second store first)
 
 -- ---- expressions
 
--- what the judgement says of an expression holds of its meaning
-mutual
-  pub expression_is_sound : ExpressionsAreSound
-  expression_is_sound e dead store none fits = absurd fits
-  expression_is_sound (expr span f) (alive known) store none fits = form_is_sound span f known store none fits
+same_table : (t : Tag → Tag → Option Tag) → Some sum_tag ≡ Some t → sum_tag ≡ t
+same_table t same = cc
 
-  pub form_is_sound : (span : Span) (f : Form) (known : Known) (store : Store) → HasNoError (judge_form span f known).codes → FitsKnown store known → IsSound (judge_form span f known) (eval_form f store)
-  form_is_sound span (literal v) known store none fits = literal_is_sound v known store fits
-  form_is_sound span (read root path) known store none fits = place_is_sound span (place_at root path) known store none fits
-  form_is_sound span (binary Plus l r) known store none fits =
-      let left = judge l (alive known) in
-      let right = judge r left.ok in
-      let parts = no_error_parts left.codes right.codes none in
-      plus_is_sound left right (eval r) (eval l store).outcome (eval l store).store (not_poisoned l (alive known) parts.0) (not_poisoned r left.ok parts.1)
-      (expression_is_sound l (alive known) store parts.0 fits) (λ after ok. expression_is_sound r left.ok after parts.1 ok)
-  form_is_sound span (binary Coalesce l r) known store none fits =
-      let left = judge l (alive known) in
-      let right = judge r (start_of_right left) in
-      let parts = no_error_parts left.codes right.codes (no_error_parts (left.codes ++ right.codes) (needless span left) none).0 in
-      coalesce_is_sound span left right (eval r) (eval l store).outcome (eval l store).store (not_poisoned l (alive known) parts.0) (not_poisoned r (start_of_right left) parts.1)
-      (expression_is_sound l (alive known) store parts.0 fits) (λ after ok. expression_is_sound r (start_of_right left) after parts.1 ok)
-  form_is_sound span f known store none fits = fits
+mutual
+  pub expression_is_sound : LowerLaws → ExpressionsAreSound
+  expression_is_sound laws None e j store built judges none fits = absurd fits
+  expression_is_sound laws (Some known) (expr span f) j store built (reached {j = k} gives) none fits =
+      sound_settled k (eval_form f store) (cause_given span f known k built gives) none (form_is_sound laws span f known k store built gives none fits)
+
+  form_is_sound : LowerLaws → (span : Span) (f : Form) (known : RootMap) (j : Judgement) (store : Store) → is_built_form f ≡ true → Gives known span f j → HasNoError j.codes → FitsMap store known → IsSound j (eval_form f store)
+  form_is_sound laws span (literal v) known j store built (a_literal {K = K} cut) none fits = literal_is_sound laws v K known store built cut fits
+  form_is_sound laws span (read root path) known j store built (a_known_root {K = K} {M = M} is at) none fits = read_is_sound laws root path K M known store built is at fits
+  form_is_sound laws span (read root path) known j store built (an_unknown_root unknown) none fits = absurd (true≢false none)
+  form_is_sound laws span (binary Plus l r) known j store built (of_table {table = t} {j = a} {k = b} {whole = c} {K = K} {fail = F} is (operands first second then) cut fails) none fits =
+      let parts = and_parts _ _ built in
+      let codes = no_error_parts a.codes b.codes (subst HasNoError then.behind.codes (no_error_parts c.codes [] none).0) in
+      let same = same_table t is in
+      subst (λ f. IsSound (check.of_pairs f a b (with_codes [] c) K F) (eval_form (binary Plus l r) store)) same
+      (sum_behind_first laws a b c K F then (subst (λ f. IsCutOf (scalars_at (table_tags f a.kind b.kind)) K) (sym same) cut) (subst (λ f. IsJoined c.fail (if_state (some_pair (λ x y. not (is_some (f x y))) a.kind b.kind) c.ok) F) (sym same) fails)
+      (eval r) (eval l store).outcome (eval l store).store (expression_is_sound laws (Some known) l a store parts.0 first codes.0 fits) (λ after ok. expression_is_sound laws a.ok r b after parts.1 second codes.1 ok))
+  form_is_sound laws span (binary Plus l r) known j store built (an_equality is both cut) none fits = absurd (false≢true is)
+  form_is_sound laws span (binary Coalesce l r) known j store built (a_coalescing {j = a} {k = b} {whole = c} {K = K} {ok = M} first second behind either joined) none fits =
+      let parts = and_parts _ _ built in
+      let codes = no_error_parts a.codes b.codes (subst HasNoError behind.codes (no_error_parts c.codes _ none).0) in
+      choice_behind_first laws a b K M (eval r) (eval l store).outcome (eval l store).store either joined (expression_is_sound laws (Some known) l a store parts.0 first codes.0 fits) (λ after ok. expression_is_sound laws a.fail r b after parts.1 second codes.1 ok)
+  form_is_sound laws span (binary Coalesce l r) known j store built (an_equality is both cut) none fits = absurd (false≢true is)
+  form_is_sound laws span (binary Coalesce l r) known j store built (of_table {table = t} is both cut fails) none fits = let wrong : None ≡ Some t = is in cc
+  form_is_sound laws span f known j store built gives none fits = absurd (false≢true built)

@@ -12,7 +12,7 @@ use Rattle.vrl_syntax.specs.Written.{is_del}
 use Rattle.vrl_syntax.specs.declared.root.Target.{Target}
 use Rattle.vrl_syntax.specs.declared.root.Target.TheVariants as target
 use Rattle.vrl_token.specs.Reading.{lexical_codes}
-use Rattle.vrl_compile.specs.Judgement.{is_error}
+use Rattle.vrl_check.specs.Judgement.{is_error}
 
 -- ---- paths beyond the limits
 

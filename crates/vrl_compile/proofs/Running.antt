@@ -1,5 +1,9 @@
 -- Items one after the other.
-use Rattle.std.proofs.Common.{◌≡◌, Bool, true, false, ℕ, suc, ◌+◌, ◌<◌, List, ◌∷◌, length, drop, get_or, drop-cons, add-one, Option, Some, None, unwrap_or, IfSome, IsTrue, refl, sym, ap, ◌∙◌, subst}
+use Rattle.std.proofs.Common.{◌≡◌, Bool, true, false, ℕ, suc, ◌+◌, ◌<◌, List, ◌∷◌, cond, length, drop, get_or, drop-cons, add-one, Option, Some, None, unwrap_or, IfSome, IsTrue, refl, sym, ap, ◌∙◌, subst}
+use Rattle.std.proofs.lemmas.Cmp.{nat_list_cmp_total}
+use Rattle.std.specs.Cmp.Lexicographic.{slice_cmp}
+use Rattle.std.specs.FinMap as map
+use Rattle.std.specs.Ordering.{eq_by_cmp, nat_cmp}
 use Rattle.vrl_value.specs.Laws.{MembersStayJson}
 use Rattle.vrl_value.specs.Tree.{Tree, string, integer, boolean, null, timestamp, regex, array, object, is_json, members_are_json}
 use Rattle.vrl_syntax.specs.Tree.{Expr, expr, Form, literal, read, binary, assign, Exprs, no_exprs, exprs}
@@ -7,7 +11,8 @@ use Rattle.vrl_syntax.specs.View.{expr_of, exprs_view}
 use Rattle.vrl_syntax.specs.declared.root.Op.TheVariants.{Plus, Coalesce}
 use Rattle.vrl_syntax.specs.declared.tree.Expr.{Expr as CodeExpr}
 use Rattle.vrl_compile.specs.Built.{Place, field, variable, place_at, target_place}
-use Rattle.vrl_compile.specs.Meaning.{Store, Outcome, value, error, Ended, ends, IsUnhandled, eval, eval_form, on_value, on_error, sum_of, literal_outcome, read_outcome, fields_of, write, run_assign, run_item, run_items, run_script, store_of}
+use Rattle.vrl_state.specs.Stores.{Store}
+use Rattle.vrl_compile.specs.Meaning.{Outcome, value, error, Ended, ends, IsUnhandled, eval, eval_form, on_value, on_error, sum_of, literal_outcome, read_outcome, fields_of, write, run_assign, run_item, run_items, run_script, store_of}
 use Rattle.vrl_compile.proofs.Evaluation.{eval-store, eval_form-store}
 
 -- ---- one item and those after it
@@ -42,7 +47,7 @@ run_items-at last items i item store whole within is handled so_far =
 -- the event and each variable is JSON
 pub record IsJson (store : Store) : Type 0 where
   pub event : IsTrue (is_json store.event)
-  pub variables : IsTrue (members_are_json store.variables)
+  pub variables : (x : List ℕ) → IfSome (map.get store.variables x) (λ v. IsTrue (is_json v))
 
 abbrev IsJsonOutcome : Outcome → Type 0
 IsJsonOutcome (value v) = IsTrue (is_json v)
@@ -65,7 +70,7 @@ is_json-fields_of (object ms) json = json
 
 is_json-read : MembersStayJson → (place : Option Place) (store : Store) → IsJson store → IsJsonOutcome (read_outcome place store)
 is_json-read law (Some (field name)) store json = is_json-found _ (law.find_json name (fields_of store.event) (is_json-fields_of store.event json.event))
-is_json-read law (Some (variable name)) store json = is_json-found _ (law.find_json name store.variables json.variables)
+is_json-read law (Some (variable name)) store json = is_json-found _ (json.variables name)
 is_json-read law None store json = tt
 
 is_json-literal : (v : Tree) → IsJsonOutcome (literal_outcome v)
@@ -114,10 +119,18 @@ mutual
       on_error-json left.outcome left.store (eval r) (is_json-eval law l store json) (is_json-eval law r left.store (unwritten l store json))
   is_json-form law f store json = tt
 
+-- the value that was written, or what was there
+either_json : (written : Bool) (v : Tree) (found : Option Tree) → IsTrue (is_json v) → IfSome found (λ w. IsTrue (is_json w)) → IfSome (cond written (Some v) found) (λ w. IsTrue (is_json w))
+either_json true v found new before = new
+either_json false v found new before = before
+
 is_json-write : MembersStayJson → (place : Place) (v : Tree) (store : Store) → IsTrue (is_json v) → IsJson store → IsJson (write place v store)
 is_json-write law (field name) v store new json =
     record { event = law.put_json name v (fields_of store.event) new (is_json-fields_of store.event json.event); variables = json.variables }
-is_json-write law (variable name) v store new json = record { event = json.event; variables = law.put_json name v store.variables new json.variables }
+is_json-write law (variable name) v store new json = record {
+  event = json.event;
+  variables = λ x. subst (λ found. IfSome found (λ w. IsTrue (is_json w))) (sym (map.get-insert nat_list_cmp_total store.variables name v x)) (either_json (eq_by_cmp (slice_cmp nat_cmp) x name) v (map.get store.variables x) new (json.variables x));
+}
 
 unwritten_form : (f : Form) (store : Store) → IsJson store → IsJson (eval_form f store).store
 unwritten_form f store json = subst IsJson (sym (eval_form-store f store)) json
@@ -145,7 +158,7 @@ is_json-run_items law last (exprs item items) store json =
 
 -- a script leaves a JSON event JSON
 pub is_json-run_script : MembersStayJson → (items : Exprs) (event : Tree) → IsTrue (is_json event) → IsTrue (is_json (run_script items event).store.event)
-is_json-run_script law items event json = (is_json-run_items law null items (store_of event) (record { event = json; variables = refl })).event
+is_json-run_script law items event json = (is_json-run_items law null items (store_of event) (record { event = json; variables = λ x. subst (λ found. IfSome found (λ v. IsTrue (is_json v))) (sym (map.get-empty (slice_cmp nat_cmp) x)) tt })).event
 
 -- ---- single items
 

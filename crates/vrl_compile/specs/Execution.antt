@@ -1,16 +1,25 @@
 -- What the values of a run stand for: words of the code for those of `Meaning`.
 use Rattle.std.specs.Prelude.{◌++◌, codes}
+use Rattle.std.specs.Cmp.Lexicographic.{slice_cmp}
+use Rattle.std.specs.FinMap as map
+use Rattle.std.specs.Ordering.{nat_cmp}
 use Rattle.vrl_value.specs.Tag.{word_of}
-use Rattle.vrl_value.specs.Tree.{Tree}
+use Rattle.vrl_value.specs.Tree.{Tree, Members, no_members, member}
 use Rattle.vrl_value.specs.View.{tree_of, members_of}
-use Rattle.vrl_compile.specs.Meaning.{Store, Outcome, value, error, not_built, sum_of}
+use Rattle.vrl_state.specs.Stores.{Store}
+use Rattle.vrl_compile.specs.Meaning.{Outcome, value, error, not_built, sum_of}
 use Rattle.vrl_compile.specs.declared.execution.Store.{Store as CodeStore}
 use Rattle.vrl_compile.specs.declared.execution.Outcome.{Outcome as CodeOutcome}
 use Rattle.vrl_compile.specs.declared.execution.Outcome.TheVariants as code
 
+-- the values of variables, each at its name
+abbrev pub variables_of : Members → map.FinMap (slice_cmp nat_cmp) Tree
+variables_of no_members = map.empty
+variables_of (member x v ms) = map.insert (variables_of ms) x v
+
 -- the event and the variables as trees
 abbrev pub store_view : CodeStore → Store
-store_view store = record { event = tree_of store.event; variables = members_of store.variables }
+store_view store = record { event = tree_of store.event; variables = variables_of (members_of store.variables) }
 
 -- a value as its tree, and an error as its text
 abbrev pub outcome_view : CodeOutcome → Outcome

@@ -1,14 +1,8 @@
-pub mod Addition
 pub mod Answer
 pub mod Built
-pub mod Environment
 pub mod Execution
-pub mod Judged
-pub mod Judgement
-pub mod KindTags
 pub mod Meaning
 pub mod Places
 pub mod Program
 pub mod Reading
 pub mod Soundness
-pub mod Tags

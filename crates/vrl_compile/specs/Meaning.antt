@@ -2,19 +2,16 @@
 -- (literals, paths, variables, arithmetic, coalesce, assignment). A form that isn't built ends with an error of empty text; no
 -- script with one is compiled.
 use Rattle.std.specs.Prelude.{ℕ, List, [], ◌++◌, Option, Some, None, unwrap_or, codes}
+use Rattle.std.specs.FinMap as map
 use Rattle.std.specs.Int.{w64, int_wrapping_add}
 use Rattle.vrl_value.specs.Tree.{Tree, string, integer, boolean, null, timestamp, regex, array, object, Members, no_members, put, find}
 use Rattle.vrl_value.specs.Tag.{tag_of, word_of}
 use Rattle.vrl_syntax.specs.Tree.{Expr, expr, Form, literal, read, binary, assign, Exprs, no_exprs, exprs}
 use Rattle.vrl_syntax.specs.declared.root.Op.TheVariants.{Plus, Coalesce}
+use Rattle.vrl_state.specs.Stores.{Store}
 use Rattle.vrl_compile.specs.Built.{Place, field, variable, place_at, target_place}
 
--- ---- stores
-
--- the event, and the variables that are there, each at its name
-pub record Store : Type 0 where
-  pub event : Tree
-  pub variables : Members
+-- ---- stores: the event, and the variables that are there, each at its name
 
 -- the fields of an event; what isn't an object has none
 abbrev pub fields_of : Tree → Members
@@ -30,12 +27,12 @@ fields_of (object ms) = ms
 -- what stands at a place; null where nothing does
 abbrev pub found : Place → Store → Tree
 found (field name) store = unwrap_or (find name (fields_of store.event)) null
-found (variable name) store = unwrap_or (find name store.variables) null
+found (variable name) store = unwrap_or (map.get store.variables name) null
 
 -- the store once the value stands at the place; an event that isn't an object is replaced by one
 abbrev pub write : Place → Tree → Store → Store
 write (field name) v store = record store { event = object (put name v (fields_of store.event)) }
-write (variable name) v store = record store { variables = put name v store.variables }
+write (variable name) v store = record store { variables = map.insert store.variables name v }
 
 -- ---- expressions
 
@@ -117,7 +114,7 @@ run_items last (exprs e es) store = let given = run_item e store in on_value giv
 
 -- the store that a run starts with
 abbrev pub store_of : Tree → Store
-store_of event = record { event = event; variables = no_members }
+store_of event = record { event = event; variables = map.empty }
 
 -- how a script ends over an event; an error here is one that the script did not handle
 abbrev pub run_script : Exprs → Tree → Ended

@@ -1,19 +1,32 @@
--- A text has one reading, and one list of diagnostics.
-use Rattle.std.specs.Prelude.{◌≡◌, ℕ, List}
+-- A text has one reading, a script one judgement, and a text one list of diagnostics.
+use Rattle.std.specs.Prelude.{◌≡◌, ℕ, true, List}
 use Rattle.vrl_diag.specs.declared.diagnostic.Diagnostic.{Diagnostic}
 use Rattle.vrl_diag.specs.declared.diagnostic.Span.{Span}
-use Rattle.vrl_syntax.specs.Tree.{Exprs}
-use Rattle.vrl_compile.specs.Answer.{AreDiagnostics, HasItems, IsUnread, unread_at}
+use Rattle.vrl_kind.specs.KindTree.{KindTree}
+use Rattle.vrl_syntax.specs.Tree.{Exprs, Script}
+use Rattle.vrl_token.specs.declared.token.Spanned.{Spanned}
+use Rattle.vrl_check.specs.Judgement.{Judgement, JudgesScript}
+use Rattle.vrl_compile.specs.Built.{are_built}
+use Rattle.vrl_compile.specs.Answer.{AreDiagnostics, IsScript, IsUnread, unread_at}
+
+-- two readings of a text are the same
+pub record AreOneReading (tokens others : List Spanned) (script other : Script) : Type 0 where
+  pub tokens_are : tokens ≡ others
+  pub script_is : script ≡ other
 
 -- of every text
 abbrev pub ScriptsHaveOneReading : Type 0
-ScriptsHaveOneReading = (text : List ℕ) (a b : Exprs) → HasItems text a → HasItems text b → a ≡ b
+ScriptsHaveOneReading = (text : List ℕ) (tokens others : List Spanned) (script other : Script) → IsScript text tokens script → IsScript text others other → AreOneReading tokens others script other
+
+-- a script of built forms has at most one judgement over events of a kind
+abbrev pub JudgementsAreDetermined : Type 0
+JudgementsAreDetermined = (declared : KindTree) (items : Exprs) (j k : Judgement) → are_built items ≡ true → JudgesScript declared items j → JudgesScript declared items k → j ≡ k
 
 -- the same list, or two that tell at two places that the grammar reads no script
 pub data AreAlike (text : List ℕ) (a b : List Diagnostic) : Type 0 where
   same : a ≡ b → AreAlike text a b
   both_unread : IsUnread text → (s t : Span) → a ≡ unread_at s → b ≡ unread_at t → AreAlike text a b
 
--- so the diagnostics of a text are one list, but for that place
+-- so the diagnostics of a text under a kind are one list, but for that place
 abbrev pub DiagnosticsAreDetermined : Type 0
-DiagnosticsAreDetermined = (text : List ℕ) (a b : List Diagnostic) → AreDiagnostics text a → AreDiagnostics text b → AreAlike text a b
+DiagnosticsAreDetermined = (declared : KindTree) (text : List ℕ) (a b : List Diagnostic) → AreDiagnostics declared text a → AreDiagnostics declared text b → AreAlike text a b

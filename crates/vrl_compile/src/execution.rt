@@ -14,14 +14,14 @@ use std::alloc::Global;
 use std::collections::BTreeMap;
 use vrl_path::Path;
 use vrl_syntax::{Expr, Form, Op, Root, Target};
-use vrl_value::{Chars, Fields, Memory, Tag, Value, members_stay_json};
+use vrl_value::{Chars, Fields, Memory, Tag, Value, members_are_maps, members_stay_json};
 
 /// Runs an accepted script over an event, and gives the event as the script leaves it. A field that the script
 /// writes is put into it, and an event that is no object is replaced by one at the first such write. An event
 /// of JSON stays one.
 ///
 /// The caller shows that the script ends with a value over this event. `scripts_are_sound` gives that for every
-/// accepted script and every event that is an object of JSON.
+/// accepted script and every event of the kind that was declared.
 ///
 /// # Errors
 ///
@@ -152,6 +152,7 @@ impl Store {
         ensures { OnOk result (store_view self.new
             ≡ write (place_view place.now) (tree_of value) (store_view self.old)) }
     {
+        members_are_maps();
         match place {
             Place::Field(name) => {
                 let name = name.copy(alloc)?;

@@ -1,5 +1,6 @@
-ghost use Rattle.vrl_compile.specs.Reading.{ScriptsHaveOneReading, DiagnosticsAreDetermined};
+ghost use Rattle.vrl_compile.specs.Reading.{DiagnosticsAreDetermined, JudgementsAreDetermined, ScriptsHaveOneReading};
 
+use vrl_kind::equal_tags_are_one_kind;
 use vrl_parse::scripts_are_determined;
 use vrl_token::tokens_are_determined;
 
@@ -11,11 +12,20 @@ pub fn scripts_have_one_reading()
     scripts_are_determined();
 }
 
-/// The diagnostics of a text are one list, but for the place where the grammar reads no script. This takes no time:
+/// A script of built forms has at most one judgement over events of a kind. This takes no time: it is a law about
+/// the definitions.
+pub fn judgements_are_determined()
+    ensures { JudgementsAreDetermined }
+{
+    equal_tags_are_one_kind();
+}
+
+/// The diagnostics of a text under a kind are one list, but for the place where the grammar reads no script. This takes no time:
 /// it is a law about the definitions.
 pub fn diagnostics_are_determined()
     ensures { DiagnosticsAreDetermined }
 {
     tokens_are_determined();
     scripts_are_determined();
+    judgements_are_determined();
 }

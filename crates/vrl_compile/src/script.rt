@@ -1,19 +1,27 @@
-ghost use Rattle.std.specs.Prelude.{◌≡◌, ◌≤◌, ◌∷◌, [], List, ℕ, IfErr, IfOk, length};
+ghost use Rattle.std.specs.Prelude.{◌≡◌, ◌≤◌, ◌∷◌, [], false, List, ℕ, IfErr, IfOk, length};
 ghost use Rattle.std.specs.List.{list_any};
+ghost use Rattle.vrl_kind.specs.Canonical.{allows_absent};
+ghost use Rattle.vrl_kind.specs.KindTree.{KindTree};
 ghost use Rattle.vrl_syntax.specs.Limits.{KeepsLimits};
-ghost use Rattle.vrl_syntax.specs.View.{exprs_of};
+ghost use Rattle.vrl_syntax.specs.View.{exprs_of, script_of};
 ghost use Rattle.vrl_token.specs.OnFault.{OnFault};
-ghost use Rattle.vrl_compile.specs.Answer.{HasItems, IsAnswer, IsRefused, not_built};
-ghost use Rattle.vrl_compile.specs.Judgement.{is_error};
+ghost use Rattle.vrl_token.specs.declared.token.Spanned.{Spanned as SpecSpanned};
+ghost use Rattle.vrl_parse.specs.Reading.{sources_of};
+ghost use Rattle.vrl_check.specs.Answer.{IsJudged};
+ghost use Rattle.vrl_check.specs.Judgement.{is_error, Judgement, JudgesScript};
+ghost use Rattle.vrl_compile.specs.Answer.{CanBeJudged, IsAnswer, IsRefused, IsScript, IsSoundAnswer, not_built};
 
 use crate::built::are_built;
-use crate::judgement::diagnostics_of;
+use crate::literals::malformed;
+use crate::soundness::scripts_are_sound;
 use std::alloc::Global;
+use vrl_check::{Judged, check};
 use vrl_diag::{Diagnostic, Diagnostics, Span, code};
+use vrl_kind::Kind;
 use vrl_parse::parse;
-use vrl_syntax::Exprs;
-use vrl_token::{SyntaxFault, tokens};
-use vrl_value::Memory;
+use vrl_syntax::{Exprs, Script};
+use vrl_token::{SyntaxFault, Tokens, tokens};
+use vrl_value::{Memory, Names};
 
 /// The most bytes of a script.
 pub const SCRIPT_LIMIT: usize = 65_536;
@@ -24,67 +32,114 @@ pub struct Program {
     pub(crate) items: Exprs,
 }
 
+/// An accepted script, and what was found out about it.
+#[derive(Drop)]
+pub struct Accepted {
+    /// The script, which can be run.
+    pub program: Program,
+    /// What it was judged to be. Its diagnostics are warnings.
+    pub judged: Judged,
+    /// The sources of its regex literals, in order.
+    pub sources: Names,
+}
+
 /// What [`compile`] answers.
 #[derive(Drop)]
 pub enum Compiled {
-    /// The script, which can be run, and the warnings about it, in order.
-    Accepted(Program, Diagnostics),
+    /// The script can be run over each event of the declared kind.
+    Accepted(Accepted),
     /// All that is wrong with the text, errors and warnings, in order.
     Refused(Diagnostics),
 }
 
-/// Reads a script of at most 65,536 bytes and judges it, before any event is there.
+/// Reads a script of at most 65,536 bytes and judges it over events of the declared kind, which isn't absent,
+/// before any event is there.
 ///
-/// The first of these steps that finds something wrong gives all the diagnostics, and each but the last gives
-/// one: the first spelling at fault; tokens that are nested too deeply (1008); tokens in which the grammar reads
-/// no script (203); the first path that is written or deleted beyond the limits (1007, 1012); a form that isn't
-/// built yet (1099, at the start of the text); the judgement. Diagnostics stand in the order of their starts,
-/// those of one start in the order of their ends, and those of one span in the order of their codes.
+/// The first of these steps that finds something wrong gives all the diagnostics, and each of the first five
+/// gives one: the first spelling at fault; tokens that are nested too deeply (1008); tokens in which the grammar
+/// reads no script (203); the first path that is written or deleted beyond the limits (1007, 1012); a form that
+/// isn't built yet (1099, at the start of the text); the regex literals that are malformed (101); the judgement.
+/// Diagnostics stand in the order of their starts, those of one start in the order of their ends, and those of
+/// one span in the order of their codes.
 ///
-/// The script is accepted where none of its diagnostics is an error, with its items in order and the diagnostics
-/// that are left, which are warnings. Else it is refused, with all its diagnostics, one of which at least is an
-/// error.
+/// The script is accepted where none of its diagnostics is an error; those that are left are warnings. Else it is
+/// refused, with all its diagnostics, one of which at least is an error. An accepted script ends with a value over
+/// each event of the declared kind.
 ///
 /// # Errors
 ///
 /// [`Memory`] where memory is wanted.
-pub fn compile(alloc: Global, text: &str) -> Result<Compiled, Memory>
-    requires { length text.now ≤ SCRIPT_LIMIT }
-    ensures { IfOk result (IsAnswer text.now) }
+pub fn compile(alloc: Global, text: &str, declared: &Kind) -> Result<Compiled, Memory>
+    requires short { length text.now ≤ SCRIPT_LIMIT }
+    requires present { allows_absent declared.now ≡ false }
+    ensures answer { IfOk result (IsAnswer declared.now text.now) }
+    ensures sound { IfOk result (IsSoundAnswer declared.now) }
 {
+    scripts_are_sound();
     match read(alloc, text) {
-        Ok(items) => judge(alloc, items),
+        Ok(parsed) => compile_parsed(alloc, parsed, declared),
         Err(SyntaxFault::Fault(fault)) => Ok(Compiled::Refused(alone(alloc, fault)?)),
         Err(SyntaxFault::Memory) => Err(Memory),
     }
 }
 
-// The items of a text, the paths of which keep the limits.
-fn read(alloc: Global, text: &str) -> Result<Exprs, SyntaxFault>
+// A text that was parsed.
+#[derive(Drop)]
+struct Parsed {
+    tokens: Tokens,
+    script: Script,
+}
+
+// The tokens of a text, and the script in them, the paths of which keep the limits.
+fn read(alloc: Global, text: &str) -> Result<Parsed, SyntaxFault>
     requires { length text.now ≤ SCRIPT_LIMIT }
-    ensures items { IfOk result (λ items. HasItems text.now (exprs_of items)) }
-    ensures limits { IfOk result (λ items. KeepsLimits (exprs_of items)) }
-    ensures fault { IfErr result (OnFault (λ fault. IsRefused text.now (fault ∷ []))) }
+    ensures script { IfOk result (λ parsed. IsScript text.now parsed.tokens.tokens (script_of parsed.script)) }
+    ensures limits { IfOk result (λ parsed. KeepsLimits (exprs_of parsed.script.items)) }
+    ensures sources { IfOk result (λ parsed. parsed.script.patterns ≡ sources_of parsed.tokens.tokens) }
+    ensures fault { IfErr result (OnFault (λ fault. (declared : KindTree)
+        → IsRefused declared text.now (fault ∷ []))) }
 {
     let tokens = tokens(alloc, text)?;
     let script = parse(alloc, &tokens)?;
-    Ok(script.items)
+    Ok(Parsed { tokens, script })
 }
 
-// What is answered for the text that has these items.
-fn judge(alloc: Global, items: Exprs) -> Result<Compiled, Memory>
-    ensures { (text : List ℕ) → HasItems text (exprs_of items) → KeepsLimits (exprs_of items)
-        → IfOk result (IsAnswer text) }
+// What is answered for the text that was parsed so.
+fn compile_parsed(alloc: Global, parsed: Parsed, declared: &Kind) -> Result<Compiled, Memory>
+    requires limits { KeepsLimits (exprs_of parsed.script.items) }
+    requires sources { parsed.script.patterns ≡ sources_of parsed.tokens.tokens }
+    requires present { allows_absent declared.now ≡ false }
+    ensures { (text : List ℕ) → IsScript text parsed.tokens.tokens (script_of parsed.script)
+        → IfOk result (IsAnswer declared.now text) }
 {
-    if !are_built(&items) {
+    let Parsed { tokens, script } = parsed;
+    if !are_built(&script.items) {
         return Ok(Compiled::Refused(not_built(alloc)?));
     }
-    let diagnostics = diagnostics_of(alloc, &items)?;
-    if has_error(&diagnostics) {
-        Ok(Compiled::Refused(Diagnostics::new(diagnostics)))
-    } else {
-        Ok(Compiled::Accepted(Program { items }, Diagnostics::new(diagnostics)))
+    let malformed = malformed(alloc, &tokens, &script.patterns)?;
+    if !malformed.is_empty() {
+        return Ok(Compiled::Refused(Diagnostics::new(malformed)));
     }
+    let judged = check(alloc, &script, declared)?;
+    Ok(decided(script, judged))
+}
+
+// What is answered for a script that was judged so: it is accepted where it has no error.
+fn decided(script: Script, judged: Judged) -> Compiled
+    ensures { (declared : KindTree) (text : List ℕ) (tokens : List SpecSpanned) (judgement : Judgement)
+        → IsScript text tokens (script_of script) → CanBeJudged tokens (script_of script)
+        → JudgesScript declared (exprs_of script.items) judgement → IsJudged judgement judged
+        → IsAnswer declared text result }
+{
+    if has_error(judged.diagnostics.as_slice()) {
+        return Compiled::Refused(judged.diagnostics);
+    }
+    let Script { items, patterns } = script;
+    Compiled::Accepted(Accepted {
+        program: Program { items },
+        judged,
+        sources: patterns,
+    })
 }
 
 // What is wrong with a text of a form that isn't built.

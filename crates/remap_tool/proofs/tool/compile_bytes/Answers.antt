@@ -7,5 +7,5 @@ use Rattle.remap_tool.proofs.tool.compile_bytes.Goals as goal
 
 pub returns-in-Ok : goal.returns-in-Ok
 returns-in-Ok c =
-    let compiled = subst (λ t. IfOk c.compile.result (IsAnswer t)) c.in-Ok.ensures.text c.compile.ensures in
+    let compiled = subst (λ k. IfOk c.compile.result (IsAnswer k c.args.bytes.now)) c.requires (subst (λ t. IfOk c.compile.result (IsAnswer c.args.declared.now t)) c.in-Ok.ensures.text c.compile.ensures.answer) in
     script_answer c.args.bytes.now c.compile.result (λ none. false≢true (c.in-Ok.ensures.err.1 none)) compiled

@@ -2,6 +2,7 @@ use Rattle.std.proofs.Common.{subst, [], inr}
 use Rattle.remap_tool.specs.Devices.{IsOfLines}
 use Rattle.remap_tool.proofs.AnswerLemmas.{accepted_named, asked_words, asks_named, is_whole-by, usage_only}
 use Rattle.remap_tool.proofs.OneAnswer.{is_refusal, one_answer}
+use Rattle.remap_tool.proofs.RunSound.{run_is_sound}
 use Rattle.remap_tool.proofs.SinkLemmas.{appends-nil, appends_front-nil}
 use Rattle.remap_tool.proofs.tool.remap.Goals as goal
 
@@ -45,3 +46,15 @@ returns-in-Ok-clause-refused g c told text diagnostics asks =
 pub returns-in-Ok-clause-accepted_first : goal.returns-in-Ok-clause-accepted_first
 returns-in-Ok-clause-accepted_first g c =
     accepted_named _ _ c.in-Some.name.now c.in-Ok.script c.in-Some.ensures c.in-Ok.ensures.bytes (rw c.as_slice.ensures at c.run_script.ensures.accepted_first)
+
+pub returns-in-None-clause-sound : goal.returns-in-None-clause-sound
+returns-in-None-clause-sound g c = run_is_sound c.scripts_are_sound.ensures c.judgements_are_determined.ensures c.members_stay_json.ensures c.lines_are_json.ensures _ _
+
+pub returns-in-Ok-clause-sound : goal.returns-in-Ok-clause-sound
+returns-in-Ok-clause-sound g c = run_is_sound c.scripts_are_sound.ensures c.judgements_are_determined.ensures c.members_stay_json.ensures c.lines_are_json.ensures _ _
+
+pub returns-in-Err-Failed-clause-sound : goal.returns-in-Err-Failed-clause-sound
+returns-in-Err-Failed-clause-sound g c = run_is_sound c.scripts_are_sound.ensures c.judgements_are_determined.ensures c.members_stay_json.ensures c.lines_are_json.ensures _ _
+
+pub returns-in-Err-Memory-clause-sound : goal.returns-in-Err-Memory-clause-sound
+returns-in-Err-Memory-clause-sound g c = run_is_sound c.scripts_are_sound.ensures c.judgements_are_determined.ensures c.members_stay_json.ensures c.lines_are_json.ensures _ _

@@ -1,6 +1,7 @@
 use Rattle.std.proofs.Common.{subst, [], inr}
 use Rattle.remap_tool.specs.Devices.{IsOfLines}
-use Rattle.remap_tool.proofs.AnswerLemmas.{asked_script, asks_run, is_front-by, is_whole-by, refused_only}
+use Rattle.remap_tool.proofs.AnswerLemmas.{asked_script, asks_run, is_front-by, is_whole-by, refused_only, run_is_read}
+use Rattle.remap_tool.proofs.RunSound.{accepted_handles}
 use Rattle.remap_tool.proofs.SinkLemmas.{appends-nil, appends_front-nil}
 use Rattle.remap_tool.proofs.tool.run_script.Goals as goal
 
@@ -34,3 +35,9 @@ pub returns-in-Ok-Accepted-clause-front : goal.returns-in-Ok-Accepted-clause-fro
 returns-in-Ok-Accepted-clause-front g c =
     let accepted = rw c.in-Ok-Accepted.field-0-is at c.in-Ok-Accepted.ensures in
     is_front-by _ _ _ _ (asks_run _ _ _ accepted) (rw c.as_slice.ensures at c.run_program.ensures.front)
+
+pub run_program-requires-clause-handled : goal.run_program-requires-clause-handled
+run_program-requires-clause-handled g c = accepted_handles c.scripts_are_sound.ensures (rw c.in-Ok-Accepted.field-0-is at c.in-Ok-Accepted.ensures)
+
+pub returns-in-Ok-Accepted-clause-unread : goal.returns-in-Ok-Accepted-clause-unread
+returns-in-Ok-Accepted-clause-unread g c unread = absurd (run_is_read _ _ _ _ _ _ c.run_program.ensures.whole unread)

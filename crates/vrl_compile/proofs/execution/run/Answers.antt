@@ -1,7 +1,7 @@
-use Rattle.std.proofs.Common.{◌+◌, drop, sym, ap, ◌∙◌, subst, IsTrue}
+use Rattle.std.proofs.Common.{◌+◌, drop, sym, ap, ◌∙◌, subst, IsTrue, rules}
 use Rattle.std.proofs.lemmas.List.{drop_all}
 use Rattle.vrl_syntax.specs.View.{exprs_view}
-use Rattle.vrl_value.specs.Tree.{is_json}
+use Rattle.vrl_value.specs.Tree.{is_json, null}
 use Rattle.vrl_value.specs.View.{tree_of}
 use Rattle.vrl_compile.specs.Execution.{store_view}
 use Rattle.vrl_compile.specs.Meaning.{run_items, run_script}
@@ -22,3 +22,6 @@ returns-clause-json c = λ json.
     let l = c.loop-item in
     let ended = sym (ap (λ items. run_items l.invariant.0 (exprs_view items) (store_view l.store)) (drop_all l.item-index c.as_slice-item-items.result.now c.loop-item-test.false)) ∙ l.invariant.1 in
     subst (λ event. IsTrue (is_json event)) (sym (ap (λ end. end.store.event) ended)) (is_json-run_script c.members_stay_json.ensures (items_of c.args.program.now) (tree_of c.args.event) json)
+
+pub loop-item-init : goal.loop-item-init
+loop-item-init c = (null, search rules)

@@ -1,0 +1,50 @@
+-- The malformed regex literals of a text, by their numbers.
+use Rattle.std.proofs.Common.{◌≡◌, ◌≢◌, ℕ, suc, ◌+◌, ◌≤◌, Bool, true, false, List, [], ◌∷◌, ◌++◌, length, if◌then◌else◌, refl, sym, ap, ◌∙◌, subst, append_assoc, append-nil, arith}
+use Rattle.vrl_diag.specs.declared.diagnostic.Diagnostic.{Diagnostic}
+use Rattle.vrl_diag.specs.declared.diagnostic.Span.{Span}
+use Rattle.vrl_token.specs.declared.token.Spanned.{Spanned}
+use Rattle.vrl_parse.specs.Reading.{sources_of}
+use Rattle.vrl_parse.specs.Words.{regex_of}
+use Rattle.vrl_pattern.specs.Malformed.{is_malformed, malformed_from}
+use Rattle.vrl_compile.specs.Answer.{malformed_at, malformed_literals}
+
+-- each number is at least that of the first source
+first_number : (n m : ℕ) (told : Bool) (later rest : List ℕ) → (if told then n ∷ later else later) ≡ m ∷ rest → (later ≡ m ∷ rest → suc n ≤ m) → n ≤ m
+first_number n m true later rest is behind = let same : n ≡ m = cc in omega (arith, same)
+first_number n m false later rest is behind = let above = behind is in omega (arith, above)
+
+numbers_from : (n m : ℕ) (sources : List (List ℕ)) (rest : List ℕ) → malformed_from n sources ≡ m ∷ rest → n ≤ m
+numbers_from n m [] rest is = cc
+numbers_from n m (s ∷ ss) rest is = first_number n m (is_malformed s) (malformed_from (suc n) ss) rest is (numbers_from (suc n) m ss rest)
+
+-- a source by itself, and those behind it
+pub record IsNext (number : ℕ) (source : List ℕ) (sources : List (List ℕ)) (left : List ℕ) (told : Bool) : Type 0 where
+  pub left_is : left ≡ malformed_from (suc number) sources
+  pub malformed_is : is_malformed source ≡ told
+
+-- its number comes first: it is malformed
+pub next_is : (number first : ℕ) (behind : List ℕ) (source : List ℕ) (sources : List (List ℕ)) → first ∷ behind ≡ malformed_from number (source ∷ sources) → first ≡ number → IsNext number source sources behind true
+next_is number first behind source sources is same = by_form (is_malformed source) refl is where
+  by_form : (b : Bool) → is_malformed source ≡ b → first ∷ behind ≡ (if b then number ∷ malformed_from (suc number) sources else malformed_from (suc number) sources) → IsNext number source sources behind true
+  by_form true told is = record { left_is = cc; malformed_is = told }
+  by_form false told is = let later = numbers_from (suc number) first sources behind (sym is) in absurd (omega (arith, later, same))
+
+-- another number comes first, or none: it is well formed
+pub other_is : (number : ℕ) (numbers : List ℕ) (source : List ℕ) (sources : List (List ℕ)) → numbers ≡ malformed_from number (source ∷ sources) → ((first : ℕ) (behind : List ℕ) → numbers ≡ first ∷ behind → first ≢ number) → IsNext number source sources numbers false
+other_is number numbers source sources is other = by_form (is_malformed source) refl is where
+  by_form : (b : Bool) → is_malformed source ≡ b → numbers ≡ (if b then number ∷ malformed_from (suc number) sources else malformed_from (suc number) sources) → IsNext number source sources numbers false
+  by_form true told is = absurd (other number _ is refl)
+  by_form false told is = record { left_is = is; malformed_is = told }
+
+-- what is told of it
+pub told_malformed : (span : Span) (source : List ℕ) → is_malformed source ≡ true → malformed_at span (source ∷ []) ≡ record { code = 101; span = span } ∷ []
+told_malformed span source is = rw is refl
+
+pub told_well_formed : (span : Span) (source : List ℕ) → is_malformed source ≡ false → malformed_at span (source ∷ []) ≡ []
+told_well_formed span source is = rw is refl
+
+-- the numbers that are left are those of the literals that are left, and what was found stands before what is told of these
+pub record IsToldTo (tokens rest : List Spanned) (number : ℕ) (left : List ℕ) (found : List Diagnostic) : Type 0 where
+  pub left_is : left ≡ malformed_from number (sources_of rest)
+  pub found_is : found ++ malformed_literals rest ≡ malformed_literals tokens
+  pub within : number + length rest ≤ length tokens

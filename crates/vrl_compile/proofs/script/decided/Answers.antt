@@ -1,0 +1,20 @@
+use Rattle.std.proofs.Common.{◌≡◌, true, false, sym, ap, ◌∙◌}
+use Rattle.std.specs.List.{list_any}
+use Rattle.vrl_syntax.specs.View.{script_of}
+use Rattle.vrl_check.specs.Judgement.{is_error}
+use Rattle.vrl_compile.proofs.Compiling.{accepted, refused}
+use Rattle.vrl_compile.proofs.script.decided.Goals as goal
+
+pub returns-then-has_error : goal.returns-then-has_error
+returns-then-has_error c = λ declared text tokens judgement is can judges judged.
+    let error : list_any is_error c.args.judged.diagnostics ≡ true = ap (list_any is_error) (sym c.as_slice.ensures) ∙ sym c.has_error.ensures ∙ c.if-has_error.true in
+    refused declared text tokens (script_of c.args.script) judgement c.args.judged.diagnostics is can judges judged.diagnostics error
+
+pub returns : goal.returns
+returns c = λ declared text tokens judgement is can judges judged.
+    let none : list_any is_error c.args.judged.diagnostics ≡ false = ap (list_any is_error) (sym c.as_slice.ensures) ∙ sym c.has_error.ensures ∙ c.if-has_error.false in
+    record {
+      judgement = judgement;
+      accepted = accepted declared text tokens (script_of c.args.script) judgement c.args.judged.diagnostics is can judges judged.diagnostics none;
+      judged = judged;
+    }
