@@ -4,6 +4,8 @@
 #[cfg(test)]
 mod diagnostics;
 #[cfg(test)]
+mod judgement;
+#[cfg(test)]
 mod parsing;
 #[cfg(test)]
 mod patterns;
