@@ -84,7 +84,7 @@ fn push_root(alloc: Global, known: &RootKind, told: &mut String) -> Result<(), M
         Root::Name(name) => name.as_str(),
     };
     let kind = print(alloc, &known.kind)?;
-    told.push_str(format!(in alloc; "; {name} {kind}")?.as_str())?;
+    told.push_str(format!(in alloc; "; {name} {}", kind.as_str())?.as_str())?;
     Ok(())
 }
 
@@ -268,12 +268,12 @@ const BRANCHES: [(&str, &str); 31] = [
     ),
     ("x = if .a == 1 { 1 }\n.r = x + 1", "103 2:1"),
     (
-        "x = \"s\"\nif .a == 1 { x = 1 } else { abort }\n.r = x + 1",
-        "",
+        "x = \"s\"\nif .a == 1 { x = 1 } else { abort }\n.r = x + 1\n.s = q",
+        "701 4:6",
     ),
     (
-        "x = \"s\"\nif .a == 1 { abort } else { x = 1 }\n.r = x + 1",
-        "",
+        "x = \"s\"\nif .a == 1 { abort } else { x = 1 }\n.r = x + 1\n.s = q",
+        "701 4:6",
     ),
     ("x = \"s\"\nif (x = 1) == 2 { } else if x + 1 == 3 { }", ""),
     ("x = \"s\"\nif (x = 1) == 2 { } else { .r = x + 1 }", ""),
@@ -285,7 +285,7 @@ const BRANCHES: [(&str, &str); 31] = [
     (".r = true && 1", "103 1:1"),
     ("true && q", "701 1:9"),
     ("null && q", ""),
-    ("x = 1\n(true && (x = \"s\")) ?? (return 0)\n.r = x + 1", ""),
+    ("x = 1\n(true && (x = \"s\")) ?? (abort)\n.r = x + 1", ""),
     ("1 || q", ""),
     ("null || q", "701 1:9"),
     ("x = null || 1\nif x { }", "102 2:4"),
