@@ -244,7 +244,7 @@ fn codes_of_assignments(rt: HostRuntime) -> Result<(), Memory> {
     expect(&rt, rt.alloc(), Asked::Codes, &ASSIGNMENTS)
 }
 
-const BRANCHES: [(&str, &str); 31] = [
+const BRANCHES: [(&str, &str); 34] = [
     (
         "x = 1\n.r = ({ x = \"s\"; .a + 1 }) ?? 0\n.s = x + 1",
         "103 3:1",
@@ -255,6 +255,8 @@ const BRANCHES: [(&str, &str); 31] = [
     ),
     (".y = .a + 1 ?? 0", ""),
     (".y = 1 ?? 2", "651 1:6"),
+    (".y = 1 ?? q", "651 1:6"),
+    ("x = \"s\"\n.r = (.a + 1 + (x = 1)) ?? (x + \"t\")", ""),
     ("(abort) ?? 1", "651 1:1"),
     ("x = !1 ?? 2", "660 1:5"),
     ("if true { y = 1 }\n.z = y", "701 2:6"),
@@ -290,6 +292,7 @@ const BRANCHES: [(&str, &str); 31] = [
     ("null || q", "701 1:9"),
     ("x = null || 1\nif x { }", "102 2:4"),
     ("x = 1\nnull || (x = \"s\")\n.r = x + \"t\"", ""),
+    ("(.a == 1) || (y = 1)\n.r = y", "701 2:6"),
     ("x = 1\n(.a == 1) || (x = \"s\")\n.r = x + \"t\"", "103 3:1"),
 ];
 
