@@ -1,9 +1,14 @@
+ghost use Rattle.std.specs.Prelude.{◌≡◌, IfOk, IfSome};
+ghost use Rattle.vrl_kind.specs.KindTree.{no_fields, json_rest};
+ghost use Rattle.vrl_kind.specs.Make.{object_kind};
+ghost use Rattle.vrl_check.specs.Answer.{EndsOutside};
+
 // Scripts without calls: what is wrong with them, the kind of what they give, and what is known then.
 use std::alloc::Global;
 use std::process::Abort;
 use vrl_check::{Judged, check, ending, holds_call};
 use vrl_diag::{Diagnostic, render};
-use vrl_kind::{Kind, Rest, print};
+use vrl_kind::{Kind, Rest, equal_tags_are_one_kind, kind_is_canonical, print};
 use vrl_parse::parse;
 use vrl_state::{Known, RootKind};
 use vrl_syntax::{Root, Script, limit_faults};
@@ -34,18 +39,33 @@ fn script_of(alloc: Global, text: &str) -> Result<Option<Script>, Memory> {
     }
 }
 
+// Objects of JSON.
+fn event_kind(alloc: Global) -> Result<Kind, Memory>
+    ensures { IfOk result (λ kind. kind ≡ object_kind no_fields json_rest) }
+{
+    equal_tags_are_one_kind();
+    let kind = Kind::object(alloc, Vec::new(alloc), Rest::Json)?;
+    kind_is_canonical(&kind);
+    Ok(kind)
+}
+
 // What a script is judged to be over objects of JSON. `None`: it isn't judged.
-fn judged_script(alloc: Global, script: &Script) -> Result<Option<Judged>, Memory> {
+fn judged_script(alloc: Global, script: &Script) -> Result<Option<Judged>, Memory>
+    ensures { IfOk result (λ found. IfSome found (λ judged. EndsOutside judged)) }
+{
     let faults = limit_faults(alloc, &script.items)?;
     if !faults.as_slice().is_empty() || holds_call(&script.items) {
         return Ok(None);
     }
-    let event = Kind::object(alloc, Vec::new(alloc), Rest::Json)?;
-    Ok(Some(check(alloc, script, &event)?))
+    let event = event_kind(alloc)?;
+    let judged = check(alloc, script, &event)?;
+    Ok(Some(judged))
 }
 
 // The same of a text.
-fn judged(alloc: Global, text: &str) -> Result<Option<Judged>, Memory> {
+fn judged(alloc: Global, text: &str) -> Result<Option<Judged>, Memory>
+    ensures { IfOk result (λ found. IfSome found (λ judged. EndsOutside judged)) }
+{
     match script_of(alloc, text)? {
         Some(script) => judged_script(alloc, &script),
         None => Ok(None),
@@ -102,7 +122,9 @@ fn push_known(alloc: Global, known: &Known, told: &mut String) -> Result<(), Mem
 }
 
 // The kind of what a script gives, and what is known then.
-fn end_of(alloc: Global, judged: &Judged) -> Result<String, Memory> {
+fn end_of(alloc: Global, judged: &Judged) -> Result<String, Memory>
+    requires { EndsOutside judged.now }
+{
     let end = ending(alloc, judged)?;
     let mut told = String::from_str(alloc, print(alloc, &end.kind)?.as_str())?;
     push_known(alloc, &end.state, &mut told)?;

@@ -14,7 +14,10 @@ fn diagnostics_of(alloc: Global, text: &str) -> Result<Diagnostics, Memory>
     requires { length text.now ≤ SCRIPT_LIMIT }
 {
     match compile(alloc, text, &Kind::any(alloc)?)? {
-        Compiled::Accepted(accepted) => Ok(accepted.judged.diagnostics),
+        Compiled::Accepted(accepted) => {
+            let judged = accepted.judged;
+            Ok(judged.diagnostics)
+        }
         Compiled::Refused(diagnostics) => Ok(diagnostics),
     }
 }
@@ -147,15 +150,15 @@ fn scripts_are_refused(rt: HostRuntime) -> Result<(), Memory> {
 fn a_script_runs_over_an_event(rt: HostRuntime) -> Result<(), Memory> {
     let alloc = rt.alloc();
     let declared = Kind::any(alloc)?;
-    let compiled = shareable(compile(alloc, ".x = .y ?? 1", &declared)?);
-    let Compiled::Accepted(accepted) = compiled else {
+    let Compiled::Accepted(accepted) = compile(alloc, ".x = .y ?? 1", &declared)? else {
         panic!(rt; "refused");
     };
     assert!(rt; accepted.judged.diagnostics.as_slice().len() == 1);
     assert!(rt; accepted.sources.as_slice().is_empty());
     any_holds_all();
+    let program = shareable(accepted.program);
     let event = shareable(Value::Object(Fields::new(BTreeMap::new(alloc))));
-    let Value::Object(fields) = run(alloc, &accepted.program, event)? else {
+    let Value::Object(fields) = run(alloc, &program, event)? else {
         panic!(rt; "no object");
     };
     assert!(rt; matches!(fields.get("x"), Some(Value::Null)));
