@@ -9,10 +9,10 @@ use Rattle.vrl_kind.specs.Kinds.{Inhabits}
 use Rattle.vrl_state.specs.States.{RootMap}
 use Rattle.vrl_state.specs.Stores.{Store}
 use Rattle.vrl_syntax.specs.Tree.{Exprs}
+use Rattle.vrl_check.specs.Determined.{JudgementsAreDetermined}
 use Rattle.vrl_check.specs.Judgement.{Judgement, JudgesScript}
 use Rattle.vrl_compile.specs.Built.{are_built}
 use Rattle.vrl_compile.specs.Meaning.{IsUnhandled, Outcome, value, error, run_script}
-use Rattle.vrl_compile.specs.Reading.{JudgementsAreDetermined}
 use Rattle.vrl_compile.specs.Soundness.{HandlesErrors, IsSoundEnd, IsSoundOver, ScriptsAreSound}
 use Rattle.remap_tool.specs.Request.{Asks, AsksByScript, Held, IsAccepted, event_kind, run}
 use Rattle.remap_tool.specs.Words.{Command, script, usage}
@@ -50,5 +50,5 @@ pub run_is_sound : ScriptsAreSound → JudgementsAreDetermined → MembersStayJs
     → Asks held command (run text items warnings) → (judgement : Judgement) → JudgesScript event_kind items judgement → (line : List ℕ) (event : Tree) → reading_of line ≡ whole event → IsTrue (is_object event) → IsSoundOver judgement items event
 run_is_sound sound one law lines held command text items warnings asks judgement judges line event reading an_object =
     let is = asked_accepted held command text items warnings asks in
-    subst (λ j. IsSoundOver j items event) (one event_kind items is.judgement judgement (accepted_is_built is) (accepted_is_judged is) judges)
+    subst (λ j. IsSoundOver j items event) (one event_kind items is.judgement judgement (accepted_is_judged is) judges)
     (accepted_is_sound sound is event (object_is_declared law event (lines line event reading) an_object))

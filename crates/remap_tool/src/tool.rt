@@ -21,9 +21,10 @@ use crate::status::Status;
 use crate::words::script_name;
 use std::alloc::Global;
 use std::thread::Threads;
+use vrl_check::judgements_are_determined;
 use vrl_compile::{
     Compiled, Diagnostic, Diagnostics, Program, SCRIPT_LIMIT, compile, diagnostics_are_determined,
-    judgements_are_determined, scripts_are_sound, scripts_have_one_reading,
+    scripts_are_sound, scripts_have_one_reading,
 };
 use vrl_diag::render_all;
 use vrl_io::{Clock, LoadFault, Sink, Source, Store};

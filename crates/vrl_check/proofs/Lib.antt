@@ -5,6 +5,7 @@ pub mod Between
 pub mod Branching
 pub mod Capable
 pub mod Containers
+pub mod Determined
 pub mod Forms
 pub mod Order
 pub mod Parts

@@ -2,6 +2,7 @@ pub mod Answer
 pub mod Assigning
 pub mod Branching
 pub mod Calls
+pub mod Determined
 pub mod Empties
 pub mod Judgement
 pub mod Judging

@@ -7,7 +7,6 @@ pub mod Inhabiting
 pub mod LowerLaws
 pub mod MalformedLiterals
 pub mod NoCalls
-pub mod OneJudgement
 pub mod PlusSound
 pub mod Running
 pub mod ScriptSound

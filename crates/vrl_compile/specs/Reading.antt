@@ -1,12 +1,10 @@
--- A text has one reading, a script one judgement, and a text one list of diagnostics.
-use Rattle.std.specs.Prelude.{◌≡◌, ℕ, true, List}
+-- A text has one reading and one list of diagnostics.
+use Rattle.std.specs.Prelude.{◌≡◌, ℕ, List}
 use Rattle.vrl_diag.specs.declared.diagnostic.Diagnostic.{Diagnostic}
 use Rattle.vrl_diag.specs.declared.diagnostic.Span.{Span}
 use Rattle.vrl_kind.specs.KindTree.{KindTree}
-use Rattle.vrl_syntax.specs.Tree.{Exprs, Script}
+use Rattle.vrl_syntax.specs.Tree.{Script}
 use Rattle.vrl_token.specs.declared.token.Spanned.{Spanned}
-use Rattle.vrl_check.specs.Judgement.{Judgement, JudgesScript}
-use Rattle.vrl_compile.specs.Built.{are_built}
 use Rattle.vrl_compile.specs.Answer.{AreDiagnostics, IsScript, IsUnread, unread_at}
 
 -- two readings of a text are the same
@@ -17,10 +15,6 @@ pub record AreOneReading (tokens others : List Spanned) (script other : Script) 
 -- of every text
 abbrev pub ScriptsHaveOneReading : Type 0
 ScriptsHaveOneReading = (text : List ℕ) (tokens others : List Spanned) (script other : Script) → IsScript text tokens script → IsScript text others other → AreOneReading tokens others script other
-
--- a script of built forms has at most one judgement over events of a kind
-abbrev pub JudgementsAreDetermined : Type 0
-JudgementsAreDetermined = (declared : KindTree) (items : Exprs) (j k : Judgement) → are_built items ≡ true → JudgesScript declared items j → JudgesScript declared items k → j ≡ k
 
 -- the same list, or two that tell at two places that the grammar reads no script
 pub data AreAlike (text : List ℕ) (a b : List Diagnostic) : Type 0 where

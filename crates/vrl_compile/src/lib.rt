@@ -10,9 +10,7 @@ mod script;
 mod soundness;
 
 pub use execution::run;
-pub use reading::{
-    diagnostics_are_determined, judgements_are_determined, scripts_have_one_reading,
-};
+pub use reading::{diagnostics_are_determined, scripts_have_one_reading};
 pub use script::{Accepted, Compiled, Program, SCRIPT_LIMIT, compile};
 pub use soundness::{expressions_are_sound, scripts_are_sound, sums_are_tabled};
 pub use vrl_diag::{Diagnostic, Diagnostics, Span};

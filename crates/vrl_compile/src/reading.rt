@@ -1,6 +1,6 @@
-ghost use Rattle.vrl_compile.specs.Reading.{DiagnosticsAreDetermined, JudgementsAreDetermined, ScriptsHaveOneReading};
+ghost use Rattle.vrl_compile.specs.Reading.{DiagnosticsAreDetermined, ScriptsHaveOneReading};
 
-use vrl_kind::equal_tags_are_one_kind;
+use vrl_check::judgements_are_determined;
 use vrl_parse::scripts_are_determined;
 use vrl_token::tokens_are_determined;
 
@@ -10,14 +10,6 @@ pub fn scripts_have_one_reading()
 {
     tokens_are_determined();
     scripts_are_determined();
-}
-
-/// A script of built forms has at most one judgement over events of a kind. This takes no time: it is a law about
-/// the definitions.
-pub fn judgements_are_determined()
-    ensures { JudgementsAreDetermined }
-{
-    equal_tags_are_one_kind();
 }
 
 /// The diagnostics of a text under a kind are one list, but for the place where the grammar reads no script. This takes no time:
