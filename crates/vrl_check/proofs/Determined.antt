@@ -1,5 +1,5 @@
 -- A script has at most one judgement: what each premise of a rule tells is told of one thing alone, and no two rules judge one form.
-use Rattle.std.proofs.Common.{◌≡◌, ℕ, Bool, not, is_some, true, false, ◌||◌, List, [], ◌∷◌, ◌++◌, Option, Some, None, IsTrue, inl, inr, refl, sym, ap, ◌∙◌, subst}
+use Rattle.std.proofs.Common.{◌≡◌, ℕ, Bool, not, is_some, true, false, ◌||◌, List, ◌∷◌, Option, Some, None, IsTrue, inl, inr, refl, sym, ap, ◌∙◌, subst}
 use Rattle.std.proofs.lemmas.Bool.{false≢true, cases_lt}
 use Rattle.std.proofs.lemmas.Cmp.{nat_list_cmp_total}
 use Rattle.std.specs.Cmp.Lexicographic.{slice_cmp}
