@@ -201,7 +201,7 @@ one_root kinds span root path known j k (judging.an_unknown_root none) (judging.
 one_query : EqualTagsAreOneKind → (span : Span) (e : Expr) (path : List Step) → HasOne e → GivesOne span (syntax.query e path)
 one_query kinds span e path has known j k (judging.a_query {j = a} {K = K} one is) (judging.a_query {j = b} {K = L} two is') =
     let same : a ≡ b = has (Some known) a b one two in
-    let kind : K ≡ L = one_read kinds (ap (λ (x : Judgement). x.kind) same) is is' in
+    let kind : K ≡ L = one_read kinds (λ i. (same i).kind) is is' in
     λ i. record (same i) { kind = kind i }
 
 -- ---- what holds items
@@ -236,8 +236,8 @@ one_arm kinds p es gs otherwise has block_has rest known ways a b
     (judging.an_arm {j = j} {with_predicate = m} {k = x} {with_branch = n} predicate tested branch joined more)
     (judging.an_arm {j = j'} {with_predicate = m'} {k = x'} {with_branch = n'} predicate' tested' branch' joined' more') =
     let same : j ≡ j' = has known j j' predicate predicate' in
-    let test : m ≡ m' = one_beside kinds refl (ap (λ (y : Judgement). record (with_codes (judging.of_predicate (span_of p) y) y) { kind = never_kind; ok = None }) same) tested tested' in
-    let taken : x ≡ x' = block_once block_has (ap (λ (y : Judgement). y.ok) same) branch branch' in
+    let test : m ≡ m' = one_beside kinds refl (λ i. record (with_codes (judging.of_predicate (span_of p) (same i)) (same i)) { kind = never_kind; ok = None }) tested tested' in
+    let taken : x ≡ x' = block_once block_has (λ i. (same i).ok) branch branch' in
     let next : n ≡ n' = one_beside kinds test taken joined joined' in
     rest j'.ok n' a b (subst (λ y. JudgesArms y.ok n' gs otherwise a) same (subst (λ y. JudgesArms j.ok y gs otherwise a) next more)) more'
 
@@ -263,7 +263,7 @@ one_negation kinds span e has known j k (judging.a_negation {j = a} {K = K} one 
 one_operands : EqualTagsAreOneKind → {known : RootMap} {l r : Expr} {j k whole j' k' whole' : Judgement} → HasOne l → HasOne r → JudgesBoth known l r j k whole → JudgesBoth known l r j' k' whole' → (j ≡ j') × (k ≡ k') × (whole ≡ whole')
 one_operands kinds {known = known} {j = j} {k = k} {j' = j'} {k' = k'} left right (judging.operands first second then) (judging.operands first' second' then') =
     let one : j ≡ j' = left (Some known) j j' first first' in
-    let two : k ≡ k' = judged_once right (ap (λ (x : Judgement). x.ok) one) second second' in
+    let two : k ≡ k' = judged_once right (λ i. (one i).ok) second second' in
     (one, two, one_then kinds one two then then')
 
 -- an operator with a table is no comparison for equality
@@ -285,7 +285,7 @@ one_binary kinds span o l r left right known g h (judging.of_table {table = t} {
     λ i. judging.of_pairs (table i) (same.0 i) (same.1 i) (with_codes (judging.chained span o l r) (same.2 i)) (kind i) (fail i)
 one_binary kinds span o l r left right known g h (judging.a_merge {j = j} {k = k} {whole = w} {K = K} both is) (judging.a_merge {j = j'} {k = k'} {whole = w'} {K = K'} both' is') =
     let same : (j ≡ j') × (k ≡ k') × (w ≡ w') = one_operands kinds left right both both' in
-    let kind : K ≡ K' = one_merged kinds (ap (λ (x : Judgement). x.kind) same.0) (ap (λ (x : Judgement). x.kind) same.1) is is' in
+    let kind : K ≡ K' = one_merged kinds (λ i. (same.0 i).kind) (λ i. (same.1 i).kind) is is' in
     λ i. with_codes (judging.no_objects (span_of l) (span_of r) (same.0 i) (same.1 i)) (record (same.2 i) { kind = kind i })
 one_binary kinds span o l r left right known g h
     (judging.a_conjunction {j = j} {k = k} {whole = w} {K = K} A B {ok = T} {fail = F} first second behind is ends left_fails part_fails fails)
@@ -294,7 +294,7 @@ one_binary kinds span o l r left right known g h
     let no_truth : Judgement → Option RootMap = λ x. if_state (judging.may_be_no_truth x.kind) x.ok in
     let failing : Judgement → Option RootMap = λ x. x.fail in
     let one : j ≡ j' = left (Some known) j j' first first' in
-    let two : k ≡ k' = judged_once right (ap (λ (x : Judgement). if_state (root_tags x.kind tag.Bool) x.ok) one) second second' in
+    let two : k ≡ k' = judged_once right (λ i. if_state (root_tags (one i).kind tag.Bool) (one i).ok) second second' in
     let whole : record w { fail = None } ≡ record w' { fail = None } = one_behind kinds one two behind behind' in
     let kind : K ≡ K' = one_cut kinds refl is is' in
     let ok : T ≡ T' = one_join kinds (ap truth one) (ap truth two) ends ends' in
@@ -306,19 +306,19 @@ one_binary kinds span o l r left right known g h
     (judging.a_disjunction {j = j} {k = k} {whole = w} {K = K} {ok = T} first second then is ends)
     (judging.a_disjunction {j = j'} {k = k'} {whole = w'} {K = K'} {ok = T'} first' second' then' is' ends') =
     let one : j ≡ j' = left (Some known) j j' first first' in
-    let two : k ≡ k' = judged_once right (ap (λ (x : Judgement). if_state (judging.may_be_truth x.kind) x.ok) one) second second' in
+    let two : k ≡ k' = judged_once right (λ i. if_state (judging.may_be_truth (one i).kind) (one i).ok) second second' in
     let whole : w ≡ w' = one_then kinds one two then then' in
     let kind : K ≡ K' = one_cut kinds (λ i. judging.or_else_at (one i).kind (two i).kind) is is' in
-    let ok : T ≡ T' = one_join kinds (ap (λ (x : Judgement). if_state (not (is_alone (root_tags x.kind) tag.Null)) x.ok) one) (ap (λ (x : Judgement). x.ok) two) ends ends' in
+    let ok : T ≡ T' = one_join kinds (λ i. if_state (not (is_alone (root_tags (one i).kind) tag.Null)) (one i).ok) (λ i. (two i).ok) ends ends' in
     λ i. record (whole i) { kind = kind i; ok = ok i }
 one_binary kinds span o l r left right known g h
     (judging.a_coalescing {j = j} {k = k} {whole = w} {K = K} {ok = T} first second behind is ends)
     (judging.a_coalescing {j = j'} {k = k'} {whole = w'} {K = K'} {ok = T'} first' second' behind' is' ends') =
     let one : j ≡ j' = left (Some known) j j' first first' in
-    let two : k ≡ k' = judged_once right (ap (λ (x : Judgement). x.fail) one) second second' in
+    let two : k ≡ k' = judged_once right (λ i. (one i).fail) second second' in
     let whole : record w { fail = None } ≡ record w' { fail = None } = one_behind kinds one two behind behind' in
-    let kind : K ≡ K' = one_either kinds (ap (λ (x : Judgement). x.kind) one) (ap (λ (x : Judgement). x.kind) two) is is' in
-    let ok : T ≡ T' = one_join kinds (ap (λ (x : Judgement). x.ok) one) (ap (λ (x : Judgement). x.ok) two) ends ends' in
+    let kind : K ≡ K' = one_either kinds (λ i. (one i).kind) (λ i. (two i).kind) is is' in
+    let ok : T ≡ T' = one_join kinds (λ i. (one i).ok) (λ i. (two i).ok) ends ends' in
     λ i. with_codes (judging.when (not ((one i).poisoned || judging.is_fallible (one i))) (judging.at 651 span)) (record (whole i) { kind = kind i; ok = ok i; fail = (two i).fail })
 one_binary kinds span o l r left right known g h (judging.an_equality is both cut) (judging.of_table {table = t} too parts tags fails) = absurd (no_table o t is too)
 one_binary kinds span o l r left right known g h (judging.of_table {table = t} too parts tags fails) (judging.an_equality is both cut) = absurd (no_table o t is too)
@@ -329,35 +329,40 @@ one_binary kinds span o l r left right known g h one (judging.of_table {table = 
 
 -- ---- assignments
 
-one_assignment : EqualTagsAreOneKind → (span : Span) (t : Target) (e : Expr) → HasOne e → GivesOne span (syntax.assign t e)
-one_assignment kinds span t e has known g h (judging.an_assignment {j = j} {ok = T} one written) (judging.an_assignment {j = k} {ok = U} two written') =
-    let same : j ≡ k = has (Some known) j k one two in
-    let ok : T ≡ U = one_written kinds t (ap (λ (x : Judgement). x.kind) same) (ap (λ (x : Judgement). x.ok) same) written written' in
+one_written_end : EqualTagsAreOneKind → (span : Span) (t : Target) {j k : Judgement} {a b : Option RootMap} → j ≡ k → IsWritten t j.kind j.ok a → IsWritten t k.kind k.ok b
+    → with_codes (judging.of_assignment span t j) (record j { ok = a }) ≡ with_codes (judging.of_assignment span t k) (record k { ok = b })
+one_written_end kinds span t {a = a} {b = b} same one two =
+    let ok : a ≡ b = one_written kinds t (λ i. (same i).kind) (λ i. (same i).ok) one two in
     λ i. with_codes (judging.of_assignment span t (same i)) (record (same i) { ok = ok i })
+
+one_assignment : EqualTagsAreOneKind → (span : Span) (t : Target) (e : Expr) → HasOne e → GivesOne span (syntax.assign t e)
+one_assignment kinds span t e has known g h (judging.an_assignment {j = j} one written) (judging.an_assignment {j = k} two written') =
+    one_written_end kinds span t (has (Some known) j k one two) written written'
 
 one_merge_into_nothing : (span : Span) (e : Expr) → HasOne e → GivesOne span (syntax.merge Nowhere e)
 one_merge_into_nothing span e has known g h (judging.a_merge_into_nothing {j = j} one) (judging.a_merge_into_nothing {j = k} two) =
     ap (with_codes (judging.at 640 span)) (has (Some known) j k one two)
 
-one_merge_assignment : EqualTagsAreOneKind → (span place : Span) (root : Root) (path : List Step) (e : Expr) → HasOne (expr span (syntax.binary op.Merge (expr place (syntax.read root path)) e)) → GivesOne span (syntax.merge (Place place root path) e)
-one_merge_assignment kinds span place root path e has known g h (judging.a_merge_assignment {j = j} {ok = T} one written) (judging.a_merge_assignment {j = k} {ok = U} two written') =
-    let same : j ≡ k = has (Some known) j k one two in
-    let ok : T ≡ U = one_written kinds (Place place root path) (ap (λ (x : Judgement). x.kind) same) (ap (λ (x : Judgement). x.ok) same) written written' in
-    λ i. with_codes (judging.of_assignment span (Place place root path) (same i)) (record (same i) { ok = ok i })
+-- `t |= e` is judged as `t = t | e`
+one_merge_assignment : EqualTagsAreOneKind → (span place : Span) (root : Root) (path : List Step) (e : Expr) → HasOne e → GivesOne span (syntax.merge (Place place root path) e)
+one_merge_assignment kinds span place root path e has known g h (judging.a_merge_assignment {j = j} one written) (judging.a_merge_assignment {j = k} two written') =
+    let target : HasOne (expr place (syntax.read root path)) = settled_once place (syntax.read root path) (one_root kinds place root path) in
+    let merged : HasOne (expr span (syntax.binary op.Merge (expr place (syntax.read root path)) e)) = settled_once span _ (one_binary kinds span op.Merge _ e target has) in
+    one_written_end kinds span (Place place root path) (merged (Some known) j k one two) written written'
 
 one_error_assignment : EqualTagsAreOneKind → (span : Span) (t u : Target) (e : Expr) → HasOne e → GivesOne span (syntax.both t u e)
 one_error_assignment kinds span t u e has known g h
     (judging.an_error_assignment {j = j} {E = E} {K = K} {N = N} {T = T} A B C D {ok = O} one is either is_null is_text given_t given_u failed_t failed_u ends)
     (judging.an_error_assignment {j = k} {E = E'} {K = K'} {N = N'} {T = T'} A' B' C' D' {ok = O'} two is' either' is_null' is_text' given_t' given_u' failed_t' failed_u' ends') =
     let same : j ≡ k = has (Some known) j k one two in
-    let kind : j.kind ≡ k.kind = ap (λ (x : Judgement). x.kind) same in
+    let kind : j.kind ≡ k.kind = λ i. (same i).kind in
     let empty : E ≡ E' = one_cut kinds (ap (λ M. found_at (judging.empty_value (judging.empty_tag M))) kind) is is' in
     let value : K ≡ K' = one_either kinds kind empty either either' in
     let null : N ≡ N' = one_cut kinds refl is_null is_null' in
     let text : T ≡ T' = one_cut kinds refl is_text is_text' in
-    let given : A ≡ A' = one_written kinds t kind (ap (λ (x : Judgement). x.ok) same) given_t given_t' in
+    let given : A ≡ A' = one_written kinds t kind (λ i. (same i).ok) given_t given_t' in
     let given_both : B ≡ B' = one_written kinds u null given given_u given_u' in
-    let failed : C ≡ C' = one_written kinds t empty (ap (λ (x : Judgement). x.fail) same) failed_t failed_t' in
+    let failed : C ≡ C' = one_written kinds t empty (λ i. (same i).fail) failed_t failed_t' in
     let failed_both : D ≡ D' = one_written kinds u text failed failed_u failed_u' in
     let ok : O ≡ O' = one_join kinds given_both failed_both ends ends' in
     λ i. with_codes (judging.of_error_assignment span t u (same i) (value i)) (record (same i) { kind = value i; ok = ok i; fail = None; empties = judging.empty_tag (same i).kind ∷ (same i).empties })
@@ -367,8 +372,8 @@ one_error_assignment kinds span t u e has known g h
 one_return : EqualTagsAreOneKind → (span : Span) (e : Expr) → HasOne e → GivesOne span (syntax.return_of e)
 one_return kinds span e has known g h (judging.a_return {j = j} {ret = A} {R = R} one ends is) (judging.a_return {j = k} {ret = B} {R = S} two ends' is') =
     let same : j ≡ k = has (Some known) j k one two in
-    let ret : A ≡ B = one_join kinds (ap (λ (x : Judgement). x.ret) same) (ap (λ (x : Judgement). x.ok) same) ends ends' in
-    let returned : R ≡ S = one_either kinds (ap (λ (x : Judgement). x.returned) same) (ap (λ (x : Judgement). judging.settled_kind false (is_alive x.ok) x.kind) same) is is' in
+    let ret : A ≡ B = one_join kinds (λ i. (same i).ret) (λ i. (same i).ok) ends ends' in
+    let returned : R ≡ S = one_either kinds (λ i. (same i).returned) (λ i. judging.settled_kind false (is_alive (same i).ok) (same i).kind) is is' in
     λ i. record (same i) { kind = never_kind; ok = None; ret = ret i; returned = returned i }
 
 one_abort : (span : Span) → GivesOne span (syntax.abort_with no_message)
@@ -401,10 +406,7 @@ mutual
   one_given kinds span (syntax.binary o l r) = one_binary kinds span o l r (one_judgement kinds l) (one_judgement kinds r)
   one_given kinds span (syntax.assign t e) = one_assignment kinds span t e (one_judgement kinds e)
   one_given kinds span (syntax.merge Nowhere e) = one_merge_into_nothing span e (one_judgement kinds e)
-  one_given kinds span (syntax.merge (Place place root path) e) =
-      let target : HasOne (expr place (syntax.read root path)) = settled_once place (syntax.read root path) (one_root kinds place root path) in
-      one_merge_assignment kinds span place root path e
-      (settled_once span (syntax.binary op.Merge (expr place (syntax.read root path)) e) (one_binary kinds span op.Merge (expr place (syntax.read root path)) e target (one_judgement kinds e)))
+  one_given kinds span (syntax.merge (Place place root path) e) = one_merge_assignment kinds span place root path e (one_judgement kinds e)
   one_given kinds span (syntax.both t u e) = one_error_assignment kinds span t u e (one_judgement kinds e)
   one_given kinds span (syntax.call name place bang args block) = no_call span name place bang args block
   one_given kinds span (syntax.return_of e) = one_return kinds span e (one_judgement kinds e)
@@ -433,7 +435,7 @@ items_once : EqualTagsAreOneKind → (es : Exprs) (before j k : Judgement) → J
 items_once kinds no_exprs before j k judging.no_more_items judging.no_more_items = refl
 items_once kinds (exprs e es) before a b (judging.one_more_item {j = j} {middle = m} one then more) (judging.one_more_item {j = k} {middle = n} two then' more') =
     let same : j ≡ k = one_judgement kinds e before.ok j k one two in
-    let next : m ≡ n = one_then kinds refl (ap (λ (x : Judgement). with_codes (judging.of_item (span_of e) x) x) same) then then' in
+    let next : m ≡ n = one_then kinds refl (λ i. with_codes (judging.of_item (span_of e) (same i)) (same i)) then then' in
     items_once kinds es n a b (subst (λ x. JudgesItems x es a) next more) more'
 
 pub one_script : EqualTagsAreOneKind → JudgementsAreDetermined
