@@ -15,7 +15,6 @@ use Rattle.vrl_token.specs.Laws.{TokensAreDetermined}
 use Rattle.vrl_token.specs.declared.token.Spanned.{Spanned}
 use Rattle.vrl_parse.specs.Reading.{Reads, ScriptsAreDetermined}
 use Rattle.vrl_check.specs.Determined.{JudgementsAreDetermined}
-use Rattle.vrl_check.specs.Judgement.{Judgement}
 use Rattle.vrl_check.specs.Ordered.{AreOrdered, diagnostic_cmp}
 use Rattle.vrl_compile.specs.Answer.{AreOfScript, IsScript, IsUnread, beyond, judged, malformed, malformed_literals, of_script, unbuilt, unread, wrong}
 use Rattle.vrl_compile.specs.Built.{are_built}

@@ -5,7 +5,7 @@ use Rattle.std.specs.List.{list_any}
 use Rattle.vrl_value.specs.Tree.{Tree}
 use Rattle.vrl_diag.specs.declared.diagnostic.Diagnostic.{Diagnostic}
 use Rattle.vrl_diag.specs.declared.diagnostic.Span.{Span}
-use Rattle.vrl_syntax.specs.Tree.{Exprs, Script}
+use Rattle.vrl_syntax.specs.Tree.{Script}
 use Rattle.vrl_syntax.specs.Limits.{exprs_faults, KeepsLimits}
 use Rattle.vrl_token.specs.Reading.{IsTokenized, IsWrong}
 use Rattle.vrl_token.specs.declared.token.Spanned.{Spanned}
