@@ -1,5 +1,5 @@
 -- What a merge of fields has still ahead of it.
-use Rattle.std.proofs.Common.{◌≡◌, ℕ, ◌||◌, ◌+◌, ◌<◌, ◌≤◌, true, false, IsTrue, List, [], ◌∷◌, ◌++◌, Option, Some, None, is_some, unwrap_or, Ordering, Less, Equal, Greater, nat_cmp, is_eq, refl, sym, ap, ◌∙◌, subst, arith}
+use Rattle.std.proofs.Common.{◌≡◌, ℕ, ◌||◌, ◌+◌, ◌<◌, false, IsTrue, List, [], ◌∷◌, ◌++◌, Option, Some, None, is_some, unwrap_or, Ordering, Less, Equal, Greater, nat_cmp, is_eq, refl, sym, ap, ◌∙◌, subst, arith}
 use Rattle.std.proofs.lemmas.Bool.{true≢false}
 use Rattle.std.proofs.lemmas.Cmp.{nat_cmp_total, nat_list_cmp_total, tied_itself}
 use Rattle.std.specs.Cmp.Lexicographic.{slice_cmp}
@@ -8,7 +8,7 @@ use Rattle.std.specs.Ordering.{match_ordering, ordering_reverse}
 use Rattle.vrl_kind.specs.KindTree.{KindTree, KnownFields, no_fields, known_field}
 use Rattle.vrl_kind.specs.Canonical.{IsBeforeFields, FieldsAreCanonical, field_or}
 use Rattle.vrl_kind.specs.Count.{fields_nodes}
-use Rattle.vrl_kind.specs.Merge.{FieldsAreSorted, with_field, IsTurn, IsEnd}
+use Rattle.vrl_kind.specs.Merge.{FieldsAreSorted, with_field, IsTurn}
 use Rattle.vrl_kind.specs.Seen.{option_nodes}
 
 -- the name comes after the last one that was taken

@@ -3,7 +3,7 @@ use Rattle.std.proofs.Common.{◌≡◌, sym, subst, ⊎_elim}
 use Rattle.std.proofs.lemmas.Bool.{cases_lt}
 use Rattle.vrl_kind.specs.KindTree.{KindTree}
 use Rattle.vrl_kind.specs.Count.{nodes, levels}
-use Rattle.vrl_kind.specs.Cut.{IsCut, flat, level_limit, node_limit}
+use Rattle.vrl_kind.specs.Cut.{flat, level_limit, node_limit}
 use Rattle.vrl_kind.specs.Kinds.{IsWithin}
 use Rattle.vrl_kind.specs.Laws.{CutsAreWider}
 use Rattle.vrl_kind.proofs.Shapes.{within_flat}

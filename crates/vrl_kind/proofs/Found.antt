@@ -1,5 +1,5 @@
 -- The kind of a value, from the kinds of its parts.
-use Rattle.std.proofs.Common.{◌≡◌, ◌≢◌, ℕ, zero, suc, ◌+◌, ◌<◌, Bool, true, false, List, [], ◌∷◌, ◌++◌, take, length, get_or, Option, Some, None, String, Global, string_bytes, string_cmp, nat_cmp, Ordering, Less, Equal, Greater, IsTrue, IfSome, refl, sym, ap, ◌∙◌, subst, arith}
+use Rattle.std.proofs.Common.{◌≡◌, ◌≢◌, ℕ, zero, suc, ◌<◌, false, List, [], ◌∷◌, ◌++◌, take, length, get_or, Option, Some, None, String, Global, string_bytes, string_cmp, nat_cmp, Ordering, Less, Equal, Greater, IsTrue, IfSome, refl, sym, ap, ◌∙◌, subst, arith}
 use Rattle.std.proofs.lemmas.Bool.{true≢false}
 use Rattle.std.specs.Bool.{⊤}
 use Rattle.std.specs.Cmp.Lexicographic.{slice_cmp}
@@ -7,19 +7,19 @@ use Rattle.std.specs.List.{AllByRecursion}
 use Rattle.std.specs.List.Sorted.{IsStrictlySortedBy}
 use Rattle.std.specs.Map.{keys_of}
 use Rattle.std.specs.Ordering.{match_ordering}
-use Rattle.vrl_value.specs.Look.{Step, field, place, Found, raw_at, found_if, found_behind, tag_found, item_at}
+use Rattle.vrl_value.specs.Look.{Step, field, place, raw_at, found_if, found_behind, tag_found, item_at}
 use Rattle.vrl_value.specs.Tag.{tag_of}
 use Rattle.vrl_value.specs.Tree.{Tree, string, integer, boolean, null, timestamp, regex, array, object, find}
 use Rattle.vrl_value.specs.View.{tree_of, items_view, members_view}
 use Rattle.vrl_value.specs.declared.value.Value.{Value}
 use Rattle.vrl_value.specs.declared.value.Tag.{Tag}
 use Rattle.vrl_value.specs.declared.value.Tag.TheVariants as tag
-use Rattle.vrl_kind.specs.KindTree.{KindTree, kind, ListTree, no_list, list_part, ObjectTree, no_object, object_part, nothing}
+use Rattle.vrl_kind.specs.KindTree.{KindTree, kind, ListTree, list_part, ObjectTree, object_part, nothing}
 use Rattle.vrl_kind.specs.declared.kind.KindField.{KindField}
 use Rattle.vrl_kind.specs.declared.scalars.Scalars.{Scalars}
-use Rattle.vrl_kind.specs.Canonical.{IsCanonical, IsBeforeFields, PlacesAreCanonical, FieldsAreCanonical, LastIsNot, NoFieldIs, rest_kind, place_or, field_or}
+use Rattle.vrl_kind.specs.Canonical.{IsBeforeFields, PlacesAreCanonical, FieldsAreCanonical, LastIsNot, NoFieldIs, rest_kind, place_or, field_or}
 use Rattle.vrl_kind.specs.Inference.{IsKindOf, IsListOfValue, IsObjectOfValue}
-use Rattle.vrl_kind.specs.Kinds.{tags_at, list_at, object_at, has_list, has_object, found_at, option_tags, Inhabits, never_at, or_absent}
+use Rattle.vrl_kind.specs.Kinds.{tags_at, has_list, has_object, found_at, option_tags, Inhabits}
 use Rattle.vrl_kind.specs.Scalars.{scalars_only}
 use Rattle.vrl_kind.specs.Tags.{Tags, same_tag, only}
 use Rattle.vrl_kind.specs.View.{places_view, fields_view}

@@ -1,13 +1,12 @@
 -- The join of all parts of a kind.
-use Rattle.std.proofs.Common.{◌≡◌, ℕ, zero, suc, ◌+◌, ◌<◌, ◌≤◌, ◌||◌, ◌&&◌, not, ◌⊎◌, inl, inr, Bool, true, false, IsTrue, List, [], ◌∷◌, length, take, get_or, Ordering, Less, Equal, Greater, nat_cmp, refl, sym, ap, ◌∙◌, subst, arith}
+use Rattle.std.proofs.Common.{◌≡◌, ℕ, zero, suc, ◌+◌, ◌<◌, ◌≤◌, ◌&&◌, not, ◌⊎◌, inl, inr, Bool, true, false, IsTrue, List, [], ◌∷◌, length, take, get_or, Ordering, Less, Equal, Greater, nat_cmp, refl, sym, ap, ◌∙◌, subst, arith}
 use Rattle.std.proofs.lemmas.Bool.{true≢false}
-use Rattle.std.specs.Bool.{⊤}
 use Rattle.std.specs.Cmp.Lexicographic.{slice_cmp}
 use Rattle.std.specs.Ordering.{match_ordering}
 use Rattle.vrl_value.specs.Look.{Step, field, place}
 use Rattle.vrl_value.specs.declared.value.Tag.{Tag}
 use Rattle.vrl_value.specs.declared.value.Tag.TheVariants as tag
-use Rattle.vrl_kind.specs.KindTree.{KindTree, kind, ListTree, no_list, list_part, ObjectTree, no_object, object_part, RestTree, Places, KnownFields, no_fields, known_field}
+use Rattle.vrl_kind.specs.KindTree.{KindTree, kind, ListTree, no_list, list_part, ObjectTree, no_object, object_part, RestTree, KnownFields, no_fields, known_field}
 use Rattle.vrl_kind.specs.declared.kind.KindField.{KindField}
 use Rattle.vrl_kind.specs.declared.scalars.Scalars.{Scalars}
 use Rattle.vrl_kind.specs.Canonical.{never_kind, with_absent, rest_kind, place_or, field_or, list_tree, object_tree, IsBeforeFields}
@@ -15,7 +14,6 @@ use Rattle.vrl_kind.specs.Kinds.{tags_at, IsWithin, IsJoin, IsParts, list_at, ob
 use Rattle.vrl_kind.specs.Merge.{FieldsAreSorted}
 use Rattle.vrl_kind.specs.Parts.{AddsParts}
 use Rattle.vrl_kind.specs.Tags.{Tags}
-use Rattle.vrl_kind.specs.Tags as tags
 use Rattle.vrl_kind.specs.View.{places_view, fields_view}
 use Rattle.vrl_kind.proofs.Ahead.{greater, passed_over}
 use Rattle.vrl_kind.proofs.Inclusion.{none, side}

@@ -1,16 +1,15 @@
 -- When a kind is within another, part by part.
-use Rattle.std.proofs.Common.{◌≡◌, ℕ, zero, suc, ◌+◌, ◌-◌, ◌⊎◌, inl, inr, length, ◌<◌, ◌≤◌, ◌||◌, Bool, true, false, IsTrue, List, [], ◌∷◌, Option, Some, None, MatchOption, unwrap_or, Ordering, Less, Equal, Greater, nat_cmp, is_eq, refl, sym, ap, ◌∙◌, subst, arith}
+use Rattle.std.proofs.Common.{◌≡◌, ℕ, zero, suc, ◌+◌, ◌-◌, ◌⊎◌, inl, inr, length, ◌<◌, ◌≤◌, Bool, true, false, IsTrue, List, [], ◌∷◌, Option, Some, None, MatchOption, unwrap_or, Ordering, Less, Equal, Greater, nat_cmp, is_eq, refl, sym, ap, ◌∙◌, subst, arith}
 use Rattle.std.proofs.lemmas.Bool.{true≢false}
 use Rattle.vrl_value.specs.Look.{Step, field, place}
 use Rattle.vrl_value.specs.declared.value.Tag.{Tag}
 use Rattle.vrl_value.specs.declared.value.Tag.TheVariants as tag
-use Rattle.vrl_kind.specs.KindTree.{KindTree, kind, ListTree, no_list, list_part, ObjectTree, no_object, object_part, RestTree, nothing, json_rest, any_rest, exact, Places, no_places, known_place, KnownFields, no_fields, known_field}
+use Rattle.vrl_kind.specs.KindTree.{KindTree, kind, ListTree, list_part, ObjectTree, object_part, RestTree, nothing, json_rest, any_rest, exact, Places, KnownFields}
 use Rattle.vrl_kind.specs.declared.scalars.Scalars.{Scalars}
 use Rattle.vrl_kind.specs.Canonical.{bare_rest, never_kind, json_kind, any_kind, with_absent, rest_kind, place_or, field_or, scalars_of, list_tree, object_tree}
-use Rattle.vrl_kind.specs.Kinds.{tags_at, IsWithin, has_list, has_object, list_at, object_at, or_absent, any_at}
+use Rattle.vrl_kind.specs.Kinds.{tags_at, IsWithin, or_absent, any_at}
 use Rattle.vrl_kind.specs.Parts.{ListsAreWithin, ObjectsAreWithin}
 use Rattle.vrl_kind.specs.Scalars.{ScalarsAreWithin}
-use Rattle.vrl_kind.specs.Tags.{Tags}
 use Rattle.std.specs.Cmp.Lexicographic.{slice_cmp}
 use Rattle.vrl_kind.specs.Canonical.{IsBeforeFields}
 use Rattle.vrl_kind.specs.Count.{nodes, rest_nodes, list_nodes, object_nodes, fields_nodes}

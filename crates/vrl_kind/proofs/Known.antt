@@ -1,16 +1,15 @@
 -- What is known of the parts of a kind, in the places and the fields, and in the tags at their paths.
-use Rattle.std.proofs.Common.{◌≡◌, ℕ, zero, suc, ◌≤◌, Bool, true, false, ◌||◌, List, [], ◌∷◌, length, Ordering, Less, Equal, Greater, nat_cmp, refl, sym, ap, ◌∙◌, arith}
-use Rattle.std.proofs.lemmas.Grind.{common_steps}
+use Rattle.std.proofs.Common.{◌≡◌, ℕ, zero, suc, Bool, true, false, ◌||◌, List, [], ◌∷◌, Ordering, Less, Equal, Greater, nat_cmp, refl, sym, ap, ◌∙◌}
 use Rattle.std.specs.Cmp.Lexicographic.{slice_cmp}
 use Rattle.std.specs.Ordering.{match_ordering}
 use Rattle.vrl_value.specs.Look.{Step, field, place}
 use Rattle.vrl_value.specs.declared.value.Tag.{Tag}
 use Rattle.vrl_value.specs.declared.value.Tag.TheVariants as tag
-use Rattle.vrl_kind.specs.KindTree.{KindTree, kind, ListTree, no_list, list_part, ObjectTree, no_object, object_part, RestTree, nothing, json_rest, any_rest, exact, Places, no_places, known_place, KnownFields, no_fields, known_field}
+use Rattle.vrl_kind.specs.KindTree.{KindTree, kind, ListTree, list_part, ObjectTree, object_part, RestTree, nothing, json_rest, any_rest, exact, Places, no_places, known_place, KnownFields, no_fields, known_field}
 use Rattle.vrl_kind.specs.declared.scalars.Scalars.{Scalars}
-use Rattle.vrl_kind.specs.Canonical.{never_kind, json_kind, any_kind, bare_rest, rest_kind, with_absent, place_or, field_or}
-use Rattle.vrl_kind.specs.Kinds.{tags_at, root_tags, list_at, object_at, places_at, fields_at, rest_at, never_at, json_at, any_at, or_absent}
-use Rattle.vrl_kind.specs.Tags.{Tags, never, any, json, union, only, same_tag}
+use Rattle.vrl_kind.specs.Canonical.{never_kind, json_kind, any_kind, rest_kind, with_absent, place_or, field_or}
+use Rattle.vrl_kind.specs.Kinds.{tags_at, list_at, object_at, places_at, fields_at, rest_at, never_at, json_at, any_at, or_absent}
+use Rattle.vrl_kind.specs.Tags.{Tags, never, any, json, same_tag}
 
 -- sets of tags that agree at every tag are one
 pub one_set : (T U : Tags) → ((t : Tag) → T t ≡ U t) → T ≡ U

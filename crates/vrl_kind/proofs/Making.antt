@@ -1,9 +1,8 @@
 -- Known places and fields put together in the one form.
-use Rattle.std.proofs.Common.{◌≡◌, ◌≢◌, ℕ, zero, suc, ◌+◌, ◌<◌, ◌≤◌, true, false, IsTrue, List, [], ◌∷◌, ◌++◌, length, take, get_or, refl, sym, ap, ◌∙◌, subst, arith}
-use Rattle.vrl_kind.specs.KindTree.{KindTree, kind, ListTree, no_list, list_part, ObjectTree, no_object, object_part, RestTree, nothing, json_rest, any_rest, exact, Places, no_places, known_place, KnownFields, no_fields, known_field}
-use Rattle.vrl_kind.specs.declared.scalars.Scalars.{Scalars}
-use Rattle.vrl_kind.specs.Canonical.{never_kind, json_kind, any_kind, bare_rest, rest_kind, with_absent, allows_absent, place_or, field_or, LastIsNot, NoFieldIs, IsExact, IsCanonical, PlacesAreCanonical, RestIsCanonical, ListIsCanonical}
-use Rattle.vrl_kind.specs.Make.{IsShortened, IsTrimmed, IsListFor, IsListOf, add_field}
+use Rattle.std.proofs.Common.{◌≡◌, ◌≢◌, ℕ, zero, suc, ◌<◌, true, false, List, [], ◌∷◌, ◌++◌, length, take, get_or, refl, sym, ap, ◌∙◌, subst, arith}
+use Rattle.vrl_kind.specs.KindTree.{KindTree, kind, Places, known_field}
+use Rattle.vrl_kind.specs.Canonical.{with_absent, allows_absent, place_or, LastIsNot, IsCanonical, PlacesAreCanonical}
+use Rattle.vrl_kind.specs.Make.{IsShortened, add_field}
 use Rattle.vrl_kind.specs.View.{places_view, fields_view}
 use Rattle.vrl_kind.specs.declared.kind.KindField.{KindField}
 

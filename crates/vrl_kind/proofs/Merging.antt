@@ -1,5 +1,5 @@
 -- The turns of a merge of two lists of fields.
-use Rattle.std.proofs.Common.{◌≡◌, ℕ, length, arith, List, [], ◌∷◌, Option, Some, None, option_map, Less, Equal, Greater, nat_cmp, is_eq, bytes_eq, refl, sym, ap, ◌∙◌, subst}
+use Rattle.std.proofs.Common.{◌≡◌, ℕ, length, arith, List, [], ◌∷◌, Option, Some, None, Less, Equal, Greater, nat_cmp, is_eq, refl, sym, ap, ◌∙◌}
 use Rattle.std.proofs.lemmas.Map.Text.{is_eq-slice_cmp}
 use Rattle.std.proofs.lemmas.Slice.Eq.{bytes_eq-Decides}
 use Rattle.std.proofs.lemmas.Cmp.{nat_list_cmp_total}
@@ -7,7 +7,7 @@ use Rattle.std.specs.Cmp.Lexicographic.{slice_cmp}
 use Rattle.std.specs.Ordering.{ordering_reverse}
 use Rattle.vrl_kind.specs.KindTree.{KindTree, KnownFields, no_fields, known_field}
 use Rattle.vrl_kind.specs.Canonical.{IsBeforeFields}
-use Rattle.vrl_kind.specs.Merge.{FieldsAreSorted, with_field, IsTurn, IsEnd}
+use Rattle.vrl_kind.specs.Merge.{IsTurn}
 use Rattle.vrl_kind.specs.View.{fields_view}
 use Rattle.vrl_kind.specs.declared.kind.KindField.{KindField}
 

@@ -1,11 +1,11 @@
 -- Two kinds of the one form that allow the same at every path are one tree.
-use Rattle.std.proofs.Common.{◌≡◌, ◌≢◌, ℕ, zero, suc, ◌+◌, ◌<◌, ◌≤◌, ◌⊎◌, inl, inr, Bool, true, false, List, [], ◌∷◌, length, Ordering, Less, Equal, Greater, nat_cmp, is_eq, bytes_eq, refl, sym, ap, ◌∙◌, subst, arith}
+use Rattle.std.proofs.Common.{◌≡◌, ℕ, zero, suc, ◌+◌, ◌<◌, ◌≤◌, ◌⊎◌, inl, inr, Bool, true, false, List, [], ◌∷◌, length, Ordering, Less, Equal, Greater, nat_cmp, is_eq, bytes_eq, refl, sym, ap, ◌∙◌, subst, arith}
 use Rattle.std.proofs.lemmas.Bool.{true≢false}
 use Rattle.std.proofs.lemmas.Cmp.{nat_list_cmp_total, tied_itself}
 use Rattle.std.proofs.lemmas.Map.Text.{is_eq-slice_cmp}
 use Rattle.std.proofs.lemmas.Slice.Eq.{bytes_eq-Decides}
 use Rattle.std.specs.Cmp.Lexicographic.{slice_cmp}
-use Rattle.std.specs.Ordering.{match_ordering, ordering_reverse}
+use Rattle.std.specs.Ordering.{ordering_reverse}
 use Rattle.vrl_value.specs.Look.{Step, field, place}
 use Rattle.vrl_value.specs.declared.value.Tag.{Tag}
 use Rattle.vrl_value.specs.declared.value.Tag.TheVariants as tag
@@ -13,9 +13,9 @@ use Rattle.vrl_kind.specs.KindTree.{KindTree, kind, ListTree, no_list, list_part
 use Rattle.vrl_kind.specs.declared.scalars.Scalars.{Scalars}
 use Rattle.vrl_kind.specs.Canonical.{no_scalars, json_scalars, all_scalars, never_kind, json_kind, any_kind, allows_absent, with_absent, bare_rest, rest_kind, place_or, field_or, IsBeforeFields, LastIsNot, NoFieldIs, IsExact, IsCanonical, ListIsCanonical, ObjectIsCanonical, PlacesAreCanonical, FieldsAreCanonical, RestIsCanonical}
 use Rattle.vrl_kind.specs.Laws.{EqualTagsAreOneKind}
-use Rattle.vrl_kind.specs.Kinds.{tags_at, SameTags, has_list, has_object, list_at, object_at, rest_at}
+use Rattle.vrl_kind.specs.Kinds.{tags_at, SameTags, has_list, has_object, list_at, object_at}
 use Rattle.vrl_kind.proofs.Ahead.{unknown, not_first}
-use Rattle.vrl_kind.proofs.Known.{list_place, object_field, rest_tags, absent_tags}
+use Rattle.vrl_kind.proofs.Known.{list_place, object_field}
 use Rattle.vrl_kind.proofs.Merging.{one_name, before_through}
 
 -- ---- what holds of each kind

@@ -1,8 +1,8 @@
 -- When two kinds, and two lists of their parts, are one.
 use Rattle.std.proofs.Common.{◌≡◌, ℕ, zero, suc, ◌<◌, ◌&&◌, ◌||◌, Bool, true, false, IsTrue, List, [], ◌∷◌, length, take, get_or, refl, sym, ap, ◌∙◌, arith}
 use Rattle.std.proofs.Math.Bool.{beq}
-use Rattle.std.proofs.lemmas.Bool.{true≢false, and_parts, and_from}
-use Rattle.vrl_kind.specs.KindTree.{KindTree, kind, ListTree, ObjectTree, Places, no_places, known_place, KnownFields, no_fields, known_field}
+use Rattle.std.proofs.lemmas.Bool.{true≢false, and_parts}
+use Rattle.vrl_kind.specs.KindTree.{KindTree, Places, no_places, known_place, KnownFields, no_fields, known_field}
 use Rattle.vrl_kind.specs.declared.scalars.Scalars.{Scalars}
 use Rattle.vrl_kind.specs.Scalars.{scalar_union, ScalarsAreWithin}
 use Rattle.vrl_kind.specs.View.{places_view, fields_view}

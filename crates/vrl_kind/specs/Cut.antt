@@ -1,5 +1,5 @@
 -- A kind that is too large keeps its outer tags alone.
-use Rattle.std.specs.Prelude.{ℕ, ◌≤◌, ◌<◌, ◌≡◌, ◌⊎◌}
+use Rattle.std.specs.Prelude.{ℕ, ◌≤◌, ◌<◌, ◌≡◌}
 use Rattle.vrl_kind.specs.KindTree.{KindTree, kind, ListTree, no_list, list_part, ObjectTree, no_object, object_part, any_rest, no_places, no_fields}
 use Rattle.vrl_kind.specs.Count.{nodes, levels}
 

@@ -1,14 +1,12 @@
 -- Each kind inside a kind has fewer nodes.
-use Rattle.std.specs.Prelude.{ℕ, ◌+◌, ◌≤◌, max, List, [], ◌∷◌, Option, None, Some}
+use Rattle.std.specs.Prelude.{◌+◌, ◌≤◌, List, [], ◌∷◌, Option, None, Some}
 use Rattle.std.proofs.Common.{arith}
 use denote.Param.Weighed.{most}
 use Rattle.vrl_kind.specs.KindTree.{KindTree}
 use Rattle.vrl_kind.specs.Count.{nodes, places_nodes, fields_nodes, rest_nodes, list_nodes, object_nodes}
-use Rattle.vrl_kind.specs.View.{places_view, fields_view, rest_of, list_of, object_of, places_of, fields_of}
+use Rattle.vrl_kind.specs.View.{places_view, fields_view, rest_of, list_of, object_of}
 use Rattle.vrl_kind.specs.declared.kind.Rest.{Rest}
 use Rattle.vrl_kind.specs.declared.kind.Rest.TheVariants as rest
-use Rattle.vrl_kind.specs.declared.kind.Kinds.{Kinds}
-use Rattle.vrl_kind.specs.declared.kind.KindFields.{KindFields}
 use Rattle.vrl_kind.specs.declared.kind.KindField.{KindField}
 use Rattle.vrl_kind.specs.declared.kind.ListPart.{ListPart}
 use Rattle.vrl_kind.specs.declared.kind.ObjectPart.{ObjectPart}

@@ -1,5 +1,5 @@
 -- A kind as a tree: which scalars it allows, and what it knows of the parts of arrays and objects.
-use Rattle.std.specs.Prelude.{Bool, true, false, ℕ, List}
+use Rattle.std.specs.Prelude.{ℕ, List}
 use Rattle.vrl_kind.specs.declared.scalars.Scalars.{Scalars}
 
 mutual

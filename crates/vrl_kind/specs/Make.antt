@@ -3,8 +3,8 @@ use Rattle.std.specs.Prelude.{Bool, true, false, ◌≡◌, ◌≢◌, ℕ, List
 use Rattle.std.specs.declared.alloc.Global.{Global}
 use Rattle.vrl_value.specs.Look.{Step}
 use Rattle.vrl_value.specs.declared.value.Tag.{Tag}
-use Rattle.vrl_kind.specs.KindTree.{KindTree, kind, ListTree, no_list, list_part, ObjectTree, no_object, object_part, RestTree, Places, no_places, known_place, KnownFields, no_fields, known_field}
-use Rattle.vrl_kind.specs.Canonical.{no_scalars, rest_kind, place_or, field_or, LastIsNot, NoFieldIs, ListIsCanonical, ObjectIsCanonical, PlacesAreCanonical, FieldsAreCanonical, RestIsCanonical}
+use Rattle.vrl_kind.specs.KindTree.{KindTree, kind, ListTree, no_list, list_part, ObjectTree, no_object, object_part, RestTree, Places, KnownFields, no_fields, known_field}
+use Rattle.vrl_kind.specs.Canonical.{no_scalars, rest_kind, place_or, field_or, LastIsNot, NoFieldIs, ListIsCanonical, ObjectIsCanonical, PlacesAreCanonical, FieldsAreCanonical}
 use Rattle.vrl_kind.specs.Kinds.{tags_at}
 
 -- arrays alone, in any form

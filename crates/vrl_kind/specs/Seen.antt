@@ -1,5 +1,5 @@
 -- Kinds as the walks read them.
-use Rattle.std.specs.Prelude.{Bool, true, false, ℕ, ◌+◌, List, Option, Some, None}
+use Rattle.std.specs.Prelude.{Bool, true, false, ℕ, ◌+◌, Option, Some, None}
 use Rattle.vrl_kind.specs.KindTree.{KindTree, ListTree, no_list, list_part, ObjectTree, no_object, object_part, RestTree, nothing, json_rest, any_rest, exact}
 use Rattle.vrl_kind.specs.Canonical.{bare_rest, with_absent}
 use Rattle.vrl_kind.specs.Count.{nodes, places_nodes, fields_nodes, rest_nodes}

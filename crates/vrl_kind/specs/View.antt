@@ -1,6 +1,6 @@
 -- The tree that a kind in memory stands for, from what its fields hold.
-use Rattle.std.specs.Prelude.{ℕ, List, [], ◌∷◌, Option, Some, None}
-use Rattle.vrl_kind.specs.KindTree.{KindTree, kind, ListTree, no_list, list_part, ObjectTree, no_object, object_part, RestTree, nothing, json_rest, any_rest, exact, Places, no_places, known_place, KnownFields, no_fields, known_field}
+use Rattle.std.specs.Prelude.{List, [], ◌∷◌, Option, Some, None}
+use Rattle.vrl_kind.specs.KindTree.{KindTree, ListTree, no_list, list_part, ObjectTree, no_object, object_part, RestTree, nothing, json_rest, any_rest, exact, Places, no_places, known_place, KnownFields, no_fields, known_field}
 use Rattle.vrl_kind.specs.declared.kind.Rest.{Rest}
 use Rattle.vrl_kind.specs.declared.kind.Rest.TheVariants as rest
 use Rattle.vrl_kind.specs.declared.kind.Kinds.{Kinds}

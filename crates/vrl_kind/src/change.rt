@@ -18,11 +18,7 @@ impl Kind {
     pub fn or_absent(self) -> Kind
         ensures { (p : List Step) (t : Tag) → tags_at result p t ≡ or_absent p (tags_at self p) t }
     {
-        let Kind {
-            scalars,
-            list,
-            object,
-        } = self;
+        let (scalars, list, object) = self.into_parts();
         Kind {
             scalars: scalars.union(Scalars::only(Tag::Absent)),
             list,
@@ -34,11 +30,7 @@ impl Kind {
     pub fn null_for_absent(self) -> Kind
         ensures { (p : List Step) (t : Tag) → tags_at result p t ≡ null_for_absent (tags_at self) p t }
     {
-        let Kind {
-            scalars,
-            list,
-            object,
-        } = self;
+        let (scalars, list, object) = self.into_parts();
         Kind {
             scalars: scalars.null_for_absent(),
             list,

@@ -1,6 +1,6 @@
 ghost use Rattle.std.specs.Prelude.{◌≡◌, IfOk, MatchOption, Some, List, [], IsTrue};
 ghost use Rattle.vrl_value.specs.Look.{Step};
-ghost use Rattle.vrl_kind.specs.KindTree.{no_list, no_object, no_places, no_fields, list_part as list_with, object_part as object_with};
+ghost use Rattle.vrl_kind.specs.KindTree.{kind, no_list, no_object, no_places, no_fields, list_part as list_with, object_part as object_with};
 ghost use Rattle.vrl_kind.specs.Kinds.{tags_at, any_at, json_at, never_at, only_at, rest_at};
 ghost use Rattle.vrl_kind.specs.Canonical.{list_tree, object_tree, rest_kind, never_kind, any_kind, json_kind, list_if, object_if, IsCanonical};
 ghost use Rattle.vrl_kind.specs.Tags.{same_tag};
@@ -17,12 +17,35 @@ use vrl_value::{Chars, Memory, Tag};
 /// form that its tags have: the last known place, and each known field, says more than the rest does, the
 /// fields stand in the order of their names' bytes, and an exact rest is none of the others.
 #[cycle(kind)]
-#[derive(Drop)]
 pub struct Kind {
     pub(crate) scalars: Scalars,
     pub(crate) list: Option<ListPart>,
     pub(crate) object: Option<ObjectPart>,
 }
+
+// Written out, so that a kind is let go by one call.
+impl Drop for Kind {
+    #[cycle(let_go)]
+    fn drop(self) {
+        let Kind {
+            scalars: _,
+            list,
+            object,
+        } = self;
+        if let Some(list) = list {
+            let_list_go(list);
+        }
+        if let Some(object) = object {
+            let_object_go(object);
+        }
+    }
+}
+
+#[cycle(let_go)]
+fn let_list_go(_list: ListPart) {}
+
+#[cycle(let_go)]
+fn let_object_go(_object: ObjectPart) {}
 
 impl Model for Kind {
     ghost use Rattle.vrl_kind.specs.KindTree.{KindTree, kind};
@@ -100,6 +123,20 @@ pub enum Rest {
     Any,
     /// What is of this kind.
     Exact(Box<Kind>),
+}
+
+impl Kind {
+    // Its parts, taken out.
+    pub(crate) fn into_parts(self) -> (Scalars, Option<ListPart>, Option<ObjectPart>)
+        ensures { self ≡ kind result.0 (list_of result.1) (object_of result.2) }
+    {
+        let Kind {
+            scalars,
+            list,
+            object,
+        } = self;
+        (scalars, list, object)
+    }
 }
 
 impl Kinds {

@@ -51,11 +51,7 @@ impl Kind {
 pub fn without(alloc: Global, kind: &Kind, tag: Tag) -> Result<Kind, Memory>
     ensures { IfOk result (λ lower. (p : List Step) → tags_at lower p ≡ without_at kind.now tag p) }
 {
-    let Kind {
-        scalars,
-        list,
-        object,
-    } = kind.copy(alloc)?;
+    let (scalars, list, object) = kind.copy(alloc)?.into_parts();
     Ok(Kind {
         scalars: scalars.without(tag),
         list: list_unless(is_tag(Tag::List, tag), list),

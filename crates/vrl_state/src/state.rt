@@ -24,11 +24,20 @@ use vrl_value::Memory;
 
 /// What is known at a place of a script: the kinds of the event and of the variables, and the blocks that are
 /// open there; or that no way leads there, which is a dead state. Each kind is cut, and none allows absent.
-#[derive(Drop)]
 pub struct State {
     known: Option<KnownRoots>,
     // The innermost block last.
     blocks: Vec<Block>,
+}
+
+// Written out, so that a state is let go by one call.
+impl Drop for State {
+    fn drop(self) {
+        let State {
+            known: _,
+            blocks: _,
+        } = self;
+    }
 }
 
 impl Model for State {

@@ -8,13 +8,20 @@ use vrl_value::{Chars, Names, Value};
 
 /// An expression. A contract sees `expr_of` it.
 #[cycle(syntax)]
-#[derive(Drop)]
 pub struct Expr {
     /// From its first character to its last one: a group with its parentheses, a block with its braces, a call
     /// with its closure.
     pub span: Span,
     /// What it is.
     pub form: Form,
+}
+
+// Written out, so that an expression is let go by one call.
+impl Drop for Expr {
+    #[cycle(let_go)]
+    fn drop(self) {
+        let Expr { span: _, form: _ } = self;
+    }
 }
 
 /// The forms of an expression.

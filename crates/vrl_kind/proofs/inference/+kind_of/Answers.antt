@@ -1,14 +1,14 @@
-use Rattle.std.proofs.Common.{◌≡◌, [], ◌∷◌, ◌++◌, ◌≤◌, String, Global, string_bytes, string_cmp, rules, refl, sym, ap, ◌∙◌, subst, append_assoc, arith}
+use Rattle.std.proofs.Common.{◌≡◌, [], ◌∷◌, ◌++◌, ◌≤◌, String, Global, string_cmp, rules, sym, ap, ◌∙◌, subst, append_assoc, arith}
 use Rattle.std.proofs.lemmas.List.{take_all, append-nil}
 use Rattle.std.specs.List.Sorted.{IsStrictlySortedBy}
 use Rattle.std.specs.Map.{keys_of}
-use Rattle.vrl_value.specs.Tree.{array, object}
-use Rattle.vrl_value.specs.View.{tree_of, items_view, members_of, members_view}
+use Rattle.vrl_value.specs.Tree.{object}
+use Rattle.vrl_value.specs.View.{members_of, members_view}
 use Rattle.vrl_value.specs.declared.value.Value.{Value}
-use Rattle.vrl_kind.specs.KindTree.{object_part, list_part, nothing}
-use Rattle.vrl_kind.specs.Inference.{IsListOfValue, IsObjectOfValue}
-use Rattle.vrl_kind.specs.View.{places_view, fields_view}
-use Rattle.vrl_kind.proofs.Found.{AreKindsOf, AreFieldsOf, kinds_pushed, fields_pushed, list_found, object_found}
+use Rattle.vrl_kind.specs.KindTree.{object_part, nothing}
+use Rattle.vrl_kind.specs.Inference.{IsObjectOfValue}
+use Rattle.vrl_kind.specs.View.{fields_view}
+use Rattle.vrl_kind.proofs.Found.{AreKindsOf, kinds_pushed, fields_pushed, list_found, object_found}
 use Rattle.vrl_kind.proofs.Sizes.{members_size, value_size}
 use Rattle.vrl_kind.proofs.inference.+kind_of.Goals as goal
 

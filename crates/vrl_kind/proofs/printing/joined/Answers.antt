@@ -1,5 +1,4 @@
-use Rattle.std.proofs.Common.{◌≡◌, ◌++◌, take, add-one}
-use Rattle.vrl_kind.specs.Print.{separated}
+use Rattle.std.proofs.Common.{add-one}
 use Rattle.vrl_kind.proofs.Texts.{separated_first, separated_more}
 use Rattle.vrl_kind.proofs.printing.joined.Goals as goal
 use Rattle.vrl_kind.proofs.printing.joined.Goals.{then-at-gt0+in_ok-push_str, else-at-gt0}

@@ -1,6 +1,4 @@
-use Rattle.std.proofs.Common.{ap, arith, ◌<◌, length}
-use Rattle.vrl_kind.specs.KindTree.{KindTree}
-use Rattle.vrl_kind.specs.declared.kind.KindField.{KindField}
+use Rattle.std.proofs.Common.{ap, arith, length}
 use Rattle.vrl_kind.proofs.Inclusion.{none}
 use Rattle.vrl_kind.proofs.Sameness.{one_places, one_fields, at_one}
 use Rattle.vrl_kind.proofs.Slices.{place_nodes, field_nodes}

@@ -1,4 +1,4 @@
-use Rattle.std.proofs.Common.{◌≡◌, ap, ◌∙◌}
+use Rattle.std.proofs.Common.{ap, ◌∙◌}
 use Rattle.vrl_kind.specs.KindTree.{kind}
 use Rattle.vrl_kind.specs.Canonical.{list_if, object_if}
 use Rattle.vrl_kind.specs.Kinds.{tags_at}

@@ -1,4 +1,3 @@
-use Rattle.std.proofs.Common.{sym, ap, ◌∙◌}
 use Rattle.vrl_kind.proofs.Merging.{turn_left, turn_right, turn_less, turn_greater, turn_both, none_left}
 use Rattle.vrl_kind.proofs.merge.Merge.next.Goals as goal
 

@@ -9,14 +9,14 @@ use Rattle.vrl_place.proofs.Views.{object_over}
 use Rattle.vrl_place.proofs.spot.Bare.with_object.Goals as goal
 
 pub returns-in_ok-json-in-Json : goal.returns-in_ok-json-in-Json
-returns-in_ok-json-in-Json c = IfOk-weaker c.with_object-in-Json.result (λ kind. SameTags kind (with_object c.in_ok-json-in-Json.field-0 (named_view c.args.fields.items) (rest_of c.args.rest))) _
+returns-in_ok-json-in-Json c = IfOk-weaker c.with_object.result (λ kind. SameTags kind (with_object c.in_ok-json-in-Json.field-0 (named_view c.args.fields.items) (rest_of c.args.rest))) _
     (λ kind made. object_over c.in_ok-json-in-Json.field-0 kind (bare_sets c.args.self) _ _ (λ p t. ap (λ T. T t) (c.in_ok-json-in-Json.ensures.tags p) ∙ ap (λ b. bare_sets b p t) (sym c.in-Json.is)) made)
-    c.with_object-in-Json.ensures
+    c.with_object.ensures
 
 pub returns-in_ok-any-in-Any : goal.returns-in_ok-any-in-Any
-returns-in_ok-any-in-Any c = IfOk-weaker c.with_object-in-Any-2.result (λ kind. SameTags kind (with_object c.in_ok-any-in-Any.field-0 (named_view c.args.fields.items) (rest_of c.args.rest))) _
+returns-in_ok-any-in-Any c = IfOk-weaker c.with_object-in-Any.result (λ kind. SameTags kind (with_object c.in_ok-any-in-Any.field-0 (named_view c.args.fields.items) (rest_of c.args.rest))) _
     (λ kind made. object_over c.in_ok-any-in-Any.field-0 kind (bare_sets c.args.self) _ _ (λ p t. ap (λ T. T t) (c.in_ok-any-in-Any.ensures.tags p) ∙ ap (λ b. bare_sets b p t) (sym c.in-Any.is)) made)
-    c.with_object-in-Any-2.ensures
+    c.with_object-in-Any.ensures
 
 pub returns-in-Exact : goal.returns-in-Exact
 returns-in-Exact c = IfOk-weaker c.with_object-in-Exact.result (λ kind. SameTags kind (with_object c.in-Exact.kind.now (named_view c.args.fields.items) (rest_of c.args.rest))) _
