@@ -1,7 +1,8 @@
 ghost use Rattle.std.specs.Prelude.{◌≡◌, IfOk, IfSome};
 ghost use Rattle.vrl_kind.specs.KindTree.{no_fields, json_rest};
 ghost use Rattle.vrl_kind.specs.Make.{object_kind};
-ghost use Rattle.vrl_check.specs.Answer.{EndsOutside};
+ghost use Rattle.vrl_check.specs.Answer.{IsJudged};
+ghost use Rattle.vrl_check.specs.Judgement.{Judgement};
 
 // Scripts without calls: what is wrong with them, the kind of what they give, and what is known then.
 use std::alloc::Global;
@@ -51,7 +52,7 @@ fn event_kind(alloc: Global) -> Result<Kind, Memory>
 
 // What a script is judged to be over objects of JSON. `None`: it isn't judged.
 fn judged_script(alloc: Global, script: &Script) -> Result<Option<Judged>, Memory>
-    ensures { IfOk result (λ found. IfSome found (λ judged. EndsOutside judged)) }
+    ensures { IfOk result (λ found. IfSome found (λ judged. (j : Judgement) × IsJudged j judged)) }
 {
     let faults = limit_faults(alloc, &script.items)?;
     if !faults.as_slice().is_empty() || holds_call(&script.items) {
@@ -64,7 +65,7 @@ fn judged_script(alloc: Global, script: &Script) -> Result<Option<Judged>, Memor
 
 // The same of a text.
 fn judged(alloc: Global, text: &str) -> Result<Option<Judged>, Memory>
-    ensures { IfOk result (λ found. IfSome found (λ judged. EndsOutside judged)) }
+    ensures { IfOk result (λ found. IfSome found (λ judged. (j : Judgement) × IsJudged j judged)) }
 {
     match script_of(alloc, text)? {
         Some(script) => judged_script(alloc, &script),
@@ -123,7 +124,7 @@ fn push_known(alloc: Global, known: &Known, told: &mut String) -> Result<(), Mem
 
 // The kind of what a script gives, and what is known then.
 fn end_of(alloc: Global, judged: &Judged) -> Result<String, Memory>
-    requires { EndsOutside judged.now }
+    requires { (j : Judgement) × IsJudged j judged.now }
 {
     let end = ending(alloc, judged)?;
     let mut told = String::from_str(alloc, print(alloc, &end.kind)?.as_str())?;

@@ -133,8 +133,9 @@ error_told span t u e a kept b c place part outcome state diagnostics empties at
     let ds = of_error_assignment span t u j outcome.kind in
     let w = last.written in (
       with_codes ds (record j { kind = outcome.kind; ok = c.state.known; fail = None; empties = empty_tag part.kind ∷ x.tags }),
-      an_error_assignment w.given w.given_both w.failed w.failed_both
-          (subst (λ s. Judges s e j) (ap (λ s. s.known) state ∙ alive) x.judges) last.empty last.kind w.null w.text w.first w.first_both w.second w.second_both w.joined,
+      an_error_assignment w.behind_value.between w.given w.behind_error.written.between w.behind_error.failed
+          (subst (λ s. Judges s e j) (ap (λ s. s.known) state ∙ alive) x.judges) last.empty last.kind w.null w.text
+          w.behind_value.first w.behind_value.second w.behind_error.written.first w.behind_error.written.second w.behind_error.joined,
       record {
         kind = refl;
         root = either_root part.kind last.E outcome.kind x.ended.root (value_root (empty_value (empty_tag part.kind)) last.E last.empty) last.kind;
@@ -188,10 +189,7 @@ are_assigned span ok err place part a b c d ends t E K tag_is are state diagnost
       ends = ends_are;
     }
 
--- the empty value's kind, and that it is present
-pub empty_cut : (t : Tag) (K E : KindTree) (v : Tree) → t ≡ empty_tag K → v ≡ empty_value t → IsCutOf (found_at v) E → IsCutOf (found_at (empty_value (empty_tag K))) E
-empty_cut t K E v tag_is is cut = subst (λ w. IsCutOf (found_at w) E) (is ∙ ap empty_value tag_is) cut
-
+-- the empty value is present
 pub empty_present : (v : Tree) (E : KindTree) → IsCutOf (found_at v) E → allows_absent E ≡ false
 empty_present v E cut = not_absent E (value_root v E cut).present
 

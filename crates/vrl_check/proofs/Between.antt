@@ -9,10 +9,10 @@ use Rattle.vrl_kind.specs.Canonical.{never_kind}
 use Rattle.vrl_kind.specs.KindTree.{KindTree}
 use Rattle.vrl_kind.specs.Kinds.{tags_at, without_at}
 use Rattle.vrl_state.specs.States.{IsCutOf, IsEither, IsJoined, IsRootKind, RootMap, Scope, State}
-use Rattle.vrl_check.specs.Answer.{return_kind, return_state}
+use Rattle.vrl_check.specs.Answer.{return_kind, return_state, returning}
 use Rattle.vrl_check.specs.Branching.{is_message_wrong, of_message, AreBothSides, AreWays, IsAborted, IsBlockBeside, IsConjoined, IsLastBeside, IsLeftSide, IsOrFail, IsPredicateBeside, IsReturned, StandsIn}
 use Rattle.vrl_check.specs.Judgement.{at, gives, if_state, is_fallible, is_other, may_be_no_truth, may_be_truth, of_predicate, or_else_at, when, IsScalar}
-use Rattle.vrl_check.specs.Judging.{kept_if, known_on, no_ends, returning, way, AreEnds, AreJoinedEnds, AreJoinedReturns, HaveCommonScopes, IsElseAs, IsMoved, IsReported, IsReturnIn, IsSettledAs, IsWay}
+use Rattle.vrl_check.specs.Judging.{kept_if, known_on, no_ends, way, AreEnds, AreJoinedEnds, AreJoinedReturns, HaveCommonScopes, IsElseAs, IsMoved, IsReported, IsReturnIn, IsSettledAs, IsWay}
 use Rattle.vrl_check.specs.Seen.{seen}
 use Rattle.vrl_check.specs.declared.branches.LeftSide.{LeftSide}
 use Rattle.vrl_check.specs.declared.branches.Ways.{Ways}
@@ -95,8 +95,8 @@ are_conjoined left right a b c d refused both ends K wanted holds still way_is w
     }
 
 -- the left kind but for null, or the right one
-pub or_else : (L R rest K : KindTree) → ((p : List Step) → tags_at rest p ≡ without_at L tag.Null p) → IsEither rest R K → IsCutOf (or_else_at L R) K
-or_else L R rest K less is = record {
+pub or_else_cut : (L R rest K : KindTree) → ((p : List Step) → tags_at rest p ≡ without_at L tag.Null p) → IsEither rest R K → IsCutOf (or_else_at L R) K
+or_else_cut L R rest K less is = record {
   whole = is.whole;
   canonical = is.canonical;
   tags = λ p t. is.tags p t ∙ ap (λ T. T t || tags_at R p t) (less p);

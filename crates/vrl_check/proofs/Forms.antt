@@ -9,7 +9,7 @@ use Rattle.vrl_kind.specs.Kinds.{found_at, root_tags}
 use Rattle.vrl_place.specs.Sets.{is_alone}
 use Rattle.vrl_kind.specs.Overlay.{overlaid_at}
 use Rattle.vrl_path.specs.declared.path.Step.{Step}
-use Rattle.vrl_state.specs.States.{kept as kept_by, kind_in, kind_of, knows, IsCutOf, IsEntered, IsJoined, IsLeft, IsRootKind, RootMap, Scope, State}
+use Rattle.vrl_state.specs.States.{kept as kept_by, kind_in, kind_of, knows, IsCutOf, IsEntered, IsLeft, IsRootKind, RootMap, Scope}
 use Rattle.vrl_syntax.specs.Tree.{Expr, expr, Form, literal, read, query, group, block, negation, binary, Exprs}
 use Rattle.vrl_syntax.specs.declared.root.Op.{Op}
 use Rattle.vrl_syntax.specs.declared.root.Op.TheVariants as op
@@ -17,9 +17,10 @@ use Rattle.vrl_syntax.specs.declared.root.Root.{Root}
 use Rattle.vrl_value.specs.Tree.{Tree}
 use Rattle.vrl_value.specs.declared.value.Tag.{Tag}
 use Rattle.vrl_value.specs.declared.value.Tag.TheVariants as tag
+use Rattle.vrl_check.specs.Branching.{IsOrFail}
 use Rattle.vrl_check.specs.Empties.{expr_empties, exprs_empties}
 use Rattle.vrl_check.specs.Judgement.{Judgement, Judges, unreached, reached, a_literal, a_known_root, an_unknown_root, a_query, a_group, a_block, a_negation, an_equality, of_table, a_merge, JudgesBoth, operands, JudgesBlock, unreached_block, reached_block, IsMerged, IsMergedIf, IsReadAt, IsScalar, at, chained, gives, if_state, is_alive, is_compared, is_comparison, is_equality, is_other, kept, left, no_objects, nothing, of_item, of_pairs, scalars_at, settle, settled_kind, some_pair, span_of, table_of, table_tags, with_codes, when}
-use Rattle.vrl_check.specs.Judging.{AreBoth, AreEnds, AreJoinedEnds, AreLeftEnds, ArePairedAs, HasEnds, HasGathered, HasJudged, HaveCommonScopes, IsAnywhereAs, IsBesideAs, IsBlockAs, IsBlockEndAs, IsCombinedAs, IsEquatedAs, IsGivenAs, IsInBlock, IsItemAs, IsJudgedAs, IsMergedAs, IsMoved, IsNegatedAs, IsReadOffAs, IsReported, IsSequenceAs, IsSettledAs, IsWay, known_on, no_ends, settled_ends, table_rule, way}
+use Rattle.vrl_check.specs.Judging.{AreBoth, AreEnds, AreJoinedEnds, AreLeftEnds, ArePairedAs, HasEnds, HasGathered, HasJudged, HaveCommonScopes, IsAnywhereAs, IsBesideAs, IsBlockAs, IsBlockEndAs, IsCombinedAs, IsEquatedAs, IsGivenAs, IsInBlock, IsItemAs, IsJudgedAs, IsMergedAs, IsMoved, IsNegatedAs, IsReadOffAs, IsReported, IsSequenceAs, IsSettledAs, known_on, no_ends, settled_ends, table_rule}
 use Rattle.vrl_check.specs.declared.checker.Checker.{Checker}
 use Rattle.vrl_check.specs.declared.ends.Ends.{Ends}
 use Rattle.vrl_check.specs.declared.operators.Operands.{Operands}
@@ -28,7 +29,7 @@ use Rattle.vrl_check.specs.declared.tables.Table.{Table}
 use Rattle.vrl_check.proofs.Parts.{are_ends_of, behind_with, ends_in, ends_of, ends_or_fail, fails_as, gathered_moved, gathered_of, kept_is, left_ends, reported_ends, reported_gathered, reported_judged, reported_more, settled_judged}
 use Rattle.vrl_check.proofs.Partway.{part_are, part_then, value_ends, value_gathered, with_kind_of}
 use Rattle.vrl_check.proofs.RootKinds.{any_root, merged_root, read_root, scalar_root, table_root, value_root}
-use Rattle.vrl_check.proofs.Ways.{common, join_of, kept_way, known_way, no_ends_are}
+use Rattle.vrl_check.proofs.Ways.{common, join_of}
 
 -- two clauses of one outcome
 pub if_both : {T E : Type 0} (r : Result T E) (P Q R : T → Type 0) → ((x : T) → P x → Q x → R x) → IfOk r P → IfOk r Q → IfOk r R
@@ -270,13 +271,12 @@ table_given span o t l r before now after stands parts outcome rule is both comb
       subst (λ b. HasJudged before after outcome (of_pairs (table_rule t) both.0 both.1 (with_codes (when b (at 650 span)) both.2) whole.0 whole.1)) is whole.4,
     )
 
-pub combined : (span : Span) (t : Table) (stands refuses takes goes : Bool) (now told_at marked after : Checker) (parts : Operands) (next new : Ends) (refused : Option State) (K : KindTree)
+pub combined : (span : Span) (t : Table) (stands refuses takes goes : Bool) (now told_at marked after : Checker) (parts : Operands) (next new : Ends) (K : KindTree)
     → IsReported (when stands (at 650 span)) now told_at parts.ends next → IsCutOf (scalars_at (table_tags (table_rule t) parts.left parts.right)) K
-    → refuses ≡ some_pair (λ a b. not (is_some (table_rule t a b))) parts.left parts.right → takes ≡ some_pair (λ a b. is_some (table_rule t a b)) parts.left parts.right → goes ≡ (next.poisoned || takes)
-    → refused ≡ way told_at.state.scopes (if_state refuses told_at.state.known) → marked ≡ told_at → after.state.known ≡ if_state goes marked.state.known → IsMoved marked after
-    → IsJoined (known_on next.fail) (known_on refused) (known_on new.fail) → new ≡ record next { fail = new.fail } → ((scopes : List Scope) → AreEnds scopes next → IsWay scopes refused → AreEnds scopes new)
+    → refuses ≡ some_pair (λ a b. not (is_some (table_rule t a b))) parts.left parts.right → takes ≡ some_pair (λ a b. is_some (table_rule t a b)) parts.left parts.right → goes ≡ (new.poisoned || takes)
+    → IsOrFail next (if_state refuses told_at.state.known) new → AreEnds told_at.state.scopes new → marked ≡ told_at → after.state.known ≡ if_state goes marked.state.known → IsMoved marked after
     → IsCombinedAs span t stands parts now after (record { kind = K; ends = new })
-combined span t stands refuses takes goes now told_at marked after parts next new refused K told cut refuses_is takes_is goes_is refused_is same known_is moved joined only are before j k whole has =
+combined span t stands refuses takes goes now told_at marked after parts next new K told cut refuses_is takes_is goes_is or_fail are same known_is moved before j k whole has =
     let ds = when stands (at 650 span) in
     let rule = table_rule t in
     let told_all = with_codes ds whole in
@@ -286,13 +286,11 @@ combined span t stands refuses takes goes now told_at marked after parts next ne
     let cut_so = subst (λ L. IsCutOf (scalars_at (table_tags rule j.kind L)) K) has.right (subst (λ L. IsCutOf (scalars_at (table_tags rule L parts.right)) K) has.left cut) in
     let may_refuse : refuses ≡ some_pair (λ a b. not (is_some (rule a b))) j.kind k.kind = refuses_is ∙ ap₂ (some_pair (λ a b. not (is_some (rule a b)))) has.left has.right in
     let may_take : takes ≡ some_pair (λ a b. is_some (rule a b)) j.kind k.kind = takes_is ∙ ap₂ (some_pair (λ a b. is_some (rule a b))) has.left has.right in
-    let is_way = kept_way told_at.state.scopes (if_state refuses told_at.state.known) refused refused_is in
-    let both = are scopes has_told.are (subst (λ s. IsWay s refused) gathered.scopes is_way) in
-    let on_refused : known_on refused ≡ if_state (some_pair (λ a b. not (is_some (rule a b))) j.kind k.kind) whole.ok =
-    ap known_on refused_is ∙ known_way told_at.state.scopes (if_state refuses told_at.state.known) ∙ ap₂ (λ b s. if_state b s) may_refuse gathered.ok in
-    let fail = join_of (known_on next.fail) whole.fail (known_on refused) (if_state (some_pair (λ a b. not (is_some (rule a b))) j.kind k.kind) whole.ok) (known_on new.fail) has_told.fail on_refused joined in
+    let both = subst (λ s. AreEnds s new) gathered.scopes are in
+    let refused : if_state refuses told_at.state.known ≡ if_state (some_pair (λ a b. not (is_some (rule a b))) j.kind k.kind) whole.ok = ap₂ (λ b s. if_state b s) may_refuse gathered.ok in
+    let fail = join_of (known_on next.fail) whole.fail (if_state refuses told_at.state.known) (if_state (some_pair (λ a b. not (is_some (rule a b))) j.kind k.kind) whole.ok) (known_on new.fail) has_told.fail refused or_fail.fail in
     let ok : after.state.known ≡ if_state (told_all.poisoned || some_pair (λ a b. is_some (rule a b)) j.kind k.kind) whole.ok =
-    known_is ∙ ap₂ (λ b s. if_state b s) (goes_is ∙ ap₂ (λ p q. p || q) has_told.poisoned may_take) (ap (λ c. c.state.known) same ∙ gathered.ok) in
+    known_is ∙ ap₂ (λ b s. if_state b s) (goes_is ∙ ap₂ (λ p q. p || q) (ap (λ e. e.poisoned) or_fail.others ∙ has_told.poisoned) may_take) (ap (λ c. c.state.known) same ∙ gathered.ok) in
     let here = subst (λ c. HasGathered before c told_all) (sym same) gathered in
     let all = gathered_moved before marked after told_all here moved in (
       K,
@@ -302,18 +300,15 @@ combined span t stands refuses takes goes now told_at marked after parts next ne
       record {
         kind = refl;
         root = table_root t j.kind k.kind K cut_so;
-        ends = ends_of scopes new (record told_all { fail = known_on new.fail }) (of_pairs rule j k told_all K (known_on new.fail)) (ends_or_fail scopes next new told_all has_told only both) refl refl refl refl;
+        ends = ends_of scopes new (record told_all { fail = known_on new.fail }) (of_pairs rule j k told_all K (known_on new.fail)) (ends_or_fail scopes next new told_all has_told or_fail.others both) refl refl refl refl;
         gathered = gathered_of before after (record told_all { ok = after.state.known }) (of_pairs rule j k told_all K (known_on new.fail)) all ok refl refl;
       },
     )
 
-pub combined_common : (now told_at : Checker) (ds : List Diagnostic) (parts : Operands) (next : Ends) (refused : Option State) (wanted : Option RootMap) → AreEnds now.state.scopes parts.ends → IsReported ds now told_at parts.ends next → refused ≡ way told_at.state.scopes wanted
-    → HaveCommonScopes next (record no_ends { fail = refused })
-combined_common now told_at ds parts next refused wanted are told is =
-    let scopes = now.state.scopes in
-    let same : told_at.state.scopes ≡ scopes = ap (λ s. s.scopes) told.state in
-    let on_way = subst (λ s. IsWay s refused) same (kept_way told_at.state.scopes wanted refused is) in
-    common scopes next (record no_ends { fail = refused }) (are_ends_of scopes parts.ends next (sym (ap (λ e. e.fail) told.ends)) (sym (ap (λ e. e.ret) told.ends)) are) (record { fail = on_way; ret = (no_ends_are scopes).ret })
+-- the operands' ends, with the codes told, stand in the scopes of the state
+pub combined_are : (now told_at : Checker) (ds : List Diagnostic) (parts : Operands) (next : Ends) → AreEnds now.state.scopes parts.ends → IsReported ds now told_at parts.ends next → AreEnds told_at.state.scopes next
+combined_are now told_at ds parts next are told =
+    subst (λ s. AreEnds s next) (sym (ap (λ s. s.scopes) told.state)) (are_ends_of now.state.scopes parts.ends next (sym (ap (λ e. e.fail) told.ends)) (sym (ap (λ e. e.ret) told.ends)) are)
 
 pub operands_are : (l r : Expr) (before now : Checker) (parts : Operands) → AreBoth l r before now parts → AreEnds now.state.scopes parts.ends
 operands_are l r before now parts both = subst (λ s. AreEnds s parts.ends) (sym both.6.gathered.scopes) both.6.ends.are

@@ -9,9 +9,9 @@ use Rattle.std.specs.List.{list_any}
 use Rattle.vrl_diag.specs.declared.diagnostic.Diagnostic.{Diagnostic}
 use Rattle.vrl_kind.specs.KindTree.{KindTree}
 use Rattle.vrl_state.specs.States.{kept as kept_by, knows, IsEither, IsJoined, RootMap, Scope, State}
-use Rattle.vrl_check.specs.Answer.{return_kind, return_state}
+use Rattle.vrl_check.specs.Answer.{return_kind, return_state, returning}
 use Rattle.vrl_check.specs.Judgement.{Judgement, IsBehind, IsBeside, IsThen, if_state, is_alive, is_error, kept, left, settle, settled_kind, with_codes}
-use Rattle.vrl_check.specs.Judging.{kept_unless, known_on, returning, settled_ends, way, AreEnds, AreJoinedEnds, AreLeftEnds, HasEnds, HasGathered, HasJudged, IsMoved, IsReported, IsReturnIn, IsWay}
+use Rattle.vrl_check.specs.Judging.{kept_unless, known_on, settled_ends, way, AreEnds, AreJoinedEnds, AreLeftEnds, HasEnds, HasGathered, HasJudged, IsMoved, IsReported, IsReturnIn, IsWay}
 use Rattle.vrl_check.specs.declared.checker.Checker.{Checker}
 use Rattle.vrl_check.specs.declared.ends.Ends.{Ends}
 use Rattle.vrl_check.specs.declared.ends.Returned.{Returned}

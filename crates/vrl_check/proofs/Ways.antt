@@ -4,9 +4,9 @@ use Rattle.std.specs.FinMap as map
 use Rattle.vrl_kind.specs.Canonical.{allows_absent}
 use Rattle.vrl_kind.specs.KindTree.{KindTree, kind}
 use Rattle.vrl_state.specs.States.{IsEither, IsEitherMap, IsEitherVariable, IsJoined, IsPresent, IsRootKind, RootMap, Scope, State}
-use Rattle.vrl_check.specs.Answer.{return_kind, return_state}
+use Rattle.vrl_check.specs.Answer.{return_kind, return_state, returning}
 use Rattle.vrl_check.specs.Judgement.{settled_kind}
-use Rattle.vrl_check.specs.Judging.{kept_unless, known_on, no_ends, returning, settled_ends, way, AreEnds, AreJoinedReturns, HaveCommonScopes, IsReturnIn, IsWay}
+use Rattle.vrl_check.specs.Judging.{kept_unless, known_on, no_ends, settled_ends, way, AreEnds, AreJoinedReturns, HaveCommonScopes, IsReturnIn, IsWay}
 use Rattle.vrl_check.specs.declared.ends.Ends.{Ends}
 use Rattle.vrl_check.specs.declared.ends.Returned.{Returned}
 use Rattle.vrl_check.proofs.RootKinds.{either_never, either_root, either_turned, never_either, never_root}

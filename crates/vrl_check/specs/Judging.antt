@@ -13,7 +13,7 @@ use Rattle.vrl_syntax.specs.declared.root.Target.{Target}
 use Rattle.vrl_kind.specs.Canonical.{never_kind}
 use Rattle.vrl_kind.specs.KindTree.{KindTree}
 use Rattle.vrl_state.specs.States.{IsCutOf, IsEither, IsEntered, IsJoined, IsRootKind, kept as kept_by, RootMap, Scope, State}
-use Rattle.vrl_check.specs.Answer.{return_kind, return_state}
+use Rattle.vrl_check.specs.Answer.{return_kind, return_state, returning}
 use Rattle.vrl_check.specs.Calls.{expr_holds_call, form_holds_call, exprs_hold_call, pairs_hold_call, arms_hold_call, else_holds_call}
 use Rattle.vrl_check.specs.Judgement.{Judgement, Judges, Gives, JudgesAll, JudgesBlock, JudgesItems, IsBeside, IsMerged, IsReadAt, IsScalar, IsThen, IsWritten, at, gives, if_state, is_error, is_other, left as left_behind, no_objects, number_tag, of_assignment, of_item, of_pairs, of_predicate, order_tag, scalars_at, settle, some_pair, span_of, sum_tag, table_tags, when, with_codes}
 use Rattle.vrl_check.specs.declared.branches.Ways.{Ways}
@@ -61,10 +61,6 @@ known_on (Some s) = s.known
 -- a way on which this is known, in these scopes
 abbrev pub way : List Scope → Option RootMap → Option State
 way scopes known = option_map (λ roots. record { known = Some roots; scopes = scopes }) known
-
--- a return of this kind
-abbrev pub returning : List Scope → KindTree → Option RootMap → Option Returned
-returning scopes K known = option_map (λ roots. record { kind = K; state = record { known = Some roots; scopes = scopes } }) known
 
 -- a way that is kept is alive, and stands in these scopes
 abbrev pub IsWay : List Scope → Option State → Type 0
@@ -302,18 +298,24 @@ IsAssignedAs span target part now after outcome = (before : Checker) (j : Judgem
 abbrev pub IsPutAt : ℕ → Tag → List Tag → List Tag → Type 0
 IsPutAt n t before after = (front behind : List Tag) (old : Tag) → before ≡ front ++ (old ∷ behind) → length front ≡ n → after ≡ front ++ (t ∷ behind)
 
+-- one target is written, and then the other
+pub record AreWritten (t u : Target) (K L : KindTree) (before after : Option RootMap) : Type 0 where
+  pub between : Option RootMap
+  pub first : IsWritten t K before between
+  pub second : IsWritten u L between after
+
+-- both are written behind an error, beside what is known elsewhere
+pub record AreWrittenBeside (t u : Target) (K L : KindTree) (known fail after : Option RootMap) : Type 0 where
+  pub failed : Option RootMap
+  pub written : AreWritten t u K L fail failed
+  pub joined : IsJoined known failed after
+
 -- both targets are written behind a value, and behind an error
 pub record AreBothWritten (t u : Target) (K E : KindTree) (ok fail after : Option RootMap) : Type 0 where
   pub N : KindTree
   pub T : KindTree
-  pub given : Option RootMap
-  pub given_both : Option RootMap
-  pub failed : Option RootMap
-  pub failed_both : Option RootMap
   pub null : IsScalar tag.Null N
   pub text : IsScalar tag.Text T
-  pub first : IsWritten t K ok given
-  pub first_both : IsWritten u N given given_both
-  pub second : IsWritten t E fail failed
-  pub second_both : IsWritten u T failed failed_both
-  pub joined : IsJoined given_both failed_both after
+  pub given : Option RootMap
+  pub behind_value : AreWritten t u K N ok given
+  pub behind_error : AreWrittenBeside t u E T given fail after

@@ -1,17 +1,19 @@
 ghost use Rattle.std.specs.Prelude.{◌≡◌, ◌&&◌, ◌||◌, [], false, is_some, not, IfOk, OnOk};
 ghost use Rattle.vrl_kind.specs.Canonical.{allows_absent};
-ghost use Rattle.vrl_state.specs.States.{IsRootKind};
+ghost use Rattle.vrl_kind.specs.Kinds.{found_at};
+ghost use Rattle.vrl_state.specs.States.{IsCutOf, IsRootKind};
 ghost use Rattle.vrl_syntax.specs.Limits.{target_faults};
 ghost use Rattle.vrl_syntax.specs.Tree.{assign as assign_form, both as both_form, merge as merge_form};
 ghost use Rattle.vrl_syntax.specs.View.{expr_of};
 ghost use Rattle.vrl_check.specs.Assigning.{AreAssigned};
-ghost use Rattle.vrl_check.specs.Judgement.{is_event as is_event_itself, is_no_event as is_no_event_at, is_nowhere as takes_nothing, of_error_assignment, IsWritten, Judgement};
-ghost use Rattle.vrl_check.specs.Judging.{known_on, AreBothWritten, AreEnds, CanBeJudged, HasEnds, IsAssignedAs, IsGivenAs, IsMoved, IsPutAt, IsReported, IsWay};
+ghost use Rattle.vrl_check.specs.Judgement.{empty_value as empty_value_of, is_event as is_event_itself, is_no_event as is_no_event_at, is_nowhere as takes_nothing, of_error_assignment, IsWritten, Judgement};
+ghost use Rattle.vrl_check.specs.Judging.{known_on, AreBothWritten, AreEnds, AreWritten, AreWrittenBeside, CanBeJudged, HasEnds, IsAssignedAs, IsGivenAs, IsMoved, IsPutAt, IsReported, IsWay};
 
 use crate::checker::Checker;
 use crate::ends::Ends;
 use crate::kinds::{cut_kind_of, either, empty_tag, empty_value, may_be_event, scalar};
 use crate::outcome::Outcome;
+use std::alloc::Global;
 use vrl_diag::Span;
 use vrl_kind::Kind;
 use vrl_state::Branch;
@@ -55,14 +57,14 @@ impl Checker {
         requires present { allows_absent part.kind ≡ false }
         ensures { IfOk result (λ outcome. IsAssignedAs span target.now part self.old self.new outcome) }
     {
+        let mut part = part;
         let fallible = part.is_fallible();
         let no_event = self.puts_no_event(target, &part);
-        let ends = self.report(part.ends, fallible, 103, span)?;
-        let ends = self.report(ends, is_nowhere(target), 640, span)?;
-        let ends = self.report(ends, no_event, 1006, span)?;
-        let kind = part.kind;
-        self.write(target, &kind)?;
-        Ok(Outcome { kind, ends })
+        self.report(&mut part.ends, fallible, 103, span)?;
+        self.report(&mut part.ends, is_nowhere(target), 640, span)?;
+        self.report(&mut part.ends, no_event, 1006, span)?;
+        self.write(target, &part.kind)?;
+        Ok(part)
     }
 
     // Whether the event gets a value that can't stand there.
@@ -87,9 +89,8 @@ impl Checker {
         match target {
             Target::Nowhere => {
                 let part = self.expr(value)?;
-                let ends = self.report(part.ends, true, 640, span)?;
-                let kind = part.kind;
-                Ok(Outcome { kind, ends })
+                let outcome = self.reported(part, true, 640, span)?;
+                Ok(outcome)
             }
             Target::Place(place, root, path) => {
                 let whole = self.merge_into(*place, root, path, value)?;
@@ -134,24 +135,16 @@ impl Checker {
         requires ends { AreEnds self.old.state.scopes part.ends }
         ensures { IfOk result (AreAssigned span ok.now err.now place part self.old self.new) }
     {
+        let mut part = part;
         let tag = empty_tag(&part.kind);
         self.put_empty(place, tag);
-        let value = empty_value(self.alloc, tag)?;
-        let empty = cut_kind_of(self.alloc, &value)?;
-        let kind = either(self.alloc, &part.kind, &empty)?;
-        let ends = self.error_codes(span, ok, err, part.ends, &kind)?;
-        let Ends {
-            fail,
-            ret,
-            poisoned,
-        } = ends;
+        let empty = empty_kind(self.alloc, tag)?;
+        let whole = either(self.alloc, &part.kind, &empty)?;
+        self.error_codes(span, ok, err, &mut part.ends, &whole)?;
+        let fail = part.ends.fail.take();
         self.write_both(ok, err, &part.kind, &empty, fail)?;
-        let ends = Ends {
-            fail: None,
-            ret,
-            poisoned,
-        };
-        Ok(Outcome { kind, ends })
+        part.kind = whole;
+        Ok(part)
     }
 
     // The empty value of an error assignment whose place was kept.
@@ -172,16 +165,16 @@ impl Checker {
         span: Span,
         ok: &Target,
         err: &Target,
-        ends: Ends,
+        ends: &mut Ends,
         kind: &Kind,
-    ) -> Result<Ends, Memory>
-        ensures { IfOk result (λ all. (j : Judgement) → self.old.state.known ≡ j.ok → HasEnds self.old.state.scopes ends j
-            → IsReported (of_error_assignment span ok.now err.now j kind.now) self.old self.new ends all) }
+    ) -> Result<(), Memory>
+        ensures { OnOk result ((j : Judgement) → self.old.state.known ≡ j.ok → HasEnds self.old.state.scopes ends.old j
+            → IsReported (of_error_assignment span ok.now err.now j kind.now) self.old self.new ends.old ends.new) }
     {
-        let needless = is_needless(&ends);
-        let no_event = self.writes_no_event(ok, err, &ends, kind);
-        let ends = self.report(ends, needless, 104, span)?;
-        let ends = self.report(ends, are_nowhere(ok, err), 640, span)?;
+        let needless = is_needless(ends);
+        let no_event = self.writes_no_event(ok, err, ends, kind);
+        self.report(ends, needless, 104, span)?;
+        self.report(ends, are_nowhere(ok, err), 640, span)?;
         self.report(ends, no_event, 1006, span)
     }
 
@@ -214,17 +207,62 @@ impl Checker {
     {
         let null = scalar(self.alloc, Tag::Null)?;
         let text = scalar(self.alloc, Tag::Text)?;
-        self.write(ok, kind)?;
-        self.write(err, &null)?;
+        self.write_two(ok, err, kind, &null)?;
+        self.write_behind_error(ok, err, empty, &text, fail)
+    }
+
+    // Writes both behind an error alone, and joins what is known then. `Memory`: want of memory.
+    fn write_behind_error(
+        &mut self,
+        ok: &Target,
+        err: &Target,
+        empty: &Kind,
+        text: &Kind,
+        fail: Option<Branch>,
+    ) -> Result<(), Memory>
+        requires ok { target_faults ok.now ≡ [] }
+        requires err { target_faults err.now ≡ [] }
+        requires empty { allows_absent empty.now ≡ false }
+        requires text { allows_absent text.now ≡ false }
+        requires way { IsWay self.old.state.scopes fail }
+        ensures written { OnOk result (AreWrittenBeside ok.now err.now empty.now text.now self.old.state.known (known_on fail) self.new.state.known) }
+        ensures others { IsMoved self.old self.new }
+    {
         if fail.is_none() {
             return Ok(());
         }
         let mark = self.state.mark(self.alloc)?;
         self.go_to(fail)?;
-        self.write(ok, empty)?;
-        self.write(err, &text)?;
+        self.write_two(ok, err, empty, text)?;
         self.join_behind(mark)
     }
+
+    // Writes one target, and then the other. `Memory`: want of memory.
+    fn write_two(
+        &mut self,
+        ok: &Target,
+        err: &Target,
+        first: &Kind,
+        second: &Kind,
+    ) -> Result<(), Memory>
+        requires ok { target_faults ok.now ≡ [] }
+        requires err { target_faults err.now ≡ [] }
+        requires first { allows_absent first.now ≡ false }
+        requires second { allows_absent second.now ≡ false }
+        ensures written { OnOk result (AreWritten ok.now err.now first.now second.now self.old.state.known self.new.state.known) }
+        ensures others { IsMoved self.old self.new }
+    {
+        self.write(ok, first)?;
+        self.write(err, second)
+    }
+}
+
+// The kind of the empty value of a tag, cut. `Memory`: want of memory.
+fn empty_kind(alloc: Global, tag: Tag) -> Result<Kind, Memory>
+    ensures { IfOk result (IsCutOf (found_at (empty_value_of tag))) }
+{
+    let value = empty_value(alloc, tag)?;
+    cut_kind_of(alloc, &value)
 }
 
 // Whether an expression can't fail, and no code tells why.

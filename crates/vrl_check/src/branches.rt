@@ -13,8 +13,8 @@ ghost use Rattle.vrl_check.specs.Seen.{seen};
 
 use crate::assignments::is_needless;
 use crate::checker::Checker;
-use crate::ends::{Ends, joined};
-use crate::kinds::{either, is_exactly, may_be_no_truth, may_be_truth, scalar};
+use crate::ends::{Ends, add_way};
+use crate::kinds::{either, is_exactly, may_be_no_truth, may_be_truth, scalar, widen};
 use crate::outcome::Outcome;
 use std::alloc::Global;
 use vrl_diag::Span;
@@ -86,12 +86,11 @@ impl Checker {
         ensures kind { IfOk result (λ side. side.part.kind ≡ part.kind) }
         ensures ends { IfOk result (λ side. IsOrFail part.ends (if_state (may_be_another part.kind) self.old.state.known) side.part.ends) }
     {
-        let refused = self.branch_if(may_be_no_truth(&part.kind))?;
-        let ends = part.ends.or_fail(self.alloc, refused)?;
+        let mut part = part;
+        let refuses = may_be_no_truth(&part.kind);
+        self.fail_if(&mut part.ends, refuses)?;
         let beside = self.mark_if(may_be_truth(&part.kind))?;
         self.go_on_if(has(&part.kind, Tag::Bool));
-        let kind = part.kind;
-        let part = Outcome { kind, ends };
         Ok(LeftSide { part, beside })
     }
 
@@ -103,10 +102,10 @@ impl Checker {
     {
         let refused = self.branch_if(may_be_no_truth(&right.kind))?;
         self.go_on_if(may_be_truth(&right.kind));
-        let both = self.both_sides(left, right.ends)?;
-        let ends = both.or_fail(self.alloc, refused)?;
-        let kind = scalar(self.alloc, Tag::Bool)?;
-        Ok(Outcome { kind, ends })
+        let mut both = self.both_sides(left, right.ends)?;
+        both.ends.add_fail(self.alloc, refused)?;
+        both.kind = scalar(self.alloc, Tag::Bool)?;
+        Ok(both)
     }
 
     // The right side is judged where the left one may be null or a boolean; the value is the right one's alone
@@ -143,10 +142,9 @@ impl Checker {
         ensures kind { IfOk result (λ outcome. IsCutOf (or_else_at left.part.kind right.kind) outcome.kind) }
         ensures sides { IfOk result (λ outcome. AreBothSides left right.ends self.old self.new outcome.ends) }
     {
-        let rest = without(self.alloc, &left.part.kind, Tag::Null)?;
-        let kind = either(self.alloc, &rest, &right.kind)?;
-        let ends = self.both_sides(left, right.ends)?;
-        Ok(Outcome { kind, ends })
+        let mut both = self.both_sides(left, right.ends)?;
+        both.kind = or_else(self.alloc, &both.kind, &right.kind)?;
+        Ok(both)
     }
 
     // The right side is judged where the left one ended with an error. A left side that can't fail is 651.
@@ -166,9 +164,8 @@ impl Checker {
         let side = self.left_of_coalescing(part)?;
         let other = self.expr(right)?;
         let both = self.coalesced(side, other)?;
-        let ends = self.report(both.ends, needless, 651, span)?;
-        let kind = both.kind;
-        Ok(Outcome { kind, ends })
+        let outcome = self.reported(both, needless, 651, span)?;
+        Ok(outcome)
     }
 
     // Where it ends with a value, the whole does. No error of its own is left.
@@ -177,20 +174,10 @@ impl Checker {
         ensures side { IfOk result (IsLeftSide (known_on part.ends.fail) self.old.state.known self.old self.new) }
         ensures part { IfOk result (λ side. side.part ≡ record part { ends = record part.ends { fail = None } }) }
     {
+        let mut part = part;
         let beside = self.mark_if(true)?;
-        let Outcome { kind, ends } = part;
-        let Ends {
-            fail,
-            ret,
-            poisoned,
-        } = ends;
+        let fail = part.ends.fail.take();
         self.go_to(fail)?;
-        let ends = Ends {
-            fail: None,
-            ret,
-            poisoned,
-        };
-        let part = Outcome { kind, ends };
         Ok(LeftSide { part, beside })
     }
 
@@ -201,21 +188,22 @@ impl Checker {
         ensures kind { IfOk result (λ outcome. IsEither left.part.kind right.kind outcome.kind) }
         ensures sides { IfOk result (λ outcome. AreBothSides left right.ends self.old self.new outcome.ends) }
     {
-        let kind = either(self.alloc, &left.part.kind, &right.kind)?;
-        let ends = self.both_sides(left, right.ends)?;
-        Ok(Outcome { kind, ends })
+        let mut both = self.both_sides(left, right.ends)?;
+        widen(&mut both.kind, self.alloc, &right.kind)?;
+        Ok(both)
     }
 
-    // What is known behind the right side or where it is left out, and the ends of both.
-    fn both_sides(&mut self, left: LeftSide, right: Ends) -> Result<Ends, Memory>
+    // The left side with the ends of both; what is known is that behind the right side or where it is left out.
+    fn both_sides(&mut self, left: LeftSide, right: Ends) -> Result<Outcome, Memory>
         requires left { StandsIn self.old.state.scopes left }
         requires right { AreEnds self.old.state.scopes right }
-        ensures { IfOk result (AreBothSides left right self.old self.new) }
+        ensures kind { IfOk result (λ both. both.kind ≡ left.part.kind) }
+        ensures sides { IfOk result (λ both. AreBothSides left right self.old self.new both.ends) }
     {
-        let LeftSide { part, beside } = left;
+        let LeftSide { mut part, beside } = left;
         self.join_behind_if(beside)?;
-        let ends = part.ends.and(self.alloc, right)?;
-        Ok(ends)
+        part.ends.add(self.alloc, right)?;
+        Ok(part)
     }
 
     // Each branch is judged behind all predicates before it.
@@ -231,37 +219,35 @@ impl Checker {
     {
         let mut ways = Ways::none(self.alloc)?;
         for arm in arms.as_slice() {
-            let all = self.arm(ways, arm)?;
-            ways = all;
+            self.arm(&mut ways, arm)?;
         }
         let last = self.otherwise(otherwise)?;
-        self.and_last(ways, last)
+        self.add_last(ways, last)
     }
 
     // A predicate and its block, beside the ways before them.
     #[cycle(judge)]
-    fn arm(&mut self, ways: Ways, arm: &Arm) -> Result<Ways, Memory>
+    fn arm(&mut self, ways: &mut Ways, arm: &Arm) -> Result<(), Memory>
         requires predicate { CanBeJudged (arm_of arm.now).0 }
         requires block { ItemsCanBeJudged (arm_of arm.now).1 }
-        requires ways { AreWays self.old.state.scopes ways }
-        ensures { IfOk result (λ all. IsArmBehind (arm_of arm.now) ways self.old self.new all) }
+        requires ways { AreWays self.old.state.scopes ways.old }
+        ensures { OnOk result (IsArmBehind (arm_of arm.now) ways.old self.old self.new ways.new) }
     {
         let part = self.expr(&arm.predicate)?;
-        let middle = self.and_predicate(ways, part, arm.predicate.span)?;
+        self.add_predicate(ways, part, arm.predicate.span)?;
         let mark = self.state.mark(self.alloc)?;
         let block = self.block(&arm.body)?;
-        self.and_block(middle, mark, block)
+        self.add_block(ways, mark, block)
     }
 
-    fn and_predicate(&mut self, ways: Ways, part: Outcome, span: Span) -> Result<Ways, Memory>
-        requires ways { AreWays self.old.state.scopes ways }
+    fn add_predicate(&mut self, ways: &mut Ways, part: Outcome, span: Span) -> Result<(), Memory>
+        requires ways { AreWays self.old.state.scopes ways.old }
         requires part { AreEnds self.old.state.scopes part.ends }
-        ensures { IfOk result (IsPredicateBeside span part ways self.old self.new) }
+        ensures { OnOk result (IsPredicateBeside span part ways.old self.old self.new ways.new) }
     {
         let predicate = self.predicate(part, span)?;
-        let Ways { kind, ok, ends } = ways;
-        let ends = ends.and(self.alloc, predicate)?;
-        Ok(Ways { kind, ok, ends })
+        ways.ends.add(self.alloc, predicate)?;
+        Ok(())
     }
 
     // A predicate that may fail is 1005, and one that isn't exactly a boolean 102.
@@ -269,24 +255,27 @@ impl Checker {
         requires { AreEnds self.old.state.scopes part.ends }
         ensures { IfOk result (IsReported (of_predicate span (seen part self.old [] [])) self.old self.new part.ends) }
     {
+        let mut part = part;
         if part.is_fallible() {
-            return self.report(part.ends, true, 1005, span);
+            self.report(&mut part.ends, true, 1005, span)?;
+            return Ok(part.ends);
         }
         let other = self.is_other(Tag::Bool, &part);
-        self.report(part.ends, other, 102, span)
+        self.report(&mut part.ends, other, 102, span)?;
+        Ok(part.ends)
     }
 
     // Goes back to the state behind the predicate.
-    fn and_block(&mut self, ways: Ways, mark: Mark, block: Outcome) -> Result<Ways, Memory>
-        requires ways { AreWays self.old.state.scopes ways }
+    fn add_block(&mut self, ways: &mut Ways, mark: Mark, block: Outcome) -> Result<(), Memory>
+        requires ways { AreWays self.old.state.scopes ways.old }
         requires block { AreEnds self.old.state.scopes block.ends }
-        ensures { IfOk result (IsBlockBeside mark block ways self.old self.new) }
+        ensures { OnOk result (IsBlockBeside mark block ways.old self.old self.new ways.new) }
     {
         let left = self.back(mark);
-        let kind = either(self.alloc, &ways.kind, &block.kind)?;
-        let ok = joined(self.alloc, ways.ok, left)?;
-        let ends = ways.ends.and(self.alloc, block.ends)?;
-        Ok(Ways { kind, ok, ends })
+        add_way(&mut ways.ok, self.alloc, left)?;
+        let kind = ways.ends.absorb(self.alloc, block)?;
+        widen(&mut ways.kind, self.alloc, &kind)?;
+        Ok(())
     }
 
     // A missing `else` gives null.
@@ -309,15 +298,17 @@ impl Checker {
     }
 
     // The last way beside the others, and what is known behind any of them.
-    fn and_last(&mut self, ways: Ways, last: Outcome) -> Result<Outcome, Memory>
+    fn add_last(&mut self, ways: Ways, last: Outcome) -> Result<Outcome, Memory>
         requires ways { AreWays self.old.state.scopes ways }
         requires last { AreEnds self.old.state.scopes last.ends }
         ensures { IfOk result (IsLastBeside ways last self.old self.new) }
     {
-        let kind = either(self.alloc, &ways.kind, &last.kind)?;
-        let ends = ways.ends.and(self.alloc, last.ends)?;
-        self.join(ways.ok)?;
-        Ok(Outcome { kind, ends })
+        let Ways { kind, ok, ends } = ways;
+        self.join(ok)?;
+        let mut all = Outcome { kind, ends };
+        let kind = all.ends.absorb(self.alloc, last)?;
+        widen(&mut all.kind, self.alloc, &kind)?;
+        Ok(all)
     }
 
     #[cycle(judge)]
@@ -334,8 +325,9 @@ impl Checker {
         requires kind { IsRootKind part.kind }
         ensures { IfOk result (IsReturned part self.old self.new) }
     {
-        let here = self.return_of(part.kind)?;
-        let ends = part.ends.or_return(self.alloc, here)?;
+        let Outcome { kind, mut ends } = part;
+        let here = self.return_of(kind)?;
+        ends.add_return(self.alloc, here)?;
         self.state.kill();
         let kind = Kind::never(self.alloc)?;
         Ok(Outcome { kind, ends })
@@ -363,11 +355,12 @@ impl Checker {
         requires { AreEnds self.old.state.scopes part.ends }
         ensures { IfOk result (IsAborted (of_message span (seen part self.old [] [])) part self.old self.new) }
     {
+        let mut part = part;
         let wrong = self.is_no_message(&part);
-        let ends = self.report(part.ends, wrong, 1011, span)?;
+        self.report(&mut part.ends, wrong, 1011, span)?;
         self.state.kill();
-        let kind = Kind::never(self.alloc)?;
-        Ok(Outcome { kind, ends })
+        part.kind = Kind::never(self.alloc)?;
+        Ok(part)
     }
 
     // Whether it may fail, or isn't exactly a text.
@@ -390,4 +383,12 @@ impl Ways {
             ends: Ends::none(),
         })
     }
+}
+
+// The kind of a value of the first, but for null, or of the second, cut. `Memory`: want of memory.
+fn or_else(alloc: Global, first: &Kind, second: &Kind) -> Result<Kind, Memory>
+    ensures { IfOk result (λ kind. IsCutOf (or_else_at first.now second.now) kind) }
+{
+    let rest = without(alloc, first, Tag::Null)?;
+    either(alloc, &rest, second)
 }

@@ -4,7 +4,9 @@ ghost use Rattle.vrl_kind.specs.Kinds.{root_tags};
 ghost use Rattle.vrl_place.specs.Sets.{is_alone};
 ghost use Rattle.vrl_state.specs.States.{IsJoined, IsStart};
 ghost use Rattle.vrl_check.specs.Judgement.{at, if_state, when};
-ghost use Rattle.vrl_check.specs.Judging.{known_on, returning, way, IsMoved, IsReported, IsWay};
+ghost use Rattle.vrl_check.specs.Answer.{returning};
+ghost use Rattle.vrl_check.specs.Branching.{IsOrFail};
+ghost use Rattle.vrl_check.specs.Judging.{known_on, way, AreEnds, IsMoved, IsReported, IsWay};
 
 use crate::ends::{Ends, Returned};
 use crate::kinds::is_exactly;
@@ -64,18 +66,35 @@ impl Checker {
     // A code, if it stands. `Memory`: want of memory.
     pub(crate) fn report(
         &mut self,
-        ends: Ends,
+        ends: &mut Ends,
         stands: bool,
         code: u16,
         span: Span,
-    ) -> Result<Ends, Memory>
-        ensures { IfOk result (IsReported (when stands (at code span)) self.old self.new ends) }
+    ) -> Result<(), Memory>
+        ensures { OnOk result (IsReported (when stands (at code span)) self.old self.new ends.old ends.new) }
     {
         if !stands {
-            return Ok(ends);
+            return Ok(());
         }
         self.diagnostics.push(Diagnostic { code, span })?;
-        Ok(ends.with_error(is_error(code)))
+        ends.add_error(is_error(code));
+        Ok(())
+    }
+
+    // What was judged, with a code if it stands. `Memory`: want of memory.
+    pub(crate) fn reported(
+        &mut self,
+        part: Outcome,
+        stands: bool,
+        code: u16,
+        span: Span,
+    ) -> Result<Outcome, Memory>
+        ensures same { IfOk result (λ outcome. outcome ≡ record part { ends = outcome.ends }) }
+        ensures reported { IfOk result (λ outcome. IsReported (when stands (at code span)) self.old self.new part.ends outcome.ends) }
+    {
+        let mut part = part;
+        self.report(&mut part.ends, stands, code, span)?;
+        Ok(part)
     }
 
     // What is known here, as a branch; the state stays. `None`: no way leads here, or it isn't wanted.
@@ -89,6 +108,18 @@ impl Checker {
         }
         let copy = self.state.mark(self.alloc)?;
         Ok(Some(self.state.back(copy)))
+    }
+
+    // It may end with an error here too, if this holds. `Memory`: want of memory.
+    pub(crate) fn fail_if(&mut self, ends: &mut Ends, holds: bool) -> Result<(), Memory>
+        requires { AreEnds self.old.state.scopes ends.old }
+        ensures ends { OnOk result (IsOrFail ends.old (if_state holds self.old.state.known) ends.new) }
+        ensures scopes { OnOk result (AreEnds self.old.state.scopes ends.new) }
+        ensures checker { self.new ≡ self.old }
+    {
+        let point = self.branch_if(holds)?;
+        ends.add_fail(self.alloc, point)?;
+        Ok(())
     }
 
     // A return from here with a value of this kind. `None`: no way leads here. `Memory`: want of memory.

@@ -1,8 +1,9 @@
-ghost use Rattle.std.specs.Prelude.{◌≡◌, ◌||◌, ◌∷◌, IfOk, List};
-ghost use Rattle.vrl_state.specs.States.{IsJoined, Scope};
-ghost use Rattle.vrl_check.specs.Judging.{kept_unless as is_kept_unless, known_on, no_ends, settled_ends, AreEnds, AreJoinedEnds, AreJoinedReturns, AreLeftEnds, HaveCommonScopes, IsLeftReturn, IsLeftWay, IsReturnIn, IsWay};
+ghost use Rattle.std.specs.Prelude.{◌≡◌, ◌||◌, ◌∷◌, IfOk, List, OnOk};
+ghost use Rattle.vrl_state.specs.States.{HaveSameScopes, IsEither, IsJoined, Scope};
+ghost use Rattle.vrl_check.specs.Judging.{known_on, no_ends, settled_ends, AreEnds, AreJoinedEnds, AreJoinedReturns, AreLeftEnds, HaveCommonScopes, IsLeftReturn, IsLeftWay, IsReturnIn, IsWay};
 
-use crate::kinds::either;
+use crate::kinds::widen;
+use crate::outcome::Outcome;
 use std::alloc::Global;
 use vrl_kind::Kind;
 use vrl_state::Branch;
@@ -40,78 +41,75 @@ impl Ends {
         }
     }
 
-    // Those of one part beside or behind those of another. `Memory`: want of memory.
-    pub(crate) fn and(self, alloc: Global, part: Ends) -> Result<Ends, Memory>
-        requires { HaveCommonScopes self part }
-        ensures joined { IfOk result (λ ends. AreJoinedEnds self part ends) }
-        ensures scopes { IfOk result (λ ends. (scopes : List Scope) → AreEnds scopes self → AreEnds scopes part → AreEnds scopes ends) }
+    // Adds those of a part beside or behind these. `Memory`: want of memory.
+    pub(crate) fn add(&mut self, alloc: Global, part: Ends) -> Result<(), Memory>
+        requires { HaveCommonScopes self.old part }
+        ensures joined { OnOk result (AreJoinedEnds self.old part self.new) }
+        ensures scopes { OnOk result ((scopes : List Scope) → AreEnds scopes self.old → AreEnds scopes part → AreEnds scopes self.new) }
     {
-        Ok(Ends {
-            fail: joined(alloc, self.fail, part.fail)?,
-            ret: joined_returns(alloc, self.ret, part.ret)?,
-            poisoned: either_of(self.poisoned, part.poisoned),
-        })
+        add_way(&mut self.fail, alloc, part.fail)?;
+        add_return(&mut self.ret, alloc, part.ret)?;
+        self.poisoned = either_of(self.poisoned, part.poisoned);
+        Ok(())
     }
 
-    // The same with one more way to end with an error. `Memory`: want of memory.
-    pub(crate) fn or_fail(self, alloc: Global, point: Option<Branch>) -> Result<Ends, Memory>
-        requires { HaveCommonScopes self (record no_ends { fail = point }) }
-        ensures joined { IfOk result (λ ends. IsJoined (known_on self.fail) (known_on point) (known_on ends.fail)) }
-        ensures others { IfOk result (λ ends. ends ≡ record self { fail = ends.fail }) }
-        ensures scopes { IfOk result (λ ends. (scopes : List Scope) → AreEnds scopes self → IsWay scopes point → AreEnds scopes ends) }
+    // Adds those of a part, and gives the kind of its value. `Memory`: want of memory.
+    pub(crate) fn absorb(&mut self, alloc: Global, part: Outcome) -> Result<Kind, Memory>
+        requires { HaveCommonScopes self.old part.ends }
+        ensures kind { IfOk result (λ kind. kind ≡ part.kind) }
+        ensures joined { OnOk result (AreJoinedEnds self.old part.ends self.new) }
+        ensures scopes { OnOk result ((scopes : List Scope) → AreEnds scopes self.old → AreEnds scopes part.ends → AreEnds scopes self.new) }
     {
-        Ok(Ends {
-            fail: joined(alloc, self.fail, point)?,
-            ret: self.ret,
-            poisoned: self.poisoned,
-        })
+        self.add(alloc, part.ends)?;
+        Ok(part.kind)
     }
 
-    // The same with one more way to return. `Memory`: want of memory.
-    pub(crate) fn or_return(self, alloc: Global, point: Option<Returned>) -> Result<Ends, Memory>
-        requires { HaveCommonScopes self (record no_ends { ret = point }) }
-        ensures joined { IfOk result (λ ends. AreJoinedReturns self.ret point ends.ret) }
-        ensures others { IfOk result (λ ends. ends ≡ record self { ret = ends.ret }) }
-        ensures scopes { IfOk result (λ ends. (scopes : List Scope) → AreEnds scopes self → IsReturnIn scopes point → AreEnds scopes ends) }
+    // Adds one more way to end with an error. `Memory`: want of memory.
+    pub(crate) fn add_fail(&mut self, alloc: Global, point: Option<Branch>) -> Result<(), Memory>
+        requires { HaveCommonScopes self.old (record no_ends { fail = point }) }
+        ensures joined { OnOk result (IsJoined (known_on self.old.fail) (known_on point) (known_on self.new.fail)) }
+        ensures others { OnOk result (self.new ≡ record self.old { fail = self.new.fail }) }
+        ensures scopes { OnOk result ((scopes : List Scope) → AreEnds scopes self.old → IsWay scopes point → AreEnds scopes self.new) }
     {
-        Ok(Ends {
-            fail: self.fail,
-            ret: joined_returns(alloc, self.ret, point)?,
-            poisoned: self.poisoned,
-        })
+        add_way(&mut self.fail, alloc, point)
     }
 
-    // The same where an error code stands too, if it does.
-    pub(crate) fn with_error(self, stands: bool) -> Ends
-        ensures { result ≡ record self { poisoned = self.poisoned || stands } }
+    // Adds one more way to return. `Memory`: want of memory.
+    pub(crate) fn add_return(
+        &mut self,
+        alloc: Global,
+        point: Option<Returned>,
+    ) -> Result<(), Memory>
+        requires { HaveCommonScopes self.old (record no_ends { ret = point }) }
+        ensures joined { OnOk result (AreJoinedReturns self.old.ret point self.new.ret) }
+        ensures others { OnOk result (self.new ≡ record self.old { ret = self.new.ret }) }
+        ensures scopes { OnOk result ((scopes : List Scope) → AreEnds scopes self.old → IsReturnIn scopes point → AreEnds scopes self.new) }
     {
-        Ends {
-            fail: self.fail,
-            ret: self.ret,
-            poisoned: either_of(self.poisoned, stands),
-        }
+        add_return(&mut self.ret, alloc, point)
+    }
+
+    // An error code stands too, if it does.
+    pub(crate) fn add_error(&mut self, stands: bool)
+        ensures { self.new ≡ record self.old { poisoned = self.old.poisoned || stands } }
+    {
+        self.poisoned = either_of(self.poisoned, stands);
     }
 
     // The innermost block ends in each of them. `Memory`: want of memory.
-    pub(crate) fn leave(self, alloc: Global) -> Result<Ends, Memory>
-        requires { (scope : Scope) × (scopes : List Scope) × AreEnds (scope ∷ scopes) self }
-        ensures { IfOk result (λ ends. (scope : Scope) (scopes : List Scope) → AreEnds (scope ∷ scopes) self → AreLeftEnds scope scopes self ends) }
+    pub(crate) fn leave(&mut self, alloc: Global) -> Result<(), Memory>
+        requires { (scope : Scope) × (scopes : List Scope) × AreEnds (scope ∷ scopes) self.old }
+        ensures { OnOk result ((scope : Scope) (scopes : List Scope) → AreEnds (scope ∷ scopes) self.old → AreLeftEnds scope scopes self.old self.new) }
     {
-        Ok(Ends {
-            fail: left(alloc, self.fail)?,
-            ret: left_return(alloc, self.ret)?,
-            poisoned: self.poisoned,
-        })
+        leave_way(&mut self.fail, alloc)?;
+        leave_return(&mut self.ret, alloc)
     }
 
     // No error is left of what is poisoned.
-    pub(crate) fn settled(self) -> Ends
-        ensures { result ≡ settled_ends self }
+    pub(crate) fn settle(&mut self)
+        ensures { self.new ≡ settled_ends self.old }
     {
-        Ends {
-            fail: kept_unless(self.poisoned, self.fail),
-            ret: self.ret,
-            poisoned: self.poisoned,
+        if self.poisoned {
+            self.fail = None;
         }
     }
 }
@@ -123,76 +121,83 @@ pub(crate) fn either_of(a: bool, b: bool) -> bool
     a || b
 }
 
-fn kept_unless(dropped: bool, branch: Option<Branch>) -> Option<Branch>
-    ensures { result ≡ is_kept_unless dropped branch }
-{
-    if dropped { None } else { branch }
-}
-
-// What is known on either way. `Memory`: want of memory.
-pub(crate) fn joined(
+// Adds what is known on another way. `Memory`: want of memory.
+pub(crate) fn add_way(
+    way: &mut Option<Branch>,
     alloc: Global,
-    first: Option<Branch>,
-    second: Option<Branch>,
-) -> Result<Option<Branch>, Memory>
-    requires { (scopes : List Scope) × IsWay scopes first × IsWay scopes second }
-    ensures joined { IfOk result (λ joined. IsJoined (known_on first) (known_on second) (known_on joined)) }
-    ensures scopes { IfOk result (λ joined. (scopes : List Scope) → IsWay scopes first → IsWay scopes second → IsWay scopes joined) }
+    other: Option<Branch>,
+) -> Result<(), Memory>
+    requires { (scopes : List Scope) × IsWay scopes way.old × IsWay scopes other }
+    ensures joined { OnOk result (IsJoined (known_on way.old) (known_on other) (known_on way.new)) }
+    ensures scopes { OnOk result ((scopes : List Scope) → IsWay scopes way.old → IsWay scopes other → IsWay scopes way.new) }
 {
-    match (first, second) {
-        (None, second) => Ok(second),
-        (Some(first), None) => Ok(Some(first)),
-        (Some(mut first), Some(second)) => {
-            first.join(alloc, &second)?;
-            Ok(Some(first))
-        }
+    match other {
+        None => Ok(()),
+        Some(other) => match way {
+            None => {
+                *way = Some(other);
+                Ok(())
+            }
+            Some(way) => way.join(alloc, &other),
+        },
     }
 }
 
-fn joined_returns(
+fn add_return(
+    ret: &mut Option<Returned>,
     alloc: Global,
-    first: Option<Returned>,
-    second: Option<Returned>,
-) -> Result<Option<Returned>, Memory>
-    requires { (scopes : List Scope) × IsReturnIn scopes first × IsReturnIn scopes second }
-    ensures joined { IfOk result (AreJoinedReturns first second) }
-    ensures scopes { IfOk result (λ joined. (scopes : List Scope) → IsReturnIn scopes first → IsReturnIn scopes second → IsReturnIn scopes joined) }
+    other: Option<Returned>,
+) -> Result<(), Memory>
+    requires { (scopes : List Scope) × IsReturnIn scopes ret.old × IsReturnIn scopes other }
+    ensures joined { OnOk result (AreJoinedReturns ret.old other ret.new) }
+    ensures scopes { OnOk result ((scopes : List Scope) → IsReturnIn scopes ret.old → IsReturnIn scopes other → IsReturnIn scopes ret.new) }
 {
-    match (first, second) {
-        (None, second) => Ok(second),
-        (Some(first), None) => Ok(Some(first)),
-        (Some(first), Some(second)) => {
-            let kind = either(alloc, &first.kind, &second.kind)?;
-            let mut state = first.state;
-            state.join(alloc, &second.state)?;
-            Ok(Some(Returned { kind, state }))
-        }
+    match other {
+        None => Ok(()),
+        Some(other) => match ret {
+            None => {
+                *ret = Some(other);
+                Ok(())
+            }
+            Some(ret) => {
+                ret.join(alloc, &other)?;
+                Ok(())
+            }
+        },
+    }
+}
+
+impl Returned {
+    // Joins another return to this one. `Memory`: want of memory.
+    fn join(&mut self, alloc: Global, other: &Returned) -> Result<(), Memory>
+        requires { HaveSameScopes self.old.state other.now.state }
+        ensures kind { OnOk result (IsEither self.old.kind other.now.kind self.new.kind) }
+        ensures known { OnOk result (IsJoined self.old.state.known other.now.state.known self.new.state.known) }
+        ensures scopes { self.new.state.scopes ≡ self.old.state.scopes }
+    {
+        widen(&mut self.kind, alloc, &other.kind)?;
+        self.state.join(alloc, &other.state)?;
+        Ok(())
     }
 }
 
 // The innermost block ends at a way. `Memory`: want of memory.
-fn left(alloc: Global, branch: Option<Branch>) -> Result<Option<Branch>, Memory>
-    requires { (scope : Scope) × (scopes : List Scope) × IsWay (scope ∷ scopes) branch }
-    ensures { IfOk result (λ left. (scope : Scope) (scopes : List Scope) → IsWay (scope ∷ scopes) branch → IsLeftWay scope scopes branch left) }
+fn leave_way(way: &mut Option<Branch>, alloc: Global) -> Result<(), Memory>
+    requires { (scope : Scope) × (scopes : List Scope) × IsWay (scope ∷ scopes) way.old }
+    ensures { OnOk result ((scope : Scope) (scopes : List Scope) → IsWay (scope ∷ scopes) way.old → IsLeftWay scope scopes way.old way.new) }
 {
-    match branch {
-        None => Ok(None),
-        Some(mut branch) => {
-            branch.leave(alloc)?;
-            Ok(Some(branch))
-        }
+    match way {
+        None => Ok(()),
+        Some(branch) => branch.leave(alloc),
     }
 }
 
-fn left_return(alloc: Global, returned: Option<Returned>) -> Result<Option<Returned>, Memory>
-    requires { (scope : Scope) × (scopes : List Scope) × IsReturnIn (scope ∷ scopes) returned }
-    ensures { IfOk result (λ left. (scope : Scope) (scopes : List Scope) → IsReturnIn (scope ∷ scopes) returned → IsLeftReturn scope scopes returned left) }
+fn leave_return(ret: &mut Option<Returned>, alloc: Global) -> Result<(), Memory>
+    requires { (scope : Scope) × (scopes : List Scope) × IsReturnIn (scope ∷ scopes) ret.old }
+    ensures { OnOk result ((scope : Scope) (scopes : List Scope) → IsReturnIn (scope ∷ scopes) ret.old → IsLeftReturn scope scopes ret.old ret.new) }
 {
-    match returned {
-        None => Ok(None),
-        Some(Returned { kind, mut state }) => {
-            state.leave(alloc)?;
-            Ok(Some(Returned { kind, state }))
-        }
+    match ret {
+        None => Ok(()),
+        Some(ret) => ret.state.leave(alloc),
     }
 }

@@ -1,4 +1,4 @@
-ghost use Rattle.std.specs.Prelude.{◌≡◌, IfOk, List};
+ghost use Rattle.std.specs.Prelude.{◌≡◌, IfOk, List, OnOk};
 ghost use Rattle.vrl_state.specs.States.{Scope};
 ghost use Rattle.vrl_syntax.specs.View.{expr_of, exprs_of};
 ghost use Rattle.vrl_check.specs.Judging.{AreEnds, AreJoinedEnds, CanBeJudged, HaveCommonScopes, IsBlockAs, IsBlockEndAs, IsInBlock, IsItemAs, IsScriptAs, IsSequenceAs, ItemsCanBeJudged};
@@ -30,10 +30,10 @@ impl Checker {
         requires { IsInBlock self.old part }
         ensures { IfOk result (λ outcome. IsBlockEndAs part self.old self.new outcome) }
     {
+        let mut part = part;
         self.state.leave(self.alloc)?;
-        let ends = part.ends.leave(self.alloc)?;
-        let kind = part.kind;
-        self.settled(Outcome { kind, ends })
+        part.ends.leave(self.alloc)?;
+        self.settled(part)
     }
 
     // Judges items in order; no item gives null. `Memory`: want of memory.
@@ -45,7 +45,7 @@ impl Checker {
         let mut last = Outcome::value(scalar(self.alloc, Tag::Null)?);
         for item in items.as_slice() {
             let part = self.expr(item)?;
-            last = last.then(self.alloc, part)?;
+            last.go_on(self.alloc, part)?;
         }
         Ok(last)
     }
@@ -58,7 +58,7 @@ impl Checker {
         let mut last = Outcome::value(scalar(self.alloc, Tag::Null)?);
         for item in items.as_slice() {
             let part = self.item(item)?;
-            last = last.then(self.alloc, part)?;
+            last.go_on(self.alloc, part)?;
         }
         self.settled(last)
     }
@@ -68,25 +68,23 @@ impl Checker {
         requires { CanBeJudged (expr_of item.now) }
         ensures { IfOk result (λ outcome. IsItemAs (expr_of item.now) self.old self.new outcome) }
     {
-        let outcome = self.expr(item)?;
-        let fallible = outcome.is_fallible();
-        let ends = self.report(outcome.ends, fallible, 100, item.span)?;
-        let kind = outcome.kind;
-        Ok(Outcome { kind, ends })
+        let part = self.expr(item)?;
+        let fallible = part.is_fallible();
+        let outcome = self.reported(part, fallible, 100, item.span)?;
+        Ok(outcome)
     }
 }
 
 impl Outcome {
-    // One part behind others: it ends with a value where the last one does, and otherwise where any of them
-    // does. `Memory`: want of memory.
-    fn then(self, alloc: Global, part: Outcome) -> Result<Outcome, Memory>
-        requires { HaveCommonScopes self.ends part.ends }
-        ensures kind { IfOk result (λ outcome. outcome.kind ≡ part.kind) }
-        ensures joined { IfOk result (λ outcome. AreJoinedEnds self.ends part.ends outcome.ends) }
-        ensures scopes { IfOk result (λ outcome. (scopes : List Scope) → AreEnds scopes self.ends → AreEnds scopes part.ends → AreEnds scopes outcome.ends) }
+    // Goes on with a part behind what was judged: the whole ends with a value where the part does, and
+    // otherwise where either of them does. `Memory`: want of memory.
+    fn go_on(&mut self, alloc: Global, part: Outcome) -> Result<(), Memory>
+        requires { HaveCommonScopes self.old.ends part.ends }
+        ensures kind { OnOk result (self.new.kind ≡ part.kind) }
+        ensures joined { OnOk result (AreJoinedEnds self.old.ends part.ends self.new.ends) }
+        ensures scopes { OnOk result ((scopes : List Scope) → AreEnds scopes self.old.ends → AreEnds scopes part.ends → AreEnds scopes self.new.ends) }
     {
-        let ends = self.ends.and(alloc, part.ends)?;
-        let kind = part.kind;
-        Ok(Outcome { kind, ends })
+        self.kind = self.ends.absorb(alloc, part)?;
+        Ok(())
     }
 }

@@ -1,4 +1,4 @@
-ghost use Rattle.std.specs.Prelude.{◌≡◌, ◌||◌, false, find, IfOk, option_copied};
+ghost use Rattle.std.specs.Prelude.{◌≡◌, ◌||◌, false, find, IfOk, OnOk, option_copied};
 ghost use Rattle.vrl_kind.specs.Kinds.{found_at, root_tags};
 ghost use Rattle.vrl_kind.specs.Tags.{same_tag};
 ghost use Rattle.vrl_place.specs.Sets.{has_other as has_another, is_alone};
@@ -21,6 +21,14 @@ pub(crate) fn either(alloc: Global, a: &Kind, b: &Kind) -> Result<Kind, Memory>
     let joined = join(alloc, a, b)?;
     kind_is_canonical(&joined);
     cut(alloc, &joined)
+}
+
+// Makes a kind the one of what is of it or of another, cut. `Memory`: want of memory.
+pub(crate) fn widen(kind: &mut Kind, alloc: Global, other: &Kind) -> Result<(), Memory>
+    ensures { OnOk result (IsEither kind.old other.now kind.new) }
+{
+    *kind = either(alloc, kind, other)?;
+    Ok(())
 }
 
 // The kind of what is read at a path of a kind, cut. `Memory`: want of memory.

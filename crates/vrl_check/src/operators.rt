@@ -69,10 +69,11 @@ impl Checker {
     fn negated(&mut self, span: Span, part: Outcome) -> Result<Outcome, Memory>
         ensures { IfOk result (λ outcome. IsNegatedAs span part self.old self.new outcome) }
     {
+        let mut part = part;
         let other = self.is_other(Tag::Bool, &part);
-        let ends = self.report(part.ends, other, 660, span)?;
-        let kind = scalar(self.alloc, Tag::Bool)?;
-        Ok(Outcome { kind, ends })
+        self.report(&mut part.ends, other, 660, span)?;
+        part.kind = scalar(self.alloc, Tag::Bool)?;
+        Ok(part)
     }
 
     // Judges both operands, the right one where the left one ends with a value.
@@ -109,13 +110,14 @@ impl Checker {
         ensures { IfOk result (λ parts. ArePairedAs left left_no_object right self.now parts) }
     {
         let right_no_object = self.is_other(Tag::Object, &right);
-        let ends = left.ends.and(self.alloc, right.ends)?;
+        let mut left = left;
+        let right_kind = left.ends.absorb(self.alloc, right)?;
         Ok(Operands {
             left: left.kind,
-            right: right.kind,
+            right: right_kind,
             left_no_object,
             right_no_object,
-            ends,
+            ends: left.ends,
         })
     }
 
@@ -134,8 +136,10 @@ impl Checker {
     fn equated(&mut self, span: Span, chained: bool, parts: Operands) -> Result<Outcome, Memory>
         ensures { IfOk result (λ outcome. IsEquatedAs span chained parts self.old self.new outcome) }
     {
-        let ends = self.report(parts.ends, chained, 650, span)?;
+        let mut parts = parts;
+        self.report(&mut parts.ends, chained, 650, span)?;
         let kind = scalar(self.alloc, Tag::Bool)?;
+        let ends = parts.ends;
         Ok(Outcome { kind, ends })
     }
 
@@ -170,12 +174,14 @@ impl Checker {
         requires { AreEnds self.old.state.scopes parts.ends }
         ensures { IfOk result (λ outcome. IsCombinedAs span table chained parts self.old self.new outcome) }
     {
-        let ends = self.report(parts.ends, chained, 650, span)?;
-        let kind = table.kind(self.alloc, &parts.left, &parts.right)?;
-        let refused = self.branch_if(table.may_refuse(&parts.left, &parts.right))?;
+        let mut parts = parts;
+        self.report(&mut parts.ends, chained, 650, span)?;
+        let refuses = table.may_refuse(&parts.left, &parts.right);
+        self.fail_if(&mut parts.ends, refuses)?;
         let takes = table.may_take(&parts.left, &parts.right);
-        self.go_on_if(either_of(ends.poisoned, takes));
-        let ends = ends.or_fail(self.alloc, refused)?;
+        self.go_on_if(either_of(parts.ends.poisoned, takes));
+        let kind = table.kind(self.alloc, &parts.left, &parts.right)?;
+        let ends = parts.ends;
         Ok(Outcome { kind, ends })
     }
 
@@ -217,9 +223,11 @@ impl Checker {
     ) -> Result<Outcome, Memory>
         ensures { IfOk result (λ outcome. IsMergedAs left_span right_span parts self.old self.new outcome) }
     {
-        let ends = self.report(parts.ends, parts.left_no_object, 652, left_span)?;
-        let ends = self.report(ends, parts.right_no_object, 652, right_span)?;
+        let mut parts = parts;
+        self.report(&mut parts.ends, parts.left_no_object, 652, left_span)?;
+        self.report(&mut parts.ends, parts.right_no_object, 652, right_span)?;
         let kind = self.merged_kind(&parts.left, &parts.right)?;
+        let ends = parts.ends;
         Ok(Outcome { kind, ends })
     }
 

@@ -1,4 +1,4 @@
-ghost use Rattle.std.specs.Prelude.{◌≡◌, is_some, IfOk};
+ghost use Rattle.std.specs.Prelude.{◌≡◌, is_some, IfOk, OnOk};
 ghost use Rattle.vrl_kind.specs.Canonical.{never_kind};
 ghost use Rattle.vrl_check.specs.Judgement.{settled_kind as kind_settled};
 ghost use Rattle.vrl_check.specs.Judging.{no_ends, settled_ends};
@@ -43,21 +43,25 @@ impl Outcome {
 
     // What is poisoned has kind any and no error is left of it; what can't end with a value has kind never.
     // `Memory`: want of memory.
-    pub(crate) fn settled(self, alloc: Global, alive: bool) -> Result<Outcome, Memory>
-        ensures kind { IfOk result (λ outcome. outcome.kind ≡ kind_settled self.ends.poisoned alive self.kind) }
-        ensures ends { IfOk result (λ outcome. outcome.ends ≡ settled_ends self.ends) }
+    pub(crate) fn settle(&mut self, alloc: Global, alive: bool) -> Result<(), Memory>
+        ensures kind { OnOk result (self.new.kind ≡ kind_settled self.old.ends.poisoned alive self.old.kind) }
+        ensures ends { OnOk result (self.new.ends ≡ settled_ends self.old.ends) }
     {
-        let kind = settled_kind(alloc, self.ends.poisoned, alive, self.kind)?;
-        let ends = self.ends.settled();
-        Ok(Outcome { kind, ends })
+        settle_kind(&mut self.kind, alloc, self.ends.poisoned, alive)?;
+        self.ends.settle();
+        Ok(())
     }
 }
 
-fn settled_kind(alloc: Global, poisoned: bool, alive: bool, kind: Kind) -> Result<Kind, Memory>
-    ensures { IfOk result (λ settled. settled ≡ kind_settled poisoned alive kind) }
+fn settle_kind(kind: &mut Kind, alloc: Global, poisoned: bool, alive: bool) -> Result<(), Memory>
+    ensures { OnOk result (kind.new ≡ kind_settled poisoned alive kind.old) }
 {
     if poisoned {
-        return Kind::any(alloc);
+        *kind = Kind::any(alloc)?;
+        return Ok(());
     }
-    if alive { Ok(kind) } else { Kind::never(alloc) }
+    if !alive {
+        *kind = Kind::never(alloc)?;
+    }
+    Ok(())
 }

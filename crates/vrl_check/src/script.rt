@@ -1,9 +1,9 @@
 ghost use Rattle.std.specs.Prelude.{◌≡◌, false, None, IfOk};
 ghost use Rattle.vrl_kind.specs.Canonical.{allows_absent};
-ghost use Rattle.vrl_state.specs.Known.{known_as};
+ghost use Rattle.vrl_state.specs.Known.{known_as, HaveRootKinds};
 ghost use Rattle.vrl_syntax.specs.Limits.{KeepsLimits};
 ghost use Rattle.vrl_syntax.specs.View.{exprs_of};
-ghost use Rattle.vrl_check.specs.Answer.{EndsOutside, IsEnding, IsJudged};
+ghost use Rattle.vrl_check.specs.Answer.{IsEnding, IsJudged};
 ghost use Rattle.vrl_check.specs.Calls.{exprs_hold_call};
 ghost use Rattle.vrl_check.specs.Judgement.{JudgesScript, Judgement};
 ghost use Rattle.vrl_check.specs.Ordered.{AreOrdered};
@@ -23,8 +23,7 @@ pub fn check(alloc: Global, script: &Script, start: &Kind) -> Result<Judged, Mem
     requires calls { exprs_hold_call (exprs_of script.now.items) ≡ false }
     requires limits { KeepsLimits (exprs_of script.now.items) }
     requires present { allows_absent start.now ≡ false }
-    ensures judged { IfOk result (λ judged. (j : Judgement) × JudgesScript start.now (exprs_of script.now.items) j × IsJudged j judged) }
-    ensures outside { IfOk result (λ judged. EndsOutside judged) }
+    ensures { IfOk result (λ judged. (j : Judgement) × JudgesScript start.now (exprs_of script.now.items) j × IsJudged j judged) }
 {
     let mut checker = Checker::start(alloc, start)?;
     let outcome = checker.script(&script.items)?;
@@ -67,27 +66,30 @@ fn split(alloc: Global, state: State) -> Result<(Branch, Branch), Memory>
 /// The kind of a script's value, from its end or from a return, and what is known there. `Memory`: want of
 /// memory.
 pub fn ending(alloc: Global, judged: &Judged) -> Result<Ending, Memory>
-    requires { EndsOutside judged.now }
+    requires { (j : Judgement) × IsJudged j judged.now }
     ensures { IfOk result (λ ending. IsEnding judged.now ending) }
 {
     let mut state = State::start(alloc, &Kind::never(alloc)?)?;
     state.kill();
     state.join(alloc, &judged.ok)?;
     match &judged.ret {
-        None => end(
-            alloc,
-            state,
-            either(alloc, &judged.kind, &Kind::never(alloc)?)?,
-        ),
+        None => {
+            let kind = either(alloc, &judged.kind, &Kind::never(alloc)?)?;
+            let ending = end(alloc, state, kind)?;
+            Ok(ending)
+        }
         Some(ret) => {
             state.join(alloc, &ret.state)?;
-            end(alloc, state, either(alloc, &judged.kind, &ret.kind)?)
+            let kind = either(alloc, &judged.kind, &ret.kind)?;
+            let ending = end(alloc, state, kind)?;
+            Ok(ending)
         }
     }
 }
 
 fn end(alloc: Global, state: State, kind: Kind) -> Result<Ending, Memory>
-    ensures { IfOk result (λ ending. ending ≡ record { kind = kind; state = known_as state.known }) }
+    ensures same { IfOk result (λ ending. ending ≡ record { kind = kind; state = known_as state.known }) }
+    ensures roots { IfOk result (λ ending. HaveRootKinds ending.state) }
 {
     let (branch, _none) = split(alloc, state)?;
     let state = branch.known(alloc)?;

@@ -1,4 +1,4 @@
-ghost use Rattle.std.specs.Prelude.{map, IfOk};
+ghost use Rattle.std.specs.Prelude.{◌≡◌, ◌++◌, ◌∷◌, [], map, IfOk, OnOk};
 ghost use Rattle.vrl_kind.specs.Canonical.{any_kind};
 ghost use Rattle.vrl_state.specs.States.{IsCutOf};
 ghost use Rattle.vrl_syntax.specs.Tree.{array as array_form, literal as literal_form, object as object_form, query as query_form, read as read_form};
@@ -37,7 +37,9 @@ impl Checker {
     pub(crate) fn settled(&self, part: Outcome) -> Result<Outcome, Memory>
         ensures { IfOk result (λ outcome. IsSettledAs part self.now outcome) }
     {
-        part.settled(self.alloc, self.is_alive())
+        let mut part = part;
+        part.settle(self.alloc, self.is_alive())?;
+        Ok(part)
     }
 
     // Judges a form where a way leads to it. `Memory`: want of memory.
@@ -83,8 +85,8 @@ impl Checker {
         let mut ends = Ends::none();
         for expr in exprs.as_slice() {
             let part = self.expr(expr)?;
-            kinds.push(part.kind)?;
-            ends = ends.and(self.alloc, part.ends)?;
+            let inner = ends.absorb(self.alloc, part)?;
+            kinds.push(inner)?;
         }
         let kind = array_kind(self.alloc, kinds)?;
         Ok(Outcome { kind, ends })
@@ -99,8 +101,8 @@ impl Checker {
         let mut ends = Ends::none();
         for (name, value) in pairs.as_slice() {
             let part = self.expr(value)?;
-            fields.push((name.copy(self.alloc)?, part.kind))?;
-            ends = ends.and(self.alloc, part.ends)?;
+            let inner = ends.absorb(self.alloc, part)?;
+            add_field(&mut fields, self.alloc, name, inner)?;
         }
         let kind = object_kind(self.alloc, fields)?;
         Ok(Outcome { kind, ends })
@@ -121,9 +123,8 @@ impl Checker {
         ensures { IfOk result (λ outcome. HasJudged self.old self.new outcome (with_codes (at 701 span) (gives any_kind self.old.state.known))) }
     {
         let part = Outcome::value(Kind::any(self.alloc)?);
-        let ends = self.report(part.ends, true, 701, span)?;
-        let kind = part.kind;
-        Ok(Outcome { kind, ends })
+        let outcome = self.reported(part, true, 701, span)?;
+        Ok(outcome)
     }
 
     #[cycle(judge)]
@@ -139,9 +140,9 @@ impl Checker {
     fn read_off(&self, part: Outcome, path: &Path) -> Result<Outcome, Memory>
         ensures { IfOk result (λ outcome. IsReadOffAs path.now part self.now outcome) }
     {
-        let kind = read_cut(self.alloc, &part.kind, path)?;
-        let ends = part.ends;
-        Ok(Outcome { kind, ends })
+        let mut part = part;
+        part.kind = read_cut(self.alloc, &part.kind, path)?;
+        Ok(part)
     }
 }
 
@@ -152,6 +153,20 @@ fn array_kind(alloc: Global, kinds: Vec<Kind>) -> Result<Kind, Memory>
     let whole = Kind::list(alloc, kinds, Rest::Nothing)?;
     kind_is_canonical(&whole);
     cut(alloc, &whole)
+}
+
+// Adds a field of this name and kind. `Memory`: want of memory.
+fn add_field(
+    fields: &mut Vec<(Chars, Kind)>,
+    alloc: Global,
+    name: &Chars,
+    kind: Kind,
+) -> Result<(), Memory>
+    ensures { OnOk result (fields.new.items ≡ fields.old.items ++ ((name.now, kind) ∷ [])) }
+{
+    let name = name.copy(alloc)?;
+    fields.push((name, kind))?;
+    Ok(())
 }
 
 // The kind of objects with these kinds at their fields, cut. `Memory`: want of memory.

@@ -193,4 +193,4 @@ sound_answer sound declared text (Err e) is = is
 sound_answer sound declared text (Ok (compiled.Refused diagnostics)) is = tt
 sound_answer sound declared text (Ok (compiled.Accepted answer)) is = λ event of_kind.
     let accepted = is.accepted in
-    told_end _ _ _ _ _ _ is.judged.kind is.judged.ok (sound declared (items_of answer.program) is.judgement accepted.can_be_judged.built accepted.judges accepted.no_error event of_kind)
+    told_end _ _ _ _ _ _ is.judged.kind (ap (λ s. s.known) is.judged.ok) (sound declared (items_of answer.program) is.judgement accepted.can_be_judged.built accepted.judges accepted.no_error event of_kind)

@@ -1,5 +1,5 @@
-use Rattle.std.proofs.Common.{◌≡◌, ◌∷◌, add-one, sym, ◌∙◌, ap, rules}
-use Rattle.vrl_compile.proofs.MalformedLiterals.{next_is, told_malformed}
+use Rattle.std.proofs.Common.{◌≡◌, ◌∷◌, add-one, sym, ◌∙◌, rules}
+use Rattle.vrl_compile.proofs.MalformedLiterals.{next_is}
 use Rattle.vrl_compile.proofs.literals.add_if_next.Goals as goal
 
 pub returns-in_ok-push-in-Some-clause-left : goal.returns-in_ok-push-in-Some-clause-left

@@ -25,6 +25,6 @@ pub returns : goal.returns
 returns c = λ text is.
     let found = c.in_ok-malformed.malformed in
     let none : length found.items ≡ 0 = sym found.ok.0 ∙ eqb-true found.len 0 (sym c.is_empty.ensures ∙ c.if-not-is_empty.false) in
-    let judged = c.in_ok-judged.ensures.judged in
+    let judged = c.in_ok-judged.ensures in
     let can = can_be_judged c.args.parsed.tokens.tokens (script_of c.args.parsed.script) found.items c.requires.limits (sym c.are_built.ensures ∙ c.if-not-are_built.false) c.in_ok-malformed.ensures none in
     c.decided.ensures c.args.declared.now text c.args.parsed.tokens.tokens judged.0 is can judged.1 judged.2

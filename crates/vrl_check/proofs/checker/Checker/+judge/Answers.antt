@@ -6,7 +6,8 @@ use Rattle.vrl_syntax.specs.View.{expr_of, form_of, arms_of, else_of, exprs_of, 
 use Rattle.vrl_syntax.specs.declared.tree.Arm.{out-Arm}
 use Rattle.vrl_syntax.specs.declared.tree.Form.{the_lemmas}
 use Rattle.vrl_check.specs.Calls.{form_holds_call}
-use Rattle.vrl_check.specs.Judging.{CanBeJudged, FormCanBeJudged, IsArmBehind, ItemsCanBeJudged, ElseCanBeJudged, IsElseAs}
+use Rattle.vrl_syntax.specs.declared.root.Op.TheVariants as ops
+use Rattle.vrl_check.specs.Judging.{CanBeJudged, FormCanBeJudged, IsArmBehind, IsGivenAs, ItemsCanBeJudged, ElseCanBeJudged, IsElseAs}
 use Rattle.vrl_check.proofs.Capable.{form_can, abort_can, array_can, assign_can, binary_can, block_can, both_can, conditional_can, group_can, merge_can, negation_can, object_can, query_can, return_can}
 use Rattle.vrl_check.proofs.Forms.{expr_passed, expr_reached, block_given, group_given, query_given, block_passed, block_reached, in_block, negation_given, here_are, operands_given, beside_given, both_common, equality_given, operands_are, table_given, merge_given, merge_into_given, merge_into_judged, place_are}
 use Rattle.vrl_check.proofs.Sizes.{expr_size, form_size, arms_size, else_size, exprs_size}
@@ -249,8 +250,8 @@ array-expr-requires t c =
     let fewer = array_fewer _ _ _ _ _ _ _ _ next l.invariant in
     (omega (arith, c.decreases, fewer), array_can_next _ _ _ _ _ _ _ _ next l.invariant)
 
-pub array-and-requires : goal.array-and-requires
-array-and-requires t c =
+pub array-absorb-requires : goal.array-absorb-requires
+array-absorb-requires t c =
     let l = c.loop-expr in
     array_common _ l.self c.expr.new.self _ _ (expr_of c.expr-item.result) _ c.in_ok-part.part _ l.invariant c.in_ok-part.ensures
 
@@ -259,7 +260,7 @@ array-loop-expr-preserved t c =
     let l = c.loop-expr in
     let all = c.as_slice-expr-items.result.now in
     let next = next_item all l.expr-index c.expr-item.result c.loop-expr-test.true c.expr-item.is in
-    array_next _ l.self c.expr.new.self _ _ (exprs_view (drop (l.expr-index + 1) all)) (expr_of c.expr-item.result) _ _ c.in_ok-part.part _ _ next c.in_ok-push.ensures.items l.invariant c.in_ok-part.ensures c.in_ok-ends.ensures.joined (c.in_ok-ends.ensures.scopes _)
+    array_next _ l.self c.expr.new.self _ _ (exprs_view (drop (l.expr-index + 1) all)) (expr_of c.expr-item.result) _ _ c.in_ok-part.part _ _ next (c.in_ok-push.ensures.items ∙ ap (λ K. l.kinds.items ++ (K ∷ [])) c.in_ok-inner.ensures.kind) l.invariant c.in_ok-part.ensures c.in_ok-inner.ensures.joined (c.in_ok-inner.ensures.scopes _)
 
 pub array-returns : goal.array-returns
 array-returns t c =
@@ -277,8 +278,8 @@ object-expr-requires t c =
     let fewer = object_fewer _ _ _ _ _ _ _ _ _ next l.invariant in
     (omega (arith, c.decreases, fewer), object_can_next _ _ _ _ _ _ _ _ _ next l.invariant)
 
-pub object-and-requires : goal.object-and-requires
-object-and-requires t c =
+pub object-absorb-requires : goal.object-absorb-requires
+object-absorb-requires t c =
     let l = c.loop-name in
     object_common _ l.self c.expr.new.self _ _ (expr_of c.loop-name-item.result.1) _ c.in_ok-part.part _ l.invariant c.in_ok-part.ensures
 
@@ -287,9 +288,8 @@ object-loop-name-preserved t c =
     let l = c.loop-name in
     let all = c.as_slice-name-items.result.now in
     let next = next_pair all l.name-index c.loop-name-item.result c.loop-name-test.true c.loop-name-item.is in
-    let named : c.push.new.self.items ≡ l.fields.items ++ ((c.in_ok-copy.field-0, c.in_ok-part.part.kind) ∷ []) = c.in_ok-push.ensures.items in
-    let more = named ∙ ap (λ n. l.fields.items ++ ((n, c.in_ok-part.part.kind) ∷ [])) c.in_ok-copy.ensures in
-    object_next _ l.self c.expr.new.self _ _ (pairs_view (drop (l.name-index + 1) all)) c.loop-name-item.result.0 (expr_of c.loop-name-item.result.1) _ _ c.in_ok-part.part _ _ next more l.invariant c.in_ok-part.ensures c.in_ok-ends.ensures.joined (c.in_ok-ends.ensures.scopes _)
+    let more = c.in_ok-add_field.ensures ∙ ap (λ K. l.fields.items ++ ((c.loop-name-item.result.0, K) ∷ [])) c.in_ok-inner.ensures.kind in
+    object_next _ l.self c.expr.new.self _ _ (pairs_view (drop (l.name-index + 1) all)) c.loop-name-item.result.0 (expr_of c.loop-name-item.result.1) _ _ c.in_ok-part.part _ _ next more l.invariant c.in_ok-part.ensures c.in_ok-inner.ensures.joined (c.in_ok-inner.ensures.scopes _)
 
 pub object-returns : goal.object-returns
 object-returns t c =
@@ -325,8 +325,8 @@ sequence-expr-requires t c =
     let fewer = sequence_fewer _ _ _ _ _ _ _ next l.invariant in
     (omega (arith, c.decreases, fewer), sequence_can_next _ _ _ _ _ _ _ next l.invariant)
 
-pub sequence-then-requires : goal.sequence-then-requires
-sequence-then-requires t c =
+pub sequence-go_on-requires : goal.sequence-go_on-requires
+sequence-go_on-requires t c =
     let l = c.loop-item in
     sequence_common _ l.self c.expr.new.self _ _ (expr_of c.item-item.result) _ c.in_ok-part.part l.invariant c.in_ok-part.ensures
 
@@ -335,7 +335,7 @@ sequence-loop-item-preserved t c =
     let l = c.loop-item in
     let all = c.as_slice-item-items.result.now in
     let next = next_item all l.item-index c.item-item.result c.loop-item-test.true c.item-item.is in
-    sequence_next _ l.self c.expr.new.self _ _ (exprs_view (drop (l.item-index + 1) all)) (expr_of c.item-item.result) _ _ c.in_ok-part.part next l.invariant c.in_ok-part.ensures c.in_ok-last.ensures.kind c.in_ok-last.ensures.joined (c.in_ok-last.ensures.scopes _)
+    sequence_next _ l.self c.expr.new.self _ _ (exprs_view (drop (l.item-index + 1) all)) (expr_of c.item-item.result) _ _ c.in_ok-part.part next l.invariant c.in_ok-part.ensures c.in_ok-go_on.ensures.kind c.in_ok-go_on.ensures.joined (c.in_ok-go_on.ensures.scopes _)
 
 pub sequence-returns : goal.sequence-returns
 sequence-returns t c =
@@ -472,8 +472,9 @@ coalescing-coalesced-requires t c =
 
 pub coalescing-returns : goal.coalescing-returns
 coalescing-returns t c =
-    coalescing_judged c.args.span (expr_of c.args.left.now) (expr_of c.args.right.now) c.args.self.now c.expr.new.self c.left_of_coalescing.new.self c.expr-2.new.self c.coalesced.new.self c.report.new.self c.in_ok-part.part c.in_ok-other.other c.in_ok-both.both c.in_ok-side.side c.in_ok-ends.ends c.is_needless-needless.result
-    c.in_ok-part.ensures c.is_needless-needless.ensures c.in_ok-side.ensures.side c.in_ok-side.ensures.part c.in_ok-other.ensures c.in_ok-both.ensures.kind c.in_ok-both.ensures.sides c.in_ok-ends.ensures
+    subst (IsGivenAs c.args.span (binary ops.Coalesce (expr_of c.args.left.now) (expr_of c.args.right.now)) c.args.self.now c.reported.new.self) (sym c.in_ok-outcome.ensures.same)
+    (coalescing_judged c.args.span (expr_of c.args.left.now) (expr_of c.args.right.now) c.args.self.now c.expr.new.self c.left_of_coalescing.new.self c.expr-2.new.self c.coalesced.new.self c.reported.new.self c.in_ok-part.part c.in_ok-other.other c.in_ok-both.both c.in_ok-side.side c.in_ok-outcome.outcome.ends c.is_needless-needless.result
+    c.in_ok-part.ensures c.is_needless-needless.ensures c.in_ok-side.ensures.side c.in_ok-side.ensures.part c.in_ok-other.ensures c.in_ok-both.ensures.kind c.in_ok-both.ensures.sides c.in_ok-outcome.ensures.reported)
 
 pub conditional-loop-arm-init : goal.conditional-loop-arm-init
 conditional-loop-arm-init t c =
@@ -490,10 +491,10 @@ pub conditional-loop-arm-preserved : goal.conditional-loop-arm-preserved
 conditional-loop-arm-preserved t c =
     let l = c.loop-arm in
     let items = c.as_slice-arm-items.result.now in
-    more_arms (arms_of c.args.arms.now) (arms_view (drop (l.arm-index + 1) items)) (else_of (option_map exprs_of c.args.otherwise.now)) (arm_of c.arm-item.result) (arms_view (drop l.arm-index items)) c.args.self.now l.self c.arm.new.self l.ways c.in_ok-all.all (next_arm items l.arm-index c.arm-item.result c.loop-arm-test.true c.arm-item.is) l.invariant c.in_ok-all.ensures
+    more_arms (arms_of c.args.arms.now) (arms_view (drop (l.arm-index + 1) items)) (else_of (option_map exprs_of c.args.otherwise.now)) (arm_of c.arm-item.result) (arms_view (drop l.arm-index items)) c.args.self.now l.self c.arm.new.self l.ways c.arm.new.ways (next_arm items l.arm-index c.arm-item.result c.loop-arm-test.true c.arm-item.is) l.invariant c.in_ok-arm.ensures
 
-pub conditional-and_last-requires : goal.conditional-and_last-requires
-conditional-and_last-requires t c =
+pub conditional-add_last-requires : goal.conditional-add_last-requires
+conditional-add_last-requires t c =
     let l = c.loop-arm in
     record {
       ways = ways_behind (else_of (option_map exprs_of c.args.otherwise.now)) c.args.self.now l.self c.otherwise.new.self l.ways l.invariant.w c.in_ok-last.last l.invariant.told c.in_ok-last.ensures;
@@ -506,10 +507,10 @@ conditional-returns t c =
     let whole = arms_of c.args.arms.now in
     let behind_all = else_of (option_map exprs_of c.args.otherwise.now) in
     let items = c.as_slice-arm-items.result.now in
-    IfOk-weaker c.and_last.result _ _
-    (λ outcome behind. conditional_judged whole behind_all c.args.self.now l.self c.otherwise.new.self c.and_last.new.self l.ways c.in_ok-last.last outcome
+    IfOk-weaker c.add_last.result _ _
+    (λ outcome behind. conditional_judged whole behind_all c.args.self.now l.self c.otherwise.new.self c.add_last.new.self l.ways c.in_ok-last.last outcome
     (subst (λ rest. AreJudged whole behind_all rest c.args.self.now l.self l.ways) (no_arm_left items l.arm-index c.loop-arm-test.false) l.invariant) c.in_ok-last.ensures behind)
-    c.and_last.ensures
+    c.add_last.ensures
 
 pub arm-expr-requires : goal.arm-expr-requires
 arm-expr-requires t c =
@@ -517,11 +518,11 @@ arm-expr-requires t c =
     let is : arm_of c.args.arm.now ≡ (expr_of a.predicate, exprs_of a.body) = search (rules, the_lemmas) in
     (omega (arith, c.decreases, ap (λ a. expr_size a.0 + exprs_size a.1) is), subst (λ t. CanBeJudged t.0) is c.requires.predicate)
 
-pub arm-and_predicate-requires : goal.arm-and_predicate-requires
-arm-and_predicate-requires t c =
+pub arm-add_predicate-requires : goal.arm-add_predicate-requires
+arm-add_predicate-requires t c =
     let a = out-Arm c.args.arm.now in
     record {
-      ways = ways_in c.args.ways c.args.self.now.state.scopes c.expr.new.self.state.scopes (sym c.in_ok-part.ensures.2.gathered.scopes) c.requires.ways;
+      ways = ways_in c.args.ways.now c.args.self.now.state.scopes c.expr.new.self.state.scopes (sym c.in_ok-part.ensures.2.gathered.scopes) c.requires.ways;
       part = expr_ends (expr_of a.predicate) c.args.self.now c.expr.new.self c.in_ok-part.part c.in_ok-part.ensures;
     }
 
@@ -531,11 +532,11 @@ arm-block-requires t c =
     let is : arm_of c.args.arm.now ≡ (expr_of a.predicate, exprs_of a.body) = search (rules, the_lemmas) in
     (omega (arith, c.decreases, ap (λ a. expr_size a.0 + exprs_size a.1) is), subst (λ t. ItemsCanBeJudged t.1) is c.requires.block)
 
-pub arm-and_block-requires : goal.arm-and_block-requires
-arm-and_block-requires t c =
+pub arm-add_block-requires : goal.arm-add_block-requires
+arm-add_block-requires t c =
     let a = out-Arm c.args.arm.now in
     record {
-      ways = middle_here (expr_of a.predicate) (exprs_of a.body) a.predicate.span c.args.self.now c.expr.new.self c.and_predicate.new.self c.block.new.self c.mark.new.self c.args.ways c.in_ok-middle.middle c.in_ok-part.part c.in_ok-block.block c.in_ok-middle.ensures c.mark.ensures.state c.in_ok-block.ensures;
+      ways = middle_here (expr_of a.predicate) (exprs_of a.body) a.predicate.span c.args.self.now c.expr.new.self c.add_predicate.new.self c.block.new.self c.mark.new.self c.args.ways.now c.add_predicate.new.ways c.in_ok-part.part c.in_ok-block.block c.in_ok-add_predicate.ensures c.mark.ensures.state c.in_ok-block.ensures;
       block = block_ends (exprs_of a.body) _ c.block.new.self c.in_ok-block.block c.in_ok-block.ensures;
     }
 
@@ -544,11 +545,11 @@ arm-returns t c =
     let a = out-Arm c.args.arm.now in
     let is : arm_of c.args.arm.now ≡ (expr_of a.predicate, exprs_of a.body) = search (rules, the_lemmas) in
     let span_is : a.predicate.span ≡ span_of (expr_of a.predicate) = search (rules, the_lemmas) in
-    IfOk-weaker c.and_block.result _ _
-    (λ all behind. subst (λ t. IsArmBehind t c.args.ways c.args.self.now c.and_block.new.self all) (sym is)
-    (arm_judged (expr_of a.predicate, exprs_of a.body) a.predicate.span c.args.self.now c.expr.new.self c.and_predicate.new.self c.block.new.self c.and_block.new.self c.mark.new.self c.in_ok-mark.mark c.args.ways c.in_ok-middle.middle all c.in_ok-part.part c.in_ok-block.block
-    c.in_ok-part.ensures span_is c.in_ok-middle.ensures c.mark.ensures.state c.in_ok-mark.ensures.mark c.in_ok-block.ensures behind))
-    c.and_block.ensures
+    IfOk-weaker c.add_block.result _ _
+    (λ _ behind. subst (λ t. IsArmBehind t c.args.ways.now c.args.self.now c.add_block.new.self c.add_block.new.ways) (sym is)
+    (arm_judged (expr_of a.predicate, exprs_of a.body) a.predicate.span c.args.self.now c.expr.new.self c.add_predicate.new.self c.block.new.self c.add_block.new.self c.mark.new.self c.in_ok-mark.mark c.args.ways.now c.add_predicate.new.ways c.add_block.new.ways c.in_ok-part.part c.in_ok-block.block
+    c.in_ok-part.ensures span_is c.in_ok-add_predicate.ensures c.mark.ensures.state c.in_ok-mark.ensures.mark c.in_ok-block.ensures behind))
+    c.add_block.ensures
 
 pub otherwise-block-requires : goal.otherwise-block-requires
 otherwise-block-requires t c =
@@ -597,9 +598,10 @@ assignment-returns t c =
     (λ outcome assigned. assignment_judged c.args.span c.args.target.now (expr_of c.args.value.now) c.args.self.now c.expr.new.self c.assigned.new.self c.in_ok-part.part outcome c.in_ok-part.ensures assigned)
     c.assigned.ensures
 
-pub merge_assignment-returns-in_ok-ends-in-Nowhere : goal.merge_assignment-returns-in_ok-ends-in-Nowhere
-merge_assignment-returns-in_ok-ends-in-Nowhere t c =
-    nowhere_judged c.args.span c.args.target.now (expr_of c.args.value.now) c.args.self.now c.expr.new.self c.report.new.self c.in_ok-part-in-Nowhere.part c.in_ok-ends-in-Nowhere.ends c.in-Nowhere.is c.in_ok-part-in-Nowhere.ensures c.in_ok-ends-in-Nowhere.ensures
+pub merge_assignment-returns-in_ok-outcome-in-Nowhere : goal.merge_assignment-returns-in_ok-outcome-in-Nowhere
+merge_assignment-returns-in_ok-outcome-in-Nowhere t c =
+    subst (IsGivenAs c.args.span (merge c.args.target.now (expr_of c.args.value.now)) c.args.self.now c.reported.new.self) (sym c.in_ok-outcome-in-Nowhere.ensures.same)
+    (nowhere_judged c.args.span c.args.target.now (expr_of c.args.value.now) c.args.self.now c.expr.new.self c.reported.new.self c.in_ok-part-in-Nowhere.part c.in_ok-outcome-in-Nowhere.outcome.ends c.in-Nowhere.is c.in_ok-part-in-Nowhere.ensures c.in_ok-outcome-in-Nowhere.ensures.reported)
 
 pub merge_assignment-assigned-requires-clause-present : goal.merge_assignment-assigned-requires-clause-present
 merge_assignment-assigned-requires-clause-present t c =

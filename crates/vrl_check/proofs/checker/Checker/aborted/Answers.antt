@@ -2,4 +2,4 @@ use Rattle.vrl_check.proofs.Between.{is_aborted}
 use Rattle.vrl_check.proofs.checker.Checker.aborted.Goals as goal
 
 pub returns : goal.returns
-returns c = is_aborted c.args.part c.args.span c.args.self.now c.report.new.self c.kill.new.self c.in_ok-ends.ends c.in_ok-kind.kind c.is_no_message-wrong.result c.is_no_message-wrong.ensures c.in_ok-ends.ensures c.kill.ensures c.in_ok-kind.ensures.tree
+returns c = is_aborted c.args.part c.args.span c.args.self.now c.report.new.self c.kill.new.self c.report.new.ends _ c.is_no_message-wrong.result c.is_no_message-wrong.ensures c.in_ok-report.ensures c.kill.ensures c.in_ok-part.ensures.tree

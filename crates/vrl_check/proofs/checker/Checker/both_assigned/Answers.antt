@@ -1,4 +1,10 @@
-use Rattle.vrl_check.proofs.Assigning.{are_assigned, empty_cut, empty_present, fail_behind, not_absent}
+use Rattle.std.proofs.Common.{subst, sym}
+use Rattle.vrl_kind.specs.Kinds.{found_at}
+use Rattle.vrl_state.specs.States.{IsCutOf}
+use Rattle.vrl_check.specs.Assigning.{AreAssigned}
+use Rattle.vrl_check.specs.Judgement.{empty_value}
+use Rattle.vrl_check.specs.Judging.{known_on, AreBothWritten, IsWay}
+use Rattle.vrl_check.proofs.Assigning.{are_assigned, empty_present, fail_behind, not_absent}
 use Rattle.vrl_check.proofs.checker.Checker.both_assigned.Goals as goal
 
 pub write_both-requires-clause-present : goal.write_both-requires-clause-present
@@ -8,11 +14,15 @@ pub write_both-requires-clause-empty : goal.write_both-requires-clause-empty
 write_both-requires-clause-empty c = empty_present _ c.in_ok-empty.empty c.in_ok-empty.ensures
 
 pub write_both-requires-clause-way : goal.write_both-requires-clause-way
-write_both-requires-clause-way c = fail_behind c.args.span c.args.ok.now c.args.err.now c.args.part c.args.self.now c.put_empty.new.self c.error_codes.new.self c.in_ok-ends.ends c.in_ok-kind.kind c.requires.ends c.put_empty.ensures.state c.in_ok-ends.ensures
+write_both-requires-clause-way c = subst (IsWay c.error_codes.new.self.state.scopes) (sym c.take-fail.ensures.value)
+    (fail_behind c.args.span c.args.ok.now c.args.err.now c.args.part c.args.self.now c.put_empty.new.self c.error_codes.new.self c.error_codes.new.ends c.in_ok-whole.whole c.requires.ends c.put_empty.ensures.state c.in_ok-error_codes.ensures)
 
 pub returns : goal.returns
 returns c =
-    are_assigned c.args.span c.args.ok.now c.args.err.now c.args.place c.args.part c.args.self.now c.put_empty.new.self c.error_codes.new.self c.write_both.new.self c.in_ok-ends.ends c.empty_tag-tag.result c.in_ok-empty.empty c.in_ok-kind.kind
+    subst (λ f. AreAssigned c.args.span c.args.ok.now c.args.err.now c.args.place c.args.part c.args.self.now c.write_both.new.self (record { kind = c.in_ok-whole.whole; ends = record c.error_codes.new.ends { fail = f } })) (sym c.take-fail.ensures.after)
+    (are_assigned c.args.span c.args.ok.now c.args.err.now c.args.place c.args.part c.args.self.now c.put_empty.new.self c.error_codes.new.self c.write_both.new.self c.error_codes.new.ends c.empty_tag-tag.result c.in_ok-empty.empty c.in_ok-whole.whole
     c.empty_tag-tag.ensures c.requires.ends c.put_empty.ensures.state c.put_empty.ensures.diagnostics c.put_empty.ensures.empties
-    (empty_cut c.empty_tag-tag.result c.args.part.kind c.in_ok-empty.empty _ c.empty_tag-tag.ensures c.in_ok-value.ensures c.in_ok-empty.ensures)
-    c.in_ok-kind.ensures c.in_ok-ends.ensures c.in_ok-write_both.ensures.written c.write_both.ensures.others
+    (subst (λ t. IsCutOf (found_at (empty_value t)) c.in_ok-empty.empty) c.empty_tag-tag.ensures c.in_ok-empty.ensures)
+    c.in_ok-whole.ensures c.in_ok-error_codes.ensures
+    (subst (λ f. AreBothWritten c.args.ok.now c.args.err.now c.args.part.kind c.in_ok-empty.empty c.error_codes.new.self.state.known (known_on f) c.write_both.new.self.state.known) c.take-fail.ensures.value c.in_ok-write_both.ensures.written)
+    c.write_both.ensures.others)

@@ -1,4 +1,4 @@
-use Rattle.std.proofs.Common.{◌≡◌, [], ◌∷◌, refl, sym, ◌∙◌}
+use Rattle.std.proofs.Common.{◌≡◌, ◌∷◌, [], ◌∙◌, refl, sym}
 use Rattle.std.proofs.lemmas.Result.{IfOk-weaker}
 use Rattle.vrl_check.proofs.Forms.{block_ended}
 use Rattle.vrl_check.proofs.checker.Checker.end_block.Goals as goal
@@ -12,5 +12,5 @@ leave-requires-2 c = (c.requires.scope, c.requires.scopes, c.requires.ends)
 pub returns : goal.returns
 returns c =
     IfOk-weaker c.settled.result _ _
-    (λ outcome settles. block_ended c.args.self.now _ c.args.part outcome c.in_ok-ends.ends c.in_ok-leave.ensures.left refl refl c.in_ok-ends.ensures settles)
+    (λ outcome settles. block_ended c.args.self.now _ c.args.part outcome c.leave-2.new.self c.in_ok-leave.ensures.left refl refl c.in_ok-leave-2.ensures settles)
     c.settled.ensures

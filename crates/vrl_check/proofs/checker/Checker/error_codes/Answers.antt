@@ -30,8 +30,8 @@ told span ok err j K before middle next after old first second new needless nowh
     (subst (λ b. IsReported (when b (at 1006 span)) next after second new) third_is three))
 
 pub returns : goal.returns
-returns c = IfOk-weaker c.report-3.result (λ all. IsReported (when c.writes_no_event-no_event.result (at 1006 c.args.span)) c.report-2.new.self c.report-3.new.self c.in_ok-ends-2.ends all) _
-    (λ all third j known has. told c.args.span c.args.ok.now c.args.err.now j c.args.kind.now c.args.self.now c.report.new.self c.report-2.new.self c.report-3.new.self c.args.ends c.in_ok-ends.ends c.in_ok-ends-2.ends all
+returns c = IfOk-weaker c.report-3.result _ _
+    (λ _ third j known has. told c.args.span c.args.ok.now c.args.err.now j c.args.kind.now c.args.self.now c.report.new.self c.report-2.new.self c.report-3.new.self c.args.ends.now c.report.new.ends c.report-2.new.ends c.report-3.new.ends
     c.is_needless-needless.result c.are_nowhere.result c.writes_no_event-no_event.result known has c.is_needless-needless.ensures c.are_nowhere.ensures c.writes_no_event-no_event.ensures
-    c.in_ok-ends.ensures c.in_ok-ends-2.ensures third)
+    c.in_ok-report.ensures c.in_ok-report-2.ensures third)
     c.report-3.ensures

@@ -1,11 +1,13 @@
-use Rattle.std.proofs.Common.{◌≡◌, rules}
+use Rattle.std.proofs.Common.{◌≡◌, rules, subst, sym}
 use Rattle.vrl_syntax.specs.View.{expr_of}
 use Rattle.vrl_syntax.specs.declared.tree.Form.{the_lemmas}
 use Rattle.vrl_check.specs.Judgement.{span_of}
+use Rattle.vrl_check.specs.Judging.{IsItemAs}
 use Rattle.vrl_check.proofs.Forms.{item_judged}
 use Rattle.vrl_check.proofs.checker.Checker.item.Goals as goal
 
 pub returns : goal.returns
 returns c =
     let span_is : c.args.item.now.span ≡ span_of (expr_of c.args.item.now) = search (rules, the_lemmas) in
-    item_judged (expr_of c.args.item.now) c.args.item.now.span c.args.self.now c.expr.new.self c.report.new.self c.in_ok-outcome.outcome c.is_fallible-fallible.result c.in_ok-ends.ends span_is c.is_fallible-fallible.ensures c.in_ok-outcome.ensures c.in_ok-ends.ensures
+    subst (IsItemAs (expr_of c.args.item.now) c.args.self.now c.reported.new.self) (sym c.in_ok-outcome.ensures.same)
+    (item_judged (expr_of c.args.item.now) c.args.item.now.span c.args.self.now c.expr.new.self c.reported.new.self c.in_ok-part.part c.is_fallible-fallible.result c.in_ok-outcome.outcome.ends span_is c.is_fallible-fallible.ensures c.in_ok-part.ensures c.in_ok-outcome.ensures.reported)

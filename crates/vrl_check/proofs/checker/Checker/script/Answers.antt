@@ -13,8 +13,8 @@ item-requires c =
     let next = next_item c.as_slice-item-items.result.now l.item-index c.item-item.result c.loop-item-test.true c.item-item.is in
     script_can_next _ _ _ _ _ _ _ next l.invariant
 
-pub then-requires : goal.then-requires
-then-requires c =
+pub go_on-requires : goal.go_on-requires
+go_on-requires c =
     let l = c.loop-item in
     script_common _ l.self c.item.new.self _ _ (expr_of c.item-item.result) _ c.in_ok-part.part l.invariant c.in_ok-part.ensures
 
@@ -23,7 +23,7 @@ loop-item-preserved c =
     let l = c.loop-item in
     let all = c.as_slice-item-items.result.now in
     let next = next_item all l.item-index c.item-item.result c.loop-item-test.true c.item-item.is in
-    script_next _ l.self c.item.new.self _ _ (exprs_view (drop (l.item-index + 1) all)) (expr_of c.item-item.result) _ _ c.in_ok-part.part next l.invariant c.in_ok-part.ensures c.in_ok-last.ensures.kind c.in_ok-last.ensures.joined (c.in_ok-last.ensures.scopes _)
+    script_next _ l.self c.item.new.self _ _ (exprs_view (drop (l.item-index + 1) all)) (expr_of c.item-item.result) _ _ c.in_ok-part.part next l.invariant c.in_ok-part.ensures c.in_ok-go_on.ensures.kind c.in_ok-go_on.ensures.joined (c.in_ok-go_on.ensures.scopes _)
 
 pub returns : goal.returns
 returns c =

@@ -1,5 +1,4 @@
-use Rattle.std.proofs.Common.{◌≡◌, unwrap_or, rules, sym, ap, ◌∙◌}
-use Rattle.vrl_value.specs.Tree.{null}
+use Rattle.std.proofs.Common.{rules}
 use Rattle.vrl_compile.proofs.Stored.{found_in}
 use Rattle.vrl_compile.proofs.execution.Store.find.Goals as goal
 
