@@ -1,0 +1,4 @@
+use Rattle.fn_number.proofs.numeral.+push_digits.Given as goal
+
+abbrev pub decreases-push_digits : goal.decreases-push_digits
+decreases-push_digits l = l.number

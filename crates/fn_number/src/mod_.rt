@@ -1,0 +1,71 @@
+ghost use Rattle.fn_number.specs.Mod.{mod_row};
+ghost use Rattle.fn_number.specs.Laws.{mod-law};
+
+use std::alloc::Global;
+use vrl_builtin::{Applied, Arguments, Builtin, Givens, Parameter, Setting, Tags, fail};
+use vrl_kind::Kind;
+use vrl_pattern::Patterns;
+use vrl_value::{Memory, Tag, Value};
+
+/// `mod(value: integer, modulus: integer)`: integer. The remainder, with the sign of the value; 0 for the least number by -1. It may fail
+/// unless the modulus is a literal other than 0: `modulus is 0`. `mod(-7, 3)` is -1.
+#[derive(Clone, Copy)]
+pub struct Mod;
+
+static PARAMETERS: [Parameter; 2] = [
+    Parameter {
+        name: "value",
+        allowed: Tags::INTEGER,
+        required: true,
+        literal: false,
+    },
+    Parameter {
+        name: "modulus",
+        allowed: Tags::INTEGER,
+        required: true,
+        literal: false,
+    },
+];
+
+impl Builtin for Mod {
+    ghost row = { λ _. mod_row };
+
+    fn name(&self) -> &'static str {
+        "mod"
+    }
+
+    fn parameters(&self) -> &'static [Parameter] {
+        &PARAMETERS
+    }
+
+    fn wrong_literal(&self, _given: &Givens) -> Option<usize> {
+        None
+    }
+
+    fn result_kind(
+        &self,
+        alloc: Global,
+        _given: &Givens,
+        _patterns: &Patterns,
+    ) -> Result<Kind, Memory> {
+        Kind::of(alloc, Tag::Int)
+    }
+
+    fn may_fail(&self, given: &Givens) -> bool {
+        match given.literal(1) {
+            Some(Value::Int(modulus)) => *modulus == 0,
+            _ => true,
+        }
+    }
+
+    fn apply(&self, alloc: Global, arguments: &Arguments, _setting: &Setting<'_>) -> Applied {
+        let modulus = arguments.integer(1, 0);
+        if modulus == 0 {
+            fail(alloc, "mod", "modulus is 0")
+        } else {
+            Applied::Value(Value::Int(arguments.integer(0, 0).wrapping_rem(modulus)))
+        }
+    }
+
+    ghost law = { λ _. mod-law };
+}

@@ -1,0 +1,13 @@
+use Rattle.std.proofs.Common.{◌≡◌, ◌+◌, length, map, ℕ, Bool}
+use Rattle.vrl_builtin.specs.Conditions.{AreArgumentsFrom}
+use Rattle.vrl_builtin.specs.View.{arguments_of, parameter_row}
+use Rattle.vrl_value.specs.Tree.{Tree}
+use Rattle.function_tests.proofs.fitting.are_arguments.Given as goal
+
+abbrev pub invariant-loop-parameter : goal.invariant-loop-parameter
+invariant-loop-parameter l =
+    ((accepts : ℕ → Tree → Bool) → AreArgumentsFrom l.place (map parameter_row l.left) accepts (arguments_of l.arguments) → AreArgumentsFrom 0 (map parameter_row l.parameters) accepts (arguments_of l.arguments))
+    × (l.place + length l.left ≡ length l.parameters)
+
+abbrev pub decreases-loop-parameter : goal.decreases-loop-parameter
+decreases-loop-parameter l = length l.left

@@ -1,0 +1,4 @@
+pub mod Cuts
+pub mod Lawful
+pub mod Places
+pub mod Signed

@@ -1,0 +1,114 @@
+-- The row of a function: what it takes, what is known of its result before it is called, and what it answers.
+use Rattle.std.specs.Prelude.{ℕ, ℤ, Bool, true, false, List, [], ◌++◌, Option, Some, None, codes, option_map, slice_get}
+use Rattle.vrl_value.specs.Tree.{Tree, string, integer, null}
+use Rattle.vrl_value.specs.declared.value.Tag.{Tag}
+use Rattle.vrl_kind.specs.Change.{Sets}
+use Rattle.vrl_kind.specs.KindTree.{KindTree}
+use Rattle.vrl_kind.specs.Kinds.{tags_at}
+use Rattle.vrl_builtin.specs.declared.tags.Tags.{Tags}
+
+-- a parameter: its name, the tags that an argument may have, whether one must be given, and whether it must be written as a literal
+pub record ParameterRow : Type 0 where
+  pub name : List ℕ
+  pub allowed : Tags
+  pub required : Bool
+  pub literal : Bool
+
+-- one whose argument must be given, and one whose argument may be left out; neither wants a literal
+abbrev pub parameter : List ℕ → Tags → ParameterRow
+parameter name T = record { name = name; allowed = T; required = true; literal = false }
+
+abbrev pub optional_parameter : List ℕ → Tags → ParameterRow
+optional_parameter name T = record { name = name; allowed = T; required = false; literal = false }
+
+-- what is known of an argument before the call: its kind, where one is given, and its value, where it is written as a literal
+pub record GivenTree : Type 0 where
+  pub kind : Option KindTree
+  pub literal : Option Tree
+
+-- what a call finds beside its arguments: the moment of the line, and the sources of the script's regexes
+pub record SettingTree : Type 0 where
+  pub moment : ℤ
+  pub sources : List (List ℕ)
+
+-- what a call answers
+pub data Answer : Type 0 where
+  value : Tree → Answer
+  -- the text of an error
+  failure : List ℕ → Answer
+
+pub record Row : Type 0 where
+  pub name : List ℕ
+  pub parameters : List ParameterRow
+  -- the literals that are allowed at a parameter which wants one, by its place
+  pub accepts : ℕ → Tree → Bool
+  -- the tags of the result at each path, by what is known of the arguments and by the sources of the script's regexes
+  pub kind : List GivenTree → List (List ℕ) → Sets
+  -- whether the call may fail though its arguments fit
+  pub may_fail : List GivenTree → Bool
+  -- what it answers to arguments that fit
+  pub means : List (Option Tree) → SettingTree → Answer
+
+-- a row without parameters that want literals
+abbrev pub any_literal : ℕ → Tree → Bool
+any_literal place v = true
+
+-- the text of a function's error
+abbrev pub error_text : List ℕ → List ℕ → List ℕ
+error_text name words = name ++ (codes ": " ++ words)
+
+abbrev pub failed : List ℕ → List ℕ → Answer
+failed name words = failure (error_text name words)
+
+abbrev pub held : {A : Type 0} → Option (Option A) → Option A
+held None = None
+held (Some a) = a
+
+-- the kind, and the literal, that is given at a place
+abbrev pub kind_at : ℕ → List GivenTree → Option KindTree
+kind_at place givens = held (option_map (λ g. g.kind) (slice_get givens place))
+
+abbrev pub literal_at : ℕ → List GivenTree → Option Tree
+literal_at place givens = held (option_map (λ g. g.literal) (slice_get givens place))
+
+abbrev pub allows_tag : Tag → Option KindTree → Bool
+allows_tag t None = false
+allows_tag t (Some K) = tags_at K [] t
+
+-- whether an argument is given at a place whose kind allows the tag
+abbrev pub allowed_at : ℕ → Tag → List GivenTree → Bool
+allowed_at place t givens = allows_tag t (kind_at place givens)
+
+-- the argument at a place
+abbrev pub argument_at : ℕ → List (Option Tree) → Option Tree
+argument_at place arguments = held (slice_get arguments place)
+
+abbrev pub integer_or : ℤ → Option Tree → ℤ
+integer_or n (Some (integer m)) = m
+integer_or n argument = n
+
+-- the whole number where one is given
+abbrev pub integer_given : Option Tree → Option ℤ
+integer_given (Some (integer m)) = Some m
+integer_given argument = None
+
+abbrev pub text_or : List ℕ → Option Tree → List ℕ
+text_or s (Some (string t)) = t
+text_or s argument = s
+
+abbrev pub value_or : Tree → Option Tree → Tree
+value_or v None = v
+value_or v (Some u) = u
+
+-- the whole number at a place, the text there, or the value, and what stands for it where none is given
+abbrev pub integer_at : ℕ → ℤ → List (Option Tree) → ℤ
+integer_at place n arguments = integer_or n (argument_at place arguments)
+
+abbrev pub optional_integer : ℕ → List (Option Tree) → Option ℤ
+optional_integer place arguments = integer_given (argument_at place arguments)
+
+abbrev pub text_at : ℕ → List ℕ → List (Option Tree) → List ℕ
+text_at place s arguments = text_or s (argument_at place arguments)
+
+abbrev pub value_at : ℕ → List (Option Tree) → Tree
+value_at place arguments = value_or null (argument_at place arguments)

@@ -1,0 +1,79 @@
+ghost use Rattle.std.specs.Prelude.{◌≡◌, map, option_map, IsSome};
+ghost use Rattle.vrl_value.specs.View.{tree_of};
+ghost use Rattle.vrl_builtin.specs.Rows.{argument_at, integer_at, optional_integer, text_at, value_at};
+ghost use Rattle.vrl_builtin.specs.View.{argument_tree, arguments_of};
+
+use vrl_value::Value;
+
+/// The arguments of a call, by the places of their parameters; `None` where no argument is given. A contract sees `arguments_of` them.
+#[derive(Drop)]
+pub struct Arguments {
+    arguments: Vec<Option<Value>>,
+}
+
+impl Arguments {
+    /// These, which it keeps.
+    pub fn new(arguments: Vec<Option<Value>>) -> Arguments
+        ensures { arguments_of result ≡ map argument_tree arguments.items }
+    {
+        Arguments { arguments }
+    }
+
+    /// The arguments, borrowed.
+    pub fn as_slice(&self) -> &[Option<Value>]
+        ensures { map argument_tree result.now ≡ arguments_of self.now }
+    {
+        &self.arguments
+    }
+
+    /// The argument at a place, borrowed. `None`: none is given.
+    pub fn get(&self, place: usize) -> Option<&Value>
+        ensures { option_map (λ value. tree_of value.now) result ≡ argument_at place (arguments_of self.now) }
+    {
+        match self.arguments.get(place) {
+            Some(argument) => argument.as_ref(),
+            None => None,
+        }
+    }
+
+    /// The whole number at a place, and the default where none is given.
+    pub fn integer(&self, place: usize, default: i64) -> i64
+        ensures { result ≡ integer_at place default (arguments_of self.now) }
+    {
+        match self.get(place) {
+            Some(Value::Int(number)) => *number,
+            _ => default,
+        }
+    }
+
+    /// The whole number at a place. `None`: none is given.
+    pub fn optional_integer(&self, place: usize) -> Option<i64>
+        ensures { result ≡ optional_integer place (arguments_of self.now) }
+    {
+        match self.get(place) {
+            Some(Value::Int(number)) => Some(*number),
+            _ => None,
+        }
+    }
+
+    /// The text at a place, and the default where none is given.
+    pub fn text<'a>(&'a self, place: usize, default: &'a str) -> &'a str
+        ensures { result.now ≡ text_at place default.now (arguments_of self.now) }
+    {
+        match self.get(place) {
+            Some(Value::Text(text)) => text.as_str(),
+            _ => default,
+        }
+    }
+
+    /// The argument at a place where one is given, borrowed.
+    pub fn value(&self, place: usize) -> &Value
+        requires { IsSome (argument_at place (arguments_of self.now)) }
+        ensures { tree_of result.now ≡ value_at place (arguments_of self.now) }
+    {
+        match self.get(place) {
+            Some(value) => value,
+            None => unreachable!(),
+        }
+    }
+}

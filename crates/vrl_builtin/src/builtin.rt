@@ -1,0 +1,62 @@
+ghost use Rattle.std.specs.Prelude.{◌≡◌, map, length, IfOk, IsTrue};
+ghost use Rattle.vrl_builtin.specs.Conditions.{arguments_below, first_wrong, literals_below, AreArguments, AreGiven};
+ghost use Rattle.vrl_builtin.specs.Law.{HasTags, KeepsLaw};
+ghost use Rattle.vrl_builtin.specs.Rows.{Row};
+ghost use Rattle.vrl_builtin.specs.View.{arguments_of, givens_of, parameter_row, setting_of, Applies};
+
+use crate::arguments::Arguments;
+use crate::failing::Applied;
+use crate::given::Givens;
+use crate::parameter::Parameter;
+use crate::setting::Setting;
+use std::alloc::Global;
+use vrl_kind::Kind;
+use vrl_pattern::Patterns;
+use vrl_value::Memory;
+
+/// A function of the language.
+pub trait Builtin {
+    /// What it takes, what is known of its result before it is called, and what it answers.
+    ghost row: { Self → Row };
+
+    /// Its name.
+    fn name(&self) -> &'static str
+        ensures { result.now ≡ (row self.now).name };
+
+    /// Its parameters, in order.
+    fn parameters(&self) -> &'static [Parameter]
+        ensures { map parameter_row result.now ≡ (row self.now).parameters };
+
+    /// The place of the first parameter that wants a literal and was given one that the function doesn't allow. `None`: there is no such
+    /// parameter.
+    fn wrong_literal(&self, given: &Givens) -> Option<usize>
+        ensures { result ≡ first_wrong (row self.now) (givens_of given.now) };
+
+    /// The kind of the result of a call with such arguments. Each required parameter has an argument, each argument for a parameter that
+    /// wants a literal is one that is allowed, and each regex among the literals is one of the patterns. `Memory`: want of memory.
+    fn result_kind(
+        &self,
+        alloc: Global,
+        given: &Givens,
+        patterns: &Patterns,
+    ) -> Result<Kind, Memory>
+        requires given { AreGiven (row self.now) (givens_of given.now) }
+        requires regexes { IsTrue (literals_below (length patterns.now) (givens_of given.now)) }
+        ensures { IfOk result (λ kind. HasTags kind ((row self.now).kind (givens_of given.now) patterns.now)) };
+
+    /// Whether a call with such arguments may fail though they are allowed. The conditions are those of `result_kind` on what is given.
+    fn may_fail(&self, given: &Givens) -> bool
+        requires { AreGiven (row self.now) (givens_of given.now) }
+        ensures { result ≡ (row self.now).may_fail (givens_of given.now) };
+
+    /// Calls the function. Each required parameter has an argument, each argument has a tag that its parameter allows and is a literal that
+    /// the function allows where one is wanted, and each regex in the arguments is one of the patterns. `Failed` comes exactly where the row
+    /// has a text. `Memory`: want of memory.
+    fn apply(&self, alloc: Global, arguments: &Arguments, setting: &Setting<'_>) -> Applied
+        requires arguments { AreArguments (row self.now) (arguments_of arguments.now) }
+        requires regexes { IsTrue (arguments_below (length setting.now.patterns.now) (arguments_of arguments.now)) }
+        ensures { Applies ((row self.now).means (arguments_of arguments.now) (setting_of setting.now)) result };
+
+    /// What a call answers is what was known of it before.
+    ghost law: { (function : Self) → KeepsLaw (row function) };
+}

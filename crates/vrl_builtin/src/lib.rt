@@ -1,0 +1,27 @@
+//! What a function of the language is: its parameters, the kind of its result, when it may fail, and what it answers.
+//!
+//! A function is a type that implements [`Builtin`]. A contract sees it as its `Row`, and the law of [`Builtin`] ties what a row says
+//! of kinds to what it says of values, so that neither the judgement nor the runner needs to know a function.
+#![tactic(auto)]
+
+mod arguments;
+mod builtin;
+mod cutting;
+mod failing;
+mod given;
+mod law;
+mod numeral;
+mod parameter;
+mod setting;
+mod tags;
+
+pub use arguments::Arguments;
+pub use builtin::Builtin;
+pub use cutting::cut_down;
+pub use failing::{Applied, fail};
+pub use given::{Given, Givens};
+pub use law::keeps_law;
+pub use numeral::read_integer;
+pub use parameter::Parameter;
+pub use setting::Setting;
+pub use tags::Tags;

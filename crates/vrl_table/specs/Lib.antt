@@ -1,0 +1,3 @@
+pub mod Binding
+pub mod Laws
+pub mod Table

@@ -1,0 +1,47 @@
+-- The functions of the language and their rows.
+use Rattle.std.specs.Prelude.{codes}
+use Rattle.vrl_value.specs.declared.value.Tag.TheVariants as tag
+use Rattle.vrl_builtin.specs.Law.{KeepsLaw}
+use Rattle.vrl_builtin.specs.Rows.{Row}
+use Rattle.fn_number.specs.Abs.{abs_row}
+use Rattle.fn_number.specs.FormatInt.{format_int_row}
+use Rattle.fn_number.specs.Mod.{mod_row}
+use Rattle.fn_number.specs.ParseInt.{parse_int_row}
+use Rattle.fn_type.specs.Is.{is_row}
+use Rattle.fn_type.specs.IsEmpty.{is_empty_row}
+use Rattle.fn_type.specs.IsNullish.{is_nullish_row}
+use Rattle.fn_type.specs.Only.{only_row}
+use Rattle.fn_type.specs.ToBool.{to_bool_row}
+use Rattle.fn_type.specs.ToInt.{to_int_row}
+use Rattle.fn_type.specs.ToString.{to_string_row}
+use Rattle.vrl_table.specs.declared.function.Fun.{Fun}
+use Rattle.vrl_table.specs.declared.function.Fun.TheVariants as fun
+
+abbrev pub row_of : Fun → Row
+row_of fun.Abs = abs_row
+row_of fun.Array = only_row (codes "array") tag.List
+row_of fun.Bool = only_row (codes "bool") tag.Bool
+row_of fun.FormatInt = format_int_row
+row_of fun.Int = only_row (codes "int") tag.Int
+row_of fun.IsArray = is_row (codes "is_array") tag.List
+row_of fun.IsBoolean = is_row (codes "is_boolean") tag.Bool
+row_of fun.IsEmpty = is_empty_row
+row_of fun.IsInteger = is_row (codes "is_integer") tag.Int
+row_of fun.IsNull = is_row (codes "is_null") tag.Null
+row_of fun.IsNullish = is_nullish_row
+row_of fun.IsObject = is_row (codes "is_object") tag.Object
+row_of fun.IsRegex = is_row (codes "is_regex") tag.Pattern
+row_of fun.IsString = is_row (codes "is_string") tag.Text
+row_of fun.IsTimestamp = is_row (codes "is_timestamp") tag.Time
+row_of fun.Mod = mod_row
+row_of fun.Object = only_row (codes "object") tag.Object
+row_of fun.ParseInt = parse_int_row
+row_of fun.StringValue = only_row (codes "string") tag.Text
+row_of fun.Timestamp = only_row (codes "timestamp") tag.Time
+row_of fun.ToBool = to_bool_row
+row_of fun.ToInt = to_int_row
+row_of fun.ToString = to_string_row
+
+-- each function keeps the law
+abbrev pub FunctionsKeepLaw : Type 0
+FunctionsKeepLaw = (function : Fun) → KeepsLaw (row_of function)

@@ -1,0 +1,11 @@
+//! The table of the language's functions: which there are, how a call's arguments are bound to a function's parameters, and the calls of
+//! [`Builtin`](vrl_builtin::Builtin) for the function of a name.
+#![tactic(auto)]
+
+mod binding;
+mod calls;
+mod function;
+
+pub use binding::{BindFault, Bound, bind};
+pub use calls::{apply, functions_keep_law, may_fail, parameters, result_kind, wrong_literal};
+pub use function::{Fun, lookup};
