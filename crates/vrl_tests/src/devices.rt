@@ -47,13 +47,24 @@ fn memory_source_gives_its_pieces(rt: HostRuntime) -> Result<(), Fail> {
     Ok(())
 }
 
+/// Asserts how a sink takes each of these in turn.
+fn expect_gives<S: Sink>(rt: &impl Abort, sink: &mut S, rows: &[(&[u8], Result<usize, Failed>)]) {
+    for (bytes, taken) in rows {
+        assert!(rt; sink.give(bytes) == *taken, "at {bytes:?}");
+    }
+}
+
+const GIVEN: [(&[u8], Result<usize, Failed>); 4] = [
+    (b"ab", Ok(2)),
+    (b"", Ok(0)),
+    (b"cd", Err(Failed)),
+    (b"ef", Ok(2)),
+];
+
 #[test]
 fn memory_sink_keeps_what_is_given(rt: HostRuntime) -> Result<(), Fail> {
     let mut sink = MemorySink::new(rt.alloc(), vec![in rt.alloc(); 1]?);
-    assert!(rt; sink.give(b"ab") == Ok(2));
-    assert!(rt; sink.give(b"") == Ok(0));
-    assert!(rt; sink.give(b"cd") == Err(Failed));
-    assert!(rt; sink.give(b"ef") == Ok(2));
+    expect_gives(&rt, &mut sink, &GIVEN);
     assert!(rt; sink.written() == b"abef".as_slice());
     Ok(())
 }
@@ -94,16 +105,33 @@ fn is_loaded<S: Store>(store: &mut S, name: &str, wanted: Option<&[u8]>) -> bool
     }
 }
 
+/// Asserts what loads of up to three bytes give in turn; `None`: it fails.
+fn expect_loads<S: Store>(rt: &impl Abort, store: &mut S, rows: &[(&str, Option<&[u8]>)]) {
+    for (name, wanted) in rows {
+        assert!(rt; is_loaded(store, name, *wanted), "at {name}");
+    }
+}
+
+/// Asserts that these names, and no others, were refused in turn.
+fn expect_failures(rt: &impl Abort, failures: &[Chars], names: &[&str]) {
+    assert!(rt; failures.len() == names.len());
+    for (failure, name) in failures.iter().zip(names) {
+        assert!(rt; failure.as_str() == *name, "at {name}");
+    }
+}
+
+const LOADS: [(&str, Option<&[u8]>); 4] = [
+    ("a", Some(b"fir")),
+    ("c", None),
+    ("a", None),
+    ("b", Some(b"x")),
+];
+
 #[test]
-fn memory_store_loads_by_name(rt: HostRuntime) -> Result<(), Fail> {
+fn memory_store_loads_by_name(rt: HostRuntime) -> Result<(), Memory> {
     let mut store = make_store(rt.alloc())?;
-    assert!(rt; is_loaded(&mut store, "a", Some(b"fir")));
-    assert!(rt; is_loaded(&mut store, "c", None));
-    assert!(rt; is_loaded(&mut store, "a", None));
-    assert!(rt; is_loaded(&mut store, "b", Some(b"x")));
-    assert_eq!(rt; store.failures().len(), 2);
-    assert_eq!(rt; store.failures()[0].as_str(), "c");
-    assert_eq!(rt; store.failures()[1].as_str(), "a");
+    expect_loads(&rt, &mut store, &LOADS);
+    expect_failures(&rt, store.failures(), &["c", "a"]);
     Ok(())
 }
 
@@ -112,16 +140,23 @@ fn next_nanos<C: Clock>(clock: &mut C) -> i128 {
     clock.moment().nanos()
 }
 
-#[test]
-fn memory_clock_tells_its_moments(rt: HostRuntime) -> Result<(), Fail> {
-    let mut moments = Vec::new(rt.alloc());
-    for nanos in [5, -7] {
-        moments.push(Moment::new(nanos).ok_or("out of range")?)?;
+/// The moments at these numbers of nanoseconds, but for those out of range.
+fn make_moments(alloc: Global, nanos: &[i128]) -> Result<Vec<Moment>, Memory> {
+    let mut moments = Vec::new(alloc);
+    for nanos in nanos {
+        if let Some(moment) = Moment::new(*nanos) {
+            moments.push(moment)?;
+        }
     }
-    let mut clock = MemoryClock::new(moments);
-    assert_eq!(rt; next_nanos(&mut clock), 5);
-    assert_eq!(rt; next_nanos(&mut clock), -7);
-    assert_eq!(rt; next_nanos(&mut clock), 0);
+    Ok(moments)
+}
+
+#[test]
+fn memory_clock_tells_its_moments(rt: HostRuntime) -> Result<(), Memory> {
+    let mut clock = MemoryClock::new(make_moments(rt.alloc(), &[5, -7])?);
+    for nanos in &[5, -7, 0] {
+        assert!(rt; next_nanos(&mut clock) == *nanos, "at {nanos}");
+    }
     Ok(())
 }
 
@@ -221,42 +256,57 @@ fn long_bytes(alloc: Global) -> Result<Vec<u8>, AllocError> {
     Ok(bytes)
 }
 
-#[test]
-fn file_store_loads_long_files(rt: HostRuntime) -> Result<(), Fail> {
-    let alloc = rt.alloc();
-    let folder = env::temp_dir(&rt)?;
+/// A path in the folder for temporary files. A name is taken as it is, with its blanks.
+fn temporary_path(rt: &HostRuntime, alloc: Global, name: &str) -> Result<String, Fail> {
+    let folder = env::temp_dir(rt)?;
     let number = process::id(rt.process());
-    // A name is taken as it is, with its blanks.
-    let path = format!(in alloc; "{}/vrl_io-long-{number} ", folder.display())?;
-    // They fill more than two pieces of a load, none of which is made of whole texts.
-    let bytes = long_bytes(alloc)?;
-    fs::write(&rt, path.as_str(), bytes.as_slice())?;
-    let mut store = FileStore::new(&rt, alloc);
-    let part = load_front(&mut store, path.as_str(), 9_000);
-    let all = load_front(&mut store, path.as_str(), 20_000);
-    fs::remove_file(&rt, path.as_str())?;
-    assert_eq!(rt; part?.as_slice(), &bytes[..bytes.len().min(9_000)]);
-    assert_eq!(rt; all?.as_slice(), bytes.as_slice());
-    Ok(())
+    Ok(format!(in alloc; "{}/{name}-{number} ", folder.display())?)
+}
+
+/// Whether these bytes, up to this many, were loaded.
+fn is_front(loaded: &Result<Bytes, LoadFault>, bytes: &[u8], limit: usize) -> bool {
+    match loaded {
+        Ok(found) => found.as_slice() == &bytes[..bytes.len().min(limit)],
+        Err(_fault) => false,
+    }
+}
+
+/// Whether a file with these bytes is loaded, up to this many.
+fn is_file_loaded(
+    rt: &HostRuntime,
+    alloc: Global,
+    path: &str,
+    bytes: &[u8],
+    limit: usize,
+) -> Result<bool, Fail> {
+    fs::write(rt, path, bytes)?;
+    let mut store = FileStore::new(rt, alloc);
+    let loaded = load_front(&mut store, path, limit);
+    fs::remove_file(rt, path)?;
+    Ok(is_front(&loaded, bytes, limit))
 }
 
 #[test]
 fn file_store_loads_files(rt: HostRuntime) -> Result<(), Fail> {
-    let alloc = rt.alloc();
-    let folder = env::temp_dir(&rt)?;
-    let number = process::id(rt.process());
-    let path = format!(in alloc; "{}/vrl_io-{number}", folder.display())?;
-    fs::write(&rt, path.as_str(), b"abcde")?;
-    let mut store = FileStore::new(&rt, alloc);
-    let loaded = load_front(&mut store, path.as_str(), 3);
-    fs::remove_file(&rt, path.as_str())?;
-    assert_eq!(rt; loaded?.as_slice(), b"abc".as_slice());
-    assert_eq!(rt;
-        load_front(&mut store, path.as_str(), 3).err(),
-        Some(LoadFault::Failed)
-    );
-    assert_eq!(rt; store.failures().len(), 1);
-    assert_eq!(rt; store.failures()[0].as_str(), path.as_str());
+    let path = temporary_path(&rt, rt.alloc(), "vrl_io")?;
+    assert!(rt; is_file_loaded(&rt, rt.alloc(), path.as_str(), b"abcde", 3)?);
+    // They fill more than two pieces of a load, none of which is made of whole texts.
+    let bytes = long_bytes(rt.alloc())?;
+    for limit in &[9_000, 20_000] {
+        assert!(rt;
+            is_file_loaded(&rt, rt.alloc(), path.as_str(), bytes.as_slice(), *limit)?,
+            "at {limit}"
+        );
+    }
+    Ok(())
+}
+
+#[test]
+fn file_store_tells_a_file_that_is_not_there(rt: HostRuntime) -> Result<(), Fail> {
+    let path = temporary_path(&rt, rt.alloc(), "vrl_io-none")?;
+    let mut store = FileStore::new(&rt, rt.alloc());
+    assert!(rt; is_loaded(&mut store, path.as_str(), None));
+    expect_failures(&rt, store.failures(), &[path.as_str()]);
     Ok(())
 }
 

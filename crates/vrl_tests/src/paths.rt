@@ -108,29 +108,66 @@ fn reads(rt: HostRuntime) -> Result<(), Memory> {
     Ok(())
 }
 
+// Whether a number is set at a place of `.a`.
+fn is_set(alloc: Global, value: &mut Value, place: u16, number: i64) -> Result<bool, Memory> {
+    let path = part(alloc, place)?;
+    Ok(set(alloc, value, &path, Value::Int(number)).is_ok())
+}
+
+// The number that is removed at a place of `.a`, if one is.
+fn removed(alloc: Global, value: &mut Value, place: u16) -> Result<Option<i64>, Memory> {
+    let path = part(alloc, place)?;
+    match remove(value, &path) {
+        Some(Value::Int(number)) => Ok(Some(number)),
+        Some(_other) => Ok(None),
+        None => Ok(None),
+    }
+}
+
+// Whether a value is `{"a":[..]}` with these numbers, null where one is below 0.
+fn has_numbers(alloc: Global, value: &Value, numbers: &[i64]) -> Result<bool, Memory> {
+    let wanted = object(alloc, array(alloc, numbers)?)?;
+    Ok(value.same(&wanted))
+}
+
 #[test]
-fn sets_and_removals(rt: HostRuntime) -> Result<(), Memory> {
+fn sets(rt: HostRuntime) -> Result<(), Memory> {
     let alloc = rt.alloc();
     let mut value = object(alloc, Value::Text(Chars::copy_of(alloc, "t")?))?;
-    let third = part(alloc, 2)?;
-    assert!(rt; set(alloc, &mut value, &third, Value::Int(1)).is_ok());
-    assert!(rt; value.same(&object(alloc, array(alloc, &[-1, -1, 1])?)?));
-
-    let mut pair = object(alloc, array(alloc, &[1, 2])?)?;
-    let removed = remove(&mut pair, &part(alloc, 0)?);
-    assert!(rt; matches!(removed, Some(Value::Int(1))));
-    assert!(rt; pair.same(&object(alloc, array(alloc, &[2])?)?));
+    assert!(rt; is_set(alloc, &mut value, 2, 1)?);
+    assert!(rt; has_numbers(alloc, &value, &[-1, -1, 1])?);
     Ok(())
+}
+
+#[test]
+fn removals(rt: HostRuntime) -> Result<(), Memory> {
+    let alloc = rt.alloc();
+    let mut value = object(alloc, array(alloc, &[1, 2])?)?;
+    assert!(rt; removed(alloc, &mut value, 0)? == Some(1));
+    assert!(rt; has_numbers(alloc, &value, &[2])?);
+    Ok(())
+}
+
+// Sets `.a` to arrays in one another, this many; `put` where it may be too deep.
+fn set_nest(alloc: Global, value: &mut Value, depth: u64) -> Result<Result<(), SetFault>, Memory> {
+    let field = field(alloc)?;
+    let inner = nest(alloc, depth)?;
+    Ok(set(alloc, value, &field, inner))
+}
+
+fn put_nest(alloc: Global, value: &mut Value, depth: u64) -> Result<bool, Memory> {
+    let field = field(alloc)?;
+    let inner = nest(alloc, depth)?;
+    Ok(put(alloc, value, &field, inner).is_ok())
 }
 
 #[test]
 fn depths(rt: HostRuntime) -> Result<(), Memory> {
     let alloc = rt.alloc();
-    let field = field(alloc)?;
     let mut value = Value::Object(Fields::new(BTreeMap::new(alloc)));
-    let outcome = set(alloc, &mut value, &field, nest(alloc, 128)?);
-    assert!(rt; outcome == Err(SetFault::TooDeep) && value.depth() == 1 && !exists(&value, &field));
-    assert!(rt; set(alloc, &mut value, &field, nest(alloc, 127)?).is_ok() && value.depth() == 128);
-    assert!(rt; put(alloc, &mut value, &field, nest(alloc, 128)?).is_ok() && value.depth() == 129);
+    assert!(rt; set_nest(alloc, &mut value, 128)? == Err(SetFault::TooDeep));
+    assert!(rt; value.depth() == 1 && !exists(&value, &field(alloc)?));
+    assert!(rt; set_nest(alloc, &mut value, 127)?.is_ok() && value.depth() == 128);
+    assert!(rt; put_nest(alloc, &mut value, 128)? && value.depth() == 129);
     Ok(())
 }

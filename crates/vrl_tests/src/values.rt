@@ -5,22 +5,41 @@ use std::collections::BTreeMap;
 use std::process::Abort;
 use vrl_value::{Bytes, Chars, Fields, Items, Memory, Moment, Names, Tag, Value};
 
+// Whether a text is what it was made of, and so is its copy.
+fn is_text_kept(alloc: Global, wanted: &str) -> Result<bool, Memory> {
+    let text = Chars::new(String::from_str(alloc, wanted)?);
+    let copy = text.copy(alloc)?;
+    Ok(copy.as_str() == wanted && text.into_string().as_str() == wanted)
+}
+
+// Whether bytes are this text; `None`: they are none.
+fn is_text_read(alloc: Global, bytes: &[u8], wanted: Option<&str>) -> Result<bool, Memory> {
+    match Chars::from_utf8(Vec::from_slice(alloc, bytes)?) {
+        Ok(text) => Ok(Some(text.as_str()) == wanted),
+        Err(_bytes) => Ok(wanted.is_none()),
+    }
+}
+
+fn are_bytes_kept(alloc: Global, wanted: &[u8]) -> Result<bool, Memory> {
+    let bytes = shareable(Bytes::new(Vec::from_slice(alloc, wanted)?));
+    let same = bytes.as_slice() == wanted;
+    Ok(same && bytes.into_vec().as_slice() == wanted)
+}
+
+fn are_names_kept(alloc: Global) -> Result<bool, Memory> {
+    let names = shareable(Names::new(vec![in alloc; Chars::copy_of(alloc, "a")?]?));
+    let same = names.as_slice().len() == 1;
+    Ok(same && names.into_vec().len() == 1)
+}
+
 #[test]
 fn lists(rt: HostRuntime) -> Result<(), Memory> {
     let alloc = rt.alloc();
-    let text = Chars::new(String::from_str(alloc, "a\u{e9}")?);
-    assert!(rt; text.copy(alloc)?.as_str() == "a\u{e9}");
-    assert!(rt; text.into_string().as_str() == "a\u{e9}");
-    let read = Chars::from_utf8(Vec::from_slice(alloc, b"a\xc3\xa9")?);
-    assert!(rt; read.is_ok_and(|text| text.as_str() == "a\u{e9}"));
-    assert!(rt; Chars::from_utf8(Vec::from_slice(alloc, b"a\xc3")?).is_err());
-
-    let bytes = shareable(Bytes::new(Vec::from_slice(alloc, b"\xff\n")?));
-    assert!(rt; bytes.as_slice() == b"\xff\n".as_slice());
-    assert!(rt; bytes.into_vec().as_slice() == b"\xff\n".as_slice());
-    let names = shareable(Names::new(vec![in alloc; Chars::copy_of(alloc, "a")?]?));
-    assert!(rt; names.as_slice().len() == 1);
-    assert!(rt; names.into_vec().len() == 1);
+    assert!(rt; is_text_kept(alloc, "a\u{e9}")?);
+    assert!(rt; is_text_read(alloc, b"a\xc3\xa9", Some("a\u{e9}"))?);
+    assert!(rt; is_text_read(alloc, b"a\xc3", None)?);
+    assert!(rt; are_bytes_kept(alloc, b"\xff\n")?);
+    assert!(rt; are_names_kept(alloc)?);
     let told = format!(in alloc; "{}", Memory)?;
     assert!(rt; told.as_str() == "out of memory");
     Ok(())
@@ -143,6 +162,21 @@ fn each_sort(alloc: Global) -> Result<Vec<Value>, Memory> {
     .map_err(Memory::from)
 }
 
+// A copy of a value is equal to that at its place alone.
+fn expect_equal_at(
+    rt: &impl Abort,
+    alloc: Global,
+    values: &[Value],
+    value: &Value,
+    place: usize,
+) -> Result<(), Memory> {
+    let copy = value.copy(alloc)?;
+    for (i, other) in values.iter().enumerate() {
+        assert!(rt; copy.same(other) == (i == place), "at {place} and {i}");
+    }
+    Ok(())
+}
+
 // The tag and the depth of each value, which is equal to its copy and to no other.
 fn expect_values(
     rt: &impl Abort,
@@ -152,10 +186,7 @@ fn expect_values(
 ) -> Result<(), Memory> {
     for (i, (value, (tag, depth))) in values.iter().zip(rows).enumerate() {
         assert!(rt; value.tag() == *tag && value.depth() == *depth, "at {i}");
-        let copy = value.copy(alloc)?;
-        for (j, other) in values.iter().enumerate() {
-            assert!(rt; copy.same(other) == (i == j), "at {i} and {j}");
-        }
+        expect_equal_at(rt, alloc, values, value, i)?;
     }
     Ok(())
 }
@@ -171,31 +202,98 @@ const SORTS: [(Tag, u64); 8] = [
     (Tag::Object, 2),
 ];
 
+// How a value of each sort stands to another one.
+fn expect_order(rt: &impl Abort, values: &[Value], other: &Value, order: &[Option<Ordering>]) {
+    for (i, (value, order)) in values.iter().zip(order).enumerate() {
+        assert!(rt; other.compare(value) == *order, "at {i}");
+    }
+}
+
+const TEXT_ORDER: [Option<Ordering>; 8] = [
+    Some(Ordering::Less),
+    None,
+    None,
+    None,
+    None,
+    None,
+    None,
+    None,
+];
+
+const NUMBER_ORDER: [Option<Ordering>; 8] = [
+    None,
+    Some(Ordering::Greater),
+    None,
+    None,
+    None,
+    None,
+    None,
+    None,
+];
+
+const TIME_ORDER: [Option<Ordering>; 8] = [
+    None,
+    None,
+    None,
+    None,
+    Some(Ordering::Greater),
+    None,
+    None,
+    None,
+];
+
 #[test]
 fn values(rt: HostRuntime) -> Result<(), Memory> {
-    let alloc = rt.alloc();
-    let values = shareable(each_sort(alloc)?);
+    let values = shareable(each_sort(rt.alloc())?);
     assert!(rt; values.len() == SORTS.len());
-    expect_values(&rt, alloc, &values, &SORTS)?;
+    expect_values(&rt, rt.alloc(), &values, &SORTS)
+}
 
-    let text = Value::Text(Chars::copy_of(alloc, "a\u{e9}")?);
-    assert!(rt; text.compare(&values[0]) == Some(Ordering::Less));
-    assert!(rt; Value::Int(3).compare(&values[1]) == Some(Ordering::Greater));
-    assert!(rt; Value::Time(Moment::last()).compare(&values[4]) == Some(Ordering::Greater));
-    assert!(rt; values[1].compare(&values[4]).is_none() && values[3].compare(&values[3]).is_none());
+#[test]
+fn orders(rt: HostRuntime) -> Result<(), Memory> {
+    let values = each_sort(rt.alloc())?;
+    let text = Chars::copy_of(rt.alloc(), "a\u{e9}")?;
+    expect_order(&rt, &values, &Value::Text(text), &TEXT_ORDER);
+    expect_order(&rt, &values, &Value::Int(3), &NUMBER_ORDER);
+    expect_order(&rt, &values, &Value::Time(Moment::last()), &TIME_ORDER);
+    expect_order(&rt, &values, &Value::Null, &[None; 8]);
     Ok(())
+}
+
+// Puts a field there.
+fn insert(fields: &mut Fields, alloc: Global, name: &str, value: Value) -> Result<(), Memory> {
+    let name = Chars::copy_of(alloc, name)?;
+    fields.insert(name, value)
+}
+
+// `{"a":true,"b":null}`, where `a` was 1 before.
+fn make_fields(alloc: Global) -> Result<Fields, Memory> {
+    let mut fields = Fields::new(BTreeMap::new(alloc));
+    insert(&mut fields, alloc, "a", Value::Int(1))?;
+    insert(&mut fields, alloc, "b", Value::Null)?;
+    insert(&mut fields, alloc, "a", Value::Bool(true))?;
+    Ok(fields)
+}
+
+const TAGS: [(&str, Option<Tag>); 3] = [
+    ("a", Some(Tag::Bool)),
+    ("b", Some(Tag::Null)),
+    ("c", None),
+];
+
+// The tag of each of these fields; `None`: there is no such field.
+fn expect_tags(rt: &impl Abort, fields: &Fields, rows: &[(&str, Option<Tag>)]) {
+    for (name, tag) in rows {
+        assert!(rt; fields.get(name).map(Value::tag) == *tag, "at {name}");
+    }
 }
 
 #[test]
 fn fields(rt: HostRuntime) -> Result<(), Memory> {
-    let mut fields = Fields::new(BTreeMap::new(rt.alloc()));
-    fields.insert(Chars::copy_of(rt.alloc(), "a")?, Value::Int(1))?;
-    fields.insert(Chars::copy_of(rt.alloc(), "b")?, Value::Null)?;
-    fields.insert(Chars::copy_of(rt.alloc(), "a")?, Value::Bool(true))?;
+    let fields = make_fields(rt.alloc())?;
     let copy = fields.copy(rt.alloc())?;
+    expect_tags(&rt, &copy, &TAGS);
     assert!(rt; copy.as_map().len() == 2);
-    assert!(rt; copy.get("a").map(Value::tag) == Some(Tag::Bool));
-    assert!(rt; copy.get("b").map(Value::tag) == Some(Tag::Null) && copy.get("c").is_none());
     assert!(rt; copy.into_map().len() == 2);
     Ok(())
 }
