@@ -10,7 +10,7 @@ use Rattle.vrl_syntax.specs.declared.root.Target.{Target}
 use Rattle.vrl_token.specs.declared.token.Token.{Token}
 use Rattle.vrl_token.specs.declared.token.Token.TheVariants as token
 use Rattle.vrl_value.specs.Tree.{Tree}
-use Rattle.vrl_parse.specs.Words.{Word, function_of, literal_of, operator_of, path_of, target_at}
+use Rattle.vrl_word.specs.Words.{Word, function_of, literal_of, operator_of, path_of, target_at}
 use Rattle.vrl_parse.specs.Grammar.{IsItem, both_targets, single as single_item, IsSingle, assigned, merged, returned, aborted, aborted_with, coalesce, IsLevel, tighter, joined, tightest as tightest_level, IsUnary, negated, primary, IsPrimary, a_literal as literal_operand, a_path as path_operand, without_suffix, with_suffix, with_closure, an_object as object_operand, a_block as block_operand, an_if as if_operand, MayHaveSuffix, a_call as call_operand, an_array as array_operand, a_group as group_operand, called, IsArg, named, unnamed, IsBlock, a_script}
 use Rattle.vrl_parse.specs.Descent.{sign_word, name_word, path_word, suffix_word, operator_word, Lacks, at_end, before, expression_end, ends_expression, Begins, Sees, a_call, a_path, a_literal, operand_of}
 

@@ -5,7 +5,7 @@ use Rattle.vrl_diag.specs.declared.diagnostic.Span.{Span}
 use Rattle.vrl_syntax.specs.Tree.{Expr, expr, Exprs, no_exprs, exprs, Pairs, Arms, Else, Args, call, Closure}
 use Rattle.vrl_token.specs.declared.token.Token.{Token}
 use Rattle.vrl_token.specs.declared.token.Token.TheVariants as token
-use Rattle.vrl_parse.specs.Words.{Word, path_of, operator_of, name_span, over}
+use Rattle.vrl_word.specs.Words.{Word, path_of, operator_of, name_span, over}
 use Rattle.vrl_parse.specs.Grammar.{Is, AreNames, one_name, more_names as more_than_one_name, IsScript, no_items, separator, last_item, more_items, IsItem, both_targets, single as single_item, IsSingle, assigned, merged, returned, aborted, aborted_with, coalesce, IsLevel, tighter, joined, tightest as tightest_level, IsUnary, negated, primary, IsPrimary, a_literal as literal_operand, a_path as path_operand, without_suffix, with_suffix, with_closure, an_object as object_operand, a_block as block_operand, an_if as if_operand, MayHaveSuffix, a_call as call_operand, an_array as array_operand, a_group as group_operand, IsCall, called, AreArgs, no_arguments, last_argument, more_arguments, IsArg, named, unnamed, IsClosure, a_closure, AreSingles, no_singles, last_single, more_singles, ArePairs, no_parts, last_pair, more_pairs, IsBlock, a_script, AreArms, last_arm, with_else, more_arms}
 use Rattle.vrl_parse.specs.Descent.{sign_word, takes, Lacks, expression_end, tightest, ends_expression, Begins, Sees, operand_of, a_block, operand_at, calling, suffixed, script, item, single, level, chain, operand, parts, pairs, arguments, argument, names, more_names, braces, arms, done, take, go, program_of, Outcome, took, Runs, ran, taken, untaken, seen, unseen, chosen, gone, RuleTakes}
 use Rattle.vrl_parse.proofs.OneOutcome.{one_outcome}

@@ -4,7 +4,7 @@ use Rattle.vrl_diag.specs.declared.diagnostic.Diagnostic.{Diagnostic}
 use Rattle.vrl_syntax.specs.Limits.{exprs_faults, KeepsLimits}
 use Rattle.vrl_syntax.specs.Tree.{Exprs, Script}
 use Rattle.vrl_token.specs.declared.token.Spanned.{Spanned}
-use Rattle.vrl_parse.specs.Words.{Word, words_from}
+use Rattle.vrl_word.specs.Words.{Word, words_from}
 use Rattle.vrl_parse.specs.Descent.{at_end, RuleTakes, script, Sees}
 use Rattle.vrl_parse.specs.Reading.{IsWrong, path_fault, Reads, sources_of}
 use Rattle.vrl_parse.proofs.Scripts.{read_whole, unread_rest}

@@ -1,5 +1,7 @@
 mod Beginnings
 mod Descended
+mod LimitCodes
+mod Numbered
 mod OneOutcome
 mod Scripts
 mod Spelled

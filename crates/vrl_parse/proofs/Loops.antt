@@ -6,7 +6,7 @@ use Rattle.vrl_syntax.specs.View.{expr_of, arg_of, arm_of, exprs_view, pairs_vie
 use Rattle.vrl_syntax.specs.declared.tree.Expr.{Expr as CodeExpr}
 use Rattle.vrl_syntax.specs.declared.tree.Arm.{Arm as CodeArm}
 use Rattle.vrl_syntax.specs.declared.tree.Arg.{Arg as CodeArg}
-use Rattle.vrl_parse.specs.Words.{Word}
+use Rattle.vrl_word.specs.Words.{Word}
 use Rattle.vrl_diag.specs.declared.diagnostic.Span.{Span}
 use Rattle.vrl_parse.specs.Descent.{Meaning, Rule, RuleRefuses, RuleTakes, Takes, gone, more_names, name_word, names, not_gone, taken}
 use Rattle.vrl_parse.proofs.Walks.{answered}

@@ -2,7 +2,7 @@
 use Rattle.std.proofs.Common.{◌≡◌, ℕ, Option, Some, List, refl, sym, ap, ◌∙◌, subst}
 use Rattle.vrl_diag.specs.declared.diagnostic.Span.{Span}
 use Rattle.vrl_syntax.specs.declared.root.Op.{Op}
-use Rattle.vrl_parse.specs.Words.{Word}
+use Rattle.vrl_word.specs.Words.{Word}
 use Rattle.vrl_parse.specs.Descent.{Piece, sign_word, target_word, name_word, key_word, function_word, path_word, literal_word, suffix_word, operator_word, Said, Says, Takes, takes, Lacks, Rule, Meaning, Program, Outcome, took, Runs, ran, refuses, taken, untaken, seen, unseen, chosen, gone, not_gone}
 
 one_operator : {a : Option (ℕ × Op)} {n : ℕ} {v u : Op} → a ≡ Some (n, v) → a ≡ Some (n, u) → v ≡ u

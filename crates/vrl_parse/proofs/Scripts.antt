@@ -3,7 +3,7 @@ use Rattle.std.proofs.Common.{◌≡◌, List, [], ◌∷◌, sym, ap, ◌∙◌
 use Rattle.std.proofs.lemmas.List.{append-nil}
 use Rattle.vrl_syntax.specs.Tree.{Exprs, Script}
 use Rattle.vrl_token.specs.declared.token.Spanned.{Spanned}
-use Rattle.vrl_parse.specs.Words.{Word, words_from}
+use Rattle.vrl_word.specs.Words.{Word, words_from}
 use Rattle.vrl_parse.specs.Grammar.{IsScript}
 use Rattle.vrl_parse.specs.Reading.{Reads, ScriptsAreDetermined, sources_of}
 use Rattle.vrl_parse.specs.Descent.{script, RuleTakes, RuleRefuses}

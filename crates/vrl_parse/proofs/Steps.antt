@@ -8,11 +8,11 @@ use Rattle.vrl_syntax.specs.declared.root.Target.{Target}
 use Rattle.vrl_token.specs.declared.token.Spanned.{Spanned}
 use Rattle.vrl_token.specs.declared.token.Token.{Token}
 use Rattle.vrl_token.specs.declared.token.Token.TheVariants as token
-use Rattle.vrl_parse.specs.declared.sign.Sign.{Sign}
-use Rattle.vrl_parse.specs.declared.sign.Sign.TheVariants as sign
+use Rattle.vrl_word.specs.declared.sign.Sign.{Sign}
+use Rattle.vrl_word.specs.declared.sign.Sign.TheVariants as sign
 use Rattle.vrl_parse.specs.Descent.{Lacks, Piece, Said, Says, Takes, takes}
-use Rattle.vrl_parse.specs.Signs.{sign_of, token_of}
-use Rattle.vrl_parse.specs.Words.{Word, function_of, operator_of, path_of, regex_of, target_at, words_from}
+use Rattle.vrl_word.specs.Signs.{sign_of, token_of}
+use Rattle.vrl_word.specs.Words.{Word, function_of, operator_of, path_of, regex_of, target_at, words_from}
 
 -- the word of a token that has so many regex literals before it
 abbrev pub word_of : Spanned → ℕ → Word

@@ -6,7 +6,7 @@ use Rattle.vrl_diag.specs.declared.diagnostic.Diagnostic.{Diagnostic}
 use Rattle.vrl_diag.specs.declared.diagnostic.Span.{Span}
 use Rattle.vrl_token.specs.declared.fault.SyntaxFault.{SyntaxFault}
 use Rattle.vrl_token.specs.declared.fault.SyntaxFault.TheVariants.{Fault, Memory}
-use Rattle.vrl_parse.specs.Words.{Word}
+use Rattle.vrl_word.specs.Words.{Word}
 use Rattle.vrl_syntax.specs.Tree.{Expr}
 use Rattle.vrl_parse.specs.Descent.{chain, level, operand, program_of, suffixed, Look, Meaning, Outcome, Piece, Program, Rule, Runs, Said, done, look, ran, refuse, refused, refuses, seen, take, took, unseen, untaken}
 use Rattle.vrl_parse.specs.FirstWords.{Missing, Tells, Without}

@@ -9,8 +9,8 @@ use Rattle.vrl_syntax.specs.declared.root.Target.{Target}
 use Rattle.vrl_token.specs.declared.token.Token.{Token}
 use Rattle.vrl_token.specs.declared.token.Token.TheVariants as token
 use Rattle.vrl_value.specs.Tree.{Tree}
-use Rattle.vrl_parse.specs.Grammar.{Is, span_of}
-use Rattle.vrl_parse.specs.Words.{Word, over, literal_of, path_of, target_of, function_of, name_span, operator_of, levels}
+use Rattle.vrl_parse.specs.Grammar.{Is}
+use Rattle.vrl_word.specs.Words.{Word, over, literal_of, path_of, target_of, function_of, name_span, operator_of, levels, span_of}
 
 -- ---- single words
 

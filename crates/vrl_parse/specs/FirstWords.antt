@@ -5,7 +5,7 @@ use Rattle.vrl_parse.specs.declared.parser.Operand.{Operand as CodeOperand}
 use Rattle.vrl_parse.specs.declared.parser.Operand.TheVariants as code
 use Rattle.vrl_parse.specs.declared.parser.Parser.{Parser}
 use Rattle.vrl_parse.specs.Descent.{a_block, a_call, a_group, a_literal, a_negation, a_path, an_array, an_if, an_object, Lacks, Look, Meaning, Operand, Piece, Program, Rule, Runs, Sees, refused}
-use Rattle.vrl_parse.specs.Words.{Word, words_from}
+use Rattle.vrl_word.specs.Words.{Word, words_from}
 
 -- the words that a parser has before it
 abbrev pub words_left : Parser → List Word

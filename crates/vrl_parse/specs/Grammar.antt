@@ -10,14 +10,11 @@ use Rattle.vrl_syntax.specs.declared.root.Target.{Target}
 use Rattle.vrl_token.specs.declared.token.Token.{Token}
 use Rattle.vrl_token.specs.declared.token.Token.TheVariants as token
 use Rattle.vrl_value.specs.Tree.{Tree}
-use Rattle.vrl_parse.specs.Words.{Word, over, literal_of, path_of, target_of, function_of, name_span, operator_of, levels}
+use Rattle.vrl_word.specs.Words.{Word, over, span_of, literal_of, path_of, target_of, function_of, name_span, operator_of, levels}
 
 -- the word is this sign
 pub record Is (t : Token) (w : Word) : Type 0 where
   pub is : w.token ≡ t
-
-abbrev pub span_of : Expr → Span
-span_of (expr span f) = span
 
 -- name {"," name}
 pub data AreNames : List Word → List (List ℕ) → Type 0 where

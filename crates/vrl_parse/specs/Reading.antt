@@ -5,7 +5,7 @@ use Rattle.vrl_syntax.specs.Limits.{exprs_faults}
 use Rattle.vrl_syntax.specs.Tree.{Script}
 use Rattle.vrl_token.specs.declared.token.Spanned.{Spanned}
 use Rattle.vrl_parse.specs.Grammar.{IsScript}
-use Rattle.vrl_parse.specs.Words.{regex_of, words_from}
+use Rattle.vrl_word.specs.Words.{regex_of, words_from}
 
 -- the sources of the regex literals, in order
 abbrev pub sources_of : List Spanned → List (List ℕ)
@@ -21,6 +21,10 @@ pub record Reads (ts : List Spanned) (s : Script) : Type 0 where
 pub data IsWrong (ts : List Spanned) (d : Diagnostic) : Type 0 where
   no_script : d.code ≡ 203 → ((s : Script) → ¬ Reads ts s) → IsWrong ts d
   path_fault : {s : Script} {ds : List Diagnostic} → Reads ts s → exprs_faults s.items ≡ d ∷ ds → IsWrong ts d
+
+-- the codes of what can be wrong with tokens
+abbrev pub parse_codes : List ℕ
+parse_codes = 203 ∷ 1007 ∷ 1012 ∷ []
 
 -- tokens have at most one script
 abbrev pub ScriptsAreDetermined : Type 0

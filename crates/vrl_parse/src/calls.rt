@@ -4,13 +4,12 @@ ghost use Rattle.vrl_parse.specs.Descent.{a_call, argument, arguments, calling, 
 ghost use Rattle.vrl_parse.specs.FirstWords.{Refused, words_left};
 ghost use Rattle.vrl_token.specs.OnFault.{OnFault};
 
-use crate::forms;
 use crate::parser::Parser;
-use crate::sign::Sign;
 use vrl_diag::Span;
 use vrl_syntax::{Arg, Args, Expr};
 use vrl_token::SyntaxFault;
 use vrl_value::Chars;
+use vrl_word::{Sign, forms};
 
 impl<'a> Parser<'a> {
     // Takes a call, with its closure or its suffix.

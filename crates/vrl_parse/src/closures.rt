@@ -5,12 +5,11 @@ ghost use Rattle.vrl_parse.specs.FirstWords.{Refused, words_left};
 ghost use Rattle.vrl_token.specs.OnFault.{OnFault};
 
 use crate::parser::Parser;
-use crate::sign::Sign;
-use crate::word::over;
 use vrl_diag::Span;
 use vrl_syntax::Exprs;
 use vrl_token::SyntaxFault;
 use vrl_value::{Chars, Names};
+use vrl_word::{Sign, over};
 
 impl<'a> Parser<'a> {
     // Takes a closure: its names, the items of its block, and the block's place.

@@ -4,12 +4,11 @@ ghost use Rattle.vrl_parse.specs.Descent.{an_if, arms as arms_rule, operand as o
 ghost use Rattle.vrl_parse.specs.FirstWords.{Refused, words_left};
 ghost use Rattle.vrl_token.specs.OnFault.{OnFault};
 
-use crate::forms;
 use crate::parser::Parser;
-use crate::sign::Sign;
 use vrl_diag::Span;
 use vrl_syntax::{Arms, Expr, Exprs};
 use vrl_token::SyntaxFault;
+use vrl_word::{Sign, forms};
 
 impl<'a> Parser<'a> {
     // Takes an `if`, with all its blocks.

@@ -4,12 +4,11 @@ ghost use Rattle.vrl_parse.specs.Descent.{aborting, assignment as assigning, ite
 ghost use Rattle.vrl_parse.specs.FirstWords.{Refused, words_left};
 ghost use Rattle.vrl_token.specs.OnFault.{OnFault};
 
-use crate::forms;
 use crate::parser::Parser;
-use crate::sign::Sign;
 use vrl_diag::Span;
 use vrl_syntax::{Expr, Exprs};
 use vrl_token::SyntaxFault;
+use vrl_word::{Sign, forms};
 
 impl<'a> Parser<'a> {
     // Takes items, and the separators before, between and behind them.

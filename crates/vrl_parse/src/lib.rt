@@ -4,7 +4,6 @@
 mod calls;
 mod closures;
 mod conditionals;
-mod forms;
 mod items;
 mod laws;
 mod operands;
@@ -12,9 +11,7 @@ mod operators;
 mod parser;
 mod parts;
 mod reading;
-mod sign;
 mod single;
-mod word;
 
 pub use laws::scripts_are_determined;
 pub use reading::parse;

@@ -4,13 +4,11 @@ ghost use Rattle.vrl_parse.specs.Descent.{a_block, a_group, a_literal, a_negatio
 ghost use Rattle.vrl_parse.specs.FirstWords.{Refused, words_left};
 ghost use Rattle.vrl_token.specs.OnFault.{OnFault};
 
-use crate::forms;
 use crate::parser::{Operand, Parser};
-use crate::sign::Sign;
-use crate::word::copy_path;
 use vrl_syntax::Expr;
 use vrl_token::SyntaxFault;
 use vrl_value::Memory;
+use vrl_word::{Sign, copy_path, forms};
 
 impl<'a> Parser<'a> {
     // Takes an operand.

@@ -4,10 +4,10 @@ ghost use Rattle.vrl_parse.specs.Descent.{level as level_rule, program_of, Runs,
 ghost use Rattle.vrl_parse.specs.FirstWords.{Refused, words_left};
 ghost use Rattle.vrl_token.specs.OnFault.{OnFault};
 
-use crate::forms;
 use crate::parser::Parser;
 use vrl_syntax::Expr;
 use vrl_token::SyntaxFault;
+use vrl_word::forms;
 
 // How many levels the operators have.
 const LEVELS: usize = 8;

@@ -2,14 +2,13 @@ ghost use Rattle.std.specs.Prelude.{◌≡◌, ◌↔◌, ℕ, IsTrue};
 ghost use Rattle.vrl_parse.specs.Descent.{at_end, before, Begins, expression_end, name_word, next, operand_at, path_word};
 ghost use Rattle.vrl_parse.specs.FirstWords.{Tells, told_operand, words_left};
 ghost use Rattle.vrl_token.specs.OnFault.{OnFault};
-ghost use Rattle.vrl_parse.specs.Signs.{token_of};
-ghost use Rattle.vrl_parse.specs.Words.{words_from};
+ghost use Rattle.vrl_word.specs.Signs.{token_of};
+ghost use Rattle.vrl_word.specs.Words.{words_from};
 
-use crate::sign::{Sign, is_sign};
-use crate::word::is_path;
 use std::alloc::Global;
 use vrl_diag::{Diagnostic, Span, code};
 use vrl_token::{Spanned, SyntaxFault, Token};
+use vrl_word::{Sign, is_path, is_sign};
 
 // The tokens that are left, and how many regex literals were taken.
 #[derive(Drop)]

@@ -5,9 +5,9 @@ ghost use Rattle.vrl_parse.specs.FirstWords.{Refused, words_left};
 ghost use Rattle.vrl_token.specs.OnFault.{OnFault};
 
 use crate::parser::Parser;
-use crate::sign::Sign;
 use vrl_syntax::{Exprs, Pairs};
 use vrl_token::SyntaxFault;
+use vrl_word::Sign;
 
 impl<'a> Parser<'a> {
     // Takes the parts of an array, up to its closing bracket.

@@ -1,10 +1,12 @@
 ghost use Rattle.std.specs.Prelude.{◌≡◌, ◌++◌, ◌∷◌, IfErr, IfOk, List, MatchOption, OnOk};
 ghost use Rattle.vrl_diag.specs.declared.diagnostic.Diagnostic.{Diagnostic as SpecDiagnostic};
+ghost use Rattle.std.specs.List.{Contains};
 ghost use Rattle.vrl_syntax.specs.Limits.{exprs_faults, KeepsLimits};
+ghost use Rattle.vrl_syntax.specs.Regexes.{IsNumbered};
 ghost use Rattle.vrl_syntax.specs.View.{exprs_of, script_of};
 ghost use Rattle.vrl_token.specs.OnFault.{OnFault};
-ghost use Rattle.vrl_parse.specs.Reading.{IsWrong, Reads, sources_of};
-ghost use Rattle.vrl_parse.specs.Words.{regex_of};
+ghost use Rattle.vrl_parse.specs.Reading.{parse_codes, IsWrong, Reads, sources_of};
+ghost use Rattle.vrl_word.specs.Words.{regex_of};
 
 use crate::parser::Parser;
 use std::alloc::Global;
@@ -23,7 +25,9 @@ use vrl_value::{Chars, Memory, Names};
 pub fn parse(alloc: Global, tokens: &Tokens) -> Result<Script, SyntaxFault>
     ensures script { IfOk result (λ script. Reads tokens.now.tokens (script_of script)) }
     ensures limits { IfOk result (λ script. KeepsLimits (exprs_of script.items)) }
+    ensures regexes { IfOk result (λ script. IsNumbered (script_of script)) }
     ensures fault { IfErr result (OnFault (IsWrong tokens.now.tokens)) }
+    ensures codes { IfErr result (OnFault (λ fault. Contains parse_codes fault.code)) }
 {
     let words = tokens.as_slice();
     let mut parser = Parser::new(alloc, words, tokens.end());

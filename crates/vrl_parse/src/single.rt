@@ -3,17 +3,16 @@ ghost use Rattle.vrl_value.specs.View.{tree_of};
 ghost use Rattle.vrl_parse.specs.Descent.{function_word, key_word, literal_word, name_word, operator_word, path_word, sign_word, suffix_word, Takes, target_word};
 ghost use Rattle.vrl_parse.specs.FirstWords.{Missing, Without, words_left};
 ghost use Rattle.vrl_token.specs.OnFault.{OnFault};
-ghost use Rattle.vrl_parse.specs.Signs.{token_of};
-ghost use Rattle.vrl_parse.specs.Words.{regex_of};
+ghost use Rattle.vrl_word.specs.Signs.{token_of};
+ghost use Rattle.vrl_word.specs.Words.{regex_of};
 
 use crate::parser::Parser;
-use crate::sign::{Sign, is_sign};
-use crate::word::{function_of, literal_of, operator_of, path_of, target_of};
 use vrl_diag::Span;
 use vrl_path::Path;
 use vrl_syntax::{Op, Root, Target};
 use vrl_token::{SyntaxFault, Token};
 use vrl_value::{Chars, Memory, Value};
+use vrl_word::{Sign, function_of, is_sign, literal_of, operator_of, path_of, target_of};
 
 impl<'a> Parser<'a> {
     // Takes the next token where it is this sign, and tells its place.

@@ -1,4 +1,5 @@
 pub mod Limits
+pub mod Regexes
 pub mod Spans
 pub mod Tree
 pub mod View

@@ -7,12 +7,14 @@
 
 mod limits;
 mod lists;
+mod regexes;
 mod root;
 mod tree;
 mod written;
 
 pub use limits::limit_faults;
 pub use lists::{Empties, Roots};
+pub use regexes::regexes_below;
 pub use root::{Op, Root, Target};
 pub use tree::{Arg, Args, Arm, Arms, Call, Closure, Expr, Exprs, Form, Pairs, Script};
 pub use written::written_roots;

@@ -1,5 +1,5 @@
 use Rattle.std.proofs.Common.{◌≡◌, Some, sym, ◌∙◌}
-use Rattle.vrl_parse.specs.Words.{function_of}
+use Rattle.vrl_word.specs.Words.{function_of}
 use Rattle.vrl_parse.specs.Descent.{function_word}
 use Rattle.vrl_parse.proofs.Steps.{regex_of-function, takes_first}
 use Rattle.vrl_parse.proofs.parser.Parser.function.Goals as goal

@@ -1,6 +1,6 @@
 use Rattle.std.proofs.Common.{◌≡◌, ap, sym, ◌∙◌}
 use Rattle.vrl_token.specs.declared.token.Token.TheVariants as token
-use Rattle.vrl_parse.specs.Words.{regex_of}
+use Rattle.vrl_word.specs.Words.{regex_of}
 use Rattle.vrl_parse.specs.Descent.{name_word}
 use Rattle.vrl_parse.proofs.Steps.{takes_first}
 use Rattle.vrl_parse.proofs.parser.Parser.name.Goals as goal

@@ -1,5 +1,5 @@
 use Rattle.std.proofs.Common.{◌≡◌, Some}
-use Rattle.vrl_parse.specs.Words.{operator_of}
+use Rattle.vrl_word.specs.Words.{operator_of}
 use Rattle.vrl_parse.specs.Descent.{operator_word}
 use Rattle.vrl_parse.proofs.Steps.{regex_of-operator, takes_first}
 use Rattle.vrl_parse.proofs.parser.Parser.operator.Goals as goal

@@ -1,5 +1,5 @@
 use Rattle.std.proofs.Common.{◌≡◌, Some, sym, ◌∙◌}
-use Rattle.vrl_parse.specs.Words.{path_of}
+use Rattle.vrl_word.specs.Words.{path_of}
 use Rattle.vrl_parse.specs.Descent.{path_word}
 use Rattle.vrl_parse.proofs.Steps.{regex_of-path, takes_first}
 use Rattle.vrl_parse.proofs.parser.Parser.path.Goals as goal

@@ -1,5 +1,5 @@
 use Rattle.std.proofs.Common.{ap}
-use Rattle.vrl_parse.specs.Words.{regex_of}
+use Rattle.vrl_word.specs.Words.{regex_of}
 use Rattle.vrl_parse.specs.Descent.{suffix_word}
 use Rattle.vrl_parse.proofs.Steps.{takes_first}
 use Rattle.vrl_parse.proofs.parser.Parser.suffix.Goals as goal

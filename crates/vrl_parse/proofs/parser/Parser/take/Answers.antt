@@ -1,6 +1,6 @@
 use Rattle.std.proofs.Common.{◌≡◌, ap, ◌∙◌, rules}
-use Rattle.vrl_parse.specs.Signs.{token_of}
-use Rattle.vrl_parse.specs.Words.{regex_of}
+use Rattle.vrl_word.specs.Signs.{token_of}
+use Rattle.vrl_word.specs.Words.{regex_of}
 use Rattle.vrl_parse.specs.Descent.{sign_word}
 use Rattle.vrl_parse.proofs.Steps.{regex_of-sign, takes_first}
 use Rattle.vrl_parse.proofs.parser.Parser.take.Goals as goal

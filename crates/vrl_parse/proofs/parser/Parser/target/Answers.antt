@@ -1,5 +1,5 @@
 use Rattle.std.proofs.Common.{◌≡◌, Some, sym, ◌∙◌}
-use Rattle.vrl_parse.specs.Words.{target_at}
+use Rattle.vrl_word.specs.Words.{target_at}
 use Rattle.vrl_parse.specs.Descent.{target_word}
 use Rattle.vrl_parse.proofs.Steps.{regex_of-target, takes_first}
 use Rattle.vrl_parse.proofs.parser.Parser.target.Goals as goal

@@ -1,11 +1,11 @@
 ghost use Rattle.std.specs.Prelude.{◌≡◌, ◌↔◌, IsTrue};
-ghost use Rattle.vrl_parse.specs.Signs.{sign_of as sign_of_token, token_of};
+ghost use Rattle.vrl_word.specs.Signs.{sign_of as sign_of_token, token_of};
 
 use vrl_token::Token;
 
 /// A token that says nothing but which one it is, and that is no operator between two sides.
 #[derive(Clone, Copy, Debug, PartialEq, Eq)]
-pub(crate) enum Sign {
+pub enum Sign {
     /// `if`
     If,
     /// `else`
@@ -77,8 +77,8 @@ fn sign_of(token: &Token) -> Option<Sign>
     }
 }
 
-// Whether a token is this sign.
-pub(crate) fn is_sign(token: &Token, sign: Sign) -> bool
+/// Whether a token is this sign.
+pub fn is_sign(token: &Token, sign: Sign) -> bool
     ensures { IsTrue result ↔ (token.now ≡ token_of sign) }
 {
     match sign_of(token) {

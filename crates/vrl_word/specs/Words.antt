@@ -3,6 +3,7 @@ use Rattle.std.specs.Prelude.{ℕ, ◌+◌, ◌-◌, Bool, true, false, List, []
 use Rattle.vrl_value.specs.Tree.{Tree, string, integer, boolean, null, timestamp, regex}
 use Rattle.vrl_path.specs.declared.path.Step.{Step}
 use Rattle.vrl_diag.specs.declared.diagnostic.Span.{Span}
+use Rattle.vrl_syntax.specs.Tree.{Expr, expr}
 use Rattle.vrl_syntax.specs.declared.root.Op.{Op}
 use Rattle.vrl_syntax.specs.declared.root.Op.TheVariants as op
 use Rattle.vrl_syntax.specs.declared.root.Root.{Root}
@@ -12,6 +13,10 @@ use Rattle.vrl_syntax.specs.declared.root.Target.TheVariants as target
 use Rattle.vrl_token.specs.declared.token.Spanned.{Spanned}
 use Rattle.vrl_token.specs.declared.token.Token.{Token}
 use Rattle.vrl_token.specs.declared.token.Token.TheVariants as token
+
+-- where an expression stands
+abbrev pub span_of : Expr → Span
+span_of (expr span f) = span
 
 -- from the first place to the end of the last one
 abbrev pub over : Span → Span → Span

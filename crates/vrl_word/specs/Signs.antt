@@ -2,8 +2,8 @@
 use Rattle.std.specs.Prelude.{Option, Some, None}
 use Rattle.vrl_token.specs.declared.token.Token.{Token}
 use Rattle.vrl_token.specs.declared.token.Token.TheVariants as token
-use Rattle.vrl_parse.specs.declared.sign.Sign.{Sign}
-use Rattle.vrl_parse.specs.declared.sign.Sign.TheVariants as sign
+use Rattle.vrl_word.specs.declared.sign.Sign.{Sign}
+use Rattle.vrl_word.specs.declared.sign.Sign.TheVariants as sign
 
 -- the token that a sign is
 abbrev pub token_of : Sign → Token

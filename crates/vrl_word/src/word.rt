@@ -1,6 +1,6 @@
 ghost use Rattle.std.specs.Prelude.{◌≡◌, ◌↔◌, IfOk, IsSome, IsTrue, option_map};
 ghost use Rattle.vrl_value.specs.View.{tree_of};
-ghost use Rattle.vrl_parse.specs.Words.{literal_at, function_of as function_in, name_span as name_place, operator_of as operator_in, over as place_over, path_of as path_in, target_at};
+ghost use Rattle.vrl_word.specs.Words.{literal_at, function_of as function_in, name_span as name_place, operator_of as operator_in, over as place_over, path_of as path_in, target_at};
 
 use std::alloc::Global;
 use vrl_diag::Span;
@@ -9,8 +9,8 @@ use vrl_syntax::{Op, Root, Target};
 use vrl_token::{Spanned, Token};
 use vrl_value::{Chars, Memory, Value};
 
-// From the start of the first place to the end of the last one.
-pub(crate) fn over(first: Span, last: Span) -> Span
+/// From the start of the first place to the end of the last one.
+pub fn over(first: Span, last: Span) -> Span
     ensures { result ≡ place_over first last }
 {
     Span {
@@ -19,8 +19,8 @@ pub(crate) fn over(first: Span, last: Span) -> Span
     }
 }
 
-// Whether a token is a path or a name.
-pub(crate) fn is_path(token: &Token) -> bool
+/// Whether a token is a path or a name.
+pub fn is_path(token: &Token) -> bool
     ensures { IsTrue result ↔ IsSome (path_in token.now) }
 {
     matches!(
@@ -29,8 +29,8 @@ pub(crate) fn is_path(token: &Token) -> bool
     )
 }
 
-// What a path or a name leads from, and its steps. `None` where the token is neither.
-pub(crate) fn path_of(alloc: Global, token: &Token) -> Result<Option<(Root, Path)>, Memory>
+/// What a path or a name leads from, and its steps. `None` where the token is neither.
+pub fn path_of(alloc: Global, token: &Token) -> Result<Option<(Root, Path)>, Memory>
     ensures { IfOk result (λ found. found ≡ path_in token.now) }
 {
     match token {
@@ -47,8 +47,8 @@ pub(crate) fn path_of(alloc: Global, token: &Token) -> Result<Option<(Root, Path
     }
 }
 
-// Where an assignment to what stands there writes. `None` where it is neither a path nor a name.
-pub(crate) fn target_of(alloc: Global, word: &Spanned) -> Result<Option<Target>, Memory>
+/// Where an assignment to what stands there writes. `None` where it is neither a path nor a name.
+pub fn target_of(alloc: Global, word: &Spanned) -> Result<Option<Target>, Memory>
     ensures { IfOk result (λ found. found ≡ target_at word.now.token word.now.span) }
 {
     if let Token::Name(name) = &word.token {
@@ -62,8 +62,8 @@ pub(crate) fn target_of(alloc: Global, word: &Spanned) -> Result<Option<Target>,
     }
 }
 
-// The name of a function, and whether it has a bang. `None` where the token is none.
-pub(crate) fn function_of(alloc: Global, token: &Token) -> Result<Option<(Chars, bool)>, Memory>
+/// The name of a function, and whether it has a bang. `None` where the token is none.
+pub fn function_of(alloc: Global, token: &Token) -> Result<Option<(Chars, bool)>, Memory>
     ensures { IfOk result (λ found. found ≡ function_in token.now) }
 {
     match token {
@@ -73,8 +73,8 @@ pub(crate) fn function_of(alloc: Global, token: &Token) -> Result<Option<(Chars,
     }
 }
 
-// The place of a function's name, given that of its token and whether it has a bang.
-pub(crate) fn name_span(span: Span, bang: bool) -> Span
+/// The place of a function's name, given that of its token and whether it has a bang.
+pub fn name_span(span: Span, bang: bool) -> Span
     ensures { result ≡ name_place span bang }
 {
     if bang {
@@ -87,8 +87,8 @@ pub(crate) fn name_span(span: Span, bang: bool) -> Span
     }
 }
 
-// The value of a literal, given how many regex literals stand before it. `None` where the token is no literal.
-pub(crate) fn literal_of(alloc: Global, token: &Token, number: u32) -> Result<Option<Value>, Memory>
+/// The value of a literal, given how many regex literals stand before it. `None` where the token is no literal.
+pub fn literal_of(alloc: Global, token: &Token, number: u32) -> Result<Option<Value>, Memory>
     ensures { IfOk result (λ found. option_map tree_of found ≡ literal_at token.now number) }
 {
     match token {
@@ -104,8 +104,8 @@ pub(crate) fn literal_of(alloc: Global, token: &Token, number: u32) -> Result<Op
     }
 }
 
-// The level of an operator, 0 for the loosest, and what it is. `None` where the token is none.
-pub(crate) fn operator_of(token: &Token) -> Option<(usize, Op)>
+/// The level of an operator, 0 for the loosest, and what it is. `None` where the token is none.
+pub fn operator_of(token: &Token) -> Option<(usize, Op)>
     ensures { result ≡ operator_in token.now }
 {
     match token {
@@ -126,8 +126,8 @@ pub(crate) fn operator_of(token: &Token) -> Option<(usize, Op)>
     }
 }
 
-// An equal path.
-pub(crate) fn copy_path(alloc: Global, path: &Path) -> Result<Path, Memory>
+/// An equal path.
+pub fn copy_path(alloc: Global, path: &Path) -> Result<Path, Memory>
     ensures { IfOk result (λ copy. copy ≡ path.now) }
 {
     let mut steps = Vec::new(alloc);

@@ -3,8 +3,7 @@ ghost use Rattle.std.specs.Prelude.{◌≡◌, IfOk, None, Some, option_map};
 ghost use Rattle.vrl_syntax.specs.Tree.{abort_with, array as array_form, assign, binary, block as block_form, both as both_form, call as call_form, closure as closure_form, conditional as conditional_form, else_block, expr, group as group_form, literal as literal_form, merge as merge_form, message, negation as negation_form, no_closure, no_else, object as object_form, query, read as read_form, return_of};
 ghost use Rattle.vrl_syntax.specs.View.{arg_of, args_of, arm_of, arms_of, else_of, expr_of, exprs_of, message_of, pairs_of};
 ghost use Rattle.vrl_value.specs.View.{tree_of};
-ghost use Rattle.vrl_parse.specs.Grammar.{span_of};
-ghost use Rattle.vrl_parse.specs.Words.{name_span as name_place, over as place_over};
+ghost use Rattle.vrl_word.specs.Words.{name_span as name_place, over as place_over, span_of};
 
 use crate::word::{name_span, over};
 use std::alloc::Global;
@@ -13,24 +12,24 @@ use vrl_path::Path;
 use vrl_syntax::{Arg, Args, Arm, Arms, Call, Closure, Expr, Exprs, Form, Op, Pairs, Root, Target};
 use vrl_value::{Chars, Memory, Names, Value};
 
-// A literal.
-pub(crate) fn literal(span: Span, value: Value) -> Expr
+/// A literal.
+pub fn literal(span: Span, value: Value) -> Expr
     ensures { expr_of result ≡ expr span (literal_form (tree_of value)) }
 {
     let form = Form::Literal(value);
     Expr { span, form }
 }
 
-// A path or a name that is read.
-pub(crate) fn read(span: Span, root: Root, path: Path) -> Expr
+/// A path or a name that is read.
+pub fn read(span: Span, root: Root, path: Path) -> Expr
     ensures { expr_of result ≡ expr span (read_form root path) }
 {
     let form = Form::Read(root, path);
     Expr { span, form }
 }
 
-// An array.
-pub(crate) fn array(start: Span, parts: Exprs, end: Span) -> Expr
+/// An array.
+pub fn array(start: Span, parts: Exprs, end: Span) -> Expr
     ensures { expr_of result ≡ expr (place_over start end) (array_form (exprs_of parts)) }
 {
     let span = over(start, end);
@@ -38,8 +37,8 @@ pub(crate) fn array(start: Span, parts: Exprs, end: Span) -> Expr
     Expr { span, form }
 }
 
-// An object.
-pub(crate) fn object(start: Span, pairs: Pairs, end: Span) -> Expr
+/// An object.
+pub fn object(start: Span, pairs: Pairs, end: Span) -> Expr
     ensures { expr_of result ≡ expr (place_over start end) (object_form (pairs_of pairs)) }
 {
     let span = over(start, end);
@@ -47,16 +46,16 @@ pub(crate) fn object(start: Span, pairs: Pairs, end: Span) -> Expr
     Expr { span, form }
 }
 
-// A block.
-pub(crate) fn block(body: Exprs, span: Span) -> Expr
+/// A block.
+pub fn block(body: Exprs, span: Span) -> Expr
     ensures { expr_of result ≡ expr span (block_form (exprs_of body)) }
 {
     let form = Form::Block(body);
     Expr { span, form }
 }
 
-// A query of what stands at a path of a value.
-pub(crate) fn queried(alloc: Global, inner: Expr, path: Path, end: Span) -> Result<Expr, Memory>
+/// A query of what stands at a path of a value.
+pub fn queried(alloc: Global, inner: Expr, path: Path, end: Span) -> Result<Expr, Memory>
     ensures { IfOk result (λ e. expr_of e ≡ expr (place_over (span_of (expr_of inner)) end) (query (expr_of inner) path)) }
 {
     let span = over(inner.span, end);
@@ -64,8 +63,8 @@ pub(crate) fn queried(alloc: Global, inner: Expr, path: Path, end: Span) -> Resu
     Ok(Expr { span, form })
 }
 
-// A group.
-pub(crate) fn group(alloc: Global, start: Span, inner: Expr, end: Span) -> Result<Expr, Memory>
+/// A group.
+pub fn group(alloc: Global, start: Span, inner: Expr, end: Span) -> Result<Expr, Memory>
     ensures { IfOk result (λ e. expr_of e ≡ expr (place_over start end) (group_form (expr_of inner))) }
 {
     let span = over(start, end);
@@ -73,8 +72,8 @@ pub(crate) fn group(alloc: Global, start: Span, inner: Expr, end: Span) -> Resul
     Ok(Expr { span, form })
 }
 
-// A negation.
-pub(crate) fn negation(alloc: Global, start: Span, inner: Expr) -> Result<Expr, Memory>
+/// A negation.
+pub fn negation(alloc: Global, start: Span, inner: Expr) -> Result<Expr, Memory>
     ensures { IfOk result (λ e. expr_of e ≡ expr (place_over start (span_of (expr_of inner))) (negation_form (expr_of inner))) }
 {
     let span = over(start, inner.span);
@@ -82,8 +81,8 @@ pub(crate) fn negation(alloc: Global, start: Span, inner: Expr) -> Result<Expr, 
     Ok(Expr { span, form })
 }
 
-// An operator between its sides.
-pub(crate) fn joined(alloc: Global, op: Op, left: Expr, right: Expr) -> Result<Expr, Memory>
+/// An operator between its sides.
+pub fn joined(alloc: Global, op: Op, left: Expr, right: Expr) -> Result<Expr, Memory>
     ensures { IfOk result (λ e. expr_of e ≡ expr (place_over (span_of (expr_of left)) (span_of (expr_of right))) (binary op (expr_of left) (expr_of right))) }
 {
     let span = over(left.span, right.span);
@@ -93,8 +92,8 @@ pub(crate) fn joined(alloc: Global, op: Op, left: Expr, right: Expr) -> Result<E
     Ok(Expr { span, form })
 }
 
-// An `if`, given the place of its last block.
-pub(crate) fn conditional(start: Span, arms: Arms, otherwise: Option<Exprs>, end: Span) -> Expr
+/// An `if`, given the place of its last block.
+pub fn conditional(start: Span, arms: Arms, otherwise: Option<Exprs>, end: Span) -> Expr
     ensures { expr_of result ≡ expr (place_over start end) (conditional_form (arms_of arms) (else_of (option_map exprs_of otherwise))) }
 {
     let span = over(start, end);
@@ -102,13 +101,8 @@ pub(crate) fn conditional(start: Span, arms: Arms, otherwise: Option<Exprs>, end
     Expr { span, form }
 }
 
-// An assignment.
-pub(crate) fn assignment(
-    alloc: Global,
-    start: Span,
-    target: Target,
-    value: Expr,
-) -> Result<Expr, Memory>
+/// An assignment.
+pub fn assignment(alloc: Global, start: Span, target: Target, value: Expr) -> Result<Expr, Memory>
     ensures { IfOk result (λ e. expr_of e ≡ expr (place_over start (span_of (expr_of value))) (assign target (expr_of value))) }
 {
     let span = over(start, value.span);
@@ -116,8 +110,8 @@ pub(crate) fn assignment(
     Ok(Expr { span, form })
 }
 
-// An assignment that merges.
-pub(crate) fn merge(alloc: Global, start: Span, target: Target, value: Expr) -> Result<Expr, Memory>
+/// An assignment that merges.
+pub fn merge(alloc: Global, start: Span, target: Target, value: Expr) -> Result<Expr, Memory>
     ensures { IfOk result (λ e. expr_of e ≡ expr (place_over start (span_of (expr_of value))) (merge_form target (expr_of value))) }
 {
     let span = over(start, value.span);
@@ -125,8 +119,8 @@ pub(crate) fn merge(alloc: Global, start: Span, target: Target, value: Expr) -> 
     Ok(Expr { span, form })
 }
 
-// An assignment of the value and of the error.
-pub(crate) fn both(
+/// An assignment of the value and of the error.
+pub fn both(
     alloc: Global,
     start: Span,
     target: Target,
@@ -140,8 +134,8 @@ pub(crate) fn both(
     Ok(Expr { span, form })
 }
 
-// A `return`.
-pub(crate) fn return_of_value(alloc: Global, start: Span, value: Expr) -> Result<Expr, Memory>
+/// A `return`.
+pub fn return_of_value(alloc: Global, start: Span, value: Expr) -> Result<Expr, Memory>
     ensures { IfOk result (λ e. expr_of e ≡ expr (place_over start (span_of (expr_of value))) (return_of (expr_of value))) }
 {
     let span = over(start, value.span);
@@ -149,16 +143,16 @@ pub(crate) fn return_of_value(alloc: Global, start: Span, value: Expr) -> Result
     Ok(Expr { span, form })
 }
 
-// An `abort`, with its message where there is one.
-pub(crate) fn abort(span: Span, text: Option<Box<Expr>>) -> Expr
+/// An `abort`, with its message where there is one.
+pub fn abort(span: Span, text: Option<Box<Expr>>) -> Expr
     ensures { expr_of result ≡ expr span (abort_with (message_of (option_map (λ b. expr_of b.value) text))) }
 {
     let form = Form::Abort(text);
     Expr { span, form }
 }
 
-// An `abort` with its message.
-pub(crate) fn abort_with_message(alloc: Global, start: Span, text: Expr) -> Result<Expr, Memory>
+/// An `abort` with its message.
+pub fn abort_with_message(alloc: Global, start: Span, text: Expr) -> Result<Expr, Memory>
     ensures { IfOk result (λ e. expr_of e ≡ expr (place_over start (span_of (expr_of text))) (abort_with (message (expr_of text)))) }
 {
     let span = over(start, text.span);
@@ -166,8 +160,8 @@ pub(crate) fn abort_with_message(alloc: Global, start: Span, text: Expr) -> Resu
     Ok(abort(span, Some(text)))
 }
 
-// A call without a closure, given its function's name and bang and the places of its first and its last token.
-pub(crate) fn call(
+/// A call without a closure, given its function's name and bang and the places of its first and its last token.
+pub fn call(
     alloc: Global,
     function: (Chars, bool),
     start: Span,
@@ -190,8 +184,8 @@ pub(crate) fn call(
     Ok(Expr { span, form })
 }
 
-// A call with a closure, given its function's name and bang and the place of its first token, and the closure's names, body and block.
-pub(crate) fn call_with_closure(
+/// A call with a closure, given its function's name and bang and the place of its first token, and the closure's names, body and block.
+pub fn call_with_closure(
     alloc: Global,
     function: (Chars, bool),
     start: Span,
@@ -220,8 +214,8 @@ pub(crate) fn call_with_closure(
     Ok(Expr { span, form })
 }
 
-// An argument that is named, given the place of its name.
-pub(crate) fn named(name: Chars, start: Span, value: Expr) -> Arg
+/// An argument that is named, given the place of its name.
+pub fn named(name: Chars, start: Span, value: Expr) -> Arg
     ensures { arg_of result ≡ (Some name, place_over start (span_of (expr_of value)), expr_of value) }
 {
     let span = over(start, value.span);
@@ -232,8 +226,8 @@ pub(crate) fn named(name: Chars, start: Span, value: Expr) -> Arg
     }
 }
 
-// An argument without a name.
-pub(crate) fn unnamed(value: Expr) -> Arg
+/// An argument without a name.
+pub fn unnamed(value: Expr) -> Arg
     ensures { arg_of result ≡ (None, span_of (expr_of value), expr_of value) }
 {
     let span = value.span;
@@ -244,8 +238,8 @@ pub(crate) fn unnamed(value: Expr) -> Arg
     }
 }
 
-// A predicate and its block.
-pub(crate) fn arm(predicate: Expr, body: Exprs) -> Arm
+/// A predicate and its block.
+pub fn arm(predicate: Expr, body: Exprs) -> Arm
     ensures { arm_of result ≡ (expr_of predicate, exprs_of body) }
 {
     Arm { predicate, body }

@@ -1,0 +1,11 @@
+//! What the single tokens of a script say, and expressions made of their parts: what a parser of the Vector Remap Language stands on.
+#![tactic(auto)]
+
+pub mod forms;
+mod sign;
+mod word;
+
+pub use sign::{Sign, is_sign};
+pub use word::{
+    copy_path, function_of, is_path, literal_of, name_span, operator_of, over, path_of, target_of,
+};
