@@ -1,18 +1,22 @@
-ghost use Rattle.std.specs.Prelude.{◌≡◌, IfOk, IfSome};
+ghost use Rattle.std.specs.Prelude.{◌≡◌, false, IfOk, IfSome};
 ghost use Rattle.vrl_kind.specs.KindTree.{no_fields, json_rest};
 ghost use Rattle.vrl_kind.specs.Make.{object_kind};
+ghost use Rattle.vrl_syntax.specs.Limits.{KeepsLimits};
+ghost use Rattle.vrl_syntax.specs.View.{exprs_of};
 ghost use Rattle.vrl_check.specs.Answer.{IsJudged};
+ghost use Rattle.vrl_check.specs.Calls.{exprs_hold_closure_call};
 ghost use Rattle.vrl_check.specs.Judgement.{Judgement};
 
 // Scripts without calls: what is wrong with them, the kind of what they give, and what is known then.
 use std::alloc::Global;
 use std::process::Abort;
-use vrl_check::{Judged, check, ending, holds_call};
+use vrl_check::{Judged, check, ending, holds_closure_call};
 use vrl_diag::{Diagnostic, render};
 use vrl_kind::{Kind, Rest, equal_tags_are_one_kind, kind_is_canonical, print};
 use vrl_parse::parse;
+use vrl_pattern::{BuildFault, Patterns};
 use vrl_state::{Known, RootKind};
-use vrl_syntax::{Root, Script, limit_faults};
+use vrl_syntax::{Root, Script, limit_faults, regexes_below};
 use vrl_token::{SyntaxFault, Tokens, tokens};
 use vrl_value::{Memory, Tag};
 
@@ -55,11 +59,32 @@ fn judged_script(alloc: Global, script: &Script) -> Result<Option<Judged>, Memor
     ensures { IfOk result (λ found. IfSome found (λ judged. (j : Judgement) × IsJudged j judged)) }
 {
     let faults = limit_faults(alloc, &script.items)?;
-    if !faults.as_slice().is_empty() || holds_call(&script.items) {
+    if !faults.as_slice().is_empty() || holds_closure_call(&script.items) {
+        return Ok(None);
+    }
+    match Patterns::build(alloc, &script.patterns) {
+        Ok(patterns) => judged_beside(alloc, script, &patterns),
+        Err(BuildFault::Malformed(_numbers)) => Ok(None),
+        Err(BuildFault::Memory) => Err(Memory),
+    }
+}
+
+// The same with its regexes.
+fn judged_beside(
+    alloc: Global,
+    script: &Script,
+    patterns: &Patterns,
+) -> Result<Option<Judged>, Memory>
+    requires calls { exprs_hold_closure_call (exprs_of script.now.items) ≡ false }
+    requires limits { KeepsLimits (exprs_of script.now.items) }
+    requires patterns { patterns.now ≡ script.now.patterns }
+    ensures { IfOk result (λ found. IfSome found (λ judged. (j : Judgement) × IsJudged j judged)) }
+{
+    if !regexes_below(&script.items, patterns.sources().len()) {
         return Ok(None);
     }
     let event = event_kind(alloc)?;
-    let judged = check(alloc, script, &event)?;
+    let judged = check(alloc, script, &event, patterns)?;
     Ok(Some(judged))
 }
 
@@ -157,7 +182,7 @@ fn empties_of(alloc: Global, judged: &Judged) -> Result<String, Memory> {
 
 // What is told of a script.
 #[derive(Clone, Copy)]
-enum Asked {
+pub(crate) enum Asked {
     Codes,
     End,
     Empties,
@@ -175,7 +200,7 @@ fn told_of(alloc: Global, asked: Asked, text: &str) -> Result<String, Memory> {
 }
 
 // Texts, and what is told of them.
-fn expect(
+pub(crate) fn expect(
     rt: &impl Abort,
     alloc: Global,
     asked: Asked,

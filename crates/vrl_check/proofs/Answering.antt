@@ -31,7 +31,7 @@ state_outside : (s : State) (known : Option RootMap) → s.known ≡ known → s
 state_outside s known is none = λ i. record { known = is i; scopes = none i }
 
 pub script_judged : (start : KindTree) (es : Exprs) (before after : Checker) (outcome : Outcome) (judged : Judged) → IsStart start before.state → before.diagnostics.items ≡ [] → before.empties.items ≡ [] → IsScriptAs es before after outcome
-    → AreAnswered after.state outcome judged → judged.empties ≡ after.empties.items → judged.loops ≡ [] → AreOrdered after.diagnostics.items judged.diagnostics → (j : Judgement) × JudgesScript start es j × IsJudged j judged
+    → AreAnswered after.state outcome judged → judged.empties ≡ after.empties.items → judged.loops ≡ [] → AreOrdered after.diagnostics.items judged.diagnostics → (j : Judgement) × JudgesScript before.patterns.now start es j × IsJudged j judged
 script_judged start es before after outcome judged starts no_codes no_tags is answered empties loops ordered =
     let j = settle is.1 in
     let has = is.4 in

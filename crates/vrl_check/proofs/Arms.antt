@@ -1,4 +1,5 @@
 -- The ways of an `if`, one beside another.
+use Rattle.std.proofs.lemmas.Bool.{and_parts}
 use Rattle.std.proofs.Common.{◌≡◌, ◌≤◌, ◌<◌, ◌+◌, ℕ, suc, false, ◌||◌, List, [], ◌∷◌, ◌++◌, length, drop, get_or, drop-cons, add-one, None, refl, sym, ap, ◌∙◌, subst, append-nil, arith}
 use Rattle.std.proofs.lemmas.List.{drop_all}
 use Rattle.std.specs.List.{list_any}
@@ -12,8 +13,8 @@ use Rattle.vrl_syntax.specs.declared.tree.Arm.{Arm as CodeArm}
 use Rattle.vrl_kind.specs.Canonical.{never_kind}
 use Rattle.vrl_state.specs.States.{IsEither, IsJoined, IsRootKind, Scope, State}
 use Rattle.vrl_check.specs.Branching.{no_ways, AreWays, IsBlockBeside, IsLastBeside, IsPredicateBeside}
-use Rattle.vrl_check.specs.Calls.{arms_hold_call, expr_holds_call, exprs_hold_call}
-use Rattle.vrl_check.specs.Judgement.{Judgement, JudgesArms, JudgesBlock, a_conditional, a_missing_else, an_arm, an_else, gives, is_error, nothing, of_predicate, settle, span_of, IsBeside}
+use Rattle.vrl_check.specs.Calls.{arms_hold_closure_call, expr_holds_closure_call, exprs_hold_closure_call}
+use Rattle.vrl_check.specs.Judgement.{Judgement, JudgesArms, JudgesBlock, a_conditional, a_missing_else, an_arm, an_else, gives, is_error, nothing, of_predicate, settle, span_of, IsBeside, Judges}
 use Rattle.vrl_check.specs.Judging.{known_on, predicate_of, AreEnds, AreJoinedEnds, ArmsCanBeJudged, CanBeJudged, HasJudged, HasWays, IsAnywhereAs, IsArmAs, IsArmBehind, IsBlockAs, IsElseAs, IsJudgedAs, IsReported, ItemsCanBeJudged}
 use Rattle.vrl_check.specs.Seen.{seen, seen_ways}
 use Rattle.vrl_check.specs.declared.branches.Ways.{Ways}
@@ -23,7 +24,7 @@ use Rattle.vrl_check.specs.declared.outcome.Outcome.{Outcome}
 use Rattle.vrl_check.proofs.Capable.{neither, none_of_both}
 use Rattle.vrl_check.proofs.RootKinds.{either_root, never_either, never_root}
 use Rattle.vrl_check.proofs.Sizes.{arms_size}
-use Rattle.vrl_check.proofs.Told.{as_seen, gathers_both, gathers_moved, gathers_reported, told, told_block, told_expr, told_of, Gathers, IsTold, IsToldBlock, IsToldExpr}
+use Rattle.vrl_check.proofs.Told.{as_seen, block_at, gathers_both, gathers_moved, gathers_reported, told, told_block, told_expr, told_of, Gathers, IsTold, IsToldBlock, IsToldExpr}
 use Rattle.vrl_check.proofs.Ways.{join_none, no_ends_are}
 
 -- ---- ways as they were told
@@ -49,7 +50,7 @@ ways_told_of : (before now : Checker) (ways : Ways) (w : Judgement) → HasWays 
 ways_told_of before now ways w has = record {
   root = subst IsRootKind (sym has.kind) has.root;
   are = record { ok = has.alive; ends = has.ends.are };
-  gathers = record { scopes = has.scopes; diagnostics = has.diagnostics; empties = has.empties };
+  gathers = record { scopes = has.scopes; diagnostics = has.diagnostics; empties = has.empties; patterns = has.patterns };
 }
 
 ways_told : (before now : Checker) (ways : Ways) (ds : List Diagnostic) (ts : List Tag) → AreTold before now ways ds ts → HasWays before now ways (seen_ways ways ds ts)
@@ -62,6 +63,7 @@ ways_told before now ways ds ts is = record {
   scopes = is.gathers.scopes;
   diagnostics = is.gathers.diagnostics;
   empties = is.gathers.empties;
+  patterns = is.gathers.patterns;
 }
 
 pub ways_in : (ways : Ways) (scopes scopes' : List Scope) → scopes ≡ scopes' → AreWays scopes ways → AreWays scopes' ways
@@ -109,8 +111,8 @@ gathers_arm : (before a b c e : Checker) (s mark : State) (part block : Outcome)
     → Gathers before (record e { state = mark }) ((ds ++ (es ++ ps)) ++ qs) ((ts ++ us) ++ vs)
 gathers_arm before a b c e s mark part block old new ds es ps qs ts us vs first second reported same third marked =
     let here = gathers_both before a c ds (es ++ ps) ts us first (gathers_reported a b c es ps us old new second reported) in
-    let there = gathers_both before c e (ds ++ (es ++ ps)) qs (ts ++ us) vs here (record { scopes = third.scopes ∙ ap (λ x. x.scopes) same; diagnostics = third.diagnostics; empties = third.empties }) in
-    record { scopes = ap (λ x. x.scopes) marked ∙ here.scopes; diagnostics = there.diagnostics; empties = there.empties }
+    let there = gathers_both before c e (ds ++ (es ++ ps)) qs (ts ++ us) vs here (record { scopes = third.scopes ∙ ap (λ x. x.scopes) same; diagnostics = third.diagnostics; empties = third.empties; patterns = third.patterns }) in
+    record { scopes = ap (λ x. x.scopes) marked ∙ here.scopes; diagnostics = there.diagnostics; empties = there.empties; patterns = there.patterns }
 
 arm_told : (t : ArmTree) (before a b c e f : Checker) (s mark : State) (ways middle all : Ways) (part block : Outcome) (ds : List Diagnostic) (ts : List Tag) → AreTold before a ways ds ts → IsToldExpr t.0 a b part
     → IsPredicateBeside (span_of t.0) part ways b c middle → s ≡ c.state → mark ≡ c.state → IsToldBlock t.1 (record c { state = s }) e block → IsBlockBeside mark block middle e f all
@@ -128,7 +130,7 @@ arm_told t before a b c e f s mark ways middle all part block ds ts w x predicat
       all = seen_ways all ((ds ++ (x.codes ++ ps)) ++ y.codes) ((ts ++ x.tags) ++ y.tags);
       predicate = x.judges;
       first = beside_predicate t.0 ways middle b c part ds x.codes ts x.tags w.root predicate;
-      block = subst (λ known. JudgesBlock known t.1 (seen block e y.codes y.tags)) (ap (λ x. x.known) (same ∙ predicate.reported.state)) y.judges;
+      block = block_at a (record c { state = s }) b.state.known t.1 (seen block e y.codes y.tags) (predicate.reported.patterns ∙ x.ended.gathers.patterns) (ap (λ x. x.known) (same ∙ predicate.reported.state)) y.judges;
       second = beside_block middle all e f mark block (ds ++ (x.codes ++ ps)) y.codes (ts ++ x.tags) y.tags behind;
       known = ap (λ x. x.state.known) behind.back ∙ ap (λ x. x.known) (marked ∙ predicate.reported.state);
       told = ways_told before f all ((ds ++ (x.codes ++ ps)) ++ y.codes) ((ts ++ x.tags) ++ y.tags) (record {
@@ -154,27 +156,28 @@ middle_here p es span a b c e s ways middle part block predicate same second =
 
 -- ---- what can be judged
 
-pub predicate_can : (p : Expr) (es : Exprs) (gs : Arms) → ArmsCanBeJudged (arm p es gs) → CanBeJudged p
+pub predicate_can : {sources : List (List ℕ)} (p : Expr) (es : Exprs) (gs : Arms) → ArmsCanBeJudged sources (arm p es gs) → CanBeJudged sources p
 predicate_can p es gs can = record {
-  calls = (neither (expr_holds_call p) (exprs_hold_call es || arms_hold_call gs) can.calls).0;
+  calls = (neither (expr_holds_closure_call p) (exprs_hold_closure_call es || arms_hold_closure_call gs) can.calls).0;
   limits = (none_of_both (expr_faults p) (exprs_faults es ++ arms_faults gs) can.limits).0;
+  regexes = (and_parts _ _ can.regexes).0;
 }
 
-behind_predicate : (p : Expr) (es : Exprs) (gs : Arms) → ArmsCanBeJudged (arm p es gs) → ((exprs_hold_call es || arms_hold_call gs) ≡ false) × (exprs_faults es ++ arms_faults gs ≡ [])
+behind_predicate : {sources : List (List ℕ)} (p : Expr) (es : Exprs) (gs : Arms) → ArmsCanBeJudged sources (arm p es gs) → ((exprs_hold_closure_call es || arms_hold_closure_call gs) ≡ false) × (exprs_faults es ++ arms_faults gs ≡ [])
 behind_predicate p es gs can = (
-  (neither (expr_holds_call p) (exprs_hold_call es || arms_hold_call gs) can.calls).1,
+  (neither (expr_holds_closure_call p) (exprs_hold_closure_call es || arms_hold_closure_call gs) can.calls).1,
   (none_of_both (expr_faults p) (exprs_faults es ++ arms_faults gs) can.limits).1,
 )
 
-pub items_can : (p : Expr) (es : Exprs) (gs : Arms) → ArmsCanBeJudged (arm p es gs) → ItemsCanBeJudged es
+pub items_can : {sources : List (List ℕ)} (p : Expr) (es : Exprs) (gs : Arms) → ArmsCanBeJudged sources (arm p es gs) → ItemsCanBeJudged sources es
 items_can p es gs can =
     let rest = behind_predicate p es gs can in
-    record { calls = (neither (exprs_hold_call es) (arms_hold_call gs) rest.0).0; limits = (none_of_both (exprs_faults es) (arms_faults gs) rest.1).0 }
+    record { calls = (neither (exprs_hold_closure_call es) (arms_hold_closure_call gs) rest.0).0; limits = (none_of_both (exprs_faults es) (arms_faults gs) rest.1).0; regexes = (and_parts _ _ (and_parts _ _ can.regexes).1).0 }
 
-pub arms_can : (p : Expr) (es : Exprs) (gs : Arms) → ArmsCanBeJudged (arm p es gs) → ArmsCanBeJudged gs
+pub arms_can : {sources : List (List ℕ)} (p : Expr) (es : Exprs) (gs : Arms) → ArmsCanBeJudged sources (arm p es gs) → ArmsCanBeJudged sources gs
 arms_can p es gs can =
     let rest = behind_predicate p es gs can in
-    record { calls = (neither (exprs_hold_call es) (arms_hold_call gs) rest.0).1; limits = (none_of_both (exprs_faults es) (arms_faults gs) rest.1).1 }
+    record { calls = (neither (exprs_hold_closure_call es) (arms_hold_closure_call gs) rest.0).1; limits = (none_of_both (exprs_faults es) (arms_faults gs) rest.1).1; regexes = (and_parts _ _ (and_parts _ _ can.regexes).1).1 }
 
 -- ---- all arms
 
@@ -182,11 +185,11 @@ arms_can p es gs can =
 pub record AreJudged (whole : Arms) (otherwise : Else) (rest : Arms) (start now : Checker) (ways : Ways) : Type 0 where
   pub w : Judgement
   pub told : HasWays start now ways w
-  pub can : ArmsCanBeJudged rest
+  pub can : ArmsCanBeJudged start.patterns.now rest
   pub size : arms_size rest ≤ arms_size whole
-  pub judges : (all : Judgement) → JudgesArms now.state.known w rest otherwise all → JudgesArms start.state.known (nothing []) whole otherwise all
+  pub judges : (all : Judgement) → JudgesArms start.patterns.now now.state.known w rest otherwise all → JudgesArms start.patterns.now start.state.known (nothing []) whole otherwise all
 
-pub none_judged : (whole : Arms) (otherwise : Else) (start : Checker) (ways : Ways) → ways ≡ no_ways → ArmsCanBeJudged whole → AreJudged whole otherwise whole start start ways
+pub none_judged : (whole : Arms) (otherwise : Else) (start : Checker) (ways : Ways) → ways ≡ no_ways → ArmsCanBeJudged start.patterns.now whole → AreJudged whole otherwise whole start start ways
 none_judged whole otherwise start ways none can = subst (AreJudged whole otherwise whole start start) (sym none) (record {
   w = nothing [];
   told = record {
@@ -198,6 +201,7 @@ none_judged whole otherwise start ways none can = subst (AreJudged whole otherwi
     scopes = refl;
     diagnostics = sym (append-nil start.diagnostics.items);
     empties = sym (append-nil start.empties.items);
+    patterns = refl;
   };
   can = can;
   size = omega arith;
@@ -213,7 +217,8 @@ one_judged whole otherwise t rest start now after ways all so_far next =
       told = is.told;
       can = arms_can t.0 t.1 rest so_far.can;
       size = omega (arith, so_far.size);
-      judges = λ end more. so_far.judges end (an_arm is.predicate is.first is.block is.second (subst (λ known. JudgesArms known is.all rest otherwise end) is.known more));
+      judges = λ end more. so_far.judges end (an_arm (subst (λ ps. Judges ps.now now.state.known t.0 is.j) so_far.told.patterns is.predicate) is.first (subst (λ ps. JudgesBlock ps.now is.j.ok t.1 is.k) so_far.told.patterns is.block) is.second
+          (subst (λ known. JudgesArms start.patterns.now known is.all rest otherwise end) is.known more));
     }
 
 -- ---- a list of arms
@@ -226,7 +231,7 @@ next_arm items i it within is =
 pub no_arm_left : (items : List CodeArm) (i : ℕ) → length items ≤ i → arms_view (drop i items) ≡ no_arms
 no_arm_left items i past = ap arms_view (drop_all i items past)
 
-pub first_arms : (whole : Arms) (otherwise : Else) (items : List CodeArm) (start : Checker) (ways : Ways) → arms_view items ≡ whole → ways ≡ no_ways → ArmsCanBeJudged whole → AreJudged whole otherwise (arms_view items) start start ways
+pub first_arms : (whole : Arms) (otherwise : Else) (items : List CodeArm) (start : Checker) (ways : Ways) → arms_view items ≡ whole → ways ≡ no_ways → ArmsCanBeJudged start.patterns.now whole → AreJudged whole otherwise (arms_view items) start start ways
 first_arms whole otherwise items start ways is none can = subst (λ rest. AreJudged whole otherwise rest start start ways) (sym is) (none_judged whole otherwise start ways none can)
 
 pub more_arms : (whole rest : Arms) (otherwise : Else) (t : ArmTree) (left : Arms) (start now after : Checker) (ways all : Ways) → left ≡ arm t.0 t.1 rest → AreJudged whole otherwise left start now ways → IsArmBehind t ways now after all
@@ -234,9 +239,9 @@ pub more_arms : (whole rest : Arms) (otherwise : Else) (t : ArmTree) (left : Arm
 more_arms whole rest otherwise t left start now after ways all is so_far next = one_judged whole otherwise t rest start now after ways all (subst (λ gs. AreJudged whole otherwise gs start now ways) is so_far) next
 
 -- what the next arm requires
-pub next_can : (whole rest : Arms) (otherwise : Else) (t : ArmTree) (left : Arms) (start now : Checker) (ways : Ways) → left ≡ arm t.0 t.1 rest → AreJudged whole otherwise left start now ways → CanBeJudged t.0 × ItemsCanBeJudged t.1
+pub next_can : (whole rest : Arms) (otherwise : Else) (t : ArmTree) (left : Arms) (start now : Checker) (ways : Ways) → left ≡ arm t.0 t.1 rest → AreJudged whole otherwise left start now ways → CanBeJudged now.patterns.now t.0 × ItemsCanBeJudged now.patterns.now t.1
 next_can whole rest otherwise t left start now ways is so_far =
-    let can = subst ArmsCanBeJudged is so_far.can in
+    let can = subst (λ ps. ArmsCanBeJudged ps.now (arm t.0 t.1 rest)) (sym so_far.told.patterns) (subst (ArmsCanBeJudged start.patterns.now) is so_far.can) in
     (predicate_can t.0 t.1 rest can, items_can t.0 t.1 rest can)
 
 -- ---- the last way
@@ -245,7 +250,7 @@ next_can whole rest otherwise t left start now ways is so_far =
 record IsLast (w : Judgement) (otherwise : Else) (now after : Checker) (last : Outcome) : Type 0 where
   pub k : Judgement
   pub judged : HasJudged now after last k
-  pub judges : (all : Judgement) → IsBeside w k all → JudgesArms now.state.known w no_arms otherwise all
+  pub judges : (all : Judgement) → IsBeside w k all → JudgesArms now.patterns.now now.state.known w no_arms otherwise all
 
 is_last : (w : Judgement) (otherwise : Else) (now after : Checker) (last : Outcome) → IsElseAs otherwise now after last → IsLast w otherwise now after last
 is_last w (else_block es) now after last is = record { k = is.0; judged = is.2; judges = λ all beside. an_else is.1 beside }
@@ -276,7 +281,7 @@ beside_last ways last outcome after end ds es ts us is = record {
 }
 
 last_told : (otherwise : Else) (start now after end : Checker) (ways : Ways) (last outcome : Outcome) (ds : List Diagnostic) (ts : List Tag) → AreTold start now ways ds ts → IsLast (seen_ways ways ds ts) otherwise now after last → IsLastBeside ways last after end outcome
-    → (j : Judgement) × JudgesArms now.state.known (seen_ways ways ds ts) no_arms otherwise j × HasJudged start end outcome j
+    → (j : Judgement) × JudgesArms now.patterns.now now.state.known (seen_ways ways ds ts) no_arms otherwise j × HasJudged start end outcome j
 last_told otherwise start now after end ways last outcome ds ts w is behind =
     let es = is.k.codes in
     let us = is.k.empties in
@@ -297,6 +302,7 @@ conditional_judged whole otherwise start now after end ways last outcome so_far 
     let v = seen_ways ways so_far.w.codes so_far.w.empties in
     let ended = last_told otherwise start now after end ways last outcome so_far.w.codes so_far.w.empties (ways_told_of start now ways so_far.w so_far.told) (is_last v otherwise now after last is) behind in (
       ended.0,
-      a_conditional (subst (λ s. JudgesArms s (nothing []) whole otherwise ended.0) alive (so_far.judges ended.0 (subst (λ u. JudgesArms now.state.known u no_arms otherwise ended.0) (sym same) ended.1))),
+      a_conditional (subst (λ s. JudgesArms start.patterns.now s (nothing []) whole otherwise ended.0) alive
+          (so_far.judges ended.0 (subst (λ ps. JudgesArms ps.now now.state.known so_far.w no_arms otherwise ended.0) so_far.told.patterns (subst (λ u. JudgesArms now.patterns.now now.state.known u no_arms otherwise ended.0) (sym same) ended.1)))),
       ended.2,
     )

@@ -1,5 +1,5 @@
 -- Assignments behind their expressions.
-use Rattle.std.proofs.Common.{◌≡◌, ℕ, Bool, false, not, ◌||◌, ◌&&◌, List, [], ◌∷◌, ◌++◌, length, Option, None, is_some, refl, sym, ap, ◌∙◌, subst, append_assoc}
+use Rattle.std.proofs.Common.{◌≡◌, ℕ, Bool, false, not, ◌||◌, ◌&&◌, List, [], ◌∷◌, ◌++◌, length, Option, Some, None, is_some, refl, sym, ap, ◌∙◌, subst, append_assoc}
 use Rattle.std.specs.List.{list_any}
 use Rattle.vrl_value.specs.Tree.{Tree}
 use Rattle.vrl_value.specs.declared.value.Tag.{Tag}
@@ -27,7 +27,7 @@ use Rattle.vrl_check.specs.declared.outcome.Outcome.{Outcome}
 use Rattle.vrl_check.proofs.Parts.{gathered_moved, reported_judged, reported_more}
 use Rattle.vrl_check.proofs.RootKinds.{either_root, value_root}
 use Rattle.vrl_check.proofs.Ways.{branch_alive}
-use Rattle.vrl_check.proofs.Told.{as_seen, seen_ends, told_expr, IsToldExpr}
+use Rattle.vrl_check.proofs.Told.{as_seen, judges_at, seen_ends, told_expr, IsToldExpr}
 
 -- what is never absent at its root
 pub not_absent : (K : KindTree) → IsPresent K → allows_absent K ≡ false
@@ -88,7 +88,7 @@ assigned_judged span target now b c told after part first second ends fallible n
 pub assignment_judged : (span : Span) (target : Target) (e : Expr) (a b c : Checker) (part outcome : Outcome) → IsJudgedAs e a b part → IsAssignedAs span target part b c outcome → IsGivenAs span (assign target e) a c outcome
 assignment_judged span target e a b c part outcome first assigned = λ known alive.
     let is = assigned a first.0 first.2 in
-    (with_codes (of_assignment span target first.0) (record first.0 { ok = is.0 }), an_assignment (subst (λ s. Judges s e first.0) alive first.1) is.1, is.2)
+    (with_codes (of_assignment span target first.0) (record first.0 { ok = is.0 }), an_assignment (subst (λ s. Judges a.patterns.now s e first.0) alive first.1) is.1, is.2)
 
 -- ---- merges
 
@@ -96,7 +96,7 @@ pub nowhere_judged : (span : Span) (target : Target) (e : Expr) (a b c : Checker
     → IsGivenAs span (merge target e) a c (record { kind = part.kind; ends = ends })
 nowhere_judged span target e a b c part ends is first reported = subst (λ t. IsGivenAs span (merge t e) a c (record { kind = part.kind; ends = ends })) (sym is) (λ known alive. (
   with_codes (at 640 span) first.0,
-  a_merge_into_nothing (subst (λ s. Judges s e first.0) alive first.1),
+  a_merge_into_nothing (subst (λ s. Judges a.patterns.now s e first.0) alive first.1),
   reported_judged (at 640 span) a b c part (record { kind = part.kind; ends = ends }) first.0 reported refl first.2,
 ))
 
@@ -126,15 +126,15 @@ put_behind : (t : Tag) (place : ℕ) (front first before after ts : List Tag) �
     → IsPutAt place t before after → after ≡ front ++ (t ∷ ts)
 put_behind t place front first before after ts at_place kept behind put = put front ts tag.Null (behind ∙ ap (λ xs. xs ++ ts) kept ∙ append_assoc front (tag.Null ∷ []) ts) (sym at_place)
 
-error_told : (span : Span) (t u : Target) (e : Expr) (a kept b c : Checker) (place : ℕ) (part outcome : Outcome) → kept.state ≡ a.state → kept.diagnostics ≡ a.diagnostics → kept.empties.items ≡ a.empties.items ++ (tag.Null ∷ [])
+error_told : (span : Span) (t u : Target) (e : Expr) (a kept b c : Checker) (place : ℕ) (part outcome : Outcome) → kept.state ≡ a.state → kept.diagnostics ≡ a.diagnostics → kept.patterns ≡ a.patterns → kept.empties.items ≡ a.empties.items ++ (tag.Null ∷ [])
     → place ≡ length a.empties.items → IsToldExpr e kept b part → AreAssigned span t u place part b c outcome → IsGivenAs span (both t u e) a c outcome
-error_told span t u e a kept b c place part outcome state diagnostics empties at_place x last = λ known alive.
+error_told span t u e a kept b c place part outcome state diagnostics patterns empties at_place x last = λ known alive.
     let j = seen part b x.codes x.tags in
     let ds = of_error_assignment span t u j outcome.kind in
     let w = last.written in (
       with_codes ds (record j { kind = outcome.kind; ok = c.state.known; fail = None; empties = empty_tag part.kind ∷ x.tags }),
       an_error_assignment w.behind_value.between w.given w.behind_error.written.between w.behind_error.failed
-          (subst (λ s. Judges s e j) (ap (λ s. s.known) state ∙ alive) x.judges) last.empty last.kind w.null w.text
+          (judges_at a kept (Some known) e j patterns (ap (λ s. s.known) state ∙ alive) x.judges) last.empty last.kind w.null w.text
           w.behind_value.first w.behind_value.second w.behind_error.written.first w.behind_error.written.second w.behind_error.joined,
       record {
         kind = refl;
@@ -154,25 +154,26 @@ error_told span t u e a kept b c place part outcome state diagnostics empties at
           scopes = last.scopes ∙ x.ended.gathers.scopes ∙ ap (λ s. s.scopes) state;
           diagnostics = last.diagnostics ∙ ap (λ y. y ++ ds) (x.ended.gathers.diagnostics ∙ ap (λ v. v.items ++ x.codes) diagnostics) ∙ append_assoc a.diagnostics.items x.codes ds;
           empties = put_behind (empty_tag part.kind) place a.empties.items kept.empties.items b.empties.items c.empties.items x.tags at_place empties x.ended.gathers.empties last.empties;
+          patterns = last.patterns ∙ x.ended.gathers.patterns ∙ patterns;
         };
       },
     )
 
-pub error_judged : (span : Span) (t u : Target) (e : Expr) (a kept b c : Checker) (place : ℕ) (part outcome : Outcome) → kept.state ≡ a.state → kept.diagnostics ≡ a.diagnostics → kept.empties.items ≡ a.empties.items ++ (tag.Null ∷ [])
+pub error_judged : (span : Span) (t u : Target) (e : Expr) (a kept b c : Checker) (place : ℕ) (part outcome : Outcome) → kept.state ≡ a.state → kept.diagnostics ≡ a.diagnostics → kept.patterns ≡ a.patterns → kept.empties.items ≡ a.empties.items ++ (tag.Null ∷ [])
     → place ≡ length a.empties.items → IsJudgedAs e kept b part → AreAssigned span t u place part b c outcome → IsGivenAs span (both t u e) a c outcome
-error_judged span t u e a kept b c place part outcome state diagnostics empties at_place first last =
-    error_told span t u e a kept b c place part outcome state diagnostics empties at_place (told_expr e kept b part first) last
+error_judged span t u e a kept b c place part outcome state diagnostics patterns empties at_place first last =
+    error_told span t u e a kept b c place part outcome state diagnostics patterns empties at_place (told_expr e kept b part first) last
 
 -- ---- behind the expression of an error assignment
 
 -- the walk's steps: the tag is put, the codes are told, both targets are written
 pub are_assigned : (span : Span) (ok err : Target) (place : ℕ) (part : Outcome) (a b c d : Checker) (ends : Ends) (t : Tag) (E K : KindTree) → t ≡ empty_tag part.kind → AreEnds a.state.scopes part.ends
-    → b.state ≡ a.state → b.diagnostics ≡ a.diagnostics → IsPutAt place t a.empties.items b.empties.items
+    → b.state ≡ a.state → b.diagnostics ≡ a.diagnostics → b.patterns ≡ a.patterns → IsPutAt place t a.empties.items b.empties.items
     → IsCutOf (found_at (empty_value (empty_tag part.kind))) E → IsEither part.kind E K
     → ((j : Judgement) → b.state.known ≡ j.ok → HasEnds b.state.scopes part.ends j → IsReported (of_error_assignment span ok err j K) b c part.ends ends)
     → AreBothWritten ok err part.kind E c.state.known (known_on ends.fail) d.state.known → IsMoved c d
     → AreAssigned span ok err place part a d (record { kind = K; ends = record ends { fail = None } })
-are_assigned span ok err place part a b c d ends t E K tag_is are state diagnostics put empty kind codes written moved =
+are_assigned span ok err place part a b c d ends t E K tag_is are state diagnostics patterns put empty kind codes written moved =
     let ds = of_error_assignment span ok err (seen part a [] []) K in
     let reported : IsReported ds b c part.ends ends = codes (seen part a [] []) (ap (λ s. s.known) state) (seen_ends b.state.scopes part a [] [] (subst (λ s. AreEnds s.scopes part.ends) (sym state) are)) in
     let without : Ends → Ends = λ y. record y { fail = None } in
@@ -186,6 +187,7 @@ are_assigned span ok err place part a b c d ends t E K tag_is are state diagnost
       scopes = moved.scopes ∙ ap (λ s. s.scopes) (reported.state ∙ state);
       diagnostics = ap (λ v. v.items) moved.diagnostics ∙ reported.diagnostics ∙ ap (λ v. v.items ++ ds) diagnostics;
       empties = subst (λ v. IsPutAt place (empty_tag part.kind) a.empties.items v.items) (sym (moved.empties ∙ reported.empties)) (subst (λ u. IsPutAt place u a.empties.items b.empties.items) tag_is put);
+      patterns = moved.patterns ∙ reported.patterns ∙ patterns;
       ends = ends_are;
     }
 

@@ -76,7 +76,7 @@ pub ends_here : (scopes scopes' : List Scope) (ends : Ends) → scopes' ≡ scop
 ends_here scopes scopes' ends same are = subst (λ s. AreEnds s ends) (sym same) are
 
 pub moved_twice : (a b c : Checker) → IsMoved a b → IsMoved b c → IsMoved a c
-moved_twice a b c first second = record { scopes = second.scopes ∙ first.scopes; diagnostics = second.diagnostics ∙ first.diagnostics; empties = second.empties ∙ first.empties }
+moved_twice a b c first second = record { scopes = second.scopes ∙ first.scopes; diagnostics = second.diagnostics ∙ first.diagnostics; empties = second.empties ∙ first.empties; patterns = second.patterns ∙ first.patterns }
 
 pub are_conjoined : (left : LeftSide) (right : Outcome) (a b c d : Checker) (refused : Option State) (both ends : Ends) (K : KindTree) (wanted holds : Bool) → b ≡ a → refused ≡ way a.state.scopes (if_state wanted a.state.known) → wanted ≡ may_be_no_truth right.kind
     → c.state.known ≡ if_state holds b.state.known → holds ≡ may_be_truth right.kind → IsMoved b c → AreBothSides left right.ends c d both
@@ -159,7 +159,7 @@ last_beside ways last outcome a b here are kind ends stand known moved = record 
 
 -- a dead state, with nothing else changed
 pub killed : (a b : Checker) (s : State) → b ≡ a → s ≡ record b.state { known = None } → IsMoved a (record b { state = s })
-killed a b s still dead = record { scopes = ap (λ t. t.scopes) dead ∙ ap (λ x. x.state.scopes) still; diagnostics = ap (λ x. x.diagnostics) still; empties = ap (λ x. x.empties) still }
+killed a b s still dead = record { scopes = ap (λ t. t.scopes) dead ∙ ap (λ x. x.state.scopes) still; diagnostics = ap (λ x. x.diagnostics) still; empties = ap (λ x. x.empties) still; patterns = ap (λ x. x.patterns) still }
 
 pub is_returned : (part : Outcome) (a b : Checker) (s : State) (here : Option Returned) (ends : Ends) (K : KindTree) → AreEnds a.state.scopes part.ends → IsRootKind part.kind → b ≡ a → s ≡ record b.state { known = None } → here ≡ returning a.state.scopes part.kind a.state.known
     → AreJoinedReturns part.ends.ret here ends.ret → ends ≡ record part.ends { ret = ends.ret } → ((scopes : List Scope) → AreEnds scopes part.ends → IsReturnIn scopes here → AreEnds scopes ends) → K ≡ never_kind
@@ -183,6 +183,7 @@ is_aborted part span a b s ends K wrong is told dead kind =
       known = ap (λ t. t.known) dead;
       diagnostics = reported.diagnostics;
       empties = reported.empties;
+      patterns = reported.patterns;
       kind = kind;
       ends = reported.ends;
     }

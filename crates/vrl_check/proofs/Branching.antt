@@ -21,7 +21,7 @@ use Rattle.vrl_check.specs.declared.ends.Ends.{Ends}
 use Rattle.vrl_check.specs.declared.outcome.Outcome.{Outcome}
 use Rattle.vrl_check.proofs.Parts.{are_ends_of, behind_with, is_behind, reported_judged, returns_but_fail}
 use Rattle.vrl_check.proofs.RootKinds.{either_root, never_root, or_else_root, scalar_root}
-use Rattle.vrl_check.proofs.Told.{gathers_codes, gathers_moved, gathers_two, has_gathered, told_expr, IsTold, IsToldExpr}
+use Rattle.vrl_check.proofs.Told.{gathers_codes, gathers_moved, gathers_two, has_gathered, judges_at, told_expr, IsTold, IsToldExpr}
 use Rattle.vrl_check.proofs.Ways.{branch_alive, no_ends_are}
 
 -- ---- two sides
@@ -45,7 +45,7 @@ conjunction_told l r a b c d e part other outcome side x step or_fail y last = �
     let behind : IsBehind j k (behind_with last.both j k) = is_behind side.part.ends other.ends last.both j k (returns_but_fail part.ends side.part.ends j or_fail.others (refl, refl, refl)) (refl, refl, refl) last.ends in (
       record (behind_with last.both j k) { kind = outcome.kind; ok = e.state.known; fail = known_on outcome.ends.fail },
       a_conjunction (known_on side.part.ends.fail) (known_on last.both.fail)
-          (subst (λ s. Judges s l j) alive x.judges) (subst (λ s. Judges s r k) step.known y.judges) behind last.kind
+          (subst (λ s. Judges a.patterns.now s l j) alive x.judges) (judges_at a c _ r k (step.moved.patterns ∙ x.ended.gathers.patterns) step.known y.judges) behind last.kind
           (subst (λ s. IsJoined s (if_state (may_be_truth other.kind) d.state.known) e.state.known) step.beside last.known)
           or_fail.fail last.ends.fail last.or_fail.fail,
       record {
@@ -79,7 +79,7 @@ disjunction_told l r a b c d e part other outcome side x step y kind joined last
     let k = seen other d y.codes y.tags in
     let both : IsThen j k (behind_with outcome.ends j k) = record { behind = is_behind part.ends other.ends outcome.ends j k (refl, refl, refl) (refl, refl, refl) joined; fail = joined.fail } in (
       record (behind_with outcome.ends j k) { kind = outcome.kind; ok = e.state.known },
-      a_disjunction (subst (λ s. Judges s l j) alive x.judges) (subst (λ s. Judges s r k) step.known y.judges) both kind
+      a_disjunction (subst (λ s. Judges a.patterns.now s l j) alive x.judges) (judges_at a c _ r k (step.moved.patterns ∙ x.ended.gathers.patterns) step.known y.judges) both kind
           (subst (λ s. IsJoined s d.state.known e.state.known) step.beside last.known),
       record {
         kind = refl;
@@ -116,7 +116,7 @@ coalescing_told span l r a b c d e f part other middle side ends x step y kind j
     let ds = when (not (part.ends.poisoned || is_alive (known_on part.ends.fail))) (at 651 span) in
     let whole : Judgement = record (behind_with middle.ends j k) { kind = middle.kind; ok = e.state.known; fail = known_on other.ends.fail } in (
       with_codes ds whole,
-      a_coalescing (subst (λ s. Judges s l j) alive x.judges) (subst (λ s. Judges s r k) step.known y.judges)
+      a_coalescing (subst (λ s. Judges a.patterns.now s l j) alive x.judges) (judges_at a c _ r k (step.moved.patterns ∙ x.ended.gathers.patterns) step.known y.judges)
           (is_behind (record part.ends { fail = None }) other.ends middle.ends j k (refl, refl, refl) (refl, refl, refl) joined) kind
           (subst (λ s. IsJoined s d.state.known e.state.known) step.beside last.known),
       reported_judged ds a e f middle (record { kind = middle.kind; ends = ends }) whole reported refl (record {
@@ -153,7 +153,7 @@ return_told : (v : Expr) (a b c : Checker) (part outcome : Outcome) → IsToldEx
 return_told v a b c part outcome x last = λ span known alive.
     let j = seen part b x.codes x.tags in (
       record j { kind = never_kind; ok = None; ret = return_state outcome.ends.ret; returned = return_kind outcome.ends.ret },
-      a_return (subst (λ s. Judges s v j) alive x.judges) last.ret last.returned,
+      a_return (subst (λ s. Judges a.patterns.now s v j) alive x.judges) last.ret last.returned,
       record {
         kind = last.kind;
         root = never_root;
@@ -186,7 +186,7 @@ abort_alone a s outcome dead kind ends = λ span known alive. (
       returned = ap (λ y. return_kind y.ret) ends;
       poisoned = ap (λ y. y.poisoned) ends;
     };
-    gathered = record { ok = ap (λ t. t.known) dead; scopes = ap (λ t. t.scopes) dead; diagnostics = sym (append-nil a.diagnostics.items); empties = sym (append-nil a.empties.items) };
+    gathered = record { ok = ap (λ t. t.known) dead; scopes = ap (λ t. t.scopes) dead; diagnostics = sym (append-nil a.diagnostics.items); empties = sym (append-nil a.empties.items); patterns = refl };
   },
 )
 
@@ -195,7 +195,7 @@ abort_told m a b c part outcome x last = λ span known alive.
     let j = seen part b x.codes x.tags in
     let ds = of_message (span_of m) j in (
       with_codes ds (record j { kind = never_kind; ok = None }),
-      an_abort_with (subst (λ s. Judges s m j) alive x.judges),
+      an_abort_with (subst (λ s. Judges a.patterns.now s m j) alive x.judges),
       record {
         kind = last.kind;
         root = never_root;
@@ -206,7 +206,7 @@ abort_told m a b c part outcome x last = λ span known alive.
           returned = ap (λ x. return_kind x.ret) last.ends;
           poisoned = ap (λ x. x.poisoned) last.ends;
         };
-        gathered = has_gathered a c _ (gathers_codes a b c x.codes ds x.tags x.ended.gathers last.scopes last.diagnostics last.empties) last.known;
+        gathered = has_gathered a c _ (gathers_codes a b c x.codes ds x.tags x.ended.gathers last.scopes last.diagnostics last.empties last.patterns) last.known;
       },
     )
 

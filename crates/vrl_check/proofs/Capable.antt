@@ -1,15 +1,17 @@
 -- What can be judged has parts that can be judged.
-use Rattle.std.proofs.Common.{◌≡◌, ◌+◌, ℕ, Bool, true, false, ◌||◌, List, [], ◌∷◌, ◌++◌, refl, ap, ◌∙◌}
-use Rattle.std.proofs.lemmas.Bool.{true≢false}
+use Rattle.std.proofs.Common.{◌≡◌, ◌+◌, ℕ, Bool, true, false, ◌&&◌, ◌||◌, List, [], ◌∷◌, ◌++◌, Option, refl, ap, ap₂, ◌∙◌}
+use Rattle.std.proofs.lemmas.Bool.{and_parts, true≢false}
 use Rattle.vrl_path.specs.declared.path.Step.{Step}
 use Rattle.vrl_diag.specs.declared.diagnostic.Span.{Span}
-use Rattle.vrl_syntax.specs.Limits.{expr_faults, exprs_faults, pairs_faults, target_faults}
-use Rattle.vrl_syntax.specs.Tree.{Expr, expr, Form, array, object, query, group, block, conditional, negation, binary, assign, merge, both, call, return_of, abort_with, Exprs, exprs, Pairs, no_pairs, pair, Arms, Else, Args, Closure, message}
+use Rattle.vrl_syntax.specs.Limits.{args_faults, expr_faults, exprs_faults, pairs_faults, target_faults}
+use Rattle.vrl_syntax.specs.Regexes.{expr_regexes_below, exprs_regexes_below, pairs_regexes_below}
+use Rattle.vrl_syntax.specs.Tree.{Expr, expr, Form, array, object, query, group, block, conditional, negation, binary, assign, merge, both, call, return_of, abort_with, Exprs, exprs, Pairs, no_pairs, pair, Arms, Else, Args, no_args, arg, Closure, message}
+use Rattle.vrl_syntax.specs.Written.{is_del}
 use Rattle.vrl_syntax.specs.declared.root.Op.{Op}
 use Rattle.vrl_syntax.specs.declared.root.Target.{Target}
-use Rattle.vrl_check.specs.Calls.{expr_holds_call, exprs_hold_call, pairs_hold_call}
+use Rattle.vrl_check.specs.Calls.{takes_closure, expr_holds_closure_call, exprs_hold_closure_call, pairs_hold_closure_call}
 use Rattle.vrl_check.specs.Judgement.{pair_values}
-use Rattle.vrl_check.specs.Judging.{ArmsCanBeJudged, CanBeJudged, ElseCanBeJudged, FormCanBeJudged, ItemsCanBeJudged, PairsCanBeJudged}
+use Rattle.vrl_check.specs.Judging.{ArgumentsCanBeJudged, ArmsCanBeJudged, CanBeJudged, ElseCanBeJudged, FormCanBeJudged, ItemsCanBeJudged, PairsCanBeJudged}
 use Rattle.vrl_check.proofs.Sizes.{expr_size, exprs_size, pairs_size}
 
 -- ---- neither of two
@@ -24,86 +26,114 @@ none_of_both (x ∷ xs) ys none = absurd (cc)
 
 -- ---- the parts of a form
 
-pub form_can : (span : Span) (f : Form) → CanBeJudged (expr span f) → FormCanBeJudged f
-form_can span f can = record { calls = can.calls; limits = can.limits }
+-- arguments whose paths keep the limits where they are deleted keep them where they aren't
+kept_faults : (deleted : Bool) (gs : Args) → args_faults deleted gs ≡ [] → args_faults false gs ≡ []
+kept_faults deleted no_args none = refl
+kept_faults deleted (arg name span e gs) none =
+    let parts = none_of_both _ _ (none_of_both _ _ none).1 in
+    ap₂ (λ xs ys. xs ++ ys) parts.0 (kept_faults deleted gs parts.1)
 
-pub array_can : (es : Exprs) → FormCanBeJudged (array es) → ItemsCanBeJudged es
-array_can es can = record { calls = can.calls; limits = can.limits }
+pub form_can : {sources : List (List ℕ)} (span : Span) (f : Form) → CanBeJudged sources (expr span f) → FormCanBeJudged sources f
+form_can span f can = record { calls = can.calls; limits = can.limits; regexes = can.regexes }
 
-pub object_can : (ps : Pairs) → FormCanBeJudged (object ps) → PairsCanBeJudged ps
-object_can ps can = record { calls = can.calls; limits = can.limits }
+pub array_can : {sources : List (List ℕ)} (es : Exprs) → FormCanBeJudged sources (array es) → ItemsCanBeJudged sources es
+array_can es can = record { calls = can.calls; limits = can.limits; regexes = can.regexes }
 
-pub query_can : (e : Expr) (path : List Step) → FormCanBeJudged (query e path) → CanBeJudged e
-query_can e path can = record { calls = can.calls; limits = can.limits }
+pub object_can : {sources : List (List ℕ)} (ps : Pairs) → FormCanBeJudged sources (object ps) → PairsCanBeJudged sources ps
+object_can ps can = record { calls = can.calls; limits = can.limits; regexes = can.regexes }
 
-pub group_can : (e : Expr) → FormCanBeJudged (group e) → CanBeJudged e
-group_can e can = record { calls = can.calls; limits = can.limits }
+pub query_can : {sources : List (List ℕ)} (e : Expr) (path : List Step) → FormCanBeJudged sources (query e path) → CanBeJudged sources e
+query_can e path can = record { calls = can.calls; limits = can.limits; regexes = can.regexes }
 
-pub block_can : (es : Exprs) → FormCanBeJudged (block es) → ItemsCanBeJudged es
-block_can es can = record { calls = can.calls; limits = can.limits }
+pub group_can : {sources : List (List ℕ)} (e : Expr) → FormCanBeJudged sources (group e) → CanBeJudged sources e
+group_can e can = record { calls = can.calls; limits = can.limits; regexes = can.regexes }
 
-pub negation_can : (e : Expr) → FormCanBeJudged (negation e) → CanBeJudged e
-negation_can e can = record { calls = can.calls; limits = can.limits }
+pub block_can : {sources : List (List ℕ)} (es : Exprs) → FormCanBeJudged sources (block es) → ItemsCanBeJudged sources es
+block_can es can = record { calls = can.calls; limits = can.limits; regexes = can.regexes }
 
-pub return_can : (e : Expr) → FormCanBeJudged (return_of e) → CanBeJudged e
-return_can e can = record { calls = can.calls; limits = can.limits }
+pub negation_can : {sources : List (List ℕ)} (e : Expr) → FormCanBeJudged sources (negation e) → CanBeJudged sources e
+negation_can e can = record { calls = can.calls; limits = can.limits; regexes = can.regexes }
 
-pub abort_can : (e : Expr) → FormCanBeJudged (abort_with (message e)) → CanBeJudged e
-abort_can e can = record { calls = can.calls; limits = can.limits }
+pub return_can : {sources : List (List ℕ)} (e : Expr) → FormCanBeJudged sources (return_of e) → CanBeJudged sources e
+return_can e can = record { calls = can.calls; limits = can.limits; regexes = can.regexes }
 
-pub conditional_can : (gs : Arms) (es : Else) → FormCanBeJudged (conditional gs es) → ArmsCanBeJudged gs × ElseCanBeJudged es
+pub abort_can : {sources : List (List ℕ)} (e : Expr) → FormCanBeJudged sources (abort_with (message e)) → CanBeJudged sources e
+abort_can e can = record { calls = can.calls; limits = can.limits; regexes = can.regexes }
+
+pub conditional_can : {sources : List (List ℕ)} (gs : Arms) (es : Else) → FormCanBeJudged sources (conditional gs es) → ArmsCanBeJudged sources gs × ElseCanBeJudged sources es
 conditional_can gs es can =
     let calls = neither _ _ can.calls in
     let limits = none_of_both _ _ can.limits in
-    (record { calls = calls.0; limits = limits.0 }, record { calls = calls.1; limits = limits.1 })
+    let regexes = and_parts _ _ can.regexes in
+    (record { calls = calls.0; limits = limits.0; regexes = regexes.0 }, record { calls = calls.1; limits = limits.1; regexes = regexes.1 })
 
-pub binary_can : (o : Op) (l r : Expr) → FormCanBeJudged (binary o l r) → CanBeJudged l × CanBeJudged r
+pub binary_can : {sources : List (List ℕ)} (o : Op) (l r : Expr) → FormCanBeJudged sources (binary o l r) → CanBeJudged sources l × CanBeJudged sources r
 binary_can o l r can =
-    let calls = neither (expr_holds_call l) (expr_holds_call r) can.calls in
+    let calls = neither (expr_holds_closure_call l) (expr_holds_closure_call r) can.calls in
     let limits = none_of_both (expr_faults l) (expr_faults r) can.limits in
-    (record { calls = calls.0; limits = limits.0 }, record { calls = calls.1; limits = limits.1 })
+    let regexes = and_parts _ _ can.regexes in
+    (record { calls = calls.0; limits = limits.0; regexes = regexes.0 }, record { calls = calls.1; limits = limits.1; regexes = regexes.1 })
 
-pub assign_can : (t : Target) (e : Expr) → FormCanBeJudged (assign t e) → (target_faults t ≡ []) × CanBeJudged e
+pub assign_can : {sources : List (List ℕ)} (t : Target) (e : Expr) → FormCanBeJudged sources (assign t e) → (target_faults t ≡ []) × CanBeJudged sources e
 assign_can t e can =
     let limits = none_of_both (target_faults t) (expr_faults e) can.limits in
-    (limits.0, record { calls = can.calls; limits = limits.1 })
+    (limits.0, record { calls = can.calls; limits = limits.1; regexes = can.regexes })
 
-pub merge_can : (t : Target) (e : Expr) → FormCanBeJudged (merge t e) → (target_faults t ≡ []) × CanBeJudged e
+pub merge_can : {sources : List (List ℕ)} (t : Target) (e : Expr) → FormCanBeJudged sources (merge t e) → (target_faults t ≡ []) × CanBeJudged sources e
 merge_can t e can =
     let limits = none_of_both (target_faults t) (expr_faults e) can.limits in
-    (limits.0, record { calls = can.calls; limits = limits.1 })
+    (limits.0, record { calls = can.calls; limits = limits.1; regexes = can.regexes })
 
-pub both_can : (t u : Target) (e : Expr) → FormCanBeJudged (both t u e) → (target_faults t ≡ []) × (target_faults u ≡ []) × CanBeJudged e
+pub both_can : {sources : List (List ℕ)} (t u : Target) (e : Expr) → FormCanBeJudged sources (both t u e) → (target_faults t ≡ []) × (target_faults u ≡ []) × CanBeJudged sources e
 both_can t u e can =
     let first = none_of_both (target_faults t) (target_faults u ++ expr_faults e) can.limits in
     let second = none_of_both (target_faults u) (expr_faults e) first.1 in
-    (first.0, second.0, record { calls = can.calls; limits = second.1 })
+    (first.0, second.0, record { calls = can.calls; limits = second.1; regexes = can.regexes })
 
--- a call isn't judged
-pub no_call : (name : List ℕ) (span : Span) (bang : Bool) (gs : Args) (c : Closure) → FormCanBeJudged (call name span bang gs c) → ⊥
-no_call name span bang gs c can = true≢false can.calls
+-- a call: its arguments, and the paths that it may delete
+pub arguments_can : {sources : List (List ℕ)} (name : List ℕ) (span : Span) (bang : Bool) (gs : Args) (c : Closure) → FormCanBeJudged sources (call name span bang gs c) → ArgumentsCanBeJudged sources gs
+arguments_can name span bang gs c can = record {
+  calls = (neither _ _ (neither _ _ can.calls).1).0;
+  limits = kept_faults (is_del name) gs (none_of_both _ _ can.limits).0;
+  regexes = (and_parts _ _ can.regexes).0;
+}
+
+pub callee_can : {sources : List (List ℕ)} (name : List ℕ) (span : Span) (bang : Bool) (gs : Args) (c : Closure) → FormCanBeJudged sources (call name span bang gs c) → takes_closure name ≡ false
+callee_can name span bang gs c can = (neither _ _ can.calls).0
 
 -- ---- lists
 
-pub first_can : (e : Expr) (es : Exprs) → ItemsCanBeJudged (exprs e es) → CanBeJudged e
+pub first_can : {sources : List (List ℕ)} (e : Expr) (es : Exprs) → ItemsCanBeJudged sources (exprs e es) → CanBeJudged sources e
 first_can e es can =
-    record { calls = (neither (expr_holds_call e) (exprs_hold_call es) can.calls).0; limits = (none_of_both (expr_faults e) (exprs_faults es) can.limits).0 }
+    record { calls = (neither (expr_holds_closure_call e) (exprs_hold_closure_call es) can.calls).0; limits = (none_of_both (expr_faults e) (exprs_faults es) can.limits).0; regexes = (and_parts _ _ can.regexes).0 }
 
-pub rest_can : (e : Expr) (es : Exprs) → ItemsCanBeJudged (exprs e es) → ItemsCanBeJudged es
+pub rest_can : {sources : List (List ℕ)} (e : Expr) (es : Exprs) → ItemsCanBeJudged sources (exprs e es) → ItemsCanBeJudged sources es
 rest_can e es can =
-    record { calls = (neither (expr_holds_call e) (exprs_hold_call es) can.calls).1; limits = (none_of_both (expr_faults e) (exprs_faults es) can.limits).1 }
+    record { calls = (neither (expr_holds_closure_call e) (exprs_hold_closure_call es) can.calls).1; limits = (none_of_both (expr_faults e) (exprs_faults es) can.limits).1; regexes = (and_parts _ _ can.regexes).1 }
+
+pub first_argument_can : {sources : List (List ℕ)} (name : Option (List ℕ)) (span : Span) (e : Expr) (gs : Args) → ArgumentsCanBeJudged sources (arg name span e gs) → CanBeJudged sources e
+first_argument_can name span e gs can =
+    record { calls = (neither _ _ can.calls).0; limits = (none_of_both (expr_faults e) (args_faults false gs) can.limits).0; regexes = (and_parts _ _ can.regexes).0 }
+
+pub other_arguments_can : {sources : List (List ℕ)} (name : Option (List ℕ)) (span : Span) (e : Expr) (gs : Args) → ArgumentsCanBeJudged sources (arg name span e gs) → ArgumentsCanBeJudged sources gs
+other_arguments_can name span e gs can =
+    record { calls = (neither _ _ can.calls).1; limits = (none_of_both (expr_faults e) (args_faults false gs) can.limits).1; regexes = (and_parts _ _ can.regexes).1 }
 
 -- the values of an object are judged as items
-values_hold_call : (ps : Pairs) → exprs_hold_call (pair_values ps) ≡ pairs_hold_call ps
-values_hold_call no_pairs = refl
-values_hold_call (pair n e ps) = ap (λ b. expr_holds_call e || b) (values_hold_call ps)
+values_hold_closure_call : (ps : Pairs) → exprs_hold_closure_call (pair_values ps) ≡ pairs_hold_closure_call ps
+values_hold_closure_call no_pairs = refl
+values_hold_closure_call (pair n e ps) = ap (λ b. expr_holds_closure_call e || b) (values_hold_closure_call ps)
 
 values_faults : (ps : Pairs) → exprs_faults (pair_values ps) ≡ pairs_faults ps
 values_faults no_pairs = refl
 values_faults (pair n e ps) = ap (λ ds. expr_faults e ++ ds) (values_faults ps)
 
-pub values_can : (ps : Pairs) → PairsCanBeJudged ps → ItemsCanBeJudged (pair_values ps)
-values_can ps can = record { calls = values_hold_call ps ∙ can.calls; limits = values_faults ps ∙ can.limits }
+values_regexes : (count : ℕ) (ps : Pairs) → exprs_regexes_below count (pair_values ps) ≡ pairs_regexes_below count ps
+values_regexes count no_pairs = refl
+values_regexes count (pair n e ps) = ap (λ b. expr_regexes_below count e && b) (values_regexes count ps)
+
+pub values_can : {sources : List (List ℕ)} (ps : Pairs) → PairsCanBeJudged sources ps → ItemsCanBeJudged sources (pair_values ps)
+values_can ps can = record { calls = values_hold_closure_call ps ∙ can.calls; limits = values_faults ps ∙ can.limits; regexes = values_regexes _ ps ∙ can.regexes }
 
 pub values_size : (ps : Pairs) → exprs_size (pair_values ps) ≡ pairs_size ps
 values_size no_pairs = refl

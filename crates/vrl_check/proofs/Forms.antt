@@ -19,7 +19,7 @@ use Rattle.vrl_value.specs.declared.value.Tag.{Tag}
 use Rattle.vrl_value.specs.declared.value.Tag.TheVariants as tag
 use Rattle.vrl_check.specs.Branching.{IsOrFail}
 use Rattle.vrl_check.specs.Empties.{expr_empties, exprs_empties}
-use Rattle.vrl_check.specs.Judgement.{Judgement, Judges, unreached, reached, a_literal, a_known_root, an_unknown_root, a_query, a_group, a_block, a_negation, an_equality, of_table, a_merge, JudgesBoth, operands, JudgesBlock, unreached_block, reached_block, IsMerged, IsMergedIf, IsReadAt, IsScalar, at, chained, gives, if_state, is_alive, is_compared, is_comparison, is_equality, is_other, kept, left, no_objects, nothing, of_item, of_pairs, scalars_at, settle, settled_kind, some_pair, span_of, table_of, table_tags, with_codes, when}
+use Rattle.vrl_check.specs.Judgement.{Judgement, Judges, unreached, reached, a_literal, a_known_root, an_unknown_root, a_query, a_group, a_block, a_negation, an_equality, of_table, a_merge, JudgesBoth, operands, JudgesBlock, unreached_block, reached_block, IsMerged, IsMergedIf, IsReadAt, IsScalar, at, chained, gives, if_state, is_alive, is_compared, is_comparison, is_equality, is_other, kept, left, no_objects, nothing, of_item, of_pairs, scalars_at, settle, settled_kind, some_pair, span_of, table_of, table_tags, with_codes, when, JudgesAll}
 use Rattle.vrl_check.specs.Judging.{AreBoth, AreEnds, AreJoinedEnds, AreLeftEnds, ArePairedAs, HasEnds, HasGathered, HasJudged, HaveCommonScopes, IsAnywhereAs, IsBesideAs, IsBlockAs, IsBlockEndAs, IsCombinedAs, IsEquatedAs, IsGivenAs, IsInBlock, IsItemAs, IsJudgedAs, IsMergedAs, IsMoved, IsNegatedAs, IsReadOffAs, IsReported, IsSequenceAs, IsSettledAs, known_on, no_ends, settled_ends, table_rule}
 use Rattle.vrl_check.specs.declared.checker.Checker.{Checker}
 use Rattle.vrl_check.specs.declared.ends.Ends.{Ends}
@@ -29,6 +29,7 @@ use Rattle.vrl_check.specs.declared.tables.Table.{Table}
 use Rattle.vrl_check.proofs.Parts.{are_ends_of, behind_with, ends_in, ends_of, ends_or_fail, fails_as, gathered_moved, gathered_of, kept_is, left_ends, reported_ends, reported_gathered, reported_judged, reported_more, settled_judged}
 use Rattle.vrl_check.proofs.Partway.{part_are, part_then, value_ends, value_gathered, with_kind_of}
 use Rattle.vrl_check.proofs.RootKinds.{any_root, merged_root, read_root, scalar_root, table_root, value_root}
+use Rattle.vrl_check.proofs.Told.{judges_at}
 use Rattle.vrl_check.proofs.Ways.{common, join_of}
 
 -- two clauses of one outcome
@@ -49,7 +50,7 @@ here_are before after part j has = subst (λ s. AreEnds s part.ends) (sym has.ga
 -- where no way leads to it
 pub expr_passed : (e : Expr) (before after : Checker) (outcome : Outcome) → before.state.known ≡ None → HasJudged before after outcome (record (nothing (expr_empties e)) { ok = before.state.known }) → IsJudgedAs e before after outcome
 expr_passed e before after outcome dead has =
-    (nothing (expr_empties e), subst (λ k. Judges k e (nothing (expr_empties e))) (sym dead) unreached, subst (λ k. HasJudged before after outcome (record (nothing (expr_empties e)) { ok = k })) dead has)
+    (nothing (expr_empties e), subst (λ k. Judges before.patterns.now k e (nothing (expr_empties e))) (sym dead) unreached, subst (λ k. HasJudged before after outcome (record (nothing (expr_empties e)) { ok = k })) dead has)
 
 -- where one does
 pub expr_reached : (e : Expr) (span : Span) (f : Form) (before after : Checker) (part outcome : Outcome) → e ≡ expr span f → before.state.known ≢ None → IsGivenAs span f before after part → IsSettledAs part after outcome → IsJudgedAs e before after outcome
@@ -58,7 +59,7 @@ expr_reached e span f before after part outcome is alive given settles = by befo
   by None dead = absurd (alive dead)
   by (Some known) here =
       let form = given known here in
-      (settle form.0, subst (λ k. Judges k e (settle form.0)) (sym here) (subst (λ x. Judges (Some known) x (settle form.0)) (sym is) (reached form.1)), settles before form.0 form.2)
+      (settle form.0, subst (λ k. Judges before.patterns.now k e (settle form.0)) (sym here) (subst (λ x. Judges before.patterns.now (Some known) x (settle form.0)) (sym is) (reached form.1)), settles before form.0 form.2)
 
 pub expr_settled : (now : Checker) (part outcome : Outcome) (alive : Bool) → alive ≡ is_some now.state.known
     → outcome.kind ≡ settled_kind part.ends.poisoned alive part.kind → outcome.ends ≡ settled_ends part.ends → IsSettledAs part now outcome
@@ -126,28 +127,28 @@ read_off path part now K at_path before j has =
 pub query_given : (e : Expr) (path : List Step) (before after : Checker) (part outcome : Outcome) → IsJudgedAs e before after part → IsReadOffAs path part after outcome → IsAnywhereAs (query e path) before after outcome
 query_given e path before after part outcome judged off span known alive =
     let whole = off before judged.0 judged.2 in
-    (record judged.0 { kind = whole.0 }, a_query (subst (λ k. Judges k e judged.0) alive judged.1) whole.1, whole.2)
+    (record judged.0 { kind = whole.0 }, a_query (subst (λ k. Judges before.patterns.now k e judged.0) alive judged.1) whole.1, whole.2)
 
 pub group_given : (e : Expr) (before after : Checker) (outcome : Outcome) → IsJudgedAs e before after outcome → IsAnywhereAs (group e) before after outcome
-group_given e before after outcome judged span known alive = (judged.0, a_group (subst (λ k. Judges k e judged.0) alive judged.1), judged.2)
+group_given e before after outcome judged span known alive = (judged.0, a_group (subst (λ k. Judges before.patterns.now k e judged.0) alive judged.1), judged.2)
 
 -- ---- blocks
 
 pub block_given : (es : Exprs) (before after : Checker) (outcome : Outcome) → IsBlockAs es before after outcome → IsAnywhereAs (block es) before after outcome
-block_given es before after outcome judged span known alive = (judged.0, a_block (subst (λ k. JudgesBlock k es judged.0) alive judged.1), judged.2)
+block_given es before after outcome judged span known alive = (judged.0, a_block (subst (λ k. JudgesBlock before.patterns.now k es judged.0) alive judged.1), judged.2)
 
 pub block_passed : (es : Exprs) (before after : Checker) (outcome : Outcome) → before.state.known ≡ None → HasJudged before after outcome (record (nothing (exprs_empties es)) { ok = before.state.known }) → IsBlockAs es before after outcome
 block_passed es before after outcome dead has =
-    (nothing (exprs_empties es), subst (λ k. JudgesBlock k es (nothing (exprs_empties es))) (sym dead) unreached_block, subst (λ k. HasJudged before after outcome (record (nothing (exprs_empties es)) { ok = k })) dead has)
+    (nothing (exprs_empties es), subst (λ k. JudgesBlock before.patterns.now k es (nothing (exprs_empties es))) (sym dead) unreached_block, subst (λ k. HasJudged before after outcome (record (nothing (exprs_empties es)) { ok = k })) dead has)
 
-pub block_reached : (es : Exprs) (before entered now after : Checker) (part outcome : Outcome) → before.state.known ≢ None → IsEntered before.state entered.state → entered.diagnostics ≡ before.diagnostics → entered.empties ≡ before.empties
+pub block_reached : (es : Exprs) (before entered now after : Checker) (part outcome : Outcome) → before.state.known ≢ None → IsEntered before.state entered.state → entered.diagnostics ≡ before.diagnostics → entered.empties ≡ before.empties → entered.patterns ≡ before.patterns
     → IsSequenceAs es entered now part → IsBlockEndAs part now after outcome → IsBlockAs es before after outcome
-block_reached es before entered now after part outcome alive enters same_codes same_empties sequence ends_block = by before.state.known refl where
+block_reached es before entered now after part outcome alive enters same_codes same_empties same_patterns sequence ends_block = by before.state.known refl where
   by : (known : Option RootMap) → before.state.known ≡ known → IsBlockAs es before after outcome
   by None dead = absurd (alive dead)
   by (Some known) here =
       let all = sequence known (enters.known ∙ here) in
-      (settle (left known all.2), subst (λ k. JudgesBlock k es (settle (left known all.2))) (sym here) (reached_block all.3 all.4), ends_block before entered known all.2 here enters same_codes same_empties all.5)
+      (settle (left known all.2), subst (λ k. JudgesBlock before.patterns.now k es (settle (left known all.2))) (sym here) (reached_block all.3 (subst (λ ps. JudgesAll ps.now (gives all.0 (Some known)) es all.1 all.2) same_patterns all.4)), ends_block before entered known all.2 here enters same_codes same_empties same_patterns all.5)
 
 -- the items of an open block
 pub in_block : (es : Exprs) (before entered now : Checker) (part : Outcome) → before.state.known ≢ None → IsEntered before.state entered.state → IsSequenceAs es entered now part → IsInBlock now part
@@ -169,9 +170,9 @@ kept_all scope known None names = refl
 kept_all scope known (Some roots) names = ap Some (kept_is scope known roots names)
 
 -- the end of an open block
-pub block_ended : (now after : Checker) (part outcome : Outcome) (ends : Ends) → IsLeft now.state after.state → after.diagnostics ≡ now.diagnostics → after.empties ≡ now.empties
+pub block_ended : (now after : Checker) (part outcome : Outcome) (ends : Ends) → IsLeft now.state after.state → after.diagnostics ≡ now.diagnostics → after.empties ≡ now.empties → after.patterns ≡ now.patterns
     → ((scope : Scope) (scopes : List Scope) → AreEnds (scope ∷ scopes) part.ends → AreLeftEnds scope scopes part.ends ends) → IsSettledAs (record { kind = part.kind; ends = ends }) after outcome → IsBlockEndAs part now after outcome
-block_ended now after part outcome ends leaves same_codes same_empties left_so settles before entered known j here enters entered_codes entered_empties has =
+block_ended now after part outcome ends leaves same_codes same_empties same_patterns left_so settles before entered known j here enters entered_codes entered_empties entered_patterns has =
     let lists : leaves.scope ∷ after.state.scopes ≡ enters.scope ∷ before.state.scopes = sym leaves.scopes ∙ has.gathered.scopes ∙ enters.scopes in
     let one : leaves.scope ≡ enters.scope = cc in
     let rest : after.state.scopes ≡ before.state.scopes = cc in
@@ -187,6 +188,7 @@ block_ended now after part outcome ends leaves same_codes same_empties left_so s
         scopes = rest;
         diagnostics = ap (λ ds. ds.items) same_codes ∙ has.gathered.diagnostics ∙ ap (λ ds. ds.items ++ j.codes) entered_codes;
         empties = ap (λ ts. ts.items) same_empties ∙ has.gathered.empties ∙ ap (λ ts. ts.items ++ j.empties) entered_empties;
+        patterns = same_patterns ∙ has.gathered.patterns ∙ entered_patterns;
       };
     })
 
@@ -195,7 +197,7 @@ block_ended now after part outcome ends leaves same_codes same_empties left_so s
 pub negation_given : (span : Span) (e : Expr) (before now after : Checker) (part outcome : Outcome) → IsJudgedAs e before now part → IsNegatedAs span part now after outcome → IsGivenAs span (negation e) before after outcome
 negation_given span e before now after part outcome judged negates known alive =
     let whole = negates before judged.0 judged.2 in
-    (with_codes (when (is_other tag.Bool judged.0) (at 660 span)) (record judged.0 { kind = whole.0 }), a_negation (subst (λ k. Judges k e judged.0) alive judged.1) whole.1, whole.2)
+    (with_codes (when (is_other tag.Bool judged.0) (at 660 span)) (record judged.0 { kind = whole.0 }), a_negation (subst (λ k. Judges before.patterns.now k e judged.0) alive judged.1) whole.1, whole.2)
 
 -- the code's test of a part is that of its judgement
 other_is : (t : Tag) (before now : Checker) (part : Outcome) (j : Judgement) → HasJudged before now part j → (is_some now.state.known && not part.ends.poisoned && not (is_alone (root_tags part.kind) t)) ≡ is_other t j
@@ -216,16 +218,16 @@ negated span now after part other new K is told scalar before j has =
 pub operands_given : (l r : Expr) (before now after : Checker) (first : Outcome) (parts : Operands) → IsJudgedAs l before now first → IsBesideAs r first now after parts → AreBoth l r before after parts
 operands_given l r before now after first parts judged beside =
     let both = beside before judged.0 judged.2 in
-    (judged.0, both.0, both.1, judged.1, subst (λ k. Judges k r both.0) judged.2.gathered.ok both.2, both.3, both.4)
+    (judged.0, both.0, both.1, judged.1, subst (λ k. Judges before.patterns.now k r both.0) judged.2.gathered.ok both.2, both.3, both.4)
 
-both_judged : (l r : Expr) (before after : Checker) (parts : Operands) (known : RootMap) (both : AreBoth l r before after parts) → before.state.known ≡ Some known → JudgesBoth known l r both.0 both.1 both.2
-both_judged l r before after parts known both alive = operands (subst (λ k. Judges k l both.0) alive both.3) both.4 both.5
+both_judged : (l r : Expr) (before after : Checker) (parts : Operands) (known : RootMap) (both : AreBoth l r before after parts) → before.state.known ≡ Some known → JudgesBoth before.patterns.now known l r both.0 both.1 both.2
+both_judged l r before after parts known both alive = operands (subst (λ k. Judges before.patterns.now k l both.0) alive both.3) both.4 both.5
 
 pub beside_given : (r : Expr) (now after : Checker) (first second : Outcome) (other : Bool) (parts : Operands) → other ≡ (is_some now.state.known && not first.ends.poisoned && not (is_alone (root_tags first.kind) tag.Object))
     → IsJudgedAs r now after second → ArePairedAs first other second after parts → IsBesideAs r first now after parts
 beside_given r now after first second other parts is judged paired before j has =
     let both = paired before now j judged.0 has (other_of tag.Object before now first j other has is) judged.2 in
-    (judged.0, both.0, judged.1, both.1, both.2)
+    (judged.0, both.0, judges_at before now now.state.known r judged.0 has.gathered.patterns refl judged.1, both.1, both.2)
 
 pub paired : (first second : Outcome) (other also : Bool) (after : Checker) (ends : Ends) → also ≡ (is_some after.state.known && not second.ends.poisoned && not (is_alone (root_tags second.kind) tag.Object))
     → AreJoinedEnds first.ends second.ends ends → ((scopes : List Scope) → AreEnds scopes first.ends → AreEnds scopes second.ends → AreEnds scopes ends)

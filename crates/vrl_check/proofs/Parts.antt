@@ -136,6 +136,7 @@ gathered_of before after j k has ok codes empties = record {
   scopes = has.scopes;
   diagnostics = has.diagnostics ∙ ap (λ ds. before.diagnostics.items ++ ds) codes;
   empties = has.empties ∙ ap (λ ts. before.empties.items ++ ts) empties;
+  patterns = has.patterns;
 }
 
 -- parts in order gather what both do
@@ -145,6 +146,7 @@ gathered_behind before middle after j k whole first second behind = record {
   scopes = second.scopes ∙ first.scopes;
   diagnostics = added before.diagnostics.items middle.diagnostics.items after.diagnostics.items j.codes k.codes first.diagnostics second.diagnostics ∙ ap (λ ds. before.diagnostics.items ++ ds) (sym behind.codes);
   empties = added before.empties.items middle.empties.items after.empties.items j.empties k.empties first.empties second.empties ∙ ap (λ ts. before.empties.items ++ ts) (sym behind.empties);
+  patterns = second.patterns ∙ first.patterns;
 }
 
 -- where only the state goes on, that is what is known
@@ -154,6 +156,7 @@ gathered_moved before middle after j has moved = record {
   scopes = moved.scopes ∙ has.scopes;
   diagnostics = ap (λ ds. ds.items) moved.diagnostics ∙ has.diagnostics;
   empties = ap (λ ts. ts.items) moved.empties ∙ has.empties;
+  patterns = moved.patterns ∙ has.patterns;
 }
 
 -- nothing is gathered where nothing is done
@@ -163,6 +166,7 @@ gathered_none now j ok codes empties = record {
   scopes = refl;
   diagnostics = sym (append-nil now.diagnostics.items) ∙ ap (λ ds. now.diagnostics.items ++ ds) (sym codes);
   empties = sym (append-nil now.empties.items) ∙ ap (λ ts. now.empties.items ++ ts) (sym empties);
+  patterns = refl;
 }
 
 -- ---- codes
@@ -185,6 +189,7 @@ reported_gathered ds start before after old new j told has = record {
   scopes = ap (λ s. s.scopes) told.state ∙ has.scopes;
   diagnostics = added start.diagnostics.items before.diagnostics.items after.diagnostics.items j.codes ds has.diagnostics told.diagnostics;
   empties = ap (λ ts. ts.items) told.empties ∙ has.empties;
+  patterns = told.patterns ∙ has.patterns;
 }
 
 -- a code that doesn't stand
@@ -193,6 +198,7 @@ reported_none now ends = record {
   diagnostics = sym (append-nil now.diagnostics.items);
   state = refl;
   empties = refl;
+  patterns = refl;
   ends = ap {A = Bool} (λ b. record ends { poisoned = b }) (sym (or-false ends.poisoned));
 }
 
@@ -205,6 +211,7 @@ reported_more ds es before middle after old next new first second = record {
   diagnostics = added before.diagnostics.items middle.diagnostics.items after.diagnostics.items ds es first.diagnostics second.diagnostics;
   state = second.state ∙ first.state;
   empties = second.empties ∙ first.empties;
+  patterns = second.patterns ∙ first.patterns;
   ends = second.ends
       ∙ ap (with_error_of es) first.ends
       ∙ ap {A = Bool} (λ b. record old { poisoned = b }) (or_assoc old.poisoned (list_any is_error ds) (list_any is_error es) ∙ ap (λ b. old.poisoned || b) (sym (list_any-append is_error ds es)));

@@ -1,9 +1,9 @@
 -- Parts as the walk told them, one behind another.
-use Rattle.std.proofs.Common.{◌≡◌, List, ◌++◌, refl, sym, ap, ◌∙◌, subst, append-nil}
+use Rattle.std.proofs.Common.{◌≡◌, List, Option, ◌++◌, refl, sym, ap, ◌∙◌, subst, append-nil}
 use Rattle.vrl_value.specs.declared.value.Tag.{Tag}
 use Rattle.vrl_diag.specs.declared.diagnostic.Diagnostic.{Diagnostic}
 use Rattle.vrl_syntax.specs.Tree.{Expr, Exprs}
-use Rattle.vrl_state.specs.States.{IsRootKind, Scope}
+use Rattle.vrl_state.specs.States.{IsRootKind, RootMap, Scope}
 use Rattle.vrl_check.specs.Judgement.{Judgement, Judges, JudgesBlock, gives}
 use Rattle.vrl_check.specs.Judging.{no_ends, AreEnds, HasEnds, HasGathered, HasJudged, IsBlockAs, IsJudgedAs, IsMoved, IsReported}
 use Rattle.vrl_check.specs.Seen.{seen}
@@ -34,12 +34,13 @@ pub record Gathers (before after : Checker) (ds : List Diagnostic) (ts : List Ta
   pub scopes : after.state.scopes ≡ before.state.scopes
   pub diagnostics : after.diagnostics.items ≡ before.diagnostics.items ++ ds
   pub empties : after.empties.items ≡ before.empties.items ++ ts
+  pub patterns : after.patterns ≡ before.patterns
 
 pub gathered : (before after : Checker) (j : Judgement) → HasGathered before after j → Gathers before after j.codes j.empties
-gathered before after j has = record { scopes = has.scopes; diagnostics = has.diagnostics; empties = has.empties }
+gathered before after j has = record { scopes = has.scopes; diagnostics = has.diagnostics; empties = has.empties; patterns = has.patterns }
 
 pub has_gathered : (before after : Checker) (j : Judgement) → Gathers before after j.codes j.empties → after.state.known ≡ j.ok → HasGathered before after j
-has_gathered before after j is ok = record { ok = ok; scopes = is.scopes; diagnostics = is.diagnostics; empties = is.empties }
+has_gathered before after j is ok = record { ok = ok; scopes = is.scopes; diagnostics = is.diagnostics; empties = is.empties; patterns = is.patterns }
 
 -- a part with its kind and its ends
 pub record IsTold (before after : Checker) (part : Outcome) (ds : List Diagnostic) (ts : List Tag) : Type 0 where
@@ -62,7 +63,7 @@ told before after part ds ts is = record {
   kind = refl;
   root = is.root;
   ends = seen_ends before.state.scopes part after ds ts is.are;
-  gathered = record { ok = refl; scopes = is.gathers.scopes; diagnostics = is.gathers.diagnostics; empties = is.gathers.empties };
+  gathered = record { ok = refl; scopes = is.gathers.scopes; diagnostics = is.gathers.diagnostics; empties = is.gathers.empties; patterns = is.gathers.patterns };
 }
 
 -- its ends where the part was judged stand where it ended too
@@ -75,36 +76,43 @@ value_judged now K root = record {
   kind = refl;
   root = root;
   ends = record { are = no_ends_are now.state.scopes; fail = refl; ret = refl; returned = refl; poisoned = refl };
-  gathered = record { ok = refl; scopes = refl; diagnostics = sym (append-nil now.diagnostics.items); empties = sym (append-nil now.empties.items) };
+  gathered = record { ok = refl; scopes = refl; diagnostics = sym (append-nil now.diagnostics.items); empties = sym (append-nil now.empties.items); patterns = refl };
 }
 
 -- ---- expressions and blocks
 
+-- a part is judged beside the same regexes wherever the walk stands
+pub judges_at : (a c : Checker) (known : Option RootMap) (e : Expr) (j : Judgement) → c.patterns ≡ a.patterns → c.state.known ≡ known → Judges c.patterns.now c.state.known e j → Judges a.patterns.now known e j
+judges_at a c known e j same here is = subst (λ s. Judges a.patterns.now s e j) here (subst (λ ps. Judges ps.now c.state.known e j) same is)
+
+pub block_at : (a c : Checker) (known : Option RootMap) (es : Exprs) (j : Judgement) → c.patterns ≡ a.patterns → c.state.known ≡ known → JudgesBlock c.patterns.now c.state.known es j → JudgesBlock a.patterns.now known es j
+block_at a c known es j same here is = subst (λ s. JudgesBlock a.patterns.now s es j) here (subst (λ ps. JudgesBlock ps.now c.state.known es j) same is)
+
 pub record IsToldExpr (e : Expr) (before after : Checker) (part : Outcome) : Type 0 where
   pub codes : List Diagnostic
   pub tags : List Tag
-  pub judges : Judges before.state.known e (seen part after codes tags)
+  pub judges : Judges before.patterns.now before.state.known e (seen part after codes tags)
   pub ended : IsTold before after part codes tags
 
 pub told_expr : (e : Expr) (before after : Checker) (part : Outcome) → IsJudgedAs e before after part → IsToldExpr e before after part
 told_expr e before after part is = record {
   codes = is.0.codes;
   tags = is.0.empties;
-  judges = subst (Judges before.state.known e) (as_seen before after part is.0 is.2) is.1;
+  judges = subst (Judges before.patterns.now before.state.known e) (as_seen before after part is.0 is.2) is.1;
   ended = told_of before after part is.0 is.2;
 }
 
 pub record IsToldBlock (es : Exprs) (before after : Checker) (part : Outcome) : Type 0 where
   pub codes : List Diagnostic
   pub tags : List Tag
-  pub judges : JudgesBlock before.state.known es (seen part after codes tags)
+  pub judges : JudgesBlock before.patterns.now before.state.known es (seen part after codes tags)
   pub ended : IsTold before after part codes tags
 
 pub told_block : (es : Exprs) (before after : Checker) (part : Outcome) → IsBlockAs es before after part → IsToldBlock es before after part
 told_block es before after part is = record {
   codes = is.0.codes;
   tags = is.0.empties;
-  judges = subst (JudgesBlock before.state.known es) (as_seen before after part is.0 is.2) is.1;
+  judges = subst (JudgesBlock before.patterns.now before.state.known es) (as_seen before after part is.0 is.2) is.1;
   ended = told_of before after part is.0 is.2;
 }
 
@@ -125,6 +133,7 @@ gathers_moved a b c ds ts is moved = record {
   scopes = moved.scopes ∙ is.scopes;
   diagnostics = ap (λ v. v.items) moved.diagnostics ∙ is.diagnostics;
   empties = ap (λ v. v.items) moved.empties ∙ is.empties;
+  patterns = moved.patterns ∙ is.patterns;
 }
 
 pub gathers_both : (a b c : Checker) (ds es : List Diagnostic) (ts us : List Tag) → Gathers a b ds ts → Gathers b c es us → Gathers a c (ds ++ es) (ts ++ us)
@@ -132,18 +141,20 @@ gathers_both a b c ds es ts us first second = record {
   scopes = second.scopes ∙ first.scopes;
   diagnostics = added a.diagnostics.items b.diagnostics.items c.diagnostics.items ds es first.diagnostics second.diagnostics;
   empties = added a.empties.items b.empties.items c.empties.items ts us first.empties second.empties;
+  patterns = second.patterns ∙ first.patterns;
 }
 
 -- codes behind what was gathered
-pub gathers_codes : (a b c : Checker) (ds es : List Diagnostic) (ts : List Tag) → Gathers a b ds ts → c.state.scopes ≡ b.state.scopes → c.diagnostics.items ≡ b.diagnostics.items ++ es → c.empties ≡ b.empties → Gathers a c (ds ++ es) ts
-gathers_codes a b c ds es ts is scopes diagnostics empties = record {
+pub gathers_codes : (a b c : Checker) (ds es : List Diagnostic) (ts : List Tag) → Gathers a b ds ts → c.state.scopes ≡ b.state.scopes → c.diagnostics.items ≡ b.diagnostics.items ++ es → c.empties ≡ b.empties → c.patterns ≡ b.patterns → Gathers a c (ds ++ es) ts
+gathers_codes a b c ds es ts is scopes diagnostics empties patterns = record {
   scopes = scopes ∙ is.scopes;
   diagnostics = added a.diagnostics.items b.diagnostics.items c.diagnostics.items ds es is.diagnostics diagnostics;
   empties = ap (λ v. v.items) empties ∙ is.empties;
+  patterns = patterns ∙ is.patterns;
 }
 
 pub gathers_reported : (a b c : Checker) (ds es : List Diagnostic) (ts : List Tag) (old new : Ends) → Gathers a b ds ts → IsReported es b c old new → Gathers a c (ds ++ es) ts
-gathers_reported a b c ds es ts old new is reported = gathers_codes a b c ds es ts is (ap (λ s. s.scopes) reported.state) reported.diagnostics reported.empties
+gathers_reported a b c ds es ts old new is reported = gathers_codes a b c ds es ts is (ap (λ s. s.scopes) reported.state) reported.diagnostics reported.empties reported.patterns
 
 -- two parts, with a step behind each
 pub gathers_two : (a b c d e : Checker) (ds es : List Diagnostic) (ts us : List Tag) → Gathers a b ds ts → IsMoved b c → Gathers c d es us → IsMoved d e → Gathers a e (ds ++ es) (ts ++ us)

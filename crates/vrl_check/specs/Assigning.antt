@@ -20,5 +20,6 @@ pub record AreAssigned (span : Span) (ok err : Target) (place : ℕ) (part : Out
   pub written : AreBothWritten ok err part.kind E before.state.known (known_on part.ends.fail) after.state.known
   pub scopes : after.state.scopes ≡ before.state.scopes
   pub diagnostics : after.diagnostics.items ≡ before.diagnostics.items ++ of_error_assignment span ok err (seen part before [] []) outcome.kind
+  pub patterns : after.patterns ≡ before.patterns
   pub empties : IsPutAt place (empty_tag part.kind) before.empties.items after.empties.items
   pub ends : outcome.ends ≡ record part.ends { fail = None; poisoned = part.ends.poisoned || list_any is_error (of_error_assignment span ok err (seen part before [] []) outcome.kind) }

@@ -112,5 +112,6 @@ pub record IsAborted (ds : List Diagnostic) (part : Outcome) (before after : Che
   pub known : after.state.known ≡ None
   pub diagnostics : after.diagnostics.items ≡ before.diagnostics.items ++ ds
   pub empties : after.empties ≡ before.empties
+  pub patterns : after.patterns ≡ before.patterns
   pub kind : outcome.kind ≡ never_kind
   pub ends : outcome.ends ≡ record part.ends { poisoned = part.ends.poisoned || list_any is_error ds }

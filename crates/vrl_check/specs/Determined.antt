@@ -1,9 +1,15 @@
--- A script has at most one judgement.
-use Rattle.std.specs.Prelude.{◌≡◌}
+-- What holds of every judgement of a script: there is at most one, and it has each empty value.
+use Rattle.std.specs.Prelude.{◌≡◌, ℕ, List, length}
 use Rattle.vrl_kind.specs.KindTree.{KindTree}
 use Rattle.vrl_syntax.specs.Tree.{Exprs}
+use Rattle.vrl_check.specs.Empties.{exprs_empties}
 use Rattle.vrl_check.specs.Judgement.{Judgement, JudgesScript}
 
--- two judgements of a script over events of one kind are the same. A call that is reached has no judgement, nor has its script
+-- two judgements of a script over events of one kind are the same. A call of a function that takes a closure has no judgement where it
+-- is reached, nor has its script
 abbrev pub JudgementsAreDetermined : Type 0
-JudgementsAreDetermined = (start : KindTree) (items : Exprs) (j k : Judgement) → JudgesScript start items j → JudgesScript start items k → j ≡ k
+JudgementsAreDetermined = (sources : List (List ℕ)) (start : KindTree) (items : Exprs) (j k : Judgement) → JudgesScript sources start items j → JudgesScript sources start items k → j ≡ k
+
+-- as many empty values as there are error assignments
+abbrev pub EmptiesAreCounted : Type 0
+EmptiesAreCounted = (sources : List (List ℕ)) (start : KindTree) (items : Exprs) (j : Judgement) → JudgesScript sources start items j → length j.empties ≡ length (exprs_empties items)

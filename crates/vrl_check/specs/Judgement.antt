@@ -4,9 +4,12 @@
 --
 -- Each form names its four ends: what is known where it ends with a value, with an error and with a return, and the kind of what
 -- is returned. In a dead state nothing can happen, and no code is given. Every kind is cut, and so is every join.
-use Rattle.std.specs.Prelude.{pos, ◌≡◌, ℕ, zero, suc, Bool, true, false, ◌||◌, ◌&&◌, not, ◌==◌, List, [], ◌∷◌, ◌++◌, Option, Some, None, is_some, bytes_eq, find, unwrap_or, if◌then◌else◌, option_map}
+use Rattle.std.specs.Prelude.{pos, ◌≡◌, ◌≢◌, ℕ, zero, suc, Bool, true, false, ◌||◌, ◌&&◌, not, ◌==◌, List, [], ◌∷◌, ◌++◌, map as map_list, slice_get, Option, Some, None, is_some, bytes_eq, find, unwrap_or, if◌then◌else◌, option_map, codes as bytes_of}
 use Rattle.std.specs.FinMap as map
 use Rattle.std.specs.List.{list_any}
+use Rattle.std.specs.Option.{option_map_or}
+use Rattle.std.specs.declared.result.Result.{Result}
+use Rattle.std.specs.declared.result.Result.TheVariants.{Ok, Err}
 use Rattle.vrl_value.specs.Look.{field, place}
 use Rattle.vrl_value.specs.Tree.{Tree, string, integer, boolean, null, timestamp, array as items, no_items, object as members, no_members}
 use Rattle.vrl_value.specs.declared.value.Tag.{Tag}
@@ -15,7 +18,8 @@ use Rattle.vrl_path.specs.declared.path.Step as steps
 use Rattle.vrl_path.specs.Steps.{plain}
 use Rattle.vrl_diag.specs.declared.diagnostic.Span.{Span}
 use Rattle.vrl_diag.specs.declared.diagnostic.Diagnostic.{Diagnostic}
-use Rattle.vrl_syntax.specs.Tree.{Expr, expr, Form, literal, array, object, read, query, group, block, conditional, negation, binary, assign, merge, both, return_of, abort_with, Exprs, no_exprs, exprs, Pairs, no_pairs, pair, Arms, no_arms, arm, Else, no_else, else_block, no_message, message}
+use Rattle.vrl_syntax.specs.Tree.{Expr, expr, Form, literal, array, object, read, query, group, block, conditional, negation, binary, assign, merge, both, call, return_of, abort_with, Exprs, no_exprs, exprs, Pairs, no_pairs, pair, Arms, no_arms, arm, Else, no_else, else_block, Args, no_args, arg, Closure, no_closure, closure, no_message, message}
+use Rattle.vrl_syntax.specs.Written.{is_del}
 use Rattle.vrl_syntax.specs.declared.root.Op.{Op}
 use Rattle.vrl_syntax.specs.declared.root.Op.TheVariants as op
 use Rattle.vrl_syntax.specs.declared.root.Root.{Root}
@@ -33,8 +37,19 @@ use Rattle.vrl_place.specs.Read.{allowed, HasJust}
 use Rattle.vrl_kind.specs.Change.{Sets}
 use Rattle.vrl_place.specs.Sets.{is_alone}
 use Rattle.vrl_state.specs.States as states
-use Rattle.vrl_state.specs.States.{RootMap, State, kind_of, IsCutOf, IsEither, IsJoined, IsStart}
-use Rattle.vrl_check.specs.Empties.{expr_empties, exprs_empties}
+use Rattle.vrl_state.specs.States.{RootMap, State, kind_of, with_kind, IsCutOf, IsEither, IsJoined, IsStart}
+use Rattle.vrl_builtin.specs.CutDown.{cut_to}
+use Rattle.vrl_builtin.specs.Law.{HasTags}
+use Rattle.vrl_builtin.specs.Rows.{GivenTree, ParameterRow, Row, parameter}
+use Rattle.vrl_builtin.specs.TagSets.{allows, any_tags}
+use Rattle.vrl_builtin.specs.declared.tags.Tags.{Tags as TagSet}
+use Rattle.vrl_table.specs.Binding.{binding, keywords_of}
+use Rattle.vrl_table.specs.Table.{row_of}
+use Rattle.vrl_table.specs.declared.binding.BindFault.{BindFault}
+use Rattle.vrl_table.specs.declared.binding.BindFault.TheVariants as fault
+use Rattle.vrl_table.specs.declared.function.Fun.{Fun}
+use Rattle.vrl_check.specs.Calls.{is_exists, takes_closure}
+use Rattle.vrl_check.specs.Empties.{closure_empties, expr_empties, exprs_empties}
 
 -- ---- kinds by their tags
 
@@ -354,150 +369,332 @@ of_predicate span j = if is_fallible j then at 1005 span else when (is_other tag
 abbrev pub of_item : Span → Judgement → List Diagnostic
 of_item span j = when (is_fallible j) (at 100 span)
 
+-- ---- calls
+
+-- an argument: its place from its keyword on, its value, and what that was judged to be
+pub record Argument : Type 0 where
+  pub span : Span
+  pub value : Expr
+  pub judged : Judgement
+
+-- the value of a literal that isn't in parentheses
+abbrev pub literal_of : Expr → Option Tree
+literal_of (expr span (literal v)) = Some v
+literal_of e = None
+
+-- the root and the steps of a path, or of a name alone
+abbrev pub path_of : Expr → Option (Root × List steps.Step)
+path_of (expr span (read root path)) = Some (root, path)
+path_of e = None
+
+-- no tag of the kind is one of these
+unfoldable pub is_disjoint : TagSet → KindTree → Bool
+is_disjoint T K = not (list_any (λ t. root_tags K t && allows T t) all_tags)
+
+-- some tag of the kind is none of these: the kind isn't within them
+unfoldable pub has_others : TagSet → KindTree → Bool
+has_others T K = list_any (λ t. root_tags K t && not (allows T t)) all_tags
+
+-- At most one code stands on an argument, the first of these: one that may fail is 630, one whose kind has no tag that the parameter
+-- allows 110, and one that isn't written as it must be 1013.
+abbrev pub of_argument : TagSet → Bool → Argument → List Diagnostic
+of_argument T unwritten a =
+    if is_fallible a.judged then at 630 (span_of a.value) else
+    (if is_known a.judged && is_disjoint T a.judged.kind then at 110 (span_of a.value) else when unwritten (at 1013 (span_of a.value)))
+
+-- a parameter that wants a literal has none, or one that the function doesn't allow
+abbrev pub wants_literal : Row → ℕ → ParameterRow → Expr → Bool
+wants_literal r i p e = p.literal && option_map_or (λ v. not (r.accepts i v)) (literal_of e) true
+
+-- `del` and `exists` take one argument of any kind, which is written as a path or a name
+abbrev pub path_parameters : List ParameterRow
+path_parameters = parameter (bytes_of "value") any_tags ∷ []
+
+abbrev pub wants_path : ℕ → ParameterRow → Expr → Bool
+wants_path i p e = not (is_some (path_of e))
+
+-- the argument of each parameter, where it has one
+abbrev pub argument_at : List Argument → Option ℕ → Option Argument
+argument_at js None = None
+argument_at js (Some i) = slice_get js i
+
+abbrev pub bound : List (Option ℕ) → List Argument → List (Option Argument)
+bound places js = map_list (argument_at js) places
+
+-- the codes of bound arguments, by the parameters from a place on
+abbrev pub of_arguments : (ℕ → ParameterRow → Expr → Bool) → ℕ → List ParameterRow → List (Option Argument) → List Diagnostic
+of_arguments wants i [] js = []
+of_arguments wants i (p ∷ ps) [] = []
+of_arguments wants i (p ∷ ps) (None ∷ js) = of_arguments wants (suc i) ps js
+of_arguments wants i (p ∷ ps) (Some g ∷ js) = of_argument p.allowed (wants i p g.value) g ++ of_arguments wants (suc i) ps js
+
+-- none of the functions that are told here takes a closure: 1010
+abbrev pub of_closure : Span → Closure → List Diagnostic
+of_closure span no_closure = []
+of_closure span (closure names es s) = at 1010 span
+
+-- the argument at a place has a keyword that is no parameter's name: 108
+abbrev pub of_unknown : Option Argument → List Diagnostic
+of_unknown None = []
+of_unknown (Some g) = at 108 g.span
+
+-- A call's own codes: one alone where its arguments aren't bound, which is 106, 108 or 107; else those of its arguments and of its closure.
+abbrev pub of_call : (ℕ → ParameterRow → Expr → Bool) → List ParameterRow → Span → Closure → List Argument → Result (List (Option ℕ)) BindFault → List Diagnostic
+of_call wants ps span c js (Ok places) = of_arguments wants 0 ps (bound places js) ++ of_closure span c
+of_call wants ps span c js (Err fault.Number) = at 106 span
+of_call wants ps span c js (Err (fault.Unknown i)) = of_unknown (slice_get js i)
+of_call wants ps span c js (Err (fault.Missing i)) = at 107 span
+of_call wants ps span c js (Err fault.Memory) = []
+
+-- the arguments in order, with the call's own codes; its closure isn't judged
+abbrev pub behind_arguments : (ℕ → ParameterRow → Expr → Bool) → List ParameterRow → Span → Args → Closure → List Argument → Judgement → Judgement
+behind_arguments wants ps span gs c js j = with_codes (of_call wants ps span c js (binding ps (keywords_of gs))) (record j { empties = j.empties ++ closure_empties c })
+
+-- the arguments of the parameters; none where they aren't bound
+abbrev pub bound_by : Result (List (Option ℕ)) BindFault → List Argument → List (Option Argument)
+bound_by (Ok places) js = bound places js
+bound_by (Err f) js = []
+
+-- the kind without the tags at its root that aren't among these
+pub record IsCutDown (T : TagSet) (K L : KindTree) : Type 0 where
+  pub canonical : IsCanonical L
+  pub tags : HasTags L (cut_to T K)
+
+-- what a function is asked about: the kind of each argument, cut down to the tags that its parameter allows, and its value where it is
+-- written as a literal
+abbrev pub IsGiven : ParameterRow → Option Argument → GivenTree → Type 0
+IsGiven p None given = given ≡ record { kind = None; literal = None }
+IsGiven p (Some g) given = (L : KindTree) × IsCutDown p.allowed g.judged.kind L × (given ≡ record { kind = Some L; literal = literal_of g.value })
+
+abbrev pub AreGiven : List ParameterRow → List (Option Argument) → List GivenTree → Type 0
+AreGiven (p ∷ ps) (g ∷ js) (given ∷ givens) = IsGiven p g given × AreGiven ps js givens
+AreGiven (p ∷ ps) (g ∷ js) [] = ⊥
+AreGiven ps js givens = givens ≡ []
+
+-- the kind of some argument isn't within its parameter's
+abbrev pub some_has_others : List ParameterRow → List (Option Argument) → Bool
+some_has_others (p ∷ ps) (Some g ∷ js) = has_others p.allowed g.judged.kind || some_has_others ps js
+some_has_others (p ∷ ps) (None ∷ js) = some_has_others ps js
+some_has_others ps js = false
+
+-- The kind of a call's value, cut, and whether it may end with an error of its own: where the kind of an argument isn't within its
+-- parameter's, or where the function may fail. Of a call that has an error code, or has one in it, nothing is asked.
+pub record IsAnswered (sources : List (List ℕ)) (r : Row) (js : List (Option Argument)) (K : KindTree) (may : Bool) : Type 0 where
+  pub givens : List GivenTree
+  pub given : AreGiven r.parameters js givens
+  pub kind : IsCutOf (r.kind givens sources) K
+  pub fails : may ≡ (some_has_others r.parameters js || r.may_fail givens)
+
+abbrev pub IsAnsweredUnless : Bool → List (List ℕ) → Row → List (Option Argument) → KindTree → Bool → Type 0
+IsAnsweredUnless true sources r js K may = (K ≡ any_kind) × (may ≡ false)
+IsAnsweredUnless false sources r js K may = IsAnswered sources r js K may
+
+-- A `!` leaves no error. A call that can't end with one is 620, where no other error code stands on it or in it.
+abbrev pub banged : Span → Bool → Judgement → Judgement
+banged span false j = j
+banged span true j = with_codes (when (not (j.poisoned || is_fallible j)) (at 620 span)) (record j { fail = None })
+
+-- what a `del` leaves of a root: an empty object of the event, and null in a variable
+abbrev pub left_in : Root → Tree
+left_in root.Event = members no_members
+left_in (root.Name x) = null
+
+-- the state without what stands at a path; that of a root is what is left in it
+abbrev pub IsDeleted : Root → List steps.Step → Option RootMap → Option RootMap → Type 0
+IsDeleted root [] before after = (K : KindTree) × IsCutOf (found_at (left_in root)) K × (after ≡ option_map (with_kind root K) before)
+IsDeleted root (step ∷ path) before after = states.IsTakenOut root (plain (step ∷ path)) before after
+
+abbrev pub IsDeletedAt : Option (Root × List steps.Step) → Option RootMap → Option RootMap → Type 0
+IsDeletedAt None before after = after ≡ before
+IsDeletedAt (Some found) before after = IsDeleted found.0 found.1 before after
+
+-- the path that a `del` deletes; none where an error code stands on it or in it
+abbrev pub deleted_path : Bool → List Argument → Option (Root × List steps.Step)
+deleted_path false (g ∷ []) = path_of g.value
+deleted_path poisoned js = None
+
+-- the kind of its value; any where an error code stands
+abbrev pub deleted_kind : Bool → List Argument → KindTree
+deleted_kind false (g ∷ []) = g.judged.kind
+deleted_kind poisoned js = any_kind
+
 -- ---- the forms
 
 mutual
-  pub data Judges : Option RootMap → Expr → Judgement → Type 0 where
-    unreached : {e : Expr} → Judges None e (nothing (expr_empties e))
-    reached : {known : RootMap} {span : Span} {f : Form} {j : Judgement} → Gives known span f j → Judges (Some known) (expr span f) (settle j)
+  pub data Judges (sources : List (List ℕ)) : Option RootMap → Expr → Judgement → Type 0 where
+    unreached : {e : Expr} → Judges sources None e (nothing (expr_empties e))
+    reached : {known : RootMap} {span : Span} {f : Form} {j : Judgement} → Gives sources known span f j → Judges sources (Some known) (expr span f) (settle j)
 
   -- what a form gives where it is reached, before it is settled
-  pub data Gives : RootMap → Span → Form → Judgement → Type 0 where
+  pub data Gives (sources : List (List ℕ)) : RootMap → Span → Form → Judgement → Type 0 where
     a_literal : {known : RootMap} {span : Span} {v : Tree} {K : KindTree}
         → IsCutOf (found_at v) K
-        → Gives known span (literal v) (gives K (Some known))
+        → Gives sources known span (literal v) (gives K (Some known))
     an_array : {known : RootMap} {span : Span} {es : Exprs} {j : Judgement} {Ks : List KindTree} {K : KindTree}
-        → JudgesAll (gives never_kind (Some known)) es Ks j → IsCutOf (array_at Ks) K
-        → Gives known span (array es) (record j { kind = K })
+        → JudgesAll sources (gives never_kind (Some known)) es Ks j → IsCutOf (array_at Ks) K
+        → Gives sources known span (array es) (record j { kind = K })
     an_object : {known : RootMap} {span : Span} {ps : Pairs} {j : Judgement} {Ks : List KindTree} {K : KindTree}
-        → JudgesAll (gives never_kind (Some known)) (pair_values ps) Ks j → IsCutOf (object_at (pair_names ps) Ks) K
-        → Gives known span (object ps) (record j { kind = K })
+        → JudgesAll sources (gives never_kind (Some known)) (pair_values ps) Ks j → IsCutOf (object_at (pair_names ps) Ks) K
+        → Gives sources known span (object ps) (record j { kind = K })
     -- reads: a variable that isn't known is 701
     a_known_root : {known : RootMap} {span : Span} {root : Root} {path : List steps.Step} {K M : KindTree}
         → kind_of root known ≡ Some K → IsReadAt K path M
-        → Gives known span (read root path) (gives M (Some known))
+        → Gives sources known span (read root path) (gives M (Some known))
     an_unknown_root : {known : RootMap} {span : Span} {root : Root} {path : List steps.Step}
         → kind_of root known ≡ None
-        → Gives known span (read root path) (with_codes (at 701 span) (gives any_kind (Some known)))
+        → Gives sources known span (read root path) (with_codes (at 701 span) (gives any_kind (Some known)))
     a_query : {known : RootMap} {span : Span} {e : Expr} {path : List steps.Step} {j : Judgement} {K : KindTree}
-        → Judges (Some known) e j → IsReadAt j.kind path K
-        → Gives known span (query e path) (record j { kind = K })
+        → Judges sources (Some known) e j → IsReadAt j.kind path K
+        → Gives sources known span (query e path) (record j { kind = K })
     -- what holds items
     a_group : {known : RootMap} {span : Span} {e : Expr} {j : Judgement}
-        → Judges (Some known) e j
-        → Gives known span (group e) j
+        → Judges sources (Some known) e j
+        → Gives sources known span (group e) j
     a_block : {known : RootMap} {span : Span} {es : Exprs} {j : Judgement}
-        → JudgesBlock (Some known) es j
-        → Gives known span (block es) j
+        → JudgesBlock sources (Some known) es j
+        → Gives sources known span (block es) j
     a_conditional : {known : RootMap} {span : Span} {gs : Arms} {es : Else} {j : Judgement}
-        → JudgesArms (Some known) (nothing []) gs es j
-        → Gives known span (conditional gs es) j
+        → JudgesArms sources (Some known) (nothing []) gs es j
+        → Gives sources known span (conditional gs es) j
     -- operators
     a_negation : {known : RootMap} {span : Span} {e : Expr} {j : Judgement} {K : KindTree}
-        → Judges (Some known) e j → IsScalar tag.Bool K
-        → Gives known span (negation e) (with_codes (when (is_other tag.Bool j) (at 660 span)) (record j { kind = K }))
+        → Judges sources (Some known) e j → IsScalar tag.Bool K
+        → Gives sources known span (negation e) (with_codes (when (is_other tag.Bool j) (at 660 span)) (record j { kind = K }))
     an_equality : {known : RootMap} {span : Span} {o : Op} {l r : Expr} {j k whole : Judgement} {K : KindTree}
-        → is_equality o ≡ true → JudgesBoth known l r j k whole → IsScalar tag.Bool K
-        → Gives known span (binary o l r) (with_codes (chained span o l r) (record whole { kind = K }))
+        → is_equality o ≡ true → JudgesBoth sources known l r j k whole → IsScalar tag.Bool K
+        → Gives sources known span (binary o l r) (with_codes (chained span o l r) (record whole { kind = K }))
     of_table : {known : RootMap} {span : Span} {o : Op} {table : Tag → Tag → Option Tag} {l r : Expr} {j k whole : Judgement} {K : KindTree} {fail : Option RootMap}
-        → table_of o ≡ Some table → JudgesBoth known l r j k whole
+        → table_of o ≡ Some table → JudgesBoth sources known l r j k whole
         → IsCutOf (scalars_at (table_tags table j.kind k.kind)) K
         → IsJoined whole.fail (if_state (some_pair (λ a b. not (is_some (table a b))) j.kind k.kind) whole.ok) fail
-        → Gives known span (binary o l r) (of_pairs table j k (with_codes (chained span o l r) whole) K fail)
+        → Gives sources known span (binary o l r) (of_pairs table j k (with_codes (chained span o l r) whole) K fail)
     a_merge : {known : RootMap} {span : Span} {l r : Expr} {j k whole : Judgement} {K : KindTree}
-        → JudgesBoth known l r j k whole → IsMerged j.kind k.kind K
-        → Gives known span (binary op.Merge l r) (with_codes (no_objects (span_of l) (span_of r) j k) (record whole { kind = K }))
+        → JudgesBoth sources known l r j k whole → IsMerged j.kind k.kind K
+        → Gives sources known span (binary op.Merge l r) (with_codes (no_objects (span_of l) (span_of r) j k) (record whole { kind = K }))
     -- `&&`: the right side is judged where the left one may be a boolean
     a_conjunction : {known : RootMap} {span : Span} {l r : Expr} {j k whole : Judgement} {K : KindTree} (left_fail part_fail : Option RootMap) {ok fail : Option RootMap}
-        → Judges (Some known) l j → Judges (if_state (root_tags j.kind tag.Bool) j.ok) r k → IsBehind j k whole → IsScalar tag.Bool K
+        → Judges sources (Some known) l j → Judges sources (if_state (root_tags j.kind tag.Bool) j.ok) r k → IsBehind j k whole → IsScalar tag.Bool K
         → IsJoined (if_state (may_be_truth j.kind) j.ok) (if_state (may_be_truth k.kind) k.ok) ok
         → IsJoined j.fail (if_state (may_be_no_truth j.kind) j.ok) left_fail → IsJoined left_fail k.fail part_fail → IsJoined part_fail (if_state (may_be_no_truth k.kind) k.ok) fail
-        → Gives known span (binary op.And l r) (record whole { kind = K; ok = ok; fail = fail })
+        → Gives sources known span (binary op.And l r) (record whole { kind = K; ok = ok; fail = fail })
     -- `||`: the right side is judged where the left one may be null or a boolean; its value is the whole's alone where the left is exactly null
     a_disjunction : {known : RootMap} {span : Span} {l r : Expr} {j k whole : Judgement} {K : KindTree} {ok : Option RootMap}
-        → Judges (Some known) l j → Judges (if_state (may_be_truth j.kind) j.ok) r k → IsThen j k whole
+        → Judges sources (Some known) l j → Judges sources (if_state (may_be_truth j.kind) j.ok) r k → IsThen j k whole
         → IsCutOf (or_else_at j.kind k.kind) K
         → IsJoined (if_state (not (is_alone (root_tags j.kind) tag.Null)) j.ok) k.ok ok
-        → Gives known span (binary op.Or l r) (record whole { kind = K; ok = ok })
+        → Gives sources known span (binary op.Or l r) (record whole { kind = K; ok = ok })
     -- `??`: the right side is judged where the left one ended with an error. A left side that can't fail is 651, a warning
     a_coalescing : {known : RootMap} {span : Span} {l r : Expr} {j k whole : Judgement} {K : KindTree} {ok : Option RootMap}
-        → Judges (Some known) l j → Judges j.fail r k → IsBehind j k whole
+        → Judges sources (Some known) l j → Judges sources j.fail r k → IsBehind j k whole
         → IsEither j.kind k.kind K → IsJoined j.ok k.ok ok
-        → Gives known span (binary op.Coalesce l r) (with_codes (when (not (j.poisoned || is_fallible j)) (at 651 span)) (record whole { kind = K; ok = ok; fail = k.fail }))
+        → Gives sources known span (binary op.Coalesce l r) (with_codes (when (not (j.poisoned || is_fallible j)) (at 651 span)) (record whole { kind = K; ok = ok; fail = k.fail }))
     -- assignments
     an_assignment : {known : RootMap} {span : Span} {t : Target} {e : Expr} {j : Judgement} {ok : Option RootMap}
-        → Judges (Some known) e j → IsWritten t j.kind j.ok ok
-        → Gives known span (assign t e) (with_codes (of_assignment span t j) (record j { ok = ok }))
+        → Judges sources (Some known) e j → IsWritten t j.kind j.ok ok
+        → Gives sources known span (assign t e) (with_codes (of_assignment span t j) (record j { ok = ok }))
     a_merge_into_nothing : {known : RootMap} {span : Span} {e : Expr} {j : Judgement}
-        → Judges (Some known) e j
-        → Gives known span (merge Nowhere e) (with_codes (at 640 span) j)
+        → Judges sources (Some known) e j
+        → Gives sources known span (merge Nowhere e) (with_codes (at 640 span) j)
     -- `t |= e` is `t = t | e`
     a_merge_assignment : {known : RootMap} {span s : Span} {root : Root} {path : List steps.Step} {e : Expr} {j : Judgement} {ok : Option RootMap}
-        → Judges (Some known) (expr span (binary op.Merge (expr s (read root path)) e)) j → IsWritten (Place s root path) j.kind j.ok ok
-        → Gives known span (merge (Place s root path) e) (with_codes (of_assignment span (Place s root path) j) (record j { ok = ok }))
+        → Judges sources (Some known) (expr span (binary op.Merge (expr s (read root path)) e)) j → IsWritten (Place s root path) j.kind j.ok ok
+        → Gives sources known span (merge (Place s root path) e) (with_codes (of_assignment span (Place s root path) j) (record j { ok = ok }))
     -- `t, u = e`: behind a value the value and null are written; behind an error the empty value and a text
     an_error_assignment : {known : RootMap} {span : Span} {t u : Target} {e : Expr} {j : Judgement} {E K N T : KindTree} (given given_both failed failed_both : Option RootMap) {ok : Option RootMap}
-        → Judges (Some known) e j
+        → Judges sources (Some known) e j
         → IsCutOf (found_at (empty_value (empty_tag j.kind))) E → IsEither j.kind E K
         → IsScalar tag.Null N → IsScalar tag.Text T
         → IsWritten t j.kind j.ok given → IsWritten u N given given_both
         → IsWritten t E j.fail failed → IsWritten u T failed failed_both
         → IsJoined given_both failed_both ok
-        → Gives known span (both t u e) (with_codes (of_error_assignment span t u j K) (record j { kind = K; ok = ok; fail = None; empties = empty_tag j.kind ∷ j.empties }))
+        → Gives sources known span (both t u e) (with_codes (of_error_assignment span t u j K) (record j { kind = K; ok = ok; fail = None; empties = empty_tag j.kind ∷ j.empties }))
+    -- calls: a function that there isn't is 105
+    a_call_of_nothing : {known : RootMap} {span s : Span} {name : List ℕ} {bang : Bool} {gs : Args} {c : Closure} {js : List Argument} {j : Judgement}
+        → ((function : Fun) → (row_of function).name ≢ name) → (is_del name || (is_exists name || takes_closure name)) ≡ false
+        → JudgesArguments sources (gives never_kind (Some known)) gs js j
+        → Gives sources known span (call name s bang gs c) (with_codes (at 105 s) (record j { kind = any_kind; empties = j.empties ++ closure_empties c }))
+    a_call : {known : RootMap} {span s : Span} (function : Fun) {name : List ℕ} {bang : Bool} {gs : Args} {c : Closure} {js : List Argument} {j whole : Judgement} (K : KindTree) (fails : Bool) (fail : Option RootMap)
+        → (row_of function).name ≡ name
+        → JudgesArguments sources (gives never_kind (Some known)) gs js j
+        → whole ≡ behind_arguments (wants_literal (row_of function)) (row_of function).parameters span gs c js j
+        → IsAnsweredUnless whole.poisoned sources (row_of function) (bound_by (binding (row_of function).parameters (keywords_of gs)) js) K fails
+        → IsJoined whole.fail (if_state fails whole.ok) fail
+        → Gives sources known span (call name s bang gs c) (banged span bang (record whole { kind = K; fail = fail }))
+    -- `del`: the kind is that of reading the path, and what stands there is taken out
+    a_deletion : {known : RootMap} {span s : Span} {name : List ℕ} {bang : Bool} {gs : Args} {c : Closure} {js : List Argument} {j whole : Judgement} (ok : Option RootMap)
+        → is_del name ≡ true
+        → JudgesArguments sources (gives never_kind (Some known)) gs js j
+        → whole ≡ behind_arguments wants_path path_parameters span gs c js j
+        → IsDeletedAt (deleted_path whole.poisoned js) whole.ok ok
+        → Gives sources known span (call name s bang gs c) (banged span bang (record whole { kind = deleted_kind whole.poisoned js; ok = ok }))
+    -- `exists`: a boolean, and the state stays
+    an_existence : {known : RootMap} {span s : Span} {name : List ℕ} {bang : Bool} {gs : Args} {c : Closure} {js : List Argument} {j whole : Judgement} (K : KindTree)
+        → is_exists name ≡ true
+        → JudgesArguments sources (gives never_kind (Some known)) gs js j
+        → whole ≡ behind_arguments wants_path path_parameters span gs c js j
+        → IsScalar tag.Bool K
+        → Gives sources known span (call name s bang gs c) (banged span bang (record whole { kind = K }))
     -- ends
     a_return : {known : RootMap} {span : Span} {e : Expr} {j : Judgement} {ret : Option RootMap} {R : KindTree}
-        → Judges (Some known) e j → IsJoined j.ret j.ok ret → IsEither j.returned (settled_kind false (is_alive j.ok) j.kind) R
-        → Gives known span (return_of e) (record j { kind = never_kind; ok = None; ret = ret; returned = R })
+        → Judges sources (Some known) e j → IsJoined j.ret j.ok ret → IsEither j.returned (settled_kind false (is_alive j.ok) j.kind) R
+        → Gives sources known span (return_of e) (record j { kind = never_kind; ok = None; ret = ret; returned = R })
     an_abort : {known : RootMap} {span : Span}
-        → Gives known span (abort_with no_message) (nothing [])
+        → Gives sources known span (abort_with no_message) (nothing [])
     -- a message that may fail, or isn't exactly a text, is 1011
     an_abort_with : {known : RootMap} {span : Span} {e : Expr} {j : Judgement}
-        → Judges (Some known) e j
-        → Gives known span (abort_with (message e)) (with_codes (when (is_fallible j || is_other tag.Text j) (at 1011 (span_of e))) (record j { kind = never_kind; ok = None }))
+        → Judges sources (Some known) e j
+        → Gives sources known span (abort_with (message e)) (with_codes (when (is_fallible j || is_other tag.Text j) (at 1011 (span_of e))) (record j { kind = never_kind; ok = None }))
 
   -- two operands, the second judged where the first ends with a value
-  pub data JudgesBoth : RootMap → Expr → Expr → Judgement → Judgement → Judgement → Type 0 where
+  pub data JudgesBoth (sources : List (List ℕ)) : RootMap → Expr → Expr → Judgement → Judgement → Judgement → Type 0 where
     operands : {known : RootMap} {l r : Expr} {j k whole : Judgement}
-        → Judges (Some known) l j → Judges j.ok r k → IsThen j k whole
-        → JudgesBoth known l r j k whole
+        → Judges sources (Some known) l j → Judges sources j.ok r k → IsThen j k whole
+        → JudgesBoth sources known l r j k whole
 
   -- expressions behind what was judged before them, with their kinds
-  pub data JudgesAll : Judgement → Exprs → List KindTree → Judgement → Type 0 where
-    no_more : {before : Judgement} → JudgesAll before no_exprs [] before
+  pub data JudgesAll (sources : List (List ℕ)) : Judgement → Exprs → List KindTree → Judgement → Type 0 where
+    no_more : {before : Judgement} → JudgesAll sources before no_exprs [] before
     one_more : {before j middle after : Judgement} {e : Expr} {es : Exprs} {Ks : List KindTree}
-        → Judges before.ok e j → IsThen before j middle → JudgesAll middle es Ks after
-        → JudgesAll before (exprs e es) (j.kind ∷ Ks) after
+        → Judges sources before.ok e j → IsThen before j middle → JudgesAll sources middle es Ks after
+        → JudgesAll sources before (exprs e es) (j.kind ∷ Ks) after
+
+  -- the arguments of a call behind what was judged before them
+  pub data JudgesArguments (sources : List (List ℕ)) : Judgement → Args → List Argument → Judgement → Type 0 where
+    no_more_arguments : {before : Judgement} → JudgesArguments sources before no_args [] before
+    one_more_argument : {before j middle after : Judgement} {name : Option (List ℕ)} {span : Span} {e : Expr} {gs : Args} {js : List Argument}
+        → Judges sources before.ok e j → IsThen before j middle → JudgesArguments sources middle gs js after
+        → JudgesArguments sources before (arg name span e gs) (record { span = span; value = e; judged = j } ∷ js) after
 
   -- the items of a block or a branch; an empty one gives null, and its names end with it
-  pub data JudgesBlock : Option RootMap → Exprs → Judgement → Type 0 where
-    unreached_block : {es : Exprs} → JudgesBlock None es (nothing (exprs_empties es))
+  pub data JudgesBlock (sources : List (List ℕ)) : Option RootMap → Exprs → Judgement → Type 0 where
+    unreached_block : {es : Exprs} → JudgesBlock sources None es (nothing (exprs_empties es))
     reached_block : {known : RootMap} {es : Exprs} {Ks : List KindTree} {N : KindTree} {j : Judgement}
-        → IsScalar tag.Null N → JudgesAll (gives N (Some known)) es Ks j
-        → JudgesBlock (Some known) es (settle (left known j))
+        → IsScalar tag.Null N → JudgesAll sources (gives N (Some known)) es Ks j
+        → JudgesBlock sources (Some known) es (settle (left known j))
 
   -- the arms of an `if` beside the ways before them: each branch is judged behind all predicates before it
-  pub data JudgesArms : Option RootMap → Judgement → Arms → Else → Judgement → Type 0 where
+  pub data JudgesArms (sources : List (List ℕ)) : Option RootMap → Judgement → Arms → Else → Judgement → Type 0 where
     an_arm : {state : Option RootMap} {ways j with_predicate k with_branch all : Judgement} {p : Expr} {es : Exprs} {gs : Arms} {otherwise : Else}
-        → Judges state p j → IsBeside ways (record (with_codes (of_predicate (span_of p) j) j) { kind = never_kind; ok = None }) with_predicate
-        → JudgesBlock j.ok es k → IsBeside with_predicate k with_branch
-        → JudgesArms j.ok with_branch gs otherwise all
-        → JudgesArms state ways (arm p es gs) otherwise all
+        → Judges sources state p j → IsBeside ways (record (with_codes (of_predicate (span_of p) j) j) { kind = never_kind; ok = None }) with_predicate
+        → JudgesBlock sources j.ok es k → IsBeside with_predicate k with_branch
+        → JudgesArms sources j.ok with_branch gs otherwise all
+        → JudgesArms sources state ways (arm p es gs) otherwise all
     an_else : {state : Option RootMap} {ways k all : Judgement} {es : Exprs}
-        → JudgesBlock state es k → IsBeside ways k all
-        → JudgesArms state ways no_arms (else_block es) all
+        → JudgesBlock sources state es k → IsBeside ways k all
+        → JudgesArms sources state ways no_arms (else_block es) all
     a_missing_else : {state : Option RootMap} {ways all : Judgement} {N : KindTree}
         → IsScalar tag.Null N → IsBeside ways (settle (gives N state)) all
-        → JudgesArms state ways no_arms no_else all
+        → JudgesArms sources state ways no_arms no_else all
 
 -- the items of a script: one that may fail is 100
-pub data JudgesItems : Judgement → Exprs → Judgement → Type 0 where
-  no_more_items : {before : Judgement} → JudgesItems before no_exprs before
+pub data JudgesItems (sources : List (List ℕ)) : Judgement → Exprs → Judgement → Type 0 where
+  no_more_items : {before : Judgement} → JudgesItems sources before no_exprs before
   one_more_item : {before j middle after : Judgement} {e : Expr} {es : Exprs}
-      → Judges before.ok e j → IsThen before (with_codes (of_item (span_of e) j) j) middle → JudgesItems middle es after
-      → JudgesItems before (exprs e es) after
+      → Judges sources before.ok e j → IsThen before (with_codes (of_item (span_of e) j) j) middle → JudgesItems sources middle es after
+      → JudgesItems sources before (exprs e es) after
 
 -- a script over events of a kind; an empty one gives null
-pub data JudgesScript : KindTree → Exprs → Judgement → Type 0 where
+pub data JudgesScript (sources : List (List ℕ)) : KindTree → Exprs → Judgement → Type 0 where
   a_script : {start N : KindTree} {state : State} {es : Exprs} {j : Judgement}
-      → IsStart start state → IsScalar tag.Null N → JudgesItems (gives N state.known) es j
-      → JudgesScript start es (settle j)
+      → IsStart start state → IsScalar tag.Null N → JudgesItems sources (gives N state.known) es j
+      → JudgesScript sources start es (settle j)

@@ -6,15 +6,16 @@ use Rattle.vrl_value.specs.declared.value.Tag.TheVariants as tag
 use Rattle.vrl_path.specs.declared.path.Step.{Step}
 use Rattle.vrl_diag.specs.declared.diagnostic.Diagnostic.{Diagnostic}
 use Rattle.vrl_diag.specs.declared.diagnostic.Span.{Span}
-use Rattle.vrl_syntax.specs.Limits.{expr_faults, form_faults, exprs_faults, pairs_faults, arms_faults, else_faults}
-use Rattle.vrl_syntax.specs.Tree.{Expr, Form, Exprs, Pairs, Arms, Else, no_else, else_block}
+use Rattle.vrl_syntax.specs.Limits.{args_faults, expr_faults, form_faults, exprs_faults, pairs_faults, arms_faults, else_faults}
+use Rattle.vrl_syntax.specs.Regexes.{args_regexes_below, arms_regexes_below, else_regexes_below, expr_regexes_below, exprs_regexes_below, form_regexes_below, pairs_regexes_below}
+use Rattle.vrl_syntax.specs.Tree.{Args, Expr, Form, Exprs, Pairs, Arms, Else, no_else, else_block}
 use Rattle.vrl_syntax.specs.View.{ArmTree}
 use Rattle.vrl_syntax.specs.declared.root.Target.{Target}
 use Rattle.vrl_kind.specs.Canonical.{never_kind}
 use Rattle.vrl_kind.specs.KindTree.{KindTree}
 use Rattle.vrl_state.specs.States.{IsCutOf, IsEither, IsEntered, IsJoined, IsRootKind, kept as kept_by, RootMap, Scope, State}
 use Rattle.vrl_check.specs.Answer.{return_kind, return_state, returning}
-use Rattle.vrl_check.specs.Calls.{expr_holds_call, form_holds_call, exprs_hold_call, pairs_hold_call, arms_hold_call, else_holds_call}
+use Rattle.vrl_check.specs.Calls.{args_hold_closure_call, arms_hold_closure_call, else_holds_closure_call, expr_holds_closure_call, exprs_hold_closure_call, form_holds_closure_call, pairs_hold_closure_call}
 use Rattle.vrl_check.specs.Judgement.{Judgement, Judges, Gives, JudgesAll, JudgesBlock, JudgesItems, IsBeside, IsMerged, IsReadAt, IsScalar, IsThen, IsWritten, at, gives, if_state, is_error, is_other, left as left_behind, no_objects, number_tag, of_assignment, of_item, of_pairs, of_predicate, order_tag, scalars_at, settle, some_pair, span_of, sum_tag, table_tags, when, with_codes}
 use Rattle.vrl_check.specs.declared.branches.Ways.{Ways}
 use Rattle.vrl_check.specs.declared.checker.Checker.{Checker}
@@ -25,31 +26,43 @@ use Rattle.vrl_check.specs.declared.outcome.Outcome.{Outcome}
 use Rattle.vrl_check.specs.declared.tables.Table.{Table}
 use Rattle.vrl_check.specs.declared.tables.Table.TheVariants as table
 
--- ---- what can be judged: it holds no call, and its paths keep their limits
+-- ---- what can be judged: it calls no function that takes a closure, its paths keep their limits, and each of its regexes has a source
 
-pub record CanBeJudged (e : Expr) : Type 0 where
-  pub calls : expr_holds_call e ≡ false
+pub record CanBeJudged (sources : List (List ℕ)) (e : Expr) : Type 0 where
+  pub calls : expr_holds_closure_call e ≡ false
   pub limits : expr_faults e ≡ []
+  pub regexes : expr_regexes_below (length sources) e ≡ true
 
-pub record FormCanBeJudged (f : Form) : Type 0 where
-  pub calls : form_holds_call f ≡ false
+pub record FormCanBeJudged (sources : List (List ℕ)) (f : Form) : Type 0 where
+  pub calls : form_holds_closure_call f ≡ false
   pub limits : form_faults f ≡ []
+  pub regexes : form_regexes_below (length sources) f ≡ true
 
-pub record ItemsCanBeJudged (es : Exprs) : Type 0 where
-  pub calls : exprs_hold_call es ≡ false
+pub record ItemsCanBeJudged (sources : List (List ℕ)) (es : Exprs) : Type 0 where
+  pub calls : exprs_hold_closure_call es ≡ false
   pub limits : exprs_faults es ≡ []
+  pub regexes : exprs_regexes_below (length sources) es ≡ true
 
-pub record PairsCanBeJudged (ps : Pairs) : Type 0 where
-  pub calls : pairs_hold_call ps ≡ false
+pub record PairsCanBeJudged (sources : List (List ℕ)) (ps : Pairs) : Type 0 where
+  pub calls : pairs_hold_closure_call ps ≡ false
   pub limits : pairs_faults ps ≡ []
+  pub regexes : pairs_regexes_below (length sources) ps ≡ true
 
-pub record ArmsCanBeJudged (gs : Arms) : Type 0 where
-  pub calls : arms_hold_call gs ≡ false
+pub record ArmsCanBeJudged (sources : List (List ℕ)) (gs : Arms) : Type 0 where
+  pub calls : arms_hold_closure_call gs ≡ false
   pub limits : arms_faults gs ≡ []
+  pub regexes : arms_regexes_below (length sources) gs ≡ true
 
-pub record ElseCanBeJudged (otherwise : Else) : Type 0 where
-  pub calls : else_holds_call otherwise ≡ false
+pub record ElseCanBeJudged (sources : List (List ℕ)) (otherwise : Else) : Type 0 where
+  pub calls : else_holds_closure_call otherwise ≡ false
   pub limits : else_faults otherwise ≡ []
+  pub regexes : else_regexes_below (length sources) otherwise ≡ true
+
+-- arguments, whose paths are deleted or not
+pub record ArgumentsCanBeJudged (sources : List (List ℕ)) (gs : Args) : Type 0 where
+  pub calls : args_hold_closure_call gs ≡ false
+  pub limits : args_faults false gs ≡ []
+  pub regexes : args_regexes_below (length sources) gs ≡ true
 
 -- ---- ways that the code keeps
 
@@ -130,6 +143,7 @@ pub record HasGathered (before after : Checker) (j : Judgement) : Type 0 where
   pub scopes : after.state.scopes ≡ before.state.scopes
   pub diagnostics : after.diagnostics.items ≡ before.diagnostics.items ++ j.codes
   pub empties : after.empties.items ≡ before.empties.items ++ j.empties
+  pub patterns : after.patterns ≡ before.patterns
 
 pub record HasJudged (before after : Checker) (outcome : Outcome) (j : Judgement) : Type 0 where
   pub kind : outcome.kind ≡ j.kind
@@ -139,28 +153,28 @@ pub record HasJudged (before after : Checker) (outcome : Outcome) (j : Judgement
 
 -- an expression, a form where a way leads to it, items of a block, items before their block ends
 abbrev pub IsJudgedAs : Expr → Checker → Checker → Outcome → Type 0
-IsJudgedAs e before after outcome = (j : Judgement) × Judges before.state.known e j × HasJudged before after outcome j
+IsJudgedAs e before after outcome = (j : Judgement) × Judges before.patterns.now before.state.known e j × HasJudged before after outcome j
 
 abbrev pub IsGivenAs : Span → Form → Checker → Checker → Outcome → Type 0
-IsGivenAs span f before after outcome = (known : RootMap) → before.state.known ≡ Some known → (j : Judgement) × Gives known span f j × HasJudged before after outcome j
+IsGivenAs span f before after outcome = (known : RootMap) → before.state.known ≡ Some known → (j : Judgement) × Gives before.patterns.now known span f j × HasJudged before after outcome j
 
 -- the same wherever it stands
 abbrev pub IsAnywhereAs : Form → Checker → Checker → Outcome → Type 0
 IsAnywhereAs f before after outcome = (span : Span) → IsGivenAs span f before after outcome
 
 abbrev pub IsBlockAs : Exprs → Checker → Checker → Outcome → Type 0
-IsBlockAs es before after outcome = (j : Judgement) × JudgesBlock before.state.known es j × HasJudged before after outcome j
+IsBlockAs es before after outcome = (j : Judgement) × JudgesBlock before.patterns.now before.state.known es j × HasJudged before after outcome j
 
 abbrev pub IsSequenceAs : Exprs → Checker → Checker → Outcome → Type 0
 IsSequenceAs es before after outcome = (known : RootMap) → before.state.known ≡ Some known
-    → (N : KindTree) × (Ks : List KindTree) × (j : Judgement) × IsScalar tag.Null N × JudgesAll (gives N (Some known)) es Ks j × HasJudged before after outcome j
+    → (N : KindTree) × (Ks : List KindTree) × (j : Judgement) × IsScalar tag.Null N × JudgesAll before.patterns.now (gives N (Some known)) es Ks j × HasJudged before after outcome j
 
 -- items of a script, and one of them
 abbrev pub IsScriptAs : Exprs → Checker → Checker → Outcome → Type 0
-IsScriptAs es before after outcome = (N : KindTree) × (j : Judgement) × IsScalar tag.Null N × JudgesItems (gives N before.state.known) es j × HasJudged before after outcome (settle j)
+IsScriptAs es before after outcome = (N : KindTree) × (j : Judgement) × IsScalar tag.Null N × JudgesItems before.patterns.now (gives N before.state.known) es j × HasJudged before after outcome (settle j)
 
 abbrev pub IsItemAs : Expr → Checker → Checker → Outcome → Type 0
-IsItemAs e before after outcome = (j : Judgement) × Judges before.state.known e j × HasJudged before after outcome (with_codes (of_item (span_of e) j) j)
+IsItemAs e before after outcome = (j : Judgement) × Judges before.patterns.now before.state.known e j × HasJudged before after outcome (with_codes (of_item (span_of e) j) j)
 
 -- ---- steps of the walk
 
@@ -175,12 +189,14 @@ pub record IsMoved (before after : Checker) : Type 0 where
   pub scopes : after.state.scopes ≡ before.state.scopes
   pub diagnostics : after.diagnostics ≡ before.diagnostics
   pub empties : after.empties ≡ before.empties
+  pub patterns : after.patterns ≡ before.patterns
 
 -- codes stand behind what was told before, and poison the ends if one of them refuses the script
 pub record IsReported (ds : List Diagnostic) (before after : Checker) (old new : Ends) : Type 0 where
   pub diagnostics : after.diagnostics.items ≡ before.diagnostics.items ++ ds
   pub state : after.state ≡ before.state
   pub empties : after.empties ≡ before.empties
+  pub patterns : after.patterns ≡ before.patterns
   pub ends : new ≡ record old { poisoned = old.poisoned || list_any is_error ds }
 
 -- what is settled
@@ -207,7 +223,7 @@ pub record IsInBlock (now : Checker) (part : Outcome) : Type 0 where
 -- the block ends, behind its items
 abbrev pub IsBlockEndAs : Outcome → Checker → Checker → Outcome → Type 0
 IsBlockEndAs part now after outcome = (before entered : Checker) (known : RootMap) (j : Judgement)
-    → before.state.known ≡ Some known → IsEntered before.state entered.state → entered.diagnostics ≡ before.diagnostics → entered.empties ≡ before.empties
+    → before.state.known ≡ Some known → IsEntered before.state entered.state → entered.diagnostics ≡ before.diagnostics → entered.empties ≡ before.empties → entered.patterns ≡ before.patterns
     → HasJudged entered now part j → HasJudged before after outcome (settle (left_behind known j))
 
 -- two operands
@@ -220,12 +236,12 @@ pub record HasOperands (before after : Checker) (parts : Operands) (j k whole : 
   pub gathered : HasGathered before after whole
 
 abbrev pub AreBoth : Expr → Expr → Checker → Checker → Operands → Type 0
-AreBoth l r before after parts = (j : Judgement) × (k : Judgement) × (whole : Judgement) × Judges before.state.known l j × Judges j.ok r k × IsThen j k whole × HasOperands before after parts j k whole
+AreBoth l r before after parts = (j : Judgement) × (k : Judgement) × (whole : Judgement) × Judges before.patterns.now before.state.known l j × Judges before.patterns.now j.ok r k × IsThen j k whole × HasOperands before after parts j k whole
 
 -- the right one, behind the left one
 abbrev pub IsBesideAs : Expr → Outcome → Checker → Checker → Operands → Type 0
 IsBesideAs r left now after parts = (before : Checker) (j : Judgement) → HasJudged before now left j
-    → (k : Judgement) × (whole : Judgement) × Judges now.state.known r k × IsThen j k whole × HasOperands before after parts j k whole
+    → (k : Judgement) × (whole : Judgement) × Judges before.patterns.now now.state.known r k × IsThen j k whole × HasOperands before after parts j k whole
 
 -- both, where the left one is known not to be exactly an object, or is
 abbrev pub ArePairedAs : Outcome → Bool → Outcome → Checker → Operands → Type 0
@@ -264,6 +280,7 @@ pub record HasWays (before now : Checker) (ways : Ways) (w : Judgement) : Type 0
   pub scopes : now.state.scopes ≡ before.state.scopes
   pub diagnostics : now.diagnostics.items ≡ before.diagnostics.items ++ w.codes
   pub empties : now.empties.items ≡ before.empties.items ++ w.empties
+  pub patterns : now.patterns ≡ before.patterns
 
 -- a predicate, with its own codes
 abbrev pub predicate_of : Expr → Judgement → Judgement
@@ -275,9 +292,9 @@ pub record IsArmAs (a : ArmTree) (w : Judgement) (before now after : Checker) (w
   pub k : Judgement
   pub with_predicate : Judgement
   pub all : Judgement
-  pub predicate : Judges now.state.known a.0 j
+  pub predicate : Judges now.patterns.now now.state.known a.0 j
   pub first : IsBeside w (record (predicate_of a.0 j) { kind = never_kind; ok = None }) with_predicate
-  pub block : JudgesBlock j.ok a.1 k
+  pub block : JudgesBlock now.patterns.now j.ok a.1 k
   pub second : IsBeside with_predicate k all
   pub known : after.state.known ≡ j.ok
   pub told : HasWays before after ways all

@@ -1,6 +1,7 @@
 pub mod Answer
 pub mod Assigning
 pub mod Branching
+pub mod Calling
 pub mod Calls
 pub mod Determined
 pub mod Empties

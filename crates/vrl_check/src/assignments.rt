@@ -20,7 +20,7 @@ use vrl_state::Branch;
 use vrl_syntax::{Expr, Root, Target};
 use vrl_value::{Memory, Tag};
 
-impl Checker {
+impl Checker<'_> {
     // Writes a kind where a target says; one that takes nothing changes nothing. `Memory`: want of memory.
     fn write(&mut self, target: &Target, kind: &Kind) -> Result<(), Memory>
         requires target { target_faults target.now ≡ [] }
@@ -43,7 +43,7 @@ impl Checker {
         value: &Expr,
     ) -> Result<Outcome, Memory>
         requires target { target_faults target.now ≡ [] }
-        requires value { CanBeJudged (expr_of value.now) }
+        requires value { CanBeJudged self.old.patterns.now (expr_of value.now) }
         ensures { IfOk result (λ outcome. IsGivenAs span (assign_form target.now (expr_of value.now)) self.old self.new outcome) }
     {
         let part = self.expr(value)?;
@@ -83,7 +83,7 @@ impl Checker {
         value: &Expr,
     ) -> Result<Outcome, Memory>
         requires target { target_faults target.now ≡ [] }
-        requires value { CanBeJudged (expr_of value.now) }
+        requires value { CanBeJudged self.old.patterns.now (expr_of value.now) }
         ensures { IfOk result (λ outcome. IsGivenAs span (merge_form target.now (expr_of value.now)) self.old self.new outcome) }
     {
         match target {
@@ -111,7 +111,7 @@ impl Checker {
     ) -> Result<Outcome, Memory>
         requires ok { target_faults ok.now ≡ [] }
         requires err { target_faults err.now ≡ [] }
-        requires value { CanBeJudged (expr_of value.now) }
+        requires value { CanBeJudged self.old.patterns.now (expr_of value.now) }
         ensures { IfOk result (λ outcome. IsGivenAs span (both_form ok.now err.now (expr_of value.now)) self.old self.new outcome) }
     {
         let place = self.empties.len();
@@ -152,6 +152,7 @@ impl Checker {
         ensures empties { IsPutAt place tag self.old.empties.items self.new.empties.items }
         ensures state { self.new.state ≡ self.old.state }
         ensures diagnostics { self.new.diagnostics ≡ self.old.diagnostics }
+        ensures patterns { self.new.patterns ≡ self.old.patterns }
     {
         if place < self.empties.len() {
             self.empties[place] = tag;

@@ -40,7 +40,7 @@ struct Ways {
     ends: Ends,
 }
 
-impl Checker {
+impl Checker<'_> {
     // The state here, to come back to, if it is wanted. `Memory`: want of memory.
     fn mark_if(&mut self, wanted: bool) -> Result<Option<Mark>, Memory>
         ensures mark { IfOk result (λ mark. mark ≡ kept_if wanted self.old.state) }
@@ -68,8 +68,8 @@ impl Checker {
     // The right side is judged where the left one may be a boolean.
     #[cycle(judge)]
     pub(crate) fn conjunction(&mut self, left: &Expr, right: &Expr) -> Result<Outcome, Memory>
-        requires left { CanBeJudged (expr_of left.now) }
-        requires right { CanBeJudged (expr_of right.now) }
+        requires left { CanBeJudged self.old.patterns.now (expr_of left.now) }
+        requires right { CanBeJudged self.old.patterns.now (expr_of right.now) }
         ensures { IfOk result (λ outcome. IsAnywhereAs (binary_form ops.And (expr_of left.now) (expr_of right.now)) self.old self.new outcome) }
     {
         let part = self.expr(left)?;
@@ -112,8 +112,8 @@ impl Checker {
     // where the left one is exactly null.
     #[cycle(judge)]
     pub(crate) fn disjunction(&mut self, left: &Expr, right: &Expr) -> Result<Outcome, Memory>
-        requires left { CanBeJudged (expr_of left.now) }
-        requires right { CanBeJudged (expr_of right.now) }
+        requires left { CanBeJudged self.old.patterns.now (expr_of left.now) }
+        requires right { CanBeJudged self.old.patterns.now (expr_of right.now) }
         ensures { IfOk result (λ outcome. IsAnywhereAs (binary_form ops.Or (expr_of left.now) (expr_of right.now)) self.old self.new outcome) }
     {
         let part = self.expr(left)?;
@@ -155,8 +155,8 @@ impl Checker {
         left: &Expr,
         right: &Expr,
     ) -> Result<Outcome, Memory>
-        requires left { CanBeJudged (expr_of left.now) }
-        requires right { CanBeJudged (expr_of right.now) }
+        requires left { CanBeJudged self.old.patterns.now (expr_of left.now) }
+        requires right { CanBeJudged self.old.patterns.now (expr_of right.now) }
         ensures { IfOk result (λ outcome. IsGivenAs span (binary_form ops.Coalesce (expr_of left.now) (expr_of right.now)) self.old self.new outcome) }
     {
         let part = self.expr(left)?;
@@ -213,8 +213,8 @@ impl Checker {
         arms: &Arms,
         otherwise: &Option<Exprs>,
     ) -> Result<Outcome, Memory>
-        requires arms { ArmsCanBeJudged (arms_of arms.now) }
-        requires otherwise { ElseCanBeJudged (else_of (option_map exprs_of otherwise.now)) }
+        requires arms { ArmsCanBeJudged self.old.patterns.now (arms_of arms.now) }
+        requires otherwise { ElseCanBeJudged self.old.patterns.now (else_of (option_map exprs_of otherwise.now)) }
         ensures { IfOk result (λ outcome. IsAnywhereAs (conditional_form (arms_of arms.now) (else_of (option_map exprs_of otherwise.now))) self.old self.new outcome) }
     {
         let mut ways = Ways::none(self.alloc)?;
@@ -228,8 +228,8 @@ impl Checker {
     // A predicate and its block, beside the ways before them.
     #[cycle(judge)]
     fn arm(&mut self, ways: &mut Ways, arm: &Arm) -> Result<(), Memory>
-        requires predicate { CanBeJudged (arm_of arm.now).0 }
-        requires block { ItemsCanBeJudged (arm_of arm.now).1 }
+        requires predicate { CanBeJudged self.old.patterns.now (arm_of arm.now).0 }
+        requires block { ItemsCanBeJudged self.old.patterns.now (arm_of arm.now).1 }
         requires ways { AreWays self.old.state.scopes ways.old }
         ensures { OnOk result (IsArmBehind (arm_of arm.now) ways.old self.old self.new ways.new) }
     {
@@ -281,7 +281,7 @@ impl Checker {
     // A missing `else` gives null.
     #[cycle(judge)]
     fn otherwise(&mut self, otherwise: &Option<Exprs>) -> Result<Outcome, Memory>
-        requires { ElseCanBeJudged (else_of (option_map exprs_of otherwise.now)) }
+        requires { ElseCanBeJudged self.old.patterns.now (else_of (option_map exprs_of otherwise.now)) }
         ensures { IfOk result (λ outcome. IsElseAs (else_of (option_map exprs_of otherwise.now)) self.old self.new outcome) }
     {
         match otherwise {
@@ -313,7 +313,7 @@ impl Checker {
 
     #[cycle(judge)]
     pub(crate) fn return_with(&mut self, value: &Expr) -> Result<Outcome, Memory>
-        requires { CanBeJudged (expr_of value.now) }
+        requires { CanBeJudged self.old.patterns.now (expr_of value.now) }
         ensures { IfOk result (λ outcome. IsAnywhereAs (return_form (expr_of value.now)) self.old self.new outcome) }
     {
         let part = self.expr(value)?;
@@ -344,7 +344,7 @@ impl Checker {
     // A message that may fail, or isn't exactly a text, is 1011.
     #[cycle(judge)]
     pub(crate) fn abort_with(&mut self, message: &Expr) -> Result<Outcome, Memory>
-        requires { CanBeJudged (expr_of message.now) }
+        requires { CanBeJudged self.old.patterns.now (expr_of message.now) }
         ensures { IfOk result (λ outcome. IsAnywhereAs (abort_form (message_form (expr_of message.now))) self.old self.new outcome) }
     {
         let part = self.expr(message)?;

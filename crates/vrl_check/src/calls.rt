@@ -1,78 +1,791 @@
-ghost use Rattle.std.specs.Prelude.{◌≡◌, option_map};
-ghost use Rattle.vrl_syntax.specs.View.{arms_of, else_of, expr_of, exprs_of, pairs_of};
-ghost use Rattle.vrl_check.specs.Calls.{arms_hold_call as arms_have_call, else_holds_call as else_has_call, expr_holds_call as expr_has_call, exprs_hold_call, pairs_hold_call as pairs_have_call};
+ghost use Rattle.std.specs.Prelude.{◌≡◌, ◌≢◌, ◌&&◌, ◌++◌, [], false, true, is_some, length, map, not, option_map, slice_get, IfOk, IfSome, IsSomeAnd, IsTrue, List, MatchOption, OnOk, Option, Some, ℕ};
+ghost use Rattle.std.specs.List.{list_any};
+ghost use Rattle.std.specs.Option.{option_map_or};
+ghost use Rattle.vrl_builtin.specs.Conditions.{below_if, literals_below, AreGiven as AreAllowed};
+ghost use Rattle.vrl_builtin.specs.Rows.{literal_at};
+ghost use Rattle.vrl_builtin.specs.TagSets.{allows};
+ghost use Rattle.vrl_builtin.specs.View.{given_tree, givens_of as trees_of_givens, parameter_row};
+ghost use Rattle.vrl_diag.specs.declared.diagnostic.Span.{Span as SpecSpan};
+ghost use Rattle.vrl_kind.specs.Canonical.{any_kind};
+ghost use Rattle.vrl_kind.specs.Kinds.{root_tags};
+ghost use Rattle.vrl_kind.specs.Tags.{all_tags};
+ghost use Rattle.vrl_state.specs.States.{IsCutOf, IsRootKind, Scope};
+ghost use Rattle.vrl_syntax.specs.Limits.{args_faults, faults_at};
+ghost use Rattle.vrl_syntax.specs.Regexes.{args_regexes_below, expr_regexes_below};
+ghost use Rattle.vrl_syntax.specs.View.{args_of, args_view, call_of, expr_of};
+ghost use Rattle.vrl_table.specs.Binding.{binding, keywords_of};
+ghost use Rattle.vrl_table.specs.Table.{row_of};
+ghost use Rattle.vrl_table.specs.declared.binding.BindFault.TheVariants as faults;
+ghost use Rattle.vrl_value.specs.View.{tree_of};
+ghost use Rattle.vrl_value.specs.declared.value.Tag.TheVariants as tags;
+ghost use Rattle.vrl_check.specs.Calling.{alone_at, call_args, call_bang, call_closure, call_name, callee_codes, callee_parameters, callee_wants, of_code, of_fault, of_found, places_in, told, written, AreArgumentsAs, AreTold, HasCodes, IsAnsweredAs, IsBangedAs, IsBoundCallAs, IsCalledAs, IsDeletedAs, IsFound, IsNamed, IsPassedCallAs, IsTold, IsUnknown, MayBeAsked};
+ghost use Rattle.vrl_check.specs.Judgement.{argument_at as argument_of, at, bound as bound_at, deleted_kind, deleted_path, empty_value as value_of_empty, has_others as has_tags_beside, is_disjoint as has_no_tag, left_in, literal_of, of_argument, of_arguments, of_closure, path_of, some_has_others as some_have_others, AreGiven, Argument as JudgedArgument, IsAnswered, IsDeleted, IsDeletedAt, IsGiven, IsScalar};
+ghost use Rattle.vrl_check.specs.Judging.{AreEnds, AreJoinedEnds, ArgumentsCanBeJudged, FormCanBeJudged, HaveCommonScopes, IsGivenAs, IsMoved, IsReported};
 
-use vrl_syntax::{Arms, Expr, Exprs, Form, Pairs};
+use crate::assignments::is_needless;
+use crate::checker::Checker;
+use crate::ends::{Ends, either_of};
+use crate::kinds::{empty_value, scalar};
+use crate::outcome::Outcome;
+use std::alloc::Global;
+use vrl_builtin::{Given, Givens, Parameter, Tags, cut_down};
+use vrl_diag::Span;
+use vrl_kind::{Kind, TAGS, cut, has, kind_is_canonical, kind_of};
+use vrl_path::Path;
+use vrl_pattern::Patterns;
+use vrl_syntax::{Arg, Args, Call, Expr, Form, Root};
+use vrl_table::{
+    BindFault, Bound, Fun, bind_to, functions_keep_law, lookup, may_fail, parameters, result_kind,
+    wrong_literal,
+};
+use vrl_value::{Memory, Tag, Value};
 
-/// Whether items hold a call of a function. It takes no memory, and walks the items at most once.
-#[cycle(calls)]
-pub fn holds_call(items: &Exprs) -> bool
-    ensures { result ≡ exprs_hold_call (exprs_of items.now) }
+// What a call names.
+#[derive(Clone, Copy)]
+pub(crate) enum Callee {
+    // A function of the table.
+    Function(Fun),
+    // `del`
+    Deletion,
+    // `exists`
+    Existence,
+}
+
+// What an argument was judged to be.
+#[derive(Drop)]
+pub(crate) struct Argument {
+    kind: Kind,
+    // It may end with an error.
+    fallible: bool,
+    // It can end with a value and has no error of its own.
+    known: bool,
+}
+
+// The arguments of a call that were judged in order.
+#[derive(Drop)]
+pub(crate) struct Arguments {
+    parts: Vec<Argument>,
+    ends: Ends,
+}
+
+// What a function says of its result before it is called.
+#[derive(Drop)]
+struct Answer {
+    kind: Kind,
+    // The call may end with an error.
+    fails: bool,
+}
+
+// The parameter of `del` and of `exists`.
+const PATH_PARAMETERS: [Parameter; 1] = [Parameter {
+    name: "value",
+    allowed: Tags::ALL,
+    required: true,
+    literal: false,
+}];
+
+impl Callee {
+    // What a name calls. None: nothing has it.
+    fn of(name: &str) -> Option<Callee>
+        ensures { MatchOption result (IsUnknown name.now) (IsNamed name.now) }
+    {
+        match name {
+            "del" => Some(Callee::Deletion),
+            "exists" => Some(Callee::Existence),
+            _ => match lookup(name) {
+                Some(function) => Some(Callee::Function(function)),
+                None => None,
+            },
+        }
+    }
+
+    fn parameters(self) -> &'static [Parameter]
+        ensures { map parameter_row result.now ≡ callee_parameters self }
+    {
+        match self {
+            Callee::Function(function) => parameters(function),
+            Callee::Deletion | Callee::Existence => &PATH_PARAMETERS,
+        }
+    }
+
+    // Whether an argument isn't written as its parameter wants it. `Memory`: want of memory.
+    fn is_unwritten(
+        self,
+        alloc: Global,
+        place: usize,
+        parameter: &Parameter,
+        value: &Expr,
+    ) -> Result<bool, Memory>
+        requires { slice_get (callee_parameters self) place ≡ Some (parameter_row parameter.now) }
+        ensures { IfOk result (λ unwritten. unwritten ≡ callee_wants self place (parameter_row parameter.now) (expr_of value.now)) }
+    {
+        match self {
+            Callee::Function(function) => {
+                if !parameter.literal {
+                    return Ok(false);
+                }
+                is_no_literal(alloc, function, place, value)
+            }
+            Callee::Deletion | Callee::Existence => Ok(!is_path(value)),
+        }
+    }
+
+    // The code of an argument. None: it has none. `Memory`: want of memory.
+    fn argument_code(
+        self,
+        alloc: Global,
+        place: usize,
+        parameter: &Parameter,
+        value: &Expr,
+        part: &Argument,
+    ) -> Result<Option<u16>, Memory>
+        requires { slice_get (callee_parameters self) place ≡ Some (parameter_row parameter.now) }
+        ensures { IfOk result (λ code. (g : JudgedArgument) → g.value ≡ expr_of value.now → told g ≡ part.now
+            → of_code code value.now.span ≡ of_argument parameter.now.allowed (callee_wants self place (parameter_row parameter.now) g.value) g) }
+    {
+        if part.fallible {
+            return Ok(Some(630));
+        }
+        if part.known && is_disjoint(&parameter.allowed, &part.kind) {
+            return Ok(Some(110));
+        }
+        if self.is_unwritten(alloc, place, parameter, value)? {
+            return Ok(Some(1013));
+        }
+        Ok(None)
+    }
+}
+
+impl Checker<'_> {
+    // Judges a call. `Memory`: want of memory.
+    #[cycle(judge)]
+    pub(crate) fn call(&mut self, span: Span, call: &Call) -> Result<Outcome, Memory>
+        requires { FormCanBeJudged self.old.patterns.now (call_of call.now) }
+        ensures { IfOk result (λ outcome. IsGivenAs span (call_of call.now) self.old self.new outcome) }
+    {
+        let arguments = self.arguments(&call.args)?;
+        self.called(span, call, arguments)
+    }
+
+    // Judges the arguments of a call in order. `Memory`: want of memory.
+    #[cycle(judge)]
+    fn arguments(&mut self, args: &Args) -> Result<Arguments, Memory>
+        requires { ArgumentsCanBeJudged self.old.patterns.now (args_of args.now) }
+        ensures { IfOk result (λ arguments. AreArgumentsAs (args_of args.now) self.old self.new arguments) }
+    {
+        let mut parts = Vec::new(self.alloc);
+        let mut ends = Ends::none();
+        for arg in args.as_slice() {
+            let part = self.expr(&arg.value)?;
+            let argument = self.argument(&mut ends, part)?;
+            parts.push(argument)?;
+        }
+        Ok(Arguments { parts, ends })
+    }
+
+    // An argument that was judged last, behind others with these ends. `Memory`: want of memory.
+    fn argument(&self, ends: &mut Ends, part: Outcome) -> Result<Argument, Memory>
+        requires { HaveCommonScopes ends.old part.ends }
+        ensures argument { IfOk result (λ argument. argument ≡ record {
+          kind = part.kind;
+          fallible = is_some part.ends.fail;
+          known = is_some self.now.state.known && not part.ends.poisoned;
+        }) }
+        ensures joined { OnOk result (AreJoinedEnds ends.old part.ends ends.new) }
+        ensures scopes { OnOk result ((scopes : List Scope) → AreEnds scopes ends.old → AreEnds scopes part.ends → AreEnds scopes ends.new) }
+    {
+        let fallible = part.is_fallible();
+        let known = self.is_known(&part);
+        let kind = ends.absorb(self.alloc, part)?;
+        Ok(Argument {
+            kind,
+            fallible,
+            known,
+        })
+    }
+
+    // A call, behind its arguments. Its closure isn't judged. `Memory`: want of memory.
+    fn called(&mut self, span: Span, call: &Call, arguments: Arguments) -> Result<Outcome, Memory>
+        requires form { FormCanBeJudged self.old.patterns.now (call_of call.now) }
+        requires told { IsTold (call_args call.now) arguments.parts.items }
+        requires ends { AreEnds self.old.state.scopes arguments.ends }
+        ensures { IfOk result (λ outcome. IsCalledAs span (call_of call.now) (call_args call.now) arguments self.old self.new outcome) }
+    {
+        self.pass_closure(&call.closure)?;
+        match Callee::of(call.name.as_str()) {
+            Some(callee) => self.call_of(span, callee, call, arguments),
+            None => {
+                let outcome = self.call_of_nothing(call.name_span, arguments)?;
+                Ok(outcome)
+            }
+        }
+    }
+
+    // A function that there isn't is 105.
+    fn call_of_nothing(&mut self, name: Span, arguments: Arguments) -> Result<Outcome, Memory>
+        ensures kind { IfOk result (λ outcome. outcome.kind ≡ any_kind) }
+        ensures reported { IfOk result (λ outcome. IsReported (at 105 name) self.old self.new arguments.ends outcome.ends) }
+    {
+        let mut ends = arguments.ends;
+        self.report(&mut ends, true, 105, name)?;
+        let kind = Kind::any(self.alloc)?;
+        Ok(Outcome { kind, ends })
+    }
+
+    // The same of what there is.
+    fn call_of(
+        &mut self,
+        span: Span,
+        callee: Callee,
+        call: &Call,
+        arguments: Arguments,
+    ) -> Result<Outcome, Memory>
+        requires name { IsNamed (call_name call.now) callee }
+        requires form { FormCanBeJudged self.old.patterns.now (call_of call.now) }
+        requires told { IsTold (call_args call.now) arguments.parts.items }
+        requires ends { AreEnds self.old.state.scopes arguments.ends }
+        ensures { IfOk result (λ outcome. IsPassedCallAs span (call_of call.now) (call_args call.now) (call_closure call.now) arguments self.old self.new outcome) }
+    {
+        let mut arguments = arguments;
+        let bound = self.bound(span, callee, call, &mut arguments)?;
+        let outcome = self.answer(callee, call, &bound, arguments)?;
+        self.banged(span, call.bang, outcome)
+    }
+
+    // The places of a call's arguments, none where they aren't bound, with the call's own codes: one alone where they aren't, and else those
+    // of arguments and closure. `Memory`: want of memory.
+    fn bound(
+        &mut self,
+        span: Span,
+        callee: Callee,
+        call: &Call,
+        arguments: &mut Arguments,
+    ) -> Result<Bound, Memory>
+        ensures places { IfOk result (λ bound. bound ≡ places_in (binding (callee_parameters callee) (keywords_of (call_args call.now)))) }
+        ensures reported { OnOk result ((js : List JudgedArgument) → AreTold (call_args call.now) arguments.old.parts.items js
+            → IsReported (callee_codes callee span (call_args call.now) (call_closure call.now) js)
+            self.old self.new arguments.old.ends arguments.new.ends) }
+        ensures parts { arguments.new.parts ≡ arguments.old.parts }
+    {
+        match bind_to(self.alloc, callee.parameters(), &call.args) {
+            Ok(bound) => {
+                self.bound_codes(span, callee, call, bound.as_slice(), arguments)?;
+                Ok(bound)
+            }
+            Err(fault) => {
+                self.unbound(span, &call.args, fault, &mut arguments.ends)?;
+                Ok(Bound::new(Vec::new(self.alloc)))
+            }
+        }
+    }
+
+    // The codes of a call whose arguments are bound to these places. `Memory`: want of memory.
+    fn bound_codes(
+        &mut self,
+        span: Span,
+        callee: Callee,
+        call: &Call,
+        places: &[Option<usize>],
+        arguments: &mut Arguments,
+    ) -> Result<(), Memory>
+        ensures reported { OnOk result ((js : List JudgedArgument) → AreTold (call_args call.now) arguments.old.parts.items js
+            → IsReported (of_arguments (callee_wants callee) 0 (callee_parameters callee) (bound_at places.now js) ++ of_closure span (call_closure call.now))
+            self.old self.new arguments.old.ends arguments.new.ends) }
+        ensures parts { arguments.new.parts ≡ arguments.old.parts }
+    {
+        self.argument_codes(
+            callee,
+            call.args.as_slice(),
+            places,
+            &arguments.parts,
+            &mut arguments.ends,
+        )?;
+        self.report(&mut arguments.ends, call.closure.is_some(), 1010, span)
+    }
+
+    // The code of a call whose arguments aren't bound. `Memory`: want of memory.
+    fn unbound(
+        &mut self,
+        span: Span,
+        args: &Args,
+        fault: BindFault,
+        ends: &mut Ends,
+    ) -> Result<(), Memory>
+        ensures fault { OnOk result (fault ≢ faults.Memory) }
+        ensures reported { OnOk result ((js : List JudgedArgument) → written (args_of args.now) ≡ map (λ g. (g.span, g.value)) js
+            → IsReported (of_fault span js fault) self.old self.new ends.old ends.new) }
+    {
+        match fault {
+            BindFault::Number => self.report(ends, true, 106, span),
+            BindFault::Unknown(place) => self.report_unknown(ends, args.as_slice(), place),
+            BindFault::Missing(_) => self.report(ends, true, 107, span),
+            BindFault::Memory => Err(Memory),
+        }
+    }
+
+    // A keyword that is no parameter's name is 108.
+    fn report_unknown(&mut self, ends: &mut Ends, args: &[Arg], place: usize) -> Result<(), Memory>
+        ensures { OnOk result (IsReported (option_map_or (λ arg. at 108 arg.span) (slice_get args.now place) []) self.old self.new ends.old ends.new) }
+    {
+        match args.get(place) {
+            Some(arg) => self.report(ends, true, 108, arg.span),
+            None => Ok(()),
+        }
+    }
+
+    // The codes of bound arguments, by their parameters. `Memory`: want of memory.
+    fn argument_codes(
+        &mut self,
+        callee: Callee,
+        args: &[Arg],
+        places: &[Option<usize>],
+        parts: &[Argument],
+        ends: &mut Ends,
+    ) -> Result<(), Memory>
+        ensures { OnOk result ((js : List JudgedArgument) → AreTold (args_view args.now) parts.now js
+            → IsReported (of_arguments (callee_wants callee) 0 (callee_parameters callee) (bound_at places.now js)) self.old self.new ends.old ends.new) }
+    {
+        let parameters = callee.parameters();
+        let mut place = 0;
+        let mut left = parameters;
+        let mut bound = places;
+        while let Some((parameter, others)) = left.split_first() {
+            let Some((argument, rest)) = bound.split_first() else {
+                return Ok(());
+            };
+            let found = argument_at(args, parts, *argument);
+            self.found_code(callee, place, parameter, found, ends)?;
+            place += 1;
+            left = others;
+            bound = rest;
+        }
+        Ok(())
+    }
+
+    // The code of the argument of a parameter, where there is one. `Memory`: want of memory.
+    fn found_code(
+        &mut self,
+        callee: Callee,
+        place: usize,
+        parameter: &Parameter,
+        found: Option<(&Arg, &Argument)>,
+        ends: &mut Ends,
+    ) -> Result<(), Memory>
+        requires { slice_get (callee_parameters callee) place ≡ Some (parameter_row parameter.now) }
+        ensures { OnOk result ((g : Option JudgedArgument) → IsFound g (option_map (λ f. (f.0.now, f.1.now)) found.entry)
+            → IsReported (of_found (callee_wants callee) place (parameter_row parameter.now) g) self.old self.new ends.old ends.new) }
+    {
+        let Some((arg, part)) = found else {
+            return Ok(());
+        };
+        let code = callee.argument_code(self.alloc, place, parameter, &arg.value, part)?;
+        self.report_code(ends, code, arg.value.span)
+    }
+
+    // A code, if there is one. `Memory`: want of memory.
+    fn report_code(&mut self, ends: &mut Ends, code: Option<u16>, span: Span) -> Result<(), Memory>
+        ensures { OnOk result (IsReported (of_code code span) self.old self.new ends.old ends.new) }
+    {
+        match code {
+            Some(code) => self.report(ends, true, code, span),
+            None => Ok(()),
+        }
+    }
+
+    // What is called gives, behind the call's own codes, but for its `!`. `Memory`: want of memory.
+    fn answer(
+        &mut self,
+        callee: Callee,
+        call: &Call,
+        bound: &Bound,
+        arguments: Arguments,
+    ) -> Result<Outcome, Memory>
+        requires name { IsNamed (call_name call.now) callee }
+        requires form { FormCanBeJudged self.old.patterns.now (call_of call.now) }
+        requires codes { HasCodes callee (call_args call.now) (call_closure call.now) arguments bound.now }
+        requires ends { AreEnds self.old.state.scopes arguments.ends }
+        ensures { IfOk result (λ outcome. (span : SpecSpan) → IsBoundCallAs callee span (call_of call.now) (call_bang call.now) (call_args call.now)
+            (call_closure call.now) arguments self.old self.new outcome) }
+    {
+        match callee {
+            Callee::Function(function) => {
+                let outcome = self.answered(function, &call.args, bound, arguments)?;
+                Ok(outcome)
+            }
+            Callee::Deletion => {
+                let outcome = self.deleted(&call.args, arguments)?;
+                Ok(outcome)
+            }
+            Callee::Existence => {
+                let outcome = self.existing(arguments)?;
+                Ok(outcome)
+            }
+        }
+    }
+
+    // What a function answers to arguments without code, whose places these are: it may fail, or the kind of one may not be within its
+    // parameter's. `Memory`: want of memory.
+    fn answered(
+        &mut self,
+        function: Fun,
+        args: &Args,
+        bound: &Bound,
+        arguments: Arguments,
+    ) -> Result<Outcome, Memory>
+        requires asked { arguments.ends.poisoned ≡ false → MayBeAsked (row_of function) (args_of args.now) arguments.parts.items bound.now }
+        requires regexes { args_regexes_below (length self.old.patterns.now) (args_of args.now) ≡ true }
+        requires ends { AreEnds self.old.state.scopes arguments.ends }
+        ensures answered { IfOk result (λ outcome. (js : List JudgedArgument) → AreTold (args_of args.now) arguments.parts.items js
+            → IsAnsweredAs function (bound_at bound.now js) arguments.ends self.old outcome) }
+        ensures checker { self.new ≡ self.old }
+    {
+        let Arguments { parts, mut ends } = arguments;
+        if ends.poisoned {
+            let kind = Kind::any(self.alloc)?;
+            return Ok(Outcome { kind, ends });
+        }
+        let Answer { kind, fails } = ask(
+            self.alloc,
+            function,
+            bound.as_slice(),
+            args.as_slice(),
+            &parts,
+            self.patterns,
+        )?;
+        self.fail_if(&mut ends, fails)?;
+        Ok(Outcome { kind, ends })
+    }
+
+    // `del`, behind its argument: what stands at the path is taken out.
+    fn deleted(&mut self, args: &Args, arguments: Arguments) -> Result<Outcome, Memory>
+        requires { args_faults true (args_of args.now) ≡ [] }
+        ensures { IfOk result (λ outcome. (js : List JudgedArgument) → AreTold (args_of args.now) arguments.parts.items js
+            → IsDeletedAs js arguments.ends self.old self.new outcome) }
+    {
+        let Arguments { parts, ends } = arguments;
+        if ends.poisoned {
+            let kind = Kind::any(self.alloc)?;
+            return Ok(Outcome { kind, ends });
+        }
+        self.take_out_at(args.as_slice())?;
+        let kind = only_kind(self.alloc, parts)?;
+        Ok(Outcome { kind, ends })
+    }
+
+    // Takes out what stands at the one argument, if it is a path. `Memory`: want of memory.
+    fn take_out_at(&mut self, args: &[Arg]) -> Result<(), Memory>
+        requires { args_faults true (args_view args.now) ≡ [] }
+        ensures known { OnOk result ((js : List JudgedArgument) → written (args_view args.now) ≡ map (λ g. (g.span, g.value)) js
+            → IsDeletedAt (deleted_path false js) self.old.state.known self.new.state.known) }
+        ensures others { IsMoved self.old self.new }
+    {
+        let Some((arg, others)) = args.split_first() else {
+            return Ok(());
+        };
+        if !others.is_empty() {
+            return Ok(());
+        }
+        match path(&arg.value) {
+            Some((root, path)) => self.take_out(root, path),
+            None => Ok(()),
+        }
+    }
+
+    // Takes out what stands at a path; a root keeps what is left in it. `Memory`: want of memory.
+    fn take_out(&mut self, root: &Root, path: &Path) -> Result<(), Memory>
+        requires { (span : SpecSpan) × (faults_at span path.now ≡ []) }
+        ensures known { OnOk result (IsDeleted root.now path.now self.old.state.known self.new.state.known) }
+        ensures others { IsMoved self.old self.new }
+    {
+        if !path.as_slice().is_empty() {
+            return self.state.remove(self.alloc, root, path);
+        }
+        let left = empty_value(self.alloc, left_tag(root))?;
+        let kind = kind_of(self.alloc, &left)?;
+        kind_is_canonical(&kind);
+        self.state.assign(self.alloc, root, path, &kind)
+    }
+
+    // `exists`, behind its argument.
+    fn existing(&self, arguments: Arguments) -> Result<Outcome, Memory>
+        ensures kind { IfOk result (λ outcome. IsScalar tags.Bool outcome.kind) }
+        ensures ends { IfOk result (λ outcome. outcome.ends ≡ arguments.ends) }
+    {
+        let ends = arguments.ends;
+        let kind = scalar(self.alloc, Tag::Bool)?;
+        Ok(Outcome { kind, ends })
+    }
+
+    // A `!` leaves no error, and of a call that can't end with one it is 620.
+    fn banged(&mut self, span: Span, bang: bool, call: Outcome) -> Result<Outcome, Memory>
+        ensures { IfOk result (λ outcome. IsBangedAs span bang call self.old self.new outcome) }
+    {
+        let mut call = call;
+        if !bang {
+            return Ok(call);
+        }
+        let needless = is_needless(&call.ends);
+        self.report(&mut call.ends, needless, 620, span)?;
+        call.ends.fail = None;
+        Ok(call)
+    }
+}
+
+// The tag of what a `del` leaves in a root.
+fn left_tag(root: &Root) -> Tag
+    ensures { value_of_empty result ≡ left_in root.now }
 {
-    for item in items.as_slice() {
-        if expr_holds_call(item) {
+    match root {
+        Root::Event => Tag::Object,
+        Root::Name(_) => Tag::Null,
+    }
+}
+
+// The kind of the one argument; any where there is another number. `Memory`: want of memory.
+fn only_kind(alloc: Global, parts: Vec<Argument>) -> Result<Kind, Memory>
+    ensures { IfOk result (λ kind. (js : List JudgedArgument) → parts.items ≡ map told js → kind ≡ deleted_kind false js) }
+{
+    let mut parts = parts;
+    let Some(part) = parts.pop() else {
+        return Kind::any(alloc);
+    };
+    if !parts.is_empty() {
+        return Kind::any(alloc);
+    }
+    Ok(part.kind)
+}
+
+// Whether an expression is a path or a name.
+fn is_path(value: &Expr) -> bool
+    ensures { result ≡ is_some (path_of (expr_of value.now)) }
+{
+    path(value).is_some()
+}
+
+// The root and the steps of a path, or of a name alone.
+fn path(value: &Expr) -> Option<(&Root, &Path)>
+    ensures { option_map (λ f. (f.0.now, f.1.now)) result ≡ path_of (expr_of value.now) }
+{
+    match &value.form {
+        Form::Read(root, path) => Some((root, path)),
+        _ => None,
+    }
+}
+
+// The value of a literal that isn't in parentheses.
+fn literal(value: &Expr) -> Option<&Value>
+    ensures { option_map (λ literal. tree_of literal.now) result ≡ literal_of (expr_of value.now) }
+{
+    match &value.form {
+        Form::Literal(value) => Some(value),
+        _ => None,
+    }
+}
+
+// Whether no tag of the kind is one of these.
+#[tactic(auto, unfolding(crate::specs::Judgement::is_disjoint))]
+fn is_disjoint(tags: &Tags, kind: &Kind) -> bool
+    ensures { result ≡ has_no_tag tags.now kind.now }
+{
+    !has_some(tags, kind)
+}
+
+// Whether some tag of the kind is one of these.
+fn has_some(tags: &Tags, kind: &Kind) -> bool
+    ensures { result ≡ list_any (λ t. root_tags kind.now t && allows tags.now t) all_tags }
+{
+    TAGS.iter()
+        .any(|tag| has(kind, *tag) && tags.contains(*tag))
+}
+
+// Whether some tag of the kind is none of these.
+#[tactic(auto, unfolding(crate::specs::Judgement::has_others))]
+fn has_others(tags: &Tags, kind: &Kind) -> bool
+    ensures { result ≡ has_tags_beside tags.now kind.now }
+{
+    TAGS.iter()
+        .any(|tag| has(kind, *tag) && !tags.contains(*tag))
+}
+
+// The argument at a place, with what it was judged to be. None: there is none.
+fn argument_at<'a>(
+    args: &'a [Arg],
+    parts: &'a [Argument],
+    place: Option<usize>,
+) -> Option<(&'a Arg, &'a Argument)>
+    ensures found { (js : List JudgedArgument) → AreTold (args_view args.now) parts.now js → IsFound (argument_of js place) (option_map (λ f. (f.0.now, f.1.now)) result) }
+    ensures regexes { (count : ℕ) → args_regexes_below count (args_view args.now) ≡ true → IfSome result (λ f. expr_regexes_below count (expr_of f.0.now.value) ≡ true) }
+{
+    let place = place?;
+    let arg = args.get(place)?;
+    let part = parts.get(place)?;
+    Some((arg, part))
+}
+
+// Whether the kind of some argument isn't within its parameter's.
+fn some_has_others(parameters: &[Parameter], places: &[Option<usize>], parts: &[Argument]) -> bool
+    ensures { (js : List JudgedArgument) → parts.now ≡ map told js → result ≡ some_have_others (map parameter_row parameters.now) (bound_at places.now js) }
+{
+    let mut left = parameters;
+    let mut bound = places;
+    while let Some((parameter, others)) = left.split_first() {
+        let Some((place, rest)) = bound.split_first() else {
+            return false;
+        };
+        if part_has_others(parameter, *place, parts) {
             return true;
         }
+        left = others;
+        bound = rest;
     }
     false
 }
 
-// Whether an expression does.
-#[cycle(calls)]
-fn expr_holds_call(expr: &Expr) -> bool
-    ensures { result ≡ expr_has_call (expr_of expr.now) }
+// The same of one argument.
+fn part_has_others(parameter: &Parameter, place: Option<usize>, parts: &[Argument]) -> bool
+    ensures { (js : List JudgedArgument) → parts.now ≡ map told js
+        → result ≡ option_map_or (λ g. has_tags_beside parameter.now.allowed g.judged.kind) (argument_of js place) false }
 {
-    match &expr.form {
-        Form::Literal(_) | Form::Read(..) | Form::Abort(None) => false,
-        Form::Array(exprs) | Form::Block(exprs) => holds_call(exprs),
-        Form::Map(pairs) => pairs_hold_call(pairs),
-        Form::Query(inner, _)
-        | Form::Group(inner)
-        | Form::Not(inner)
-        | Form::Assign(_, inner)
-        | Form::Merge(_, inner)
-        | Form::Both(_, _, inner)
-        | Form::Return(inner)
-        | Form::Abort(Some(inner)) => expr_holds_call(inner),
-        Form::If(arms, otherwise) => arms_hold_call(arms) || else_holds_call(otherwise),
-        Form::Binary(_, left, right) => expr_holds_call(left) || expr_holds_call(right),
-        Form::Call(_) => true,
-    }
-}
-
-// Whether the values of an object do.
-#[cycle(calls)]
-fn pairs_hold_call(pairs: &Pairs) -> bool
-    ensures { result ≡ pairs_have_call (pairs_of pairs.now) }
-{
-    for (_, value) in pairs.as_slice() {
-        if expr_holds_call(value) {
-            return true;
-        }
-    }
-    false
-}
-
-// Whether predicates or their blocks do.
-#[cycle(calls)]
-fn arms_hold_call(arms: &Arms) -> bool
-    ensures { result ≡ arms_have_call (arms_of arms.now) }
-{
-    for arm in arms.as_slice() {
-        if expr_holds_call(&arm.predicate) || holds_call(&arm.body) {
-            return true;
-        }
-    }
-    false
-}
-
-// Whether the block behind a last `else` does.
-#[cycle(calls)]
-fn else_holds_call(otherwise: &Option<Exprs>) -> bool
-    ensures { result ≡ else_has_call (else_of (option_map exprs_of otherwise.now)) }
-{
-    match otherwise {
-        Some(items) => holds_call(items),
+    match place {
+        Some(place) => match parts.get(place) {
+            Some(part) => has_others(&parameter.allowed, &part.kind),
+            None => false,
+        },
         None => false,
     }
+}
+
+// What a function is asked about: of each argument its kind, cut down to the tags that its parameter allows, and its value where it is
+// written as a literal. `Memory`: want of memory.
+fn givens_of(
+    alloc: Global,
+    parameters: &[Parameter],
+    places: &[Option<usize>],
+    args: &[Arg],
+    parts: &[Argument],
+) -> Result<Givens, Memory>
+    ensures given { IfOk result (λ givens. (js : List JudgedArgument) → AreTold (args_view args.now) parts.now js
+        → AreGiven (map parameter_row parameters.now) (bound_at places.now js) (trees_of_givens givens)) }
+    ensures regexes { IfOk result (λ givens. (count : ℕ) → args_regexes_below count (args_view args.now) ≡ true → literals_below count (trees_of_givens givens) ≡ true) }
+{
+    let mut givens = Vec::with_capacity(alloc, parameters.len())?;
+    let mut left = parameters;
+    let mut bound = places;
+    while let Some((parameter, others)) = left.split_first() {
+        let Some((place, rest)) = bound.split_first() else {
+            return Ok(Givens::new(givens));
+        };
+        let given = given_of(alloc, parameter, argument_at(args, parts, *place))?;
+        givens.push(given)?;
+        left = others;
+        bound = rest;
+    }
+    Ok(Givens::new(givens))
+}
+
+// The same of one argument.
+fn given_of(
+    alloc: Global,
+    parameter: &Parameter,
+    argument: Option<(&Arg, &Argument)>,
+) -> Result<Given, Memory>
+    ensures given { IfOk result (λ given. (g : Option JudgedArgument) → IsFound g (option_map (λ f. (f.0.now, f.1.now)) argument.entry) → IsGiven (parameter_row parameter.now) g (given_tree given)) }
+    ensures regexes { IfOk result (λ given. (count : ℕ) → IfSome argument.entry (λ f. expr_regexes_below count (expr_of f.0.now.value) ≡ true) → below_if count (given_tree given).literal ≡ true) }
+{
+    let Some((arg, part)) = argument else {
+        return Ok(Given {
+            kind: None,
+            literal: None,
+        });
+    };
+    let kind = cut_down(alloc, &part.kind, &parameter.allowed)?;
+    kind_is_canonical(&kind);
+    let literal = copy_literal(alloc, &arg.value)?;
+    Ok(Given {
+        kind: Some(kind),
+        literal,
+    })
+}
+
+// A copy of the value of a literal that isn't in parentheses. `Memory`: want of memory.
+fn copy_literal(alloc: Global, value: &Expr) -> Result<Option<Value>, Memory>
+    ensures { IfOk result (λ copy. option_map tree_of copy ≡ literal_of (expr_of value.now)) }
+{
+    match literal(value) {
+        Some(value) => Ok(Some(value.copy(alloc)?)),
+        None => Ok(None),
+    }
+}
+
+// Whether an argument is no literal, or one that the function doesn't allow at this place, where its parameter wants one. `Memory`: want of
+// memory.
+fn is_no_literal(alloc: Global, function: Fun, place: usize, value: &Expr) -> Result<bool, Memory>
+    ensures { IfOk result (λ wanting. IsSomeAnd (slice_get (row_of function).parameters place) (λ p. p.literal ≡ true)
+        → wanting ≡ option_map_or (λ v. not ((row_of function).accepts place v)) (literal_of (expr_of value.now)) true) }
+{
+    let Some(value) = literal(value) else {
+        return Ok(true);
+    };
+    let alone = given_alone(alloc, place, value)?;
+    Ok(wrong_literal(function, &alone).is_some())
+}
+
+// A literal at a place, and nothing at those before it. `Memory`: want of memory.
+fn given_alone(alloc: Global, place: usize, value: &Value) -> Result<Givens, Memory>
+    ensures { IfOk result (λ alone. (i : ℕ) → literal_at i (trees_of_givens alone) ≡ alone_at place (tree_of value.now) i) }
+{
+    let mut givens = Vec::new(alloc);
+    for _step in 0..place {
+        givens.push(Given {
+            kind: None,
+            literal: None,
+        })?;
+    }
+    givens.push(Given {
+        kind: None,
+        literal: Some(value.copy(alloc)?),
+    })?;
+    Ok(Givens::new(givens))
+}
+
+// Asks a function about arguments without code, whose places these are. `Memory`: want of memory.
+fn ask(
+    alloc: Global,
+    function: Fun,
+    places: &[Option<usize>],
+    args: &[Arg],
+    parts: &[Argument],
+    patterns: &Patterns,
+) -> Result<Answer, Memory>
+    requires asked { MayBeAsked (row_of function) (args_view args.now) parts.now places.now }
+    requires regexes { args_regexes_below (length patterns.now) (args_view args.now) ≡ true }
+    ensures answered { IfOk result (λ answer. (js : List JudgedArgument) → AreTold (args_view args.now) parts.now js
+        → IsAnswered patterns.now (row_of function) (bound_at places.now js) answer.kind answer.fails) }
+    ensures root { IfOk result (λ answer. IsRootKind answer.kind) }
+{
+    let parameters = parameters(function);
+    let others = some_has_others(parameters, places, parts);
+    let givens = givens_of(alloc, parameters, places, args, parts)?;
+    let fails = either_of(others, may_fail(function, &givens));
+    let kind = answer_kind(alloc, function, &givens, patterns)?;
+    Ok(Answer { kind, fails })
+}
+
+// The kind of what a function answers, cut. `Memory`: want of memory.
+fn answer_kind(
+    alloc: Global,
+    function: Fun,
+    givens: &Givens,
+    patterns: &Patterns,
+) -> Result<Kind, Memory>
+    requires given { AreAllowed (row_of function) (trees_of_givens givens.now) }
+    requires regexes { IsTrue (literals_below (length patterns.now) (trees_of_givens givens.now)) }
+    ensures kind { IfOk result (IsCutOf ((row_of function).kind (trees_of_givens givens.now) patterns.now)) }
+    ensures root { IfOk result IsRootKind }
+{
+    functions_keep_law();
+    let whole = result_kind(alloc, function, givens, patterns)?;
+    kind_is_canonical(&whole);
+    let kind = cut(alloc, &whole)?;
+    Ok(kind)
 }

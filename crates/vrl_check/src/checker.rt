@@ -1,8 +1,7 @@
 ghost use Rattle.std.specs.Prelude.{◌≡◌, ◌&&◌, ◌==◌, [], false, not, is_some, IfOk, OnOk};
-ghost use Rattle.vrl_kind.specs.Canonical.{allows_absent};
 ghost use Rattle.vrl_kind.specs.Kinds.{root_tags};
 ghost use Rattle.vrl_place.specs.Sets.{is_alone};
-ghost use Rattle.vrl_state.specs.States.{IsJoined, IsStart};
+ghost use Rattle.vrl_state.specs.States.{IsJoined};
 ghost use Rattle.vrl_check.specs.Judgement.{at, if_state, when};
 ghost use Rattle.vrl_check.specs.Answer.{returning};
 ghost use Rattle.vrl_check.specs.Branching.{IsOrFail};
@@ -14,34 +13,22 @@ use crate::outcome::Outcome;
 use std::alloc::Global;
 use vrl_diag::{Diagnostic, Severity, Span, severity};
 use vrl_kind::Kind;
+use vrl_pattern::Patterns;
 use vrl_state::{Branch, Mark, State};
 use vrl_value::{Memory, Tag};
 
 // What is known where the walk stands, and what it has gathered so far.
 #[derive(Drop)]
-pub(crate) struct Checker {
+pub(crate) struct Checker<'a> {
     pub(crate) alloc: Global,
+    // The regexes of the script.
+    pub(crate) patterns: &'a Patterns,
     pub(crate) state: State,
     pub(crate) diagnostics: Vec<Diagnostic>,
     pub(crate) empties: Vec<Tag>,
 }
 
-impl Checker {
-    // The walk before a script over events of a kind. `Memory`: want of memory.
-    pub(crate) fn start(alloc: Global, event: &Kind) -> Result<Checker, Memory>
-        requires { allows_absent event.now ≡ false }
-        ensures state { IfOk result (λ checker. IsStart event.now checker.state) }
-        ensures diagnostics { IfOk result (λ checker. checker.diagnostics.items ≡ []) }
-        ensures empties { IfOk result (λ checker. checker.empties.items ≡ []) }
-    {
-        Ok(Checker {
-            alloc,
-            state: State::start(alloc, event)?,
-            diagnostics: Vec::new(alloc),
-            empties: Vec::new(alloc),
-        })
-    }
-
+impl Checker<'_> {
     // Whether a way leads here.
     pub(crate) fn is_alive(&self) -> bool
         ensures { result ≡ is_some self.now.state.known }

@@ -1,15 +1,15 @@
-ghost use Rattle.std.specs.Prelude.{◌≡◌, ◌++◌, IfOk, OnOk};
-ghost use Rattle.vrl_syntax.specs.View.{args_of, arms_of, call_of, expr_of, exprs_of, pairs_of};
-ghost use Rattle.vrl_check.specs.Empties.{args_empties, arms_empties, expr_empties, exprs_empties, form_empties, pairs_empties};
+ghost use Rattle.std.specs.Prelude.{◌≡◌, ◌++◌, option_map, IfOk, OnOk};
+ghost use Rattle.vrl_syntax.specs.View.{args_of, arms_of, call_of, closure_in, closure_of, expr_of, exprs_of, pairs_of};
+ghost use Rattle.vrl_check.specs.Empties.{args_empties, arms_empties, closure_empties, expr_empties, exprs_empties, form_empties, pairs_empties};
 ghost use Rattle.vrl_check.specs.Judgement.{nothing};
 ghost use Rattle.vrl_check.specs.Judging.{HasJudged};
 
 use crate::checker::Checker;
 use crate::outcome::Outcome;
-use vrl_syntax::{Args, Arms, Call, Expr, Exprs, Form, Pairs};
+use vrl_syntax::{Args, Arms, Call, Closure, Expr, Exprs, Form, Pairs};
 use vrl_value::{Memory, Tag};
 
-impl Checker {
+impl Checker<'_> {
     // What isn't judged gives nothing but its empty values, and the state stays. `Memory`: want of memory.
     pub(crate) fn pass(&mut self, expr: &Expr) -> Result<Outcome, Memory>
         ensures { IfOk result (λ outcome. HasJudged self.old self.new outcome (record (nothing (expr_empties (expr_of expr.now))) { ok = self.old.state.known })) }
@@ -24,6 +24,17 @@ impl Checker {
     {
         add_exprs(items, &mut self.empties)?;
         Outcome::nothing(self.alloc)
+    }
+
+    // The same of a closure that isn't judged. `Memory`: want of memory.
+    pub(crate) fn pass_closure(&mut self, closure: &Option<Closure>) -> Result<(), Memory>
+        ensures empties { OnOk result (self.new.empties.items ≡ self.old.empties.items ++ closure_empties (closure_in (option_map closure_of closure.now))) }
+        ensures others { OnOk result (self.new ≡ record self.old { empties = self.new.empties }) }
+    {
+        match closure {
+            Some(closure) => add_exprs(&closure.body, &mut self.empties),
+            None => Ok(()),
+        }
     }
 }
 

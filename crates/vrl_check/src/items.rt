@@ -10,11 +10,11 @@ use std::alloc::Global;
 use vrl_syntax::{Expr, Exprs};
 use vrl_value::{Memory, Tag};
 
-impl Checker {
+impl Checker<'_> {
     // Judges the items of a block or a branch, whose names end with it. `Memory`: want of memory.
     #[cycle(judge)]
     pub(crate) fn block(&mut self, items: &Exprs) -> Result<Outcome, Memory>
-        requires { ItemsCanBeJudged (exprs_of items.now) }
+        requires { ItemsCanBeJudged self.old.patterns.now (exprs_of items.now) }
         ensures { IfOk result (λ outcome. IsBlockAs (exprs_of items.now) self.old self.new outcome) }
     {
         if self.state.is_dead() {
@@ -39,7 +39,7 @@ impl Checker {
     // Judges items in order; no item gives null. `Memory`: want of memory.
     #[cycle(judge)]
     fn sequence(&mut self, items: &Exprs) -> Result<Outcome, Memory>
-        requires { ItemsCanBeJudged (exprs_of items.now) }
+        requires { ItemsCanBeJudged self.old.patterns.now (exprs_of items.now) }
         ensures { IfOk result (λ outcome. IsSequenceAs (exprs_of items.now) self.old self.new outcome) }
     {
         let mut last = Outcome::value(scalar(self.alloc, Tag::Null)?);
@@ -52,7 +52,7 @@ impl Checker {
 
     // Judges the items of a script. `Memory`: want of memory.
     pub(crate) fn script(&mut self, items: &Exprs) -> Result<Outcome, Memory>
-        requires { ItemsCanBeJudged (exprs_of items.now) }
+        requires { ItemsCanBeJudged self.old.patterns.now (exprs_of items.now) }
         ensures { IfOk result (λ outcome. IsScriptAs (exprs_of items.now) self.old self.new outcome) }
     {
         let mut last = Outcome::value(scalar(self.alloc, Tag::Null)?);
@@ -65,7 +65,7 @@ impl Checker {
 
     // An item of the script itself that may fail is 100.
     fn item(&mut self, item: &Expr) -> Result<Outcome, Memory>
-        requires { CanBeJudged (expr_of item.now) }
+        requires { CanBeJudged self.old.patterns.now (expr_of item.now) }
         ensures { IfOk result (λ outcome. IsItemAs (expr_of item.now) self.old self.new outcome) }
     {
         let part = self.expr(item)?;

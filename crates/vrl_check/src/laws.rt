@@ -1,10 +1,17 @@
-ghost use Rattle.vrl_check.specs.Determined.{JudgementsAreDetermined};
+ghost use Rattle.vrl_check.specs.Determined.{EmptiesAreCounted, JudgementsAreDetermined};
 
 use vrl_kind::equal_tags_are_one_kind;
+use vrl_table::functions_are_found;
 
 /// A script has at most one judgement over events of a kind. This takes no time: it is a law about the definitions.
 pub fn judgements_are_determined()
     ensures { JudgementsAreDetermined }
 {
     equal_tags_are_one_kind();
+    functions_are_found();
 }
+
+/// A judgement has one empty value for each error assignment of the script. This takes no time: it is a law about the definitions.
+pub fn empties_are_counted()
+    ensures { EmptiesAreCounted }
+{}

@@ -8,6 +8,7 @@ mod assignments;
 mod branches;
 mod calls;
 mod checker;
+mod closures;
 mod empties;
 mod ends;
 mod items;
@@ -20,8 +21,8 @@ mod script;
 mod tables;
 mod values;
 
-pub use calls::holds_call;
+pub use closures::holds_closure_call;
 pub use ends::Returned;
 pub use judged::{Ending, Judged};
-pub use laws::judgements_are_determined;
+pub use laws::{empties_are_counted, judgements_are_determined};
 pub use script::{check, ending};

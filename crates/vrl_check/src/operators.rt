@@ -27,7 +27,7 @@ struct Operands {
     ends: Ends,
 }
 
-impl Checker {
+impl Checker<'_> {
     // Judges an operator with two sides. `Memory`: want of memory.
     #[cycle(judge)]
     pub(crate) fn binary(
@@ -37,8 +37,8 @@ impl Checker {
         left: &Expr,
         right: &Expr,
     ) -> Result<Outcome, Memory>
-        requires left { CanBeJudged (expr_of left.now) }
-        requires right { CanBeJudged (expr_of right.now) }
+        requires left { CanBeJudged self.old.patterns.now (expr_of left.now) }
+        requires right { CanBeJudged self.old.patterns.now (expr_of right.now) }
         ensures { IfOk result (λ outcome. IsGivenAs span (binary_form op (expr_of left.now) (expr_of right.now)) self.old self.new outcome) }
     {
         match op {
@@ -58,7 +58,7 @@ impl Checker {
     // `!e`
     #[cycle(judge)]
     pub(crate) fn negation(&mut self, span: Span, inner: &Expr) -> Result<Outcome, Memory>
-        requires { CanBeJudged (expr_of inner.now) }
+        requires { CanBeJudged self.old.patterns.now (expr_of inner.now) }
         ensures { IfOk result (λ outcome. IsGivenAs span (negation_form (expr_of inner.now)) self.old self.new outcome) }
     {
         let part = self.expr(inner)?;
@@ -79,8 +79,8 @@ impl Checker {
     // Judges both operands, the right one where the left one ends with a value.
     #[cycle(judge)]
     fn operands(&mut self, left: &Expr, right: &Expr) -> Result<Operands, Memory>
-        requires left { CanBeJudged (expr_of left.now) }
-        requires right { CanBeJudged (expr_of right.now) }
+        requires left { CanBeJudged self.old.patterns.now (expr_of left.now) }
+        requires right { CanBeJudged self.old.patterns.now (expr_of right.now) }
         ensures { IfOk result (λ parts. AreBoth (expr_of left.now) (expr_of right.now) self.old self.new parts) }
     {
         let left = self.expr(left)?;
@@ -90,7 +90,7 @@ impl Checker {
     // The same where the left one was judged last.
     #[cycle(judge)]
     fn beside(&mut self, left: Outcome, right: &Expr) -> Result<Operands, Memory>
-        requires right { CanBeJudged (expr_of right.now) }
+        requires right { CanBeJudged self.old.patterns.now (expr_of right.now) }
         requires ends { AreEnds self.old.state.scopes left.ends }
         ensures { IfOk result (λ parts. IsBesideAs (expr_of right.now) left self.old self.new parts) }
     {
@@ -124,8 +124,8 @@ impl Checker {
     #[cycle(judge)]
     fn equality(&mut self, span: Span, op: Op, left: &Expr, right: &Expr) -> Result<Outcome, Memory>
         requires op { is_equality op ≡ true }
-        requires left { CanBeJudged (expr_of left.now) }
-        requires right { CanBeJudged (expr_of right.now) }
+        requires left { CanBeJudged self.old.patterns.now (expr_of left.now) }
+        requires right { CanBeJudged self.old.patterns.now (expr_of right.now) }
         ensures { IfOk result (λ outcome. IsGivenAs span (binary_form op (expr_of left.now) (expr_of right.now)) self.old self.new outcome) }
     {
         let parts = self.operands(left, right)?;
@@ -153,8 +153,8 @@ impl Checker {
         right: &Expr,
     ) -> Result<Outcome, Memory>
         requires op { table_of op ≡ Some (table_rule table) }
-        requires left { CanBeJudged (expr_of left.now) }
-        requires right { CanBeJudged (expr_of right.now) }
+        requires left { CanBeJudged self.old.patterns.now (expr_of left.now) }
+        requires right { CanBeJudged self.old.patterns.now (expr_of right.now) }
         ensures { IfOk result (λ outcome. IsGivenAs span (binary_form op (expr_of left.now) (expr_of right.now)) self.old self.new outcome) }
     {
         let parts = self.operands(left, right)?;
@@ -187,8 +187,8 @@ impl Checker {
 
     #[cycle(judge)]
     fn merge(&mut self, left: &Expr, right: &Expr) -> Result<Outcome, Memory>
-        requires left { CanBeJudged (expr_of left.now) }
-        requires right { CanBeJudged (expr_of right.now) }
+        requires left { CanBeJudged self.old.patterns.now (expr_of left.now) }
+        requires right { CanBeJudged self.old.patterns.now (expr_of right.now) }
         ensures { IfOk result (λ outcome. IsAnywhereAs (binary_form ops.Merge (expr_of left.now) (expr_of right.now)) self.old self.new outcome) }
     {
         let parts = self.operands(left, right)?;
@@ -204,7 +204,7 @@ impl Checker {
         path: &Path,
         value: &Expr,
     ) -> Result<Outcome, Memory>
-        requires { CanBeJudged (expr_of value.now) }
+        requires { CanBeJudged self.old.patterns.now (expr_of value.now) }
         ensures given { IfOk result (λ outcome. IsAnywhereAs (binary_form ops.Merge (expr place (read_form root.now path.now)) (expr_of value.now)) self.old self.new outcome) }
         ensures judged { IfOk result (λ outcome. (j : Judgement) × HasJudged self.old self.new outcome j) }
     {

@@ -1,10 +1,11 @@
-ghost use Rattle.std.specs.Prelude.{◌≡◌, false, None, IfOk};
+ghost use Rattle.std.specs.Prelude.{◌≡◌, false, true, length, None, IfOk};
 ghost use Rattle.vrl_kind.specs.Canonical.{allows_absent};
 ghost use Rattle.vrl_state.specs.Known.{known_as, HaveRootKinds};
 ghost use Rattle.vrl_syntax.specs.Limits.{KeepsLimits};
+ghost use Rattle.vrl_syntax.specs.Regexes.{exprs_regexes_below};
 ghost use Rattle.vrl_syntax.specs.View.{exprs_of};
 ghost use Rattle.vrl_check.specs.Answer.{IsEnding, IsJudged};
-ghost use Rattle.vrl_check.specs.Calls.{exprs_hold_call};
+ghost use Rattle.vrl_check.specs.Calls.{exprs_hold_closure_call};
 ghost use Rattle.vrl_check.specs.Judgement.{JudgesScript, Judgement};
 ghost use Rattle.vrl_check.specs.Ordered.{AreOrdered};
 
@@ -14,18 +15,35 @@ use crate::kinds::either;
 use std::alloc::Global;
 use vrl_diag::{Diagnostic, Diagnostics};
 use vrl_kind::Kind;
+use vrl_pattern::Patterns;
 use vrl_state::{Branch, Knowns, State};
 use vrl_syntax::{Empties, Script};
 use vrl_value::Memory;
 
-/// Judges a script over events of a kind. It walks the script once. `Memory`: want of memory.
-pub fn check(alloc: Global, script: &Script, start: &Kind) -> Result<Judged, Memory>
-    requires calls { exprs_hold_call (exprs_of script.now.items) ≡ false }
+/// Judges a script over events of a kind. `patterns` are its regex literals, one for each of its sources, and each regex in it is one of
+/// them. It calls no function that takes a closure, which [`holds_closure_call`](crate::holds_closure_call) tells. It walks the script
+/// once. `Memory`: want of memory.
+pub fn check(
+    alloc: Global,
+    script: &Script,
+    start: &Kind,
+    patterns: &Patterns,
+) -> Result<Judged, Memory>
+    requires calls { exprs_hold_closure_call (exprs_of script.now.items) ≡ false }
     requires limits { KeepsLimits (exprs_of script.now.items) }
+    requires patterns { patterns.now ≡ script.now.patterns }
+    requires regexes { exprs_regexes_below (length patterns.now) (exprs_of script.now.items) ≡ true }
     requires present { allows_absent start.now ≡ false }
-    ensures { IfOk result (λ judged. (j : Judgement) × JudgesScript start.now (exprs_of script.now.items) j × IsJudged j judged) }
+    ensures { IfOk result (λ judged. (j : Judgement) × JudgesScript patterns.now start.now (exprs_of script.now.items) j × IsJudged j judged) }
 {
-    let mut checker = Checker::start(alloc, start)?;
+    let state = State::start(alloc, start)?;
+    let mut checker = Checker {
+        alloc,
+        patterns,
+        state,
+        diagnostics: Vec::new(alloc),
+        empties: Vec::new(alloc),
+    };
     let outcome = checker.script(&script.items)?;
     let diagnostics = ordered(checker.diagnostics)?;
     let (ok, none) = split(alloc, checker.state)?;

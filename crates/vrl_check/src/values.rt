@@ -18,11 +18,11 @@ use vrl_path::Path;
 use vrl_syntax::{Expr, Exprs, Form, Pairs, Root};
 use vrl_value::{Chars, Memory, Value};
 
-impl Checker {
+impl Checker<'_> {
     // Judges an expression. `Memory`: want of memory.
     #[cycle(judge)]
     pub(crate) fn expr(&mut self, expr: &Expr) -> Result<Outcome, Memory>
-        requires { CanBeJudged (expr_of expr.now) }
+        requires { CanBeJudged self.old.patterns.now (expr_of expr.now) }
         ensures { IfOk result (λ outcome. IsJudgedAs (expr_of expr.now) self.old self.new outcome) }
     {
         if self.state.is_dead() {
@@ -45,7 +45,7 @@ impl Checker {
     // Judges a form where a way leads to it. `Memory`: want of memory.
     #[cycle(judge)]
     fn form(&mut self, span: Span, form: &Form) -> Result<Outcome, Memory>
-        requires { FormCanBeJudged (form_of form.now) }
+        requires { FormCanBeJudged self.old.patterns.now (form_of form.now) }
         ensures { IfOk result (λ outcome. IsGivenAs span (form_of form.now) self.old self.new outcome) }
     {
         match form {
@@ -62,8 +62,7 @@ impl Checker {
             Form::Assign(target, value) => self.assignment(span, target, value),
             Form::Merge(target, value) => self.merge_assignment(span, target, value),
             Form::Both(ok, err, value) => self.error_assignment(span, ok, err, value),
-            // What is judged holds none.
-            Form::Call(_) => Outcome::nothing(self.alloc),
+            Form::Call(call) => self.call(span, call),
             Form::Return(value) => self.return_with(value),
             Form::Abort(None) => self.abort(),
             Form::Abort(Some(message)) => self.abort_with(message),
@@ -78,7 +77,7 @@ impl Checker {
 
     #[cycle(judge)]
     fn array(&mut self, exprs: &Exprs) -> Result<Outcome, Memory>
-        requires { ItemsCanBeJudged (exprs_of exprs.now) }
+        requires { ItemsCanBeJudged self.old.patterns.now (exprs_of exprs.now) }
         ensures { IfOk result (λ outcome. IsAnywhereAs (array_form (exprs_of exprs.now)) self.old self.new outcome) }
     {
         let mut kinds = Vec::new(self.alloc);
@@ -94,7 +93,7 @@ impl Checker {
 
     #[cycle(judge)]
     fn object(&mut self, pairs: &Pairs) -> Result<Outcome, Memory>
-        requires { PairsCanBeJudged (pairs_of pairs.now) }
+        requires { PairsCanBeJudged self.old.patterns.now (pairs_of pairs.now) }
         ensures { IfOk result (λ outcome. IsAnywhereAs (object_form (pairs_of pairs.now)) self.old self.new outcome) }
     {
         let mut fields = Vec::new(self.alloc);
@@ -129,7 +128,7 @@ impl Checker {
 
     #[cycle(judge)]
     fn query(&mut self, inner: &Expr, path: &Path) -> Result<Outcome, Memory>
-        requires { CanBeJudged (expr_of inner.now) }
+        requires { CanBeJudged self.old.patterns.now (expr_of inner.now) }
         ensures { IfOk result (λ outcome. IsAnywhereAs (query_form (expr_of inner.now) path.now) self.old self.new outcome) }
     {
         let part = self.expr(inner)?;

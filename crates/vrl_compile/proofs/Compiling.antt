@@ -1,51 +1,55 @@
 -- What `compile` answers, by what was read and judged.
-use Rattle.std.proofs.Common.{◌≡◌, ℕ, Bool, true, false, List, [], ◌∷◌, ◌++◌, if◌then◌else◌, ◌≢◌, Result, Ok, Err, IfErr, IsErrAnd, length, arith, refl, sym, ap, ◌∙◌, subst}
-use Rattle.std.specs.List.{Contains, list_any}
+use Rattle.std.proofs.Common.{◌≡◌, ◌==◌, not, ℕ, Bool, true, false, List, [], ◌∷◌, ◌++◌, if◌then◌else◌, ◌≢◌, Result, Ok, Err, IfErr, IsErrAnd, refl, sym, ap, ◌∙◌, subst}
+use Rattle.std.specs.List.{Contains, list_all, list_any}
 use Rattle.std.proofs.lemmas.Bool.{or_left}
 use Rattle.std.proofs.lemmas.List.Sorted.{list_any-IsPermutation}
+use Rattle.std.proofs.lemmas.List.Sums.{AllPass-from_list_all}
 use Rattle.vrl_diag.specs.declared.diagnostic.Diagnostic.{Diagnostic}
 use Rattle.vrl_diag.specs.declared.diagnostic.Span.{Span}
 use Rattle.vrl_kind.specs.KindTree.{KindTree}
 use Rattle.vrl_syntax.specs.Limits.{KeepsLimits}
-use Rattle.vrl_syntax.specs.Tree.{Exprs, Script}
+use Rattle.vrl_syntax.specs.Tree.{Script}
 use Rattle.vrl_token.specs.Reading.{IsTokenized, IsWrong, lexical_codes}
 use Rattle.vrl_token.specs.OnFault.{OnFault}
 use Rattle.vrl_token.specs.declared.fault.SyntaxFault.{SyntaxFault}
 use Rattle.vrl_token.specs.declared.fault.SyntaxFault.TheVariants.{Fault, Memory}
 use Rattle.vrl_token.specs.declared.token.Spanned.{Spanned}
 use Rattle.vrl_pattern.specs.Malformed.{is_malformed}
-use Rattle.vrl_parse.specs.Words.{regex_of}
-use Rattle.vrl_parse.specs.Reading.{IsWrong as IsWrongScript, no_script, path_fault, Reads}
+use Rattle.vrl_word.specs.Words.{regex_of}
+use Rattle.vrl_parse.specs.Reading.{IsWrong as IsWrongScript, no_script, parse_codes, path_fault}
 use Rattle.vrl_check.specs.Judgement.{Judgement, JudgesScript, is_error}
 use Rattle.vrl_check.specs.Ordered.{AreOrdered}
 use Rattle.vrl_compile.specs.Answer.{CanBeJudged, IsAccepted, IsRefused, IsScript, beyond, judged, malformed, malformed_at, malformed_literals, not_built, of_script, unbuilt, unread, unread_at, wrong}
 use Rattle.vrl_compile.specs.Built.{are_built}
-use Rattle.vrl_compile.proofs.FaultCodes.{beyond_is_error, coded, lexical_is_error}
 
 -- ---- refusals before the judgement
 
+-- a diagnostic is an error where each code that it may have is one
+listed_is_error : (listed : List ℕ) (d : Diagnostic) → list_all (λ n. not (n == 651)) listed ≡ true → Contains listed d.code → list_any is_error (d ∷ []) ≡ true
+listed_is_error listed d all among = or_left _ _ (subst (λ n. not (n == 651) ≡ true) among.2 (AllPass-from_list_all (λ n. not (n == 651)) listed all among.0 d.code among.1))
+
 refused_text : (text : List ℕ) (fault : Diagnostic) → IsWrong text fault → Contains lexical_codes fault.code → (declared : KindTree) → IsRefused declared text (fault ∷ [])
-refused_text text fault is among declared = record { are = wrong fault is refl; error = lexical_is_error fault among }
+refused_text text fault is among declared = record { are = wrong fault is refl; error = listed_is_error lexical_codes fault refl among }
 
 unread_diagnostic : (fault : Diagnostic) → fault.code ≡ 203 → (fault ∷ []) ≡ unread_at fault.span
 unread_diagnostic fault is =
     let made : ℕ → Diagnostic = λ code. record { code = code; span = fault.span } in
     ap (λ code. made code ∷ []) is
 
-refused_tokens : (text : List ℕ) (tokens : List Spanned) (fault : Diagnostic) → IsTokenized text tokens → IsWrongScript tokens fault → (declared : KindTree) → IsRefused declared text (fault ∷ [])
-refused_tokens text tokens fault tokenized (no_script is none) declared =
-    record { are = unread fault.span (record { tokens = tokens; tokenized = tokenized; unread = none }) (unread_diagnostic fault is); error = coded fault 203 is refl }
-refused_tokens text tokens fault tokenized (path_fault {s} {ds} reads faults) declared =
-    record { are = of_script tokens s (record { tokenized = tokenized; reads = reads }) (beyond fault ds faults refl); error = beyond_is_error s.items fault ds faults }
+refused_tokens : (text : List ℕ) (tokens : List Spanned) (fault : Diagnostic) → IsTokenized text tokens → IsWrongScript tokens fault → Contains parse_codes fault.code → (declared : KindTree) → IsRefused declared text (fault ∷ [])
+refused_tokens text tokens fault tokenized (no_script is none) among declared =
+    record { are = unread fault.span (record { tokens = tokens; tokenized = tokenized; unread = none }) (unread_diagnostic fault is); error = listed_is_error parse_codes fault refl among }
+refused_tokens text tokens fault tokenized (path_fault {s} {ds} reads faults) among declared =
+    record { are = of_script tokens s (record { tokenized = tokenized; reads = reads }) (beyond fault ds faults refl); error = listed_is_error parse_codes fault refl among }
 
 -- the same of a fault that is handed on
 pub text_fault : (text : List ℕ) (f : SyntaxFault) → OnFault (IsWrong text) f → OnFault (λ d. Contains lexical_codes d.code) f → OnFault (λ d. (declared : KindTree) → IsRefused declared text (d ∷ [])) f
 text_fault text (Fault d) is among = refused_text text d is among
 text_fault text Memory is among = tt
 
-pub tokens_fault : (text : List ℕ) (tokens : List Spanned) (f : SyntaxFault) → IsTokenized text tokens → OnFault (IsWrongScript tokens) f → OnFault (λ d. (declared : KindTree) → IsRefused declared text (d ∷ [])) f
-tokens_fault text tokens (Fault d) tokenized is = refused_tokens text tokens d tokenized is
-tokens_fault text tokens Memory tokenized is = tt
+pub tokens_fault : (text : List ℕ) (tokens : List Spanned) (f : SyntaxFault) → IsTokenized text tokens → OnFault (IsWrongScript tokens) f → OnFault (λ d. Contains parse_codes d.code) f → OnFault (λ d. (declared : KindTree) → IsRefused declared text (d ∷ [])) f
+tokens_fault text tokens (Fault d) tokenized is among = refused_tokens text tokens d tokenized is among
+tokens_fault text tokens Memory tokenized is among = tt
 
 pub handed_on : {X : Type 0} (result : Result X SyntaxFault) (f : SyntaxFault) (P : SyntaxFault → Type 0) → IsErrAnd result (λ g. g ≡ f) → P f → IfErr result P
 handed_on (Ok x) f P is holds = tt
@@ -74,23 +78,16 @@ pub refused_unbuilt : (declared : KindTree) (text : List ℕ) (tokens : List Spa
 refused_unbuilt declared text tokens script shown is limits built same = record { are = of_script tokens script is (unbuilt limits built same); error = ap (list_any is_error) same }
 
 pub refused_malformed : (declared : KindTree) (text : List ℕ) (tokens : List Spanned) (script : Script) (found : List Diagnostic) → IsScript text tokens script → KeepsLimits script.items → are_built script.items ≡ true → found ≡ malformed_literals tokens
-    → length found ≢ 0 → IsRefused declared text found
+    → found ≢ [] → IsRefused declared text found
 refused_malformed declared text tokens script [] is limits built found some = absurd (some refl)
 refused_malformed declared text tokens script (first ∷ others) is limits built found some =
     record { are = of_script tokens script is (malformed limits built first others (sym found) refl); error = or_left _ _ (malformed_is_error tokens first others (sym found)) }
 
-none_found : (found : List Diagnostic) → length found ≡ 0 → found ≡ []
-none_found [] none = refl
-none_found (first ∷ others) none = absurd (omega (arith, none))
-
-pub can_be_judged : (tokens : List Spanned) (script : Script) (found : List Diagnostic) → KeepsLimits script.items → are_built script.items ≡ true → found ≡ malformed_literals tokens → length found ≡ 0 → CanBeJudged tokens script
-can_be_judged tokens script found limits built told none = record { limits = limits; built = built; well_formed = sym told ∙ none_found found none }
-
-pub refused : (declared : KindTree) (text : List ℕ) (tokens : List Spanned) (script : Script) (j : Judgement) (shown : List Diagnostic) → IsScript text tokens script → CanBeJudged tokens script → JudgesScript declared script.items j → AreOrdered j.codes shown
+pub refused : (declared : KindTree) (text : List ℕ) (tokens : List Spanned) (script : Script) (j : Judgement) (shown : List Diagnostic) → IsScript text tokens script → CanBeJudged tokens script → JudgesScript script.patterns declared script.items j → AreOrdered j.codes shown
     → list_any is_error shown ≡ true → IsRefused declared text shown
 refused declared text tokens script j shown is can judges ordered error = record { are = of_script tokens script is (judged can j judges ordered); error = error }
 
-pub accepted : (declared : KindTree) (text : List ℕ) (tokens : List Spanned) (script : Script) (j : Judgement) (shown : List Diagnostic) → IsScript text tokens script → CanBeJudged tokens script → JudgesScript declared script.items j → AreOrdered j.codes shown
+pub accepted : (declared : KindTree) (text : List ℕ) (tokens : List Spanned) (script : Script) (j : Judgement) (shown : List Diagnostic) → IsScript text tokens script → CanBeJudged tokens script → JudgesScript script.patterns declared script.items j → AreOrdered j.codes shown
     → list_any is_error shown ≡ false → IsAccepted declared text script j
 accepted declared text tokens script j shown is can judges ordered none = record {
   tokens = tokens;

@@ -96,7 +96,7 @@ of_one_script one declared ts s xs ys (judged can j judges ordered) (beyond e es
 of_one_script one declared ts s xs ys (judged can j judges ordered) (unbuilt limits built second) = built_or_not s.items can.built built
 of_one_script one declared ts s xs ys (judged can j judges ordered) (malformed limits built e es some second) = nothing_first (malformed_literals ts) es e some can.well_formed
 of_one_script one declared ts s xs ys (judged can j judges ordered) (judged can_too k judges_too ordered_too) =
-    one_order_of k.codes xs ys (subst (λ x. AreOrdered x.codes xs) (one declared s.items j k judges judges_too) ordered) ordered_too
+    one_order_of k.codes xs ys (subst (λ x. AreOrdered x.codes xs) (one s.patterns declared s.items j k judges judges_too) ordered) ordered_too
 
 pub determined : TokensAreDetermined → ScriptsAreDetermined → JudgementsAreDetermined → DiagnosticsAreDetermined
 determined tokens scripts one declared text xs ys (wrong d is first) (wrong e too second) = one_list (first ∙ ap (λ x. x ∷ []) (tokens.one_fault text d e is too) ∙ sym second)

@@ -1,10 +1,10 @@
 -- What the judgement says of an expression holds of its meaning.
-use Rattle.std.proofs.Common.{◌≡◌, ℕ, List, [], ◌∷◌, ◌++◌, true, false, Bool, ◌||◌, not, is_some, Option, Some, None, IsTrue, inl, inr, unwrap_or, refl, sym, ap, ◌∙◌, subst}
+use Rattle.std.proofs.Common.{◌≡◌, ℕ, List, [], ◌∷◌, ◌++◌, true, false, Bool, ◌||◌, not, is_some, Option, Some, None, inl, inr, unwrap_or, refl, sym, ap, ◌∙◌, subst}
 use Rattle.std.specs.FinMap as map
 use Rattle.std.specs.List.{list_any}
-use Rattle.std.proofs.lemmas.Bool.{true≢false, false≢true, or_left, or_right, or_parts, and_parts}
+use Rattle.std.proofs.lemmas.Bool.{true≢false, false≢true, or_parts, and_parts}
 use Rattle.std.proofs.lemmas.List.Folds.{list_any-append}
-use Rattle.vrl_value.specs.Tree.{Tree, string, integer, boolean, null, timestamp, regex, array, object, Members, find}
+use Rattle.vrl_value.specs.Tree.{Tree, string, integer, boolean, null, timestamp, regex, array, object, find}
 use Rattle.vrl_value.specs.Look.{found_behind, found_if}
 use Rattle.vrl_value.specs.declared.value.Tag.{Tag}
 use Rattle.vrl_path.specs.Read.{read_at, signed_raw_at, tree_found}
@@ -22,8 +22,8 @@ use Rattle.vrl_state.specs.States.{IsCutOf, IsEither, IsJoined, kind_of, RootMap
 use Rattle.vrl_state.specs.Stores.{FitsKind, FitsKnown, FitsMap, Store}
 use Rattle.vrl_check.specs.Judgement as check
 use Rattle.vrl_check.specs.Judgement.{Judgement, Judges, Gives, IsBehind, IsReadAt, IsThen, unreached, reached, a_literal, a_known_root, an_unknown_root, an_equality, of_table, a_coalescing, operands, chained, if_state, is_alive, is_error, is_fallible, settle, settled_kind, scalars_at, some_pair, sum_tag, table_tags, with_codes}
-use Rattle.vrl_compile.specs.Built.{field, variable, is_built, is_built_form, is_built_literal, place_at}
-use Rattle.vrl_compile.specs.Meaning.{fields_of, found, Outcome, value, error, Ended, ends, eval, eval_form, literal_outcome, read_outcome, sum_of, on_value, on_error}
+use Rattle.vrl_compile.specs.Built.{is_built, is_built_form, is_built_literal, place_at}
+use Rattle.vrl_compile.specs.Meaning.{fields_of, Outcome, value, error, Ended, ends, eval, eval_form, literal_outcome, read_outcome, sum_of, on_value, on_error}
 use Rattle.vrl_compile.specs.Soundness.{ExpressionsAreSound, HasNoError, IsSoundEnd}
 use Rattle.vrl_compile.proofs.Inhabiting.{of_own_kind}
 use Rattle.vrl_compile.proofs.LowerLaws.{LowerLaws}
@@ -49,11 +49,11 @@ cause_behind before part after is first second =
     is.poisoned ∙ ap (λ b. b || part.poisoned) first ∙ ap (λ b. list_any is_error before.codes || b) second ∙ sym (list_any-append is_error before.codes part.codes) ∙ ap (list_any is_error) (sym is.codes)
 
 mutual
-  pub has_cause : (e : Expr) (known : Option RootMap) (j : Judgement) → is_built e ≡ true → Judges known e j → HasCause j
+  pub has_cause : {sources : List (List ℕ)} (e : Expr) (known : Option RootMap) (j : Judgement) → is_built e ≡ true → Judges sources known e j → HasCause j
   has_cause e None j built unreached = refl
   has_cause (expr span f) (Some known) j built (reached {j = k} gives) = cause_given span f known k built gives
 
-  cause_given : (span : Span) (f : Form) (known : RootMap) (j : Judgement) → is_built_form f ≡ true → Gives known span f j → HasCause j
+  cause_given : {sources : List (List ℕ)} (span : Span) (f : Form) (known : RootMap) (j : Judgement) → is_built_form f ≡ true → Gives sources known span f j → HasCause j
   cause_given span (literal v) known j built (a_literal cut) = refl
   cause_given span (read root path) known j built (a_known_root is at) = refl
   cause_given span (read root path) known j built (an_unknown_root none) = refl
@@ -183,26 +183,26 @@ same_table t same = cc
 
 mutual
   pub expression_is_sound : LowerLaws → ExpressionsAreSound
-  expression_is_sound laws None e j store built judges none fits = absurd fits
-  expression_is_sound laws (Some known) (expr span f) j store built (reached {j = k} gives) none fits =
-      sound_settled k (eval_form f store) (cause_given span f known k built gives) none (form_is_sound laws span f known k store built gives none fits)
+  expression_is_sound laws sources None e j store built judges none fits = absurd fits
+  expression_is_sound laws sources (Some known) (expr span f) j store built (reached {j = k} gives) none fits =
+      sound_settled k (eval_form f store) (cause_given span f known k built gives) none (form_is_sound laws sources span f known k store built gives none fits)
 
-  form_is_sound : LowerLaws → (span : Span) (f : Form) (known : RootMap) (j : Judgement) (store : Store) → is_built_form f ≡ true → Gives known span f j → HasNoError j.codes → FitsMap store known → IsSound j (eval_form f store)
-  form_is_sound laws span (literal v) known j store built (a_literal {K = K} cut) none fits = literal_is_sound laws v K known store built cut fits
-  form_is_sound laws span (read root path) known j store built (a_known_root {K = K} {M = M} is at) none fits = read_is_sound laws root path K M known store built is at fits
-  form_is_sound laws span (read root path) known j store built (an_unknown_root unknown) none fits = absurd (true≢false none)
-  form_is_sound laws span (binary Plus l r) known j store built (of_table {table = t} {j = a} {k = b} {whole = c} {K = K} {fail = F} is (operands first second then) cut fails) none fits =
+  form_is_sound : LowerLaws → (sources : List (List ℕ)) (span : Span) (f : Form) (known : RootMap) (j : Judgement) (store : Store) → is_built_form f ≡ true → Gives sources known span f j → HasNoError j.codes → FitsMap store known → IsSound j (eval_form f store)
+  form_is_sound laws sources span (literal v) known j store built (a_literal {K = K} cut) none fits = literal_is_sound laws v K known store built cut fits
+  form_is_sound laws sources span (read root path) known j store built (a_known_root {K = K} {M = M} is at) none fits = read_is_sound laws root path K M known store built is at fits
+  form_is_sound laws sources span (read root path) known j store built (an_unknown_root unknown) none fits = absurd (true≢false none)
+  form_is_sound laws sources span (binary Plus l r) known j store built (of_table {table = t} {j = a} {k = b} {whole = c} {K = K} {fail = F} is (operands first second then) cut fails) none fits =
       let parts = and_parts _ _ built in
       let codes = no_error_parts a.codes b.codes (subst HasNoError then.behind.codes (no_error_parts c.codes [] none).0) in
       let same = same_table t is in
       subst (λ f. IsSound (check.of_pairs f a b (with_codes [] c) K F) (eval_form (binary Plus l r) store)) same
       (sum_behind_first laws a b c K F then (subst (λ f. IsCutOf (scalars_at (table_tags f a.kind b.kind)) K) (sym same) cut) (subst (λ f. IsJoined c.fail (if_state (some_pair (λ x y. not (is_some (f x y))) a.kind b.kind) c.ok) F) (sym same) fails)
-      (eval r) (eval l store).outcome (eval l store).store (expression_is_sound laws (Some known) l a store parts.0 first codes.0 fits) (λ after ok. expression_is_sound laws a.ok r b after parts.1 second codes.1 ok))
-  form_is_sound laws span (binary Plus l r) known j store built (an_equality is both cut) none fits = absurd (false≢true is)
-  form_is_sound laws span (binary Coalesce l r) known j store built (a_coalescing {j = a} {k = b} {whole = c} {K = K} {ok = M} first second behind either joined) none fits =
+      (eval r) (eval l store).outcome (eval l store).store (expression_is_sound laws sources (Some known) l a store parts.0 first codes.0 fits) (λ after ok. expression_is_sound laws sources a.ok r b after parts.1 second codes.1 ok))
+  form_is_sound laws sources span (binary Plus l r) known j store built (an_equality is both cut) none fits = absurd (false≢true is)
+  form_is_sound laws sources span (binary Coalesce l r) known j store built (a_coalescing {j = a} {k = b} {whole = c} {K = K} {ok = M} first second behind either joined) none fits =
       let parts = and_parts _ _ built in
       let codes = no_error_parts a.codes b.codes (subst HasNoError behind.codes (no_error_parts c.codes _ none).0) in
-      choice_behind_first laws a b K M (eval r) (eval l store).outcome (eval l store).store either joined (expression_is_sound laws (Some known) l a store parts.0 first codes.0 fits) (λ after ok. expression_is_sound laws a.fail r b after parts.1 second codes.1 ok)
-  form_is_sound laws span (binary Coalesce l r) known j store built (an_equality is both cut) none fits = absurd (false≢true is)
-  form_is_sound laws span (binary Coalesce l r) known j store built (of_table {table = t} is both cut fails) none fits = let wrong : None ≡ Some t = is in cc
-  form_is_sound laws span f known j store built gives none fits = absurd (false≢true built)
+      choice_behind_first laws a b K M (eval r) (eval l store).outcome (eval l store).store either joined (expression_is_sound laws sources (Some known) l a store parts.0 first codes.0 fits) (λ after ok. expression_is_sound laws sources a.fail r b after parts.1 second codes.1 ok)
+  form_is_sound laws sources span (binary Coalesce l r) known j store built (an_equality is both cut) none fits = absurd (false≢true is)
+  form_is_sound laws sources span (binary Coalesce l r) known j store built (of_table {table = t} is both cut fails) none fits = let wrong : None ≡ Some t = is in cc
+  form_is_sound laws sources span f known j store built gives none fits = absurd (false≢true built)

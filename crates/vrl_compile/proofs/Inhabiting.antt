@@ -1,5 +1,5 @@
 -- Values of the kinds that a judgement makes.
-use Rattle.std.proofs.Common.{◌≡◌, true, List, [], ◌∷◌, Option, Some, None, IfSome, IsTrue, refl}
+use Rattle.std.proofs.Common.{◌≡◌, true, [], ◌∷◌, Option, Some, None, IfSome, IsTrue, refl}
 use Rattle.vrl_value.specs.Look.{Step, no_place, part_at, raw_at, tag_found}
 use Rattle.vrl_value.specs.Tag.{tag_of}
 use Rattle.vrl_value.specs.Tree.{Tree}

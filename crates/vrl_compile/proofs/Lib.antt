@@ -1,12 +1,11 @@
+pub mod BuiltForms
 pub mod Compiling
 pub mod Determined
 pub mod Evaluation
 pub mod ExpressionSound
-pub mod FaultCodes
 pub mod Inhabiting
 pub mod LowerLaws
 pub mod MalformedLiterals
-pub mod NoCalls
 pub mod PlusSound
 pub mod Running
 pub mod ScriptSound

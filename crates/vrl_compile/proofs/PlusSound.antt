@@ -1,5 +1,5 @@
 -- The kind of a sum, and whether it may succeed or fail, against the sum of any two values of the kinds.
-use Rattle.std.proofs.Common.{◌≡◌, Bool, true, not, ◌&&◌, [], Option, Some, None, is_some, IsTrue, refl, ap, arith}
+use Rattle.std.proofs.Common.{◌≡◌, Bool, not, ◌&&◌, [], Option, Some, None, is_some, IsTrue, refl, ap, arith}
 use Rattle.std.proofs.lemmas.Bool.{and_from}
 use Rattle.std.proofs.lemmas.Grind.{common_steps}
 use Rattle.std.specs.List.{list_any}
@@ -9,7 +9,7 @@ use Rattle.vrl_value.specs.declared.value.Tag.{Tag}
 use Rattle.vrl_value.specs.declared.value.Tag.TheVariants as tag
 use Rattle.vrl_kind.specs.KindTree.{KindTree}
 use Rattle.vrl_kind.specs.Kinds.{root_tags, Inhabits}
-use Rattle.vrl_kind.specs.Tags.{Tags, all_tags, same_tag}
+use Rattle.vrl_kind.specs.Tags.{Tags, all_tags}
 use Rattle.vrl_state.specs.States.{IsCutOf, RootMap}
 use Rattle.vrl_state.specs.Stores.{FitsKnown, Store}
 use Rattle.vrl_check.specs.Judgement.{if_state, is_tag, scalars_at, some_pair, sum_tag, table_tags}

@@ -1,12 +1,9 @@
 -- A script of built forms that is judged without an error code ends with a value over every event of the declared kind.
-use Rattle.std.proofs.Common.{◌≡◌, ℕ, List, [], ◌∷◌, ◌++◌, Bool, true, false, ◌||◌, Option, Some, None, is_some, Result, Ok, Err, IfOk, refl, sym, ap, ◌∙◌, subst}
+use Rattle.std.proofs.Common.{◌≡◌, ℕ, List, [], ◌∷◌, ◌++◌, Bool, true, false, Option, Some, None, is_some, Result, Ok, Err, IfOk, refl, sym, ap, ◌∙◌, subst}
 use Rattle.std.proofs.lemmas.Bool.{true≢false, false≢true, and_parts}
-use Rattle.std.specs.FinMap as map
-use Rattle.std.specs.Cmp.Lexicographic.{slice_cmp}
-use Rattle.std.specs.Ordering.{nat_cmp}
 use Rattle.vrl_value.specs.Laws.{MembersAreMaps}
-use Rattle.vrl_value.specs.Look.{Step, field as field_step, place, raw_at, part_at, found_behind, found_if, no_place}
-use Rattle.vrl_value.specs.Tree.{Tree, string, integer, boolean, null, timestamp, regex, array, object, Members, find, put}
+use Rattle.vrl_value.specs.Look.{Step, field as field_step, place, raw_at, no_place}
+use Rattle.vrl_value.specs.Tree.{Tree, null, object, put}
 use Rattle.vrl_value.specs.declared.value.Tag.TheVariants as tag
 use Rattle.vrl_path.specs.Steps.{plain}
 use Rattle.vrl_path.specs.Write.{Holds, IsSet, members_in}
@@ -17,14 +14,13 @@ use Rattle.vrl_syntax.specs.Tree.{Expr, expr, assign, Exprs, no_exprs, exprs}
 use Rattle.vrl_syntax.specs.declared.root.Root.{Root}
 use Rattle.vrl_syntax.specs.declared.root.Root.TheVariants.{Event, Name}
 use Rattle.vrl_syntax.specs.declared.root.Target.{Target}
-use Rattle.vrl_syntax.specs.declared.root.Target.TheVariants.{Nowhere, Place}
+use Rattle.vrl_syntax.specs.declared.root.Target.TheVariants.{Place}
 use Rattle.vrl_kind.specs.KindTree.{KindTree}
 use Rattle.vrl_kind.specs.Kinds.{Inhabits}
-use Rattle.vrl_kind.specs.Cut.{IsCut}
 use Rattle.vrl_kind.specs.Tags.{only}
 use Rattle.vrl_state.specs.States as states
 use Rattle.vrl_state.specs.States.{IsStart, RootMap, State}
-use Rattle.vrl_state.specs.Stores.{FitsKind, FitsKnown, FitsMap, IsStoreWritten, Store, with_value}
+use Rattle.vrl_state.specs.Stores.{FitsKnown, IsStoreWritten, Store}
 use Rattle.vrl_check.specs.Judgement as check
 use Rattle.vrl_check.specs.Judgement.{Judgement, Judges, Gives, JudgesItems, JudgesScript, IsThen, reached, an_assignment, no_more_items, one_more_item, a_script, is_alive, is_fallible, of_assignment, of_item, settle, settled_kind, span_of, with_codes}
 use Rattle.vrl_value.specs.declared.memory.Memory.{Memory as WantOfMemory}
@@ -32,12 +28,12 @@ use Rattle.vrl_compile.specs.Answer.{IsAnswer, IsSoundAnswer}
 use Rattle.vrl_compile.specs.Program.{items_of}
 use Rattle.vrl_compile.specs.declared.script.Compiled.{Compiled}
 use Rattle.vrl_compile.specs.declared.script.Compiled.TheVariants as compiled
-use Rattle.vrl_compile.specs.Built.{field, variable, are_built, is_built, is_built_item, place_at, target_place, Place as BuiltPlace}
+use Rattle.vrl_compile.specs.Built.{field, variable, are_built, is_built_item, target_place, Place as BuiltPlace}
 use Rattle.vrl_compile.specs.Meaning.{fields_of, Outcome, value, error, Ended, ends, eval, run_assign, run_item, run_items, store_of, on_value, write}
 use Rattle.vrl_compile.specs.Soundness.{ScriptsAreSound, HasNoError, IsSoundEnd}
 use Rattle.vrl_compile.proofs.Inhabiting.{of_scalars}
 use Rattle.vrl_compile.proofs.LowerLaws.{LowerLaws}
-use Rattle.vrl_compile.proofs.ExpressionSound.{HasCause, IsSound, cause_with_codes, expression_is_sound, has_cause, no_error_parts, sound_settled}
+use Rattle.vrl_compile.proofs.ExpressionSound.{IsSound, cause_with_codes, expression_is_sound, has_cause, no_error_parts, sound_settled}
 
 -- ---- writes
 
@@ -118,14 +114,14 @@ assign_is_sound laws maps (Place span (Name x) []) e j ok store built written so
 assign_is_sound laws maps t e j ok store built written sound = absurd (false≢true built)
 
 -- an item is judged soundly
-item_is_sound : LowerLaws → MembersAreMaps → (item : Expr) (known : Option RootMap) (j : Judgement) (store : Store) → is_built_item item ≡ true → Judges known item j → HasNoError j.codes → FitsKnown store known → IsSound j (run_item item store)
-item_is_sound laws maps item None j store built judges none fits = absurd fits
-item_is_sound laws maps (expr span (assign t e)) (Some known) j store built (reached (an_assignment {j = a} {ok = M} first written)) none fits =
+item_is_sound : LowerLaws → MembersAreMaps → (sources : List (List ℕ)) (item : Expr) (known : Option RootMap) (j : Judgement) (store : Store) → is_built_item item ≡ true → Judges sources known item j → HasNoError j.codes → FitsKnown store known → IsSound j (run_item item store)
+item_is_sound laws maps sources item None j store built judges none fits = absurd fits
+item_is_sound laws maps sources (expr span (assign t e)) (Some known) j store built (reached (an_assignment {j = a} {ok = M} first written)) none fits =
     let parts = and_parts _ _ built in
     let codes = no_error_parts a.codes (of_assignment span t a) none in
     sound_settled (with_codes (of_assignment span t a) (record a { ok = M })) (run_assign (target_place t) e store) (cause_with_codes (of_assignment span t a) (record a { ok = M }) (has_cause e (Some known) a parts.1 first)) none
-    (assign_is_sound laws maps t e a M store parts.0 written (expression_is_sound laws (Some known) e a store parts.1 first codes.0 fits))
-item_is_sound laws maps (expr span f) known j store built judges none fits = expression_is_sound laws known (expr span f) j store built judges none fits
+    (assign_is_sound laws maps t e a M store parts.0 written (expression_is_sound laws sources (Some known) e a store parts.1 first codes.0 fits))
+item_is_sound laws maps sources (expr span f) known j store built judges none fits = expression_is_sound laws sources known (expr span f) j store built judges none fits
 
 -- where no store fits what is known at an error, the end is a value
 value_where_dead : (K : KindTree) (ok fail : Option RootMap) (outcome : Outcome) (store : Store) → is_alive fail ≡ false → IsSoundEnd K ok fail outcome store → IsSoundEnd K ok None outcome store
@@ -139,16 +135,16 @@ can_not_fail true span none = absurd (true≢false none)
 can_not_fail false span none = refl
 
 -- so an item without an error code ends with a value
-item_is_handled : LowerLaws → MembersAreMaps → (item : Expr) (known : Option RootMap) (j : Judgement) (store : Store) → is_built_item item ≡ true → Judges known item j → HasNoError (j.codes ++ of_item (span_of item) j) → FitsKnown store known
+item_is_handled : LowerLaws → MembersAreMaps → (sources : List (List ℕ)) (item : Expr) (known : Option RootMap) (j : Judgement) (store : Store) → is_built_item item ≡ true → Judges sources known item j → HasNoError (j.codes ++ of_item (span_of item) j) → FitsKnown store known
     → IsSoundEnd j.kind j.ok None (run_item item store).outcome (run_item item store).store
-item_is_handled laws maps item known j store built judges none fits =
+item_is_handled laws maps sources item known j store built judges none fits =
     let codes = no_error_parts j.codes (of_item (span_of item) j) none in
-    value_where_dead j.kind j.ok j.fail (run_item item store).outcome (run_item item store).store (can_not_fail (is_fallible j) (span_of item) codes.1) (item_is_sound laws maps item known j store built judges codes.0 fits)
+    value_where_dead j.kind j.ok j.fail (run_item item store).outcome (run_item item store).store (can_not_fail (is_fallible j) (span_of item) codes.1) (item_is_sound laws maps sources item known j store built judges codes.0 fits)
 
 -- ---- scripts
 
 -- the codes of the items before stay among those of all
-prefix_clean : (before : Judgement) (items : Exprs) (after : Judgement) → JudgesItems before items after → HasNoError after.codes → HasNoError before.codes
+prefix_clean : {sources : List (List ℕ)} (before : Judgement) (items : Exprs) (after : Judgement) → JudgesItems sources before items after → HasNoError after.codes → HasNoError before.codes
 prefix_clean before no_exprs after no_more_items none = none
 prefix_clean before (exprs item items) after (one_more_item {j = j} {middle = m} judges then more) none =
     (no_error_parts before.codes (j.codes ++ of_item (span_of item) j) (subst HasNoError then.behind.codes (prefix_clean m items after more none))).0
@@ -160,15 +156,15 @@ next_run K L ok end (value v) store run given more = more v store given.0 given.
 next_run K L ok end (error text) store run given more = absurd given
 
 -- items behind others that ended with a value of their kind, in a store that fits
-items_are_sound : LowerLaws → MembersAreMaps → (items : Exprs) (before after : Judgement) (last : Tree) (store : Store) → are_built items ≡ true → JudgesItems before items after → HasNoError after.codes → Inhabits last before.kind → FitsKnown store before.ok
+items_are_sound : LowerLaws → MembersAreMaps → (sources : List (List ℕ)) (items : Exprs) (before after : Judgement) (last : Tree) (store : Store) → are_built items ≡ true → JudgesItems sources before items after → HasNoError after.codes → Inhabits last before.kind → FitsKnown store before.ok
     → IsSoundEnd after.kind after.ok None (run_items last items store).outcome (run_items last items store).store
-items_are_sound laws maps no_exprs before after last store built no_more_items none of_kind fits = (of_kind, fits)
-items_are_sound laws maps (exprs item items) before after last store built (one_more_item {j = j} {middle = m} judges then more) none of_kind fits =
+items_are_sound laws maps sources no_exprs before after last store built no_more_items none of_kind fits = (of_kind, fits)
+items_are_sound laws maps sources (exprs item items) before after last store built (one_more_item {j = j} {middle = m} judges then more) none of_kind fits =
     let parts = and_parts _ _ built in
     let codes = (no_error_parts before.codes (j.codes ++ of_item (span_of item) j) (subst HasNoError then.behind.codes (prefix_clean m items after more none))).1 in
     let given = run_item item store in
-    next_run j.kind after.kind j.ok after.ok given.outcome given.store (λ v s. run_items v items s) (item_is_handled laws maps item before.ok j store parts.0 judges codes fits)
-    (λ v s is fit. items_are_sound laws maps items m after v s parts.1 more none (subst (Inhabits v) (sym then.behind.kind) is) (subst (FitsKnown s) (sym then.behind.ok) fit))
+    next_run j.kind after.kind j.ok after.ok given.outcome given.store (λ v s. run_items v items s) (item_is_handled laws maps sources item before.ok j store parts.0 judges codes fits)
+    (λ v s is fit. items_are_sound laws maps sources items m after v s parts.1 more none (subst (Inhabits v) (sym then.behind.kind) is) (subst (FitsKnown s) (sym then.behind.ok) fit))
 
 -- a poisoned kind is any
 settled_value : LowerLaws → (poisoned : Bool) (K : KindTree) (ok : Option RootMap) (outcome : Outcome) (store : Store) → IsSoundEnd K ok None outcome store → IsSoundEnd (settled_kind poisoned (is_alive ok) K) ok None outcome store
@@ -178,9 +174,9 @@ settled_value laws false K (Some known) (value v) store sound = sound
 settled_value laws poisoned K ok (error text) store sound = absurd sound
 
 pub script_is_sound : LowerLaws → MembersAreMaps → ScriptsAreSound
-script_is_sound laws maps declared items j built (a_script {N = N} {state = state} {j = k} start null_is judges) none event of_kind =
+script_is_sound laws maps sources declared items j built (a_script {N = N} {state = state} {j = k} start null_is judges) none event of_kind =
     settled_value laws k.poisoned k.kind k.ok _ _
-    (items_are_sound laws maps items (check.gives N state.known) k null (store_of event) built judges none (of_scalars laws.cuts null (only tag.Null) N null_is (λ s. refl) refl) (laws.starts declared state (store_of event) start of_kind))
+    (items_are_sound laws maps sources items (check.gives N state.known) k null (store_of event) built judges none (of_scalars laws.cuts null (only tag.Null) N null_is (λ s. refl) refl) (laws.starts declared state (store_of event) start of_kind))
 
 -- ---- answers
 
@@ -193,4 +189,4 @@ sound_answer sound declared text (Err e) is = is
 sound_answer sound declared text (Ok (compiled.Refused diagnostics)) is = tt
 sound_answer sound declared text (Ok (compiled.Accepted answer)) is = λ event of_kind.
     let accepted = is.accepted in
-    told_end _ _ _ _ _ _ is.judged.kind (ap (λ s. s.known) is.judged.ok) (sound declared (items_of answer.program) is.judgement accepted.can_be_judged.built accepted.judges accepted.no_error event of_kind)
+    told_end _ _ _ _ _ _ is.judged.kind (ap (λ s. s.known) is.judged.ok) (sound answer.sources declared (items_of answer.program) is.judgement accepted.can_be_judged.built accepted.judges accepted.no_error event of_kind)

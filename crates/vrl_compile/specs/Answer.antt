@@ -10,7 +10,7 @@ use Rattle.vrl_syntax.specs.Limits.{exprs_faults, KeepsLimits}
 use Rattle.vrl_token.specs.Reading.{IsTokenized, IsWrong}
 use Rattle.vrl_token.specs.declared.token.Spanned.{Spanned}
 use Rattle.vrl_parse.specs.Reading.{Reads}
-use Rattle.vrl_parse.specs.Words.{regex_of}
+use Rattle.vrl_word.specs.Words.{regex_of}
 use Rattle.vrl_kind.specs.KindTree.{KindTree}
 use Rattle.vrl_kind.specs.Kinds.{Inhabits}
 use Rattle.vrl_pattern.specs.Malformed.{is_malformed}
@@ -74,7 +74,7 @@ pub data AreOfScript (declared : KindTree) (tokens : List Spanned) (script : Scr
   -- regex literals are malformed
   malformed : KeepsLimits script.items → are_built script.items ≡ true → (first : Diagnostic) (others : List Diagnostic) → malformed_literals tokens ≡ first ∷ others → diagnostics ≡ first ∷ others → AreOfScript declared tokens script diagnostics
   -- those of the judgement
-  judged : CanBeJudged tokens script → (j : Judgement) → JudgesScript declared script.items j → AreOrdered j.codes diagnostics → AreOfScript declared tokens script diagnostics
+  judged : CanBeJudged tokens script → (j : Judgement) → JudgesScript script.patterns declared script.items j → AreOrdered j.codes diagnostics → AreOfScript declared tokens script diagnostics
 
 -- the diagnostics of a text
 pub data AreDiagnostics (declared : KindTree) (text : List ℕ) (diagnostics : List Diagnostic) : Type 0 where
@@ -91,7 +91,7 @@ pub record IsAccepted (declared : KindTree) (text : List ℕ) (script : Script) 
   pub tokens : List Spanned
   pub is_script : IsScript text tokens script
   pub can_be_judged : CanBeJudged tokens script
-  pub judges : JudgesScript declared script.items judgement
+  pub judges : JudgesScript script.patterns declared script.items judgement
   pub no_error : HasNoError judgement.codes
 
 -- the program has the script's items, the sources are those of its regex literals, and this is how it was judged

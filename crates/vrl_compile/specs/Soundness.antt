@@ -1,6 +1,6 @@
 -- Soundness: what the judgement says holds of the meaning. This is the Vector Remap Language's claim that a program that compiles
 -- handles each of its errors.
-use Rattle.std.specs.Prelude.{◌≡◌, true, false, List, Option, Some, None}
+use Rattle.std.specs.Prelude.{◌≡◌, ℕ, true, false, List, Option, Some, None}
 use Rattle.std.specs.List.{list_any}
 use Rattle.vrl_value.specs.Tag.{tag_of}
 use Rattle.vrl_value.specs.Tree.{Tree}
@@ -24,9 +24,10 @@ abbrev pub IsSoundEnd : (K : KindTree) (ok fail : Option RootMap) → Outcome �
 IsSoundEnd K ok fail (value v) store = Inhabits v K × FitsKnown store ok
 IsSoundEnd K ok fail (error text) store = FitsKnown store fail
 
--- of every expression of built forms, wherever it is judged without an error code, and every store that fits what is known there
+-- of every expression of built forms, wherever it is judged without an error code, whatever the sources of the script's regexes, and every
+-- store that fits what is known there
 abbrev pub ExpressionsAreSound : Type 0
-ExpressionsAreSound = (known : Option RootMap) (e : Expr) (j : Judgement) (store : Store) → is_built e ≡ true → Judges known e j → HasNoError j.codes → FitsKnown store known
+ExpressionsAreSound = (sources : List (List ℕ)) (known : Option RootMap) (e : Expr) (j : Judgement) (store : Store) → is_built e ≡ true → Judges sources known e j → HasNoError j.codes → FitsKnown store known
     → IsSoundEnd j.kind j.ok j.fail (eval e store).outcome (eval e store).store
 
 -- the script ends with a value, which is of the judgement's kind, and leaves a store that fits what is known at its end
@@ -37,9 +38,9 @@ IsSoundOver j items event = let ended = run_script items event in IsSoundEnd j.k
 abbrev pub IsSoundScript : KindTree → Judgement → Exprs → Type 0
 IsSoundScript declared j items = (event : Tree) → Inhabits event declared → IsSoundOver j items event
 
--- of every script of built forms that is judged without an error code, for every declared kind
+-- of every script of built forms that is judged without an error code, for every declared kind and all sources
 abbrev pub ScriptsAreSound : Type 0
-ScriptsAreSound = (declared : KindTree) (items : Exprs) (j : Judgement) → are_built items ≡ true → JudgesScript declared items j → HasNoError j.codes → IsSoundScript declared j items
+ScriptsAreSound = (sources : List (List ℕ)) (declared : KindTree) (items : Exprs) (j : Judgement) → are_built items ≡ true → JudgesScript sources declared items j → HasNoError j.codes → IsSoundScript declared j items
 
 -- over every event of the kind the script handles each of its errors
 abbrev pub HandlesErrors : KindTree → Exprs → Type 0

@@ -1,7 +1,8 @@
-ghost use Rattle.std.specs.Prelude.{◌≡◌, ◌++◌, ◌∷◌, [], ◌+◌, IfOk, List, ℕ, OnOk};
+ghost use Rattle.std.specs.Prelude.{◌≡◌, ◌≢◌, ◌++◌, ◌∷◌, [], ◌+◌, IfErr, IfOk, List, ℕ, OnOk};
 ghost use Rattle.vrl_parse.specs.Reading.{sources_of};
 ghost use Rattle.vrl_pattern.specs.Malformed.{malformed_from};
 ghost use Rattle.vrl_compile.specs.Answer.{malformed_at, malformed_literals};
+ghost use Rattle.vrl_compile.specs.Literals.{OnMalformed};
 
 use std::alloc::Global;
 use vrl_diag::{Diagnostic, Span, code};
@@ -9,21 +10,44 @@ use vrl_pattern::{BuildFault, Patterns};
 use vrl_token::{Spanned, Token, Tokens};
 use vrl_value::{Memory, Names};
 
-/// The regex literals among the tokens that are malformed (101), in order.
-pub(crate) fn malformed(
+// Why the regex literals of a script aren't built.
+#[derive(Drop)]
+pub(crate) enum LiteralFault {
+    // 101 at each that is malformed, in order; there is at least one.
+    Malformed(Vec<Diagnostic>),
+    // Want of memory.
+    Memory,
+}
+
+impl From<Memory> for LiteralFault {
+    ghost use Rattle.std.specs.Prelude.{◌≡◌};
+    ghost use Rattle.vrl_compile.specs.declared.literals.LiteralFault.{LiteralFault};
+
+    ghost from_gives = { λ _ fault. fault ≡ LiteralFault.Memory };
+
+    fn from(_refused: Memory) -> LiteralFault {
+        LiteralFault::Memory
+    }
+}
+
+// The regex literals among the tokens, built.
+pub(crate) fn build_literals(
     alloc: Global,
     tokens: &Tokens,
     sources: &Names,
-) -> Result<Vec<Diagnostic>, Memory>
+) -> Result<Patterns, LiteralFault>
     requires { sources.now ≡ sources_of tokens.now.tokens }
-    ensures { IfOk result (λ found. found.items ≡ malformed_literals tokens.now.tokens) }
+    ensures sources { IfOk result (λ patterns. patterns ≡ sources.now) }
+    ensures formed { IfOk result (λ _. malformed_literals tokens.now.tokens ≡ []) }
+    ensures malformed { IfErr result (OnMalformed (λ found. (found ≡ malformed_literals tokens.now.tokens) × (found ≢ []))) }
 {
     match Patterns::build(alloc, sources) {
-        Ok(_) => literals_at(alloc, tokens.as_slice(), &[]),
+        Ok(patterns) => Ok(patterns),
         Err(BuildFault::Malformed(numbers)) => {
-            literals_at(alloc, tokens.as_slice(), numbers.as_slice())
+            let found = literals_at(alloc, tokens.as_slice(), numbers.as_slice())?;
+            Err(LiteralFault::Malformed(found))
         }
-        Err(BuildFault::Memory) => Err(Memory),
+        Err(BuildFault::Memory) => Err(LiteralFault::Memory),
     }
 }
 

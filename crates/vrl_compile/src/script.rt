@@ -3,6 +3,7 @@ ghost use Rattle.std.specs.List.{list_any};
 ghost use Rattle.vrl_kind.specs.Canonical.{allows_absent};
 ghost use Rattle.vrl_kind.specs.KindTree.{KindTree};
 ghost use Rattle.vrl_syntax.specs.Limits.{KeepsLimits};
+ghost use Rattle.vrl_syntax.specs.Regexes.{IsNumbered};
 ghost use Rattle.vrl_syntax.specs.View.{exprs_of, script_of};
 ghost use Rattle.vrl_token.specs.OnFault.{OnFault};
 ghost use Rattle.vrl_token.specs.declared.token.Spanned.{Spanned as SpecSpanned};
@@ -12,7 +13,7 @@ ghost use Rattle.vrl_check.specs.Judgement.{is_error, Judgement, JudgesScript};
 ghost use Rattle.vrl_compile.specs.Answer.{CanBeJudged, IsAnswer, IsRefused, IsScript, IsSoundAnswer, not_built};
 
 use crate::built::are_built;
-use crate::literals::malformed;
+use crate::literals::{LiteralFault, build_literals};
 use crate::soundness::scripts_are_sound;
 use std::alloc::Global;
 use vrl_check::{Judged, check};
@@ -95,6 +96,7 @@ fn read(alloc: Global, text: &str) -> Result<Parsed, SyntaxFault>
     requires { length text.now ≤ SCRIPT_LIMIT }
     ensures script { IfOk result (λ parsed. IsScript text.now parsed.tokens.tokens (script_of parsed.script)) }
     ensures limits { IfOk result (λ parsed. KeepsLimits (exprs_of parsed.script.items)) }
+    ensures regexes { IfOk result (λ parsed. IsNumbered (script_of parsed.script)) }
     ensures sources { IfOk result (λ parsed. parsed.script.patterns ≡ sources_of parsed.tokens.tokens) }
     ensures fault { IfErr result (OnFault (λ fault. (declared : KindTree)
         → IsRefused declared text.now (fault ∷ []))) }
@@ -107,6 +109,7 @@ fn read(alloc: Global, text: &str) -> Result<Parsed, SyntaxFault>
 // What is answered for the text that was parsed so.
 fn compile_parsed(alloc: Global, parsed: Parsed, declared: &Kind) -> Result<Compiled, Memory>
     requires limits { KeepsLimits (exprs_of parsed.script.items) }
+    requires regexes { IsNumbered (script_of parsed.script) }
     requires sources { parsed.script.patterns ≡ sources_of parsed.tokens.tokens }
     requires present { allows_absent declared.now ≡ false }
     ensures { (text : List ℕ) → IsScript text parsed.tokens.tokens (script_of parsed.script)
@@ -116,19 +119,21 @@ fn compile_parsed(alloc: Global, parsed: Parsed, declared: &Kind) -> Result<Comp
     if !are_built(&script.items) {
         return Ok(Compiled::Refused(not_built(alloc)?));
     }
-    let malformed = malformed(alloc, &tokens, &script.patterns)?;
-    if !malformed.is_empty() {
-        return Ok(Compiled::Refused(Diagnostics::new(malformed)));
+    match build_literals(alloc, &tokens, &script.patterns) {
+        Ok(patterns) => {
+            let judged = check(alloc, &script, declared, &patterns)?;
+            Ok(decided(script, judged))
+        }
+        Err(LiteralFault::Malformed(found)) => Ok(Compiled::Refused(Diagnostics::new(found))),
+        Err(LiteralFault::Memory) => Err(Memory),
     }
-    let judged = check(alloc, &script, declared)?;
-    Ok(decided(script, judged))
 }
 
 // What is answered for a script that was judged so: it is accepted where it has no error.
 fn decided(script: Script, judged: Judged) -> Compiled
     ensures { (declared : KindTree) (text : List ℕ) (tokens : List SpecSpanned) (judgement : Judgement)
         → IsScript text tokens (script_of script) → CanBeJudged tokens (script_of script)
-        → JudgesScript declared (exprs_of script.items) judgement → IsJudged judgement judged
+        → JudgesScript script.patterns declared (exprs_of script.items) judgement → IsJudged judgement judged
         → IsAnswer declared text result }
 {
     if has_error(judged.diagnostics.as_slice()) {

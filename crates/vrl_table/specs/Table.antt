@@ -1,5 +1,5 @@
 -- The functions of the language and their rows.
-use Rattle.std.specs.Prelude.{codes}
+use Rattle.std.specs.Prelude.{◌≡◌, ℕ, List, [], ◌∷◌, Option, Some, find, bytes_eq, codes}
 use Rattle.vrl_value.specs.declared.value.Tag.TheVariants as tag
 use Rattle.vrl_builtin.specs.Law.{KeepsLaw}
 use Rattle.vrl_builtin.specs.Rows.{Row}
@@ -41,6 +41,18 @@ row_of fun.Timestamp = only_row (codes "timestamp") tag.Time
 row_of fun.ToBool = to_bool_row
 row_of fun.ToInt = to_int_row
 row_of fun.ToString = to_string_row
+
+-- all of them
+abbrev pub all_functions : List Fun
+all_functions = fun.Abs ∷ fun.Array ∷ fun.Bool ∷ fun.FormatInt ∷ fun.Int ∷ fun.IsArray ∷ fun.IsBoolean ∷ fun.IsEmpty ∷ fun.IsInteger ∷ fun.IsNull ∷ fun.IsNullish ∷ fun.IsObject ∷ fun.IsRegex ∷ fun.IsString ∷ fun.IsTimestamp ∷ fun.Mod ∷ fun.Object ∷ fun.ParseInt ∷ fun.StringValue ∷ fun.Timestamp ∷ fun.ToBool ∷ fun.ToInt ∷ fun.ToString ∷ []
+
+-- the function of a name, if one has it
+unfoldable pub function_named : List ℕ → Option Fun
+function_named name = find (λ function. bytes_eq (row_of function).name name) all_functions
+
+-- each function is the one that is found by its name, so no two have one name
+abbrev pub FunctionsAreFound : Type 0
+FunctionsAreFound = (function : Fun) → function_named (row_of function).name ≡ Some function
 
 -- each function keeps the law
 abbrev pub FunctionsKeepLaw : Type 0

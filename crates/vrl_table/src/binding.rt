@@ -222,14 +222,17 @@ fn first_missing(parameters: &[Parameter], places: &[Option<usize>]) -> Option<u
     None
 }
 
-/// Binds the arguments of a call to the parameters of its function: an argument with a keyword to the parameter of this name, and the i-th
-/// one without to the i-th parameter that no keyword names. `Number`: there are more arguments than parameters, or a keyword stands
-/// twice. Else `Unknown`: the place of the first argument whose keyword is no parameter's name. Else `Missing`: the place of the first
-/// required parameter without an argument. `Memory`: want of memory.
-pub fn bind(alloc: Global, function: Fun, arguments: &Args) -> Result<Bound, BindFault>
-    ensures { IsBound (binding (row_of function).parameters (keywords_of (args_of arguments.now))) result }
+/// Binds the arguments of a call to parameters: an argument with a keyword to the parameter of this name, and the i-th one without to
+/// the i-th parameter that no keyword names. `Number`: there are more arguments than parameters, or a keyword stands twice. Else
+/// `Unknown`: the place of the first argument whose keyword is no parameter's name. Else `Missing`: the place of the first required
+/// parameter without an argument. `Memory`: want of memory.
+pub fn bind_to(
+    alloc: Global,
+    parameters: &[Parameter],
+    arguments: &Args,
+) -> Result<Bound, BindFault>
+    ensures { IsBound (binding (map parameter_row parameters.now) (keywords_of (args_of arguments.now))) result }
 {
-    let parameters = function.parameters();
     let arguments = arguments.as_slice();
     if is_wrong_number(parameters, arguments) {
         return Err(BindFault::Number);
@@ -242,4 +245,11 @@ pub fn bind(alloc: Global, function: Fun, arguments: &Args) -> Result<Bound, Bin
         Some(place) => Err(BindFault::Missing(place)),
         None => Ok(Bound::new(places)),
     }
+}
+
+/// Binds the arguments of a call to the parameters of its function, as [`bind_to`] does.
+pub fn bind(alloc: Global, function: Fun, arguments: &Args) -> Result<Bound, BindFault>
+    ensures { IsBound (binding (row_of function).parameters (keywords_of (args_of arguments.now))) result }
+{
+    bind_to(alloc, function.parameters(), arguments)
 }

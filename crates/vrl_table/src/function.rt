@@ -1,6 +1,6 @@
 ghost use Rattle.std.specs.Prelude.{◌≡◌, ◌≢◌, MatchOption};
 ghost use Rattle.vrl_table.specs.Laws.{row-law};
-ghost use Rattle.vrl_table.specs.Table.{row_of};
+ghost use Rattle.vrl_table.specs.Table.{row_of, FunctionsAreFound};
 ghost use Rattle.vrl_table.specs.declared.function.Fun.{Fun};
 
 use fn_number::{Abs, FormatInt, Mod, ParseInt};
@@ -162,3 +162,8 @@ pub fn lookup(name: &str) -> Option<Fun>
         _ => None,
     }
 }
+
+/// Each function is the one that is found by its name, so no two have one name. This takes no time: it is a law about the definitions.
+pub fn functions_are_found()
+    ensures { FunctionsAreFound }
+{}

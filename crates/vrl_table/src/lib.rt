@@ -6,6 +6,6 @@ mod binding;
 mod calls;
 mod function;
 
-pub use binding::{BindFault, Bound, bind};
+pub use binding::{BindFault, Bound, bind, bind_to};
 pub use calls::{apply, functions_keep_law, may_fail, parameters, result_kind, wrong_literal};
-pub use function::{Fun, lookup};
+pub use function::{Fun, functions_are_found, lookup};

@@ -1,21 +1,23 @@
-use Rattle.std.proofs.Common.{◌≡◌, ◌++◌, ◌∷◌, [], rules, sym, ◌∙◌, subst, arith, ap, option_map, refl, ap₂, ◌+◌, drop, length, true, vec_len, IfOk}
+use Rattle.std.proofs.Common.{◌≡◌, ◌++◌, ◌∷◌, [], rules, sym, ◌∙◌, subst, arith, ap, option_map, refl, ap₂, ◌+◌, drop, length, vec_len, IfOk}
 use Rattle.std.proofs.lemmas.Bool.{true≢false}
 use Rattle.std.proofs.lemmas.Result.{IfOk-weaker}
-use Rattle.vrl_syntax.specs.Tree.{expr, abort_with, array, assign, binary, block, both, conditional, group, literal, merge, message, negation, no_message, object, query, read, return_of}
-use Rattle.vrl_syntax.specs.View.{expr_of, form_of, arms_of, else_of, exprs_of, pairs_of, exprs_view, pairs_view, arm_of, arms_view}
+use Rattle.vrl_syntax.specs.Tree.{expr, abort_with, arg, array, assign, binary, block, both, call, conditional, group, literal, merge, message, negation, no_message, object, query, read, return_of}
+use Rattle.vrl_syntax.specs.View.{arg_of, args_of, args_view, call_of, closure_in, closure_of, expr_of, form_of, arms_of, else_of, exprs_of, pairs_of, exprs_view, pairs_view, arm_of, arms_view}
+use Rattle.vrl_syntax.specs.declared.tree.Arg.{out-Arg}
 use Rattle.vrl_syntax.specs.declared.tree.Arm.{out-Arm}
+use Rattle.vrl_syntax.specs.declared.tree.Call.{out-Call}
 use Rattle.vrl_syntax.specs.declared.tree.Form.{the_lemmas}
-use Rattle.vrl_check.specs.Calls.{form_holds_call}
 use Rattle.vrl_syntax.specs.declared.root.Op.TheVariants as ops
 use Rattle.vrl_check.specs.Judging.{CanBeJudged, FormCanBeJudged, IsArmBehind, IsGivenAs, ItemsCanBeJudged, ElseCanBeJudged, IsElseAs}
-use Rattle.vrl_check.proofs.Capable.{form_can, abort_can, array_can, assign_can, binary_can, block_can, both_can, conditional_can, group_can, merge_can, negation_can, object_can, query_can, return_can}
+use Rattle.vrl_check.proofs.Capable.{form_can, abort_can, arguments_can, array_can, assign_can, binary_can, block_can, both_can, conditional_can, group_can, merge_can, negation_can, object_can, query_can, return_can}
 use Rattle.vrl_check.proofs.Forms.{expr_passed, expr_reached, block_given, group_given, query_given, block_passed, block_reached, in_block, negation_given, here_are, operands_given, beside_given, both_common, equality_given, operands_are, table_given, merge_given, merge_into_given, merge_into_judged, place_are}
 use Rattle.vrl_check.proofs.Sizes.{expr_size, form_size, arms_size, else_size, exprs_size}
 use Rattle.vrl_value.specs.View.{tree_of}
-use Rattle.vrl_check.proofs.Partway.{array_can_next, array_common, array_first, array_given, array_next, next_item, no_item_left, array_fewer, next_pair, no_pair_left, object_can_next, object_common, object_first, object_given, object_next, object_fewer, sequence_can_next, sequence_common, sequence_end, sequence_first, sequence_next, sequence_fewer}
+use Rattle.vrl_check.proofs.Partway.{can_at, else_at, form_at, items_at, array_can_next, array_common, array_first, array_given, array_next, next_item, no_item_left, array_fewer, next_pair, no_pair_left, object_can_next, object_common, object_first, object_given, object_next, object_fewer, sequence_can_next, sequence_common, sequence_end, sequence_first, sequence_next, sequence_fewer}
 use Rattle.vrl_check.specs.Judgement.{span_of}
 use Rattle.vrl_check.proofs.Branching.{conjunction_judged, stands_here, disjunction_judged, coalescing_judged, return_judged, abort_judged}
 use Rattle.vrl_check.proofs.Told.{expr_ends, block_ends, expr_root}
+use Rattle.vrl_check.proofs.Arguments.{argument_can_next, argument_common, argument_fewer, arguments_are, arguments_first, arguments_given, arguments_next, arguments_told, call_given, next_arg, no_arg_left}
 use Rattle.vrl_check.proofs.Arms.{conditional_judged, first_arms, last_ends, more_arms, next_arm, next_can, no_arm_left, ways_behind, ways_here, AreJudged, arm_judged, middle_here, ways_in}
 use Rattle.vrl_check.proofs.Assigning.{assignment_judged, judged_present, merge_judged, nowhere_judged, settled_present, error_judged}
 use Rattle.vrl_check.proofs.checker.Checker.+judge.Goals as goal
@@ -24,7 +26,7 @@ pub expr-form-requires : goal.expr-form-requires
 expr-form-requires t c =
     let e = c.args.expr.now in
     let is : expr_of e ≡ expr e.span (form_of e.form) = search (rules, the_lemmas) in
-    (omega (arith, c.decreases, ap expr_size is), form_can e.span (form_of e.form) (subst CanBeJudged is c.requires))
+    (omega (arith, c.decreases, ap expr_size is), form_can e.span (form_of e.form) (subst (CanBeJudged c.args.self.now.patterns.now) is c.requires))
 
 pub expr-returns-then-is_dead : goal.expr-returns-then-is_dead
 expr-returns-then-is_dead t c =
@@ -46,7 +48,7 @@ form-returns-in-Literal t c =
 pub form-array-requires : goal.form-array-requires
 form-array-requires t c =
     let is : form_of c.args.form.now ≡ array (exprs_of c.in-Array.exprs) = search (rules, the_lemmas) in
-    let can = subst FormCanBeJudged is c.requires in
+    let can = subst (FormCanBeJudged c.args.self.now.patterns.now) is c.requires in
     (omega (arith, c.decreases, ap form_size is), array_can _ can)
 
 pub form-returns-in-Array : goal.form-returns-in-Array
@@ -57,7 +59,7 @@ form-returns-in-Array t c =
 pub form-object-requires : goal.form-object-requires
 form-object-requires t c =
     let is : form_of c.args.form.now ≡ object (pairs_of c.in-Map.pairs) = search (rules, the_lemmas) in
-    let can = subst FormCanBeJudged is c.requires in
+    let can = subst (FormCanBeJudged c.args.self.now.patterns.now) is c.requires in
     (omega (arith, c.decreases, ap form_size is), object_can _ can)
 
 pub form-returns-in-Map : goal.form-returns-in-Map
@@ -75,7 +77,7 @@ form-query-requires t c =
     let here0 : c.deref.result.now ≡ c.in-Query.inner.value = search rules in
     let at_box : form_of c.args.form.now ≡ query (expr_of c.in-Query.inner.value) c.in-Query.path = search (rules, the_lemmas) in
     let is : form_of c.args.form.now ≡ query (expr_of c.deref.result.now) c.in-Query.path = at_box ∙ ap (λ x. query (expr_of x) c.in-Query.path) (sym here0) in
-    let can = subst FormCanBeJudged is c.requires in
+    let can = subst (FormCanBeJudged c.args.self.now.patterns.now) is c.requires in
     (omega (arith, c.decreases, ap form_size is), query_can _ _ can)
 
 pub form-returns-in-Query : goal.form-returns-in-Query
@@ -90,7 +92,7 @@ form-expr-requires t c =
     let here0 : c.deref-in-Group.result.now ≡ c.in-Group.inner.value = search rules in
     let at_box : form_of c.args.form.now ≡ group (expr_of c.in-Group.inner.value) = search (rules, the_lemmas) in
     let is : form_of c.args.form.now ≡ group (expr_of c.deref-in-Group.result.now) = at_box ∙ ap (λ x. group (expr_of x)) (sym here0) in
-    let can = subst FormCanBeJudged is c.requires in
+    let can = subst (FormCanBeJudged c.args.self.now.patterns.now) is c.requires in
     (omega (arith, c.decreases, ap form_size is), group_can _ can)
 
 pub form-returns-in-Group : goal.form-returns-in-Group
@@ -103,7 +105,7 @@ form-returns-in-Group t c =
 pub form-block-requires : goal.form-block-requires
 form-block-requires t c =
     let is : form_of c.args.form.now ≡ block (exprs_of c.in-Block.items) = search (rules, the_lemmas) in
-    let can = subst FormCanBeJudged is c.requires in
+    let can = subst (FormCanBeJudged c.args.self.now.patterns.now) is c.requires in
     (omega (arith, c.decreases, ap form_size is), block_can _ can)
 
 pub form-returns-in-Block : goal.form-returns-in-Block
@@ -114,7 +116,7 @@ form-returns-in-Block t c =
 pub form-conditional-requires : goal.form-conditional-requires
 form-conditional-requires t c =
     let is : form_of c.args.form.now ≡ conditional (arms_of c.in-If.arms) (else_of (option_map exprs_of c.in-If.otherwise)) = search (rules, the_lemmas) in
-    let can = subst FormCanBeJudged is c.requires in
+    let can = subst (FormCanBeJudged c.args.self.now.patterns.now) is c.requires in
     (omega (arith, c.decreases, ap form_size is), ((conditional_can _ _ can).0, (conditional_can _ _ can).1))
 
 pub form-returns-in-If : goal.form-returns-in-If
@@ -127,7 +129,7 @@ form-negation-requires t c =
     let here0 : c.deref-in-Not.result.now ≡ c.in-Not.inner.value = search rules in
     let at_box : form_of c.args.form.now ≡ negation (expr_of c.in-Not.inner.value) = search (rules, the_lemmas) in
     let is : form_of c.args.form.now ≡ negation (expr_of c.deref-in-Not.result.now) = at_box ∙ ap (λ x. negation (expr_of x)) (sym here0) in
-    let can = subst FormCanBeJudged is c.requires in
+    let can = subst (FormCanBeJudged c.args.self.now.patterns.now) is c.requires in
     (omega (arith, c.decreases, ap form_size is), negation_can _ can)
 
 pub form-returns-in-Not : goal.form-returns-in-Not
@@ -143,7 +145,7 @@ form-binary-requires t c =
     let here1 : c.deref-in-Binary-2.result.now ≡ c.in-Binary.right.value = search rules in
     let at_box : form_of c.args.form.now ≡ binary c.in-Binary.op (expr_of c.in-Binary.left.value) (expr_of c.in-Binary.right.value) = search (rules, the_lemmas) in
     let is : form_of c.args.form.now ≡ binary c.in-Binary.op (expr_of c.deref-in-Binary.result.now) (expr_of c.deref-in-Binary-2.result.now) = at_box ∙ ap₂ (λ x y. binary c.in-Binary.op (expr_of x) (expr_of y)) (sym here0) (sym here1) in
-    let can = subst FormCanBeJudged is c.requires in
+    let can = subst (FormCanBeJudged c.args.self.now.patterns.now) is c.requires in
     (omega (arith, c.decreases, ap form_size is), ((binary_can _ _ _ can).0, (binary_can _ _ _ can).1))
 
 pub form-returns-in-Binary : goal.form-returns-in-Binary
@@ -159,7 +161,7 @@ form-assignment-requires t c =
     let here0 : c.deref-in-Assign.result.now ≡ c.in-Assign.value.value = search rules in
     let at_box : form_of c.args.form.now ≡ assign c.in-Assign.target (expr_of c.in-Assign.value.value) = search (rules, the_lemmas) in
     let is : form_of c.args.form.now ≡ assign c.in-Assign.target (expr_of c.deref-in-Assign.result.now) = at_box ∙ ap (λ x. assign c.in-Assign.target (expr_of x)) (sym here0) in
-    let can = subst FormCanBeJudged is c.requires in
+    let can = subst (FormCanBeJudged c.args.self.now.patterns.now) is c.requires in
     (omega (arith, c.decreases, ap form_size is), ((assign_can _ _ can).0, (assign_can _ _ can).1))
 
 pub form-returns-in-Assign : goal.form-returns-in-Assign
@@ -174,7 +176,7 @@ form-merge_assignment-requires t c =
     let here0 : c.deref-in-Merge.result.now ≡ c.in-Merge.value.value = search rules in
     let at_box : form_of c.args.form.now ≡ merge c.in-Merge.target (expr_of c.in-Merge.value.value) = search (rules, the_lemmas) in
     let is : form_of c.args.form.now ≡ merge c.in-Merge.target (expr_of c.deref-in-Merge.result.now) = at_box ∙ ap (λ x. merge c.in-Merge.target (expr_of x)) (sym here0) in
-    let can = subst FormCanBeJudged is c.requires in
+    let can = subst (FormCanBeJudged c.args.self.now.patterns.now) is c.requires in
     (omega (arith, c.decreases, ap form_size is), ((merge_can _ _ can).0, (merge_can _ _ can).1))
 
 pub form-returns-in-Merge : goal.form-returns-in-Merge
@@ -189,7 +191,7 @@ form-error_assignment-requires t c =
     let here0 : c.deref-in-Both.result.now ≡ c.in-Both.value.value = search rules in
     let at_box : form_of c.args.form.now ≡ both c.in-Both.ok c.in-Both.err (expr_of c.in-Both.value.value) = search (rules, the_lemmas) in
     let is : form_of c.args.form.now ≡ both c.in-Both.ok c.in-Both.err (expr_of c.deref-in-Both.result.now) = at_box ∙ ap (λ x. both c.in-Both.ok c.in-Both.err (expr_of x)) (sym here0) in
-    let can = subst FormCanBeJudged is c.requires in
+    let can = subst (FormCanBeJudged c.args.self.now.patterns.now) is c.requires in
     (omega (arith, c.decreases, ap form_size is), ((both_can _ _ _ can).0, ((both_can _ _ _ can).1, (both_can _ _ _ can).2)))
 
 pub form-returns-in-Both : goal.form-returns-in-Both
@@ -204,7 +206,7 @@ form-return_with-requires t c =
     let here0 : c.deref-in-Return.result.now ≡ c.in-Return.value.value = search rules in
     let at_box : form_of c.args.form.now ≡ return_of (expr_of c.in-Return.value.value) = search (rules, the_lemmas) in
     let is : form_of c.args.form.now ≡ return_of (expr_of c.deref-in-Return.result.now) = at_box ∙ ap (λ x. return_of (expr_of x)) (sym here0) in
-    let can = subst FormCanBeJudged is c.requires in
+    let can = subst (FormCanBeJudged c.args.self.now.patterns.now) is c.requires in
     (omega (arith, c.decreases, ap form_size is), return_can _ can)
 
 pub form-returns-in-Return : goal.form-returns-in-Return
@@ -224,7 +226,7 @@ form-abort_with-requires t c =
     let here0 : c.deref-in-Abort-Some.result.now ≡ c.in-Abort-Some.message.value = search rules in
     let at_box : form_of c.args.form.now ≡ abort_with (message (expr_of c.in-Abort-Some.message.value)) = search (rules, the_lemmas) in
     let is : form_of c.args.form.now ≡ abort_with (message (expr_of c.deref-in-Abort-Some.result.now)) = at_box ∙ ap (λ x. abort_with (message (expr_of x))) (sym here0) in
-    let can = subst FormCanBeJudged is c.requires in
+    let can = subst (FormCanBeJudged c.args.self.now.patterns.now) is c.requires in
     (omega (arith, c.decreases, ap form_size is), abort_can _ can)
 
 pub form-returns-in-Abort-Some : goal.form-returns-in-Abort-Some
@@ -234,10 +236,19 @@ form-returns-in-Abort-Some t c =
     let is : form_of c.args.form.now ≡ abort_with (message (expr_of c.deref-in-Abort-Some.result.now)) = at_box ∙ ap (λ x. abort_with (message (expr_of x))) (sym here0) in
     rw is (IfOk-weaker c.abort_with.result _ _ (λ outcome given. given c.args.span) c.abort_with.ensures)
 
+pub form-call-requires : goal.form-call-requires
+form-call-requires t c =
+    let here0 : c.deref-in-Call.result.now ≡ c.in-Call.call.value = search rules in
+    let at_box : form_of c.args.form.now ≡ call_of c.in-Call.call.value = search (rules, the_lemmas) in
+    let is : form_of c.args.form.now ≡ call_of c.deref-in-Call.result.now = at_box ∙ ap call_of (sym here0) in
+    (omega (arith, c.decreases, ap form_size is), subst (FormCanBeJudged c.args.self.now.patterns.now) is c.requires)
+
 pub form-returns-in-Call : goal.form-returns-in-Call
 form-returns-in-Call t c =
-    let held : form_holds_call (form_of c.args.form.now) ≡ true = search (rules, the_lemmas) in
-    absurd (true≢false (sym held ∙ c.requires.calls))
+    let here0 : c.deref-in-Call.result.now ≡ c.in-Call.call.value = search rules in
+    let at_box : form_of c.args.form.now ≡ call_of c.in-Call.call.value = search (rules, the_lemmas) in
+    let is : form_of c.args.form.now ≡ call_of c.deref-in-Call.result.now = at_box ∙ ap call_of (sym here0) in
+    rw is (c.call.ensures)
 
 pub array-loop-expr-init : goal.array-loop-expr-init
 array-loop-expr-init t c =
@@ -311,7 +322,7 @@ block-end_block-requires t c =
 pub block-returns : goal.block-returns
 block-returns t c =
     IfOk-weaker c.end_block.result _ _
-    (λ outcome ends. block_reached (exprs_of c.args.items.now) c.args.self.now _ _ _ c.in_ok-part.part outcome (λ dead. true≢false (sym (c.is_dead.ensures.1 dead) ∙ c.if-is_dead.false)) c.in_ok-enter.ensures.entered refl refl c.in_ok-part.ensures ends)
+    (λ outcome ends. block_reached (exprs_of c.args.items.now) c.args.self.now _ _ _ c.in_ok-part.part outcome (λ dead. true≢false (sym (c.is_dead.ensures.1 dead) ∙ c.if-is_dead.false)) c.in_ok-enter.ensures.entered refl refl refl c.in_ok-part.ensures ends)
     c.end_block.ensures
 
 pub sequence-loop-item-init : goal.sequence-loop-item-init
@@ -366,7 +377,7 @@ negation-returns t c =
 
 pub operands-beside-requires : goal.operands-beside-requires
 operands-beside-requires t c =
-    (omega (arith, c.decreases), (c.requires.right, here_are c.args.self.now c.expr.new.self c.in_ok-left.left c.in_ok-left.ensures.0 c.in_ok-left.ensures.2))
+    (omega (arith, c.decreases), (can_at c.args.self.now c.expr.new.self (expr_of c.args.right.now) c.in_ok-left.ensures.2.gathered.patterns c.requires.right, here_are c.args.self.now c.expr.new.self c.in_ok-left.left c.in_ok-left.ensures.0 c.in_ok-left.ensures.2))
 
 pub operands-returns : goal.operands-returns
 operands-returns t c =
@@ -410,7 +421,7 @@ merge-returns t c =
 
 pub merge_into-beside-requires : goal.merge_into-beside-requires
 merge_into-beside-requires t c =
-    (omega (arith, c.decreases), (c.requires, place_are c.args.self.now c.read.new.self c.in_ok-read.read c.in_ok-left.left c.in_ok-read.ensures.judged.0 c.in_ok-read.ensures.judged.1 c.in_ok-left.ensures))
+    (omega (arith, c.decreases), (can_at c.args.self.now c.read.new.self (expr_of c.args.value.now) c.in_ok-read.ensures.judged.1.gathered.patterns c.requires, place_are c.args.self.now c.read.new.self c.in_ok-read.read c.in_ok-left.left c.in_ok-read.ensures.judged.0 c.in_ok-read.ensures.judged.1 c.in_ok-left.ensures))
 
 pub merge_into-returns-clause-given : goal.merge_into-returns-clause-given
 merge_into-returns-clause-given t c =
@@ -428,6 +439,11 @@ merge_into-returns-clause-judged t c =
 pub conjunction-left_of_and-requires : goal.conjunction-left_of_and-requires
 conjunction-left_of_and-requires t c =
     expr_ends (expr_of c.args.left.now) c.args.self.now c.expr.new.self c.in_ok-part.part c.in_ok-part.ensures
+
+pub conjunction-expr-requires-2 : goal.conjunction-expr-requires-2
+conjunction-expr-requires-2 t c =
+    let same = c.in_ok-side.ensures.side.moved.patterns ∙ c.in_ok-part.ensures.2.gathered.patterns in
+    (omega (arith, c.decreases), can_at c.args.self.now c.left_of_and.new.self (expr_of c.args.right.now) same c.requires.right)
 
 pub conjunction-conjoined-requires : goal.conjunction-conjoined-requires
 conjunction-conjoined-requires t c =
@@ -447,6 +463,11 @@ pub disjunction-left_of_or-requires : goal.disjunction-left_of_or-requires
 disjunction-left_of_or-requires t c =
     expr_ends (expr_of c.args.left.now) c.args.self.now c.expr.new.self c.in_ok-part.part c.in_ok-part.ensures
 
+pub disjunction-expr-requires-2 : goal.disjunction-expr-requires-2
+disjunction-expr-requires-2 t c =
+    let same = c.in_ok-side.ensures.side.moved.patterns ∙ c.in_ok-part.ensures.2.gathered.patterns in
+    (omega (arith, c.decreases), can_at c.args.self.now c.left_of_or.new.self (expr_of c.args.right.now) same c.requires.right)
+
 pub disjunction-disjoined-requires : goal.disjunction-disjoined-requires
 disjunction-disjoined-requires t c =
     record {
@@ -462,6 +483,11 @@ disjunction-returns t c =
 pub coalescing-left_of_coalescing-requires : goal.coalescing-left_of_coalescing-requires
 coalescing-left_of_coalescing-requires t c =
     expr_ends (expr_of c.args.left.now) c.args.self.now c.expr.new.self c.in_ok-part.part c.in_ok-part.ensures
+
+pub coalescing-expr-requires-2 : goal.coalescing-expr-requires-2
+coalescing-expr-requires-2 t c =
+    let same = c.in_ok-side.ensures.side.moved.patterns ∙ c.in_ok-part.ensures.2.gathered.patterns in
+    (omega (arith, c.decreases), can_at c.args.self.now c.left_of_coalescing.new.self (expr_of c.args.right.now) same c.requires.right)
 
 pub coalescing-coalesced-requires : goal.coalescing-coalesced-requires
 coalescing-coalesced-requires t c =
@@ -493,6 +519,11 @@ conditional-loop-arm-preserved t c =
     let items = c.as_slice-arm-items.result.now in
     more_arms (arms_of c.args.arms.now) (arms_view (drop (l.arm-index + 1) items)) (else_of (option_map exprs_of c.args.otherwise.now)) (arm_of c.arm-item.result) (arms_view (drop l.arm-index items)) c.args.self.now l.self c.arm.new.self l.ways c.arm.new.ways (next_arm items l.arm-index c.arm-item.result c.loop-arm-test.true c.arm-item.is) l.invariant c.in_ok-arm.ensures
 
+pub conditional-otherwise-requires : goal.conditional-otherwise-requires
+conditional-otherwise-requires t c =
+    let l = c.loop-arm in
+    (omega (arith, c.decreases), else_at c.args.self.now l.self (else_of (option_map exprs_of c.args.otherwise.now)) l.invariant.told.patterns c.requires.otherwise)
+
 pub conditional-add_last-requires : goal.conditional-add_last-requires
 conditional-add_last-requires t c =
     let l = c.loop-arm in
@@ -516,7 +547,7 @@ pub arm-expr-requires : goal.arm-expr-requires
 arm-expr-requires t c =
     let a = out-Arm c.args.arm.now in
     let is : arm_of c.args.arm.now ≡ (expr_of a.predicate, exprs_of a.body) = search (rules, the_lemmas) in
-    (omega (arith, c.decreases, ap (λ a. expr_size a.0 + exprs_size a.1) is), subst (λ t. CanBeJudged t.0) is c.requires.predicate)
+    (omega (arith, c.decreases, ap (λ a. expr_size a.0 + exprs_size a.1) is), subst (λ t. CanBeJudged c.args.self.now.patterns.now t.0) is c.requires.predicate)
 
 pub arm-add_predicate-requires : goal.arm-add_predicate-requires
 arm-add_predicate-requires t c =
@@ -530,7 +561,9 @@ pub arm-block-requires : goal.arm-block-requires
 arm-block-requires t c =
     let a = out-Arm c.args.arm.now in
     let is : arm_of c.args.arm.now ≡ (expr_of a.predicate, exprs_of a.body) = search (rules, the_lemmas) in
-    (omega (arith, c.decreases, ap (λ a. expr_size a.0 + exprs_size a.1) is), subst (λ t. ItemsCanBeJudged t.1) is c.requires.block)
+    let same = c.in_ok-add_predicate.ensures.reported.patterns ∙ c.in_ok-part.ensures.2.gathered.patterns in
+    let here = subst (λ t. ItemsCanBeJudged c.args.self.now.patterns.now t.1) is c.requires.block in
+    (omega (arith, c.decreases, ap (λ a. expr_size a.0 + exprs_size a.1) is), items_at c.args.self.now c.add_predicate.new.self (exprs_of a.body) same here)
 
 pub arm-add_block-requires : goal.arm-add_block-requires
 arm-add_block-requires t c =
@@ -553,8 +586,8 @@ arm-returns t c =
 
 pub otherwise-block-requires : goal.otherwise-block-requires
 otherwise-block-requires t c =
-    let can = subst (λ o. ElseCanBeJudged (else_of (option_map exprs_of o))) c.in-Some.is c.requires in
-    (omega (arith, c.decreases, ap (λ o. else_size (else_of (option_map exprs_of o))) c.in-Some.is), record { calls = can.calls; limits = can.limits })
+    let can = subst (λ o. ElseCanBeJudged c.args.self.now.patterns.now (else_of (option_map exprs_of o))) c.in-Some.is c.requires in
+    (omega (arith, c.decreases, ap (λ o. else_size (else_of (option_map exprs_of o))) c.in-Some.is), record { calls = can.calls; limits = can.limits; regexes = can.regexes })
 
 pub otherwise-returns-in-Some : goal.otherwise-returns-in-Some
 otherwise-returns-in-Some t c =
@@ -625,5 +658,65 @@ pub error_assignment-returns : goal.error_assignment-returns
 error_assignment-returns t c =
     let counted : vec_len c.args.self.now.empties ≡ length c.args.self.now.empties.items = search rules in
     IfOk-weaker c.both_assigned.result _ _
-    (λ outcome last. error_judged c.args.span c.args.ok.now c.args.err.now (expr_of c.args.value.now) c.args.self.now _ c.expr.new.self c.both_assigned.new.self c.len-place.result c.in_ok-part.part outcome refl refl c.in_ok-push.ensures.items (c.len-place.ensures ∙ counted) c.in_ok-part.ensures last)
+    (λ outcome last. error_judged c.args.span c.args.ok.now c.args.err.now (expr_of c.args.value.now) c.args.self.now _ c.expr.new.self c.both_assigned.new.self c.len-place.result c.in_ok-part.part outcome refl refl refl c.in_ok-push.ensures.items (c.len-place.ensures ∙ counted) c.in_ok-part.ensures last)
     c.both_assigned.ensures
+
+pub call-arguments-requires : goal.call-arguments-requires
+call-arguments-requires t c =
+    let a = out-Call c.args.call.now in
+    let is : call_of c.args.call.now ≡ call a.name a.name_span a.bang (args_of a.args) (closure_in (option_map closure_of a.closure)) = search (rules, the_lemmas) in
+    (omega (arith, c.decreases, ap form_size is), arguments_can _ _ _ _ _ (subst (FormCanBeJudged c.args.self.now.patterns.now) is c.requires))
+
+pub call-called-requires-clause-form : goal.call-called-requires-clause-form
+call-called-requires-clause-form t c =
+    form_at c.args.self.now c.arguments.new.self (call_of c.args.call.now) c.in_ok-arguments.ensures.3.gathered.patterns c.requires
+
+pub call-called-requires-clause-told : goal.call-called-requires-clause-told
+call-called-requires-clause-told t c =
+    arguments_told _ c.args.self.now c.arguments.new.self c.in_ok-arguments.arguments c.in_ok-arguments.ensures
+
+pub call-called-requires-clause-ends : goal.call-called-requires-clause-ends
+call-called-requires-clause-ends t c =
+    arguments_are _ c.args.self.now c.arguments.new.self c.in_ok-arguments.arguments c.in_ok-arguments.ensures
+
+pub call-returns : goal.call-returns
+call-returns t c =
+    let a = out-Call c.args.call.now in
+    IfOk-weaker c.called.result _ _
+    (λ outcome called. call_given c.args.span (call_of c.args.call.now) (args_of a.args) c.args.self.now c.arguments.new.self c.called.new.self c.in_ok-arguments.arguments outcome c.in_ok-arguments.ensures called)
+    c.called.ensures
+
+pub arguments-loop-arg-init : goal.arguments-loop-arg-init
+arguments-loop-arg-init t c =
+    arguments_first c.args.self.now (args_of c.args.args.now) (args_view c.as_slice-arg-items.result.now) _ _ c.as_slice-arg-items.ensures c.new-parts.ensures.items c.none-ends.ensures c.requires
+
+pub arguments-expr-requires : goal.arguments-expr-requires
+arguments-expr-requires t c =
+    let l = c.loop-arg in
+    let all = c.as_slice-arg-items.result.now in
+    let a = out-Arg c.arg-item.result in
+    let is : arg_of c.arg-item.result ≡ (a.name, a.span, expr_of a.value) = search (rules, the_lemmas) in
+    let next = next_arg all l.arg-index c.arg-item.result c.loop-arg-test.true c.arg-item.is ∙ ap (λ g. arg g.0 g.1 g.2 (args_view (drop (l.arg-index + 1) all))) is in
+    let fewer = argument_fewer _ _ _ _ _ _ _ _ _ _ next l.invariant in
+    (omega (arith, c.decreases, fewer), argument_can_next _ _ _ _ _ _ _ _ _ _ next l.invariant)
+
+pub arguments-argument-requires : goal.arguments-argument-requires
+arguments-argument-requires t c =
+    let l = c.loop-arg in
+    let a = out-Arg c.arg-item.result in
+    argument_common _ l.self c.expr.new.self _ _ (expr_of a.value) _ _ c.in_ok-part.part l.invariant c.in_ok-part.ensures
+
+pub arguments-loop-arg-preserved : goal.arguments-loop-arg-preserved
+arguments-loop-arg-preserved t c =
+    let l = c.loop-arg in
+    let all = c.as_slice-arg-items.result.now in
+    let a = out-Arg c.arg-item.result in
+    let is : arg_of c.arg-item.result ≡ (a.name, a.span, expr_of a.value) = search (rules, the_lemmas) in
+    let next = next_arg all l.arg-index c.arg-item.result c.loop-arg-test.true c.arg-item.is ∙ ap (λ g. arg g.0 g.1 g.2 (args_view (drop (l.arg-index + 1) all))) is in
+    arguments_next _ l.self c.expr.new.self _ _ (args_view (drop (l.arg-index + 1) all)) a.name a.span (expr_of a.value) _ _ c.in_ok-argument.argument _ _ c.in_ok-part.part next c.in_ok-push.ensures.items l.invariant c.in_ok-part.ensures
+    c.in_ok-argument.ensures.argument c.in_ok-argument.ensures.joined (c.in_ok-argument.ensures.scopes _)
+
+pub arguments-returns : goal.arguments-returns
+arguments-returns t c =
+    let l = c.loop-arg in
+    arguments_given _ _ _ _ _ (no_arg_left c.as_slice-arg-items.result.now l.arg-index c.loop-arg-test.false) l.invariant

@@ -1,7 +1,8 @@
 use Rattle.std.proofs.Common.{◌+◌, ◌*◌, option_map, drop}
-use Rattle.vrl_syntax.specs.View.{arm_of, arms_of, else_of, expr_of, exprs_of, form_of, pairs_of, exprs_view, pairs_view, arms_view}
-use Rattle.vrl_check.proofs.Sizes.{arms_size, else_size, expr_size, exprs_size, form_size, pairs_size}
+use Rattle.vrl_syntax.specs.View.{args_of, args_view, arm_of, arms_of, call_of, else_of, expr_of, exprs_of, form_of, pairs_of, exprs_view, pairs_view, arms_view}
+use Rattle.vrl_check.proofs.Sizes.{args_size, arms_size, else_size, expr_size, exprs_size, form_size, pairs_size}
 use Rattle.vrl_check.proofs.Partway.{IsArrayPartway, IsObjectPartway, IsSequencePartway}
+use Rattle.vrl_check.proofs.Arguments.{IsArgumentsPartway}
 use Rattle.vrl_check.proofs.Arms.{AreJudged}
 use Rattle.vrl_check.proofs.checker.Checker.+judge.Given as goal
 
@@ -26,6 +27,12 @@ decreases-binary l = 16 * (expr_size (expr_of l.left.now) + expr_size (expr_of l
 
 abbrev pub decreases-block : goal.decreases-block
 decreases-block l = 16 * exprs_size (exprs_of l.items.now) + 2
+
+abbrev pub decreases-arguments : goal.decreases-arguments
+decreases-arguments l = 16 * args_size (args_of l.args.now) + 1
+
+abbrev pub decreases-call : goal.decreases-call
+decreases-call l = 16 * form_size (call_of l.call.now) + 2
 
 abbrev pub decreases-coalescing : goal.decreases-coalescing
 decreases-coalescing l = 16 * (expr_size (expr_of l.left.now) + expr_size (expr_of l.right.now)) + 5
@@ -99,3 +106,7 @@ invariant-sequence-loop-item l = IsSequencePartway l.initial.self l.self (exprs_
 -- what the arms that are left give from here, all of them give from the start
 abbrev pub invariant-conditional-loop-arm : goal.invariant-conditional-loop-arm
 invariant-conditional-loop-arm l = AreJudged (arms_of l.arms) (else_of (option_map exprs_of l.otherwise)) (arms_view (drop l.arm-index l.arm-items)) l.initial.self l.self l.ways
+
+-- what is judged of the arguments that are left, behind those so far, is judged of all
+abbrev pub invariant-arguments-loop-arg : goal.invariant-arguments-loop-arg
+invariant-arguments-loop-arg l = IsArgumentsPartway l.initial.self l.self (args_of l.args) (args_view (drop l.arg-index l.arg-items)) l.parts.items l.ends

@@ -21,7 +21,7 @@ pub returns : goal.returns
 returns c =
     subst (λ f. AreAssigned c.args.span c.args.ok.now c.args.err.now c.args.place c.args.part c.args.self.now c.write_both.new.self (record { kind = c.in_ok-whole.whole; ends = record c.error_codes.new.ends { fail = f } })) (sym c.take-fail.ensures.after)
     (are_assigned c.args.span c.args.ok.now c.args.err.now c.args.place c.args.part c.args.self.now c.put_empty.new.self c.error_codes.new.self c.write_both.new.self c.error_codes.new.ends c.empty_tag-tag.result c.in_ok-empty.empty c.in_ok-whole.whole
-    c.empty_tag-tag.ensures c.requires.ends c.put_empty.ensures.state c.put_empty.ensures.diagnostics c.put_empty.ensures.empties
+    c.empty_tag-tag.ensures c.requires.ends c.put_empty.ensures.state c.put_empty.ensures.diagnostics c.put_empty.ensures.patterns c.put_empty.ensures.empties
     (subst (λ t. IsCutOf (found_at (empty_value t)) c.in_ok-empty.empty) c.empty_tag-tag.ensures c.in_ok-empty.ensures)
     c.in_ok-whole.ensures c.in_ok-error_codes.ensures
     (subst (λ f. AreBothWritten c.args.ok.now c.args.err.now c.args.part.kind c.in_ok-empty.empty c.error_codes.new.self.state.known (known_on f) c.write_both.new.self.state.known) c.take-fail.ensures.value c.in_ok-write_both.ensures.written)

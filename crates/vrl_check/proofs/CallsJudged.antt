@@ -1,0 +1,205 @@
+-- The judgement of a call, step by step behind its arguments.
+use Rattle.std.proofs.Common.{◌≡◌, ℕ, Bool, true, false, ◌||◌, List, [], ◌∷◌, ◌++◌, Option, Some, Result, Ok, Err, refl, sym, ap, ◌∙◌, subst, append_assoc}
+use Rattle.std.proofs.lemmas.Bool.{or_parts, or_from}
+use Rattle.std.specs.List.{list_any}
+use Rattle.vrl_value.specs.declared.value.Tag.TheVariants as tag
+use Rattle.vrl_diag.specs.declared.diagnostic.Diagnostic.{Diagnostic}
+use Rattle.vrl_diag.specs.declared.diagnostic.Span.{Span}
+use Rattle.vrl_syntax.specs.Limits.{args_faults, closure_faults, form_faults}
+use Rattle.vrl_syntax.specs.Tree.{Args, Closure, Form, call}
+use Rattle.vrl_syntax.specs.Written.{is_del}
+use Rattle.vrl_kind.specs.Canonical.{any_kind, never_kind}
+use Rattle.vrl_kind.specs.KindTree.{KindTree}
+use Rattle.vrl_state.specs.States.{IsJoined, IsRootKind, RootMap}
+use Rattle.vrl_table.specs.Binding.{binding, keywords_of}
+use Rattle.vrl_table.specs.Table.{row_of}
+use Rattle.vrl_table.specs.declared.binding.BindFault.{BindFault}
+use Rattle.vrl_table.specs.declared.function.Fun.{Fun}
+use Rattle.vrl_check.specs.Calling.{callee_codes, callee_parameters, places_in, with_call_codes, AreRootKinds, AreTold, HasArguments, HasCodes, IsAnsweredAs, IsBound, IsBoundCallAs, IsDeletedAs, IsPassed, IsTold, IsUnknown}
+use Rattle.vrl_check.specs.Calls.{args_hold_closure_call, closure_holds_closure_call, form_holds_closure_call, is_exists, takes_closure}
+use Rattle.vrl_check.specs.Empties.{closure_empties}
+use Rattle.vrl_check.specs.Judgement.{Argument, Judgement, Gives, JudgesArguments, a_call, a_call_of_nothing, a_deletion, an_existence, at, bound, bound_by, deleted_kind, deleted_path, gives, if_state, is_error, with_codes, IsAnsweredUnless, IsDeletedAt, IsScalar}
+use Rattle.vrl_check.specs.Judging.{known_on, AreEnds, FormCanBeJudged, HasEnds, HasGathered, HasJudged, IsReported}
+use Rattle.vrl_check.specs.declared.calls.Arguments.{Arguments}
+use Rattle.vrl_check.specs.declared.calls.Callee.{Callee}
+use Rattle.vrl_check.specs.declared.calls.Callee.TheVariants as callee
+use Rattle.vrl_check.specs.declared.checker.Checker.{Checker}
+use Rattle.vrl_check.specs.declared.ends.Ends.{Ends}
+use Rattle.vrl_check.specs.declared.outcome.Outcome.{Outcome}
+use Rattle.vrl_check.proofs.Parts.{are_ends_of, ends_of, ends_or_fail, gathered_moved, gathered_of, reported_ends, reported_gathered}
+use Rattle.vrl_check.proofs.RootKinds.{any_root, scalar_root}
+use Rattle.vrl_check.proofs.Ways.{join_of}
+
+-- ---- behind the closure
+
+pub closure_passed : (before now passed : Checker) (gs : Args) (c : Closure) (arguments : Arguments) (js : List Argument) (j : Judgement) → HasArguments before now gs arguments js j → passed.empties.items ≡ now.empties.items ++ closure_empties c → passed ≡ record now { empties = passed.empties }
+    → IsPassed before passed gs c arguments js j
+closure_passed before now passed gs c arguments js j has empties others = record {
+  told = has.told;
+  roots = has.roots;
+  ends = has.ends;
+  gathered = record {
+    ok = ap (λ (x : Checker). x.state.known) others ∙ has.gathered.ok;
+    scopes = ap (λ (x : Checker). x.state.scopes) others ∙ has.gathered.scopes;
+    diagnostics = ap (λ (x : Checker). x.diagnostics.items) others ∙ has.gathered.diagnostics;
+    empties = empties ∙ ap (λ ts. ts ++ closure_empties c) has.gathered.empties ∙ append_assoc before.empties.items j.empties (closure_empties c);
+    patterns = ap (λ (x : Checker). x.patterns) others ∙ has.gathered.patterns;
+  };
+}
+
+-- ---- a call of nothing
+
+unknown_name : (name : List ℕ) → IsUnknown name → takes_closure name ≡ false → (is_del name || (is_exists name || takes_closure name)) ≡ false
+unknown_name name unknown none =
+    let paths = or_parts (is_del name) (is_exists name) unknown.paths in
+    or_from (is_del name) (is_exists name || takes_closure name) paths.0 (or_from (is_exists name) (takes_closure name) paths.1 none)
+
+-- what can be judged takes no closure
+pub takes_none : {sources : List (List ℕ)} (f : Form) (name : List ℕ) (s : Span) (bang : Bool) (gs : Args) (c : Closure) → f ≡ call name s bang gs c → FormCanBeJudged sources f → takes_closure name ≡ false
+takes_none f name s bang gs c is can =
+    let parts = or_parts (takes_closure name) (args_hold_closure_call gs || closure_holds_closure_call c) (sym (ap form_holds_closure_call is) ∙ can.calls) in
+    parts.0
+
+pub nothing_judged : (name : List ℕ) (s span : Span) (bang : Bool) (gs : Args) (c : Closure) (before now after : Checker) (known : RootMap) (js : List Argument) (j : Judgement) (arguments : Arguments) (outcome : Outcome)
+    → IsUnknown name → takes_closure name ≡ false → JudgesArguments before.patterns.now (gives never_kind (Some known)) gs js j → IsPassed before now gs c arguments js j → outcome.kind ≡ any_kind → IsReported (at 105 s) now after arguments.ends outcome.ends
+    → (k : Judgement) × Gives before.patterns.now known span (call name s bang gs c) k × HasJudged before after outcome k
+nothing_judged name s span bang gs c before now after known js j arguments outcome unknown none judged passed any reported =
+    let whole : Judgement = record j { kind = any_kind; empties = j.empties ++ closure_empties c } in (
+      with_codes (at 105 s) whole,
+      a_call_of_nothing unknown.functions (unknown_name name unknown none) judged,
+      record {
+        kind = any;
+        root = any_root;
+        ends = reported_ends before.state.scopes (at 105 s) now after arguments.ends outcome.ends whole reported (ends_of before.state.scopes arguments.ends j whole passed.ends refl refl refl refl);
+        gathered = reported_gathered (at 105 s) before now after arguments.ends outcome.ends whole reported (gathered_of before now (record j { empties = j.empties ++ closure_empties c }) whole passed.gathered refl refl refl);
+      },
+    )
+
+-- ---- the call's own codes
+
+pub call_bound : (named : Callee) (span : Span) (before now after : Checker) (gs : Args) (c : Closure) (arguments next : Arguments) (js : List Argument) (j : Judgement) → IsPassed before now gs c arguments js j
+    → IsReported (callee_codes named span gs c js) now after arguments.ends next.ends → next.parts ≡ arguments.parts → IsBound named span before after gs c next js j
+call_bound named span before now after gs c arguments next js j passed reported same =
+    let whole : Judgement = record j { empties = j.empties ++ closure_empties c } in
+    record {
+      told = subst (λ ps. AreTold gs ps.items js) (sym same) passed.told;
+      roots = passed.roots;
+      ends = reported_ends before.state.scopes (callee_codes named span gs c js) now after arguments.ends next.ends whole reported (ends_of before.state.scopes arguments.ends j whole passed.ends refl refl refl refl);
+      gathered = reported_gathered (callee_codes named span gs c js) before now after arguments.ends next.ends whole reported passed.gathered;
+    }
+
+pub has_codes : (named : Callee) (span : Span) (now after : Checker) (gs : Args) (c : Closure) (arguments next : Arguments) (places : List (Option ℕ)) → IsTold gs arguments.parts.items → places ≡ places_in (binding (callee_parameters named) (keywords_of gs))
+    → ((js : List Argument) → AreTold gs arguments.parts.items js → IsReported (callee_codes named span gs c js) now after arguments.ends next.ends) → next.parts ≡ arguments.parts → HasCodes named gs c next places
+has_codes named span now after gs c arguments next places told are reported same = record {
+  js = told.0;
+  told = subst (λ ps. AreTold gs ps.items told.0) (sym same) told.1;
+  places_are = are;
+  span = span;
+  codes = λ clean.
+      let ends = (reported told.0 told.1).ends in
+      let none = or_parts arguments.ends.poisoned (list_any is_error (callee_codes named span gs c told.0)) (sym (ap (λ (e : Ends). e.poisoned) ends) ∙ clean) in
+      none.1;
+}
+
+-- what could be judged before the codes can be behind them
+pub codes_can : (ds : List Diagnostic) (f : Form) (now after : Checker) (old new : Ends) → IsReported ds now after old new → FormCanBeJudged now.patterns.now f → FormCanBeJudged after.patterns.now f
+codes_can ds f now after old new reported can = subst (λ ps. FormCanBeJudged ps.now f) (sym reported.patterns) can
+
+pub codes_are : (ds : List Diagnostic) (now after : Checker) (old new : Ends) → IsReported ds now after old new → AreEnds now.state.scopes old → AreEnds after.state.scopes new
+codes_are ds now after old new reported are =
+    subst (λ s. AreEnds s.scopes new) (sym reported.state) (are_ends_of now.state.scopes old new (sym (ap (λ (e : Ends). e.fail) reported.ends)) (sym (ap (λ (e : Ends). e.ret) reported.ends)) are)
+
+-- ---- a function
+
+bound_in : (b : Result (List (Option ℕ)) BindFault) (js : List Argument) → bound (places_in b) js ≡ bound_by b js
+bound_in (Ok places) js = refl
+bound_in (Err f) js = refl
+
+answered_of : (poisoned poisoned' : Bool) (sources sources' : List (List ℕ)) (function : Fun) (js js' : List (Option Argument)) (K : KindTree) (fails : Bool) → poisoned ≡ poisoned' → sources ≡ sources' → js ≡ js'
+    → IsAnsweredUnless poisoned sources (row_of function) js K fails → IsAnsweredUnless poisoned' sources' (row_of function) js' K fails
+answered_of poisoned poisoned' sources sources' function js js' K fails same_poison same_sources same is =
+    subst (λ b. IsAnsweredUnless b sources' (row_of function) js' K fails) same_poison
+    (subst (λ s. IsAnsweredUnless poisoned s (row_of function) js' K fails) same_sources
+    (subst (λ gs. IsAnsweredUnless poisoned sources (row_of function) gs K fails) same is))
+
+pub function_judged : (function : Fun) (name : List ℕ) (s span : Span) (bang : Bool) (gs : Args) (c : Closure) (arguments : Arguments) (places : List (Option ℕ)) (now after : Checker) (outcome : Outcome) → (row_of function).name ≡ name
+    → places ≡ places_in (binding (row_of function).parameters (keywords_of gs)) → ((js : List Argument) → AreTold gs arguments.parts.items js → IsAnsweredAs function (bound places js) arguments.ends now outcome) → after ≡ now
+    → IsBoundCallAs (callee.Function function) span (call name s bang gs c) bang gs c arguments now after outcome
+function_judged function name s span bang gs c arguments places now after outcome is places_are answers same = λ before known js j alive judged ready.
+    let answer = answers js ready.told in
+    let whole = with_call_codes (callee.Function function) span gs c js j in
+    let scopes = before.state.scopes in
+    let fail = known_on outcome.ends.fail in
+    let are : AreEnds scopes outcome.ends = subst (λ x. AreEnds x outcome.ends) ready.gathered.scopes answer.are in
+    let given = answered_of arguments.ends.poisoned whole.poisoned now.patterns.now before.patterns.now function (bound places js) (bound_by (binding (row_of function).parameters (keywords_of gs)) js) outcome.kind answer.fails
+    ready.ends.poisoned (ap (λ ps. ps.now) ready.gathered.patterns)
+    (ap (λ qs. bound qs js) places_are ∙ bound_in (binding (row_of function).parameters (keywords_of gs)) js) answer.answered
+    in
+    let joined : IsJoined whole.fail (if_state answer.fails whole.ok) fail =
+    join_of (known_on arguments.ends.fail) whole.fail (if_state answer.fails now.state.known) (if_state answer.fails whole.ok) fail ready.ends.fail (ap (if_state answer.fails) ready.gathered.ok) answer.or_fail.fail
+    in (
+      record whole { kind = outcome.kind; fail = fail },
+      a_call function outcome.kind answer.fails fail is judged refl given joined,
+      record {
+        kind = refl;
+        root = answer.root;
+        ends = ends_of scopes outcome.ends (record whole { fail = fail }) (record whole { kind = outcome.kind; fail = fail }) (ends_or_fail scopes arguments.ends outcome.ends whole ready.ends answer.or_fail.others are) refl refl refl refl;
+        gathered = subst (λ x. HasGathered before x (record whole { kind = outcome.kind; fail = fail })) (sym same) (gathered_of before now whole (record whole { kind = outcome.kind; fail = fail }) ready.gathered refl refl refl);
+      },
+    )
+
+-- ---- `del`
+
+first_of_both : {X : Type 0} (xs ys : List X) → xs ++ ys ≡ [] → xs ≡ []
+first_of_both [] ys none = refl
+first_of_both (x ∷ xs) ys none = absurd cc
+
+-- its paths keep the limits
+pub deleted_keeps : {sources : List (List ℕ)} (f : Form) (name : List ℕ) (s : Span) (bang : Bool) (gs : Args) (c : Closure) → f ≡ call name s bang gs c → is_del name ≡ true → FormCanBeJudged sources f → args_faults true gs ≡ []
+deleted_keeps f name s bang gs c is del can =
+    let limits : args_faults (is_del name) gs ++ closure_faults c ≡ [] = sym (ap form_faults is) ∙ can.limits in
+    subst (λ b. args_faults b gs ≡ []) del (first_of_both (args_faults (is_del name) gs) (closure_faults c) limits)
+
+-- the kind of what is deleted can be that of a root
+deleted_root : (poisoned : Bool) (js : List Argument) → AreRootKinds js → IsRootKind (deleted_kind poisoned js)
+deleted_root true [] roots = any_root
+deleted_root true (g ∷ js) roots = any_root
+deleted_root false [] roots = any_root
+deleted_root false (g ∷ []) roots = roots.0
+deleted_root false (g ∷ h ∷ js) roots = any_root
+
+pub deletion_judged : (name : List ℕ) (s span : Span) (bang : Bool) (gs : Args) (c : Closure) (arguments : Arguments) (now after : Checker) (outcome : Outcome) → is_del name ≡ true
+    → ((js : List Argument) → AreTold gs arguments.parts.items js → IsDeletedAs js arguments.ends now after outcome) → IsBoundCallAs callee.Deletion span (call name s bang gs c) bang gs c arguments now after outcome
+deletion_judged name s span bang gs c arguments now after outcome is deletes = λ before known js j alive judged ready.
+    let deleted = deletes js ready.told in
+    let whole = with_call_codes callee.Deletion span gs c js j in
+    let taken : IsDeletedAt (deleted_path whole.poisoned js) whole.ok after.state.known =
+    subst (λ b. IsDeletedAt (deleted_path b js) whole.ok after.state.known) ready.ends.poisoned (subst (λ k. IsDeletedAt (deleted_path arguments.ends.poisoned js) k after.state.known) ready.gathered.ok deleted.known)
+    in
+    let last : Judgement = record whole { kind = deleted_kind whole.poisoned js; ok = after.state.known } in (
+      last,
+      a_deletion after.state.known is judged refl taken,
+      record {
+        kind = deleted.kind ∙ ap (λ b. deleted_kind b js) ready.ends.poisoned;
+        root = deleted_root whole.poisoned js ready.roots;
+        ends = subst (λ e. HasEnds before.state.scopes e last) (sym deleted.same) (ends_of before.state.scopes arguments.ends whole last ready.ends refl refl refl refl);
+        gathered = gathered_of before after (record whole { ok = after.state.known }) last (gathered_moved before now after whole ready.gathered deleted.moved) refl refl refl;
+      },
+    )
+
+-- ---- `exists`
+
+pub existence_judged : (name : List ℕ) (s span : Span) (bang : Bool) (gs : Args) (c : Closure) (arguments : Arguments) (now : Checker) (outcome : Outcome) → is_exists name ≡ true → IsScalar tag.Bool outcome.kind → outcome.ends ≡ arguments.ends
+    → IsBoundCallAs callee.Existence span (call name s bang gs c) bang gs c arguments now now outcome
+existence_judged name s span bang gs c arguments now outcome is scalar same = λ before known js j alive judged ready.
+    let whole = with_call_codes callee.Existence span gs c js j in
+    let last : Judgement = record whole { kind = outcome.kind } in (
+      last,
+      an_existence outcome.kind is judged refl scalar,
+      record {
+        kind = refl;
+        root = scalar_root tag.Bool outcome.kind scalar refl;
+        ends = subst (λ e. HasEnds before.state.scopes e last) (sym same) (ends_of before.state.scopes arguments.ends whole last ready.ends refl refl refl refl);
+        gathered = gathered_of before now whole last ready.gathered refl refl refl;
+      },
+    )

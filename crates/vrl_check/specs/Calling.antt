@@ -1,0 +1,216 @@
+-- What the walk does behind the arguments of a call.
+use Rattle.std.specs.Prelude.{◌≡◌, ◌≢◌, ◌||◌, ℕ, Bool, true, false, List, [], ◌∷◌, ◌++◌, map, slice_get, Option, Some, None, option_map, IsSomeAnd, zero, suc, ⊤}
+use Rattle.std.specs.List.{list_any}
+use Rattle.std.specs.declared.result.Result.{Result}
+use Rattle.std.specs.declared.result.Result.TheVariants.{Ok, Err}
+use Rattle.vrl_value.specs.Tree.{Tree}
+use Rattle.vrl_diag.specs.declared.diagnostic.Diagnostic.{Diagnostic}
+use Rattle.vrl_diag.specs.declared.diagnostic.Span.{Span}
+use Rattle.vrl_syntax.specs.Tree.{Expr, Form, Args, no_args, arg, Closure}
+use Rattle.vrl_syntax.specs.View.{args_of, closure_in, closure_of, expr_of}
+use Rattle.vrl_syntax.specs.Written.{is_del}
+use Rattle.vrl_syntax.specs.declared.tree.Arg.{Arg as CodeArg}
+use Rattle.vrl_syntax.specs.declared.tree.Call.{Call as CodeCall, out-Call}
+use Rattle.vrl_kind.specs.Canonical.{never_kind}
+use Rattle.vrl_builtin.specs.Conditions.{AreGiven as AreAllowed}
+use Rattle.vrl_builtin.specs.Rows.{GivenTree, ParameterRow, Row}
+use Rattle.vrl_state.specs.States.{IsRootKind, RootMap}
+use Rattle.vrl_table.specs.Binding.{binding, keywords_of}
+use Rattle.vrl_table.specs.Table.{row_of}
+use Rattle.vrl_table.specs.declared.binding.BindFault.{BindFault}
+use Rattle.vrl_table.specs.declared.binding.BindFault.TheVariants as fault
+use Rattle.vrl_table.specs.declared.function.Fun.{Fun}
+use Rattle.vrl_check.specs.Branching.{IsOrFail}
+use Rattle.vrl_check.specs.Calls.{is_exists}
+use Rattle.vrl_check.specs.Empties.{closure_empties}
+use Rattle.vrl_check.specs.Judgement.{Argument, AreGiven, Gives, JudgesArguments, IsAnsweredUnless, IsDeletedAt, Judgement, at, banged, behind_arguments, bound, deleted_kind, deleted_path, gives, if_state, is_error, is_fallible, is_known, of_argument, of_call, of_unknown, path_parameters, wants_literal, wants_path}
+use Rattle.vrl_check.specs.Judging.{AreEnds, HasEnds, HasGathered, HasJudged, IsMoved}
+use Rattle.vrl_check.specs.declared.calls.Argument.{Argument as CodeArgument}
+use Rattle.vrl_check.specs.declared.calls.Arguments.{Arguments}
+use Rattle.vrl_check.specs.declared.calls.Callee.{Callee}
+use Rattle.vrl_check.specs.declared.calls.Callee.TheVariants as callee
+use Rattle.vrl_check.specs.declared.checker.Checker.{Checker}
+use Rattle.vrl_check.specs.declared.ends.Ends.{Ends}
+use Rattle.vrl_check.specs.declared.outcome.Outcome.{Outcome}
+
+-- ---- a call
+
+-- its parts as they are seen
+abbrev pub call_name : CodeCall → List ℕ
+call_name c = (out-Call c).name
+
+abbrev pub call_bang : CodeCall → Bool
+call_bang c = (out-Call c).bang
+
+abbrev pub call_args : CodeCall → Args
+call_args c = args_of (out-Call c).args
+
+abbrev pub call_closure : CodeCall → Closure
+call_closure c = closure_in (option_map closure_of (out-Call c).closure)
+
+-- what it names
+abbrev pub IsNamed : List ℕ → Callee → Type 0
+IsNamed name (callee.Function function) = (row_of function).name ≡ name
+IsNamed name callee.Deletion = is_del name ≡ true
+IsNamed name callee.Existence = is_exists name ≡ true
+
+-- no function has the name, nor have `del` and `exists`
+pub record IsUnknown (name : List ℕ) : Type 0 where
+  pub functions : (function : Fun) → (row_of function).name ≢ name
+  pub paths : (is_del name || is_exists name) ≡ false
+
+-- its parameters, and whether an argument isn't written as one of them wants it
+abbrev pub callee_parameters : Callee → List ParameterRow
+callee_parameters (callee.Function function) = (row_of function).parameters
+callee_parameters callee.Deletion = path_parameters
+callee_parameters callee.Existence = path_parameters
+
+abbrev pub callee_wants : Callee → ℕ → ParameterRow → Expr → Bool
+callee_wants (callee.Function function) = wants_literal (row_of function)
+callee_wants callee.Deletion = wants_path
+callee_wants callee.Existence = wants_path
+
+-- ---- arguments that were judged
+
+-- what the walk keeps of an argument
+abbrev pub told : Argument → CodeArgument
+told g = record { kind = g.judged.kind; fallible = is_fallible g.judged; known = is_known g.judged }
+
+-- the places of arguments from their keywords on, and their values
+abbrev pub written : Args → List (Span × Expr)
+written no_args = []
+written (arg name span e gs) = (span, e) ∷ written gs
+
+-- these arguments, judged so
+pub record AreTold (gs : Args) (parts : List CodeArgument) (js : List Argument) : Type 0 where
+  pub parts_are : parts ≡ map told js
+  pub written_are : written gs ≡ map (λ g. (g.span, g.value)) js
+
+-- they were judged in some way
+abbrev pub IsTold : Args → List CodeArgument → Type 0
+IsTold gs parts = (js : List Argument) × AreTold gs parts js
+
+-- each argument's kind can be that of a root
+abbrev pub AreRootKinds : List Argument → Type 0
+AreRootKinds [] = ⊤
+AreRootKinds (g ∷ js) = IsRootKind g.judged.kind × AreRootKinds js
+
+pub record HasArguments (before after : Checker) (gs : Args) (arguments : Arguments) (js : List Argument) (j : Judgement) : Type 0 where
+  pub told : AreTold gs arguments.parts.items js
+  pub roots : AreRootKinds js
+  pub ends : HasEnds before.state.scopes arguments.ends j
+  pub gathered : HasGathered before after j
+
+abbrev pub AreArgumentsAs : Args → Checker → Checker → Arguments → Type 0
+AreArgumentsAs gs before after arguments = (js : List Argument) × (j : Judgement) × JudgesArguments before.patterns.now (gives never_kind before.state.known) gs js j × HasArguments before after gs arguments js j
+
+-- ---- the call, behind them
+
+abbrev pub IsCalledAs : Span → Form → Args → Arguments → Checker → Checker → Outcome → Type 0
+IsCalledAs span f gs arguments now after outcome = (before : Checker) (known : RootMap) (js : List Argument) (j : Judgement)
+    → before.state.known ≡ Some known → JudgesArguments before.patterns.now (gives never_kind (Some known)) gs js j → HasArguments before now gs arguments js j
+    → (k : Judgement) × Gives before.patterns.now known span f k × HasJudged before after outcome k
+
+-- behind its closure, which isn't judged
+pub record IsPassed (before now : Checker) (gs : Args) (c : Closure) (arguments : Arguments) (js : List Argument) (j : Judgement) : Type 0 where
+  pub told : AreTold gs arguments.parts.items js
+  pub roots : AreRootKinds js
+  pub ends : HasEnds before.state.scopes arguments.ends j
+  pub gathered : HasGathered before now (record j { empties = j.empties ++ closure_empties c })
+
+abbrev pub IsPassedCallAs : Span → Form → Args → Closure → Arguments → Checker → Checker → Outcome → Type 0
+IsPassedCallAs span f gs c arguments now after outcome = (before : Checker) (known : RootMap) (js : List Argument) (j : Judgement)
+    → before.state.known ≡ Some known → JudgesArguments before.patterns.now (gives never_kind (Some known)) gs js j → IsPassed before now gs c arguments js j
+    → (k : Judgement) × Gives before.patterns.now known span f k × HasJudged before after outcome k
+
+-- ---- its codes
+
+-- a code, if there is one
+abbrev pub of_code : Option ℕ → Span → List Diagnostic
+of_code None span = []
+of_code (Some code) span = at code span
+
+-- the code of a parameter's argument, where it has one
+abbrev pub of_found : (ℕ → ParameterRow → Expr → Bool) → ℕ → ParameterRow → Option Argument → List Diagnostic
+of_found wants i p None = []
+of_found wants i p (Some g) = of_argument p.allowed (wants i p g.value) g
+
+-- the code of a call whose arguments aren't bound
+abbrev pub of_fault : Span → List Argument → BindFault → List Diagnostic
+of_fault span js fault.Number = at 106 span
+of_fault span js (fault.Unknown i) = of_unknown (slice_get js i)
+of_fault span js (fault.Missing i) = at 107 span
+of_fault span js fault.Memory = []
+
+-- the call's own codes
+abbrev pub callee_codes : Callee → Span → Args → Closure → List Argument → List Diagnostic
+callee_codes f span gs c js = of_call (callee_wants f) (callee_parameters f) span c js (binding (callee_parameters f) (keywords_of gs))
+
+-- the places of the parameters' arguments; none where they aren't bound
+abbrev pub places_in : Result (List (Option ℕ)) BindFault → List (Option ℕ)
+places_in (Ok places) = places
+places_in (Err f) = []
+
+-- the arguments with the call's own codes
+abbrev pub with_call_codes : Callee → Span → Args → Closure → List Argument → Judgement → Judgement
+with_call_codes f = behind_arguments (callee_wants f) (callee_parameters f)
+
+-- behind these codes
+pub record IsBound (named : Callee) (span : Span) (before now : Checker) (gs : Args) (c : Closure) (arguments : Arguments) (js : List Argument) (j : Judgement) : Type 0 where
+  pub told : AreTold gs arguments.parts.items js
+  pub roots : AreRootKinds js
+  pub ends : HasEnds before.state.scopes arguments.ends (with_call_codes named span gs c js j)
+  pub gathered : HasGathered before now (with_call_codes named span gs c js j)
+
+-- what the call gives then, but for its `!`
+abbrev pub IsBoundCallAs : Callee → Span → Form → Bool → Args → Closure → Arguments → Checker → Checker → Outcome → Type 0
+IsBoundCallAs named span f bang gs c arguments now after outcome = (before : Checker) (known : RootMap) (js : List Argument) (j : Judgement)
+    → before.state.known ≡ Some known → JudgesArguments before.patterns.now (gives never_kind (Some known)) gs js j → IsBound named span before now gs c arguments js j
+    → (k : Judgement) × Gives before.patterns.now known span f (banged span bang k) × HasJudged before after outcome k
+
+-- arguments that are bound so were judged in some way, and where no error code stands on the call, none of its own does
+pub record HasCodes (named : Callee) (gs : Args) (c : Closure) (arguments : Arguments) (places : List (Option ℕ)) : Type 0 where
+  pub js : List Argument
+  pub told : AreTold gs arguments.parts.items js
+  pub places_are : places ≡ places_in (binding (callee_parameters named) (keywords_of gs))
+  pub span : Span
+  pub codes : arguments.ends.poisoned ≡ false → list_any is_error (callee_codes named span gs c js) ≡ false
+
+-- ---- what is called
+
+-- a function may be asked about arguments that are bound so: they were judged in some way, and what is known of them is allowed
+pub record MayBeAsked (r : Row) (gs : Args) (parts : List CodeArgument) (places : List (Option ℕ)) : Type 0 where
+  pub js : List Argument
+  pub told : AreTold gs parts js
+  pub allowed : (givens : List GivenTree) → AreGiven r.parameters (bound places js) givens → AreAllowed r givens
+
+-- a function is asked about arguments without code
+pub record IsAnsweredAs (function : Fun) (js : List (Option Argument)) (ends : Ends) (before : Checker) (outcome : Outcome) : Type 0 where
+  pub fails : Bool
+  pub answered : IsAnsweredUnless ends.poisoned before.patterns.now (row_of function) js outcome.kind fails
+  pub root : IsRootKind outcome.kind
+  pub or_fail : IsOrFail ends (if_state fails before.state.known) outcome.ends
+  pub are : AreEnds before.state.scopes outcome.ends
+
+-- what stands at a path is taken out
+pub record IsDeletedAs (js : List Argument) (ends : Ends) (before after : Checker) (outcome : Outcome) : Type 0 where
+  pub moved : IsMoved before after
+  pub known : IsDeletedAt (deleted_path ends.poisoned js) before.state.known after.state.known
+  pub kind : outcome.kind ≡ deleted_kind ends.poisoned js
+  pub same : outcome.ends ≡ ends
+
+-- a `!` leaves no error
+abbrev pub IsBangedAs : Span → Bool → Outcome → Checker → Checker → Outcome → Type 0
+IsBangedAs span bang part now after outcome = (before : Checker) (j : Judgement) → HasJudged before now part j → HasJudged before after outcome (banged span bang j)
+
+-- a literal stands at this place alone
+abbrev pub alone_at : ℕ → Tree → ℕ → Option Tree
+alone_at zero v zero = Some v
+alone_at zero v (suc i) = None
+alone_at (suc place) v zero = None
+alone_at (suc place) v (suc i) = alone_at place v i
+
+-- what was found of an argument: its value, and what the walk keeps of it
+abbrev pub IsFound : Option Argument → Option (CodeArg × CodeArgument) → Type 0
+IsFound None found = found ≡ None
+IsFound (Some g) found = IsSomeAnd found (λ f. (expr_of f.0.value ≡ g.value) × (f.1 ≡ told g))
