@@ -1,5 +1,5 @@
 -- How the parts of an answer make the whole of it.
-use Rattle.std.proofs.Common.{◌≡◌, ℕ, Bool, true, false, if◌then◌else◌, List, [], map, Option, Some, None, Result, Ok, Err, IfSome, IfOk, unwrap_or, ◌⊎◌, inl, inr, refl, arith, sym, ap, ◌∙◌, subst}
+use Rattle.std.proofs.Common.{◌≡◌, ◌≤◌, ◌+◌, ℕ, Bool, true, false, if◌then◌else◌, List, [], ◌∷◌, ◌++◌, map, Option, Some, None, Result, Ok, Err, IfSome, IfOk, unwrap_or, ◌⊎◌, inl, inr, refl, arith, sym, ap, ◌∙◌, subst}
 use Rattle.vrl_compile.specs.Answer.{IsAnswer}
 use Rattle.vrl_token.specs.Reading.{IsNoScript}
 use Rattle.vrl_syntax.specs.Tree.{Exprs}
@@ -12,7 +12,9 @@ use Rattle.remap_tool.specs.Lines.{event_lines}
 use Rattle.vrl_diag.specs.Rendering.{diagnostic_lines}
 use Rattle.remap_tool.specs.Request.{Held, Asks, AsksByScript, IsRunOf, IsScriptAnswer, IsRefused, IsAccepted, IsLoaded, IsScriptAccepted, Request, event_kind, has_error, bad_words, bad_script, run}
 use Rattle.remap_tool.specs.Results.{IsRun, answer_of}
-use Rattle.remap_tool.specs.Devices.{Devices, IsAsked, IsAtMostFront, IsUnread, IsWhole, IsAnswer as IsAnswerStatus}
+use Rattle.remap_tool.specs.Devices.{Devices, IsAsked, IsAtMostFront, IsLoadFailed, IsWhole, IsWithinLimit, LeavesDevices}
+use Rattle.remap_tool.specs.Gathered.{input_limit}
+use Rattle.remap_tool.specs.Status.{IsOfLines, IsUnread, IsAnswer as IsAnswerStatus, meaning_of}
 use Rattle.remap_tool.specs.Words.{Command, usage, script}
 use Rattle.remap_tool.specs.declared.results.Results.{Results}
 use Rattle.remap_tool.specs.declared.status.Status.{Status}
@@ -68,6 +70,38 @@ is_front-by asks asks_too before after has (inr front) =
       output = front.output;
       report = front.report;
     })
+
+-- and so is all that a call leaves
+pub leaves-by : (asks asks_too : Request → Type 0) (status : Status) (before after : Devices) → ((request : Request) → asks request → asks_too request) → LeavesDevices asks status before after → LeavesDevices asks_too status before after
+leaves-by asks asks_too status before after has leaves = record {
+  whole = λ answered. is_whole-by asks asks_too status before after has (leaves.whole answered);
+  front = is_front-by asks asks_too before after has leaves.front;
+  limit = leaves.limit;
+}
+
+-- a status that doesn't say that the input is too long
+pub within_limit : (status : Status) (before after : Devices) → (meaning_of status).too_long ≡ false → after.taken ≤ before.taken + input_limit → IsWithinLimit (meaning_of status).too_long before after
+within_limit status before after is fewer = subst (λ too_long. IsWithinLimit too_long before after) (sym is) fewer
+
+pub words_not_long : (s : Status) → (s ≡ Usage) ⊎ (s ≡ WriteFault) → (meaning_of s).too_long ≡ false
+words_not_long s (inl is) = ap (λ status. (meaning_of status).too_long) is
+words_not_long s (inr is) = ap (λ status. (meaning_of status).too_long) is
+
+pub script_not_long : (s : Status) → (s ≡ Refused) ⊎ (s ≡ WriteFault) ⊎ (s ≡ Memory) → (meaning_of s).too_long ≡ false
+script_not_long s (inl is) = ap (λ status. (meaning_of status).too_long) is
+script_not_long s (inr (inl is)) = ap (λ status. (meaning_of status).too_long) is
+script_not_long s (inr (inr is)) = ap (λ status. (meaning_of status).too_long) is
+
+pub lines_not_long : (s : Status) → IsOfLines s ⊎ (s ≡ WriteFault) → (meaning_of s).too_long ≡ false
+lines_not_long s (inr is) = ap (λ status. (meaning_of status).too_long) is
+lines_not_long Done (inl lines) = refl
+lines_not_long Refused (inl lines) = refl
+lines_not_long Usage (inl lines) = refl
+lines_not_long ReadFault (inl lines) = refl
+lines_not_long WriteFault (inl lines) = refl
+lines_not_long Memory (inl lines) = refl
+lines_not_long Marked (inl lines) = refl
+lines_not_long TooMuch (inl lines) = absurd lines
 
 -- a run that was accepted is what its text asks
 pub asks_run : (text : List ℕ) (items : Exprs) (warnings : List Diagnostic) → IsAccepted text items warnings → (request : Request) → IsRunOf text items warnings request → AsksByScript text request
@@ -133,3 +167,16 @@ run_is_read text items warnings status before after whole unread =
     let is = whole (unread_answers status unread) in
     let asked = is.asked in
     lines_are_read _ status (is.status_is ∙ ap (λ a. a.status) asked.answered ∙ ap (λ r. (answer_to r asked.input).status) asked.asked) unread
+
+-- ---- a load that did not fail adds no name
+
+not_longer : {X : Type 0} (xs : List X) (x : X) → xs ≡ xs ++ x ∷ [] → ⊥
+not_longer [] x is = cc
+not_longer (y ∷ ys) x is = not_longer ys x cc
+
+pub load_fault_if_added : (command : Command) (name : List ℕ) (failures after : List (List ℕ)) (s : Status) → command ≡ script name → after ≡ failures → IsLoadFailed command failures after → s ≡ ReadFault
+load_fault_if_added command name failures after s is same failed = absurd (not_longer failures name (sym same ∙ subst (λ c. IsLoadFailed c failures after) is failed))
+
+-- and words that are refused load nothing
+pub usage_loads_nothing : (command : Command) (failures after : List (List ℕ)) → command ≡ usage → IsLoadFailed command failures after → ⊥
+usage_loads_nothing command failures after is failed = subst (λ c. IsLoadFailed c failures after) is failed

@@ -10,7 +10,7 @@ use Rattle.vrl_diag.specs.declared.diagnostic.Span.{Span}
 use Rattle.vrl_syntax.specs.Tree.{Exprs}
 use Rattle.remap_tool.specs.Answer.{AreAnsweredAlike, HasOneAnswer, answer_to, same as same_answer, both_unread as both_unread_answers}
 use Rattle.remap_tool.specs.Request.{Asks, AsksByScript, Held, IsAccepted, IsLoaded, IsRefused, Request, bad_script, bad_words, event_kind, has_error, no_text, run}
-use Rattle.remap_tool.specs.Devices.{IsRefusal}
+use Rattle.remap_tool.specs.Status.{IsRefusal}
 use Rattle.remap_tool.specs.Words.{Command, script, usage}
 use Rattle.remap_tool.specs.declared.status.Status.{Status}
 

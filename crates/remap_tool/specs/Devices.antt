@@ -1,56 +1,12 @@
 -- What a call leaves in its devices, by its status.
-use Rattle.std.specs.Prelude.{◌≡◌, ℕ, ◌+◌, ◌<◌, ◌≤◌, List, [], ◌∷◌, ◌++◌, length, ℤ, Option, Some, None, option_map, IfSome, IsSomeAnd, ⊤, ◌⊎◌}
+use Rattle.std.specs.Prelude.{◌≡◌, ℕ, ◌+◌, ◌<◌, ◌≤◌, Bool, true, false, List, [], ◌∷◌, ◌++◌, length, ℤ, Option, Some, None, option_map, IfSome, IsSomeAnd, ◌⊎◌}
 use Rattle.remap_tool.specs.Answer.{Answer, answer_to}
 use Rattle.remap_tool.specs.Gathered.{input_limit}
 use Rattle.remap_tool.specs.Lines.{event_lines}
 use Rattle.remap_tool.specs.Request.{Request}
+use Rattle.remap_tool.specs.Status.{IsAnswer, IsOfLines, meaning_of}
 use Rattle.remap_tool.specs.Words.{Command, usage, script}
 use Rattle.remap_tool.specs.declared.status.Status.{Status}
-use Rattle.remap_tool.specs.declared.status.Status.TheVariants.{Done, Refused, Usage, ReadFault, WriteFault, Memory, Marked, TooMuch}
-
--- the status is an answer, and tells of no fault, limit or want of memory
-abbrev pub IsAnswer : Status → Type 0
-IsAnswer Done = ⊤
-IsAnswer Refused = ⊤
-IsAnswer Usage = ⊤
-IsAnswer ReadFault = ⊥
-IsAnswer WriteFault = ⊥
-IsAnswer Memory = ⊥
-IsAnswer Marked = ⊤
-IsAnswer TooMuch = ⊥
-
--- the lines of the input were read
-abbrev pub IsOfLines : Status → Type 0
-IsOfLines Done = ⊤
-IsOfLines Refused = ⊥
-IsOfLines Usage = ⊥
-IsOfLines ReadFault = ⊥
-IsOfLines WriteFault = ⊥
-IsOfLines Memory = ⊥
-IsOfLines Marked = ⊤
-IsOfLines TooMuch = ⊥
-
--- the words or the script were refused
-abbrev pub IsUnread : Status → Type 0
-IsUnread Done = ⊥
-IsUnread Refused = ⊤
-IsUnread Usage = ⊤
-IsUnread ReadFault = ⊥
-IsUnread WriteFault = ⊥
-IsUnread Memory = ⊥
-IsUnread Marked = ⊥
-IsUnread TooMuch = ⊥
-
--- the script was refused, or a fault or want of memory came before it could be
-abbrev pub IsRefusal : Status → Type 0
-IsRefusal Done = ⊥
-IsRefusal Refused = ⊤
-IsRefusal Usage = ⊥
-IsRefusal ReadFault = ⊤
-IsRefusal WriteFault = ⊤
-IsRefusal Memory = ⊤
-IsRefusal Marked = ⊥
-IsRefusal TooMuch = ⊥
 
 -- the clock has told this many moments, if it tells those to come
 abbrev pub MovesOn : Option (ℕ → ℤ) → ℕ → Option (ℕ → ℤ) → Type 0
@@ -116,14 +72,17 @@ abbrev pub IsLoadFailed : Command → List (List ℕ) → List (List ℕ) → Ty
 IsLoadFailed usage failures failures_after = ⊥
 IsLoadFailed (script name) failures failures_after = failures_after ≡ failures ++ name ∷ []
 
--- Of the input no more bytes than the limit were taken, but for the status that says so: one more was, and more than the
--- limit stood there.
-abbrev pub IsWithinLimit : Status → (before after : Devices) → Type 0
-IsWithinLimit Done before after = after.taken ≤ before.taken + input_limit
-IsWithinLimit Refused before after = after.taken ≤ before.taken + input_limit
-IsWithinLimit Usage before after = after.taken ≤ before.taken + input_limit
-IsWithinLimit ReadFault before after = after.taken ≤ before.taken + input_limit
-IsWithinLimit WriteFault before after = after.taken ≤ before.taken + input_limit
-IsWithinLimit Memory before after = after.taken ≤ before.taken + input_limit
-IsWithinLimit Marked before after = after.taken ≤ before.taken + input_limit
-IsWithinLimit TooMuch before after = (after.taken ≡ before.taken + (input_limit + 1)) × IfSome before.left (λ bytes. input_limit < length bytes)
+-- of the input no more bytes than the limit were taken
+abbrev pub IsWithinLimit : (too_long : Bool) → (before after : Devices) → Type 0
+IsWithinLimit false before after = after.taken ≤ before.taken + input_limit
+-- or one more was, and more than the limit stood there
+IsWithinLimit true before after = (after.taken ≡ before.taken + (input_limit + 1)) × IfSome before.left (λ bytes. input_limit < length bytes)
+
+-- A call that asks one of these requests leaves its devices so.
+pub record LeavesDevices (asks : Request → Type 0) (status : Status) (before after : Devices) : Type 0 where
+  -- an answer comes with all its bytes, and is the answer to what was asked
+  pub whole : IsAnswer status → IsWhole asks status before after
+  -- whatever the status, nothing is written but a front of that answer
+  pub front : IsAtMostFront asks before after
+  -- no more of the input is taken than may be, and a status of its own says that there is more
+  pub limit : IsWithinLimit (meaning_of status).too_long before after

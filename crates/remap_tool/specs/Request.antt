@@ -1,6 +1,6 @@
 -- What a call asks: the words tell it, and the script that they name.
 use Rattle.std.specs.Prelude.{◌≡◌, ℕ, ◌+◌, List, [], ◌∷◌, take, Option, Some, option_map, IfSome}
-use Rattle.vrl_compile.specs.Answer.{IsAccepted as IsAcceptedText, IsRefused as IsRefusedText}
+use Rattle.vrl_compile.specs.Answer.{IsAccepted as IsAcceptedText, IsRefused as IsRefusedText, IsScript}
 use Rattle.vrl_compile.specs.Program.{items_of}
 use Rattle.vrl_diag.specs.declared.diagnostic.Diagnostic.{Diagnostic}
 use Rattle.vrl_kind.specs.KindTree.{KindTree, json_rest, no_fields}
@@ -9,6 +9,7 @@ use Rattle.vrl_check.specs.Judgement.{Judgement}
 use Rattle.vrl_check.specs.Ordered.{AreOrdered}
 use Rattle.vrl_syntax.specs.Tree.{Exprs, Script}
 use Rattle.vrl_token.specs.Reading.{IsNoScript}
+use Rattle.vrl_token.specs.declared.token.Spanned.{Spanned}
 use Rattle.vrl_compile.specs.declared.script.Compiled.{Compiled}
 use Rattle.vrl_compile.specs.declared.script.Compiled.TheVariants.{Accepted, Refused}
 use Rattle.remap_tool.specs.Words.{Command, usage, script}
@@ -37,6 +38,13 @@ pub record IsAccepted (text : List ℕ) (items : Exprs) (warnings : List Diagnos
   pub judgement : Judgement
   pub accepted : IsAcceptedText event_kind text script judgement
   pub ordered : AreOrdered judgement.codes warnings
+
+-- the sources of the regex literals of the script that the bytes are
+pub record AreSources (text : List ℕ) (sources : List (List ℕ)) : Type 0 where
+  pub tokens : List Spanned
+  pub script : Script
+  pub is_script : IsScript text tokens script
+  pub sources_are : script.patterns ≡ sources
 
 -- the bytes are those of a script that is refused, with these diagnostics
 pub data IsRefused (text : List ℕ) (diagnostics : List Diagnostic) : Type 0 where

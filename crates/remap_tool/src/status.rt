@@ -1,6 +1,6 @@
 ghost use Rattle.std.specs.Prelude.{◌≡◌};
 ghost use Rattle.std.specs.Process.{exit_status};
-ghost use Rattle.remap_tool.specs.Status.{number_of};
+ghost use Rattle.remap_tool.specs.Status.{meaning_of};
 
 use std::process::ExitCode;
 
@@ -28,7 +28,7 @@ pub enum Status {
 impl Status {
     /// What the program ends with.
     pub fn exit_code(self) -> ExitCode
-        ensures { exit_status result ≡ number_of self }
+        ensures { exit_status result ≡ (meaning_of self).number }
     {
         ExitCode::from(match self {
             Status::Done => 0,

@@ -10,9 +10,10 @@ ghost use Rattle.vrl_syntax.specs.Tree.{Exprs};
 ghost use Rattle.remap_tool.specs.Words.{command, usage};
 ghost use Rattle.vrl_diag.specs.Rendering.{diagnostic_lines};
 ghost use Rattle.remap_tool.specs.Answer.{HasOneAnswer, usage_line};
-ghost use Rattle.remap_tool.specs.Request.{Asks, AsksByScript, IsAccepted, IsScriptAccepted, IsRunOf, IsScriptAnswer, bad_script, event_kind, run as run_request};
+ghost use Rattle.remap_tool.specs.Request.{AreSources, Asks, AsksByScript, IsAccepted, IsScriptAccepted, IsRunOf, IsScriptAnswer, bad_script, event_kind, run as run_request};
 ghost use Rattle.remap_tool.specs.Results.{answer_of};
-ghost use Rattle.remap_tool.specs.Devices.{devices, IsAnswer, IsOfLines, IsUnread, IsRefusal, IsWhole, IsAtMostFront, Appends, AppendsFront, IsLoadFailed, IsWithinLimit};
+ghost use Rattle.remap_tool.specs.Devices.{devices, Appends, AppendsFront, IsLoadFailed, LeavesDevices};
+ghost use Rattle.remap_tool.specs.Status.{IsAnswer, IsOfLines, IsUnread, IsRefusal};
 
 use crate::gather::{GatherFault, gather};
 use crate::give::give_all;
@@ -58,15 +59,9 @@ pub fn remap<R: Threads + Sync, F: Store, S: Source, O: Sink, E: Sink, C: Clock>
     report: &mut E,
     clock: &mut C,
 ) -> Status
-    // An answer comes with all its bytes, and is the answer to what was asked.
-    ensures whole { IsAnswer result → IsWhole (Asks (F.held files.old)
-        (command words.now)) result
-        (devices (S.left input.old) (S.taken input.old) (C.ahead clock.old)
-        (O.written output.old) (E.written report.old))
-        (devices (S.left input.new) (S.taken input.new) (C.ahead clock.new)
-        (O.written output.new) (E.written report.new)) }
-    // Whatever the status, nothing is written but a front of that answer.
-    ensures front { IsAtMostFront (Asks (F.held files.old) (command words.now))
+    // An answer comes with all its bytes, and is the answer to what was asked. Whatever the status, nothing is written
+    // but a front of that answer, and no more of the input is taken than may be.
+    ensures devices { LeavesDevices (Asks (F.held files.old) (command words.now)) result
         (devices (S.left input.old) (S.taken input.old) (C.ahead clock.old)
         (O.written output.old) (E.written report.old))
         (devices (S.left input.new) (S.taken input.new) (C.ahead clock.new)
@@ -91,7 +86,8 @@ pub fn remap<R: Threads + Sync, F: Store, S: Source, O: Sink, E: Sink, C: Clock>
     ensures sound { (text : List ℕ) (items : Exprs) (warnings : List SpecDiagnostic)
         → Asks (F.held files.old) (command words.now)
         (run_request text items warnings)
-        → (judgement : Judgement) → JudgesScript event_kind items judgement
+        → (sources : List (List ℕ)) → AreSources text sources
+        → (judgement : Judgement) → JudgesScript sources event_kind items judgement
         → (line : List ℕ) (event : Tree) → reading_of line ≡ whole event → IsTrue (is_object event)
         → IsSoundOver judgement items event }
 
@@ -99,13 +95,12 @@ pub fn remap<R: Threads + Sync, F: Store, S: Source, O: Sink, E: Sink, C: Clock>
     ensures read_fault { result ≡ Status.ReadFault
         → IsLoadFailed (command words.now) (F.failures files.old)
         (F.failures files.new) ⊎ HasRisen (S.faults input.old) (S.faults input.new) }
+    // A script that its store fails to load is told as that, and not as want of memory.
+    ensures load_fault { IsLoadFailed (command words.now) (F.failures files.old) (F.failures files.new)
+        → result ≡ Status.ReadFault }
     ensures write_fault { result ≡ Status.WriteFault
         → HasRisen (O.faults output.old) (O.faults output.new)
         ⊎ HasRisen (E.faults report.old) (E.faults report.new) }
-    ensures too_much { IsWithinLimit result (devices (S.left input.old) (S.taken input.old) (C.ahead clock.old)
-        (O.written output.old) (E.written report.old))
-        (devices (S.left input.new) (S.taken input.new) (C.ahead clock.new)
-        (O.written output.new) (E.written report.new)) }
 
     // Where nothing fails, the answer comes, unless the input is too long or memory is wanted.
     ensures usage { command words.now ≡ usage
@@ -142,12 +137,7 @@ fn run_script<S: Source, O: Sink, E: Sink, C: Clock>(
     report: &mut E,
     clock: &mut C,
 ) -> Status
-    ensures whole { IsAnswer result → IsWhole (AsksByScript text.now) result
-        (devices (S.left input.old) (S.taken input.old) (C.ahead clock.old)
-        (O.written output.old) (E.written report.old))
-        (devices (S.left input.new) (S.taken input.new) (C.ahead clock.new)
-        (O.written output.new) (E.written report.new)) }
-    ensures front { IsAtMostFront (AsksByScript text.now)
+    ensures devices { LeavesDevices (AsksByScript text.now) result
         (devices (S.left input.old) (S.taken input.old) (C.ahead clock.old)
         (O.written output.old) (E.written report.old))
         (devices (S.left input.new) (S.taken input.new) (C.ahead clock.new)
@@ -163,10 +153,6 @@ fn run_script<S: Source, O: Sink, E: Sink, C: Clock>(
     ensures write_fault { result ≡ Status.WriteFault
         → HasRisen (O.faults output.old) (O.faults output.new)
         ⊎ HasRisen (E.faults report.old) (E.faults report.new) }
-    ensures too_much { IsWithinLimit result (devices (S.left input.old) (S.taken input.old) (C.ahead clock.old)
-        (O.written output.old) (E.written report.old))
-        (devices (S.left input.new) (S.taken input.new) (C.ahead clock.new)
-        (O.written output.new) (E.written report.new)) }
 {
     let Ok(declared) = event_kind(alloc) else {
         return Status::Memory;
@@ -221,15 +207,8 @@ fn run_program<S: Source, O: Sink, E: Sink, C: Clock>(
 ) -> Status
     requires declared { script.now.declared.now ≡ event_kind }
     requires handled { HandlesErrors event_kind (items_of script.now.program.now) }
-    ensures whole { IsAnswer result → IsWhole
-        (IsRunOf script.now.text.now (items_of script.now.program.now) script.now.warnings.now)
-        result
-        (devices (S.left input.old) (S.taken input.old) (C.ahead clock.old)
-        (O.written output.old) (E.written report.old))
-        (devices (S.left input.new) (S.taken input.new) (C.ahead clock.new)
-        (O.written output.new) (E.written report.new)) }
-    ensures front { IsAtMostFront
-        (IsRunOf script.now.text.now (items_of script.now.program.now) script.now.warnings.now)
+    ensures devices { LeavesDevices (IsRunOf script.now.text.now (items_of script.now.program.now)
+        script.now.warnings.now) result
         (devices (S.left input.old) (S.taken input.old) (C.ahead clock.old)
         (O.written output.old) (E.written report.old))
         (devices (S.left input.new) (S.taken input.new) (C.ahead clock.new)
@@ -240,10 +219,6 @@ fn run_program<S: Source, O: Sink, E: Sink, C: Clock>(
     ensures write_fault { result ≡ Status.WriteFault
         → HasRisen (O.faults output.old) (O.faults output.new)
         ⊎ HasRisen (E.faults report.old) (E.faults report.new) }
-    ensures too_much { IsWithinLimit result (devices (S.left input.old) (S.taken input.old) (C.ahead clock.old)
-        (O.written output.old) (E.written report.old))
-        (devices (S.left input.new) (S.taken input.new) (C.ahead clock.new)
-        (O.written output.new) (E.written report.new)) }
 {
     let warnings = match render_all(alloc, script.warnings, script.text) {
         Ok(warnings) => warnings,

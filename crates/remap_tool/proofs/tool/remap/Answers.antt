@@ -1,34 +1,35 @@
-use Rattle.std.proofs.Common.{subst, [], inr}
-use Rattle.remap_tool.specs.Devices.{IsOfLines}
-use Rattle.remap_tool.proofs.AnswerLemmas.{accepted_named, asked_words, asks_named, is_whole-by, usage_only}
+use Rattle.std.proofs.Common.{arith, rules, subst, [], inr}
+use Rattle.remap_tool.specs.Status.{IsOfLines}
+use Rattle.remap_tool.proofs.AnswerLemmas.{accepted_named, asked_words, asks_named, leaves-by, load_fault_if_added, usage_loads_nothing, usage_only, within_limit, words_not_long}
 use Rattle.remap_tool.proofs.OneAnswer.{is_refusal, one_answer}
 use Rattle.remap_tool.proofs.RunSound.{run_is_sound}
 use Rattle.remap_tool.proofs.SinkLemmas.{appends-nil, appends_front-nil}
 use Rattle.remap_tool.proofs.tool.remap.Goals as goal
 
-pub returns-in-None-clause-whole : goal.returns-in-None-clause-whole
-returns-in-None-clause-whole g c answered =
-    let refused = usage_only c.refuse_words.result c.refuse_words.ensures.either answered in
-    record {
-      answer = _;
-      asked = asked_words _ _ _ c.in-None.ensures;
-      status_is = refused;
-      output = appends-nil _;
-      report = c.refuse_words.ensures.whole refused;
-      taken_is = λ lines. absurd (subst IsOfLines refused lines);
-      clock_is = λ lines. absurd (subst IsOfLines refused lines);
-    }
+pub returns-in-None-clause-devices : goal.returns-in-None-clause-devices
+returns-in-None-clause-devices g c = record {
+  whole = λ answered.
+      let refused = usage_only c.refuse_words.result c.refuse_words.ensures.either answered in
+      record {
+        answer = _;
+        asked = asked_words _ _ _ c.in-None.ensures;
+        status_is = refused;
+        output = appends-nil _;
+        report = c.refuse_words.ensures.whole refused;
+        taken_is = λ lines. absurd (subst IsOfLines refused lines);
+        clock_is = λ lines. absurd (subst IsOfLines refused lines);
+      };
+  front = inr (record {
+    answer = _;
+    asked = asked_words _ _ _ c.in-None.ensures;
+    output = appends_front-nil _ [];
+    report = c.refuse_words.ensures.front;
+  });
+  limit = within_limit c.refuse_words.result _ _ (words_not_long c.refuse_words.result c.refuse_words.ensures.either) (omega arith);
+}
 
-pub returns-in-None-clause-front : goal.returns-in-None-clause-front
-returns-in-None-clause-front g c = inr (record {
-  answer = _;
-  asked = asked_words _ _ _ c.in-None.ensures;
-  output = appends_front-nil _ [];
-  report = c.refuse_words.ensures.front;
-})
-
-pub returns-in-Ok-clause-whole : goal.returns-in-Ok-clause-whole
-returns-in-Ok-clause-whole g c answered = is_whole-by _ _ _ _ _ (asks_named _ _ c.in-Some.name.now c.in-Ok.script c.in-Some.ensures c.in-Ok.ensures.bytes) (rw c.as_slice.ensures at (c.run_script.ensures.whole answered))
+pub returns-in-Ok-clause-devices : goal.returns-in-Ok-clause-devices
+returns-in-Ok-clause-devices g c = leaves-by _ _ _ _ _ (asks_named _ _ c.in-Some.name.now c.in-Ok.script c.in-Some.ensures c.in-Ok.ensures.bytes) (rw c.as_slice.ensures at c.run_script.ensures.devices)
 
 pub returns-in-Ok-clause-one_answer : goal.returns-in-Ok-clause-one_answer
 returns-in-Ok-clause-one_answer g c told = one_answer c.scripts_have_one_reading.ensures c.diagnostics_are_determined.ensures _ _ told
@@ -48,13 +49,22 @@ returns-in-Ok-clause-accepted_first g c =
     accepted_named _ _ c.in-Some.name.now c.in-Ok.script c.in-Some.ensures c.in-Ok.ensures.bytes (rw c.as_slice.ensures at c.run_script.ensures.accepted_first)
 
 pub returns-in-None-clause-sound : goal.returns-in-None-clause-sound
-returns-in-None-clause-sound g c = run_is_sound c.scripts_are_sound.ensures c.judgements_are_determined.ensures c.members_stay_json.ensures c.lines_are_json.ensures _ _
+returns-in-None-clause-sound g c = run_is_sound c.scripts_are_sound.ensures c.scripts_have_one_reading.ensures c.judgements_are_determined.ensures c.members_stay_json.ensures c.lines_are_json.ensures _ _
 
 pub returns-in-Ok-clause-sound : goal.returns-in-Ok-clause-sound
-returns-in-Ok-clause-sound g c = run_is_sound c.scripts_are_sound.ensures c.judgements_are_determined.ensures c.members_stay_json.ensures c.lines_are_json.ensures _ _
+returns-in-Ok-clause-sound g c = run_is_sound c.scripts_are_sound.ensures c.scripts_have_one_reading.ensures c.judgements_are_determined.ensures c.members_stay_json.ensures c.lines_are_json.ensures _ _
 
 pub returns-in-Err-Failed-clause-sound : goal.returns-in-Err-Failed-clause-sound
-returns-in-Err-Failed-clause-sound g c = run_is_sound c.scripts_are_sound.ensures c.judgements_are_determined.ensures c.members_stay_json.ensures c.lines_are_json.ensures _ _
+returns-in-Err-Failed-clause-sound g c = run_is_sound c.scripts_are_sound.ensures c.scripts_have_one_reading.ensures c.judgements_are_determined.ensures c.members_stay_json.ensures c.lines_are_json.ensures _ _
 
 pub returns-in-Err-Memory-clause-sound : goal.returns-in-Err-Memory-clause-sound
-returns-in-Err-Memory-clause-sound g c = run_is_sound c.scripts_are_sound.ensures c.judgements_are_determined.ensures c.members_stay_json.ensures c.lines_are_json.ensures _ _
+returns-in-Err-Memory-clause-sound g c = run_is_sound c.scripts_are_sound.ensures c.scripts_have_one_reading.ensures c.judgements_are_determined.ensures c.members_stay_json.ensures c.lines_are_json.ensures _ _
+
+pub returns-in-None-clause-load_fault : goal.returns-in-None-clause-load_fault
+returns-in-None-clause-load_fault g c failed = absurd (usage_loads_nothing _ _ _ c.in-None.ensures failed)
+
+pub returns-in-Ok-clause-load_fault : goal.returns-in-Ok-clause-load_fault
+returns-in-Ok-clause-load_fault g c failed = load_fault_if_added _ c.in-Some.name.now _ _ _ c.in-Some.ensures c.in-Ok.ensures.failures failed
+
+pub returns-in-Err-Memory-clause-load_fault : goal.returns-in-Err-Memory-clause-load_fault
+returns-in-Err-Memory-clause-load_fault g c failed = load_fault_if_added _ c.in-Some.name.now _ _ _ c.in-Some.ensures (search rules) failed

@@ -1,27 +1,29 @@
-use Rattle.std.proofs.Common.{inr}
+use Rattle.std.proofs.Common.{arith, inr}
 use Rattle.remap_tool.specs.Results.{answer_of}
-use Rattle.remap_tool.proofs.AnswerLemmas.{asked_run}
+use Rattle.remap_tool.proofs.AnswerLemmas.{asked_run, lines_not_long, within_limit}
 use Rattle.remap_tool.proofs.tool.run_program.Goals as goal
 
-pub returns-in-Ok-run_lines-clause-whole : goal.returns-in-Ok-run_lines-clause-whole
-returns-in-Ok-run_lines-clause-whole g c answered =
-    let written = c.write_results.ensures.whole answered in
+pub returns-in-Ok-run_lines-clause-devices : goal.returns-in-Ok-run_lines-clause-devices
+returns-in-Ok-run_lines-clause-devices g c =
+    let asked = asked_run _ _ _ _ _ c.in-Ok-gather.bytes.items _ c.in-Ok.ensures c.in-Ok-gather.ensures.bytes.is_left (rw c.deref.ensures.value at c.in-Ok-run_lines.ensures.results) in
+    let written = c.write_results.ensures in
+    let within = c.in-Ok-gather.ensures.bytes.within in
+    let counted = c.in-Ok-gather.ensures.bytes.counted in
     record {
-      answer = answer_of c.in-Ok-run_lines.results;
-      asked = asked_run _ _ _ _ _ c.in-Ok-gather.bytes.items _ c.in-Ok.ensures c.in-Ok-gather.ensures.bytes.is_left (rw c.deref.ensures.value at c.in-Ok-run_lines.ensures.results);
-      status_is = written.0;
-      output = written.1;
-      report = written.2;
-      taken_is = λ lines. c.in-Ok-gather.ensures.bytes.counted;
-      clock_is = λ lines. rw c.deref.ensures.value at c.in-Ok-run_lines.ensures.clock;
+      whole = λ answered. let all = written.whole answered in record {
+        answer = answer_of c.in-Ok-run_lines.results;
+        asked = asked;
+        status_is = all.0;
+        output = all.1;
+        report = all.2;
+        taken_is = λ lines. counted;
+        clock_is = λ lines. rw c.deref.ensures.value at c.in-Ok-run_lines.ensures.clock;
+      };
+      front = inr (record {
+        answer = answer_of c.in-Ok-run_lines.results;
+        asked = asked;
+        output = written.front.0;
+        report = written.front.1;
+      });
+      limit = within_limit c.write_results.result _ _ (lines_not_long c.write_results.result written.either) (omega (arith, within, counted));
     }
-
-pub returns-in-Ok-run_lines-clause-front : goal.returns-in-Ok-run_lines-clause-front
-returns-in-Ok-run_lines-clause-front g c =
-    let written = c.write_results.ensures.front in
-    inr (record {
-      answer = answer_of c.in-Ok-run_lines.results;
-      asked = asked_run _ _ _ _ _ c.in-Ok-gather.bytes.items _ c.in-Ok.ensures c.in-Ok-gather.ensures.bytes.is_left (rw c.deref.ensures.value at c.in-Ok-run_lines.ensures.results);
-      output = written.0;
-      report = written.1;
-    })
