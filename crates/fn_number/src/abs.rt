@@ -47,7 +47,7 @@ impl Builtin for Abs {
         false
     }
 
-    fn apply(&self, _alloc: Global, arguments: &Arguments, _setting: &Setting<'_>) -> Applied {
+    fn apply(&self, _alloc: Global, arguments: &Arguments<'_>, _setting: &Setting<'_>) -> Applied {
         Applied::Value(Value::Int(arguments.integer(0, 0).wrapping_abs()))
     }
 

@@ -61,7 +61,7 @@ impl Builtin for FormatInt {
         }
     }
 
-    fn apply(&self, alloc: Global, arguments: &Arguments, _setting: &Setting<'_>) -> Applied {
+    fn apply(&self, alloc: Global, arguments: &Arguments<'_>, _setting: &Setting<'_>) -> Applied {
         let base = arguments.integer(1, 10);
         if !(2..=36).contains(&base) {
             return fail(alloc, "format_int", "bad base");

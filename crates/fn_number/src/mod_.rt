@@ -58,7 +58,7 @@ impl Builtin for Mod {
         }
     }
 
-    fn apply(&self, alloc: Global, arguments: &Arguments, _setting: &Setting<'_>) -> Applied {
+    fn apply(&self, alloc: Global, arguments: &Arguments<'_>, _setting: &Setting<'_>) -> Applied {
         let modulus = arguments.integer(1, 0);
         if modulus == 0 {
             fail(alloc, "mod", "modulus is 0")

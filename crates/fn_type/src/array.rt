@@ -50,7 +50,7 @@ impl Builtin for Array {
         given.allows_other(0, Tag::List)
     }
 
-    fn apply(&self, alloc: Global, arguments: &Arguments, _setting: &Setting<'_>) -> Applied {
+    fn apply(&self, alloc: Global, arguments: &Arguments<'_>, _setting: &Setting<'_>) -> Applied {
         only(alloc, "array", Tag::List, arguments.value(0))
     }
 

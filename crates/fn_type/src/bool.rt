@@ -50,7 +50,7 @@ impl Builtin for Bool {
         given.allows_other(0, Tag::Bool)
     }
 
-    fn apply(&self, alloc: Global, arguments: &Arguments, _setting: &Setting<'_>) -> Applied {
+    fn apply(&self, alloc: Global, arguments: &Arguments<'_>, _setting: &Setting<'_>) -> Applied {
         only(alloc, "bool", Tag::Bool, arguments.value(0))
     }
 

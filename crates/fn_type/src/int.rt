@@ -50,7 +50,7 @@ impl Builtin for Int {
         given.allows_other(0, Tag::Int)
     }
 
-    fn apply(&self, alloc: Global, arguments: &Arguments, _setting: &Setting<'_>) -> Applied {
+    fn apply(&self, alloc: Global, arguments: &Arguments<'_>, _setting: &Setting<'_>) -> Applied {
         only(alloc, "int", Tag::Int, arguments.value(0))
     }
 

@@ -64,7 +64,7 @@ impl Builtin for IsEmpty {
         false
     }
 
-    fn apply(&self, _alloc: Global, arguments: &Arguments, _setting: &Setting<'_>) -> Applied {
+    fn apply(&self, _alloc: Global, arguments: &Arguments<'_>, _setting: &Setting<'_>) -> Applied {
         Applied::Value(Value::Bool(is_empty(arguments.value(0))))
     }
 

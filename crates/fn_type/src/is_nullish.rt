@@ -68,7 +68,7 @@ impl Builtin for IsNullish {
         false
     }
 
-    fn apply(&self, _alloc: Global, arguments: &Arguments, _setting: &Setting<'_>) -> Applied {
+    fn apply(&self, _alloc: Global, arguments: &Arguments<'_>, _setting: &Setting<'_>) -> Applied {
         Applied::Value(Value::Bool(is_nullish(arguments.value(0))))
     }
 

@@ -48,7 +48,7 @@ impl Builtin for IsObject {
         false
     }
 
-    fn apply(&self, _alloc: Global, arguments: &Arguments, _setting: &Setting<'_>) -> Applied {
+    fn apply(&self, _alloc: Global, arguments: &Arguments<'_>, _setting: &Setting<'_>) -> Applied {
         Applied::Value(Value::Bool(arguments.value(0).tag() == Tag::Object))
     }
 

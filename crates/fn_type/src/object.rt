@@ -50,7 +50,7 @@ impl Builtin for Object {
         given.allows_other(0, Tag::Object)
     }
 
-    fn apply(&self, alloc: Global, arguments: &Arguments, _setting: &Setting<'_>) -> Applied {
+    fn apply(&self, alloc: Global, arguments: &Arguments<'_>, _setting: &Setting<'_>) -> Applied {
         only(alloc, "object", Tag::Object, arguments.value(0))
     }
 

@@ -50,7 +50,7 @@ impl Builtin for StringValue {
         given.allows_other(0, Tag::Text)
     }
 
-    fn apply(&self, alloc: Global, arguments: &Arguments, _setting: &Setting<'_>) -> Applied {
+    fn apply(&self, alloc: Global, arguments: &Arguments<'_>, _setting: &Setting<'_>) -> Applied {
         only(alloc, "string", Tag::Text, arguments.value(0))
     }
 

@@ -50,7 +50,7 @@ impl Builtin for Timestamp {
         given.allows_other(0, Tag::Time)
     }
 
-    fn apply(&self, alloc: Global, arguments: &Arguments, _setting: &Setting<'_>) -> Applied {
+    fn apply(&self, alloc: Global, arguments: &Arguments<'_>, _setting: &Setting<'_>) -> Applied {
         only(alloc, "timestamp", Tag::Time, arguments.value(0))
     }
 

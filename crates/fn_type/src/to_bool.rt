@@ -96,7 +96,7 @@ impl Builtin for ToBool {
         given.allows(0, Tag::Text)
     }
 
-    fn apply(&self, alloc: Global, arguments: &Arguments, _setting: &Setting<'_>) -> Applied {
+    fn apply(&self, alloc: Global, arguments: &Arguments<'_>, _setting: &Setting<'_>) -> Applied {
         match truth_of(arguments.value(0)) {
             Some(truth) => Applied::Value(Value::Bool(truth)),
             None => fail(alloc, "to_bool", "not a boolean word"),

@@ -79,7 +79,7 @@ impl Builtin for ToInt {
         given.allows(0, Tag::Text)
     }
 
-    fn apply(&self, alloc: Global, arguments: &Arguments, _setting: &Setting<'_>) -> Applied {
+    fn apply(&self, alloc: Global, arguments: &Arguments<'_>, _setting: &Setting<'_>) -> Applied {
         match whole_number(arguments.value(0)) {
             Some(number) => Applied::Value(Value::Int(number)),
             None => fail(alloc, "to_int", "not a whole number"),

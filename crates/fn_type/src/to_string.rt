@@ -76,7 +76,7 @@ impl Builtin for ToString {
         false
     }
 
-    fn apply(&self, alloc: Global, arguments: &Arguments, _setting: &Setting<'_>) -> Applied {
+    fn apply(&self, alloc: Global, arguments: &Arguments<'_>, _setting: &Setting<'_>) -> Applied {
         match text_of(alloc, arguments.value(0)) {
             Ok(text) => Applied::Value(Value::Text(text)),
             Err(_memory) => Applied::Memory,

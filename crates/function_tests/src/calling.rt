@@ -1,7 +1,7 @@
 // What every test here uses: values of texts, calls of a function by its name, and the tags that a kind allows.
-ghost use Rattle.std.specs.Prelude.{◌≡◌, length, IfOk, IsTrue};
+ghost use Rattle.std.specs.Prelude.{◌≡◌, length, map, option_map, IfOk, IsTrue};
 ghost use Rattle.vrl_builtin.specs.Conditions.{arguments_below, below_if, literals_below, AreGiven};
-ghost use Rattle.vrl_builtin.specs.View.{argument_tree, arguments_of, given_tree, givens_of};
+ghost use Rattle.vrl_builtin.specs.View.{arguments_of, given_tree, givens_of};
 ghost use Rattle.vrl_table.specs.Table.{row_of};
 ghost use Rattle.vrl_value.specs.Regexes.{regexes_below};
 ghost use Rattle.vrl_value.specs.View.{tree_of};
@@ -49,7 +49,7 @@ fn value_of(alloc: Global, text: &str) -> Result<Value, Memory>
 }
 
 fn argument_of(alloc: Global, part: &str) -> Result<Option<Value>, Memory>
-    ensures { IfOk result (λ argument. IsTrue (below_if 1 (argument_tree argument))) }
+    ensures { IfOk result (λ argument. IsTrue (below_if 1 (option_map tree_of argument))) }
 {
     if part.is_empty() {
         return Ok(None);
@@ -57,13 +57,24 @@ fn argument_of(alloc: Global, part: &str) -> Result<Option<Value>, Memory>
     Ok(Some(value_of(alloc, part)?))
 }
 
-// The arguments of a text: values between `;`, where nothing between two stands for no argument.
-fn arguments_of(alloc: Global, text: &str) -> Result<Arguments, Memory>
-    ensures { IfOk result (λ arguments. IsTrue (arguments_below 1 (arguments_of arguments))) }
+// The values of a text, which stand between `;`, where nothing between two stands for no argument.
+fn values_of(alloc: Global, text: &str) -> Result<Vec<Option<Value>>, Memory>
+    ensures { IfOk result (λ values. IsTrue (arguments_below 1 (map (option_map tree_of) values.items))) }
 {
-    let mut arguments = Vec::new(alloc);
+    let mut values = Vec::new(alloc);
     for part in text.split(';') {
-        arguments.push(argument_of(alloc, part)?)?;
+        values.push(argument_of(alloc, part)?)?;
+    }
+    Ok(values)
+}
+
+// These values as arguments.
+fn arguments_of(alloc: Global, values: &[Option<Value>]) -> Result<Arguments<'_>, Memory>
+    ensures { IfOk result (λ arguments. arguments_of arguments ≡ map (option_map tree_of) values.now) }
+{
+    let mut arguments = Vec::with_capacity(alloc, values.len())?;
+    for value in values {
+        arguments.push(value.as_ref())?;
     }
     Ok(Arguments::new(arguments))
 }
@@ -120,7 +131,8 @@ fn one_pattern(alloc: Global) -> Result<Patterns, Memory>
 
 // What a call of the function of a name answers: a value, or a text of an error behind `!`.
 fn answers(alloc: Global, function: Fun, arguments: &str, wanted: &str) -> Result<bool, Memory> {
-    let arguments = arguments_of(alloc, arguments)?;
+    let values = values_of(alloc, arguments)?;
+    let arguments = arguments_of(alloc, &values)?;
     if !are_arguments(parameters(function), &arguments) {
         return Ok(false);
     }

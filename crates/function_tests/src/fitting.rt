@@ -24,7 +24,7 @@ fn is_argument(parameter: &Parameter, argument: Option<&Value>) -> bool
 }
 
 // Whether each parameter takes its argument, and wants no literal.
-pub(crate) fn are_arguments(parameters: &[Parameter], arguments: &Arguments) -> bool
+pub(crate) fn are_arguments(parameters: &[Parameter], arguments: &Arguments<'_>) -> bool
     ensures { IsTrue result → (accepts : ℕ → Tree → Bool) → AreArgumentsFrom 0 (map parameter_row parameters.now) accepts (arguments_of arguments.now) }
 {
     let mut place = 0;

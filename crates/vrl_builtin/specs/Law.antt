@@ -1,5 +1,5 @@
 -- The law that ties what a row says of kinds to what it says of values.
-use Rattle.std.specs.Prelude.{◌≡◌, ℕ, Bool, false, List, [], Option, Some, None, IsTrue, IfSome, length, ⊤}
+use Rattle.std.specs.Prelude.{◌≡◌, ℕ, Bool, false, List, [], Option, Some, None, IsTrue, IfSome, IsSomeAnd, length, ⊤}
 use Rattle.vrl_value.specs.Look.{Step, raw_at, tag_found, there}
 use Rattle.vrl_value.specs.Tree.{Tree, regex, IsOrdered}
 use Rattle.vrl_value.specs.declared.value.Tag.{Tag}
@@ -38,7 +38,7 @@ pub record AreInstances (givens : List GivenTree) (arguments : List (Option Tree
 -- what may be answered: a value in order of such a kind, whose regexes stand in the arguments, or an error where the call may fail
 abbrev pub IsLawful : Sets → Bool → List (Option Tree) → Answer → Type 0
 IsLawful A fails arguments (value v) =
-    IsOf v A × IsOrdered v × ((n : ℕ) → HoldsRegex n v → (place : ℕ) × IfSome (argument_at place arguments) (HoldsRegex n))
+    IsOf v A × IsOrdered v × ((n : ℕ) → HoldsRegex n v → (place : ℕ) × IsSomeAnd (argument_at place arguments) (HoldsRegex n))
 IsLawful A fails arguments (failure text) = IsTrue fails
 
 pub record KeepsLaw (r : Row) : Type 0 where

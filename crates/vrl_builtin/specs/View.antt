@@ -1,5 +1,6 @@
 -- The rows and trees that the code's own types stand for.
 use Rattle.std.specs.Prelude.{◌≡◌, List, map, Option, option_map, ⊤}
+use Rattle.std.specs.Borrow.{Bor}
 use Rattle.vrl_value.specs.Tree.{Tree}
 use Rattle.vrl_value.specs.View.{tree_of}
 use Rattle.vrl_value.specs.declared.value.Value.{Value as CodeValue}
@@ -21,8 +22,8 @@ given_tree g = record { kind = g.kind; literal = option_map tree_of g.literal }
 abbrev pub givens_of : Givens → List GivenTree
 givens_of g = map given_tree g.givens.items
 
-abbrev pub argument_tree : Option CodeValue → Option Tree
-argument_tree = option_map tree_of
+abbrev pub argument_tree : Option (Bor CodeValue) → Option Tree
+argument_tree = option_map (λ v. tree_of v.now)
 
 abbrev pub arguments_of : Arguments → List (Option Tree)
 arguments_of a = map argument_tree a.arguments.items

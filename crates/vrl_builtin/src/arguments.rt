@@ -5,22 +5,23 @@ ghost use Rattle.vrl_builtin.specs.View.{argument_tree, arguments_of};
 
 use vrl_value::Value;
 
-/// The arguments of a call, by the places of their parameters; `None` where no argument is given. A contract sees `arguments_of` them.
+/// The arguments of a call, borrowed, by the places of their parameters; `None` where no argument is given. A contract sees `arguments_of`
+/// them.
 #[derive(Drop)]
-pub struct Arguments {
-    arguments: Vec<Option<Value>>,
+pub struct Arguments<'a> {
+    arguments: Vec<Option<&'a Value>>,
 }
 
-impl Arguments {
+impl<'a> Arguments<'a> {
     /// These, which it keeps.
-    pub fn new(arguments: Vec<Option<Value>>) -> Arguments
-        ensures { arguments_of result ≡ map argument_tree arguments.items }
+    pub fn new(arguments: Vec<Option<&'a Value>>) -> Arguments<'a>
+        ensures { arguments_of result ≡ map argument_tree arguments.entry.items }
     {
         Arguments { arguments }
     }
 
-    /// The arguments, borrowed.
-    pub fn as_slice(&self) -> &[Option<Value>]
+    /// The arguments.
+    pub fn as_slice(&self) -> &[Option<&'a Value>]
         ensures { map argument_tree result.now ≡ arguments_of self.now }
     {
         &self.arguments
@@ -31,7 +32,7 @@ impl Arguments {
         ensures { option_map (λ value. tree_of value.now) result ≡ argument_at place (arguments_of self.now) }
     {
         match self.arguments.get(place) {
-            Some(argument) => argument.as_ref(),
+            Some(argument) => *argument,
             None => None,
         }
     }
@@ -57,7 +58,7 @@ impl Arguments {
     }
 
     /// The text at a place, and the default where none is given.
-    pub fn text<'a>(&'a self, place: usize, default: &'a str) -> &'a str
+    pub fn text<'b>(&'b self, place: usize, default: &'b str) -> &'b str
         ensures { result.now ≡ text_at place default.now (arguments_of self.now) }
     {
         match self.get(place) {

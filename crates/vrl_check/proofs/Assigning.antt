@@ -18,7 +18,8 @@ use Rattle.vrl_kind.specs.Kinds.{found_at}
 use Rattle.vrl_state.specs.States.{IsCutOf, IsEither, IsPresent, IsRootKind, RootMap}
 use Rattle.vrl_check.specs.Answer.{return_kind, return_state}
 use Rattle.vrl_check.specs.Assigning.{AreAssigned}
-use Rattle.vrl_check.specs.Judgement.{Judgement, Judges, a_merge_assignment, a_merge_into_nothing, an_assignment, an_error_assignment, at, empty_tag, empty_value, is_error, is_no_event, is_nowhere, of_assignment, of_error_assignment, reached, settle, when, with_codes, IsWritten}
+use Rattle.vrl_syntax.specs.ErrorAssignments.{empty_value}
+use Rattle.vrl_check.specs.Judgement.{Judgement, Judges, a_merge_assignment, a_merge_into_nothing, an_assignment, an_error_assignment, at, empty_tag, is_error, is_no_event, is_nowhere, of_assignment, of_error_assignment, reached, settle, when, with_codes, IsWritten}
 use Rattle.vrl_check.specs.Judging.{known_on, AreBothWritten, AreEnds, HasEnds, HasJudged, IsAnywhereAs, IsAssignedAs, IsGivenAs, IsJudgedAs, IsMoved, IsPutAt, IsReported, IsReturnIn, IsSettledAs, IsWay}
 use Rattle.vrl_check.specs.Seen.{seen}
 use Rattle.vrl_check.specs.declared.checker.Checker.{Checker}

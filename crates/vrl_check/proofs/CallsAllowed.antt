@@ -20,7 +20,8 @@ use Rattle.vrl_table.specs.declared.binding.BindFault.{BindFault}
 use Rattle.vrl_table.specs.declared.binding.BindFault.TheVariants as fault
 use Rattle.vrl_table.specs.declared.function.Fun.{Fun}
 use Rattle.vrl_check.specs.Calling.{of_found, places_in, written, HasCodes, MayBeAsked}
-use Rattle.vrl_check.specs.Judgement.{Argument, argument_at, at, bound, is_disjoint, is_error, is_fallible, is_known, literal_of, of_argument, of_arguments, of_call, of_closure, of_unknown, span_of, wants_literal, when, AreGiven, IsGiven}
+use Rattle.vrl_syntax.specs.Calls.{literal_of}
+use Rattle.vrl_check.specs.Judgement.{Argument, argument_at, at, bound, is_disjoint, is_error, is_fallible, is_known, of_argument, of_arguments, of_call, of_closure, of_unknown, span_of, wants_literal, when, AreGiven, IsGiven}
 use Rattle.vrl_check.specs.declared.calls.Arguments.{Arguments}
 use Rattle.vrl_check.specs.declared.calls.Callee.TheVariants as callee
 use Rattle.vrl_check.proofs.CallsCodes.{more_codes}

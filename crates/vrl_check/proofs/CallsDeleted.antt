@@ -19,7 +19,8 @@ use Rattle.vrl_kind.specs.KindTree.{KindTree}
 use Rattle.vrl_kind.specs.Kinds.{found_at, tags_at}
 use Rattle.vrl_state.specs.States.{IsWritten, RootMap}
 use Rattle.vrl_check.specs.Calling.{written}
-use Rattle.vrl_check.specs.Judgement.{Argument, deleted_path, left_in, path_of, IsDeleted, IsDeletedAt}
+use Rattle.vrl_syntax.specs.Calls.{path_of}
+use Rattle.vrl_check.specs.Judgement.{Argument, deleted_path, left_in, IsDeleted, IsDeletedAt}
 use Rattle.vrl_check.proofs.CallsFound.{value_seen}
 
 -- ---- a root

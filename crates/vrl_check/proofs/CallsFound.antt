@@ -13,7 +13,8 @@ use Rattle.vrl_syntax.specs.declared.tree.Expr.{Expr as CodeExpr}
 use Rattle.vrl_syntax.specs.declared.tree.Form.{the_lemmas}
 use Rattle.vrl_builtin.specs.Conditions.{below_if}
 use Rattle.vrl_check.specs.Calling.{call_args, call_bang, call_closure, call_name, told, written, AreTold, IsFound}
-use Rattle.vrl_check.specs.Judgement.{Argument, argument_at, at, literal_of, of_closure, of_unknown, span_of, when}
+use Rattle.vrl_syntax.specs.Calls.{literal_of}
+use Rattle.vrl_check.specs.Judgement.{Argument, argument_at, at, of_closure, of_unknown, span_of, when}
 use Rattle.vrl_check.specs.declared.calls.Argument.{Argument as CodeArgument}
 
 -- nothing is in a list without length

@@ -16,7 +16,8 @@ use Rattle.vrl_table.specs.Table.{row_of}
 use Rattle.vrl_table.specs.declared.binding.BindFault.{BindFault}
 use Rattle.vrl_table.specs.declared.function.Fun.{Fun}
 use Rattle.vrl_check.specs.Calling.{callee_codes, callee_parameters, places_in, with_call_codes, AreRootKinds, AreTold, HasArguments, HasCodes, IsAnsweredAs, IsBound, IsBoundCallAs, IsDeletedAs, IsPassed, IsTold, IsUnknown}
-use Rattle.vrl_check.specs.Calls.{args_hold_closure_call, closure_holds_closure_call, form_holds_closure_call, is_exists, takes_closure}
+use Rattle.vrl_syntax.specs.Calls.{is_exists}
+use Rattle.vrl_check.specs.Calls.{args_hold_closure_call, closure_holds_closure_call, form_holds_closure_call, takes_closure}
 use Rattle.vrl_check.specs.Empties.{closure_empties}
 use Rattle.vrl_check.specs.Judgement.{Argument, Judgement, Gives, JudgesArguments, a_call, a_call_of_nothing, a_deletion, an_existence, at, bound, bound_by, deleted_kind, deleted_path, gives, if_state, is_error, with_codes, IsAnsweredUnless, IsDeletedAt, IsScalar}
 use Rattle.vrl_check.specs.Judging.{known_on, AreEnds, FormCanBeJudged, HasEnds, HasGathered, HasJudged, IsReported}

@@ -37,7 +37,10 @@ use Rattle.vrl_builtin.specs.declared.tags.Tags.{Tags as TagSet}
 use Rattle.vrl_table.specs.Binding.{binding, keywords_of}
 use Rattle.vrl_table.specs.Table.{row_of, function_named, FunctionsAreFound}
 use Rattle.vrl_table.specs.declared.function.Fun.{Fun}
-use Rattle.vrl_check.specs.Calls.{is_exists, takes_closure}
+use Rattle.vrl_syntax.specs.Calls.{is_exists, literal_of}
+use Rattle.vrl_syntax.specs.ErrorAssignments.{empty_value}
+use Rattle.vrl_table.specs.Binding.{path_parameters}
+use Rattle.vrl_check.specs.Calls.{takes_closure}
 use Rattle.vrl_check.specs.Empties.{closure_empties}
 use Rattle.vrl_check.specs.Judgement as judging
 use Rattle.vrl_check.specs.Judgement.{Argument, Judgement, Judges, Gives, JudgesBoth, JudgesAll, JudgesArguments, JudgesBlock, JudgesArms, JudgesItems, AreGiven, IsAnsweredUnless, IsBehind, IsBeside, IsCutDown, IsDeleted, IsDeletedAt, IsGiven, IsMerged, IsMergedIf, IsReadAt, IsThen, IsWritten, banged, behind_arguments, bound_by, deleted_kind, deleted_path, unreached, reached, gives, settle, wants_literal, with_codes, if_state, is_alive, span_of}
@@ -394,7 +397,7 @@ one_error_assignment kinds span t u e has sources known g h
     (judging.an_error_assignment {j = k} {E = E'} {K = K'} {N = N'} {T = T'} A' B' C' D' {ok = O'} two is' either' is_null' is_text' given_t' given_u' failed_t' failed_u' ends') =
     let same : j ≡ k = has sources (Some known) j k one two in
     let kind : j.kind ≡ k.kind = λ i. (same i).kind in
-    let empty : E ≡ E' = one_cut kinds (ap (λ M. found_at (judging.empty_value (judging.empty_tag M))) kind) is is' in
+    let empty : E ≡ E' = one_cut kinds (ap (λ M. found_at (empty_value (judging.empty_tag M))) kind) is is' in
     let value : K ≡ K' = one_either kinds kind empty either either' in
     let null : N ≡ N' = one_cut kinds refl is_null is_null' in
     let text : T ≡ T' = one_cut kinds refl is_text is_text' in
@@ -439,7 +442,7 @@ one_more_argument_of kinds name span e gs has all sources before js ks a b
 one_given_of : EqualTagsAreOneKind → (p : ParameterRow) (g : Option Argument) (x y : GivenTree) → IsGiven p g x → IsGiven p g y → x ≡ y
 one_given_of kinds p None x y one two = one ∙ sym two
 one_given_of kinds p (Some g) x y one two =
-    let made : KindTree → GivenTree = λ K. record { kind = Some K; literal = judging.literal_of g.value } in
+    let made : KindTree → GivenTree = λ K. record { kind = Some K; literal = literal_of g.value } in
     one.2 ∙ ap made (one_cut_down kinds one.1 two.1) ∙ sym two.2
 
 one_list_of : EqualTagsAreOneKind → (ps : List ParameterRow) (js : List (Option Argument)) (xs ys : List GivenTree) → AreGiven ps js xs → AreGiven ps js ys → xs ≡ ys
@@ -507,7 +510,7 @@ one_call kinds names span name place bang gs block all sources known g h
     (judging.a_deletion {js = js} {j = j} {whole = w} ok is one behind deleted)
     (judging.a_deletion {js = ks} {j = k} {whole = v} ok' is' two behind' deleted') =
     let parts : (js ≡ ks) × (j ≡ k) = all sources _ js ks j k one two in
-    let whole : w ≡ v = behind ∙ (λ i. behind_arguments judging.wants_path judging.path_parameters span gs block (parts.0 i) (parts.1 i)) ∙ sym behind' in
+    let whole : w ≡ v = behind ∙ (λ i. behind_arguments judging.wants_path path_parameters span gs block (parts.0 i) (parts.1 i)) ∙ sym behind' in
     let by_arguments : IsDeletedAt (deleted_path w.poisoned ks) w.ok ok = subst (λ xs. IsDeletedAt (deleted_path w.poisoned xs) w.ok ok) parts.0 deleted in
     let by_whole : IsDeletedAt (deleted_path v.poisoned ks) v.ok ok = subst (λ x. IsDeletedAt (deleted_path x.poisoned ks) x.ok ok) whole by_arguments in
     let left : ok ≡ ok' = one_deleted kinds (deleted_path v.poisoned ks) v.ok ok ok' by_whole deleted' in
@@ -516,7 +519,7 @@ one_call kinds names span name place bang gs block all sources known g h
     (judging.an_existence {js = js} {j = j} {whole = w} K is one behind cut)
     (judging.an_existence {js = ks} {j = k} {whole = v} L is' two behind' cut') =
     let parts : (js ≡ ks) × (j ≡ k) = all sources _ js ks j k one two in
-    let whole : w ≡ v = behind ∙ (λ i. behind_arguments judging.wants_path judging.path_parameters span gs block (parts.0 i) (parts.1 i)) ∙ sym behind' in
+    let whole : w ≡ v = behind ∙ (λ i. behind_arguments judging.wants_path path_parameters span gs block (parts.0 i) (parts.1 i)) ∙ sym behind' in
     let kind : K ≡ L = one_cut kinds refl cut cut' in
     λ i. banged span bang (record (whole i) { kind = kind i })
 one_call kinds names span name place bang gs block all sources known g h (judging.a_call_of_nothing none other one) (judging.a_call f K may fail is two behind answered ends) = absurd (none f is)

@@ -6,7 +6,8 @@ use Rattle.vrl_syntax.specs.declared.root.Target.{Target}
 use Rattle.vrl_kind.specs.KindTree.{KindTree}
 use Rattle.vrl_kind.specs.Kinds.{found_at}
 use Rattle.vrl_state.specs.States.{IsCutOf, IsEither}
-use Rattle.vrl_check.specs.Judgement.{empty_tag, empty_value, is_error, of_error_assignment}
+use Rattle.vrl_syntax.specs.ErrorAssignments.{empty_value}
+use Rattle.vrl_check.specs.Judgement.{empty_tag, is_error, of_error_assignment}
 use Rattle.vrl_check.specs.Judging.{known_on, AreBothWritten, IsPutAt}
 use Rattle.vrl_check.specs.Seen.{seen}
 use Rattle.vrl_check.specs.declared.checker.Checker.{Checker}

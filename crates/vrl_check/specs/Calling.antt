@@ -21,9 +21,10 @@ use Rattle.vrl_table.specs.declared.binding.BindFault.{BindFault}
 use Rattle.vrl_table.specs.declared.binding.BindFault.TheVariants as fault
 use Rattle.vrl_table.specs.declared.function.Fun.{Fun}
 use Rattle.vrl_check.specs.Branching.{IsOrFail}
-use Rattle.vrl_check.specs.Calls.{is_exists}
+use Rattle.vrl_syntax.specs.Calls.{is_exists}
 use Rattle.vrl_check.specs.Empties.{closure_empties}
-use Rattle.vrl_check.specs.Judgement.{Argument, AreGiven, Gives, JudgesArguments, IsAnsweredUnless, IsDeletedAt, Judgement, at, banged, behind_arguments, bound, deleted_kind, deleted_path, gives, if_state, is_error, is_fallible, is_known, of_argument, of_call, of_unknown, path_parameters, wants_literal, wants_path}
+use Rattle.vrl_table.specs.Binding.{path_parameters}
+use Rattle.vrl_check.specs.Judgement.{Argument, AreGiven, Gives, JudgesArguments, IsAnsweredUnless, IsDeletedAt, Judgement, at, banged, behind_arguments, bound, deleted_kind, deleted_path, gives, if_state, is_error, is_fallible, is_known, of_argument, of_call, of_unknown, wants_literal, wants_path}
 use Rattle.vrl_check.specs.Judging.{AreEnds, HasEnds, HasGathered, HasJudged, IsMoved}
 use Rattle.vrl_check.specs.declared.calls.Argument.{Argument as CodeArgument}
 use Rattle.vrl_check.specs.declared.calls.Arguments.{Arguments}

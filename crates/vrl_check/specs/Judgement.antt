@@ -19,6 +19,8 @@ use Rattle.vrl_path.specs.Steps.{plain}
 use Rattle.vrl_diag.specs.declared.diagnostic.Span.{Span}
 use Rattle.vrl_diag.specs.declared.diagnostic.Diagnostic.{Diagnostic}
 use Rattle.vrl_syntax.specs.Tree.{Expr, expr, Form, literal, array, object, read, query, group, block, conditional, negation, binary, assign, merge, both, call, return_of, abort_with, Exprs, no_exprs, exprs, Pairs, no_pairs, pair, Arms, no_arms, arm, Else, no_else, else_block, Args, no_args, arg, Closure, no_closure, closure, no_message, message}
+use Rattle.vrl_syntax.specs.Calls.{is_exists, literal_of, path_of}
+use Rattle.vrl_syntax.specs.ErrorAssignments.{empty_value}
 use Rattle.vrl_syntax.specs.Written.{is_del}
 use Rattle.vrl_syntax.specs.declared.root.Op.{Op}
 use Rattle.vrl_syntax.specs.declared.root.Op.TheVariants as op
@@ -43,12 +45,12 @@ use Rattle.vrl_builtin.specs.Law.{HasTags}
 use Rattle.vrl_builtin.specs.Rows.{GivenTree, ParameterRow, Row, parameter}
 use Rattle.vrl_builtin.specs.TagSets.{allows, any_tags}
 use Rattle.vrl_builtin.specs.declared.tags.Tags.{Tags as TagSet}
-use Rattle.vrl_table.specs.Binding.{binding, keywords_of}
+use Rattle.vrl_table.specs.Binding.{binding, keywords_of, path_parameters}
 use Rattle.vrl_table.specs.Table.{row_of}
 use Rattle.vrl_table.specs.declared.binding.BindFault.{BindFault}
 use Rattle.vrl_table.specs.declared.binding.BindFault.TheVariants as fault
 use Rattle.vrl_table.specs.declared.function.Fun.{Fun}
-use Rattle.vrl_check.specs.Calls.{is_exists, takes_closure}
+use Rattle.vrl_check.specs.Calls.{takes_closure}
 use Rattle.vrl_check.specs.Empties.{closure_empties, expr_empties, exprs_empties}
 
 -- ---- kinds by their tags
@@ -341,16 +343,6 @@ of_assignment span target j = when (is_fallible j) (at 103 span) ++ (when (is_no
 abbrev pub empty_tag : KindTree → Tag
 empty_tag K = unwrap_or (find (λ t. is_alone (root_tags K) t) (tag.Text ∷ tag.Int ∷ tag.Bool ∷ tag.Object ∷ tag.List ∷ tag.Time ∷ [])) tag.Null
 
--- the empty value of a tag
-abbrev pub empty_value : Tag → Tree
-empty_value tag.Text = string []
-empty_value tag.Int = integer (pos 0)
-empty_value tag.Bool = boolean false
-empty_value tag.Object = members no_members
-empty_value tag.List = items no_items
-empty_value tag.Time = timestamp (pos 0)
-empty_value t = null
-
 -- `ok, err = e`: an expression that can't fail is 104, and two targets that take nothing are 640. What is written to `err`, a text or
 -- null, is no event; no code stands twice at one place.
 abbrev pub of_error_assignment : Span → Target → Target → Judgement → KindTree → List Diagnostic
@@ -377,16 +369,6 @@ pub record Argument : Type 0 where
   pub value : Expr
   pub judged : Judgement
 
--- the value of a literal that isn't in parentheses
-abbrev pub literal_of : Expr → Option Tree
-literal_of (expr span (literal v)) = Some v
-literal_of e = None
-
--- the root and the steps of a path, or of a name alone
-abbrev pub path_of : Expr → Option (Root × List steps.Step)
-path_of (expr span (read root path)) = Some (root, path)
-path_of e = None
-
 -- no tag of the kind is one of these
 unfoldable pub is_disjoint : TagSet → KindTree → Bool
 is_disjoint T K = not (list_any (λ t. root_tags K t && allows T t) all_tags)
@@ -405,10 +387,6 @@ of_argument T unwritten a =
 -- a parameter that wants a literal has none, or one that the function doesn't allow
 abbrev pub wants_literal : Row → ℕ → ParameterRow → Expr → Bool
 wants_literal r i p e = p.literal && option_map_or (λ v. not (r.accepts i v)) (literal_of e) true
-
--- `del` and `exists` take one argument of any kind, which is written as a path or a name
-abbrev pub path_parameters : List ParameterRow
-path_parameters = parameter (bytes_of "value") any_tags ∷ []
 
 abbrev pub wants_path : ℕ → ParameterRow → Expr → Bool
 wants_path i p e = not (is_some (path_of e))

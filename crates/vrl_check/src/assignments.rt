@@ -6,7 +6,8 @@ ghost use Rattle.vrl_syntax.specs.Limits.{target_faults};
 ghost use Rattle.vrl_syntax.specs.Tree.{assign as assign_form, both as both_form, merge as merge_form};
 ghost use Rattle.vrl_syntax.specs.View.{expr_of};
 ghost use Rattle.vrl_check.specs.Assigning.{AreAssigned};
-ghost use Rattle.vrl_check.specs.Judgement.{empty_value as empty_value_of, is_event as is_event_itself, is_no_event as is_no_event_at, is_nowhere as takes_nothing, of_error_assignment, IsWritten, Judgement};
+ghost use Rattle.vrl_syntax.specs.ErrorAssignments.{empty_value as empty_value_of};
+ghost use Rattle.vrl_check.specs.Judgement.{is_event as is_event_itself, is_no_event as is_no_event_at, is_nowhere as takes_nothing, of_error_assignment, IsWritten, Judgement};
 ghost use Rattle.vrl_check.specs.Judging.{known_on, AreBothWritten, AreEnds, AreWritten, AreWrittenBeside, CanBeJudged, HasEnds, IsAssignedAs, IsGivenAs, IsMoved, IsPutAt, IsReported, IsWay};
 
 use crate::checker::Checker;

@@ -19,7 +19,9 @@ ghost use Rattle.vrl_table.specs.declared.binding.BindFault.TheVariants as fault
 ghost use Rattle.vrl_value.specs.View.{tree_of};
 ghost use Rattle.vrl_value.specs.declared.value.Tag.TheVariants as tags;
 ghost use Rattle.vrl_check.specs.Calling.{alone_at, call_args, call_bang, call_closure, call_name, callee_codes, callee_parameters, callee_wants, of_code, of_fault, of_found, places_in, told, written, AreArgumentsAs, AreTold, HasCodes, IsAnsweredAs, IsBangedAs, IsBoundCallAs, IsCalledAs, IsDeletedAs, IsFound, IsNamed, IsPassedCallAs, IsTold, IsUnknown, MayBeAsked};
-ghost use Rattle.vrl_check.specs.Judgement.{argument_at as argument_of, at, bound as bound_at, deleted_kind, deleted_path, empty_value as value_of_empty, has_others as has_tags_beside, is_disjoint as has_no_tag, left_in, literal_of, of_argument, of_arguments, of_closure, path_of, some_has_others as some_have_others, AreGiven, Argument as JudgedArgument, IsAnswered, IsDeleted, IsDeletedAt, IsGiven, IsScalar};
+ghost use Rattle.vrl_syntax.specs.Calls.{literal_of, path_of};
+ghost use Rattle.vrl_syntax.specs.ErrorAssignments.{empty_value as value_of_empty};
+ghost use Rattle.vrl_check.specs.Judgement.{argument_at as argument_of, at, bound as bound_at, deleted_kind, deleted_path, has_others as has_tags_beside, is_disjoint as has_no_tag, left_in, of_argument, of_arguments, of_closure, some_has_others as some_have_others, AreGiven, Argument as JudgedArgument, IsAnswered, IsDeleted, IsDeletedAt, IsGiven, IsScalar};
 ghost use Rattle.vrl_check.specs.Judging.{AreEnds, AreJoinedEnds, ArgumentsCanBeJudged, FormCanBeJudged, HaveCommonScopes, IsGivenAs, IsMoved, IsReported};
 
 use crate::assignments::is_needless;

@@ -5,7 +5,8 @@ ghost use Rattle.vrl_place.specs.Sets.{has_other as has_another, is_alone};
 ghost use Rattle.vrl_state.specs.States.{IsCutOf, IsEither};
 ghost use Rattle.vrl_value.specs.View.{tree_of};
 ghost use Rattle.vrl_value.specs.declared.value.Tag.TheVariants as tags;
-ghost use Rattle.vrl_check.specs.Judgement.{IsReadAt, IsScalar, empty_tag as tag_of_empty, empty_value as value_of_empty, may_be_no_truth as may_be_another, may_be_truth as may_be_true};
+ghost use Rattle.vrl_syntax.specs.ErrorAssignments.{empty_value as value_of_empty};
+ghost use Rattle.vrl_check.specs.Judgement.{IsReadAt, IsScalar, empty_tag as tag_of_empty, may_be_no_truth as may_be_another, may_be_truth as may_be_true};
 
 use std::alloc::Global;
 use std::collections::BTreeMap;

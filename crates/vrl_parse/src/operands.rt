@@ -8,7 +8,7 @@ use crate::parser::{Operand, Parser};
 use vrl_syntax::Expr;
 use vrl_token::SyntaxFault;
 use vrl_value::Memory;
-use vrl_word::{Sign, copy_path, forms};
+use vrl_word::{Sign, forms};
 
 impl<'a> Parser<'a> {
     // Takes an operand.
@@ -122,7 +122,7 @@ impl<'a> Parser<'a> {
         let Some((path, end)) = self.suffix() else {
             return Ok(inner);
         };
-        let path = copy_path(self.alloc, path)?;
+        let path = path.copy(self.alloc)?;
         Ok(forms::queried(self.alloc, inner, path, end)?)
     }
 }

@@ -1,10 +1,11 @@
 -- Laws of reading, setting and removing at paths.
-use Rattle.std.specs.Prelude.{◌≡◌, ◌≢◌, List, []}
+use Rattle.std.specs.Prelude.{◌≡◌, ◌≢◌, List, [], IfNone, OnSome}
 use Rattle.vrl_value.specs.Look.{Step, raw_at}
 use Rattle.vrl_value.specs.Tree.{Tree, IsOrdered}
 use Rattle.vrl_path.specs.Read.{signed_raw_at}
-use Rattle.vrl_path.specs.Remove.{IsRemoved}
+use Rattle.vrl_path.specs.Remove.{removable_at, IsRemoved}
 use Rattle.vrl_path.specs.Steps.{plain, IsPlain}
+use Rattle.vrl_path.specs.Trees.{remove_tree, set_tree}
 use Rattle.vrl_path.specs.Write.{IsAsDeep, IsSet}
 use Rattle.vrl_path.specs.declared.path.Step.{Step as CodeStep}
 
@@ -23,3 +24,11 @@ RemovalsAreOne = (v : Tree) (p : List Step) (w u : Tree) → p ≢ [] → IsRemo
 -- how deep the result of a set is; so where v is within a limit, the result is over it exactly where the path and n are together
 abbrev pub SetsDeepen : Type 0
 SetsDeepen = (v : Tree) (p : List Step) (n w : Tree) → IsSet v p n w → IsOrdered v → IsOrdered n → IsOrdered w → IsAsDeep v p n w
+
+-- `set_tree` is a set, is as deep as one, and keeps trees in order
+abbrev pub SetTreesAreSets : Type 0
+SetTreesAreSets = (v : Tree) (p : List Step) (n : Tree) → IsSet v p n (set_tree v p n) × IsAsDeep v p n (set_tree v p n) × (IsOrdered v → IsOrdered n → IsOrdered (set_tree v p n))
+
+-- `remove_tree` is a removal where there is something to remove, else it leaves the tree; and it keeps trees in order
+abbrev pub RemovedTreesAreRemovals : Type 0
+RemovedTreesAreRemovals = (v : Tree) (p : List Step) → OnSome (removable_at v p) (IsRemoved v p (remove_tree v p)) × IfNone (removable_at v p) (remove_tree v p ≡ v) × (IsOrdered v → IsOrdered (remove_tree v p))

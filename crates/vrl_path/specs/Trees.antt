@@ -1,5 +1,4 @@
--- Setting and removing on trees, step by step, as the code goes. Only inner functions cite these; the public ones say by look-up
--- what a change means.
+-- Setting and removing on trees, step by step. What they give is what look-up tells of a set and of a removal at every path: the laws say so.
 use Rattle.std.specs.Prelude.{ℕ, List, [], ◌∷◌, Option, Some, None}
 use Rattle.vrl_value.specs.Look.{Step, Found, there, missing, no_place, item_at, part_at}
 use Rattle.vrl_value.specs.Parts.{put_item, replace, replace_item}

@@ -1,4 +1,4 @@
-ghost use Rattle.vrl_path.specs.Laws.{ReadsByLookUp, RemovalsAreOne, SetsAreOne, SetsDeepen};
+ghost use Rattle.vrl_path.specs.Laws.{ReadsByLookUp, RemovalsAreOne, RemovedTreesAreRemovals, SetTreesAreSets, SetsAreOne, SetsDeepen};
 
 use vrl_value::{items_are_lists, members_are_maps, trees_are_told, trees_stay_in_order};
 
@@ -35,4 +35,24 @@ pub fn sets_deepen()
     items_are_lists();
     trees_stay_in_order();
     trees_are_told();
+}
+
+/// The function that sets a tree at a path step by step gives what a set means, at every path, and keeps trees in order. This takes no
+/// time: it is a law about the definitions.
+pub fn set_trees_are_sets()
+    ensures { SetTreesAreSets }
+{
+    members_are_maps();
+    items_are_lists();
+    trees_stay_in_order();
+}
+
+/// The function that removes what stands at a path step by step gives what a removal means, at every path, leaves a tree as it is where
+/// nothing stands there, and keeps trees in order. This takes no time: it is a law about the definitions.
+pub fn removed_trees_are_removals()
+    ensures { RemovedTreesAreRemovals }
+{
+    members_are_maps();
+    items_are_lists();
+    trees_stay_in_order();
 }

@@ -1,7 +1,8 @@
-ghost use Rattle.std.specs.Prelude.{◌≡◌};
+ghost use Rattle.std.specs.Prelude.{◌≡◌, IfOk};
 
+use std::alloc::Global;
 use std::marker::Model;
-use vrl_value::Chars;
+use vrl_value::{Chars, Memory};
 
 /// One step of a path, from an array or an object to a part of it.
 #[derive(Drop)]
@@ -16,6 +17,18 @@ pub enum Step {
 #[derive(Drop)]
 pub struct Path {
     steps: Vec<Step>,
+}
+
+impl Step {
+    /// An equal step. `Memory`: want of memory.
+    pub fn copy(&self, alloc: Global) -> Result<Step, Memory>
+        ensures { IfOk result (λ copy. copy ≡ self.now) }
+    {
+        match self {
+            Step::Field(name) => Ok(Step::Field(name.copy(alloc)?)),
+            Step::Place(place) => Ok(Step::Place(*place)),
+        }
+    }
 }
 
 impl Model for Path {
@@ -42,10 +55,28 @@ impl Path {
         &self.steps
     }
 
+    /// An equal path. `Memory`: want of memory.
+    pub fn copy(&self, alloc: Global) -> Result<Path, Memory>
+        ensures { IfOk result (λ copy. copy ≡ self.now) }
+    {
+        Ok(Path::new(copies(alloc, self.as_slice())?))
+    }
+
     /// The vector that holds the steps.
     pub fn into_vec(self) -> Vec<Step>
         ensures { result.items ≡ self }
     {
         self.steps
     }
+}
+
+// Equal steps. `Memory`: want of memory.
+fn copies(alloc: Global, steps: &[Step]) -> Result<Vec<Step>, Memory>
+    ensures { IfOk result (λ copies. copies.items ≡ steps.now) }
+{
+    let mut copies = Vec::with_capacity(alloc, steps.len())?;
+    for step in steps {
+        copies.push(step.copy(alloc)?)?;
+    }
+    Ok(copies)
 }

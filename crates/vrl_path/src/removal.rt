@@ -18,6 +18,7 @@ pub fn remove(value: &mut Value, path: &Path) -> Option<Value>
     requires { IsPlain path.now }
     ensures value { option_map tree_of result ≡ removable_at (tree_of value.old) (plain path.now) }
     ensures removed { OnSome result (IsRemoved (tree_of value.old) (plain path.now) (tree_of value.new)) }
+    ensures tree { tree_of value.new ≡ remove_tree (tree_of value.old) (plain path.now) }
     ensures ordered { IsOrdered (tree_of value.old) → IsOrdered (tree_of value.new) }
     ensures none { IfNone result (tree_of value.new ≡ tree_of value.old) }
 {

@@ -1,4 +1,4 @@
-ghost use Rattle.std.specs.Prelude.{◌≡◌, ◌≤◌, OnErr, OnOk};
+ghost use Rattle.std.specs.Prelude.{◌<◌, ◌≡◌, ◌≤◌, OnErr, OnOk};
 ghost use Rattle.vrl_path.specs.Steps.{plain, IsWritable};
 ghost use Rattle.vrl_path.specs.Trees.{set_in_fields, set_in_items, set_tree};
 ghost use Rattle.vrl_path.specs.Write.{depth_limit, IsAsDeep, IsSet, IsTooDeep};
@@ -25,8 +25,10 @@ use vrl_value::{
 pub fn set(alloc: Global, value: &mut Value, path: &Path, new: Value) -> Result<(), SetFault>
     requires { IsWritable path.now }
     ensures set { OnOk result (IsSet (tree_of value.old) (plain path.now) (tree_of new) (tree_of value.new)) }
+    ensures tree { OnOk result (tree_of value.new ≡ set_tree (tree_of value.old) (plain path.now) (tree_of new)) }
     ensures within { OnOk result (depth_of (tree_of value.new) ≤ depth_limit) }
     ensures ordered { IsOrdered (tree_of value.old) → IsOrdered (tree_of new) → IsOrdered (tree_of value.new) }
+    ensures deeper { result ≡ Err SetFault.TooDeep → depth_limit < depth_of (set_tree (tree_of value.old) (plain path.now) (tree_of new)) }
     ensures too_deep { result ≡ Err SetFault.TooDeep → IsTooDeep (tree_of value.old) (plain path.now) (tree_of new) }
     ensures err { OnErr result (tree_of value.new ≡ tree_of value.old) }
 {
@@ -45,6 +47,7 @@ pub fn set(alloc: Global, value: &mut Value, path: &Path, new: Value) -> Result<
 pub fn put(alloc: Global, value: &mut Value, path: &Path, new: Value) -> Result<(), Memory>
     requires { IsWritable path.now }
     ensures set { OnOk result (IsSet (tree_of value.old) (plain path.now) (tree_of new) (tree_of value.new)) }
+    ensures tree { OnOk result (tree_of value.new ≡ set_tree (tree_of value.old) (plain path.now) (tree_of new)) }
     ensures depth { OnOk result (IsAsDeep (tree_of value.old) (plain path.now) (tree_of new) (tree_of value.new)) }
     ensures ordered { IsOrdered (tree_of value.old) → IsOrdered (tree_of new) → IsOrdered (tree_of value.new) }
     ensures err { OnErr result (tree_of value.new ≡ tree_of value.old) }

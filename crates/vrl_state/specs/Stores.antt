@@ -1,23 +1,16 @@
 -- What stands in the event and the variables while a script runs, and how that goes with what is known of them.
 use Rattle.std.specs.Prelude.{◌≡◌, ℕ, List, Option, Some, None, MatchOption, unwrap_or, ⊤, IsTrue}
-use Rattle.std.specs.Cmp.Lexicographic.{slice_cmp}
 use Rattle.std.specs.FinMap as map
 use Rattle.std.specs.FinSet as set
-use Rattle.std.specs.Ordering.{nat_cmp}
 use Rattle.vrl_value.specs.Look.{Step}
 use Rattle.vrl_value.specs.Tree.{Tree, null}
 use Rattle.vrl_path.specs.Remove.{removable_at, IsRemoved}
 use Rattle.vrl_path.specs.Write.{IsSet}
+pub use Rattle.vrl_syntax.specs.Stores.{Store, value_of, with_value, store_kept}
 use Rattle.vrl_syntax.specs.declared.root.Root.{Root}
-use Rattle.vrl_syntax.specs.declared.root.Root.TheVariants.{Event, Name}
 use Rattle.vrl_kind.specs.KindTree.{KindTree}
 use Rattle.vrl_kind.specs.Kinds.{Inhabits}
 use Rattle.vrl_state.specs.States.{RootMap, Scope, State}
-
--- the event, and the values of variables by the bytes of their names
-pub record Store : Type 0 where
-  pub event : Tree
-  pub variables : map.FinMap (slice_cmp nat_cmp) Tree
 
 -- ---- a store fits what is known
 
@@ -41,14 +34,6 @@ Fits store state = FitsKnown store state.known
 
 -- ---- what a store is once a script has changed it
 
-abbrev pub value_of : Root → Store → Option Tree
-value_of Event store = Some store.event
-value_of (Name x) store = map.get store.variables x
-
-abbrev pub with_value : Root → Tree → Store → Store
-with_value Event v store = record store { event = v }
-with_value (Name x) v store = record store { variables = map.insert store.variables x v }
-
 -- n is written at a path; a variable that isn't there is as null
 pub record IsStoreWritten (root : Root) (p : List Step) (n : Tree) (before after : Store) : Type 0 where
   pub value : Tree
@@ -66,7 +51,3 @@ IsStoreTakenOut root p before after = MatchOption (value_of root before) (after 
 -- the store held each name that the scope keeps
 abbrev pub HoldsNames : Store → Scope → Type 0
 HoldsNames store scope = (x : List ℕ) → IsTrue (set.contains scope.known x) → IsTrue (map.contains_key store.variables x)
-
--- behind a block only what the store held where it began
-abbrev pub store_kept : Store → Store → Store
-store_kept before after = record after { variables = map.retain_keys after.variables (λ x. map.contains_key before.variables x) }

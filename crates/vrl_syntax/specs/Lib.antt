@@ -1,6 +1,9 @@
+pub mod Calls
+pub mod ErrorAssignments
 pub mod Limits
 pub mod Regexes
 pub mod Spans
+pub mod Stores
 pub mod Tree
 pub mod View
 pub mod Written

@@ -1,10 +1,11 @@
 -- How the arguments of a call are bound to the parameters of its function.
-use Rattle.std.specs.Prelude.{◌≡◌, ℕ, zero, suc, Bool, false, ◌&&◌, ◌||◌, not, nat_lt, List, [], ◌∷◌, length, map, Option, Some, None, option_map, position, bytes_eq, is_none, if◌then◌else◌, ⊤}
+use Rattle.std.specs.Prelude.{◌≡◌, ℕ, zero, suc, Bool, false, ◌&&◌, ◌||◌, not, nat_lt, List, [], ◌∷◌, length, map, Option, Some, None, option_map, position, bytes_eq, codes, is_none, if◌then◌else◌, ⊤}
 use Rattle.std.specs.List.{list_any}
 use Rattle.std.specs.Option.{option_map_or}
 use Rattle.std.specs.declared.result.Result.{Result}
 use Rattle.std.specs.declared.result.Result.TheVariants.{Ok, Err}
-use Rattle.vrl_builtin.specs.Rows.{ParameterRow}
+use Rattle.vrl_builtin.specs.Rows.{ParameterRow, parameter}
+use Rattle.vrl_builtin.specs.TagSets.{any_tags}
 use Rattle.vrl_syntax.specs.Tree.{Args, no_args, arg}
 use Rattle.vrl_syntax.specs.declared.tree.Arg.{Arg}
 use Rattle.vrl_table.specs.declared.binding.BindFault.{BindFault}
@@ -91,3 +92,7 @@ binding ps ks =
 abbrev pub IsBound : Result (List (Option ℕ)) BindFault → Result (List (Option ℕ)) BindFault → Type 0
 IsBound bound (Err fault.Memory) = ⊤
 IsBound bound answer = answer ≡ bound
+
+-- `del` and `exists`, which aren't functions of the table, take one argument of any kind; it is written as a path or a name
+abbrev pub path_parameters : List ParameterRow
+path_parameters = parameter (codes "value") any_tags ∷ []

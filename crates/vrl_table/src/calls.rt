@@ -49,7 +49,12 @@ pub fn may_fail(function: Fun, given: &Givens) -> bool
 }
 
 /// Calls a function. The conditions are those of [`Builtin::apply`].
-pub fn apply(alloc: Global, function: Fun, arguments: &Arguments, setting: &Setting<'_>) -> Applied
+pub fn apply(
+    alloc: Global,
+    function: Fun,
+    arguments: &Arguments<'_>,
+    setting: &Setting<'_>,
+) -> Applied
     requires arguments { AreArguments (row_of function) (arguments_of arguments.now) }
     requires regexes { IsTrue (arguments_below (length setting.now.patterns.now) (arguments_of arguments.now)) }
     ensures { Applies ((row_of function).means (arguments_of arguments.now) (setting_of setting.now)) result }

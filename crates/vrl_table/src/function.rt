@@ -124,7 +124,7 @@ impl Builtin for Fun {
         dispatch!(self, may_fail(given))
     }
 
-    fn apply(&self, alloc: Global, arguments: &Arguments, setting: &Setting<'_>) -> Applied {
+    fn apply(&self, alloc: Global, arguments: &Arguments<'_>, setting: &Setting<'_>) -> Applied {
         dispatch!(self, apply(alloc, arguments, setting))
     }
 

@@ -7,5 +7,5 @@ mod word;
 
 pub use sign::{Sign, is_sign};
 pub use word::{
-    copy_path, function_of, is_path, literal_of, name_span, operator_of, over, path_of, target_of,
+    function_of, is_path, literal_of, name_span, operator_of, over, path_of, target_of,
 };

@@ -4,7 +4,7 @@ ghost use Rattle.vrl_word.specs.Words.{literal_at, function_of as function_in, n
 
 use std::alloc::Global;
 use vrl_diag::Span;
-use vrl_path::{Path, Step};
+use vrl_path::Path;
 use vrl_syntax::{Op, Root, Target};
 use vrl_token::{Spanned, Token};
 use vrl_value::{Chars, Memory, Value};
@@ -40,9 +40,9 @@ pub fn path_of(alloc: Global, token: &Token) -> Result<Option<(Root, Path)>, Mem
         }
         Token::NamePath(name, path) => {
             let name = name.copy(alloc)?;
-            Ok(Some((Root::Name(name), copy_path(alloc, path)?)))
+            Ok(Some((Root::Name(name), path.copy(alloc)?)))
         }
-        Token::EventPath(path) => Ok(Some((Root::Event, copy_path(alloc, path)?))),
+        Token::EventPath(path) => Ok(Some((Root::Event, path.copy(alloc)?))),
         _ => Ok(None),
     }
 }
@@ -123,26 +123,5 @@ pub fn operator_of(token: &Token) -> Option<(usize, Op)>
         Token::Minus => Some((6, Op::Minus)),
         Token::Times => Some((7, Op::Times)),
         _ => None,
-    }
-}
-
-/// An equal path.
-pub fn copy_path(alloc: Global, path: &Path) -> Result<Path, Memory>
-    ensures { IfOk result (λ copy. copy ≡ path.now) }
-{
-    let mut steps = Vec::new(alloc);
-    for step in path.as_slice() {
-        steps.push(copy_step(alloc, step)?)?;
-    }
-    Ok(Path::new(steps))
-}
-
-// An equal step.
-fn copy_step(alloc: Global, step: &Step) -> Result<Step, Memory>
-    ensures { IfOk result (λ copy. copy ≡ step.now) }
-{
-    match step {
-        Step::Field(name) => Ok(Step::Field(name.copy(alloc)?)),
-        Step::Place(place) => Ok(Step::Place(*place)),
     }
 }

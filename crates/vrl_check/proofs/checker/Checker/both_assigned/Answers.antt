@@ -2,7 +2,7 @@ use Rattle.std.proofs.Common.{subst, sym}
 use Rattle.vrl_kind.specs.Kinds.{found_at}
 use Rattle.vrl_state.specs.States.{IsCutOf}
 use Rattle.vrl_check.specs.Assigning.{AreAssigned}
-use Rattle.vrl_check.specs.Judgement.{empty_value}
+use Rattle.vrl_syntax.specs.ErrorAssignments.{empty_value}
 use Rattle.vrl_check.specs.Judging.{known_on, AreBothWritten, IsWay}
 use Rattle.vrl_check.proofs.Assigning.{are_assigned, empty_present, fail_behind, not_absent}
 use Rattle.vrl_check.proofs.checker.Checker.both_assigned.Goals as goal
