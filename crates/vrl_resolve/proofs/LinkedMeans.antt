@@ -1,0 +1,145 @@
+-- What is linked means what the part of the script means that it was made of.
+use Rattle.std.proofs.Common.{◌≡◌, Bool, true, false, ◌&&◌, List, [], ◌∷◌, ◌++◌, Option, Some, None, refl, sym, ap, ap₂, ◌∙◌, if◌then◌else◌}
+use Rattle.vrl_value.specs.Tree.{Tree, null, Members, no_members, put}
+use Rattle.vrl_value.specs.declared.value.Tag.{Tag}
+use Rattle.vrl_syntax.specs.ErrorAssignments.{behind, first_tag}
+use Rattle.vrl_syntax.specs.Stores.{Store}
+use Rattle.vrl_syntax.specs.Tree.{Expr, Form, Exprs, no_exprs, exprs, Pairs, Arms, Else, Args}
+use Rattle.vrl_syntax.specs.declared.root.Op.TheVariants as op
+use Rattle.vrl_syntax.specs.declared.root.Target.{Target}
+use Rattle.vrl_syntax.specs.declared.root.Target.TheVariants as target
+use Rattle.vrl_builtin.specs.Rows.{SettingTree}
+use Rattle.vrl_resolve.specs.Calls.{acts, items_in}
+use Rattle.vrl_resolve.specs.Linked as linked
+use Rattle.vrl_resolve.specs.Linked.{Linked, Parts}
+use Rattle.vrl_resolve.specs.LinkedMeaning.{all_mean, arms_mean, callee_in, else_means, if_asked, items_mean, means, pairs_mean, target_of}
+use Rattle.vrl_resolve.specs.Linking.{is_last, AreArgsLinked, AreArmsLinked, AreItemsLinked, AreLinked, ArePairsLinked, IsElseLinked, IsLinked, IsLinkedForm, IsTargetOf, stands, a_literal, an_array, an_object, a_read, a_query, a_group, a_block, a_conditional, a_negation, a_binary, an_assignment, a_merge, an_error_assignment, a_call, a_return, a_bare_abort, an_abort, none_linked, one_linked, no_item, one_item, no_pair, one_pair, no_arm, one_arm, no_last, a_last, no_argument, one_argument}
+use Rattle.vrl_resolve.specs.Meaning.{aborted_with, assigned, both_assigned, combined, eval, eval_all, eval_args, eval_arms, eval_else, eval_form, eval_items, eval_pairs, written_both}
+use Rattle.vrl_resolve.specs.Operators.{is_true, negated}
+use Rattle.vrl_resolve.specs.Outcomes.{Outcome, value, error, aborted, returned, banged, deep, Ended, banged_if, block_left, ends, on_value}
+use Rattle.vrl_resolve.specs.Places.{part_of, read_in, target_value, writes, writes_to}
+use Rattle.vrl_resolve.specs.StoreView.{Names}
+use Rattle.vrl_resolve.specs.declared.node.Place.{Place}
+use Rattle.vrl_resolve.proofs.Asked.{asked_behind, asked_twice, block_same, same_value, unasked_before}
+
+-- ---- targets
+
+writes_same : (names : Names) (t : Target) (place : Option Place) → IsTargetOf names t place → (v : Tree) (store : Store) (next : Store → Ended) → writes_to (target_of names place) v store next ≡ writes_to t v store next
+writes_same names target.Nowhere None is v store next = refl
+writes_same names target.Nowhere (Some place) is v store next = absurd is
+writes_same names (target.Place span root path) None is v store next = absurd is
+writes_same names (target.Place span root path) (Some place) is v store next = ap₂ (λ r steps. writes r steps v store next) is.begins.same is.steps
+
+value_same : (names : Names) (t : Target) (place : Option Place) → IsTargetOf names t place → (store : Store) → target_value (target_of names place) store ≡ target_value t store
+value_same names target.Nowhere None is store = refl
+value_same names target.Nowhere (Some place) is store = absurd is
+value_same names (target.Place span root path) None is store = absurd is
+value_same names (target.Place span root path) (Some place) is store = ap₂ (λ r steps. read_in r steps store) is.begins.same is.steps
+
+assigned_same : (names : Names) (t : Target) (place : Option Place) → IsTargetOf names t place → (m e : Ended) → m ≡ e → assigned (target_of names place) m ≡ assigned t e
+assigned_same names t place is m e same = λ i. on_value (same i) (λ v after. writes_same names t place is v after (λ end. ends (value v) end) i)
+
+both_written : (names : Names) (t u : Target) (ok err : Option Place) → IsTargetOf names t ok → IsTargetOf names u err → (v w : Tree) (store : Store) → written_both (target_of names ok) (target_of names err) v w store ≡ written_both t u v w store
+both_written names t u ok err is to v w store =
+    writes_same names t ok is v store (λ after. writes_to (target_of names err) w after (λ end. ends (value v) end))
+    ∙ (λ i. writes_to t v store (λ after. writes_same names u err to w after (λ end. ends (value v) end) i))
+
+both_same : (names : Names) (t u : Target) (ok err : Option Place) (tag : Tag) → IsTargetOf names t ok → IsTargetOf names u err → (o : Outcome) (store : Store) → both_assigned (target_of names ok) (target_of names err) tag o store ≡ both_assigned t u tag o store
+both_same names t u ok err tag is to (value v) store = both_written names t u ok err is to v null store
+both_same names t u ok err tag is to (error text) store = both_written names t u ok err is to _ _ store
+both_same names t u ok err tag is to (aborted m) store = refl
+both_same names t u ok err tag is to (returned v) store = refl
+both_same names t u ok err tag is to (banged text) store = refl
+both_same names t u ok err tag is to deep store = refl
+
+-- ---- items
+
+-- where an item follows, the value before it plays no part
+last_unused : {names : Names} {tags : List Tag} {asked : Bool} {e : Expr} {es : Exprs} {ns : Parts} (setting : SettingTree) → AreItemsLinked names tags asked (exprs e es) ns → (v w : Tree) (store : Store) → items_mean names setting v ns store ≡ items_mean names setting w ns store
+last_unused setting (one_item one rest) v w store = refl
+
+abbrev IsMeant : Bool → Ended → Ended → Type 0
+IsMeant asked m e = if_asked asked m ≡ if_asked asked e
+
+last_meant : (asked : Bool) (m e : Ended) → IsMeant (asked && true) m e → IsMeant asked (on_value m (λ v after. ends (value v) after)) (on_value e (λ v after. ends (value v) after))
+last_meant true m e same = same_value m ∙ same ∙ sym (same_value e)
+last_meant false m e same = ap (if_asked false) (same_value m) ∙ same ∙ sym (ap (if_asked false) (same_value e))
+
+unasked : (asked : Bool) (m e : Ended) → IsMeant (asked && false) m e → IsMeant false m e
+unasked true m e same = same
+unasked false m e same = same
+
+item_meant : (asked : Bool) (m e : Ended) (next follows : Store → Ended) → IsMeant (asked && false) m e → ((after : Store) → IsMeant asked (next after) (follows after)) → IsMeant asked (on_value m (λ v after. next after)) (on_value e (λ v after. follows after))
+item_meant asked m e next follows same rest =
+    asked_behind asked m (λ v after. next after)
+    ∙ unasked_before m (λ after. if_asked asked (next after))
+    ∙ (λ i. on_value (unasked asked m e same i) (λ v after. rest after i))
+    ∙ sym (unasked_before e (λ after. if_asked asked (follows after)))
+    ∙ sym (asked_behind asked e (λ v after. follows after))
+
+-- ---- branches
+
+branch_meant : (asked b : Bool) (m n e f : Ended) → IsMeant asked m e → IsMeant asked n f → IsMeant asked (if b then m else n) (if b then e else f)
+branch_meant asked true m n e f first second = first
+branch_meant asked false m n e f first second = second
+
+-- ---- forms
+
+mutual
+  pub expr_means : {names : Names} {tags : List Tag} {asked : Bool} {e : Expr} {n : Linked} (setting : SettingTree) → IsLinked names tags asked e n → (store : Store) → if_asked asked (means names setting n store) ≡ if_asked asked (eval setting tags e store)
+  expr_means setting (stands form) store = form_means setting form store
+
+  form_means : {names : Names} {tags : List Tag} {asked : Bool} {f : Form} {n : Linked} (setting : SettingTree) → IsLinkedForm names tags asked f n → (store : Store) → if_asked asked (means names setting n store) ≡ if_asked asked (eval_form setting tags f store)
+  form_means setting (a_literal ordered) store = refl
+  form_means setting (an_array {asked = asked} all) store = ap (if_asked asked) (parts_mean setting all [] store)
+  form_means setting (an_object {asked = asked} all) store = ap (if_asked asked) (object_means setting all no_members store)
+  form_means setting (a_read {asked = asked} is) store = ap (if_asked asked) (ap₂ (λ r steps. ends (value (read_in r steps store)) store) is.begins.same is.steps)
+  form_means setting (a_query {asked = asked} {path = path} part) store = ap (if_asked asked) (ap (λ m. on_value m (λ v after. ends (value (part_of v path)) after)) (expr_means setting part store))
+  form_means setting (a_group part) store = expr_means setting part store
+  form_means setting (a_block {asked = asked} items) store = block_same asked store _ _ (items_are_meant setting items null store)
+  form_means setting (a_conditional {asked = asked} arms last) store = arms_are_meant setting arms _ _ (λ after. else_is_meant setting last after) store
+  form_means setting (a_negation {asked = asked} part) store = ap (if_asked asked) (ap (λ m. on_value m (λ v after. ends (negated v) after)) (expr_means setting part store))
+  form_means setting (a_binary {asked = asked} {o = o} left right) store = ap (if_asked asked) (λ i. combined o (expr_means setting left store i) (λ after. expr_means setting right after i))
+  form_means {names = names} setting (an_assignment {asked = asked} {t = t} {place = place} is part) store =
+      asked_twice asked _ ∙ ap (if_asked asked) (assigned_same names t place is _ _ (expr_means setting part store))
+  form_means {names = names} setting (a_merge {asked = asked} {t = t} {place = place} is part) store =
+      asked_twice asked _
+      ∙ ap (if_asked asked) (assigned_same names t place is _ _ (λ i. combined op.Merge (ends (value (value_same names t place is store i)) store) (λ after. expr_means setting part after i)))
+  form_means {names = names} setting (an_error_assignment {tags = tags} {asked = asked} {t = t} {u = u} {ok = ok} {err = err} is to part) store =
+      asked_twice asked _
+      ∙ ap (if_asked asked) (both_same names t u ok err (first_tag tags) is to _ _ ∙ ap (λ m. both_assigned t u (first_tag tags) m.outcome m.store) (expr_means setting part store))
+  form_means setting (a_call {asked = asked} {bang = bang} is args) store =
+      ap (if_asked asked) (ap (banged_if bang) (λ i. on_value (args_mean setting args [] store i) (λ vs after. acts setting (is.same i) (items_in vs) after)))
+  form_means setting (a_return {asked = asked} part) store = ap (if_asked asked) (ap (λ m. on_value m (λ v after. ends (returned v) after)) (expr_means setting part store))
+  form_means setting a_bare_abort store = refl
+  form_means setting (an_abort {asked = asked} part) store = ap (if_asked asked) (ap (λ m. on_value m (λ v after. ends (aborted_with v) after)) (expr_means setting part store))
+
+  parts_mean : {names : Names} {tags : List Tag} {es : Exprs} {ns : Parts} (setting : SettingTree) → AreLinked names tags es ns → (vs : List Tree) (store : Store) → all_mean names setting ns vs store ≡ eval_all setting tags es vs store
+  parts_mean setting none_linked vs store = refl
+  parts_mean setting (one_linked one rest) vs store = λ i. on_value (expr_means setting one store i) (λ v after. parts_mean setting rest (vs ++ (v ∷ [])) after i)
+
+  object_means : {names : Names} {tags : List Tag} {ps : Pairs} {qs : linked.Pairs} (setting : SettingTree) → ArePairsLinked names tags ps qs → (ms : Members) (store : Store) → pairs_mean names setting qs ms store ≡ eval_pairs setting tags ps ms store
+  object_means setting no_pair ms store = refl
+  object_means setting (one_pair {key = key} one rest) ms store = λ i. on_value (expr_means setting one store i) (λ v after. object_means setting rest (put key v ms) after i)
+
+  args_mean : {names : Names} {tags : List Tag} {gs : Args} {ns : Parts} (setting : SettingTree) → AreArgsLinked names tags gs ns → (vs : List Tree) (store : Store) → all_mean names setting ns vs store ≡ eval_args setting tags gs vs store
+  args_mean setting no_argument vs store = refl
+  args_mean setting (one_argument one rest) vs store = λ i. on_value (expr_means setting one store i) (λ v after. args_mean setting rest (vs ++ (v ∷ [])) after i)
+
+  pub items_are_meant : {names : Names} {tags : List Tag} {asked : Bool} {es : Exprs} {ns : Parts} (setting : SettingTree) → AreItemsLinked names tags asked es ns → (last : Tree) (store : Store) → if_asked asked (items_mean names setting last ns store) ≡ if_asked asked (eval_items setting tags last es store)
+  items_are_meant setting no_item last store = refl
+  items_are_meant setting (one_item {asked = asked} {es = no_exprs} one no_item) last store = last_meant asked _ _ (expr_means setting one store)
+  items_are_meant {names = names} {tags = tags} setting (one_item {asked = asked} {e = e} {es = exprs f fs} {n = n} {ns = ns} one rest) last store =
+      ap (if_asked asked) (λ i. on_value (means names setting n store) (λ v after. last_unused setting rest v null after i))
+      ∙ item_meant asked (means names setting n store) (eval setting tags e store) (λ after. items_mean names setting null ns after) (λ after. eval_items setting (behind e tags) null (exprs f fs) after) (expr_means setting one store) (λ after. items_are_meant setting rest null after)
+
+  arms_are_meant : {names : Names} {tags : List Tag} {asked : Bool} {gs : Arms} {as_ : linked.Arms} (setting : SettingTree) → AreArmsLinked names tags asked gs as_ → (other follows : Store → Ended) → ((after : Store) → if_asked asked (other after) ≡ if_asked asked (follows after)) → (store : Store) → if_asked asked (arms_mean names setting as_ other store) ≡ if_asked asked (eval_arms setting tags gs follows store)
+  arms_are_meant setting no_arm other follows same store = same store
+  arms_are_meant setting (one_arm {asked = asked} predicate items rest) other follows same store =
+      asked_behind asked _ _
+      ∙ (λ i. on_value (expr_means setting predicate store i) (λ v after. branch_meant asked (is_true v) _ _ _ _ (block_same asked after _ _ (items_are_meant setting items null after)) (arms_are_meant setting rest other follows same after) i))
+      ∙ sym (asked_behind asked _ _)
+
+  else_is_meant : {names : Names} {tags : List Tag} {asked : Bool} {es : Else} {otherwise : linked.Else} (setting : SettingTree) → IsElseLinked names tags asked es otherwise → (store : Store) → if_asked asked (else_means names setting otherwise store) ≡ if_asked asked (eval_else setting tags es store)
+  else_is_meant setting no_last store = refl
+  else_is_meant setting (a_last {asked = asked} items) store = block_same asked store _ _ (items_are_meant setting items null store)

@@ -1,0 +1,60 @@
+-- Calls answer well-formed values where their arguments are well-formed.
+use Rattle.std.specs.Prelude.{◌≡◌, ℕ, zero, suc, Bool, true, false, List, [], ◌∷◌, length, map, Option, Some, None, IfSome, refl, ⊤, if◌then◌else◌}
+use Rattle.vrl_value.specs.Tree.{Tree, array, Items}
+use Rattle.vrl_value.specs.declared.value.Tag.{Tag}
+use Rattle.vrl_syntax.specs.Stores.{Store}
+use Rattle.vrl_builtin.specs.Rows.{Answer, value as answered, failure, Row, SettingTree}
+use Rattle.vrl_table.specs.Table.{row_of}
+use Rattle.vrl_resolve.specs.Calls.{Callee, function, deletion, existence, nothing_called, acts, answer_outcome, argument_in, first_unfit, fit_or_else, items_in, within_limit}
+use Rattle.vrl_resolve.specs.Outcomes.{deep, value}
+use Rattle.vrl_resolve.specs.Places.{is_within, read_in}
+use Rattle.vrl_resolve.specs.WellFormed.{IsWellFormed, IsWellFormedEnded, IsWellFormedOutcome, IsWellFormedStore}
+use Rattle.vrl_resolve.proofs.GivenArguments.{arguments_are, AreGivenAs, AreKnownAs}
+use Rattle.vrl_resolve.proofs.LawfulCalls.{lawful_answer, AreWellFormedArguments, IsWellFormedAnswer}
+use Rattle.vrl_resolve.proofs.WellFormedEnds.{read_in_is, removed_is}
+use Rattle.vrl_resolve.proofs.WellFormedValues.{Laws, boolean_is, found_item, no_items_is}
+
+-- a function that is called takes the arguments of which so much is known
+abbrev pub TakesKnown : List (Option Tree) → Callee → Type 0
+TakesKnown known (function f places) = AreGivenAs 0 (row_of f).parameters (row_of f).accepts known places
+TakesKnown known other = ⊤
+
+within_is : (count : ℕ) (v : Tree) → IsWellFormed count v → IsWellFormedOutcome count (within_limit v)
+within_is count v is = either (is_within v) where
+  either : (b : Bool) → IsWellFormedOutcome count (if b then value v else deep)
+  either true = is
+  either false = tt
+
+outcome_is : (count : ℕ) (answer : Answer) → IsWellFormedAnswer count answer → IsWellFormedOutcome count (answer_outcome answer)
+outcome_is count (answered v) is = within_is count v is
+outcome_is count (failure text) is = tt
+
+fit_is : (count : ℕ) (unfit : Option (List ℕ × Tag)) (r : Row) (answer : Answer) → (unfit ≡ None → IsWellFormedAnswer count answer) → IsWellFormedOutcome count (fit_or_else unfit r answer)
+fit_is count None r answer is = outcome_is count answer (is refl)
+fit_is count (Some unfit) r answer is = tt
+
+argument_is : (laws : Laws) (count : ℕ) (vs : Items) (place : Option ℕ) → IsWellFormed count (array vs) → IfSome (argument_in vs place) (IsWellFormed count)
+argument_is laws count vs None is = tt
+argument_is laws count vs (Some place) is = found_item laws count place vs is
+
+pub well_formed_arguments : (laws : Laws) (count : ℕ) (vs : Items) (places : List (Option ℕ)) → IsWellFormed count (array vs) → AreWellFormedArguments count (map (argument_in vs) places)
+well_formed_arguments laws count vs [] is at = tt
+well_formed_arguments laws count vs (place ∷ places) is zero = argument_is laws count vs place is
+well_formed_arguments laws count vs (place ∷ places) is (suc at) = well_formed_arguments laws count vs places is at
+
+pub acts_is : (laws : Laws) (setting : SettingTree) (known : List (Option Tree)) (callee : Callee) (vs : Items) (store : Store) → TakesKnown known callee → AreKnownAs known vs →
+    IsWellFormed (length setting.sources) (array vs) → IsWellFormedStore (length setting.sources) store → IsWellFormedEnded (length setting.sources) (acts setting callee vs store)
+acts_is laws setting known (function f places) vs store takes are well is =
+    let arguments = map (argument_in vs) places in (
+      fit_is (length setting.sources) (first_unfit 0 (row_of f).parameters arguments) (row_of f) _
+          (λ fit. lawful_answer laws.below laws.any (row_of f) arguments setting (laws.rows f) (arguments_are (row_of f) known vs places are takes fit) (well_formed_arguments laws (length setting.sources) vs places well)),
+      is,
+    )
+acts_is laws setting known (deletion root path) vs store takes are well is =
+    (within_is (length setting.sources) (read_in root path store) (read_in_is laws (length setting.sources) root path store is), removed_is laws (length setting.sources) root path store is)
+acts_is laws setting known (existence root path) vs store takes are well is = (boolean_is (length setting.sources) _, is)
+acts_is laws setting known nothing_called vs store takes are well is = (tt, is)
+
+pub items_in_is : (count : ℕ) (v : Tree) → IsWellFormed count v → IsWellFormed count (array (items_in v))
+items_in_is count (array ts) is = is
+items_in_is count v is = no_items_is count

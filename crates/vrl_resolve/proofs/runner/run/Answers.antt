@@ -1,0 +1,37 @@
+use Rattle.std.proofs.Common.{length, sym, ap, subst}
+use Rattle.std.proofs.lemmas.Result.{IfOk-weaker}
+use Rattle.vrl_value.specs.Tree.{null}
+use Rattle.vrl_value.specs.View.{tree_of}
+use Rattle.vrl_builtin.specs.Rows.{SettingTree}
+use Rattle.vrl_resolve.specs.Fits.{AllFit}
+use Rattle.vrl_resolve.specs.Linked.{parts_view}
+use Rattle.vrl_resolve.specs.LinkedMeaning.{items_mean}
+use Rattle.vrl_resolve.specs.Outcomes.{Ended}
+use Rattle.vrl_resolve.specs.Program.{program_of}
+use Rattle.vrl_resolve.specs.StoreView.{store_in}
+use Rattle.vrl_resolve.proofs.RunsWellFormed.{run_is, start_is}
+use Rattle.vrl_resolve.proofs.WellFormedValues.{null_is}
+use Rattle.vrl_resolve.proofs.runner.run.Goals as goal
+
+pub items-end-requires-clause-ready : goal.items-end-requires-clause-ready
+unfolding program_of
+items-end-requires-clause-ready c =
+    let names = c.args.program.now.names in
+    let started = c.in_ok-store.ensures.started names (ap length (sym c.as_slice.ensures)) c.args.program.now.ready.distinct in record {
+      kept = c.in_ok-store.ensures.kept;
+      names = started.1;
+      formed = start_is (length c.args.program.now.patterns) (tree_of c.args.event) (store_in names c.in_ok-store.store) started.0 c.in_ok-store.ensures.ordered c.requires.event;
+    }
+
+pub returns-clause-below : goal.returns-clause-below
+unfolding program_of
+returns-clause-below c =
+    let names = c.args.program.now.names in
+    let count = length c.args.program.now.patterns in
+    let started = c.in_ok-store.ensures.started names (ap length (sym c.as_slice.ensures)) c.args.program.now.ready.distinct in
+    let formed = start_is count (tree_of c.args.event) (store_in names c.in_ok-store.store) started.0 c.in_ok-store.ensures.ordered c.requires.event in
+    let setting : SettingTree = record { moment = c.args.moment; sources = c.args.program.now.patterns } in
+    let fits = subst (λ ns. AllFit (length names) count (parts_view ns)) (sym c.deref.ensures.value) c.args.program.now.ready.fits in
+    let meant : Ended = items_mean names setting null (parts_view c.deref.result.now) (store_in names c.in_ok-store.store) in
+    let well = c.meanings_stay_well_formed.ensures.items names setting (length names) null (parts_view c.deref.result.now) (store_in names c.in_ok-store.store) (null_is count) fits formed in
+    IfOk-weaker c.left.result _ _ (λ ran is. run_is count meant ran (is meant c.items-end.ensures.ended) well) c.left.ensures

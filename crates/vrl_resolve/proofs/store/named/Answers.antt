@@ -1,0 +1,27 @@
+use Rattle.std.proofs.Common.{◌≡◌, ◌∷◌, Some, rules}
+use Rattle.std.specs.Vec.Iter.{into_iter_items}
+use Rattle.vrl_value.specs.Tree.{no_members}
+use Rattle.vrl_value.specs.View.{members_of}
+use Rattle.vrl_resolve.specs.StoreView.{trees_of, variables_of}
+use Rattle.vrl_resolve.proofs.MapsOf.{told_first, told_next}
+use Rattle.vrl_resolve.proofs.store.named.Goals as goal
+
+pub loop-variable-init : goal.loop-variable-init
+loop-variable-init c =
+    let rest : into_iter_items c.into_iter-variable-iterator.result ≡ c.args.variables.items = search rules in
+    let none : members_of c.new-fields.result ≡ no_members = search rules in
+    record {
+      rest = told_first c.args.names.now c.as_slice-left.result.now c.args.variables.items (into_iter_items c.into_iter-variable-iterator.result) (members_of c.new-fields.result)
+          c.requires c.as_slice-left.ensures rest none;
+      as_many = search rules;
+    }
+
+pub loop-variable-preserved-in_ok-insert : goal.loop-variable-preserved-in_ok-insert
+loop-variable-preserved-in_ok-insert c =
+    let next : into_iter_items c.loop-variable.variable-iterator ≡ Some c.in-Some-variable.value ∷ into_iter_items c.next.new.self = search rules in
+    record {
+      rest = told_next c.loop-variable.left.now c.in-Some-split_first.others.now c.in-Some-split_first.name.now c.in_ok-copy.field-0 (into_iter_items c.loop-variable.variable-iterator)
+          (into_iter_items c.next.new.self) c.in-Some-variable.value (members_of c.loop-variable.fields) (members_of c.insert.new.self) (variables_of c.args.names.now (trees_of c.args.variables.items))
+          c.in-Some-split_first.ensures.cases.0 next c.in_ok-copy.ensures c.in_ok-insert.ensures.ok c.loop-variable.invariant.rest;
+      as_many = search rules;
+    }

@@ -1,0 +1,13 @@
+use Rattle.std.proofs.Common.{◌≡◌, length}
+use Rattle.std.specs.Vec.Iter.{into_iter_items, into_iter_len}
+use Rattle.vrl_value.specs.View.{members_of}
+use Rattle.vrl_resolve.specs.StoreView.{map_of, trees_of, variables_of}
+use Rattle.vrl_resolve.proofs.MapsOf.{put_over}
+use Rattle.vrl_resolve.proofs.store.named.Given as goal
+
+-- to put what is left over what is told so far gives all
+abbrev pub invariant-loop-variable : goal.invariant-loop-variable
+invariant-loop-variable l = record {
+  rest : put_over l.left (trees_of (into_iter_items l.variable-iterator)) (map_of (members_of l.fields)) ≡ variables_of l.fn.names (trees_of l.fn.variables.items);
+  as_many : into_iter_len l.variable-iterator ≡ length (into_iter_items l.variable-iterator);
+}

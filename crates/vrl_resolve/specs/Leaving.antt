@@ -1,0 +1,39 @@
+-- What a run leaves, by how its walk ended.
+use Rattle.std.specs.Prelude.{◌≡◌, ⊤}
+use Rattle.std.specs.declared.result.Result.{Result}
+use Rattle.std.specs.declared.result.Result.TheVariants.{Ok, Err}
+use Rattle.vrl_value.specs.Tree.{Tree, no_members}
+use Rattle.vrl_value.specs.View.{members_of, tree_of}
+use Rattle.vrl_value.specs.declared.value.Value.{Value}
+use Rattle.vrl_syntax.specs.Stores.{Store}
+use Rattle.vrl_resolve.specs.StoreView.{map_of}
+use Rattle.vrl_resolve.specs.declared.ran.Ended.{Ended}
+use Rattle.vrl_resolve.specs.declared.ran.Ended.TheVariants as code
+use Rattle.vrl_resolve.specs.declared.ran.Ran.{Ran}
+use Rattle.vrl_resolve.specs.declared.stop.Stop.{Stop}
+use Rattle.vrl_resolve.specs.declared.stop.Stop.TheVariants as stop
+
+abbrev pub IsValue : Tree → Ended → Type 0
+IsValue v (code.Value w) = tree_of w ≡ v
+IsValue v other = ⊥
+
+-- with this value, and what the store has
+pub record IsValued (v : Tree) (store : Store) (ran : Ran) : Type 0 where
+  pub end : IsValue v ran.ended
+  pub event : tree_of ran.event ≡ store.event
+  pub variables : map_of (members_of ran.variables) ≡ store.variables
+
+-- without a value
+pub record IsEarly (end : Ended) (left : Tree) (ran : Ran) : Type 0 where
+  pub ended : ran.ended ≡ end
+  pub event : tree_of ran.event ≡ left
+  pub variables : members_of ran.variables ≡ no_members
+
+-- with no error that is left unhandled
+abbrev pub IsHandledStop : Stop → Type 0
+IsHandledStop (stop.Error text) = ⊥
+IsHandledStop other = ⊤
+
+abbrev pub IsHandled : Result Value Stop → Type 0
+IsHandled (Ok v) = ⊤
+IsHandled (Err s) = IsHandledStop s

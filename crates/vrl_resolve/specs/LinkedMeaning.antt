@@ -1,0 +1,76 @@
+-- What a linked expression does: as `Meaning` has it of the expression that it was made of.
+use Rattle.std.specs.Prelude.{Bool, true, false, List, [], ◌∷◌, ◌++◌, Option, Some, None, if◌then◌else◌}
+use Rattle.vrl_value.specs.Tree.{Tree, null, array as items, object as members, Members, no_members, put}
+use Rattle.vrl_value.specs.View.{items_of_trees}
+use Rattle.vrl_syntax.specs.Spans.{no_span}
+use Rattle.vrl_syntax.specs.Stores.{Store}
+use Rattle.vrl_syntax.specs.declared.root.Op.TheVariants as op
+use Rattle.vrl_syntax.specs.declared.root.Target.{Target}
+use Rattle.vrl_syntax.specs.declared.root.Target.TheVariants as target
+use Rattle.vrl_builtin.specs.Rows.{SettingTree}
+use Rattle.vrl_resolve.specs.Calls.{acts, deletion, existence, function, items_in, nothing_called, Callee}
+use Rattle.vrl_resolve.specs.Linked.{Linked, literal, array, object, read, query, block, conditional, negation, binary, assign, merge, both, call, return_of, abort_with, Parts, no_parts, parts, Pairs, no_pairs, pair, Arms, no_arms, arm, Else, no_else, else_block, no_message, message}
+use Rattle.vrl_resolve.specs.Meaning.{aborted_with, assigned, both_assigned, combined}
+use Rattle.vrl_resolve.specs.Operators.{is_true, negated}
+use Rattle.vrl_resolve.specs.Outcomes.{Ended, aborted, banged_if, block_left, ends, on_value, returned, value}
+use Rattle.vrl_resolve.specs.Places.{part_of, read_in, target_value}
+use Rattle.vrl_resolve.specs.StoreView.{root_of, Names}
+use Rattle.vrl_resolve.specs.declared.node.Callee.{Callee as CodeCallee}
+use Rattle.vrl_resolve.specs.declared.node.Callee.TheVariants as callee
+use Rattle.vrl_resolve.specs.declared.node.Place.{Place}
+
+abbrev pub target_of : Names → Option Place → Target
+target_of names None = target.Nowhere
+target_of names (Some place) = target.Place no_span (root_of names place.base) place.path
+
+abbrev pub callee_in : Names → CodeCallee → Callee
+callee_in names (callee.Function f places) = function f places.items
+callee_in names (callee.Deletion place) = deletion (root_of names place.base) place.path
+callee_in names (callee.Existence place) = existence (root_of names place.base) place.path
+callee_in names callee.Nothing = nothing_called
+
+-- a value that nobody asks for is null
+abbrev pub if_asked : Bool → Ended → Ended
+if_asked true ended = ended
+if_asked false ended = on_value ended (λ v after. ends (value null) after)
+
+abbrev mutual
+  pub means : Names → SettingTree → Linked → Store → Ended
+  means names setting (literal v) store = ends (value v) store
+  means names setting (array ns) store = all_mean names setting ns [] store
+  means names setting (object ps) store = pairs_mean names setting ps no_members store
+  means names setting (read place) store = ends (value (read_in (root_of names place.base) place.path store)) store
+  means names setting (query n path) store = on_value (means names setting n store) (λ v after. ends (value (part_of v path)) after)
+  means names setting (block ns) store = block_left store (items_mean names setting null ns store)
+  means names setting (conditional as_ otherwise) store = arms_mean names setting as_ (λ after. else_means names setting otherwise after) store
+  means names setting (negation n) store = on_value (means names setting n store) (λ v after. ends (negated v) after)
+  means names setting (binary o l r) store = combined o (means names setting l store) (λ after. means names setting r after)
+  means names setting (assign asked t n) store = if_asked asked (assigned (target_of names t) (means names setting n store))
+  means names setting (merge asked t n) store = if_asked asked (assigned (target_of names t) (combined op.Merge (ends (value (target_value (target_of names t) store)) store) (λ after. means names setting n after)))
+  means names setting (both asked t u tag n) store = let given = means names setting n store in if_asked asked (both_assigned (target_of names t) (target_of names u) tag given.outcome given.store)
+  means names setting (call c bang ns) store = banged_if bang (on_value (all_mean names setting ns [] store) (λ vs after. acts setting (callee_in names c) (items_in vs) after))
+  means names setting (return_of n) store = on_value (means names setting n store) (λ v after. ends (returned v) after)
+  means names setting (abort_with no_message) store = ends (aborted None) store
+  means names setting (abort_with (message n)) store = on_value (means names setting n store) (λ v after. ends (aborted_with v) after)
+
+  -- the array of the values of parts in order, behind those before them
+  pub all_mean : Names → SettingTree → Parts → List Tree → Store → Ended
+  all_mean names setting no_parts vs store = ends (value (items (items_of_trees vs))) store
+  all_mean names setting (parts n ns) vs store = on_value (means names setting n store) (λ v after. all_mean names setting ns (vs ++ v ∷ []) after)
+
+  pub pairs_mean : Names → SettingTree → Pairs → Members → Store → Ended
+  pairs_mean names setting no_pairs ms store = ends (value (members ms)) store
+  pairs_mean names setting (pair key n ps) ms store = on_value (means names setting n store) (λ v after. pairs_mean names setting ps (put key v ms) after)
+
+  pub items_mean : Names → SettingTree → Tree → Parts → Store → Ended
+  items_mean names setting last no_parts store = ends (value last) store
+  items_mean names setting last (parts n ns) store = on_value (means names setting n store) (λ v after. items_mean names setting v ns after)
+
+  pub arms_mean : Names → SettingTree → Arms → (Store → Ended) → Store → Ended
+  arms_mean names setting no_arms otherwise store = otherwise store
+  arms_mean names setting (arm predicate ns as_) otherwise store =
+      on_value (means names setting predicate store) (λ v after. (if is_true v then block_left after (items_mean names setting null ns after) else arms_mean names setting as_ otherwise after))
+
+  pub else_means : Names → SettingTree → Else → Store → Ended
+  else_means names setting no_else store = ends (value null) store
+  else_means names setting (else_block ns) store = block_left store (items_mean names setting null ns store)

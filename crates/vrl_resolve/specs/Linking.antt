@@ -1,0 +1,238 @@
+-- What linking makes of the parts of a script, told of the names that the variables have in the end.
+--
+-- Each part has its own tags of empty values in front of those left. Whether somebody asks for a value is told of an expression and of items.
+use Rattle.std.specs.Prelude.{◌≡◌, ℕ, Bool, true, false, not, ◌&&◌, List, [], ◌∷◌, ◌++◌, length, drop, map, Option, Some, None, is_none, bytes_eq, codes, if◌then◌else◌, ⊤}
+use Rattle.std.specs.String.{string_bytes}
+use Rattle.vrl_value.specs.Tree.{Tree, IsOrdered}
+use Rattle.vrl_value.specs.declared.value.Tag.{Tag}
+use Rattle.vrl_path.specs.declared.path.Step.{Step}
+use Rattle.vrl_diag.specs.declared.diagnostic.Span.{Span}
+use Rattle.vrl_syntax.specs.Calls.{literal_of, path_of}
+use Rattle.vrl_syntax.specs.ErrorAssignments.{behind, behind_all, behind_arms, first_tag, in_form, other_tags}
+use Rattle.vrl_syntax.specs.Tree.{Expr, expr, Form, literal, array, object, read, query, group, block, conditional, negation, binary, assign, merge, both, call, return_of, abort_with, Exprs, no_exprs, exprs, Pairs, no_pairs, pair, Arms, no_arms, arm, Else, no_else, else_block, Args, no_args, arg, Closure, Message, no_message, message}
+use Rattle.vrl_syntax.specs.declared.root.Op.{Op}
+use Rattle.vrl_syntax.specs.declared.root.Root.{Root}
+use Rattle.vrl_syntax.specs.declared.root.Target.{Target}
+use Rattle.vrl_syntax.specs.declared.root.Target.TheVariants as target
+use Rattle.vrl_builtin.specs.Rows.{ParameterRow}
+use Rattle.vrl_table.specs.declared.function.Fun.{Fun}
+use Rattle.vrl_resolve.specs.Calls as called
+use Rattle.vrl_resolve.specs.Calls.{callee_of}
+use Rattle.vrl_resolve.specs.Fits.{IsKnown}
+use Rattle.vrl_resolve.specs.Linked as linked
+use Rattle.vrl_resolve.specs.Linked.{Linked, Parts}
+use Rattle.vrl_resolve.specs.LinkedMeaning.{callee_in}
+use Rattle.vrl_resolve.specs.StoreView.{root_of, Names}
+use Rattle.vrl_resolve.specs.declared.link.Linker.{Linker}
+use Rattle.vrl_resolve.specs.declared.node.Base.{Base}
+use Rattle.vrl_resolve.specs.declared.node.Callee.{Callee}
+use Rattle.vrl_resolve.specs.declared.node.Callee.TheVariants as callee
+use Rattle.vrl_resolve.specs.declared.node.Place.{Place}
+
+-- ---- places and callees
+
+-- the base stands for the root
+pub record IsBaseOf (names : Names) (root : Root) (base : Base) : Type 0 where
+  pub known : IsKnown (length names) base
+  pub same : root_of names base ≡ root
+
+pub record IsPlaceOf (names : Names) (root : Root) (path : List Step) (place : Place) : Type 0 where
+  pub begins : IsBaseOf names root place.base
+  pub steps : place.path ≡ path
+
+abbrev pub IsTargetOf : Names → Target → Option Place → Type 0
+IsTargetOf names target.Nowhere None = ⊤
+IsTargetOf names (target.Place span root path) (Some place) = IsPlaceOf names root path place
+IsTargetOf names t place = ⊥
+
+abbrev pub IsKnownCallee : ℕ → Callee → Type 0
+IsKnownCallee count (callee.Deletion place) = IsKnown count place.base
+IsKnownCallee count (callee.Existence place) = IsKnown count place.base
+IsKnownCallee count other = ⊤
+
+-- it is what the text of a call calls
+pub record IsCalleeOf (names : Names) (name : List ℕ) (gs : Args) (c : Closure) (d : Callee) : Type 0 where
+  pub known : IsKnownCallee (length names) d
+  pub same : callee_in names d ≡ callee_of name gs c
+
+-- ---- expressions
+
+-- the value of an item is asked for where it is the last one and the whole's is
+abbrev pub is_last : Exprs → Bool
+is_last no_exprs = true
+is_last (exprs e es) = false
+
+mutual
+  pub data IsLinked (names : Names) : List Tag → Bool → Expr → Linked → Type 0 where
+    stands : {tags : List Tag} {asked : Bool} {span : Span} {f : Form} {n : Linked}
+        → IsLinkedForm names tags asked f n
+        → IsLinked names tags asked (expr span f) n
+
+  pub data IsLinkedForm (names : Names) : List Tag → Bool → Form → Linked → Type 0 where
+    a_literal : {tags : List Tag} {asked : Bool} {v : Tree}
+        → IsOrdered v
+        → IsLinkedForm names tags asked (literal v) (linked.literal v)
+    an_array : {tags : List Tag} {asked : Bool} {es : Exprs} {ns : Parts}
+        → AreLinked names tags es ns
+        → IsLinkedForm names tags asked (array es) (linked.array ns)
+    an_object : {tags : List Tag} {asked : Bool} {ps : Pairs} {qs : linked.Pairs}
+        → ArePairsLinked names tags ps qs
+        → IsLinkedForm names tags asked (object ps) (linked.object qs)
+    a_read : {tags : List Tag} {asked : Bool} {root : Root} {path : List Step} {place : Place}
+        → IsPlaceOf names root path place
+        → IsLinkedForm names tags asked (read root path) (linked.read place)
+    a_query : {tags : List Tag} {asked : Bool} {e : Expr} {path : List Step} {n : Linked}
+        → IsLinked names tags true e n
+        → IsLinkedForm names tags asked (query e path) (linked.query n path)
+    a_group : {tags : List Tag} {asked : Bool} {e : Expr} {n : Linked}
+        → IsLinked names tags asked e n
+        → IsLinkedForm names tags asked (group e) n
+    a_block : {tags : List Tag} {asked : Bool} {es : Exprs} {ns : Parts}
+        → AreItemsLinked names tags asked es ns
+        → IsLinkedForm names tags asked (block es) (linked.block ns)
+    a_conditional : {tags : List Tag} {asked : Bool} {gs : Arms} {es : Else} {as_ : linked.Arms} {otherwise : linked.Else}
+        → AreArmsLinked names tags asked gs as_ → IsElseLinked names (behind_arms gs tags) asked es otherwise
+        → IsLinkedForm names tags asked (conditional gs es) (linked.conditional as_ otherwise)
+    a_negation : {tags : List Tag} {asked : Bool} {e : Expr} {n : Linked}
+        → IsLinked names tags true e n
+        → IsLinkedForm names tags asked (negation e) (linked.negation n)
+    a_binary : {tags : List Tag} {asked : Bool} {o : Op} {l r : Expr} {m n : Linked}
+        → IsLinked names tags true l m → IsLinked names (behind l tags) true r n
+        → IsLinkedForm names tags asked (binary o l r) (linked.binary o m n)
+    an_assignment : {tags : List Tag} {asked : Bool} {t : Target} {e : Expr} {place : Option Place} {n : Linked}
+        → IsTargetOf names t place → IsLinked names tags true e n
+        → IsLinkedForm names tags asked (assign t e) (linked.assign asked place n)
+    a_merge : {tags : List Tag} {asked : Bool} {t : Target} {e : Expr} {place : Option Place} {n : Linked}
+        → IsTargetOf names t place → IsLinked names tags true e n
+        → IsLinkedForm names tags asked (merge t e) (linked.merge asked place n)
+    an_error_assignment : {tags : List Tag} {asked : Bool} {t u : Target} {e : Expr} {ok err : Option Place} {n : Linked}
+        → IsTargetOf names t ok → IsTargetOf names u err → IsLinked names (other_tags tags) true e n
+        → IsLinkedForm names tags asked (both t u e) (linked.both asked ok err (first_tag tags) n)
+    a_call : {tags : List Tag} {asked : Bool} {name : List ℕ} {span : Span} {bang : Bool} {gs : Args} {c : Closure} {d : Callee} {ns : Parts}
+        → IsCalleeOf names name gs c d → AreArgsLinked names tags gs ns
+        → IsLinkedForm names tags asked (call name span bang gs c) (linked.call d bang ns)
+    a_return : {tags : List Tag} {asked : Bool} {e : Expr} {n : Linked}
+        → IsLinked names tags true e n
+        → IsLinkedForm names tags asked (return_of e) (linked.return_of n)
+    a_bare_abort : {tags : List Tag} {asked : Bool}
+        → IsLinkedForm names tags asked (abort_with no_message) (linked.abort_with linked.no_message)
+    an_abort : {tags : List Tag} {asked : Bool} {e : Expr} {n : Linked}
+        → IsLinked names tags true e n
+        → IsLinkedForm names tags asked (abort_with (message e)) (linked.abort_with (linked.message n))
+
+  -- parts whose values are all asked for
+  pub data AreLinked (names : Names) : List Tag → Exprs → Parts → Type 0 where
+    none_linked : {tags : List Tag} → AreLinked names tags no_exprs linked.no_parts
+    one_linked : {tags : List Tag} {e : Expr} {es : Exprs} {n : Linked} {ns : Parts}
+        → IsLinked names tags true e n → AreLinked names (behind e tags) es ns
+        → AreLinked names tags (exprs e es) (linked.parts n ns)
+
+  pub data AreItemsLinked (names : Names) : List Tag → Bool → Exprs → Parts → Type 0 where
+    no_item : {tags : List Tag} {asked : Bool} → AreItemsLinked names tags asked no_exprs linked.no_parts
+    one_item : {tags : List Tag} {asked : Bool} {e : Expr} {es : Exprs} {n : Linked} {ns : Parts}
+        → IsLinked names tags (asked && is_last es) e n → AreItemsLinked names (behind e tags) asked es ns
+        → AreItemsLinked names tags asked (exprs e es) (linked.parts n ns)
+
+  pub data ArePairsLinked (names : Names) : List Tag → Pairs → linked.Pairs → Type 0 where
+    no_pair : {tags : List Tag} → ArePairsLinked names tags no_pairs linked.no_pairs
+    one_pair : {tags : List Tag} {key : List ℕ} {e : Expr} {ps : Pairs} {n : Linked} {qs : linked.Pairs}
+        → IsLinked names tags true e n → ArePairsLinked names (behind e tags) ps qs
+        → ArePairsLinked names tags (pair key e ps) (linked.pair key n qs)
+
+  pub data AreArmsLinked (names : Names) : List Tag → Bool → Arms → linked.Arms → Type 0 where
+    no_arm : {tags : List Tag} {asked : Bool} → AreArmsLinked names tags asked no_arms linked.no_arms
+    one_arm : {tags : List Tag} {asked : Bool} {predicate : Expr} {es : Exprs} {gs : Arms} {n : Linked} {ns : Parts} {as_ : linked.Arms}
+        → IsLinked names tags true predicate n → AreItemsLinked names (behind predicate tags) asked es ns → AreArmsLinked names (behind_all es (behind predicate tags)) asked gs as_
+        → AreArmsLinked names tags asked (arm predicate es gs) (linked.arm n ns as_)
+
+  pub data IsElseLinked (names : Names) : List Tag → Bool → Else → linked.Else → Type 0 where
+    no_last : {tags : List Tag} {asked : Bool} → IsElseLinked names tags asked no_else linked.no_else
+    a_last : {tags : List Tag} {asked : Bool} {es : Exprs} {ns : Parts}
+        → AreItemsLinked names tags asked es ns
+        → IsElseLinked names tags asked (else_block es) (linked.else_block ns)
+
+  pub data AreArgsLinked (names : Names) : List Tag → Args → Parts → Type 0 where
+    no_argument : {tags : List Tag} → AreArgsLinked names tags no_args linked.no_parts
+    one_argument : {tags : List Tag} {name : Option (List ℕ)} {span : Span} {e : Expr} {gs : Args} {n : Linked} {ns : Parts}
+        → IsLinked names tags true e n → AreArgsLinked names (behind e tags) gs ns
+        → AreArgsLinked names tags (arg name span e gs) (linked.parts n ns)
+
+-- ---- what the calls of a linker say of it
+
+-- the names that it knows, in the order of their numbers
+abbrev pub names_in : Linker → Names
+names_in l = map string_bytes l.names.keys
+
+-- the names that there were come first
+abbrev pub IsBeginning : Names → Names → Type 0
+IsBeginning names known = (more : Names) × (known ≡ names ++ more)
+
+-- it knows more names, and has so many tags less; and so it is of the names in the end, and of the tags that it had
+pub record Links (before after : Linker) (count : ℕ) (So : Names → List Tag → Type 0) : Type 0 where
+  pub grows : IsBeginning (names_in before) (names_in after)
+  pub behind : after.tags.now ≡ drop count before.tags.now
+  pub so : (names : Names) → IsBeginning (names_in after) names → So names before.tags.now
+
+-- the same where it takes no tags
+pub record Numbers (before after : Linker) (So : Names → Type 0) : Type 0 where
+  pub grows : IsBeginning (names_in before) (names_in after)
+  pub tags : after.tags.now ≡ before.tags.now
+  pub so : (names : Names) → IsBeginning (names_in after) names → So names
+
+-- a form is linked, whether or not its value is asked for
+abbrev pub LinksForm : Linker → Linker → Bool → Form → Linked → Type 0
+LinksForm before after asked f n = Links before after (in_form f) (λ names tags. IsLinkedForm names tags asked f n)
+
+abbrev pub LinksAny : Linker → Linker → Form → Linked → Type 0
+LinksAny before after f n = Links before after (in_form f) (λ names tags. (asked : Bool) → IsLinkedForm names tags asked f n)
+
+-- what a call in memory calls
+abbrev pub IsCalleeIn : Names → Form → Callee → Type 0
+IsCalleeIn names (call name span bang gs c) d = IsCalleeOf names name gs c d
+IsCalleeIn names f d = ⊥
+
+-- ---- the arguments of a call
+
+-- the one argument of `del` and `exists`, where it is a path or a name
+abbrev pub is_value_keyword : Option (List ℕ) → Bool
+is_value_keyword None = true
+is_value_keyword (Some keyword) = bytes_eq keyword (codes "value")
+
+abbrev pub path_argument : Args → Option (Root × List Step)
+path_argument (arg name span e no_args) = if is_value_keyword name then path_of e else None
+path_argument gs = None
+
+abbrev pub path_called : (Root → List Step → called.Callee) → Option (Root × List Step) → called.Callee
+path_called make None = called.nothing_called
+path_called make (Some p) = make p.0 p.1
+
+-- what `del` and `exists` call
+pub record IsPathCallee (names : Names) (make : Root → List Step → called.Callee) (gs : Args) (d : Callee) : Type 0 where
+  pub known : IsKnownCallee (length names) d
+  pub same : callee_in names d ≡ path_called make (path_argument gs)
+
+-- what a name with arguments calls, of the functions of the table
+pub record IsFunctionCallee (function : Option Fun) (gs : Args) (d : Callee) : Type 0 where
+  pub known : (count : ℕ) → IsKnownCallee count d
+  pub same : (names : Names) → callee_in names d ≡ called.named_function function gs
+
+-- the literal that an argument is written as
+abbrev pub written_literal : Option Expr → Option Tree
+written_literal None = None
+written_literal (Some e) = literal_of e
+
+-- an argument is there and is no literal
+abbrev pub is_no_literal : Option Expr → Bool
+is_no_literal None = false
+is_no_literal (Some e) = is_none (literal_of e)
+
+-- each parameter that wants a literal, and has an argument, has some literal
+abbrev pub have_literals : List ParameterRow → List (Option Expr) → Bool
+have_literals [] es = true
+have_literals (p ∷ ps) [] = true
+have_literals (p ∷ ps) (e ∷ es) = not (p.literal && is_no_literal e) && have_literals ps es
+
+-- a function with arguments at these places
+pub record IsWrittenCallee (function : Fun) (gs : Args) (places : List (Option ℕ)) (d : Callee) : Type 0 where
+  pub known : (count : ℕ) → IsKnownCallee count d
+  pub same : (names : Names) → callee_in names d ≡ called.written_function function (called.values_of gs) places

@@ -1,0 +1,445 @@
+ghost use Rattle.std.specs.Prelude.{◌≡◌, ◌&&◌, [], true, map, option_map, IfOk, OnOk, ⊤};
+ghost use Rattle.vrl_syntax.specs.ErrorAssignments.{first_tag, in_args, in_arms, in_closure, in_else, in_expr, in_exprs, in_pairs, other_tags};
+ghost use Rattle.vrl_syntax.specs.Tree.{abort_with, array, assign, binary, block, both, conditional, literal, merge, negation, object, query, read, return_of};
+ghost use Rattle.vrl_syntax.specs.View.{args_of, arms_of, call_of, closure_in, closure_of, else_of, expr_of, exprs_of, exprs_view, message_of, pairs_of};
+ghost use Rattle.vrl_syntax.specs.declared.root.Root.TheVariants.{Name};
+ghost use Rattle.vrl_value.specs.View.{tree_of};
+ghost use Rattle.vrl_resolve.specs.Calls as called;
+ghost use Rattle.vrl_resolve.specs.Linked.{arms_view, linked_of, pairs_view, parts_view, else_of as linked_else, message_of as linked_message};
+ghost use Rattle.vrl_resolve.specs.Linking.{is_last, names_in, AreArgsLinked, AreArmsLinked, AreItemsLinked, AreLinked, ArePairsLinked, IsBaseOf, IsCalleeIn, IsElseLinked, IsLinked, IsLinkedForm, IsPathCallee, IsPlaceOf, IsTargetOf, Links, LinksAny, LinksForm, Numbers};
+ghost use Rattle.vrl_resolve.specs.StoreView.{AreDistinct};
+ghost use Rattle.vrl_resolve.specs.declared.node.Base.TheVariants as base;
+
+use crate::bound::{function_callee, path_of};
+use crate::node::{Arm, Base, Call, Callee, Form, Node, Place};
+use indexmap::IndexSet;
+use std::alloc::Global;
+use vrl_path::Path;
+use vrl_syntax::{
+    Args, Arms, Call as SyntaxCall, Closure, Expr, Exprs, Form as SyntaxForm, Op, Pairs, Root,
+    Target,
+};
+use vrl_value::{Chars, Memory, Names, Tag, Value};
+
+/// What makes nodes of expressions: the names of variables, each with a number, and the tags of the error assignments that are to come.
+#[derive(Drop)]
+pub(crate) struct Linker<'a> {
+    alloc: Global,
+    names: IndexSet<String>,
+    tags: &'a [Tag],
+}
+
+impl<'a> Linker<'a> {
+    /// One that knows no name yet.
+    pub(crate) fn new(alloc: Global, tags: &'a [Tag]) -> Linker<'a>
+        ensures names { names_in result ≡ [] }
+        ensures tags { result.tags.now ≡ tags.now }
+    {
+        Linker {
+            alloc,
+            names: IndexSet::new(alloc),
+            tags,
+        }
+    }
+}
+
+impl Linker<'_> {
+    /// The names of the variables, in the order of their numbers. `Memory`: want of memory.
+    pub(crate) fn into_names(self) -> Result<Names, Memory>
+        ensures names { IfOk result (λ names. names ≡ names_in self.entry) }
+        ensures distinct { OnOk result (AreDistinct (names_in self.entry)) }
+    {
+        let Linker {
+            alloc,
+            names,
+            tags: _,
+        } = self;
+        let mut texts = Vec::with_capacity(alloc, names.len())?;
+        for name in names {
+            texts.push(Chars::new(name))?;
+        }
+        Ok(Names::new(texts))
+    }
+
+    // The number of the variable of a name. `Memory`: want of memory.
+    fn number(&mut self, name: &str) -> Result<usize, Memory>
+        ensures { IfOk result (λ number. Numbers self.old self.new (λ names. IsBaseOf names (Name name.now) (base.Variable number))) }
+    {
+        if let Some(number) = self.names.get_index_of(name) {
+            return Ok(number);
+        }
+        let (number, _is_new) = self.names.insert_full(String::from_str(self.alloc, name)?)?;
+        Ok(number)
+    }
+
+    // The base of a root. `Memory`: want of memory.
+    fn base(&mut self, root: &Root) -> Result<Base, Memory>
+        ensures { IfOk result (λ base. Numbers self.old self.new (λ names. IsBaseOf names root.now base)) }
+    {
+        match root {
+            Root::Event => Ok(Base::Event),
+            Root::Name(name) => Ok(Base::Variable(self.number(name.as_str())?)),
+        }
+    }
+
+    // A path from a root. `Memory`: want of memory.
+    fn place(&mut self, root: &Root, path: &Path) -> Result<Place, Memory>
+        ensures { IfOk result (λ place. Numbers self.old self.new (λ names. IsPlaceOf names root.now path.now place)) }
+    {
+        let base = self.base(root)?;
+        Ok(Place {
+            base,
+            path: path.copy(self.alloc)?,
+        })
+    }
+
+    // Where a target writes. `Memory`: want of memory.
+    fn target(&mut self, target: &Target) -> Result<Option<Place>, Memory>
+        ensures { IfOk result (λ place. Numbers self.old self.new (λ names. IsTargetOf names target.now place)) }
+    {
+        match target {
+            Target::Nowhere => Ok(None),
+            Target::Place(_span, root, path) => Ok(Some(self.place(root, path)?)),
+        }
+    }
+
+    // The tag of the next error assignment; null where none is left.
+    fn tag(&mut self) -> Tag
+        ensures first { result ≡ first_tag self.old.tags.now }
+        ensures others { self.new.tags.now ≡ other_tags self.old.tags.now }
+        ensures names { self.new.names ≡ self.old.names }
+    {
+        match self.tags.split_first() {
+            Some((tag, others)) => {
+                self.tags = others;
+                *tag
+            }
+            None => Tag::Null,
+        }
+    }
+
+    /// The nodes of items, of which only the value of the last is asked for, and that only where the whole's is. `Memory`: want of memory.
+    #[cycle(link)]
+    pub(crate) fn items(&mut self, items: &Exprs, is_asked: bool) -> Result<Vec<Node>, Memory>
+        ensures { IfOk result (λ nodes. Links self.old self.new (in_exprs (exprs_of items.now))
+            (λ names tags. AreItemsLinked names tags is_asked (exprs_of items.now) (parts_view nodes.items))) }
+    {
+        let mut nodes = Vec::with_capacity(self.alloc, items.as_slice().len())?;
+        let mut left = items.as_slice();
+        while let Some((item, others)) = left.split_first() {
+            let node = self.node(item, is_asked_of_item(is_asked, others))?;
+            nodes.push(node)?;
+            left = others;
+        }
+        Ok(nodes)
+    }
+
+    // The node of an expression, whose value is asked for or isn't. `Memory`: want of memory.
+    #[cycle(link)]
+    fn node(&mut self, expr: &Expr, is_asked: bool) -> Result<Node, Memory>
+        ensures { IfOk result (λ node. Links self.old self.new (in_expr (expr_of expr.now))
+            (λ names tags. IsLinked names tags is_asked (expr_of expr.now) (linked_of node))) }
+    {
+        match &expr.form {
+            SyntaxForm::Literal(value) => self.literal(value),
+            SyntaxForm::Array(parts) => self.array(parts),
+            SyntaxForm::Map(pairs) => self.object(pairs),
+            SyntaxForm::Read(root, path) => self.read(root, path),
+            SyntaxForm::Query(part, path) => self.query(part, path),
+            SyntaxForm::Group(part) => self.node(part, is_asked),
+            SyntaxForm::Block(items) => self.block(items, is_asked),
+            SyntaxForm::If(arms, otherwise) => self.conditional(arms, otherwise, is_asked),
+            SyntaxForm::Not(part) => self.negation(part),
+            SyntaxForm::Binary(op, left, right) => self.binary(*op, left, right),
+            SyntaxForm::Assign(target, part) => self.assign(target, part, is_asked),
+            SyntaxForm::Merge(target, part) => self.merge(target, part, is_asked),
+            SyntaxForm::Both(ok, err, part) => self.both(ok, err, part, is_asked),
+            SyntaxForm::Call(call) => self.call(call),
+            SyntaxForm::Return(part) => self.give_back(part),
+            SyntaxForm::Abort(message) => self.abort(message),
+        }
+    }
+
+    // The node of a part whose value is asked for, in a box. `Memory`: want of memory.
+    #[cycle(link)]
+    fn boxed(&mut self, part: &Expr) -> Result<Box<Node>, Memory>
+        ensures { IfOk result (λ node. Links self.old self.new (in_expr (expr_of part.now))
+            (λ names tags. IsLinked names tags true (expr_of part.now) (linked_of node.value))) }
+    {
+        let node = self.node(part, true)?;
+        Ok(Box::new(self.alloc, node)?)
+    }
+
+    fn literal(&mut self, value: &Value) -> Result<Node, Memory>
+        ensures { IfOk result (λ node. LinksAny self.old self.new (literal (tree_of value.now)) (linked_of node)) }
+    {
+        let value = value.copy(self.alloc)?;
+        Ok(Node::of(Form::Literal(value)))
+    }
+
+    fn read(&mut self, root: &Root, path: &Path) -> Result<Node, Memory>
+        ensures { IfOk result (λ node. LinksAny self.old self.new (read root.now path.now) (linked_of node)) }
+    {
+        let place = self.place(root, path)?;
+        Ok(Node::of(Form::Read(place)))
+    }
+
+    #[cycle(link)]
+    fn array(&mut self, parts: &Exprs) -> Result<Node, Memory>
+        ensures { IfOk result (λ node. LinksAny self.old self.new (array (exprs_of parts.now)) (linked_of node)) }
+    {
+        let mut nodes = Vec::with_capacity(self.alloc, parts.as_slice().len())?;
+        for part in parts.as_slice() {
+            let node = self.node(part, true)?;
+            nodes.push(node)?;
+        }
+        Ok(Node::of(Form::Array(nodes)))
+    }
+
+    #[cycle(link)]
+    fn object(&mut self, pairs: &Pairs) -> Result<Node, Memory>
+        ensures { IfOk result (λ node. LinksAny self.old self.new (object (pairs_of pairs.now)) (linked_of node)) }
+    {
+        let mut nodes = Vec::with_capacity(self.alloc, pairs.as_slice().len())?;
+        for (name, part) in pairs.as_slice() {
+            let name = name.copy(self.alloc)?;
+            let node = self.node(part, true)?;
+            nodes.push((name, node))?;
+        }
+        Ok(Node::of(Form::Object(nodes)))
+    }
+
+    #[cycle(link)]
+    fn query(&mut self, part: &Expr, path: &Path) -> Result<Node, Memory>
+        ensures { IfOk result (λ node. LinksAny self.old self.new (query (expr_of part.now) path.now) (linked_of node)) }
+    {
+        let part = self.boxed(part)?;
+        let path = path.copy(self.alloc)?;
+        Ok(Node::of(Form::Query(part, path)))
+    }
+
+    #[cycle(link)]
+    fn block(&mut self, items: &Exprs, is_asked: bool) -> Result<Node, Memory>
+        ensures { IfOk result (λ node. LinksForm self.old self.new is_asked (block (exprs_of items.now)) (linked_of node)) }
+    {
+        let nodes = self.items(items, is_asked)?;
+        Ok(Node::of(Form::Block(nodes)))
+    }
+
+    #[cycle(link)]
+    fn conditional(
+        &mut self,
+        arms: &Arms,
+        otherwise: &Option<Exprs>,
+        is_asked: bool,
+    ) -> Result<Node, Memory>
+        ensures { IfOk result (λ node. LinksForm self.old self.new is_asked
+            (conditional (arms_of arms.now) (else_of (option_map exprs_of otherwise.now))) (linked_of node)) }
+    {
+        let arms = self.arms(arms, is_asked)?;
+        let otherwise = self.otherwise(otherwise, is_asked)?;
+        Ok(Node::of(Form::If(arms, otherwise)))
+    }
+
+    #[cycle(link)]
+    fn arms(&mut self, arms: &Arms, is_asked: bool) -> Result<Vec<Arm>, Memory>
+        ensures { IfOk result (λ linked. Links self.old self.new (in_arms (arms_of arms.now))
+            (λ names tags. AreArmsLinked names tags is_asked (arms_of arms.now) (arms_view linked.items))) }
+    {
+        let mut linked = Vec::with_capacity(self.alloc, arms.as_slice().len())?;
+        for arm in arms.as_slice() {
+            let predicate = self.node(&arm.predicate, true)?;
+            let body = self.items(&arm.body, is_asked)?;
+            linked.push(Arm { predicate, body })?;
+        }
+        Ok(linked)
+    }
+
+    // The items behind a last `else`.
+    #[cycle(link)]
+    fn otherwise(
+        &mut self,
+        otherwise: &Option<Exprs>,
+        is_asked: bool,
+    ) -> Result<Option<Vec<Node>>, Memory>
+        ensures { IfOk result (λ linked. Links self.old self.new (in_else (else_of (option_map exprs_of otherwise.now)))
+            (λ names tags. IsElseLinked names tags is_asked (else_of (option_map exprs_of otherwise.now))
+            (linked_else (option_map (λ nodes. map linked_of nodes.items) linked)))) }
+    {
+        match otherwise {
+            Some(items) => {
+                let nodes = self.items(items, is_asked)?;
+                Ok(Some(nodes))
+            }
+            None => Ok(None),
+        }
+    }
+
+    #[cycle(link)]
+    fn negation(&mut self, part: &Expr) -> Result<Node, Memory>
+        ensures { IfOk result (λ node. LinksAny self.old self.new (negation (expr_of part.now)) (linked_of node)) }
+    {
+        let part = self.boxed(part)?;
+        Ok(Node::of(Form::Not(part)))
+    }
+
+    #[cycle(link)]
+    fn binary(&mut self, op: Op, left: &Expr, right: &Expr) -> Result<Node, Memory>
+        ensures { IfOk result (λ node. LinksAny self.old self.new (binary op (expr_of left.now) (expr_of right.now)) (linked_of node)) }
+    {
+        let left = self.boxed(left)?;
+        let right = self.boxed(right)?;
+        Ok(Node::of(Form::Binary(op, left, right)))
+    }
+
+    #[cycle(link)]
+    fn assign(&mut self, target: &Target, part: &Expr, is_asked: bool) -> Result<Node, Memory>
+        ensures { IfOk result (λ node. LinksForm self.old self.new is_asked (assign target.now (expr_of part.now)) (linked_of node)) }
+    {
+        let part = self.boxed(part)?;
+        let target = self.target(target)?;
+        if is_asked {
+            Ok(Node::of(Form::Assign(target, part)))
+        } else {
+            Ok(Node::of(Form::Write(target, part)))
+        }
+    }
+
+    #[cycle(link)]
+    fn merge(&mut self, target: &Target, part: &Expr, is_asked: bool) -> Result<Node, Memory>
+        ensures { IfOk result (λ node. LinksForm self.old self.new is_asked (merge target.now (expr_of part.now)) (linked_of node)) }
+    {
+        let part = self.boxed(part)?;
+        let target = self.target(target)?;
+        if is_asked {
+            Ok(Node::of(Form::Merge(target, part)))
+        } else {
+            Ok(Node::of(Form::WriteMerged(target, part)))
+        }
+    }
+
+    #[cycle(link)]
+    fn both(
+        &mut self,
+        ok: &Target,
+        err: &Target,
+        part: &Expr,
+        is_asked: bool,
+    ) -> Result<Node, Memory>
+        ensures { IfOk result (λ node. LinksForm self.old self.new is_asked (both ok.now err.now (expr_of part.now)) (linked_of node)) }
+    {
+        let tag = self.tag();
+        let part = self.boxed(part)?;
+        let ok = self.target(ok)?;
+        let err = self.target(err)?;
+        if is_asked {
+            Ok(Node::of(Form::Both(ok, err, tag, part)))
+        } else {
+            Ok(Node::of(Form::WriteBoth(ok, err, tag, part)))
+        }
+    }
+
+    #[cycle(link)]
+    fn give_back(&mut self, part: &Expr) -> Result<Node, Memory>
+        ensures { IfOk result (λ node. LinksAny self.old self.new (return_of (expr_of part.now)) (linked_of node)) }
+    {
+        let part = self.boxed(part)?;
+        Ok(Node::of(Form::Return(part)))
+    }
+
+    #[cycle(link)]
+    fn abort(&mut self, message: &Option<Box<Expr>>) -> Result<Node, Memory>
+        ensures { IfOk result (λ node. LinksAny self.old self.new (abort_with (message_of (option_map (λ part. expr_of part.value) message.now))) (linked_of node)) }
+    {
+        match message {
+            Some(part) => {
+                let part = self.boxed(part)?;
+                Ok(Node::of(Form::Abort(Some(part))))
+            }
+            None => Ok(Node::of(Form::Abort(None))),
+        }
+    }
+
+    #[cycle(link)]
+    fn call(&mut self, call: &SyntaxCall) -> Result<Node, Memory>
+        ensures { IfOk result (λ node. LinksAny self.old self.new (call_of call.now) (linked_of node)) }
+    {
+        let callee = self.callee(call)?;
+        let args = self.args(&call.args)?;
+        self.pass_over(&call.closure)?;
+        let linked = Call {
+            callee,
+            bang: call.bang,
+            args,
+        };
+        Ok(Node::of(Form::Call(Box::new(self.alloc, linked)?)))
+    }
+
+    // Passes over a closure, which isn't run yet, and over the tags of the error assignments in it. `Memory`: want of memory.
+    #[cycle(link)]
+    fn pass_over(&mut self, closure: &Option<Closure>) -> Result<(), Memory>
+        ensures { OnOk result (Links self.old self.new (in_closure (closure_in (option_map closure_of closure.now))) (λ names tags. ⊤)) }
+    {
+        match closure {
+            Some(closure) => {
+                drop(self.items(&closure.body, false)?);
+                Ok(())
+            }
+            None => Ok(()),
+        }
+    }
+
+    #[cycle(link)]
+    fn args(&mut self, args: &Args) -> Result<Vec<Node>, Memory>
+        ensures { IfOk result (λ nodes. Links self.old self.new (in_args (args_of args.now))
+            (λ names tags. AreArgsLinked names tags (args_of args.now) (parts_view nodes.items))) }
+    {
+        let mut nodes = Vec::with_capacity(self.alloc, args.as_slice().len())?;
+        for arg in args.as_slice() {
+            let node = self.node(&arg.value, true)?;
+            nodes.push(node)?;
+        }
+        Ok(nodes)
+    }
+
+    // What a call calls. `Memory`: want of memory.
+    fn callee(&mut self, call: &SyntaxCall) -> Result<Callee, Memory>
+        ensures { IfOk result (λ callee. Numbers self.old self.new (λ names. IsCalleeIn names (call_of call.now) callee)) }
+    {
+        if call.closure.is_some() {
+            return Ok(Callee::Nothing);
+        }
+        match call.name.as_str() {
+            "del" => self.deletion(&call.args),
+            "exists" => self.existence(&call.args),
+            name => function_callee(self.alloc, name, &call.args),
+        }
+    }
+
+    // What `del` deletes. `Memory`: want of memory.
+    fn deletion(&mut self, args: &Args) -> Result<Callee, Memory>
+        ensures { IfOk result (λ callee. Numbers self.old self.new (λ names. IsPathCallee names called.deletion (args_of args.now) callee)) }
+    {
+        match path_of(args) {
+            Some((root, path)) => Ok(Callee::Deletion(self.place(root, path)?)),
+            None => Ok(Callee::Nothing),
+        }
+    }
+
+    // What `exists` looks at. `Memory`: want of memory.
+    fn existence(&mut self, args: &Args) -> Result<Callee, Memory>
+        ensures { IfOk result (λ callee. Numbers self.old self.new (λ names. IsPathCallee names called.existence (args_of args.now) callee)) }
+    {
+        match path_of(args) {
+            Some((root, path)) => Ok(Callee::Existence(self.place(root, path)?)),
+            None => Ok(Callee::Nothing),
+        }
+    }
+}
+
+// Whether the value of an item is asked for, where that of all is, before others.
+fn is_asked_of_item(is_asked: bool, others: &[Expr]) -> bool
+    ensures { result ≡ (is_asked && is_last (exprs_view others.now)) }
+{
+    is_asked && others.is_empty()
+}

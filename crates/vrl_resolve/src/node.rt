@@ -1,0 +1,126 @@
+ghost use Rattle.std.specs.Prelude.{◌≡◌};
+ghost use Rattle.vrl_resolve.specs.Linked.{form_of, linked_of};
+
+use vrl_path::Path;
+use vrl_syntax::Op;
+use vrl_table::Fun;
+use vrl_value::{Chars, Tag, Value};
+
+/// Where a path begins: the event, or the variable with this number.
+#[derive(Clone, Copy)]
+pub(crate) enum Base {
+    /// The event.
+    Event,
+    /// A variable.
+    Variable(usize),
+}
+
+/// A path from the event or from a variable.
+#[derive(Drop)]
+pub(crate) struct Place {
+    /// Where it begins.
+    pub(crate) base: Base,
+    /// The steps from there.
+    pub(crate) path: Path,
+}
+
+/// What a call calls.
+#[derive(Drop)]
+pub(crate) enum Callee {
+    /// A function, and for each of its parameters the place of its argument, where it has one.
+    Function(Fun, Vec<Option<usize>>),
+    /// `del` of what stands at a place.
+    Deletion(Place),
+    /// `exists` of what stands at a place.
+    Existence(Place),
+    /// Nothing: no function has the name, or takes these arguments.
+    Nothing,
+}
+
+/// An expression that is ready to be run: variables are numbers, calls are looked up and bound, error assignments have the tags of their
+/// empty values, and parentheses are gone.
+#[cycle(node)]
+pub(crate) struct Node {
+    pub(crate) form: Form,
+}
+
+impl Node {
+    /// The node of a form.
+    pub(crate) fn of(form: Form) -> Node
+        ensures { linked_of result ≡ form_of form }
+    {
+        Node { form }
+    }
+}
+
+// Written out, so that a node is let go by one call.
+impl Drop for Node {
+    #[cycle(let_go)]
+    fn drop(self) {
+        let Node { form: _ } = self;
+    }
+}
+
+/// The forms of a node. Three forms write a value that nobody asks for: they give null in its place, and copy nothing.
+#[cycle(node)]
+#[derive(Drop)]
+pub(crate) enum Form {
+    /// A literal.
+    Literal(Value),
+    /// An array of these parts.
+    Array(Vec<Node>),
+    /// An object with these keys and values; of equal keys the last wins.
+    Object(Vec<(Chars, Node)>),
+    /// What stands at a place.
+    Read(Place),
+    /// What stands at a path of a value.
+    Query(Box<Node>, Path),
+    /// Items, whose variables end with them.
+    Block(Vec<Node>),
+    /// The block of the first true predicate, or the last block.
+    If(Vec<Arm>, Option<Vec<Node>>),
+    /// `!`.
+    Not(Box<Node>),
+    /// An operator between two sides.
+    Binary(Op, Box<Node>, Box<Node>),
+    /// A value is written, where the target takes one, and is the value of the whole.
+    Assign(Option<Place>, Box<Node>),
+    /// A value is written, and nobody asks for it.
+    Write(Option<Place>, Box<Node>),
+    /// The fields of a value are put over those at a target.
+    Merge(Option<Place>, Box<Node>),
+    /// The same, where nobody asks for the value.
+    WriteMerged(Option<Place>, Box<Node>),
+    /// An error assignment with the tag of its empty value.
+    Both(Option<Place>, Option<Place>, Tag, Box<Node>),
+    /// The same, where nobody asks for the value.
+    WriteBoth(Option<Place>, Option<Place>, Tag, Box<Node>),
+    /// A call.
+    Call(Box<Call>),
+    /// `return`.
+    Return(Box<Node>),
+    /// `abort`, with its message where there is one.
+    Abort(Option<Box<Node>>),
+}
+
+/// A call of a function.
+#[cycle(node)]
+#[derive(Drop)]
+pub(crate) struct Call {
+    /// What is called.
+    pub(crate) callee: Callee,
+    /// It is written with `!`, so an error ends the program.
+    pub(crate) bang: bool,
+    /// Its arguments, as they are written.
+    pub(crate) args: Vec<Node>,
+}
+
+/// A predicate of an `if` and the items behind it.
+#[cycle(node)]
+#[derive(Drop)]
+pub(crate) struct Arm {
+    /// The predicate.
+    pub(crate) predicate: Node,
+    /// The items of the block.
+    pub(crate) body: Vec<Node>,
+}
