@@ -1,0 +1,2 @@
+pub mod LineResult
+pub mod Ran

@@ -1,0 +1,22 @@
+-- What a run in memory left.
+use Rattle.std.specs.Prelude.{◌≡◌, ℕ, List, length}
+use Rattle.std.specs.List.{flat_map}
+use Rattle.vrl_value.specs.Tree.{Tree}
+use Rattle.vrl_value.specs.View.{tree_of}
+use Rattle.vrl_resolve.specs.Meaning.{End, ended, ended_aborted, ended_banged, ended_deep}
+use Rattle.vrl_resolve.specs.declared.ran.Ended.{Ended}
+use Rattle.vrl_resolve.specs.declared.ran.Ended.TheVariants as code
+use Rattle.vrl_run.specs.LineResult.{event_line}
+use Rattle.vrl_run.specs.declared.kept.Kept.{Kept}
+
+-- how it ended
+abbrev pub end_in : Ended → End
+end_in (code.Value v) = ended (tree_of v)
+end_in (code.Aborted message) = ended_aborted message
+end_in (code.Banged text) = ended_banged text
+end_in code.Deep = ended_deep
+
+-- the lines of events, and their number
+pub record AreLinesOf (sources : List (List ℕ)) (events : List Tree) (kept : Kept) : Type 0 where
+  pub lines : kept.lines ≡ flat_map (event_line sources) events
+  pub count : kept.count ≡ length events
