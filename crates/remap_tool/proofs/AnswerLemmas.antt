@@ -1,17 +1,17 @@
 -- How the parts of an answer make the whole of it.
-use Rattle.std.proofs.Common.{◌≡◌, ◌≤◌, ◌+◌, ℕ, Bool, true, false, if◌then◌else◌, List, [], ◌∷◌, ◌++◌, map, Option, Some, None, Result, Ok, Err, IfSome, IfOk, unwrap_or, ◌⊎◌, inl, inr, refl, arith, sym, ap, ◌∙◌, subst}
+use Rattle.std.proofs.Common.{◌≡◌, ◌≤◌, ◌+◌, ℕ, ℤ, pos, Bool, true, false, if◌then◌else◌, List, [], ◌∷◌, ◌++◌, Option, Some, None, Result, Ok, Err, IfSome, IfOk, unwrap_or, ◌⊎◌, inl, inr, refl, arith, sym, ap, ◌∙◌, subst}
 use Rattle.vrl_compile.specs.Answer.{IsAnswer}
 use Rattle.vrl_token.specs.Reading.{IsNoScript}
-use Rattle.vrl_syntax.specs.Tree.{Exprs}
+use Rattle.vrl_batch.specs.declared.work.LineOut.{LineOut}
+use Rattle.vrl_resolve.specs.Program.{ProgramTree}
 use Rattle.vrl_diag.specs.declared.diagnostic.Diagnostic.{Diagnostic}
 use Rattle.vrl_compile.specs.declared.script.Compiled.{Compiled}
 use Rattle.vrl_compile.specs.declared.script.Compiled.TheVariants as compiled
 use Rattle.vrl_value.specs.declared.memory.Memory.{Memory as WantOfMemory}
-use Rattle.remap_tool.specs.Answer.{answer_to, run_of, line_result, LineResult}
-use Rattle.remap_tool.specs.Lines.{event_lines}
+use Rattle.remap_tool.specs.Answer.{Answer, answer_to, line_results, run_of}
 use Rattle.vrl_diag.specs.Rendering.{diagnostic_lines}
 use Rattle.remap_tool.specs.Request.{Held, Asks, AsksByScript, IsRunOf, IsScriptAnswer, IsRefused, IsAccepted, IsLoaded, IsScriptAccepted, Request, event_kind, has_error, bad_words, bad_script, run}
-use Rattle.remap_tool.specs.Results.{IsRun, answer_of}
+use Rattle.remap_tool.specs.Results.{IsRun, IsRunOver, answer_of}
 use Rattle.remap_tool.specs.Devices.{Devices, IsAsked, IsAtMostFront, IsLoadFailed, IsWhole, IsWithinLimit, LeavesDevices}
 use Rattle.remap_tool.specs.Gathered.{input_limit}
 use Rattle.remap_tool.specs.Status.{IsOfLines, IsUnread, IsAnswer as IsAnswerStatus, meaning_of}
@@ -23,53 +23,69 @@ use Rattle.remap_tool.specs.declared.status.Status.TheVariants.{Done, Refused, U
 -- what compiling answers for a text is what it answers for its bytes
 pub script_answer : (text : List ℕ) (r : Result Compiled WantOfMemory) → ¬ IsNoScript text → IfOk r (IsAnswer event_kind text) → IfOk r (IsScriptAnswer text)
 script_answer text (Err e) is_text is = is
-script_answer text (Ok (compiled.Accepted accepted)) is_text is =
-    record { is_text = is_text; script = _; items_are = refl; judgement = is.judgement; accepted = is.accepted; ordered = is.judged.diagnostics }
+script_answer text (Ok (compiled.Accepted accepted)) is_text is = (
+  record { is_text = is_text; script = is.script; judgement = is.judgement; accepted = is.accepted; program_is = is.program; ordered = is.judged.diagnostics },
+  is.sources ∙ ap (λ p. p.sources) (sym is.program),
+)
 script_answer text (Ok (compiled.Refused diagnostics)) is_text is = has_error is_text is
 
--- what a source that tells nothing may have held
+-- what a source that tells nothing may have held, and a clock
 pub some_input : (left : Option (List ℕ)) → IfSome left (λ bytes. bytes ≡ unwrap_or left [])
 some_input None = tt
 some_input (Some bytes) = refl
 
+abbrev pub moments_of : Option (ℕ → ℤ) → ℕ → ℤ
+moments_of ahead = unwrap_or ahead (λ i. pos 0)
+
+pub some_moments : (ahead : Option (ℕ → ℤ)) → IfSome ahead (λ told. (i : ℕ) → told i ≡ moments_of ahead i)
+some_moments None = tt
+some_moments (Some told) = λ i. refl
+
 -- joined results are the answer to a run
-pub answer_of-run : (warnings : List ℕ) (r : Results) (results : List LineResult) → IsRun warnings r results → answer_of r ≡ run_of warnings results
+pub answer_of-run : (warnings : List ℕ) (r : Results) (results : List LineOut) → IsRun warnings r results → answer_of r ≡ run_of warnings results
 answer_of-run warnings r results is = rw (is.marked, is.output, is.report) refl
 
-abbrev pub asked_run : (text : List ℕ) (items : Exprs) (diagnostics : List Diagnostic) (warnings : List ℕ) (left : Option (List ℕ)) (input : List ℕ) (r : Results) → warnings ≡ diagnostic_lines text diagnostics → IfSome left (λ bytes. bytes ≡ input) → IsRun warnings r (map (line_result items) (event_lines input)) → IsAsked (IsRunOf text items diagnostics) left (answer_of r)
-asked_run text items diagnostics warnings left input r told is_left is = record {
-  request = run text items diagnostics;
+abbrev pub asked_run : (text : List ℕ) (program : ProgramTree) (diagnostics : List Diagnostic) (warnings : List ℕ) (before : Devices) (input : List ℕ) (r : Results) → warnings ≡ diagnostic_lines text diagnostics → IfSome before.left (λ bytes. bytes ≡ input) → IsRunOver program warnings input before.ahead r
+    → IsAsked (IsRunOf text program diagnostics) before (answer_of r)
+asked_run text program diagnostics warnings before input r told is_left is = record {
+  request = run text program diagnostics;
   asked = refl;
   input = input;
   is_left = is_left;
-  answered = answer_of-run warnings r _ is ∙ ap (λ w. run_of w (map (line_result items) (event_lines input))) told;
+  moments = is.moments;
+  are_ahead = is.are_ahead;
+  answered = answer_of-run warnings r _ is.is_run ∙ ap (λ w. run_of w (line_results program is.moments input)) told;
+}
+
+-- what is asked by one question is asked by another that has each of its requests
+abbrev is_asked-by : (asks asks_too : Request → Type 0) (before : Devices) (answer : Answer) → ((request : Request) → asks request → asks_too request) → IsAsked asks before answer → IsAsked asks_too before answer
+is_asked-by asks asks_too before answer has asked = record {
+  request = asked.request;
+  asked = has asked.request asked.asked;
+  input = asked.input;
+  is_left = asked.is_left;
+  moments = asked.moments;
+  are_ahead = asked.are_ahead;
+  answered = asked.answered;
 }
 
 -- what is whole for one question is so for another that has each of its requests
 pub is_whole-by : (asks asks_too : Request → Type 0) (status : Status) (before after : Devices) → ((request : Request) → asks request → asks_too request) → IsWhole asks status before after → IsWhole asks_too status before after
-is_whole-by asks asks_too status before after has whole =
-    let asked = whole.asked in
-    record {
-      answer = whole.answer;
-      asked = record { request = asked.request; asked = has asked.request asked.asked; input = asked.input; is_left = asked.is_left; answered = asked.answered };
-      status_is = whole.status_is;
-      output = whole.output;
-      report = whole.report;
-      taken_is = whole.taken_is;
-      clock_is = whole.clock_is;
-    }
+is_whole-by asks asks_too status before after has whole = record {
+  answer = whole.answer;
+  asked = is_asked-by asks asks_too before whole.answer has whole.asked;
+  status_is = whole.status_is;
+  output = whole.output;
+  report = whole.report;
+  taken_is = whole.taken_is;
+  clock_is = whole.clock_is;
+}
 
 -- and so is a front
 pub is_front-by : (asks asks_too : Request → Type 0) (before after : Devices) → ((request : Request) → asks request → asks_too request) → IsAtMostFront asks before after → IsAtMostFront asks_too before after
 is_front-by asks asks_too before after has (inl nothing) = inl nothing
 is_front-by asks asks_too before after has (inr front) =
-    let asked = front.asked in
-    inr (record {
-      answer = front.answer;
-      asked = record { request = asked.request; asked = has asked.request asked.asked; input = asked.input; is_left = asked.is_left; answered = asked.answered };
-      output = front.output;
-      report = front.report;
-    })
+    inr (record { answer = front.answer; asked = is_asked-by asks asks_too before front.answer has front.asked; output = front.output; report = front.report })
 
 -- and so is all that a call leaves
 pub leaves-by : (asks asks_too : Request → Type 0) (status : Status) (before after : Devices) → ((request : Request) → asks request → asks_too request) → LeavesDevices asks status before after → LeavesDevices asks_too status before after
@@ -104,8 +120,8 @@ lines_not_long Marked (inl lines) = refl
 lines_not_long TooMuch (inl lines) = absurd lines
 
 -- a run that was accepted is what its text asks
-pub asks_run : (text : List ℕ) (items : Exprs) (warnings : List Diagnostic) → IsAccepted text items warnings → (request : Request) → IsRunOf text items warnings request → AsksByScript text request
-asks_run text items warnings accepted request is = subst (AsksByScript text) (sym is) (refl, accepted)
+pub asks_run : (text : List ℕ) (program : ProgramTree) (warnings : List Diagnostic) → IsAccepted text program warnings → (request : Request) → IsRunOf text program warnings request → AsksByScript text request
+asks_run text program warnings accepted request is = subst (AsksByScript text) (sym is) (refl, accepted)
 
 -- and what a text asks that was loaded is what its name asks
 pub asks_named : (held : Held) (command : Command) (name text : List ℕ) → command ≡ script name → IsLoaded held name text → (request : Request) → AsksByScript text request → Asks held command request
@@ -113,16 +129,28 @@ asks_named held command name text is loaded request asks = subst (λ c. Asks hel
 
 -- the text that was loaded from a name is accepted, or something else holds
 pub accepted_named : {other : Type 0} (held : Held) (command : Command) (name text : List ℕ) → command ≡ script name → IsLoaded held name text
-    → other ⊎ ((items : Exprs) × (warnings : List Diagnostic) × IsAccepted text items warnings) → other ⊎ IsScriptAccepted held command
+    → other ⊎ ((program : ProgramTree) × (warnings : List Diagnostic) × IsAccepted text program warnings) → other ⊎ IsScriptAccepted held command
 accepted_named held command name text is loaded (inl first) = inl first
 accepted_named held command name text is loaded (inr accepted) =
     inr (text, accepted.0, accepted.1, asks_named held command name text is loaded (run text accepted.0 accepted.1) (refl, accepted.2))
 
-pub asked_script : (text : List ℕ) (diagnostics : List Diagnostic) (left : Option (List ℕ)) → IsRefused text diagnostics → IsAsked (AsksByScript text) left (answer_to (bad_script text diagnostics) [])
-asked_script text diagnostics left refused = record { request = bad_script text diagnostics; asked = (refl, refused); input = unwrap_or left []; is_left = some_input left; answered = refl }
+-- a request that neither the input nor the clock has a part in
+abbrev pub asked_alone : (asks : Request → Type 0) (request : Request) (before : Devices) → asks request → IsAsked asks before (answer_to request (unwrap_or before.left []) (moments_of before.ahead))
+asked_alone asks request before asked = record {
+  request = request;
+  asked = asked;
+  input = unwrap_or before.left [];
+  is_left = some_input before.left;
+  moments = moments_of before.ahead;
+  are_ahead = some_moments before.ahead;
+  answered = refl;
+}
 
-pub asked_words : (held : Held) (command : Command) (left : Option (List ℕ)) → command ≡ usage → IsAsked (Asks held command) left (answer_to bad_words [])
-asked_words held command left is = record { request = bad_words; asked = subst (λ c. Asks held c bad_words) (sym is) refl; input = unwrap_or left []; is_left = some_input left; answered = refl }
+pub asked_script : (text : List ℕ) (diagnostics : List Diagnostic) (before : Devices) → IsRefused text diagnostics → IsAsked (AsksByScript text) before (answer_to (bad_script text diagnostics) [] (λ i. pos 0))
+asked_script text diagnostics before refused = asked_alone (AsksByScript text) (bad_script text diagnostics) before (refl, refused)
+
+pub asked_words : (held : Held) (command : Command) (before : Devices) → command ≡ usage → IsAsked (Asks held command) before (answer_to bad_words [] (λ i. pos 0))
+asked_words held command before is = asked_alone (Asks held command) bad_words before (subst (λ c. Asks held c bad_words) (sym is) refl)
 
 -- a refusal that is an answer is the status of the refusal
 pub refused_only : (s : Status) → (s ≡ Refused) ⊎ (s ≡ WriteFault) ⊎ (s ≡ Memory) → IsAnswerStatus s → s ≡ Refused
@@ -162,11 +190,11 @@ unread_answers Marked unread = absurd unread
 unread_answers TooMuch unread = absurd unread
 
 -- no answer to a run says that the words or the script were refused
-pub run_is_read : (text : List ℕ) (items : Exprs) (warnings : List Diagnostic) (status : Status) (before after : Devices) → (IsAnswerStatus status → IsWhole (IsRunOf text items warnings) status before after) → ¬ IsUnread status
+pub run_is_read : (text : List ℕ) (program : ProgramTree) (warnings : List Diagnostic) (status : Status) (before after : Devices) → (IsAnswerStatus status → IsWhole (IsRunOf text program warnings) status before after) → ¬ IsUnread status
 run_is_read text items warnings status before after whole unread =
     let is = whole (unread_answers status unread) in
     let asked = is.asked in
-    lines_are_read _ status (is.status_is ∙ ap (λ a. a.status) asked.answered ∙ ap (λ r. (answer_to r asked.input).status) asked.asked) unread
+    lines_are_read _ status (is.status_is ∙ ap (λ a. a.status) asked.answered ∙ ap (λ r. (answer_to r asked.input asked.moments).status) asked.asked) unread
 
 -- ---- a load that did not fail adds no name
 

@@ -1,14 +1,21 @@
--- Which values are of the declared kind: the objects, where they are JSON.
-use Rattle.std.proofs.Common.{◌≡◌, ℕ, zero, suc, Bool, true, false, ◌&&◌, List, [], ◌∷◌, Option, Some, None, IfSome, IsTrue, refl, sym, ◌∙◌, subst}
-use Rattle.std.proofs.lemmas.Bool.{and_parts, false_from_ne_true, or_left, true≢false}
+-- Which values are of the declared kind: the objects, where they are JSON; and what that says of the results of lines.
+use Rattle.std.proofs.Common.{◌≡◌, ℕ, zero, suc, Bool, true, false, if◌then◌else◌, List, [], ◌∷◌, Option, Some, None, IfSome, IsTrue, refl, sym, ◌∙◌, subst}
+use Rattle.std.proofs.lemmas.Bool.{and_parts, or_left, true≢false}
 use Rattle.vrl_value.specs.Laws.{MembersStayJson}
-use Rattle.vrl_value.specs.Look.{Step, field, place, Found, there, missing, no_place, found_behind, found_if, item_at, part_at, raw_at, tag_found}
+use Rattle.vrl_value.specs.Look.{Step, field, place, Found, found_behind, found_if, item_at, raw_at, tag_found}
 use Rattle.vrl_value.specs.Tag.{tag_of}
-use Rattle.vrl_value.specs.Tree.{Tree, string, integer, boolean, null, timestamp, regex, array, object, Items, no_items, item, Members, find, is_json, is_object, items_are_json, members_are_json}
+use Rattle.vrl_value.specs.Tree.{Tree, timestamp, regex, array, object, Items, no_items, item, find, is_json, is_object, items_are_json}
 use Rattle.vrl_value.specs.declared.value.Tag.{Tag}
 use Rattle.vrl_kind.specs.KindTree.{KindTree}
 use Rattle.vrl_kind.specs.Kinds.{Inhabits, json_at, or_absent}
 use Rattle.vrl_kind.specs.Tags.{Tags, json}
+use Rattle.vrl_json.specs.Line.{Reading, not_json, not_whole, whole, reading_of}
+use Rattle.vrl_batch.specs.declared.line.Line.{Line}
+use Rattle.vrl_batch.specs.declared.work.LineOut.{LineOut}
+use Rattle.vrl_resolve.specs.Program.{ProgramTree, ended_over}
+use Rattle.vrl_run.specs.LineResult.{IsEventResult, IsLineResult, IsReadResult, IsResultIf, event_result, refused_line}
+use Rattle.vrl_run.specs.declared.reason.Reason.TheVariants.{NotDeclared, TooLong}
+use Rattle.remap_tool.specs.Answer.{no_options, result_of_line, result_of_reading}
 use Rattle.remap_tool.specs.Request.{event_kind}
 
 item_json : (i : ℕ) (ts : Items) → IsTrue (items_are_json ts) → IfSome (item_at i ts) (λ t. IsTrue (is_json t))
@@ -54,10 +61,30 @@ object_is_declared law (object ms) is an_object (place i ∷ p) = tt
 object_is_declared law t is an_object p = absurd (true≢false (sym an_object))
 
 -- and what is of the declared kind is an object
-pub declared_is_object : (t : Tree) → Inhabits t event_kind → IsTrue (is_object t)
+declared_is_object : (t : Tree) → Inhabits t event_kind → IsTrue (is_object t)
 declared_is_object (object ms) h = refl
 declared_is_object t h = absurd (true≢false (sym (h [])))
 
--- what is JSON and not of the declared kind is no object
-pub not_declared : MembersStayJson → (t : Tree) (K : KindTree) (is : Bool) → K ≡ event_kind → IsTrue (is_json t) → (Inhabits t K → IsTrue is) → is ≡ false → is_object t ≡ false
-not_declared law t K is same json test fails = false_from_ne_true _ (λ object. true≢false (sym (test (subst (Inhabits t) (sym same) (object_is_declared law t json object))) ∙ fails))
+-- ---- the results of lines over such events
+
+-- a line of JSON stands for JSON
+abbrev pub LinesAreJson : Type 0
+LinesAreJson = (line : List ℕ) (tree : Tree) → reading_of line ≡ whole tree → IsTrue (is_json tree)
+
+of_event : MembersStayJson → (program : ProgramTree) (line : Line) (event : Tree) (out : LineOut) (b : Bool) → is_object event ≡ b → IsTrue (is_json event) → IsEventResult program event_kind no_options line event out
+    → out ≡ (if b then event_result program.sources no_options line.number event (ended_over program line.moment event) else refused_line NotDeclared line.number)
+of_event law program line event out true is of_json result = result.of_kind (object_is_declared law event of_json is)
+of_event law program line event out false is of_json result = result.of_another (λ of_kind. true≢false (sym (declared_is_object event of_kind) ∙ is))
+
+of_reading : MembersStayJson → LinesAreJson → (program : ProgramTree) (line : Line) (out : LineOut) (r : Reading) → reading_of line.bytes ≡ r → IsReadResult program event_kind no_options line r out → out ≡ result_of_reading program line r
+of_reading law lines program line out not_json is result = result
+of_reading law lines program line out not_whole is result = result
+of_reading law lines program line out (whole event) is result = of_event law program line event out (is_object event) refl (lines line.bytes event is) result
+
+of_length : MembersStayJson → LinesAreJson → (program : ProgramTree) (line : Line) (out : LineOut) (long : Bool) → IsResultIf long program event_kind no_options line out
+    → out ≡ (if long then refused_line TooLong line.number else result_of_reading program line (reading_of line.bytes))
+of_length law lines program line out true result = result
+of_length law lines program line out false result = of_reading law lines program line out (reading_of line.bytes) refl result
+
+pub is_result_of_line : MembersStayJson → LinesAreJson → (program : ProgramTree) (K : KindTree) (line : Line) (out : LineOut) → K ≡ event_kind → IsLineResult program K no_options line out → out ≡ result_of_line program line
+is_result_of_line law lines program K line out is result = of_length law lines program line out line.long (subst (λ kind. IsLineResult program kind no_options line out) is result)

@@ -1,41 +1,43 @@
 -- What a call asks has one answer.
-use Rattle.std.proofs.Common.{◌≡◌, ℕ, List, ◌∷◌, [], Option, Some, None, IsSome, true, false, refl, sym, ap, ◌∙◌, subst, ◌⊎◌, inl, inr}
+use Rattle.std.proofs.Common.{◌≡◌, ℕ, List, Some, None, IsSome, true, false, refl, sym, ap, ◌∙◌, subst, ◌⊎◌, inl, inr}
 use Rattle.std.specs.List.{list_any}
 use Rattle.std.proofs.lemmas.List.Sorted.{list_any-IsPermutation}
 use Rattle.vrl_check.specs.Judgement.{is_error}
-use Rattle.vrl_compile.specs.Answer.{AreDiagnostics, judged, of_script, unread_at}
+use Rattle.vrl_compile.specs.Answer.{AreDiagnostics, judged, of_script}
 use Rattle.vrl_compile.specs.Reading.{AreAlike, DiagnosticsAreDetermined, ScriptsHaveOneReading, same as same_list, both_unread}
 use Rattle.vrl_diag.specs.declared.diagnostic.Diagnostic.{Diagnostic}
-use Rattle.vrl_diag.specs.declared.diagnostic.Span.{Span}
-use Rattle.vrl_syntax.specs.Tree.{Exprs}
+use Rattle.vrl_check.specs.Determined.{JudgementsAreDetermined}
+use Rattle.vrl_check.specs.Judgement.{JudgesScript}
+use Rattle.vrl_compile.specs.Program.{program_for}
+use Rattle.vrl_resolve.specs.Program.{ProgramTree}
 use Rattle.remap_tool.specs.Answer.{AreAnsweredAlike, HasOneAnswer, answer_to, same as same_answer, both_unread as both_unread_answers}
-use Rattle.remap_tool.specs.Request.{Asks, AsksByScript, Held, IsAccepted, IsLoaded, IsRefused, Request, bad_script, bad_words, event_kind, has_error, no_text, run}
+use Rattle.remap_tool.specs.Request.{Asks, AsksByScript, Held, IsAccepted, IsLoaded, IsRefused, bad_script, bad_words, event_kind, has_error, no_text, run}
 use Rattle.remap_tool.specs.Status.{IsRefusal}
 use Rattle.remap_tool.specs.Words.{Command, script, usage}
 use Rattle.remap_tool.specs.declared.status.Status.{Status}
 
 -- ---- a text is refused or accepted, in one way
 
-accepted_diagnostics : {text : List ℕ} {items : Exprs} {warnings : List Diagnostic} → IsAccepted text items warnings → AreDiagnostics event_kind text warnings
+accepted_diagnostics : {text : List ℕ} {program : ProgramTree} {warnings : List Diagnostic} → IsAccepted text program warnings → AreDiagnostics event_kind text warnings
 accepted_diagnostics is = let accepted = is.accepted in of_script accepted.tokens is.script accepted.is_script (judged accepted.can_be_judged is.judgement accepted.judges is.ordered)
 
 -- warnings alone aren't an unread text's
-no_warning : {text : List ℕ} {items : Exprs} {warnings : List Diagnostic} → IsAccepted text items warnings → list_any is_error warnings ≡ false
+no_warning : {text : List ℕ} {program : ProgramTree} {warnings : List Diagnostic} → IsAccepted text program warnings → list_any is_error warnings ≡ false
 no_warning {warnings = warnings} is = sym (list_any-IsPermutation is_error is.judgement.codes warnings is.ordered.same) ∙ is.accepted.no_error
 
 not_alike : (text : List ℕ) (ds es : List Diagnostic) → list_any is_error ds ≡ true → list_any is_error es ≡ false → ¬ AreAlike text ds es
 not_alike text ds es error none (same_list is) = let wrong : true ≡ false = sym error ∙ ap (list_any is_error) is ∙ none in cc
 not_alike text ds es error none (both_unread unread s t one two) = let wrong : true ≡ false = ap (list_any is_error) (sym two) ∙ none in cc
 
-pub not_refused_and_accepted : DiagnosticsAreDetermined → {text : List ℕ} {ds : List Diagnostic} {items : Exprs} {warnings : List Diagnostic} → IsRefused text ds → ¬ IsAccepted text items warnings
+pub not_refused_and_accepted : DiagnosticsAreDetermined → {text : List ℕ} {ds : List Diagnostic} {program : ProgramTree} {warnings : List Diagnostic} → IsRefused text ds → ¬ IsAccepted text program warnings
 not_refused_and_accepted determined (no_text none is) accepted = accepted.is_text none
-not_refused_and_accepted determined {text} {ds} {items} {warnings} (has_error is refused) accepted =
+not_refused_and_accepted determined {text} {ds} {program} {warnings} (has_error is refused) accepted =
     not_alike text ds warnings refused.error (no_warning accepted) (determined event_kind text ds warnings refused.are (accepted_diagnostics accepted))
 
 -- ---- requests
 
 told_alike : (text : List ℕ) (ds es : List Diagnostic) → AreAlike text ds es → AreAnsweredAlike (bad_script text ds) (bad_script text es)
-told_alike text ds es (same_list is) = same_answer (λ input. ap (λ x. answer_to (bad_script text x) input) is)
+told_alike text ds es (same_list is) = same_answer (λ input moments. ap (λ x. answer_to (bad_script text x) input moments) is)
 told_alike text ds es (both_unread unread s t one two) = both_unread_answers text unread s t (ap (bad_script text) one) (ap (bad_script text) two)
 
 refused_alike : DiagnosticsAreDetermined → (text : List ℕ) (ds es : List Diagnostic) → IsRefused text ds → IsRefused text es → AreAnsweredAlike (bad_script text ds) (bad_script text es)
@@ -48,37 +50,44 @@ same_warnings : (text : List ℕ) (ds es : List Diagnostic) → list_any is_erro
 same_warnings text ds es none (same_list is) = is
 same_warnings text ds es none (both_unread unread s t one two) = let wrong : true ≡ false = ap (list_any is_error) (sym one) ∙ none in absurd (cc)
 
-one_answer_by_script : ScriptsHaveOneReading → DiagnosticsAreDetermined → (text : List ℕ) → HasOneAnswer (AsksByScript text)
-one_answer_by_script one_reading determined text bad_words b one two = absurd one
-one_answer_by_script one_reading determined text (bad_script told ds) bad_words one two = absurd two
-one_answer_by_script one_reading determined text (bad_script told ds) (bad_script too es) one two =
+-- a text is run as one program
+one_program : ScriptsHaveOneReading → JudgementsAreDetermined → {text : List ℕ} {program other : ProgramTree} {warnings warned : List Diagnostic} → IsAccepted text program warnings → IsAccepted text other warned → program ≡ other
+one_program one_reading judgements {text = text} one two =
+    let script : one.script ≡ two.script = (one_reading text one.accepted.tokens two.accepted.tokens one.script two.script one.accepted.is_script two.accepted.is_script).script_is in
+    let judged = subst (λ s. JudgesScript s.patterns event_kind s.items one.judgement) script one.accepted.judges in
+    let judgement = judgements two.script.patterns event_kind two.script.items one.judgement two.judgement judged two.accepted.judges in
+    one.program_is ∙ ap (λ s. program_for s one.judgement) script ∙ ap (program_for two.script) judgement ∙ sym two.program_is
+
+one_answer_by_script : ScriptsHaveOneReading → JudgementsAreDetermined → DiagnosticsAreDetermined → (text : List ℕ) → HasOneAnswer (AsksByScript text)
+one_answer_by_script one_reading judgements determined text bad_words b one two = absurd one
+one_answer_by_script one_reading judgements determined text (bad_script told ds) bad_words one two = absurd two
+one_answer_by_script one_reading judgements determined text (bad_script told ds) (bad_script too es) one two =
     subst (λ t. AreAnsweredAlike (bad_script t ds) (bad_script too es)) (sym one.0)
     (subst (λ t. AreAnsweredAlike (bad_script text ds) (bad_script t es)) (sym two.0) (refused_alike determined text ds es one.1 two.1))
-one_answer_by_script one_reading determined text (bad_script told ds) (run too items warnings) one two = absurd (not_refused_and_accepted determined one.1 two.1)
-one_answer_by_script one_reading determined text (run told items warnings) bad_words one two = absurd two
-one_answer_by_script one_reading determined text (run told items warnings) (bad_script too ds) one two = absurd (not_refused_and_accepted determined two.1 one.1)
-one_answer_by_script one_reading determined text (run told items warnings) (run too others warned) one two =
+one_answer_by_script one_reading judgements determined text (bad_script told ds) (run too program warnings) one two = absurd (not_refused_and_accepted determined one.1 two.1)
+one_answer_by_script one_reading judgements determined text (run told program warnings) bad_words one two = absurd two
+one_answer_by_script one_reading judgements determined text (run told program warnings) (bad_script too ds) one two = absurd (not_refused_and_accepted determined two.1 one.1)
+one_answer_by_script one_reading judgements determined text (run told program warnings) (run too other warned) one two =
     let texts : told ≡ too = one.0 ∙ sym two.0 in
-    let scripts = one_reading text one.1.accepted.tokens two.1.accepted.tokens one.1.script two.1.script one.1.accepted.is_script two.1.accepted.is_script in
-    let items_are : items ≡ others = sym one.1.items_are ∙ ap (λ s. s.items) scripts.script_is ∙ two.1.items_are in
+    let programs : program ≡ other = one_program one_reading judgements one.1 two.1 in
     let warnings_are : warnings ≡ warned = same_warnings text warnings warned (no_warning one.1) (determined event_kind text warnings warned (accepted_diagnostics one.1) (accepted_diagnostics two.1)) in
-    same_answer (λ input. rw (texts, items_are, warnings_are) refl)
+    same_answer (λ input moments. rw (texts, programs, warnings_are) refl)
 
 pub one_text : (held : Held) (name : List ℕ) (text other : List ℕ) → IsSome held → IsLoaded held name text → IsLoaded held name other → text ≡ other
 one_text None name text other told one two = cc
 one_text (Some held) name text other told one two = cc
 
-pub one_answer : ScriptsHaveOneReading → DiagnosticsAreDetermined → (held : Held) (command : Command) → IsSome held → HasOneAnswer (Asks held command)
-one_answer one_reading determined held usage told a b one two = same_answer (λ input. ap (λ r. answer_to r input) (one ∙ sym two))
-one_answer one_reading determined held (script name) told a b one two =
+pub one_answer : ScriptsHaveOneReading → JudgementsAreDetermined → DiagnosticsAreDetermined → (held : Held) (command : Command) → IsSome held → HasOneAnswer (Asks held command)
+one_answer one_reading judgements determined held usage told a b one two = same_answer (λ input moments. ap (λ r. answer_to r input moments) (one ∙ sym two))
+one_answer one_reading judgements determined held (script name) told a b one two =
     let texts = one_text held name one.0 two.0 told one.1 two.1 in
-    one_answer_by_script one_reading determined two.0 a b (subst (λ t. AsksByScript t a) texts one.2) two.2
+    one_answer_by_script one_reading judgements determined two.0 a b (subst (λ t. AsksByScript t a) texts one.2) two.2
 
 -- ---- scripts that are refused
 
 -- the script that was loaded is the one that the store tells
 pub is_refusal : DiagnosticsAreDetermined → (held : Held) (command : Command) (name loaded : List ℕ) (status : Status) → command ≡ script name → IsLoaded held name loaded
-    → IsRefusal status ⊎ ((items : Exprs) × (warnings : List Diagnostic) × IsAccepted loaded items warnings)
+    → IsRefusal status ⊎ ((program : ProgramTree) × (warnings : List Diagnostic) × IsAccepted loaded program warnings)
     → IsSome held → (text : List ℕ) (diagnostics : List Diagnostic) → Asks held command (bad_script text diagnostics) → IsRefusal status
 is_refusal determined held command name loaded status is one (inl refusal) told text diagnostics asks = refusal
 is_refusal determined held command name loaded status is one (inr accepted) told text diagnostics asks =

@@ -33,19 +33,21 @@ Appends old new bytes = new ≡ option_map (λ before. before ++ bytes) old
 abbrev pub AppendsFront : Option (List ℕ) → Option (List ℕ) → List ℕ → Type 0
 AppendsFront old new bytes = (front : List ℕ) × (rest : List ℕ) × (bytes ≡ front ++ rest) × Appends old new front
 
--- A call that asks one of these requests has this answer, for the bytes of the input, as far as its source tells them.
-pub record IsAsked (asks : Request → Type 0) (left : Option (List ℕ)) (answer : Answer) : Type 0 where
+-- A call that asks one of these requests has this answer, for the bytes of the input and the moments of the clock, as far as these tell them.
+pub record IsAsked (asks : Request → Type 0) (before : Devices) (answer : Answer) : Type 0 where
   pub request : Request
   pub asked : asks request
   pub input : List ℕ
-  pub is_left : IfSome left (λ bytes. bytes ≡ input)
-  pub answered : answer ≡ answer_to request input
+  pub is_left : IfSome before.left (λ bytes. bytes ≡ input)
+  pub moments : ℕ → ℤ
+  pub are_ahead : IfSome before.ahead (λ told. (i : ℕ) → told i ≡ moments i)
+  pub answered : answer ≡ answer_to request input moments
 
 -- The sinks hold the whole of the answer, and the status is its own. Where lines were read, just their bytes were taken,
 -- and a moment for each of them that isn't blank.
 pub record IsWhole (asks : Request → Type 0) (status : Status) (before after : Devices) : Type 0 where
   pub answer : Answer
-  pub asked : IsAsked asks before.left answer
+  pub asked : IsAsked asks before answer
   pub status_is : status ≡ answer.status
   pub output : Appends before.output after.output answer.output
   pub report : Appends before.report after.report answer.report
@@ -55,7 +57,7 @@ pub record IsWhole (asks : Request → Type 0) (status : Status) (before after :
 -- the sinks hold a front of the answer
 pub record IsFront (asks : Request → Type 0) (before after : Devices) : Type 0 where
   pub answer : Answer
-  pub asked : IsAsked asks before.left answer
+  pub asked : IsAsked asks before answer
   pub output : AppendsFront before.output after.output answer.output
   pub report : AppendsFront before.report after.report answer.report
 

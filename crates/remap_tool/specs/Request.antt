@@ -1,13 +1,14 @@
 -- What a call asks: the words tell it, and the script that they name.
 use Rattle.std.specs.Prelude.{◌≡◌, ℕ, ◌+◌, List, [], ◌∷◌, take, Option, Some, option_map, IfSome}
 use Rattle.vrl_compile.specs.Answer.{IsAccepted as IsAcceptedText, IsRefused as IsRefusedText, IsScript}
-use Rattle.vrl_compile.specs.Program.{items_of}
+use Rattle.vrl_compile.specs.Program.{program_for}
 use Rattle.vrl_diag.specs.declared.diagnostic.Diagnostic.{Diagnostic}
 use Rattle.vrl_kind.specs.KindTree.{KindTree, json_rest, no_fields}
 use Rattle.vrl_kind.specs.Make.{object_kind}
 use Rattle.vrl_check.specs.Judgement.{Judgement}
 use Rattle.vrl_check.specs.Ordered.{AreOrdered}
-use Rattle.vrl_syntax.specs.Tree.{Exprs, Script}
+use Rattle.vrl_resolve.specs.Program.{ProgramTree, program_of}
+use Rattle.vrl_syntax.specs.Tree.{Script}
 use Rattle.vrl_token.specs.Reading.{IsNoScript}
 use Rattle.vrl_token.specs.declared.token.Spanned.{Spanned}
 use Rattle.vrl_compile.specs.declared.script.Compiled.{Compiled}
@@ -30,21 +31,20 @@ no_script_text = record { code = 1009; span = record { start = 0; end = 0 } } �
 abbrev pub event_kind : KindTree
 event_kind = object_kind no_fields json_rest
 
--- the bytes are those of a script that is accepted over such events: its items, of which no diagnostic is an error, and its warnings
-pub record IsAccepted (text : List ℕ) (items : Exprs) (warnings : List Diagnostic) : Type 0 where
+-- the bytes are those of a script that is accepted over such events: the program that it is run as, of which no diagnostic is an error, and its
+-- warnings
+pub record IsAccepted (text : List ℕ) (program : ProgramTree) (warnings : List Diagnostic) : Type 0 where
   pub is_text : ¬ IsNoScript text
   pub script : Script
-  pub items_are : script.items ≡ items
   pub judgement : Judgement
   pub accepted : IsAcceptedText event_kind text script judgement
+  pub program_is : program ≡ program_for script judgement
   pub ordered : AreOrdered judgement.codes warnings
 
--- the sources of the regex literals of the script that the bytes are
-pub record AreSources (text : List ℕ) (sources : List (List ℕ)) : Type 0 where
+-- the bytes are the text of this script
+pub record IsTextOf (script : Script) (text : List ℕ) : Type 0 where
   pub tokens : List Spanned
-  pub script : Script
   pub is_script : IsScript text tokens script
-  pub sources_are : script.patterns ≡ sources
 
 -- the bytes are those of a script that is refused, with these diagnostics
 pub data IsRefused (text : List ℕ) (diagnostics : List Diagnostic) : Type 0 where
@@ -53,7 +53,7 @@ pub data IsRefused (text : List ℕ) (diagnostics : List Diagnostic) : Type 0 wh
 
 -- what compiling the bytes of a script answers
 abbrev pub IsScriptAnswer : List ℕ → Compiled → Type 0
-IsScriptAnswer text (Accepted accepted) = IsAccepted text (items_of accepted.program) accepted.judged.diagnostics
+IsScriptAnswer text (Accepted accepted) = IsAccepted text (program_of accepted.program) accepted.judged.diagnostics × (accepted.sources ≡ (program_of accepted.program).sources)
 IsScriptAnswer text (Refused diagnostics) = IsRefused text diagnostics
 
 -- the bytes were loaded from the name: they are what it holds, and no more of it than one byte over the limit
@@ -65,13 +65,13 @@ pub data Request : Type 0 where
   bad_words : Request
   -- the script is refused: its text, and what is wrong with it
   bad_script : List ℕ → List Diagnostic → Request
-  -- the script runs over the input: its text, its items and its warnings
-  run : List ℕ → Exprs → List Diagnostic → Request
+  -- the script runs over the input: its text, the program that it is run as, and its warnings
+  run : List ℕ → ProgramTree → List Diagnostic → Request
 
 abbrev pub AsksByScript : List ℕ → Request → Type 0
 AsksByScript text bad_words = ⊥
 AsksByScript text (bad_script told diagnostics) = (told ≡ text) × IsRefused text diagnostics
-AsksByScript text (run told items warnings) = (told ≡ text) × IsAccepted text items warnings
+AsksByScript text (run told program warnings) = (told ≡ text) × IsAccepted text program warnings
 
 -- a call with this command asks this, over a store that holds this
 abbrev pub Asks : Held → Command → Request → Type 0
@@ -80,8 +80,8 @@ Asks held (script name) request = (text : List ℕ) × IsLoaded held name text �
 
 -- a script was loaded and accepted
 abbrev pub IsScriptAccepted : Held → Command → Type 0
-IsScriptAccepted held command = (text : List ℕ) × (items : Exprs) × (warnings : List Diagnostic) × Asks held command (run text items warnings)
+IsScriptAccepted held command = (text : List ℕ) × (program : ProgramTree) × (warnings : List Diagnostic) × Asks held command (run text program warnings)
 
 -- the request to run this script
-abbrev pub IsRunOf : List ℕ → Exprs → List Diagnostic → Request → Type 0
-IsRunOf text items warnings request = request ≡ run text items warnings
+abbrev pub IsRunOf : List ℕ → ProgramTree → List Diagnostic → Request → Type 0
+IsRunOf text program warnings request = request ≡ run text program warnings

@@ -5,6 +5,7 @@ mod gather;
 mod give;
 mod lines;
 mod results;
+mod script;
 mod status;
 #[cfg(test)]
 mod tests;

@@ -1,55 +1,23 @@
-ghost use Rattle.std.specs.Prelude.{◌≡◌, IfOk, IsTrue, OnOk, length, map};
-ghost use Rattle.vrl_value.specs.Tree.{is_json};
-ghost use Rattle.vrl_value.specs.View.{tree_of};
-ghost use Rattle.vrl_compile.specs.Meaning.{run_script, IsUnhandled};
-ghost use Rattle.vrl_compile.specs.Program.{items_of};
-ghost use Rattle.vrl_compile.specs.Soundness.{HandlesErrors};
+ghost use Rattle.std.specs.Prelude.{◌≡◌, IfOk, OnOk, length};
+ghost use Rattle.vrl_resolve.specs.Program.{program_of};
+ghost use Rattle.vrl_run.specs.LineResult.{HandlesErrors};
 ghost use Rattle.remap_tool.specs.Lines.{event_lines};
-ghost use Rattle.remap_tool.specs.Answer.{line_result, refused_line, result_of_end, result_of_tree};
+ghost use Rattle.remap_tool.specs.Answer.{is_refused, line_at, result_of_line};
 ghost use Rattle.remap_tool.specs.Devices.{MovesOn};
 ghost use Rattle.remap_tool.specs.Request.{event_kind};
-ghost use Rattle.remap_tool.specs.Results.{IsRun, AddsResult};
+ghost use Rattle.remap_tool.specs.Results.{IsRunOver, AddsResult};
 
 use crate::lines::{is_blank, split_line};
+use crate::script::Script;
 use std::alloc::Global;
-use std::fmt;
-use vrl_compile::{Program, run};
+use vrl_batch::{Line, LineOut, Outcome};
 use vrl_io::Clock;
-use vrl_json::{JsonFault, from_line, json_needs_no_sources, lines_are_json, to_line};
-use vrl_kind::{Kind, inhabits};
-use vrl_value::{Memory, Value, members_stay_json};
+use vrl_json::lines_are_json;
+use vrl_run::{Options, run_line};
+use vrl_value::{Bytes, Memory, Moment, members_stay_json};
 
 /// The most bytes of a line, its newline not counted.
 const LINE_LIMIT: usize = 1_048_576;
-
-/// Why a line is refused. Of several the first counts.
-#[derive(Clone, Copy, Drop)]
-pub enum Reason {
-    /// It has more bytes than a line may have.
-    TooLong,
-    /// It is no JSON text.
-    NotJson,
-    /// A number of its value is not a whole number of 64 bits with a sign.
-    NotWhole,
-    /// Its value is not of the declared kind.
-    NotDeclared,
-}
-
-impl fmt::Display for Reason {
-    ghost use Rattle.std.specs.Prelude.{Some};
-    ghost use Rattle.remap_tool.specs.Answer.{reason_text};
-
-    ghost output = { λ reason. Some (reason_text reason) };
-
-    fn fmt<W: fmt::Write>(&self, f: &mut fmt::Formatter<W>) -> fmt::Result {
-        match self {
-            Reason::TooLong => write!(f, "longer than 1048576 bytes"),
-            Reason::NotJson => write!(f, "not JSON"),
-            Reason::NotWhole => write!(f, "not whole numbers"),
-            Reason::NotDeclared => write!(f, "not of the declared kind"),
-        }
-    }
-}
 
 /// What a run writes.
 #[derive(Drop)]
@@ -62,20 +30,39 @@ pub struct Results {
     pub marked: bool,
 }
 
+impl Results {
+    // Adds the result of one line more.
+    fn add(&mut self, made: &LineOut) -> Result<(), Memory>
+        ensures { OnOk result (AddsResult self.old self.new made.now) }
+    {
+        self.output.extend_from_slice(made.output.as_slice())?;
+        self.report.extend_from_slice(made.report.as_slice())?;
+        self.marked = self.marked || is_refused(made.outcome);
+        Ok(())
+    }
+}
+
+// Whether a line is no event of the declared kind.
+fn is_refused(outcome: Outcome) -> bool
+    ensures { result ≡ is_refused outcome }
+{
+    matches!(outcome, Outcome::Refused)
+}
+
 /// The results of all lines of an input, behind what the report begins with. One moment is read for each
-/// line that is not blank.
+/// line that is not blank, at which it is run.
 pub fn run_lines<C: Clock>(
     alloc: Global,
-    program: &Program,
-    declared: &Kind,
+    script: &Script,
     report: Vec<u8>,
     input: &[u8],
     clock: &mut C,
 ) -> Result<Results, Memory>
-    requires declared { declared.now ≡ event_kind }
-    requires handled { HandlesErrors event_kind (items_of program.now) }
-    ensures results { IfOk result (λ r. IsRun report.items r
-        (map (line_result (items_of program.now)) (event_lines input.now))) }
+    requires declared { script.now.declared.now ≡ event_kind }
+    requires sources { script.now.sources.now ≡ (program_of script.now.program.now).sources }
+    requires handled { HandlesErrors event_kind (program_of script.now.program.now) }
+    ensures results { IfOk result (IsRunOver (program_of script.now.program.now) report.items input.now
+        (C.ahead clock.old)) }
     ensures clock { OnOk result (MovesOn (C.ahead clock.old) (length (event_lines input.now))
         (C.ahead clock.new)) }
 {
@@ -87,97 +74,57 @@ pub fn run_lines<C: Clock>(
     let mut rest = input;
     let mut number = 0;
     while !rest.is_empty() {
-        let (line, behind) = split_line(rest);
+        let (bytes, behind) = split_line(rest);
         number += 1;
-        if !is_blank(line) {
-            let _moment = clock.moment();
-            add_line(alloc, program, declared, number, line, &mut results)?;
+        if !is_blank(bytes) {
+            let line = line_at(alloc, number, bytes, clock.moment())?;
+            add_line(alloc, script, &line, &mut results)?;
         }
         rest = behind;
     }
     Ok(results)
 }
 
+// A line with its number and its moment; of one that is too long no bytes are kept.
+fn line_at(alloc: Global, number: u64, bytes: &[u8], moment: Moment) -> Result<Line, Memory>
+    ensures { IfOk result (λ line. line ≡ line_at moment (number, bytes.now)) }
+{
+    let long = bytes.len() > LINE_LIMIT;
+    let kept = if long { &[] } else { bytes };
+    Ok(Line {
+        number,
+        bytes: Bytes::new(kept.to_vec(alloc)?),
+        long,
+        moment,
+    })
+}
+
 // Adds the result of a line that is not blank.
 fn add_line(
     alloc: Global,
-    program: &Program,
-    declared: &Kind,
-    number: usize,
-    line: &[u8],
+    script: &Script,
+    line: &Line,
     results: &mut Results,
 ) -> Result<(), Memory>
-    requires declared { declared.now ≡ event_kind }
-    requires handled { HandlesErrors event_kind (items_of program.now) }
+    requires declared { script.now.declared.now ≡ event_kind }
+    requires sources { script.now.sources.now ≡ (program_of script.now.program.now).sources }
+    requires handled { HandlesErrors event_kind (program_of script.now.program.now) }
     ensures { OnOk result (AddsResult results.old results.new
-        (line_result (items_of program.now) (number, line.now))) }
+        (result_of_line (program_of script.now.program.now) line.now)) }
 {
-    if line.len() > LINE_LIMIT {
-        return add_refused(alloc, number, Reason::TooLong, results);
-    }
     lines_are_json();
-    match from_line(alloc, line) {
-        Ok(value) => add_value(alloc, program, declared, number, value, results),
-        Err(JsonFault::NotJson) => add_refused(alloc, number, Reason::NotJson, results),
-        Err(JsonFault::NotWhole) => add_refused(alloc, number, Reason::NotWhole, results),
-        Err(JsonFault::Memory) => Err(Memory),
-    }
-}
-
-// Adds the result of a line that stands for this value.
-fn add_value(
-    alloc: Global,
-    program: &Program,
-    declared: &Kind,
-    number: usize,
-    value: Value,
-    results: &mut Results,
-) -> Result<(), Memory>
-    requires declared { declared.now ≡ event_kind }
-    requires handled { HandlesErrors event_kind (items_of program.now) }
-    requires json { IsTrue (is_json (tree_of value)) }
-    ensures { OnOk result (AddsResult results.old results.new
-        (result_of_tree (items_of program.now) number (tree_of value))) }
-{
     members_stay_json();
-    if inhabits(&value, declared) {
-        add_event(alloc, program, value, results)
-    } else {
-        add_refused(alloc, number, Reason::NotDeclared, results)
-    }
-}
-
-// Adds the result of a line that is an event of the declared kind.
-fn add_event(
-    alloc: Global,
-    program: &Program,
-    event: Value,
-    results: &mut Results,
-) -> Result<(), Memory>
-    requires handled { ¬ IsUnhandled (run_script (items_of program.now) (tree_of event)).outcome }
-    requires json { IsTrue (is_json (tree_of event)) }
-    ensures { let ended = run_script (items_of program.now) (tree_of event) in OnOk result
-        (AddsResult results.old results.new (result_of_end ended.outcome ended.store.event)) }
-{
-    json_needs_no_sources();
-    let event = run(alloc, program, event)?;
-    let line = to_line(alloc, &event, &[])?;
-    results.output.extend_from_slice(line.as_slice())?;
-    results.output.push(b'\n')?;
-    Ok(())
-}
-
-// Adds the result of a line that is refused.
-fn add_refused(
-    alloc: Global,
-    number: usize,
-    reason: Reason,
-    results: &mut Results,
-) -> Result<(), Memory>
-    ensures { OnOk result (AddsResult results.old results.new (refused_line reason number)) }
-{
-    let line = format!(in alloc; "line {number}: refused: {reason}\n")?;
-    results.report.extend_from_slice(line.as_bytes())?;
-    results.marked = true;
-    Ok(())
+    let options = Options {
+        drop_on_error: false,
+        keep_on_abort: false,
+    };
+    let made = run_line(
+        alloc,
+        script.program,
+        script.sources,
+        script.declared,
+        &options,
+        line,
+    )?;
+    results.add(&made)
 }

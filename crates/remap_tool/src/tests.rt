@@ -142,7 +142,7 @@ fn scripts_and_inputs(rt: HostRuntime) -> Result<(), Memory> {
         (".b = -2", "{\"c\":1}", Status::Done, "{\"b\":-2,\"c\":1}\n", ""),
         (".x = y", "{}", Status::Refused, "", "error[E701] 1:6 undefined variable\n"),
         (".x =", "{}", Status::Refused, "", "error[E203] 1:5 unrecognized token\n"),
-        (".x = (1)", "{}", Status::Refused, "", NOT_BUILT),
+        (".x = upcase(\"a\")", "{}", Status::Refused, "", NOT_BUILT),
         (".x = 1", "[1]\n{}", Status::Marked, "{\"x\":1}\n", "line 1: refused: not of the declared kind\n"),
         (".x = 1", "\n \t\r\n{\"a\":\"b\"}\n", Status::Done, "{\"a\":\"b\",\"x\":1}\n", ""),
         (".x = 1", "{\"p\":1.5}\n{\n\n{\"a\":1}\n{", Status::Marked, "{\"a\":1,\"x\":1}\n",
@@ -173,6 +173,47 @@ fn scripts_and_inputs(rt: HostRuntime) -> Result<(), Memory> {
         (".y = \"\u{e9}\" + q", "{}", Status::Refused, "", "error[E701] 1:12 undefined variable\n"),
         (".y = 1 ?? q", "{}", Status::Done, "{\"y\":1}\n", "warning[E651] 1:6 unnecessary error coalescing\n"),
         (".y = \"a\" + 1 ?? q", "{}", Status::Refused, "", "error[E701] 1:17 undefined variable\n"),
+    ])
+}
+
+#[test]
+#[rattlefmt::skip]
+fn scripts_of_all_forms(rt: HostRuntime) -> Result<(), Memory> {
+    let alloc = rt.alloc();
+    expect_rows(&rt, alloc, &[
+        // Calls that may fail, and what handles their errors.
+        (".x = to_int(.x)", "{}", Status::Refused, "", "error[E103] 1:1 unhandled fallible assignment\n"),
+        (".x, err = to_int(.x)\n.y = .x + 1", "{\"x\":\"7\"}\n{\"x\":\"q\"}", Status::Done, "{\"x\":7,\"y\":8}\n{\"x\":0,\"y\":1}\n", ""),
+        ("x = 1\n.r = ({ x = \"s\"; to_int(.a) }) ?? 0\n.s = x + 1", "{}", Status::Refused, "", "error[E103] 3:1 unhandled fallible assignment\n"),
+        ("x = 1\n.r = ({ x = \"s\"; to_int(.a) }) ?? 0\n.s = x", "{\"a\":\"q\"}", Status::Done, "{\"a\":\"q\",\"r\":0,\"s\":\"s\"}\n", ""),
+        ("x = \"s\"\n.r = (to_int(.a) + (x = 1)) ?? x\n.s = .r + 1", "{}", Status::Refused, "", "error[E103] 3:1 unhandled fallible assignment\n"),
+        (".v, .e = to_int(.x)", "{\"x\":\"q\"}", Status::Done, "{\"e\":\"to_int: not a whole number\",\"v\":0,\"x\":\"q\"}\n", ""),
+        (".v, .e = .x - 1", "{\"x\":\"q\"}", Status::Done, "{\"e\":\"cannot apply - to string and integer\",\"v\":0,\"x\":\"q\"}\n", ""),
+        // Branches, `exists`, `del`, `return`.
+        ("if exists(.k) { .v = 1 } else { .v = \"s\" }\n.w = .v + 1", "{}", Status::Refused, "", "error[E103] 2:1 unhandled fallible assignment\n"),
+        ("x = {\"a\":1}\ndel(x.a)\n.r = x.a", "{}", Status::Done, "{\"r\":null}\n", ""),
+        ("if exists(.q) { return 1 }\n.r = 2", "{\"q\":0}\n{}", Status::Done, "{\"q\":0}\n{\"r\":2}\n", ""),
+        (".a[2] = 1", "{\"a\":\"t\"}", Status::Done, "{\"a\":[null,null,1]}\n", ""),
+        // An event for each element, and for none; what can't be an event.
+        (". = [{\"a\":1},{\"a\":2}]", "{}", Status::Done, "{\"a\":1}\n{\"a\":2}\n", ""),
+        (". = []", "{}", Status::Done, "", ""),
+        (". = 3", "{}", Status::Refused, "", "error[E1006] 1:1 event assigned neither an object nor an array\n"),
+        // Calls with a `!`, and `abort`.
+        ("x = to_int!(.a)", "{\"a\":\"q\"}", Status::Done, "{\"a\":\"q\"}\n", "line 1: error: \"to_int: not a whole number\"\n"),
+        (".x = to_int!(.a) ?? 0", "{\"a\":\"q\"}", Status::Done, "{\"a\":\"q\"}\n",
+            "warning[E651] 1:6 unnecessary error coalescing\nline 1: error: \"to_int: not a whole number\"\n"),
+        (".a = 1\nabort \"no\"", "{\"a\":\"q\"}", Status::Done, "", "line 1: aborted: \"no\"\n"),
+        ("if !is_string(.m) { abort }\n.n = 1", "{\"m\":\"a\"}\n{\"m\":3}", Status::Done, "{\"m\":\"a\",\"n\":1}\n", "line 2: aborted\n"),
+        // Moments and regexes in lines.
+        (".t = t'2024-01-02T03:04:05.5+01:00'", "{}", Status::Done, "{\"t\":\"2024-01-02T02:04:05.500Z\"}\n", ""),
+        (".p = r'a+'", "{}", Status::Done, "{\"p\":\"a+\"}\n", ""),
+        (".x = r'('", "{}", Status::Refused, "", "error[E101] 1:6 malformed regex literal\n"),
+        // Codes about kinds.
+        ("to_int(.x)", "{}", Status::Refused, "", "error[E100] 1:1 unhandled error\n"),
+        ("if 1 { }", "{}", Status::Refused, "", "error[E102] 1:4 non-boolean predicate\n"),
+        ("!1", "{}", Status::Refused, "", "error[E660] 1:1 negation of a non-boolean\n"),
+        (". | 1", "{}", Status::Refused, "", "error[E652] 1:5 merge of a non-object\n"),
+        ("abort 1", "{}", Status::Refused, "", "error[E1011] 1:7 abort message fallible or not a string\n"),
     ])
 }
 

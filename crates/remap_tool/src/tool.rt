@@ -1,16 +1,17 @@
-ghost use Rattle.std.specs.Prelude.{◌≡◌, ◌⊎◌, Some, IfOk, IsSome, IsTrue, List, ℕ};
+ghost use Rattle.std.specs.Prelude.{◌≡◌, ◌⊎◌, Some, IfOk, IsSome, IsTrue, List, ℕ, ℤ};
 ghost use Rattle.vrl_io.specs.Faults.{HasRisen};
 ghost use Rattle.vrl_json.specs.Line.{reading_of, whole};
 ghost use Rattle.vrl_value.specs.Tree.{Tree, is_object};
 ghost use Rattle.vrl_check.specs.Judgement.{Judgement, JudgesScript};
-ghost use Rattle.vrl_compile.specs.Program.{items_of};
-ghost use Rattle.vrl_compile.specs.Soundness.{HandlesErrors, IsSoundOver};
+ghost use Rattle.vrl_compile.specs.Answer.{IsSoundlyEnded, ends_of};
 ghost use Rattle.vrl_diag.specs.declared.diagnostic.Diagnostic.{Diagnostic as SpecDiagnostic};
-ghost use Rattle.vrl_syntax.specs.Tree.{Exprs};
+ghost use Rattle.vrl_resolve.specs.Program.{ProgramTree, ended_over, program_of};
+ghost use Rattle.vrl_syntax.specs.Tree.{Script as SpecScript};
+ghost use Rattle.vrl_run.specs.LineResult.{HandlesErrors};
 ghost use Rattle.remap_tool.specs.Words.{command, usage};
 ghost use Rattle.vrl_diag.specs.Rendering.{diagnostic_lines};
 ghost use Rattle.remap_tool.specs.Answer.{HasOneAnswer, usage_line};
-ghost use Rattle.remap_tool.specs.Request.{AreSources, Asks, AsksByScript, IsAccepted, IsScriptAccepted, IsRunOf, IsScriptAnswer, bad_script, event_kind, run as run_request};
+ghost use Rattle.remap_tool.specs.Request.{Asks, AsksByScript, IsAccepted, IsScriptAccepted, IsRunOf, IsScriptAnswer, IsTextOf, bad_script, event_kind, run as run_request};
 ghost use Rattle.remap_tool.specs.Results.{answer_of};
 ghost use Rattle.remap_tool.specs.Devices.{devices, Appends, AppendsFront, IsLoadFailed, LeavesDevices};
 ghost use Rattle.remap_tool.specs.Status.{IsAnswer, IsOfLines, IsUnread, IsRefusal};
@@ -18,30 +19,22 @@ ghost use Rattle.remap_tool.specs.Status.{IsAnswer, IsOfLines, IsUnread, IsRefus
 use crate::gather::{GatherFault, gather};
 use crate::give::give_all;
 use crate::results::{Results, run_lines};
+use crate::script::Script;
 use crate::status::Status;
 use crate::words::script_name;
 use std::alloc::Global;
 use std::thread::Threads;
 use vrl_check::judgements_are_determined;
 use vrl_compile::{
-    Compiled, Diagnostic, Diagnostics, Program, SCRIPT_LIMIT, compile, diagnostics_are_determined,
-    scripts_are_sound, scripts_have_one_reading,
+    Compiled, Diagnostic, Diagnostics, SCRIPT_LIMIT, accepted_scripts_are_sound, compile,
+    diagnostics_are_determined, scripts_have_one_reading,
 };
 use vrl_diag::render_all;
 use vrl_io::{Clock, LoadFault, Sink, Source, Store};
-use vrl_json::lines_are_json;
+use vrl_json::{json_needs_no_sources, lines_are_json, lines_are_ordered};
 use vrl_kind::{Kind, Rest, equal_tags_are_one_kind, kind_is_canonical};
 use vrl_token::script_text;
 use vrl_value::{Memory, members_stay_json};
-
-// An accepted script: its text, what it does, the kind of the events that it takes, and the warnings about it.
-#[derive(Drop)]
-struct Script<'a> {
-    text: &'a [u8],
-    program: &'a Program,
-    declared: &'a Kind,
-    warnings: &'a [Diagnostic],
-}
 
 /// What is reported where the words are refused.
 const USAGE_LINE: &str = "usage: remap SCRIPT\n";
@@ -81,15 +74,15 @@ pub fn remap<R: Threads + Sync, F: Store, S: Source, O: Sink, E: Sink, C: Clock>
     ensures unread { IsUnread result → (input.new ≡ input.old) × (clock.new ≡ clock.old) }
     ensures end { IsOfLines result → IsTrue (S.ended input.new) }
 
-    // A script that runs ends with a value over the event of each line, never with an error that it did not
-    // handle; that value, the variables and the event's fields are of their kinds.
-    ensures sound { (text : List ℕ) (items : Exprs) (warnings : List SpecDiagnostic)
+    // A script that runs handles each of its errors over the event of each line, at every moment: it ends with a value, by an `abort`, by a
+    // call with a `!` or by the limit of depth. The value, the variables and the event at each path are of the kinds that were judged.
+    ensures sound { (text : List ℕ) (program : ProgramTree) (warnings : List SpecDiagnostic)
         → Asks (F.held files.old) (command words.now)
-        (run_request text items warnings)
-        → (sources : List (List ℕ)) → AreSources text sources
-        → (judgement : Judgement) → JudgesScript sources event_kind items judgement
+        (run_request text program warnings)
+        → (script : SpecScript) → IsTextOf script text
+        → (judgement : Judgement) → JudgesScript script.patterns event_kind script.items judgement
         → (line : List ℕ) (event : Tree) → reading_of line ≡ whole event → IsTrue (is_object event)
-        → IsSoundOver judgement items event }
+        → (moment : ℤ) → IsSoundlyEnded (ends_of judgement) (ended_over program moment event) }
 
     // Why each other status comes.
     ensures read_fault { result ≡ Status.ReadFault
@@ -111,11 +104,13 @@ pub fn remap<R: Threads + Sync, F: Store, S: Source, O: Sink, E: Sink, C: Clock>
         → ¬ HasRisen (E.faults report.old) (E.faults report.new)
         → IsAnswer result ⊎ (result ≡ Status.Memory) ⊎ (result ≡ Status.TooMuch) }
 {
-    scripts_are_sound();
+    accepted_scripts_are_sound();
     scripts_have_one_reading();
     judgements_are_determined();
     diagnostics_are_determined();
     lines_are_json();
+    lines_are_ordered();
+    json_needs_no_sources();
     members_stay_json();
     let name = match script_name(words) {
         Some(name) => name,
@@ -143,9 +138,9 @@ fn run_script<S: Source, O: Sink, E: Sink, C: Clock>(
         (devices (S.left input.new) (S.taken input.new) (C.ahead clock.new)
         (O.written output.new) (E.written report.new)) }
     ensures refused { IsRefusal result
-        ⊎ ((items : Exprs) × (warnings : List SpecDiagnostic) × IsAccepted text.now items warnings) }
+        ⊎ ((program : ProgramTree) × (warnings : List SpecDiagnostic) × IsAccepted text.now program warnings) }
     ensures accepted_first { ((input.new ≡ input.old) × (clock.new ≡ clock.old))
-        ⊎ ((items : Exprs) × (warnings : List SpecDiagnostic) × IsAccepted text.now items warnings) }
+        ⊎ ((program : ProgramTree) × (warnings : List SpecDiagnostic) × IsAccepted text.now program warnings) }
     ensures unread { IsUnread result → (input.new ≡ input.old) × (clock.new ≡ clock.old) }
     ensures end { IsOfLines result → IsTrue (S.ended input.new) }
     ensures read_fault { result ≡ Status.ReadFault
@@ -159,10 +154,11 @@ fn run_script<S: Source, O: Sink, E: Sink, C: Clock>(
     };
     match compile_bytes(alloc, text, &declared) {
         Ok(Compiled::Accepted(accepted)) => {
-            scripts_are_sound();
+            accepted_scripts_are_sound();
             let script = Script {
                 text,
                 program: &accepted.program,
+                sources: &accepted.sources,
                 declared: &declared,
                 warnings: accepted.judged.diagnostics.as_slice(),
             };
@@ -206,8 +202,9 @@ fn run_program<S: Source, O: Sink, E: Sink, C: Clock>(
     clock: &mut C,
 ) -> Status
     requires declared { script.now.declared.now ≡ event_kind }
-    requires handled { HandlesErrors event_kind (items_of script.now.program.now) }
-    ensures devices { LeavesDevices (IsRunOf script.now.text.now (items_of script.now.program.now)
+    requires sources { script.now.sources.now ≡ (program_of script.now.program.now).sources }
+    requires handled { HandlesErrors event_kind (program_of script.now.program.now) }
+    ensures devices { LeavesDevices (IsRunOf script.now.text.now (program_of script.now.program.now)
         script.now.warnings.now) result
         (devices (S.left input.old) (S.taken input.old) (C.ahead clock.old)
         (O.written output.old) (E.written report.old))
@@ -226,14 +223,7 @@ fn run_program<S: Source, O: Sink, E: Sink, C: Clock>(
     };
     match gather(alloc, input) {
         Ok(bytes) => {
-            match run_lines(
-                alloc,
-                script.program,
-                script.declared,
-                warnings,
-                &bytes,
-                clock,
-            ) {
+            match run_lines(alloc, script, warnings, &bytes, clock) {
                 Ok(results) => write_results(&results, output, report),
                 Err(Memory) => Status::Memory,
             }

@@ -17,3 +17,5 @@ mod scripts;
 mod tokens;
 #[cfg(test)]
 mod trees;
+#[cfg(test)]
+mod words;

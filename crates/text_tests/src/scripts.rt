@@ -1,13 +1,12 @@
 ghost use Rattle.std.specs.Prelude.{◌≤◌, length};
 
-// Scripts, from their text to the event that they leave.
+// Scripts: which texts are accepted, and what is wrong with the others.
 use std::alloc::Global;
-use std::collections::BTreeMap;
 use std::process::Abort;
-use vrl_compile::{Compiled, Diagnostics, SCRIPT_LIMIT, compile, run};
-use vrl_kind::{Kind, any_holds_all};
+use vrl_compile::{Compiled, Diagnostics, SCRIPT_LIMIT, compile};
+use vrl_kind::Kind;
 use vrl_tests::shareable;
-use vrl_value::{Fields, Memory, Value};
+use vrl_value::Memory;
 
 /// What is wrong with a script, whether or not it is accepted.
 fn diagnostics_of(alloc: Global, text: &str) -> Result<Diagnostics, Memory>
@@ -57,7 +56,7 @@ fn expect_accepted(rt: &impl Abort, alloc: Global, rows: &[&str]) -> Result<(), 
     Ok(())
 }
 
-const ACCEPTED: [&str; 17] = [
+const ACCEPTED: [&str; 29] = [
     "",
     " \t\r\n\r\n",
     "# 1",
@@ -75,6 +74,18 @@ const ACCEPTED: [&str; 17] = [
     ".\"a b\" = s'\\n'",
     ".x = \"\\n{\"",
     ".x = 1_000",
+    ".x = true",
+    ".x = r'a'",
+    ".x = (1)",
+    ".x = [1]",
+    ".x = {\"a\": 1}",
+    ".x = .a[0]",
+    ".x = 1 - 1",
+    ".x == 1",
+    ".x = y = 1",
+    ".a.b = 1",
+    "{ 1 }",
+    "abort",
 ];
 
 #[test]
@@ -85,7 +96,7 @@ fn built_scripts_are_accepted(rt: HostRuntime) -> Result<(), Memory> {
 /// 65 brackets, each in the one before it.
 const NESTED: &str = "(((((((((((((((((((((((((((((((((((((((((((((((((((((((((((((((((";
 
-const REFUSED: [(&str, u16, u32, u32); 47] = [
+const REFUSED: [(&str, u16, u32, u32); 37] = [
     // Spellings at fault.
     (".x = \"a", 203, 5, 7),
     (".x = \"{{ a }}\"", 1016, 5, 14),
@@ -107,30 +118,13 @@ const REFUSED: [(&str, u16, u32, u32); 47] = [
     (".a[65536] = 1", 1012, 0, 9),
     (".a[65536] = 1; .a[-1] = 2", 1012, 0, 9),
     ("del(.a[-1])", 1007, 4, 10),
-    // Forms that aren't built.
-    (".x = true", 1099, 0, 0),
-    (".x = r'a'", 1099, 0, 0),
-    (".x = r'('", 1099, 0, 0),
-    ("f(r'a', r'[')", 1099, 0, 0),
-    (".x = (1)", 1099, 0, 0),
-    (".x = [1]", 1099, 0, 0),
-    (".x = {\"a\": 1}", 1099, 0, 0),
-    (".x = .a[0]", 1099, 0, 0),
-    (".x = x.a", 1099, 0, 0),
-    (".x = 1 - 1", 1099, 0, 0),
-    (".x == 1", 1099, 0, 0),
-    (".x = y = 1", 1099, 0, 0),
-    ("_ = 1", 1099, 0, 0),
-    (". = 1", 1099, 0, 0),
-    (".a.b = 1", 1099, 0, 0),
-    (".x |= 1", 1099, 0, 0),
-    (".x, e = 1", 1099, 0, 0),
-    ("!x", 1099, 0, 0),
-    ("f(1)", 1099, 0, 0),
-    ("{ 1 }", 1099, 0, 0),
-    ("if x { 1 }", 1099, 0, 0),
-    ("abort", 1099, 0, 0),
-    ("return q", 1099, 0, 0),
+    // Functions that aren't built.
+    (".x = now()", 1099, 0, 0),
+    ("upcase!(r'(')", 1099, 0, 0),
+    ("for_each({}) -> |k, v| { k }", 1099, 0, 0),
+    // Regex literals that are malformed.
+    (".x = r'('", 101, 5, 9),
+    ("f(r'a', r'[')", 101, 8, 12),
     // The judgement.
     (".y = .a + 1", 103, 0, 11),
     (".a + 1", 100, 0, 6),
@@ -139,6 +133,14 @@ const REFUSED: [(&str, u16, u32, u32); 47] = [
     (".y = z", 701, 5, 6),
     (".y = _", 701, 5, 6),
     (".y = \"a\" + 1\n.z = q", 103, 0, 12),
+    (".x = x.a", 701, 5, 8),
+    ("_ = 1", 640, 0, 5),
+    (". = 1", 1006, 0, 5),
+    (".x, e = 1", 104, 0, 9),
+    ("!x", 701, 1, 2),
+    ("f(1)", 105, 0, 1),
+    ("if x { 1 }", 701, 3, 4),
+    ("return q", 701, 7, 8),
 ];
 
 #[test]
@@ -147,20 +149,14 @@ fn scripts_are_refused(rt: HostRuntime) -> Result<(), Memory> {
 }
 
 #[test]
-fn a_script_runs_over_an_event(rt: HostRuntime) -> Result<(), Memory> {
+fn an_accepted_script_is_told_whole(rt: HostRuntime) -> Result<(), Memory> {
     let alloc = rt.alloc();
     let declared = Kind::any(alloc)?;
-    let Compiled::Accepted(accepted) = compile(alloc, ".x = .y ?? 1", &declared)? else {
+    let Compiled::Accepted(accepted) = compile(alloc, ".x = .y ?? r'a'", &declared)? else {
         panic!(rt; "refused");
     };
     assert!(rt; accepted.judged.diagnostics.as_slice().len() == 1);
-    assert!(rt; accepted.sources.as_slice().is_empty());
-    any_holds_all();
-    let program = shareable(accepted.program);
-    let event = shareable(Value::Object(Fields::new(BTreeMap::new(alloc))));
-    let Value::Object(fields) = run(alloc, &program, event)? else {
-        panic!(rt; "no object");
-    };
-    assert!(rt; matches!(fields.get("x"), Some(Value::Null)));
+    assert!(rt; matches!(accepted.sources.as_slice(), [source] if source.as_str() == "a"));
+    let _program = shareable(accepted.program);
     Ok(())
 }

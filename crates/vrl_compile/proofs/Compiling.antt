@@ -73,11 +73,11 @@ malformed_is_error : (tokens : List Spanned) (first : Diagnostic) (others : List
 malformed_is_error [] first others is = cc
 malformed_is_error (t ∷ ts) first others is = at_is_error t.span (regex_of t.token) (malformed_literals ts) first others is (malformed_is_error ts first others)
 
-pub refused_unbuilt : (declared : KindTree) (text : List ℕ) (tokens : List Spanned) (script : Script) (shown : List Diagnostic) → IsScript text tokens script → KeepsLimits script.items → are_built script.items ≡ false → shown ≡ not_built
+pub refused_unbuilt : (declared : KindTree) (text : List ℕ) (tokens : List Spanned) (script : Script) (shown : List Diagnostic) → IsScript text tokens script → KeepsLimits script.items → are_built tokens ≡ false → shown ≡ not_built
     → IsRefused declared text shown
 refused_unbuilt declared text tokens script shown is limits built same = record { are = of_script tokens script is (unbuilt limits built same); error = ap (list_any is_error) same }
 
-pub refused_malformed : (declared : KindTree) (text : List ℕ) (tokens : List Spanned) (script : Script) (found : List Diagnostic) → IsScript text tokens script → KeepsLimits script.items → are_built script.items ≡ true → found ≡ malformed_literals tokens
+pub refused_malformed : (declared : KindTree) (text : List ℕ) (tokens : List Spanned) (script : Script) (found : List Diagnostic) → IsScript text tokens script → KeepsLimits script.items → are_built tokens ≡ true → found ≡ malformed_literals tokens
     → found ≢ [] → IsRefused declared text found
 refused_malformed declared text tokens script [] is limits built found some = absurd (some refl)
 refused_malformed declared text tokens script (first ∷ others) is limits built found some =

@@ -10,7 +10,7 @@ use Rattle.vrl_diag.specs.declared.diagnostic.Diagnostic.{Diagnostic}
 use Rattle.vrl_diag.specs.declared.diagnostic.Span.{Span}
 use Rattle.vrl_kind.specs.KindTree.{KindTree}
 use Rattle.vrl_syntax.specs.Limits.{exprs_faults}
-use Rattle.vrl_syntax.specs.Tree.{Exprs, Script}
+use Rattle.vrl_syntax.specs.Tree.{Script}
 use Rattle.vrl_token.specs.Laws.{TokensAreDetermined}
 use Rattle.vrl_token.specs.declared.token.Spanned.{Spanned}
 use Rattle.vrl_parse.specs.Reading.{Reads, ScriptsAreDetermined}
@@ -75,9 +75,9 @@ one_first faults ds es xs ys d e one two first second =
 nothing_first : {P : Type 0} (faults ds : List Diagnostic) (d : Diagnostic) → faults ≡ d ∷ ds → faults ≡ [] → P
 nothing_first faults ds d some none = let wrong : d ∷ ds ≡ [] = sym some ∙ none in cc
 
--- a form is built, or it isn't
-built_or_not : {P : Type 0} (items : Exprs) → are_built items ≡ true → are_built items ≡ false → P
-built_or_not items built unbuilt_too = absurd (true≢false (sym built ∙ unbuilt_too))
+-- all is built, or it isn't
+built_or_not : {P : Type 0} (tokens : List Spanned) → are_built tokens ≡ true → are_built tokens ≡ false → P
+built_or_not tokens built unbuilt_too = absurd (true≢false (sym built ∙ unbuilt_too))
 
 of_one_script : JudgementsAreDetermined → (declared : KindTree) (ts : List Spanned) (s : Script) (xs ys : List Diagnostic) → AreOfScript declared ts s xs → AreOfScript declared ts s ys → xs ≡ ys
 of_one_script one declared ts s xs ys (beyond d ds is first) (beyond e es too second) = one_first (exprs_faults s.items) ds es xs ys d e is too first second
@@ -86,14 +86,14 @@ of_one_script one declared ts s xs ys (beyond d ds is first) (malformed limits b
 of_one_script one declared ts s xs ys (beyond d ds is first) (judged can j judges ordered) = nothing_first (exprs_faults s.items) ds d is can.limits
 of_one_script one declared ts s xs ys (unbuilt limits built first) (beyond e es too second) = nothing_first (exprs_faults s.items) es e too limits
 of_one_script one declared ts s xs ys (unbuilt limits built first) (unbuilt limits_too built_too second) = first ∙ sym second
-of_one_script one declared ts s xs ys (unbuilt limits built first) (malformed limits_too built_too e es some second) = built_or_not s.items built_too built
-of_one_script one declared ts s xs ys (unbuilt limits built first) (judged can j judges ordered) = built_or_not s.items can.built built
+of_one_script one declared ts s xs ys (unbuilt limits built first) (malformed limits_too built_too e es some second) = built_or_not ts built_too built
+of_one_script one declared ts s xs ys (unbuilt limits built first) (judged can j judges ordered) = built_or_not ts can.built built
 of_one_script one declared ts s xs ys (malformed limits built d ds some first) (beyond e es too second) = nothing_first (exprs_faults s.items) es e too limits
-of_one_script one declared ts s xs ys (malformed limits built d ds some first) (unbuilt limits_too built_too second) = built_or_not s.items built built_too
+of_one_script one declared ts s xs ys (malformed limits built d ds some first) (unbuilt limits_too built_too second) = built_or_not ts built built_too
 of_one_script one declared ts s xs ys (malformed limits built d ds some first) (malformed limits_too built_too e es too second) = first ∙ sym some ∙ too ∙ sym second
 of_one_script one declared ts s xs ys (malformed limits built d ds some first) (judged can j judges ordered) = nothing_first (malformed_literals ts) ds d some can.well_formed
 of_one_script one declared ts s xs ys (judged can j judges ordered) (beyond e es too second) = nothing_first (exprs_faults s.items) es e too can.limits
-of_one_script one declared ts s xs ys (judged can j judges ordered) (unbuilt limits built second) = built_or_not s.items can.built built
+of_one_script one declared ts s xs ys (judged can j judges ordered) (unbuilt limits built second) = built_or_not ts can.built built
 of_one_script one declared ts s xs ys (judged can j judges ordered) (malformed limits built e es some second) = nothing_first (malformed_literals ts) es e some can.well_formed
 of_one_script one declared ts s xs ys (judged can j judges ordered) (judged can_too k judges_too ordered_too) =
     one_order_of k.codes xs ys (subst (λ x. AreOrdered x.codes xs) (one s.patterns declared s.items j k judges judges_too) ordered) ordered_too

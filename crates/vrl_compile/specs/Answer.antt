@@ -1,6 +1,6 @@
 -- What `compile` answers: the diagnostics of a text under a declared kind, by the first step that gives any. The numbers of
 -- diagnostics are those of the Vector Remap Language's error reference, but for those from 1000 on, which are this compiler's.
-use Rattle.std.specs.Prelude.{◌≡◌, ℕ, true, false, List, [], ◌∷◌, ◌++◌, None, if◌then◌else◌, ⊤}
+use Rattle.std.specs.Prelude.{◌≡◌, ℕ, ℤ, true, false, List, [], ◌∷◌, ◌++◌, length, Option, if◌then◌else◌, ⊤}
 use Rattle.std.specs.List.{list_any}
 use Rattle.vrl_value.specs.Tree.{Tree}
 use Rattle.vrl_diag.specs.declared.diagnostic.Diagnostic.{Diagnostic}
@@ -14,13 +14,19 @@ use Rattle.vrl_word.specs.Words.{regex_of}
 use Rattle.vrl_kind.specs.KindTree.{KindTree}
 use Rattle.vrl_kind.specs.Kinds.{Inhabits}
 use Rattle.vrl_pattern.specs.Malformed.{is_malformed}
-use Rattle.vrl_check.specs.Answer.{IsJudged}
+use Rattle.vrl_state.specs.States.{IsEither, IsJoined, RootMap}
+use Rattle.vrl_state.specs.Stores.{FitsKnown, Store}
+use Rattle.vrl_check.specs.Answer.{IsJudged, return_kind, return_state}
 use Rattle.vrl_check.specs.Judgement.{Judgement, JudgesScript, is_error}
 use Rattle.vrl_check.specs.Ordered.{AreOrdered}
+use Rattle.vrl_check.specs.declared.judged.Judged.{Judged}
+use Rattle.vrl_resolve.specs.Meaning.{IsUnhandled}
+use Rattle.vrl_resolve.specs.Outcomes.{Ended, Outcome, error, returned, value}
+use Rattle.vrl_resolve.specs.Program.{ended_over, program_of}
+use Rattle.vrl_resolve.specs.WellFormed.{IsWellFormed}
 use Rattle.vrl_compile.specs.Built.{are_built}
-use Rattle.vrl_compile.specs.Meaning.{run_script}
-use Rattle.vrl_compile.specs.Soundness.{HasNoError, IsSoundEnd}
-use Rattle.vrl_compile.specs.Program.{items_of}
+use Rattle.vrl_compile.specs.Program.{program_for}
+use Rattle.vrl_compile.specs.Sound.{HasNoError}
 use Rattle.vrl_compile.specs.declared.script.Accepted.{Accepted as AcceptedScript}
 use Rattle.vrl_compile.specs.declared.script.Compiled.{Compiled}
 use Rattle.vrl_compile.specs.declared.script.Compiled.TheVariants.{Accepted, Refused}
@@ -58,21 +64,21 @@ abbrev pub malformed_literals : List Spanned → List Diagnostic
 malformed_literals [] = []
 malformed_literals (t ∷ ts) = malformed_at t.span (regex_of t.token) ++ malformed_literals ts
 
--- nothing is wrong with a script before it is judged: its paths keep the limits, its forms are built, and its regex literals are
--- well formed
+-- nothing is wrong with a script before it is judged: its paths keep the limits, the functions that it calls are built, and its regex
+-- literals are well formed
 pub record CanBeJudged (tokens : List Spanned) (script : Script) : Type 0 where
   pub limits : KeepsLimits script.items
-  pub built : are_built script.items ≡ true
+  pub built : are_built tokens ≡ true
   pub well_formed : malformed_literals tokens ≡ []
 
 -- the diagnostics of a script over events of a kind
 pub data AreOfScript (declared : KindTree) (tokens : List Spanned) (script : Script) (diagnostics : List Diagnostic) : Type 0 where
   -- of the paths that are written or deleted, the first that keeps not the limits (1007, 1012)
   beyond : (first : Diagnostic) (others : List Diagnostic) → exprs_faults script.items ≡ first ∷ others → diagnostics ≡ first ∷ [] → AreOfScript declared tokens script diagnostics
-  -- a form is not built
-  unbuilt : KeepsLimits script.items → are_built script.items ≡ false → diagnostics ≡ not_built → AreOfScript declared tokens script diagnostics
+  -- it calls a function that is not built
+  unbuilt : KeepsLimits script.items → are_built tokens ≡ false → diagnostics ≡ not_built → AreOfScript declared tokens script diagnostics
   -- regex literals are malformed
-  malformed : KeepsLimits script.items → are_built script.items ≡ true → (first : Diagnostic) (others : List Diagnostic) → malformed_literals tokens ≡ first ∷ others → diagnostics ≡ first ∷ others → AreOfScript declared tokens script diagnostics
+  malformed : KeepsLimits script.items → are_built tokens ≡ true → (first : Diagnostic) (others : List Diagnostic) → malformed_literals tokens ≡ first ∷ others → diagnostics ≡ first ∷ others → AreOfScript declared tokens script diagnostics
   -- those of the judgement
   judged : CanBeJudged tokens script → (j : Judgement) → JudgesScript script.patterns declared script.items j → AreOrdered j.codes diagnostics → AreOfScript declared tokens script diagnostics
 
@@ -94,11 +100,15 @@ pub record IsAccepted (declared : KindTree) (text : List ℕ) (script : Script) 
   pub judges : JudgesScript script.patterns declared script.items judgement
   pub no_error : HasNoError judgement.codes
 
--- the program has the script's items, the sources are those of its regex literals, and this is how it was judged
+-- the text is a script that is accepted: this is how it was judged, the program is what it is run as, and the sources are those of its
+-- regex literals
 pub record IsAcceptedAs (declared : KindTree) (text : List ℕ) (answer : AcceptedScript) : Type 0 where
+  pub script : Script
   pub judgement : Judgement
-  pub accepted : IsAccepted declared text (record { items = items_of answer.program; patterns = answer.sources }) judgement
+  pub accepted : IsAccepted declared text script judgement
   pub judged : IsJudged judgement answer.judged
+  pub program : program_of answer.program ≡ program_for script judgement
+  pub sources : answer.sources ≡ script.patterns
 
 -- these are the text's diagnostics, and one of them is an error
 pub record IsRefused (declared : KindTree) (text : List ℕ) (diagnostics : List Diagnostic) : Type 0 where
@@ -110,8 +120,49 @@ abbrev pub IsAnswer : KindTree → List ℕ → Compiled → Type 0
 IsAnswer declared text (Accepted answer) = IsAcceptedAs declared text answer
 IsAnswer declared text (Refused diagnostics) = IsRefused declared text diagnostics
 
--- over each event of the declared kind an accepted script ends with a value, which is of the kind that its judgement tells, and leaves a
--- store that fits what the judgement knows at its end
+-- ---- soundness
+
+-- the ends of a script that has a value: at its end, of which kind it is and what is known there, and the same at a return
+pub record Ends : Type 0 where
+  pub kind : KindTree
+  pub ok : Option RootMap
+  pub returned : KindTree
+  pub ret : Option RootMap
+
+-- as a judgement says, and as its answer tells
+abbrev pub ends_of : Judgement → Ends
+ends_of j = record { kind = j.kind; ok = j.ok; returned = j.returned; ret = j.ret }
+
+abbrev pub ends_told : Judged → Ends
+ends_told told = record { kind = told.kind; ok = told.ok.known; returned = return_kind told.ret; ret = return_state told.ret }
+
+-- A run came to one of its ends: a value is of the kind that it has there, and the store that is left fits what is known there. An error is none
+-- of them; of an `abort`, a call with a `!` and the limit of depth nothing more is said.
+abbrev pub ComesTo : Ends → Outcome → Store → Type 0
+ComesTo ends (value v) store = Inhabits v ends.kind × FitsKnown store ends.ok
+ComesTo ends (returned v) store = Inhabits v ends.returned × FitsKnown store ends.ret
+ComesTo ends (error text) store = ⊥
+ComesTo ends other store = ⊤
+
+-- whichever end it is, a value is of this kind, and the store fits what is known: the event at each path, and each variable
+abbrev pub IsOfEither : KindTree → Option RootMap → Outcome → Store → Type 0
+IsOfEither K known (value v) store = Inhabits v K × FitsKnown store known
+IsOfEither K known (returned v) store = Inhabits v K × FitsKnown store known
+IsOfEither K known other store = ⊤
+
+pub record IsSoundlyEnded (ends : Ends) (ended : Ended) : Type 0 where
+  -- it handled each of its errors
+  pub handled : ¬ IsUnhandled ended.outcome
+  pub came : ComesTo ends ended.outcome ended.store
+  -- a value is of the kind that joins those of both ends, which `ending` tells, and the store fits the join of what is known at them
+  pub joined : (K : KindTree) (known : Option RootMap) → IsEither ends.kind ends.returned K → IsJoined ends.ok ends.ret known → IsOfEither K known ended.outcome ended.store
+
+-- so ends every script that is accepted, over every well-formed event of the declared kind, at every moment
+abbrev pub AcceptedScriptsAreSound : Type 0
+AcceptedScriptsAreSound = (declared : KindTree) (text : List ℕ) (script : Script) (j : Judgement) → IsAccepted declared text script j → (moment : ℤ) (event : Tree) → Inhabits event declared → IsWellFormed (length script.patterns) event
+    → IsSoundlyEnded (ends_of j) (ended_over (program_for script j) moment event)
+
+-- the same of what `compile` answers
 abbrev pub IsSoundAnswer : KindTree → Compiled → Type 0
-IsSoundAnswer declared (Accepted answer) = (event : Tree) → Inhabits event declared → let ended = run_script (items_of answer.program) event in IsSoundEnd answer.judged.kind answer.judged.ok.known None ended.outcome ended.store
+IsSoundAnswer declared (Accepted answer) = (moment : ℤ) (event : Tree) → Inhabits event declared → IsWellFormed (length answer.sources) event → IsSoundlyEnded (ends_told answer.judged) (ended_over (program_of answer.program) moment event)
 IsSoundAnswer declared (Refused diagnostics) = ⊤

@@ -1,61 +1,36 @@
--- The forms that are built so far, among those of a script's tree. A script of other forms is not compiled.
-use Rattle.std.specs.Prelude.{ℕ, Bool, true, false, ◌&&◌, List, [], ◌∷◌, Option, Some, None, is_some}
-use Rattle.vrl_value.specs.Tree.{Tree, string, integer}
-use Rattle.vrl_path.specs.declared.path.Step.{Step}
-use Rattle.vrl_path.specs.declared.path.Step.TheVariants as step
-use Rattle.vrl_syntax.specs.Tree.{Expr, expr, Form, literal, read, binary, assign, Exprs, no_exprs, exprs}
-use Rattle.vrl_syntax.specs.declared.root.Op.{Op}
-use Rattle.vrl_syntax.specs.declared.root.Op.TheVariants.{Plus, Coalesce}
-use Rattle.vrl_syntax.specs.declared.root.Root.{Root}
-use Rattle.vrl_syntax.specs.declared.root.Root.TheVariants.{Event, Name}
-use Rattle.vrl_syntax.specs.declared.root.Target.{Target}
-use Rattle.vrl_syntax.specs.declared.root.Target.TheVariants as target
+-- The functions that are built so far. A script that calls another of the language's functions is not compiled.
+use Rattle.std.specs.Prelude.{ℕ, Bool, true, ◌||◌, List, [], ◌∷◌, not, bytes_eq, codes}
+use Rattle.std.specs.List.{list_all, list_any}
+use Rattle.vrl_check.specs.Calls.{takes_closure}
+use Rattle.vrl_token.specs.declared.token.Spanned.{Spanned}
+use Rattle.vrl_token.specs.declared.token.Token.{Token}
+use Rattle.vrl_token.specs.declared.token.Token.TheVariants.{BangFunction, Function}
 
--- where values are read and written
-pub data Place : Type 0 where
-  -- the field of this name of the event
-  field : List ℕ → Place
-  -- the variable of this name
-  variable : List ℕ → Place
+-- the functions of the language that are still to come: those on texts, patterns, lists, objects, codecs, formats and time
+unfoldable pub unbuilt_functions : List (List ℕ)
+unbuilt_functions =
+    codes "upcase" ∷ codes "downcase" ∷ codes "strip_whitespace" ∷ codes "starts_with" ∷ codes "ends_with" ∷ codes "contains" ∷
+    codes "length" ∷ codes "strlen" ∷ codes "truncate" ∷ codes "slice" ∷ codes "join" ∷
+    codes "split" ∷ codes "replace" ∷ codes "find" ∷ codes "match" ∷ codes "match_any" ∷ codes "parse_regex" ∷ codes "parse_regex_all" ∷
+    codes "push" ∷ codes "append" ∷ codes "includes" ∷ codes "unique" ∷ codes "flatten" ∷ codes "chunks" ∷ codes "zip" ∷ codes "compact" ∷
+    codes "keys" ∷ codes "values" ∷ codes "get" ∷ codes "set" ∷ codes "remove" ∷ codes "merge" ∷ codes "unflatten" ∷
+    codes "object_from_array" ∷ codes "tally" ∷
+    codes "encode_base64" ∷ codes "decode_base64" ∷ codes "encode_base16" ∷ codes "decode_base16" ∷ codes "encode_percent" ∷
+    codes "decode_percent" ∷ codes "md5" ∷ codes "sha1" ∷ codes "sha2" ∷
+    codes "parse_json" ∷ codes "encode_json" ∷ codes "parse_key_value" ∷ codes "encode_key_value" ∷ codes "parse_csv" ∷ codes "parse_url" ∷
+    codes "parse_query_string" ∷
+    codes "now" ∷ codes "parse_timestamp" ∷ codes "format_timestamp" ∷ codes "to_unix_timestamp" ∷ codes "from_unix_timestamp" ∷ []
 
--- a path of one field of the event, or a name alone
-abbrev pub place_at : Root → List Step → Option Place
-place_at Event (step.Field name ∷ []) = Some (field name)
-place_at (Name name) [] = Some (variable name)
-place_at root path = None
+-- nor are the four built that take a closure
+abbrev pub is_unbuilt : List ℕ → Bool
+is_unbuilt name = takes_closure name || list_any (λ function. bytes_eq name function) unbuilt_functions
 
-abbrev pub target_place : Target → Option Place
-target_place target.Nowhere = None
-target_place (target.Place span root path) = place_at root path
+-- a function is named exactly where it is called
+abbrev pub is_built_token : Token → Bool
+is_built_token (Function name) = not (is_unbuilt name)
+is_built_token (BangFunction name) = not (is_unbuilt name)
+is_built_token t = true
 
--- a text or a whole number
-abbrev pub is_built_literal : Tree → Bool
-is_built_literal (string s) = true
-is_built_literal (integer n) = true
-is_built_literal v = false
-
--- `+` or `??`
-abbrev pub is_built_operator : Op → Bool
-is_built_operator Plus = true
-is_built_operator Coalesce = true
-is_built_operator op = false
-
--- `+` and `??` between literals and places
-abbrev mutual
-  pub is_built : Expr → Bool
-  is_built (expr span f) = is_built_form f
-
-  pub is_built_form : Form → Bool
-  is_built_form (literal v) = is_built_literal v
-  is_built_form (read root path) = is_some (place_at root path)
-  is_built_form (binary op l r) = is_built_operator op && (is_built l && is_built r)
-  is_built_form f = false
-
--- an assignment to a place, or an expression
-abbrev pub is_built_item : Expr → Bool
-is_built_item (expr span (assign t e)) = is_some (target_place t) && is_built e
-is_built_item e = is_built e
-
-abbrev pub are_built : Exprs → Bool
-are_built no_exprs = true
-are_built (exprs e es) = is_built_item e && are_built es
+-- none of the tokens of a script names one that isn't built
+abbrev pub are_built : List Spanned → Bool
+are_built ts = list_all (λ t. is_built_token t.token) ts

@@ -1,9 +1,7 @@
 pub mod Answer
 pub mod Built
-pub mod Execution
 pub mod Literals
-pub mod Meaning
-pub mod Places
 pub mod Program
 pub mod Reading
-pub mod Soundness
+pub mod Sound
+pub mod SoundLaws

@@ -1,8 +1,8 @@
--- What an accepted script is: a word of the code.
-use Rattle.vrl_syntax.specs.Tree.{Exprs}
-use Rattle.vrl_syntax.specs.View.{exprs_of}
-use Rattle.vrl_compile.specs.declared.script.Program.{Program}
+-- The program that an accepted script is run as.
+use Rattle.vrl_syntax.specs.Tree.{Script}
+use Rattle.vrl_check.specs.Judgement.{Judgement}
+use Rattle.vrl_resolve.specs.Program.{ProgramTree, script_program}
 
--- its items as a tree
-abbrev pub items_of : Program → Exprs
-items_of program = exprs_of program.items
+-- that of its items, with the empty values of its judgement, and the sources of its regex literals
+abbrev pub program_for : Script → Judgement → ProgramTree
+program_for script j = script_program script.items j.empties script.patterns

@@ -1,57 +1,116 @@
-ghost use Rattle.std.specs.Prelude.{◌≡◌};
-ghost use Rattle.vrl_syntax.specs.View.{expr_of, exprs_of};
-ghost use Rattle.vrl_value.specs.View.{tree_of};
-ghost use Rattle.vrl_compile.specs.Built.{are_built, is_built, is_built_item, is_built_literal, is_built_operator};
+ghost use Rattle.std.specs.Prelude.{◌≡◌, bytes_eq, map};
+ghost use Rattle.std.specs.List.{list_any};
+ghost use Rattle.vrl_check.specs.Calls.{takes_closure};
+ghost use Rattle.vrl_compile.specs.Built.{are_built, is_built_token, is_unbuilt, unbuilt_functions};
 
-use crate::place::{place_at, target_place};
-use vrl_syntax::{Expr, Exprs, Form, Op};
-use vrl_value::Value;
+use vrl_token::{Spanned, Token};
 
-/// Whether each item is of a form that is built.
-pub(crate) fn are_built(items: &Exprs) -> bool
-    ensures { result ≡ are_built (exprs_of items.now) }
+// The functions of the language that are still to come.
+const UNBUILT: [&str; 56] = [
+    "upcase",
+    "downcase",
+    "strip_whitespace",
+    "starts_with",
+    "ends_with",
+    "contains",
+    "length",
+    "strlen",
+    "truncate",
+    "slice",
+    "join",
+    "split",
+    "replace",
+    "find",
+    "match",
+    "match_any",
+    "parse_regex",
+    "parse_regex_all",
+    "push",
+    "append",
+    "includes",
+    "unique",
+    "flatten",
+    "chunks",
+    "zip",
+    "compact",
+    "keys",
+    "values",
+    "get",
+    "set",
+    "remove",
+    "merge",
+    "unflatten",
+    "object_from_array",
+    "tally",
+    "encode_base64",
+    "decode_base64",
+    "encode_base16",
+    "decode_base16",
+    "encode_percent",
+    "decode_percent",
+    "md5",
+    "sha1",
+    "sha2",
+    "parse_json",
+    "encode_json",
+    "parse_key_value",
+    "encode_key_value",
+    "parse_csv",
+    "parse_url",
+    "parse_query_string",
+    "now",
+    "parse_timestamp",
+    "format_timestamp",
+    "to_unix_timestamp",
+    "from_unix_timestamp",
+];
+
+/// Whether no token names a function of the language that isn't built.
+pub(crate) fn are_built(tokens: &[Spanned]) -> bool
+    ensures { result ≡ are_built tokens.now }
 {
-    for item in items.as_slice() {
-        if !is_built_item(item) {
-            return false;
-        }
+    tokens.iter().all(|spanned| is_built_token(&spanned.token))
+}
+
+fn is_built_token(token: &Token) -> bool
+    ensures { result ≡ is_built_token token.now }
+{
+    match token {
+        Token::Function(name) | Token::BangFunction(name) => !is_unbuilt(name.as_str()),
+        _ => true,
     }
-    true
 }
 
-// Whether an item is an assignment to a place, or an expression, of built forms.
-fn is_built_item(item: &Expr) -> bool
-    ensures { result ≡ is_built_item (expr_of item.now) }
+fn is_unbuilt(name: &str) -> bool
+    ensures { result ≡ is_unbuilt name.now }
 {
-    match &item.form {
-        Form::Assign(target, value) => target_place(target).is_some() && is_built(value),
-        _ => is_built(item),
-    }
+    takes_closure(name) || is_to_come(name)
 }
 
-// Whether an expression has only built forms.
-fn is_built(expr: &Expr) -> bool
-    ensures { result ≡ is_built (expr_of expr.now) }
+// Whether a function takes a closure.
+fn takes_closure(name: &str) -> bool
+    ensures { result ≡ takes_closure name.now }
 {
-    match &expr.form {
-        Form::Literal(value) => is_built_literal(value),
-        Form::Read(root, path) => place_at(root, path).is_some(),
-        Form::Binary(op, left, right) => {
-            is_built_operator(*op) && is_built(left) && is_built(right)
-        }
-        _ => false,
-    }
+    name == "for_each" || name == "filter" || name == "map_values" || name == "map_keys"
 }
 
-// Whether a literal is a text or a whole number.
-fn is_built_literal(value: &Value) -> bool
-    ensures { result ≡ is_built_literal (tree_of value.now) }
+// Whether a function is one of those that are still to come.
+fn is_to_come(name: &str) -> bool
+    ensures { result ≡ list_any (λ function. bytes_eq name.now function) unbuilt_functions }
 {
-    matches!(value, Value::Text(_) | Value::Int(_))
+    is_among(name, unbuilt_functions())
 }
 
-fn is_built_operator(op: Op) -> bool
-    ensures { result ≡ is_built_operator op }
+// Whether a name is one of these.
+fn is_among(name: &str, functions: &[&str]) -> bool
+    ensures { result ≡ list_any (λ function. bytes_eq name.now function.now) functions.now }
 {
-    matches!(op, Op::Plus | Op::Coalesce)
+    functions.iter().any(|function| name == *function)
+}
+
+// Their names.
+fn unbuilt_functions() -> &'static [&'static str]
+    ensures { map (λ function. function.now) result.now ≡ unbuilt_functions }
+{
+    &UNBUILT
 }

@@ -1,16 +1,14 @@
-//! Scripts: what a text says, whether it is accepted, and what an accepted script does to an event.
+//! Scripts: what a text says, whether it is accepted, and that what is accepted handles each of its errors.
 #![tactic(auto)]
 
 mod built;
-mod execution;
 mod literals;
-mod place;
 mod reading;
 mod script;
 mod soundness;
 
-pub use execution::run;
 pub use reading::{diagnostics_are_determined, scripts_have_one_reading};
-pub use script::{Accepted, Compiled, Program, SCRIPT_LIMIT, compile};
-pub use soundness::{expressions_are_sound, scripts_are_sound, sums_are_tabled};
+pub use script::{Accepted, Compiled, SCRIPT_LIMIT, compile};
+pub use soundness::{accepted_scripts_are_sound, expressions_are_sound, scripts_are_sound};
 pub use vrl_diag::{Diagnostic, Diagnostics, Span};
+pub use vrl_resolve::Program;

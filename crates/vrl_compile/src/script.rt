@@ -7,31 +7,27 @@ ghost use Rattle.vrl_syntax.specs.Regexes.{IsNumbered};
 ghost use Rattle.vrl_syntax.specs.View.{exprs_of, script_of};
 ghost use Rattle.vrl_token.specs.OnFault.{OnFault};
 ghost use Rattle.vrl_token.specs.declared.token.Spanned.{Spanned as SpecSpanned};
-ghost use Rattle.vrl_parse.specs.Reading.{sources_of};
+ghost use Rattle.vrl_parse.specs.Reading.{sources_of, Reads};
 ghost use Rattle.vrl_check.specs.Answer.{IsJudged};
 ghost use Rattle.vrl_check.specs.Judgement.{is_error, Judgement, JudgesScript};
 ghost use Rattle.vrl_compile.specs.Answer.{CanBeJudged, IsAnswer, IsRefused, IsScript, IsSoundAnswer, not_built};
 
 use crate::built::are_built;
 use crate::literals::{LiteralFault, build_literals};
-use crate::soundness::scripts_are_sound;
+use crate::soundness::accepted_scripts_are_sound;
 use std::alloc::Global;
 use vrl_check::{Judged, check};
 use vrl_diag::{Diagnostic, Diagnostics, Span, code};
 use vrl_kind::Kind;
 use vrl_parse::parse;
-use vrl_syntax::{Exprs, Script};
+use vrl_pattern::Patterns;
+use vrl_resolve::Program;
+use vrl_syntax::Script;
 use vrl_token::{SyntaxFault, Tokens, tokens};
-use vrl_value::{Memory, Names};
+use vrl_value::{Chars, Memory, Names};
 
 /// The most bytes of a script.
 pub const SCRIPT_LIMIT: usize = 65_536;
-
-/// An accepted script, of which a contract sees the items as a tree.
-#[derive(Drop)]
-pub struct Program {
-    pub(crate) items: Exprs,
-}
 
 /// An accepted script, and what was found out about it.
 #[derive(Drop)]
@@ -58,14 +54,16 @@ pub enum Compiled {
 ///
 /// The first of these steps that finds something wrong gives all the diagnostics, and each of the first five
 /// gives one: the first spelling at fault; tokens that are nested too deeply (1008); tokens in which the grammar
-/// reads no script (203); the first path that is written or deleted beyond the limits (1007, 1012); a form that
-/// isn't built yet (1099, at the start of the text); the regex literals that are malformed (101); the judgement.
+/// reads no script (203); the first path that is written or deleted beyond the limits (1007, 1012); a call of a
+/// function that isn't built yet (1099, at the start of the text); the regex literals that are malformed (101); the judgement.
 /// Diagnostics stand in the order of their starts, those of one start in the order of their ends, and those of
 /// one span in the order of their codes.
 ///
 /// The script is accepted where none of its diagnostics is an error; those that are left are warnings. Else it is
-/// refused, with all its diagnostics, one of which at least is an error. An accepted script ends with a value over
-/// each event of the declared kind.
+/// refused, with all its diagnostics, one of which at least is an error.
+///
+/// An accepted script handles each of its errors: over a well-formed event of the declared kind, at any moment, it never ends with one. Where
+/// it ends with a value, that value is of the kind that was judged, and the event and the variables are of theirs.
 ///
 /// # Errors
 ///
@@ -76,7 +74,7 @@ pub fn compile(alloc: Global, text: &str, declared: &Kind) -> Result<Compiled, M
     ensures answer { IfOk result (IsAnswer declared.now text.now) }
     ensures sound { IfOk result (IsSoundAnswer declared.now) }
 {
-    scripts_are_sound();
+    accepted_scripts_are_sound();
     match read(alloc, text) {
         Ok(parsed) => compile_parsed(alloc, parsed, declared),
         Err(SyntaxFault::Fault(fault)) => Ok(Compiled::Refused(alone(alloc, fault)?)),
@@ -111,18 +109,19 @@ fn compile_parsed(alloc: Global, parsed: Parsed, declared: &Kind) -> Result<Comp
     requires limits { KeepsLimits (exprs_of parsed.script.items) }
     requires regexes { IsNumbered (script_of parsed.script) }
     requires sources { parsed.script.patterns ≡ sources_of parsed.tokens.tokens }
+    requires reads { Reads parsed.tokens.tokens (script_of parsed.script) }
     requires present { allows_absent declared.now ≡ false }
     ensures { (text : List ℕ) → IsScript text parsed.tokens.tokens (script_of parsed.script)
         → IfOk result (IsAnswer declared.now text) }
 {
     let Parsed { tokens, script } = parsed;
-    if !are_built(&script.items) {
+    if !are_built(tokens.as_slice()) {
         return Ok(Compiled::Refused(not_built(alloc)?));
     }
     match build_literals(alloc, &tokens, &script.patterns) {
         Ok(patterns) => {
             let judged = check(alloc, &script, declared, &patterns)?;
-            Ok(decided(script, judged))
+            decided(alloc, script, judged, patterns)
         }
         Err(LiteralFault::Malformed(found)) => Ok(Compiled::Refused(Diagnostics::new(found))),
         Err(LiteralFault::Memory) => Err(Memory),
@@ -130,24 +129,44 @@ fn compile_parsed(alloc: Global, parsed: Parsed, declared: &Kind) -> Result<Comp
 }
 
 // What is answered for a script that was judged so: it is accepted where it has no error.
-fn decided(script: Script, judged: Judged) -> Compiled
+fn decided(
+    alloc: Global,
+    script: Script,
+    judged: Judged,
+    patterns: Patterns,
+) -> Result<Compiled, Memory>
+    requires limits { KeepsLimits (exprs_of script.items) }
+    requires regexes { IsNumbered (script_of script) }
+    requires patterns { patterns ≡ script.patterns }
     ensures { (declared : KindTree) (text : List ℕ) (tokens : List SpecSpanned) (judgement : Judgement)
         → IsScript text tokens (script_of script) → CanBeJudged tokens (script_of script)
         → JudgesScript script.patterns declared (exprs_of script.items) judgement → IsJudged judgement judged
-        → IsAnswer declared text result }
+        → IfOk result (IsAnswer declared text) }
 {
     if has_error(judged.diagnostics.as_slice()) {
-        return Compiled::Refused(judged.diagnostics);
+        return Ok(Compiled::Refused(judged.diagnostics));
     }
-    let Script { items, patterns } = script;
-    Compiled::Accepted(Accepted {
-        program: Program { items },
+    let sources = copied(alloc, patterns.sources())?;
+    let program = Program::link(alloc, script, &judged.empties, patterns)?;
+    Ok(Compiled::Accepted(Accepted {
+        program,
         judged,
-        sources: patterns,
-    })
+        sources,
+    }))
 }
 
-// What is wrong with a text of a form that isn't built.
+// The same texts.
+fn copied(alloc: Global, texts: &[Chars]) -> Result<Names, Memory>
+    ensures { IfOk result (λ names. names ≡ texts.now) }
+{
+    let mut copies = Vec::with_capacity(alloc, texts.len())?;
+    for text in texts {
+        copies.push(text.copy(alloc)?)?;
+    }
+    Ok(Names::new(copies))
+}
+
+// What is wrong with a text that calls a function which isn't built.
 fn not_built(alloc: Global) -> Result<Diagnostics, Memory>
     ensures { IfOk result (λ diagnostics. diagnostics ≡ not_built) }
 {

@@ -1,45 +1,58 @@
-ghost use Rattle.vrl_compile.specs.Soundness.{ExpressionsAreSound, ScriptsAreSound, SumsAreTabled};
+ghost use Rattle.vrl_compile.specs.Answer.{AcceptedScriptsAreSound};
+ghost use Rattle.vrl_compile.specs.Sound.{ExpressionsAreSound, ScriptsAreSound};
+ghost use Rattle.vrl_compile.specs.SoundLaws.{Laws};
 
-use vrl_kind::any_holds_all;
+use vrl_path::{removed_trees_are_removals, set_trees_are_sets};
 use vrl_place::reads_are_of_their_cut;
+use vrl_resolve::evaluations_stay_well_formed;
 use vrl_state::{
-    cuts_hold_the_allowed, either_holds_both, joins_keep_fits, starts_fit, writes_keep_fits,
+    cuts_hold_the_allowed, either_holds_both, joins_keep_fits, removals_keep_fits, starts_fit,
+    writes_keep_fits,
 };
+use vrl_table::{functions_are_found, functions_keep_law};
 use vrl_value::members_are_maps;
 
-/// What the judgement says of expressions of built forms holds of their meaning. This takes no time: it is a law
-/// about the definitions.
+// the laws of the crates below on which soundness rests
+fn lower_laws()
+    ensures { Laws }
+{
+    members_are_maps();
+    set_trees_are_sets();
+    removed_trees_are_removals();
+    reads_are_of_their_cut();
+    cuts_hold_the_allowed();
+    either_holds_both();
+    starts_fit();
+    writes_keep_fits();
+    removals_keep_fits();
+    joins_keep_fits();
+    functions_are_found();
+    functions_keep_law();
+    evaluations_stay_well_formed();
+}
+
+/// What the judgement says of expressions holds of their meaning. This takes no time: it is a law about the definitions.
 pub fn expressions_are_sound()
     ensures { ExpressionsAreSound }
 {
-    any_holds_all();
-    reads_are_of_their_cut();
-    cuts_hold_the_allowed();
-    either_holds_both();
-    starts_fit();
-    writes_keep_fits();
-    joins_keep_fits();
+    lower_laws();
 }
 
-/// A script of built forms that is judged without an error code ends with a value over every event of the
-/// declared kind; it is of the judgement's kind, and the store that is left fits what the judgement knows at the
-/// end. This takes no time: it is a law about the definitions.
+/// A script that is judged without an error code ends over every event of the declared kind as it was judged, and never with an error
+/// that it doesn't handle. This takes no time: it is a law about the definitions.
 pub fn scripts_are_sound()
     ensures { ScriptsAreSound }
 {
-    members_are_maps();
-    any_holds_all();
-    reads_are_of_their_cut();
-    cuts_hold_the_allowed();
-    either_holds_both();
-    starts_fit();
-    writes_keep_fits();
-    joins_keep_fits();
+    lower_laws();
+    expressions_are_sound();
 }
 
-/// `+` ends with an error exactly where its table, by which it is judged, has no pair for the tags of the two
-/// values, and else with a value of the tag that stands there. This takes no time: it is a law about the
-/// definitions.
-pub fn sums_are_tabled()
-    ensures { SumsAreTabled }
-{}
+/// A script that is accepted handles each of its errors, over every event of the declared kind, and what it leaves is of the kinds that it was
+/// judged to have. This takes no time: it is a law about the definitions.
+pub fn accepted_scripts_are_sound()
+    ensures { AcceptedScriptsAreSound }
+{
+    scripts_are_sound();
+    either_holds_both();
+    joins_keep_fits();
+}

@@ -32,13 +32,13 @@ pub returns-in-Ok-clause-devices : goal.returns-in-Ok-clause-devices
 returns-in-Ok-clause-devices g c = leaves-by _ _ _ _ _ (asks_named _ _ c.in-Some.name.now c.in-Ok.script c.in-Some.ensures c.in-Ok.ensures.bytes) (rw c.as_slice.ensures at c.run_script.ensures.devices)
 
 pub returns-in-Ok-clause-one_answer : goal.returns-in-Ok-clause-one_answer
-returns-in-Ok-clause-one_answer g c told = one_answer c.scripts_have_one_reading.ensures c.diagnostics_are_determined.ensures _ _ told
+returns-in-Ok-clause-one_answer g c told = one_answer c.scripts_have_one_reading.ensures c.judgements_are_determined.ensures c.diagnostics_are_determined.ensures _ _ told
 
 pub returns-in-Err-Failed-clause-one_answer : goal.returns-in-Err-Failed-clause-one_answer
-returns-in-Err-Failed-clause-one_answer g c told = one_answer c.scripts_have_one_reading.ensures c.diagnostics_are_determined.ensures _ _ told
+returns-in-Err-Failed-clause-one_answer g c told = one_answer c.scripts_have_one_reading.ensures c.judgements_are_determined.ensures c.diagnostics_are_determined.ensures _ _ told
 
 pub returns-in-Err-Memory-clause-one_answer : goal.returns-in-Err-Memory-clause-one_answer
-returns-in-Err-Memory-clause-one_answer g c told = one_answer c.scripts_have_one_reading.ensures c.diagnostics_are_determined.ensures _ _ told
+returns-in-Err-Memory-clause-one_answer g c told = one_answer c.scripts_have_one_reading.ensures c.judgements_are_determined.ensures c.diagnostics_are_determined.ensures _ _ told
 
 pub returns-in-Ok-clause-refused : goal.returns-in-Ok-clause-refused
 returns-in-Ok-clause-refused g c told text diagnostics asks =
@@ -49,16 +49,20 @@ returns-in-Ok-clause-accepted_first g c =
     accepted_named _ _ c.in-Some.name.now c.in-Ok.script c.in-Some.ensures c.in-Ok.ensures.bytes (rw c.as_slice.ensures at c.run_script.ensures.accepted_first)
 
 pub returns-in-None-clause-sound : goal.returns-in-None-clause-sound
-returns-in-None-clause-sound g c = run_is_sound c.scripts_are_sound.ensures c.scripts_have_one_reading.ensures c.judgements_are_determined.ensures c.members_stay_json.ensures c.lines_are_json.ensures _ _
+returns-in-None-clause-sound g c =
+    run_is_sound c.accepted_scripts_are_sound.ensures c.scripts_have_one_reading.ensures c.judgements_are_determined.ensures (record { json = c.lines_are_json.ensures; ordered = c.lines_are_ordered.ensures; below = c.json_needs_no_sources.ensures; members = c.members_stay_json.ensures }) _ _
 
 pub returns-in-Ok-clause-sound : goal.returns-in-Ok-clause-sound
-returns-in-Ok-clause-sound g c = run_is_sound c.scripts_are_sound.ensures c.scripts_have_one_reading.ensures c.judgements_are_determined.ensures c.members_stay_json.ensures c.lines_are_json.ensures _ _
+returns-in-Ok-clause-sound g c =
+    run_is_sound c.accepted_scripts_are_sound.ensures c.scripts_have_one_reading.ensures c.judgements_are_determined.ensures (record { json = c.lines_are_json.ensures; ordered = c.lines_are_ordered.ensures; below = c.json_needs_no_sources.ensures; members = c.members_stay_json.ensures }) _ _
 
 pub returns-in-Err-Failed-clause-sound : goal.returns-in-Err-Failed-clause-sound
-returns-in-Err-Failed-clause-sound g c = run_is_sound c.scripts_are_sound.ensures c.scripts_have_one_reading.ensures c.judgements_are_determined.ensures c.members_stay_json.ensures c.lines_are_json.ensures _ _
+returns-in-Err-Failed-clause-sound g c =
+    run_is_sound c.accepted_scripts_are_sound.ensures c.scripts_have_one_reading.ensures c.judgements_are_determined.ensures (record { json = c.lines_are_json.ensures; ordered = c.lines_are_ordered.ensures; below = c.json_needs_no_sources.ensures; members = c.members_stay_json.ensures }) _ _
 
 pub returns-in-Err-Memory-clause-sound : goal.returns-in-Err-Memory-clause-sound
-returns-in-Err-Memory-clause-sound g c = run_is_sound c.scripts_are_sound.ensures c.scripts_have_one_reading.ensures c.judgements_are_determined.ensures c.members_stay_json.ensures c.lines_are_json.ensures _ _
+returns-in-Err-Memory-clause-sound g c =
+    run_is_sound c.accepted_scripts_are_sound.ensures c.scripts_have_one_reading.ensures c.judgements_are_determined.ensures (record { json = c.lines_are_json.ensures; ordered = c.lines_are_ordered.ensures; below = c.json_needs_no_sources.ensures; members = c.members_stay_json.ensures }) _ _
 
 pub returns-in-None-clause-load_fault : goal.returns-in-None-clause-load_fault
 returns-in-None-clause-load_fault g c failed = absurd (usage_loads_nothing _ _ _ c.in-None.ensures failed)

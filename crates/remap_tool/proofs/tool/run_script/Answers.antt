@@ -29,10 +29,19 @@ returns-in-Ok-Refused-clause-devices g c = record {
 
 pub returns-in-Ok-Accepted-clause-devices : goal.returns-in-Ok-Accepted-clause-devices
 returns-in-Ok-Accepted-clause-devices g c =
-    leaves-by _ _ _ _ _ (asks_run _ _ _ (rw c.in-Ok-Accepted.field-0-is at c.in-Ok-Accepted.ensures)) (rw c.as_slice.ensures at c.run_program.ensures.devices)
+    leaves-by _ _ _ _ _ (asks_run _ _ _ (rw c.in-Ok-Accepted.field-0-is at c.in-Ok-Accepted.ensures).0) (rw c.as_slice.ensures at c.run_program.ensures.devices)
+
+pub returns-in-Ok-Accepted-clause-refused : goal.returns-in-Ok-Accepted-clause-refused
+returns-in-Ok-Accepted-clause-refused g c = inr (_, _, (rw c.in-Ok-Accepted.field-0-is at c.in-Ok-Accepted.ensures).0)
+
+pub returns-in-Ok-Accepted-clause-accepted_first : goal.returns-in-Ok-Accepted-clause-accepted_first
+returns-in-Ok-Accepted-clause-accepted_first g c = inr (_, _, (rw c.in-Ok-Accepted.field-0-is at c.in-Ok-Accepted.ensures).0)
 
 pub run_program-requires-clause-handled : goal.run_program-requires-clause-handled
-run_program-requires-clause-handled g c = accepted_handles c.scripts_are_sound.ensures (rw c.in-Ok-Accepted.field-0-is at c.in-Ok-Accepted.ensures)
+run_program-requires-clause-handled g c = accepted_handles c.accepted_scripts_are_sound.ensures (rw c.in-Ok-Accepted.field-0-is at c.in-Ok-Accepted.ensures).0
+
+pub run_program-requires-clause-sources : goal.run_program-requires-clause-sources
+run_program-requires-clause-sources g c = (rw c.in-Ok-Accepted.field-0-is at c.in-Ok-Accepted.ensures).1
 
 pub returns-in-Ok-Accepted-clause-unread : goal.returns-in-Ok-Accepted-clause-unread
 returns-in-Ok-Accepted-clause-unread g c unread = absurd (run_is_read _ _ _ _ _ _ c.run_program.ensures.devices.whole unread)

@@ -1,0 +1,86 @@
+-- Scripts: an item that may fail has a code, so a script without an error code handles each of its errors.
+use Rattle.std.proofs.Common.{◌≡◌, ℕ, length, Bool, true, false, not, List, [], ◌∷◌, append-nil, Option, Some, None, is_some, refl, sym, ◌∙◌, subst}
+use Rattle.std.specs.Cmp.Lexicographic.{slice_cmp}
+use Rattle.std.specs.FinMap as map
+use Rattle.std.specs.Ordering.{nat_cmp}
+use Rattle.std.proofs.lemmas.Bool.{true≢false}
+use Rattle.vrl_value.specs.Tree.{Tree, null}
+use Rattle.vrl_diag.specs.declared.diagnostic.Diagnostic.{Diagnostic}
+use Rattle.vrl_diag.specs.declared.diagnostic.Span.{Span}
+use Rattle.vrl_syntax.specs.Stores.{store_of}
+use Rattle.vrl_syntax.specs.Tree.{Expr, Exprs}
+use Rattle.vrl_kind.specs.KindTree.{KindTree}
+use Rattle.vrl_state.specs.States.{IsJoined, RootMap}
+use Rattle.vrl_state.specs.Stores.{FitsKnown, Store}
+use Rattle.vrl_builtin.specs.Rows.{SettingTree}
+use Rattle.vrl_check.specs.Judgement.{Judgement, JudgesItems, no_more_items, one_more_item, a_script, at, if_state, of_item, settle, span_of, when, with_codes}
+use Rattle.vrl_resolve.specs.Meaning.{run_script}
+use Rattle.vrl_resolve.specs.Outcomes.{Outcome, value, error, aborted, returned, banged, deep, Ended}
+use Rattle.vrl_resolve.specs.WellFormed.{IsWellFormed, IsWellFormedStore}
+use Rattle.vrl_compile.specs.Sound.{ExpressionsAreSound, HasNoError, IsSoundOutcome, IsSoundRun, ScriptsAreSound}
+use Rattle.vrl_compile.proofs.SoundCauses.{items_cause}
+use Rattle.vrl_compile.proofs.SoundCounts.{judges_counted}
+use Rattle.vrl_compile.proofs.SoundEnds.{no_error_behind, no_error_parts, sound_settled, sound_told, IsSoundPart}
+use Rattle.vrl_compile.specs.SoundLaws.{Laws}
+use Rattle.vrl_compile.proofs.SoundLists.{items_sound, no_more_sound, one_more_sound, AreSound}
+use Rattle.vrl_compile.proofs.SoundValues.{scalar_is}
+
+-- ---- items
+
+-- as a part with codes of its own
+part_with_codes : (setting : SettingTree) (known : Option RootMap) (e : Expr) (j : Judgement) (ds : List Diagnostic) → IsSoundPart setting known e j → IsSoundPart setting known e (with_codes ds j)
+part_with_codes setting known e j ds sound none well = sound (no_error_parts j.codes ds none).0 well
+
+-- items are judged in order
+items_in_order : ExpressionsAreSound → (setting : SettingTree) {before after : Judgement} {es : Exprs} → JudgesItems setting.sources before es after → (Ks : List KindTree) × AreSound setting before es Ks after
+items_in_order each setting no_more_items = ([], no_more_sound)
+items_in_order each setting (one_more_item {before = before} {j = j} {e = e} judges in_order more) =
+    let others = items_in_order each setting more in
+    (j.kind ∷ others.0, one_more_sound {j = with_codes (of_item (span_of e) j) j} (judges_counted judges) (part_with_codes setting before.ok e j (of_item (span_of e) j) (each setting before.ok e j judges)) in_order others.1)
+
+-- an item that may fail has a code
+can_not_fail : (fail : Option RootMap) (span : Span) → HasNoError (when (is_some fail) (at 100 span)) → fail ≡ None
+can_not_fail None span none = refl
+can_not_fail (Some known) span none = absurd (true≢false none)
+
+no_fail : (a b c : Option RootMap) → IsJoined a b c → a ≡ None → b ≡ None → c ≡ None
+no_fail None b c is first second = is ∙ second
+no_fail (Some known) b c is first second = cc
+
+items_clean : {sources : List (List ℕ)} {before after : Judgement} {es : Exprs} → JudgesItems sources before es after → HasNoError after.codes → HasNoError before.codes
+items_clean no_more_items none = none
+items_clean (one_more_item {before = before} {j = j} {middle = middle} {e = e} judges in_order more) none = (no_error_behind before (with_codes (of_item (span_of e) j) j) middle in_order.behind (items_clean more none)).0
+
+-- so items without an error code can't fail
+items_never_fail : {sources : List (List ℕ)} {before after : Judgement} {es : Exprs} → JudgesItems sources before es after → before.fail ≡ None → HasNoError after.codes → after.fail ≡ None
+items_never_fail no_more_items is none = is
+items_never_fail (one_more_item {before = before} {j = j} {middle = middle} {e = e} judges in_order more) is none =
+    let codes = no_error_behind before (with_codes (of_item (span_of e) j) j) middle in_order.behind (items_clean more none) in
+    items_never_fail more (no_fail before.fail j.fail middle.fail in_order.fail is (can_not_fail j.fail (span_of e) (no_error_parts j.codes (of_item (span_of e) j) codes.1).1)) none
+
+-- ---- scripts
+
+run_outcome : (j : Judgement) (outcome : Outcome) (store : Store) → j.fail ≡ None → IsSoundOutcome j outcome store → IsSoundRun j outcome store
+run_outcome j (value v) store fail sound = sound
+run_outcome j (returned v) store fail sound = sound
+run_outcome j (error text) store fail sound = subst (FitsKnown store) fail sound
+run_outcome j (aborted m) store fail sound = tt
+run_outcome j (banged text) store fail sound = tt
+run_outcome j deep store fail sound = tt
+
+-- the store that a run starts with
+start_is_well_formed : (count : ℕ) (event : Tree) → IsWellFormed count event → IsWellFormedStore count (store_of event)
+start_is_well_formed count event well = record { event = well; variables = λ x. rw (map.get-empty {X = Tree} (slice_cmp nat_cmp) x) tt }
+
+still_dead : (test : Bool) (known : Option RootMap) → known ≡ None → if_state test known ≡ None
+still_dead true known is = is
+still_dead false known is = refl
+
+pub script_is_sound : Laws → ExpressionsAreSound → ScriptsAreSound
+script_is_sound laws each setting declared items j (a_script {N = N} {state = state} {j = k} start null_kind judges) none well event of_kind well_event =
+    run_outcome (settle k) ended.outcome ended.store (still_dead (not k.poisoned) k.fail (items_never_fail judges refl none))
+    (sound_settled k ended (items_cause judges refl ∙ none)
+    ((sound_told k ended).1 (items_sound laws setting (items_in_order each setting judges).1 none well [] k.empties (sym (append-nil k.empties)) null (store_of event)
+    (start_is_well_formed (length setting.sources) event well_event) (laws.starts declared state (store_of event) start of_kind) (scalar_is laws.cuts null N (λ s. refl) null_kind)))) where
+      ended : Ended
+      ended = run_script setting k.empties items event

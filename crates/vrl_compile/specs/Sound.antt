@@ -1,0 +1,62 @@
+-- Soundness: what the judgement says holds of the meaning. This is the Vector Remap Language's claim that a program that compiles
+-- handles each of its errors.
+use Rattle.std.specs.Prelude.{◌≡◌, false, List, ◌++◌, Option, ⊤, length}
+use Rattle.std.specs.List.{list_any}
+use Rattle.vrl_value.specs.Tree.{Tree}
+use Rattle.vrl_value.specs.declared.value.Tag.{Tag}
+use Rattle.vrl_diag.specs.declared.diagnostic.Diagnostic.{Diagnostic}
+use Rattle.vrl_syntax.specs.Tree.{Expr, Exprs}
+use Rattle.vrl_kind.specs.KindTree.{KindTree}
+use Rattle.vrl_kind.specs.Kinds.{Inhabits}
+use Rattle.vrl_state.specs.States.{RootMap}
+use Rattle.vrl_state.specs.Stores.{FitsKnown, Store}
+use Rattle.vrl_builtin.specs.Rows.{SettingTree}
+use Rattle.vrl_check.specs.Judgement.{Judgement, Judges, JudgesScript, is_error}
+use Rattle.vrl_resolve.specs.Meaning.{eval, run_script}
+use Rattle.vrl_resolve.specs.Outcomes.{Outcome, value, error, returned, Ended}
+use Rattle.vrl_resolve.specs.WellFormed.{IsWellFormed, IsWellFormedExpr, AreWellFormedExprs, IsWellFormedStore}
+
+-- none of the codes is an error
+abbrev pub HasNoError : List Diagnostic → Type 0
+HasNoError codes = list_any is_error codes ≡ false
+
+-- ---- expressions
+
+-- A value, also that of a return, is of the kind that was judged, and the store fits what is known at that end. Of an end by `abort`, by a
+-- call with a `!` or by the limit of depth nothing is said.
+abbrev pub IsSoundOutcome : Judgement → Outcome → Store → Type 0
+IsSoundOutcome j (value v) store = Inhabits v j.kind × FitsKnown store j.ok
+IsSoundOutcome j (error text) store = FitsKnown store j.fail
+IsSoundOutcome j (returned v) store = Inhabits v j.returned × FitsKnown store j.ret
+IsSoundOutcome j other store = ⊤
+
+-- it ended as it was judged
+abbrev pub IsSoundEnd : Judgement → Ended → Type 0
+IsSoundEnd j ended = IsSoundOutcome j ended.outcome ended.store
+
+-- run from any store that fits what is known, and with any tags behind its own, it ends as it was judged
+abbrev pub IsSoundFrom : SettingTree → Option RootMap → Expr → Judgement → Type 0
+IsSoundFrom setting known e j = (rest : List Tag) (store : Store) → IsWellFormedStore (length setting.sources) store → FitsKnown store known → IsSoundEnd j (eval setting (j.empties ++ rest) e store)
+
+-- of every expression of well-formed literals, wherever it is judged without an error code
+abbrev pub ExpressionsAreSound : Type 0
+ExpressionsAreSound = (setting : SettingTree) (known : Option RootMap) (e : Expr) (j : Judgement) → Judges setting.sources known e j → HasNoError j.codes → IsWellFormedExpr (length setting.sources) e → IsSoundFrom setting known e j
+
+-- ---- scripts
+
+-- A run ended as the script was judged: with a value, or with that of a return, of the kind that was judged there, and the store fits what is
+-- known there; or by an `abort`, a call with a `!` or the limit of depth. It never ends with an error that the script doesn't handle.
+abbrev pub IsSoundRun : Judgement → Outcome → Store → Type 0
+IsSoundRun j (value v) store = Inhabits v j.kind × FitsKnown store j.ok
+IsSoundRun j (returned v) store = Inhabits v j.returned × FitsKnown store j.ret
+IsSoundRun j (error text) store = ⊥
+IsSoundRun j other store = ⊤
+
+-- the run of a script over an event, with the empty values of its judgement
+abbrev pub IsSoundOver : SettingTree → Judgement → Exprs → Tree → Type 0
+IsSoundOver setting j items event = let ended = run_script setting j.empties items event in IsSoundRun j ended.outcome ended.store
+
+-- of every script of well-formed literals that is judged without an error code, over every well-formed event of the declared kind
+abbrev pub ScriptsAreSound : Type 0
+ScriptsAreSound = (setting : SettingTree) (declared : KindTree) (items : Exprs) (j : Judgement) → JudgesScript setting.sources declared items j → HasNoError j.codes → AreWellFormedExprs (length setting.sources) items
+    → (event : Tree) → Inhabits event declared → IsWellFormed (length setting.sources) event → IsSoundOver setting j items event

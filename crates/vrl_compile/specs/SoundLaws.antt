@@ -1,0 +1,26 @@
+-- What soundness rests on: laws of the crates below. No public function cites them.
+use Rattle.vrl_value.specs.Laws.{MembersAreMaps}
+use Rattle.vrl_path.specs.Laws.{RemovedTreesAreRemovals, SetTreesAreSets}
+use Rattle.vrl_place.specs.Laws.{ReadsAreOfTheirCut}
+use Rattle.vrl_state.specs.Laws.{CutsHoldTheAllowed, EitherHoldsBoth, JoinsKeepFits, RemovalsKeepFits, StartsFit, WritesKeepFits}
+use Rattle.vrl_table.specs.Table.{FunctionsAreFound, FunctionsKeepLaw}
+use Rattle.vrl_resolve.specs.Laws.{EvaluationsStayWellFormed}
+
+pub record Laws : Type 0 where
+  -- values and paths
+  pub members : MembersAreMaps
+  pub sets : SetTreesAreSets
+  pub removed : RemovedTreesAreRemovals
+  -- kinds, places and states
+  pub reads : ReadsAreOfTheirCut
+  pub cuts : CutsHoldTheAllowed
+  pub either : EitherHoldsBoth
+  pub starts : StartsFit
+  pub writes : WritesKeepFits
+  pub removals : RemovalsKeepFits
+  pub joins : JoinsKeepFits
+  -- functions
+  pub found : FunctionsAreFound
+  pub lawful : FunctionsKeepLaw
+  -- the meaning
+  pub kept : EvaluationsStayWellFormed
