@@ -1,7 +1,8 @@
 #!/usr/bin/env python3
-"""Runs `rt ci --anew`, at the top of this repository, and prints the rows of docs/GATE.md: for each crate its lines, its edits, and
-the processor seconds of its proof, of the proof of its tests and of its edits, all from nothing. Names of crates, as
-`docs/measure-gate.py vrl_kind`, measure these and those below them alone. What rt says goes to standard error.
+"""Runs the gate from nothing, at the top of this repository, and prints the rows of docs/GATE.md: for each crate its lines, its edits,
+and the processor seconds of its proof, of the proof of its tests and of its edits. A toolchain whose `rt ci` keeps what has passed is
+told to take nothing of it (`--anew`), and there names of crates, as `docs/measure-gate.py vrl_kind`, measure these and those below
+them alone. What rt says goes to standard error.
 
 The seconds are those of the processes that rt starts, read from /proc five times a second, so a process counts some
 hundredths of a second less than it took. The edits have with them the proof of the crate that they begin with."""
@@ -50,7 +51,8 @@ def check_of(pid):
 
 def measure(names):
     """The seconds of each crate by what they were spent on, and whether the gate passed."""
-    ran = subprocess.Popen(["rt", "ci", "--anew", *names], cwd=TOP, stdout=sys.stderr)
+    keeps = "--anew" in subprocess.run(["rt", "help"], capture_output=True, text=True).stderr
+    ran = subprocess.Popen(["rt", "ci", *(["--anew"] if keeps else []), *names], cwd=TOP, stdout=sys.stderr)
     checks, seconds = {}, {}
     while ran.poll() is None:
         found, sums = processes(), {}
