@@ -1,5 +1,5 @@
 -- Names that come first among more names, and what is told of those that there are in the end.
-use Rattle.std.proofs.Common.{◌≡◌, ℕ, suc, zero, ◌+◌, ◌<◌, Bool, true, false, List, [], ◌∷◌, ◌++◌, length, map, cond, drop, get_or, Option, Some, None, option_map, slice_get, unwrap_or, position, refl, sym, ap, ◌∙◌, subst, arith, append-nil, append_assoc, if◌then◌else◌, length-append}
+use Rattle.std.proofs.Common.{◌≡◌, ℕ, suc, ◌+◌, ◌<◌, Bool, true, false, List, [], ◌∷◌, ◌++◌, length, map, cond, get_or, Some, option_map, slice_get, position, refl, sym, ap, ◌∙◌, arith, append-nil, append_assoc, if◌then◌else◌, length-append}
 use Rattle.std.specs.List.{list_any, position_from, AllByRecursion, IsDistinct}
 use Rattle.std.specs.Ordering.{eq_by_cmp, nat_cmp}
 use Rattle.std.specs.Cmp.Lexicographic.{slice_cmp}
@@ -11,11 +11,9 @@ use Rattle.std.proofs.lemmas.Iterator.Adapters.{position_from-zero}
 use Rattle.std.proofs.lemmas.Map.Text.{is_eq-slice_cmp}
 use Rattle.std.proofs.lemmas.Option.{slice_get-map, slice_get_within, get_or_from_slice_get, unwrap_or-slice_get}
 use Rattle.std.proofs.lemmas.Slice.Eq.{bytes_eq-Decides}
-use Rattle.vrl_value.specs.declared.value.Tag.{Tag}
-use Rattle.vrl_syntax.specs.declared.root.Root.TheVariants.{Event, Name}
-use Rattle.vrl_resolve.specs.Linking.{names_in, IsBaseOf, IsBeginning, Links, Numbers}
+use Rattle.vrl_syntax.specs.declared.root.Root.TheVariants.{Name}
+use Rattle.vrl_resolve.specs.Linking.{IsBaseOf, IsBeginning}
 use Rattle.vrl_resolve.specs.StoreView.{is_among, name_at, AreDistinct, Names}
-use Rattle.vrl_resolve.specs.declared.link.Linker.{Linker}
 use Rattle.vrl_resolve.specs.declared.node.Base.TheVariants as base
 
 -- ---- beginnings

@@ -1,5 +1,5 @@
 -- The functions of the table by their names.
-use Rattle.std.proofs.Common.{◌≡◌, ◌≢◌, ℕ, Bool, true, false, List, [], ◌∷◌, Option, None, Some, cond, find, bytes_eq, refl, ap, ◌∙◌}
+use Rattle.std.proofs.Common.{◌≡◌, ◌≢◌, ℕ, Bool, true, false, List, [], ◌∷◌, None, Some, cond, find, bytes_eq, refl, ap, ◌∙◌}
 use Rattle.std.proofs.lemmas.Slice.Eq.{bytes_eq-Decides}
 use Rattle.vrl_table.specs.Table.{all_functions, function_named, row_of}
 use Rattle.vrl_table.specs.declared.function.Fun.{Fun}

@@ -1,11 +1,11 @@
 -- What is linked can be run: its variables have numbers, what it writes and deletes keeps the limits, its literals are well-formed, and its calls
 -- give each parameter what it wants.
-use Rattle.std.proofs.Common.{◌≡◌, ℕ, zero, suc, ◌<◌, ◌≤◌, Bool, true, false, ◌&&◌, ◌||◌, List, [], ◌∷◌, ◌++◌, length, map, Option, Some, None, option_to_list, slice_get, IsTrue, All, nat_lt, pos, negsuc, refl, sym, ap, ◌∙◌, subst, arith, if◌then◌else◌}
+use Rattle.std.proofs.Common.{◌≡◌, ℕ, zero, suc, ◌<◌, Bool, true, false, ◌&&◌, ◌||◌, List, [], ◌∷◌, ◌++◌, length, map, Option, Some, None, option_to_list, slice_get, nat_lt, pos, negsuc, refl, sym, ap, ◌∙◌, subst, arith, if◌then◌else◌}
 use Rattle.std.proofs.lemmas.Bool.{true≢false, ltb-false}
 use Rattle.std.proofs.lemmas.List.Elements.{All-cons, All-nil}
 use Rattle.std.specs.List.{list_any}
 use Rattle.std.specs.Option.{option_map_or}
-use Rattle.std.specs.Prelude.{⊤, IsSome}
+use Rattle.std.specs.Prelude.{IsSome}
 use Rattle.std.specs.declared.result.Result.{Result}
 use Rattle.std.specs.declared.result.Result.TheVariants.{Ok, Err}
 use Rattle.vrl_value.specs.Tree.{Tree}
@@ -16,8 +16,8 @@ use Rattle.vrl_path.specs.declared.path.Step.TheVariants.{Field, Place as Index}
 use Rattle.vrl_diag.specs.declared.diagnostic.Diagnostic.{Diagnostic}
 use Rattle.vrl_diag.specs.declared.diagnostic.Span.{Span}
 use Rattle.vrl_syntax.specs.Calls.{is_exists, literal_of}
-use Rattle.vrl_syntax.specs.Limits.{args_faults, arms_faults, closure_faults, else_faults, expr_faults, exprs_faults, fault_at, faults_at, form_faults, is_negative, is_too_large, pairs_faults, path_faults, target_faults}
-use Rattle.vrl_syntax.specs.Regexes.{args_regexes_below, arms_regexes_below, closure_regexes_below, else_regexes_below, expr_regexes_below, exprs_regexes_below, form_regexes_below, pairs_regexes_below}
+use Rattle.vrl_syntax.specs.Limits.{args_faults, arms_faults, else_faults, expr_faults, exprs_faults, fault_at, faults_at, form_faults, is_negative, is_too_large, pairs_faults, path_faults, target_faults}
+use Rattle.vrl_syntax.specs.Regexes.{args_regexes_below, arms_regexes_below, else_regexes_below, expr_regexes_below, exprs_regexes_below, form_regexes_below, pairs_regexes_below}
 use Rattle.vrl_syntax.specs.Tree.{Expr, expr, Form, Exprs, Pairs, Arms, Else, Args, no_args, arg, Closure, no_closure, closure, literal}
 use Rattle.vrl_syntax.specs.Tree as tree
 use Rattle.vrl_syntax.specs.Written.{is_del}
@@ -31,13 +31,11 @@ use Rattle.vrl_table.specs.declared.binding.BindFault.{BindFault}
 use Rattle.vrl_table.specs.declared.function.Fun.{Fun}
 use Rattle.vrl_resolve.specs.Calls as called
 use Rattle.vrl_resolve.specs.Calls.{are_written_right, callee_of, is_allowed_literal, is_written_right, values_of, written_at}
-use Rattle.vrl_resolve.specs.Fits.{part_at, AllFit, AreGiven, ArmsFit, ElseFits, Fits, IsAllowed, IsAllowedIf, IsCallee, IsGiven, IsKnown, IsTarget, PairsFit}
+use Rattle.vrl_resolve.specs.Fits.{part_at, AllFit, AreGiven, ArmsFit, ElseFits, Fits, IsAllowed, IsAllowedIf, IsCallee, IsGiven, IsTarget, PairsFit}
 use Rattle.vrl_resolve.specs.Linked as linked
 use Rattle.vrl_resolve.specs.Linked.{Linked, Parts}
-use Rattle.vrl_resolve.specs.LinkedMeaning.{callee_in}
 use Rattle.vrl_resolve.specs.Linking.{AreArgsLinked, AreArmsLinked, AreItemsLinked, AreLinked, ArePairsLinked, IsCalleeOf, IsElseLinked, IsLinked, IsLinkedForm, IsTargetOf, stands, a_literal, an_array, an_object, a_read, a_query, a_group, a_block, a_conditional, a_negation, a_binary, an_assignment, a_merge, an_error_assignment, a_call, a_return, a_bare_abort, an_abort, none_linked, one_linked, no_item, one_item, no_pair, one_pair, no_arm, one_arm, no_last, a_last, no_argument, one_argument}
-use Rattle.vrl_resolve.specs.StoreView.{root_of, Names}
-use Rattle.vrl_resolve.specs.WellFormed.{IsWellFormed}
+use Rattle.vrl_resolve.specs.StoreView.{Names}
 use Rattle.vrl_resolve.specs.declared.node.Callee.{Callee}
 use Rattle.vrl_resolve.specs.declared.node.Callee.TheVariants as callee
 use Rattle.vrl_resolve.specs.declared.node.Place.{Place}

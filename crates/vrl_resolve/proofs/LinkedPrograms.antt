@@ -1,6 +1,6 @@
 -- What the linked items of a script are as a program.
-use Rattle.std.proofs.Common.{◌≡◌, ℕ, ℤ, true, List, [], length, sym, subst, append-nil, ◌∙◌}
-use Rattle.vrl_value.specs.Tree.{Tree, null}
+use Rattle.std.proofs.Common.{◌≡◌, ℕ, true, List, [], length, sym, subst, append-nil, ◌∙◌}
+use Rattle.vrl_value.specs.Tree.{null}
 use Rattle.vrl_value.specs.declared.value.Tag.{Tag}
 use Rattle.vrl_syntax.specs.Limits.{KeepsLimits}
 use Rattle.vrl_syntax.specs.Regexes.{exprs_regexes_below}

@@ -1,9 +1,9 @@
 -- What the calls of a linker say of it, one behind the other.
-use Rattle.std.proofs.Common.{◌≡◌, ℕ, suc, zero, ◌+◌, Bool, List, [], ◌∷◌, drop, map, refl, sym, ap, ◌∙◌, subst, drop-drop}
+use Rattle.std.proofs.Common.{◌≡◌, ℕ, suc, ◌+◌, Bool, List, [], ◌∷◌, drop, map, refl, sym, ap, ◌∙◌, subst, drop-drop}
 use Rattle.std.proofs.Math.Seq.{drop-nil}
 use Rattle.std.specs.String.{string_bytes}
 use Rattle.vrl_value.specs.declared.value.Tag.{Tag}
-use Rattle.vrl_syntax.specs.ErrorAssignments.{in_expr, in_form, other_tags}
+use Rattle.vrl_syntax.specs.ErrorAssignments.{in_expr, other_tags}
 use Rattle.vrl_syntax.specs.Tree.{Expr, expr, Form, group}
 use Rattle.vrl_diag.specs.declared.diagnostic.Span.{Span}
 use Rattle.vrl_resolve.specs.Linked.{Linked}

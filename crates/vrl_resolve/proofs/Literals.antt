@@ -1,16 +1,16 @@
 -- Each argument that must be a literal is one that the function allows: by whether each has a literal, and by what the function says of these.
-use Rattle.std.proofs.Common.{◌≡◌, ◌≤◌, ◌++◌, length, drop, append-nil, drop_of_length-le, ℕ, zero, suc, ◌+◌, Bool, true, false, not, ◌&&◌, List, [], ◌∷◌, map, Option, Some, None, is_none, option_map, slice_get, refl, sym, ap, ap₂, ◌∙◌, if◌then◌else◌, arith, add-zero}
+use Rattle.std.proofs.Common.{◌≡◌, ◌≤◌, ◌++◌, length, drop, append-nil, drop_of_length-le, ℕ, zero, suc, ◌+◌, Bool, true, false, not, ◌&&◌, List, [], ◌∷◌, map, Option, Some, None, is_none, option_map, slice_get, refl, sym, ap, ◌∙◌, if◌then◌else◌, arith, add-zero}
 use Rattle.std.proofs.lemmas.Option.{slice_get-map}
 use Rattle.std.specs.Option.{option_map_or}
 use Rattle.vrl_value.specs.Tree.{Tree}
 use Rattle.vrl_value.specs.View.{tree_of}
-use Rattle.vrl_builtin.specs.Conditions.{first_wrong, first_wrong_from, is_refused, is_wrong}
+use Rattle.vrl_builtin.specs.Conditions.{first_wrong, first_wrong_from, is_refused}
 use Rattle.vrl_builtin.specs.Rows.{held, literal_at, GivenTree, ParameterRow, Row}
 use Rattle.vrl_builtin.specs.View.{given_tree}
 use Rattle.vrl_builtin.specs.declared.given.Given.{Given}
 use Rattle.vrl_syntax.specs.Calls.{literal_of}
 use Rattle.vrl_syntax.specs.Tree.{Expr}
-use Rattle.vrl_resolve.specs.Calls.{are_written_right, is_allowed_literal, is_written_right}
+use Rattle.vrl_resolve.specs.Calls.{are_written_right, is_allowed_literal}
 use Rattle.vrl_resolve.specs.Linking.{have_literals, is_no_literal, written_literal}
 
 -- the literal at a place from the k-th on

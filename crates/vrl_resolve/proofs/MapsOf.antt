@@ -1,14 +1,17 @@
 -- The variables that are told: an object of them is the map of them.
-use Rattle.std.proofs.Common.{◌≡◌, ℕ, false, List, [], ◌∷◌, Option, Some, None, Ordering, Less, Equal, Greater, is_eq, refl, sym, ap, ◌∙◌, subst}
+use Rattle.std.proofs.Common.{◌≡◌, ℕ, false, List, [], ◌∷◌, Option, Some, None, Ordering, Less, Equal, Greater, is_eq, refl, sym, ap, ◌∙◌, subst, cond, true}
 use Rattle.std.proofs.lemmas.Bool.{or_parts}
 use Rattle.std.specs.Cmp.Lexicographic.{slice_cmp}
 use Rattle.std.specs.FinMap as finite
 use Rattle.std.specs.Ordering.{match_ordering, nat_cmp}
-use Rattle.vrl_value.specs.Tree.{Tree, Members, no_members, member, put}
+use Rattle.std.specs.Prelude.{IfSome}
+use Rattle.vrl_value.specs.Laws.{RegexesStayBelow, TreesStayInOrder}
+use Rattle.vrl_value.specs.Tree.{Tree, object, Members, no_members, member, put}
 use Rattle.vrl_value.specs.View.{tree_of}
 use Rattle.vrl_value.specs.declared.value.Value.{Value}
+use Rattle.vrl_resolve.specs.WellFormed.{IsWellFormed}
 use Rattle.vrl_resolve.specs.StoreView.{is_among, map_of, trees_of, variables_of, with_variable, AreDistinct, Names, Variables}
-use Rattle.vrl_resolve.proofs.Variables.{insert_swapped, insert_twice, named_so, tied}
+use Rattle.vrl_resolve.proofs.Variables.{inserted, itself, insert_swapped, insert_twice, named_so, tied}
 
 -- ---- a member more
 
@@ -71,3 +74,36 @@ told_next left others name copy items rest v ms ns all first next same given so_
     ∙ ap (λ vs. put_over (name ∷ others) (trees_of vs) (map_of ms)) (sym next)
     ∙ ap (λ l. put_over l (trees_of items) (map_of ms)) (sym first)
     ∙ so_far
+
+-- ---- well-formed
+
+others_absent : (names : Names) (vs : List (Option Tree)) (m : Variables) (x : List ℕ) → is_among x names ≡ false → finite.get (put_over names vs m) x ≡ finite.get m x
+others_absent names [] m x none = refl
+others_absent [] (v ∷ vs) m x none = refl
+others_absent (y ∷ names) (None ∷ vs) m x none = others_absent names vs m x (or_parts (tied x y) (is_among x names) none).1
+others_absent (y ∷ names) (Some v ∷ vs) m x none =
+    let apart = or_parts (tied x y) (is_among x names) none in
+    others_absent names vs (finite.insert m y v) x apart.1 ∙ inserted m y v x ∙ ap (λ b. cond b (Some v) (finite.get m x)) apart.0
+
+-- a variable that is told is found under its name in all that are
+found_all : (left others : Names) (name : List ℕ) (items rest : List (Option Value)) (v : Value) (ms : Members) (all : Variables) → AreDistinct left → left ≡ name ∷ others → items ≡ Some v ∷ rest
+    → put_over left (trees_of items) (map_of ms) ≡ all → finite.get all name ≡ Some (tree_of v)
+found_all left others name items rest v ms all distinct first next so_far =
+    let apart = (subst AreDistinct first distinct).0 in
+    ap (λ m. finite.get m name) (sym so_far)
+    ∙ ap (λ l. finite.get (put_over l (trees_of items) (map_of ms)) name) first
+    ∙ ap (λ vs. finite.get (put_over (name ∷ others) (trees_of vs) (map_of ms)) name) next
+    ∙ others_absent others (trees_of rest) (finite.insert (map_of ms) name (tree_of v)) name apart
+    ∙ inserted (map_of ms) name (tree_of v) name
+    ∙ ap (λ b. cond b (Some (tree_of v)) (finite.get (map_of ms) name)) (itself name)
+
+pub formed_next : (order : TreesStayInOrder) (below : RegexesStayBelow) (left others : Names) (name copy : List ℕ) (items rest : List (Option Value)) (v : Value) (ms ns : Members) (all : Variables)
+    → AreDistinct left → left ≡ name ∷ others → items ≡ Some v ∷ rest → copy ≡ name → ns ≡ put copy (tree_of v) ms → put_over left (trees_of items) (map_of ms) ≡ all
+    → (count : ℕ) → ((x : List ℕ) → IfSome (finite.get all x) (IsWellFormed count)) → IsWellFormed count (object ms) → IsWellFormed count (object ns)
+formed_next order below left others name copy items rest v ms ns all distinct first next same given so_far count formed before =
+    let found = found_all left others name items rest v ms all distinct first next so_far in
+    let one : IsWellFormed count (tree_of v) = subst (λ found. IfSome found (IsWellFormed count)) found (formed name) in
+    subst (λ ms. IsWellFormed count (object ms)) (sym given) (record {
+      ordered = order.ordered_put copy (tree_of v) ms one.ordered before.ordered;
+      below = below.below_put count copy (tree_of v) ms one.below before.below;
+    })

@@ -1,9 +1,9 @@
 -- What the loops of a linker have linked so far, told by what may still come.
-use Rattle.std.proofs.Common.{◌≡◌, ℕ, suc, zero, ◌+◌, ◌<◌, ◌≤◌, Bool, true, false, ◌&&◌, List, [], ◌∷◌, ◌++◌, ◌==◌, length, map, drop, get_or, refl, sym, ap, ◌∙◌, subst, drop-drop, arith, rules}
+use Rattle.std.proofs.Common.{◌≡◌, ℕ, ◌+◌, ◌<◌, ◌≤◌, Bool, true, false, ◌&&◌, List, [], ◌∷◌, ◌++◌, ◌==◌, length, map, drop, get_or, refl, sym, ap, ◌∙◌, subst, drop-drop, arith, rules}
 use Rattle.std.proofs.lemmas.Bool.Decides.{nat_tests}
 use Rattle.std.proofs.lemmas.List.{at_drop_all, at_drop_more, map-append}
 use Rattle.vrl_value.specs.declared.value.Tag.{Tag}
-use Rattle.vrl_syntax.specs.ErrorAssignments.{behind, in_args, in_arms, in_expr, in_exprs, in_pairs}
+use Rattle.vrl_syntax.specs.ErrorAssignments.{in_args, in_arms, in_expr, in_exprs, in_pairs}
 use Rattle.vrl_syntax.specs.Tree.{Expr, Exprs, exprs, no_exprs, Pairs, pair, no_pairs, Arms, arm, no_arms, Args, arg, no_args}
 use Rattle.vrl_diag.specs.declared.diagnostic.Span.{Span}
 use Rattle.vrl_syntax.specs.View.{arg_of, args_view, arm_of, arms_view, expr_of, exprs_of, exprs_view, pairs_view}
@@ -12,10 +12,11 @@ use Rattle.vrl_syntax.specs.declared.tree.Arm.{Arm as CodeArm, out-Arm}
 use Rattle.vrl_syntax.specs.declared.tree.Expr.{Expr as CodeExpr}
 use Rattle.vrl_syntax.specs.declared.tree.Form.{the_lemmas}
 use Rattle.vrl_resolve.specs.Linked as linked
-use Rattle.vrl_resolve.specs.Linked.{Linked, Parts, parts, no_parts, linked_of, parts_of_list, pairs_of_list, arms_of_list, ArmTree}
+use Rattle.vrl_resolve.specs.Linked.{arm_of as linked_arm, Linked, Parts, parts, no_parts, linked_of, parts_of_list, pairs_of_list, arms_of_list, ArmTree}
 use Rattle.vrl_resolve.specs.Linking.{is_last, names_in, AreArgsLinked, AreArmsLinked, AreItemsLinked, AreLinked, ArePairsLinked, IsBeginning, IsLinked, Links, none_linked, one_linked, no_item, one_item, no_pair, one_pair, no_arm, one_arm, no_argument, one_argument}
 use Rattle.vrl_resolve.specs.StoreView.{Names}
 use Rattle.vrl_resolve.specs.declared.link.Linker.{Linker}
+use Rattle.vrl_resolve.specs.declared.node.Arm.{Arm}
 use Rattle.vrl_resolve.specs.declared.node.Node.{Node}
 use Rattle.vrl_resolve.proofs.Begins.{begins_behind, begins_itself}
 use Rattle.vrl_resolve.proofs.Links.{links_then}
@@ -299,6 +300,13 @@ predicate_seen a = search (rules, the_lemmas)
 
 pub body_seen : (a : CodeArm) → (arm_of a).1 ≡ exprs_of (out-Arm a).body
 body_seen a = search (rules, the_lemmas)
+
+-- one more node, and one more arm
+pub nodes_pushed : (old new : List Node) (n : Node) → new ≡ old ++ (n ∷ []) → map linked_of new ≡ map linked_of old ++ (linked_of n ∷ [])
+nodes_pushed old new n is = ap (map linked_of) is ∙ map-append linked_of old (n ∷ [])
+
+pub arms_pushed : (old new : List Arm) (a : Arm) → new ≡ old ++ (a ∷ []) → map linked_arm new ≡ map linked_arm old ++ (linked_arm a ∷ [])
+arms_pushed old new a is = ap (map linked_arm) is ∙ map-append linked_arm old (a ∷ [])
 
 abbrev pair_in : List ℕ × Node → List ℕ × Linked
 pair_in p = (p.0, linked_of p.1)

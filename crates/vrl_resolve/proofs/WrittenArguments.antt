@@ -1,10 +1,7 @@
 -- The arguments of a call as they are in memory, and as they are written.
-use Rattle.std.proofs.Common.{◌≡◌, ℕ, zero, suc, List, [], ◌∷◌, length, map, Option, Some, None, option_map, slice_get, refl, sym, ap, ap₂, ◌∙◌, subst, arith, rules, if◌then◌else◌}
-use Rattle.vrl_path.specs.declared.path.Step.{Step}
+use Rattle.std.proofs.Common.{◌≡◌, ℕ, zero, suc, List, [], ◌∷◌, length, Option, Some, None, option_map, slice_get, refl, sym, ap, ap₂, ◌∙◌, arith, rules, if◌then◌else◌}
 use Rattle.vrl_syntax.specs.Calls.{path_of}
-use Rattle.vrl_syntax.specs.Tree.{Expr}
 use Rattle.vrl_syntax.specs.View.{arg_of, args_view, expr_of}
-use Rattle.vrl_syntax.specs.declared.root.Root.{Root}
 use Rattle.vrl_syntax.specs.declared.tree.Arg.{Arg as CodeArg}
 use Rattle.vrl_syntax.specs.declared.tree.Form.{the_lemmas}
 use Rattle.vrl_resolve.specs.Calls.{values_of, written_at}

@@ -1,6 +1,6 @@
 -- What a program is to its callers: what it does to an event, at a moment; and what a run leaves.
 use Rattle.std.specs.Prelude.{◌≡◌, ℕ, ℤ, List, ⊤}
-use Rattle.vrl_value.specs.Tree.{Tree, null, no_members}
+use Rattle.vrl_value.specs.Tree.{Tree, null, object, no_members}
 use Rattle.vrl_value.specs.View.{members_of, tree_of}
 use Rattle.vrl_value.specs.declared.value.Tag.{Tag}
 use Rattle.vrl_syntax.specs.Stores.{Store, store_of}
@@ -58,7 +58,8 @@ abbrev pub IsWellFormedEnd : ℕ → CodeEnded → Type 0
 IsWellFormedEnd count (code.Value v) = IsWellFormed count (tree_of v)
 IsWellFormedEnd count other = ⊤
 
--- what a run left has its members in order, and each regex in it is one of the first so many
+-- what a run left has its members in order, and each regex in it is one of the first so many; so have the variables, seen as an object
 pub record IsWellFormedRan (count : ℕ) (ran : Ran) : Type 0 where
   pub end : IsWellFormedEnd count ran.ended
   pub event : IsWellFormed count (tree_of ran.event)
+  pub variables : IsWellFormed count (object (members_of ran.variables))

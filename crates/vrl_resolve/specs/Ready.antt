@@ -1,11 +1,11 @@
 -- What is known of each program in memory: it can be run.
 --
 -- No two proofs of it differ, as is shown here part by part: so a program may hold one.
-use Rattle.std.specs.Prelude.{◌≡◌, ℕ, Bool, true, false, List, [], ◌∷◌, length, All, Option, Some, None, IsTrue, IsSome, pos, negsuc, ⊤}
+use Rattle.std.specs.Prelude.{ℕ, Bool, true, false, List, [], ◌∷◌, length, All, Option, Some, None, IsTrue, pos, negsuc}
 use Rattle.std.specs.Coded.{coded_bool, le_prop, ×_prop, Coded-set, Unit-prop}
 use Rattle.std.specs.Ordering.{Ordering-set}
 use Rattle.vrl_value.specs.Tree.{Tree, string, integer, boolean, null, timestamp, regex, array as items, object as fields, Items, no_items, item, Members, no_members, member, IsBefore, IsOrdered, ItemsAreOrdered, MembersAreOrdered}
-use Rattle.vrl_path.specs.Steps.{IsPlain, IsPlainStep, IsWritable, IsWritableStep}
+use Rattle.vrl_path.specs.Steps.{IsPlainStep, IsWritableStep}
 use Rattle.vrl_path.specs.declared.path.Step.{Step}
 use Rattle.vrl_path.specs.declared.path.Step.TheVariants.{Field, Place as Index}
 use Rattle.vrl_builtin.specs.Conditions.{IsThere}

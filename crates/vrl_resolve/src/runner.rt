@@ -1,7 +1,7 @@
 ghost use Rattle.std.specs.Prelude.{◌≡◌, length, IfOk, IsTrue};
 ghost use Rattle.vrl_value.specs.Regexes.{regexes_below};
-ghost use Rattle.vrl_value.specs.View.{tree_of};
-ghost use Rattle.vrl_resolve.specs.Leaving.{IsEarly, IsHandled, IsHandledStop, IsValued};
+ghost use Rattle.vrl_value.specs.View.{members_of, tree_of};
+ghost use Rattle.vrl_resolve.specs.Leaving.{AreToldByMap, IsEarly, IsHandled, IsHandledStop, IsValued};
 ghost use Rattle.vrl_resolve.specs.Meaning.{IsUnhandled};
 ghost use Rattle.vrl_resolve.specs.Outcomes as meaning;
 ghost use Rattle.vrl_resolve.specs.Program.{ended_over, program_of, IsRan, IsWellFormedRan};
@@ -46,7 +46,8 @@ pub fn run(alloc: Global, program: &Program, event: Value, moment: Moment) -> Re
 fn left(alloc: Global, names: &Names, store: Store, end: Result<Value, Stop>) -> Result<Ran, Memory>
     requires names { AreNames names.now store }
     requires handled { IsHandled end }
-    ensures { IfOk result (λ ran. (meant : meaning.Ended) → Ends meant (store_in names.now store) end → IsRan meant ran) }
+    ensures ran { IfOk result (λ ran. (meant : meaning.Ended) → Ends meant (store_in names.now store) end → IsRan meant ran) }
+    ensures told { IfOk result (λ ran. AreToldByMap (members_of ran.variables)) }
 {
     match end {
         Ok(value) => valued(alloc, names, store, value),
@@ -71,7 +72,8 @@ fn valued(alloc: Global, names: &Names, store: Store, value: Value) -> Result<Ra
 fn stopped(alloc: Global, names: &Names, store: Store, stop: Stop) -> Result<Ran, Memory>
     requires names { AreNames names.now store }
     requires handled { IsHandledStop stop }
-    ensures { IfOk result (λ ran. (meant : meaning.Ended) → Stops meant (store_in names.now store) stop → IsRan meant ran) }
+    ensures ran { IfOk result (λ ran. (meant : meaning.Ended) → Stops meant (store_in names.now store) stop → IsRan meant ran) }
+    ensures told { IfOk result (λ ran. AreToldByMap (members_of ran.variables)) }
 {
     match stop {
         Stop::Returned(value) => valued(alloc, names, store, value),

@@ -6,6 +6,7 @@ ghost use Rattle.vrl_path.specs.Steps.{plain, IsPlain, IsWritable};
 ghost use Rattle.vrl_path.specs.Trees.{remove_tree, set_tree};
 ghost use Rattle.vrl_path.specs.Write.{depth_limit};
 ghost use Rattle.vrl_syntax.specs.Stores.{store_of};
+ghost use Rattle.vrl_resolve.specs.Leaving.{AreToldByMap};
 ghost use Rattle.vrl_resolve.specs.Places as spec;
 ghost use Rattle.vrl_resolve.specs.StoreView.{is_numbered, left_with, map_of, root_of, store_in, trees_of, variables_of, AreDistinct, IsBase, IsFront, IsShallow, IsKept, IsWritten, AreNames, Names, Stay};
 
@@ -15,7 +16,7 @@ use std::collections::BTreeMap;
 use vrl_path::{
     Path, SetFault, exists, get, put, reads_are_look_ups, remove, set, set_trees_are_sets,
 };
-use vrl_value::{Chars, Fields, Memory, Names, Value};
+use vrl_value::{Chars, Fields, Memory, Names, Value, regexes_stay_below, trees_stay_in_order};
 
 // The greatest depth of a value that a write may leave.
 const LIMIT: u64 = 128;
@@ -284,6 +285,7 @@ impl Store {
         requires { AreNames names.now self }
         ensures event { IfOk result (λ parts. tree_of parts.0 ≡ tree_of self.event) }
         ensures variables { IfOk result (λ parts. map_of (members_of parts.1) ≡ (store_in names.now self).variables) }
+        ensures told { IfOk result (λ parts. AreToldByMap (members_of parts.1)) }
     {
         let Store {
             event,
@@ -368,8 +370,11 @@ fn is_too_deep(path: &Path, value: &Value) -> bool
 // The variables that are there, with their names. `Memory`: want of memory.
 fn named(alloc: Global, variables: Vec<Option<Value>>, names: &Names) -> Result<Fields, Memory>
     requires { AreDistinct names.now }
-    ensures { IfOk result (λ fields. map_of (members_of fields) ≡ variables_of names.now (trees_of variables.items)) }
+    ensures variables { IfOk result (λ fields. map_of (members_of fields) ≡ variables_of names.now (trees_of variables.items)) }
+    ensures told { IfOk result (λ fields. AreToldByMap (members_of fields)) }
 {
+    trees_stay_in_order();
+    regexes_stay_below();
     let mut fields = Fields::new(BTreeMap::new(alloc));
     let mut left = names.as_slice();
     for variable in variables {

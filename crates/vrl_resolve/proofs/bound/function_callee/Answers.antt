@@ -1,4 +1,4 @@
-use Rattle.std.proofs.Common.{◌≡◌, ◌∙◌, ap, subst, sym, refl, IfOk, Some, None}
+use Rattle.std.proofs.Common.{◌≡◌, ◌∙◌, ap, subst, sym, refl, IfOk, Some}
 use Rattle.vrl_syntax.specs.View.{args_of}
 use Rattle.vrl_table.specs.Table.{function_named}
 use Rattle.vrl_resolve.specs.Linking.{IsFunctionCallee}

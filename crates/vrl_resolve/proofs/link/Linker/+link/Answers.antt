@@ -1,5 +1,4 @@
 use Rattle.std.proofs.Common.{◌≡◌, ◌<◌, ◌≤◌, true, false, length, map, option_map, rules, sym, ap, ap₂, ◌∙◌, subst, arith}
-use Rattle.std.proofs.lemmas.List.{map-append}
 use Rattle.std.proofs.lemmas.Result.{IfOk-weaker}
 use Rattle.std.specs.Prelude.{⊤}
 use Rattle.vrl_value.specs.View.{tree_of}
@@ -14,7 +13,7 @@ use Rattle.vrl_resolve.specs.Linking.{a_bare_abort, a_binary, a_block, a_conditi
 use Rattle.vrl_resolve.specs.declared.node.Form.{the_lemmas}
 use Rattle.vrl_resolve.proofs.LinkedCalls.{call_made}
 use Rattle.vrl_resolve.proofs.Links.{any_made, any_stands, form_made, form_stands, group_stands, links_and_numbers, links_behind_tag, links_itself, links_then, links_weaker, numbers_and_links, same_names}
-use Rattle.vrl_resolve.proofs.Partway.{args_end, args_next, arms_end, arms_next, array_end, body_seen, array_next, items_end, items_next, next_arg, next_arm, next_item, next_pair, no_arg_left, no_arm_left, no_item_left, no_more_items, no_pair_left, object_end, object_next, pairs_pushed, predicate_seen}
+use Rattle.vrl_resolve.proofs.Partway.{args_end, args_next, arms_end, arms_next, arms_pushed, array_end, body_seen, array_next, items_end, items_next, next_arg, next_arm, next_item, next_pair, no_arg_left, no_arm_left, no_item_left, no_more_items, no_pair_left, nodes_pushed, object_end, object_next, pairs_pushed, predicate_seen}
 use Rattle.vrl_resolve.proofs.WrittenArguments.{value_seen}
 use Rattle.vrl_resolve.proofs.link.Linker.+link.Goals as goal
 
@@ -238,7 +237,7 @@ array-loop-part-preserved t c =
     let all = c.as_slice-part-items.result.now in
     let below : i < length all = omega arith in
     array_next c.args.self.now c.loop-part.self c.node.new.self (exprs_of c.args.parts.now) _ _ _ (map linked_of c.loop-part.nodes.items) _ (linked_of c.in_ok-node.node) (next_item all i c.part-item.result below c.part-item.is)
-    (ap (map linked_of) c.in_ok-push.ensures.items ∙ map-append linked_of c.loop-part.nodes.items _) c.loop-part.invariant c.in_ok-node.ensures
+    (nodes_pushed c.loop-part.nodes.items c.push.new.self.items c.in_ok-node.node c.in_ok-push.ensures.items) c.loop-part.invariant c.in_ok-node.ensures
 
 pub array-returns : goal.array-returns
 array-returns t c =
@@ -273,7 +272,7 @@ args-loop-arg-preserved t c =
     let a = c.arg-item.result in
     let node = linked_of c.in_ok-node.node in
     args_next c.args.self.now c.loop-arg.self c.node.new.self (args_of c.args.args.now) _ _ _ _ _ (map linked_of c.loop-arg.nodes.items) _ node (next_arg all i a below c.arg-item.is)
-    (ap (map linked_of) c.in_ok-push.ensures.items ∙ map-append linked_of c.loop-arg.nodes.items _) c.loop-arg.invariant
+    (nodes_pushed c.loop-arg.nodes.items c.push.new.self.items c.in_ok-node.node c.in_ok-push.ensures.items) c.loop-arg.invariant
     (subst (λ e. Links c.loop-arg.self c.node.new.self (in_expr e) (λ names tags. IsLinked names tags true e node)) (sym (value_seen a)) c.in_ok-node.ensures)
 
 pub args-returns : goal.args-returns
@@ -292,7 +291,7 @@ arms-loop-arm-preserved t c =
     let predicate = linked_of c.in_ok-predicate.predicate in
     let body = parts_view c.in_ok-body.body.items in
     arms_next c.args.self.now c.loop-arm.self c.node.new.self c.items.new.self c.args.is_asked (arms_of c.args.arms.now) _ _ _ _ (map arm_of c.loop-arm.linked.items) _ _ predicate body (next_arm all i a below c.arm-item.is)
-    (ap (map arm_of) c.in_ok-push.ensures.items ∙ map-append arm_of c.loop-arm.linked.items _) (search (rules, the_lemmas)) c.loop-arm.invariant
+    (arms_pushed c.loop-arm.linked.items c.push.new.self.items _ c.in_ok-push.ensures.items) (search (rules, the_lemmas)) c.loop-arm.invariant
     (subst (λ e. Links c.loop-arm.self c.node.new.self (in_expr e) (λ names tags. IsLinked names tags true e predicate)) (sym (predicate_seen a)) c.in_ok-predicate.ensures)
     (subst (λ es. Links c.node.new.self c.items.new.self (in_exprs es) (λ names tags. AreItemsLinked names tags c.args.is_asked es body)) (sym (body_seen a)) c.in_ok-body.ensures)
 
@@ -307,7 +306,7 @@ pub items-loop-item-preserved : goal.items-loop-item-preserved
 items-loop-item-preserved t c =
     let others = c.in-Some.others.now in
     items_next c.args.self.now c.loop-item.self c.node.new.self c.args.is_asked c.is_asked_of_item.result (exprs_of c.args.items.now) (exprs_view c.loop-item.left.now) (exprs_view others) (expr_of c.in-Some.item.now) (map linked_of c.loop-item.nodes.items) _ (linked_of c.in_ok-node.node)
-    (ap exprs_view c.in-Some.ensures.cases.0) (ap (map linked_of) c.in_ok-push.ensures.items ∙ map-append linked_of c.loop-item.nodes.items _) c.is_asked_of_item.ensures c.loop-item.invariant c.in_ok-node.ensures
+    (ap exprs_view c.in-Some.ensures.cases.0) (nodes_pushed c.loop-item.nodes.items c.push.new.self.items c.in_ok-node.node c.in_ok-push.ensures.items) c.is_asked_of_item.ensures c.loop-item.invariant c.in_ok-node.ensures
 
 pub items-returns : goal.items-returns
 items-returns t c =

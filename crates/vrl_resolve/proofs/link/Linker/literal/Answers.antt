@@ -1,5 +1,4 @@
 use Rattle.std.proofs.Common.{◌≡◌, ◌∙◌, ap, rules, subst, sym}
-use Rattle.vrl_value.specs.Tree.{IsOrdered}
 use Rattle.vrl_value.specs.View.{tree_of}
 use Rattle.vrl_syntax.specs.Tree.{literal}
 use Rattle.vrl_resolve.specs.Linked as linked
