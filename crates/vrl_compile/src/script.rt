@@ -1,5 +1,4 @@
 ghost use Rattle.std.specs.Prelude.{◌≡◌, ◌≤◌, ◌∷◌, [], false, List, ℕ, IfErr, IfOk, length};
-ghost use Rattle.std.specs.List.{list_any};
 ghost use Rattle.vrl_kind.specs.Canonical.{allows_absent};
 ghost use Rattle.vrl_kind.specs.KindTree.{KindTree};
 ghost use Rattle.vrl_syntax.specs.Limits.{KeepsLimits};
@@ -9,7 +8,7 @@ ghost use Rattle.vrl_token.specs.OnFault.{OnFault};
 ghost use Rattle.vrl_token.specs.declared.token.Spanned.{Spanned as SpecSpanned};
 ghost use Rattle.vrl_parse.specs.Reading.{sources_of, Reads};
 ghost use Rattle.vrl_check.specs.Answer.{IsJudged};
-ghost use Rattle.vrl_check.specs.Judgement.{is_error, Judgement, JudgesScript};
+ghost use Rattle.vrl_check.specs.Judgement.{Judgement, JudgesScript};
 ghost use Rattle.vrl_compile.specs.Answer.{CanBeJudged, IsAnswer, IsRefused, IsScript, IsSoundAnswer, not_built};
 
 use crate::built::are_built;
@@ -24,7 +23,7 @@ use vrl_pattern::Patterns;
 use vrl_resolve::Program;
 use vrl_syntax::Script;
 use vrl_token::{SyntaxFault, Tokens, tokens};
-use vrl_value::{Chars, Memory, Names};
+use vrl_value::{Memory, Names};
 
 /// The most bytes of a script.
 pub const SCRIPT_LIMIT: usize = 65_536;
@@ -143,27 +142,16 @@ fn decided(
         → JudgesScript script.patterns declared (exprs_of script.items) judgement → IsJudged judgement judged
         → IfOk result (IsAnswer declared text) }
 {
-    if has_error(judged.diagnostics.as_slice()) {
+    if judged.diagnostics.has_error() {
         return Ok(Compiled::Refused(judged.diagnostics));
     }
-    let sources = copied(alloc, patterns.sources())?;
+    let sources = patterns.copy_sources(alloc)?;
     let program = Program::link(alloc, script, &judged.empties, patterns)?;
     Ok(Compiled::Accepted(Accepted {
         program,
         judged,
         sources,
     }))
-}
-
-// The same texts.
-fn copied(alloc: Global, texts: &[Chars]) -> Result<Names, Memory>
-    ensures { IfOk result (λ names. names ≡ texts.now) }
-{
-    let mut copies = Vec::with_capacity(alloc, texts.len())?;
-    for text in texts {
-        copies.push(text.copy(alloc)?)?;
-    }
-    Ok(Names::new(copies))
 }
 
 // What is wrong with a text that calls a function which isn't built.
@@ -182,13 +170,4 @@ fn alone(alloc: Global, diagnostic: Diagnostic) -> Result<Diagnostics, Memory>
     let mut diagnostics = Vec::new(alloc);
     diagnostics.push(diagnostic)?;
     Ok(Diagnostics::new(diagnostics))
-}
-
-// Whether some diagnostic is an error: each but 651 is.
-fn has_error(diagnostics: &[Diagnostic]) -> bool
-    ensures { result ≡ list_any is_error diagnostics.now }
-{
-    diagnostics
-        .iter()
-        .any(|d| d.code != code::UNNECESSARY_ERROR_COALESCING)
 }

@@ -1,4 +1,5 @@
 pub mod Codes
 pub mod Position
+pub mod Refusal
 pub mod Rendering
 pub mod Table

@@ -1,5 +1,8 @@
 ghost use Rattle.std.specs.Prelude.{◌≡◌};
+ghost use Rattle.std.specs.List.{list_any};
+ghost use Rattle.vrl_diag.specs.Refusal.{is_error};
 
+use crate::code;
 use std::fmt;
 use std::marker::Model;
 
@@ -75,6 +78,15 @@ impl Diagnostics {
         ensures { result.now ≡ self.now }
     {
         &self.diagnostics
+    }
+
+    /// Whether one of them refuses the script: each but a 651 does. It takes no memory.
+    pub fn has_error(&self) -> bool
+        ensures { result ≡ list_any is_error self.now }
+    {
+        self.diagnostics
+            .iter()
+            .any(|d| d.code != code::UNNECESSARY_ERROR_COALESCING)
     }
 
     /// The diagnostics, given back. It takes no memory.

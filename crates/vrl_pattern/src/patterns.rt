@@ -60,6 +60,13 @@ impl Patterns {
         &self.sources
     }
 
+    /// All sources in order, copied. `Memory`: want of memory.
+    pub fn copy_sources(&self, alloc: Global) -> Result<Names, Memory>
+        ensures { IfOk result (λ sources. sources ≡ self.now) }
+    {
+        Ok(Names::new(copy_of(alloc, &self.sources)?))
+    }
+
     /// The names of the capturing groups of the regex with this number: one for each, from group 0 on, which is the whole match; that of
     /// a group without a name is empty. `Memory`: want of memory.
     pub fn names(&self, alloc: Global, number: u32) -> Result<Names, Memory>

@@ -8,12 +8,12 @@ use Rattle.vrl_compile.proofs.script.decided.Goals as goal
 
 pub returns-then-has_error : goal.returns-then-has_error
 returns-then-has_error c = λ declared text tokens judgement is can judges judged.
-    let error : list_any is_error c.args.judged.diagnostics ≡ true = ap (list_any is_error) (sym c.as_slice.ensures) ∙ sym c.has_error.ensures ∙ c.if-has_error.true in
+    let error : list_any is_error c.args.judged.diagnostics ≡ true = sym c.has_error.ensures ∙ c.if-has_error.true in
     refused declared text tokens (script_of c.args.script) judgement c.args.judged.diagnostics is can judges judged.diagnostics error
 
 pub returns : goal.returns
 returns c = λ declared text tokens judgement is can judges judged.
-    let none : list_any is_error c.args.judged.diagnostics ≡ false = ap (list_any is_error) (sym c.as_slice.ensures) ∙ sym c.has_error.ensures ∙ c.if-has_error.false in
+    let none : list_any is_error c.args.judged.diagnostics ≡ false = sym c.has_error.ensures ∙ c.if-has_error.false in
     let items = exprs_of c.args.script.items in
     record {
       script = script_of c.args.script;
@@ -21,5 +21,5 @@ returns c = λ declared text tokens judgement is can judges judged.
       accepted = accepted declared text tokens (script_of c.args.script) judgement c.args.judged.diagnostics is can judges judged.diagnostics none;
       judged = judged;
       program = c.in_ok-program.ensures ∙ ap (λ tags. script_program items tags c.args.patterns) judged.empties ∙ ap (script_program items judgement.empties) c.requires.patterns;
-      sources = c.in_ok-sources.ensures ∙ c.sources.ensures ∙ c.requires.patterns;
+      sources = c.in_ok-sources.ensures ∙ c.requires.patterns;
     }
