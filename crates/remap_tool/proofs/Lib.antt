@@ -1,9 +1,3 @@
 pub mod AnswerLemmas
-pub mod Declared
-pub mod Fronts
-pub mod Gathering
-pub mod LineLemmas
 pub mod OneAnswer
-pub mod RunLemmas
 pub mod RunSound
-pub mod SinkLemmas

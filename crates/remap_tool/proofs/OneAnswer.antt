@@ -10,11 +10,14 @@ use Rattle.vrl_check.specs.Determined.{JudgementsAreDetermined}
 use Rattle.vrl_check.specs.Judgement.{JudgesScript}
 use Rattle.vrl_compile.specs.Program.{program_for}
 use Rattle.vrl_resolve.specs.Program.{ProgramTree}
-use Rattle.remap_tool.specs.Answer.{AreAnsweredAlike, HasOneAnswer, answer_to, same as same_answer, both_unread as both_unread_answers}
-use Rattle.remap_tool.specs.Request.{Asks, AsksByScript, Held, IsAccepted, IsLoaded, IsRefused, bad_script, bad_words, event_kind, has_error, no_text, run}
-use Rattle.remap_tool.specs.Status.{IsRefusal}
+use Rattle.vrl_run.specs.Answer.{answer_to}
+use Rattle.vrl_run.specs.Events.{event_kind}
+use Rattle.vrl_run.specs.Request.{bad_script, bad_words, run}
+use Rattle.vrl_run.specs.Status.{IsRefusal}
+use Rattle.vrl_run.specs.declared.status.Status.{Status}
+use Rattle.remap_tool.specs.OneAnswer.{AreAnsweredAlike, HasOneAnswer, same as same_answer, both_unread as both_unread_answers}
+use Rattle.remap_tool.specs.Request.{Asks, AsksByScript, Held, IsAccepted, IsLoaded, IsRefused, has_error, no_text}
 use Rattle.remap_tool.specs.Words.{Command, script, usage}
-use Rattle.remap_tool.specs.declared.status.Status.{Status}
 
 -- ---- a text is refused or accepted, in one way
 

@@ -1,6 +1,5 @@
 -- A script that was accepted handles each of its errors over each event.
 use Rattle.std.proofs.Common.{◌≡◌, ℕ, ℤ, List, IsTrue, length, sym, subst}
-use Rattle.vrl_value.specs.Laws.{MembersStayJson}
 use Rattle.vrl_value.specs.Regexes.{regexes_below}
 use Rattle.vrl_value.specs.Tree.{Tree, IsOrdered, is_json, is_object}
 use Rattle.vrl_diag.specs.declared.diagnostic.Diagnostic.{Diagnostic}
@@ -14,9 +13,10 @@ use Rattle.vrl_compile.specs.Reading.{ScriptsHaveOneReading}
 use Rattle.vrl_resolve.specs.Program.{ProgramTree, ended_over}
 use Rattle.vrl_resolve.specs.WellFormed.{IsWellFormed}
 use Rattle.vrl_run.specs.LineResult.{HandlesErrors}
-use Rattle.remap_tool.specs.Request.{Asks, AsksByScript, Held, IsAccepted, IsTextOf, event_kind, run}
+use Rattle.vrl_run.specs.Events.{ObjectsAreEvents, event_kind}
+use Rattle.vrl_run.specs.Request.{run}
+use Rattle.remap_tool.specs.Request.{Asks, AsksByScript, Held, IsAccepted, IsTextOf}
 use Rattle.remap_tool.specs.Words.{Command, script, usage}
-use Rattle.remap_tool.proofs.Declared.{object_is_declared}
 
 -- what its judgement says holds of its run over each event of the kind
 accepted_is_sound : AcceptedScriptsAreSound → {text : List ℕ} {program : ProgramTree} {warnings : List Diagnostic} (is : IsAccepted text program warnings) (moment : ℤ) (event : Tree) → Inhabits event event_kind → IsWellFormed (length program.sources) event
@@ -42,7 +42,7 @@ pub record LinesAreEvents : Type 0 where
   pub json : (line : List ℕ) (tree : Tree) → reading_of line ≡ whole tree → IsTrue (is_json tree)
   pub ordered : (line : List ℕ) (tree : Tree) → reading_of line ≡ whole tree → IsOrdered tree
   pub below : (count : ℕ) (tree : Tree) → IsTrue (is_json tree) → IsTrue (regexes_below count tree)
-  pub members : MembersStayJson
+  pub objects : ObjectsAreEvents
 
 -- and so whatever the judgement of the script is, it holds of its run over each line that stands for an object
 pub run_is_sound : AcceptedScriptsAreSound → ScriptsHaveOneReading → JudgementsAreDetermined → LinesAreEvents → (held : Held) (command : Command) (text : List ℕ) (program : ProgramTree) (warnings : List Diagnostic)
@@ -55,4 +55,4 @@ run_is_sound sound reads one lines held command text program warnings asks s wri
     let same : s ≡ is.script = (reads text written.tokens is.accepted.tokens s is.script written.is_script is.accepted.is_script).script_is in
     let told : JudgesScript is.script.patterns event_kind is.script.items judgement = subst (λ x. JudgesScript x.patterns event_kind x.items judgement) same judges in
     subst (λ j. IsSoundlyEnded (ends_of j) (ended_over program moment event)) (one is.script.patterns event_kind is.script.items is.judgement judgement is.accepted.judges told)
-    (accepted_is_sound sound is moment event (object_is_declared lines.members event json an_object) formed)
+    (accepted_is_sound sound is moment event (lines.objects event json an_object) formed)

@@ -1,10 +1,8 @@
 -- What a call asks: the words tell it, and the script that they name.
-use Rattle.std.specs.Prelude.{◌≡◌, ℕ, ◌+◌, List, [], ◌∷◌, take, Option, Some, option_map, IfSome}
+use Rattle.std.specs.Prelude.{◌≡◌, ℕ, ◌+◌, List, [], ◌∷◌, ◌++◌, take, Option, Some, option_map, IfSome}
 use Rattle.vrl_compile.specs.Answer.{IsAccepted as IsAcceptedText, IsRefused as IsRefusedText, IsScript}
 use Rattle.vrl_compile.specs.Program.{program_for}
 use Rattle.vrl_diag.specs.declared.diagnostic.Diagnostic.{Diagnostic}
-use Rattle.vrl_kind.specs.KindTree.{KindTree, json_rest, no_fields}
-use Rattle.vrl_kind.specs.Make.{object_kind}
 use Rattle.vrl_check.specs.Judgement.{Judgement}
 use Rattle.vrl_check.specs.Ordered.{AreOrdered}
 use Rattle.vrl_resolve.specs.Program.{ProgramTree, program_of}
@@ -13,6 +11,7 @@ use Rattle.vrl_token.specs.Reading.{IsNoScript}
 use Rattle.vrl_token.specs.declared.token.Spanned.{Spanned}
 use Rattle.vrl_compile.specs.declared.script.Compiled.{Compiled}
 use Rattle.vrl_compile.specs.declared.script.Compiled.TheVariants.{Accepted, Refused}
+use Rattle.vrl_run.specs.Request.{Request, bad_script, bad_words, event_kind, run}
 use Rattle.remap_tool.specs.Words.{Command, usage, script}
 
 -- what a store may tell: the bytes that a name holds
@@ -26,10 +25,6 @@ script_limit = 65536
 -- 1009, script too long or not UTF-8
 abbrev pub no_script_text : List Diagnostic
 no_script_text = record { code = 1009; span = record { start = 0; end = 0 } } ∷ []
-
--- the kind of the events that are taken: an object whose fields are any of JSON
-abbrev pub event_kind : KindTree
-event_kind = object_kind no_fields json_rest
 
 -- the bytes are those of a script that is accepted over such events: the program that it is run as, of which no diagnostic is an error, and its
 -- warnings
@@ -60,14 +55,6 @@ IsScriptAnswer text (Refused diagnostics) = IsRefused text diagnostics
 abbrev pub IsLoaded : Held → List ℕ → List ℕ → Type 0
 IsLoaded held name text = IfSome held (λ h. option_map (take (script_limit + 1)) (h name) ≡ Some text)
 
-pub data Request : Type 0 where
-  -- the words are refused
-  bad_words : Request
-  -- the script is refused: its text, and what is wrong with it
-  bad_script : List ℕ → List Diagnostic → Request
-  -- the script runs over the input: its text, the program that it is run as, and its warnings
-  run : List ℕ → ProgramTree → List Diagnostic → Request
-
 abbrev pub AsksByScript : List ℕ → Request → Type 0
 AsksByScript text bad_words = ⊥
 AsksByScript text (bad_script told diagnostics) = (told ≡ text) × IsRefused text diagnostics
@@ -82,6 +69,7 @@ Asks held (script name) request = (text : List ℕ) × IsLoaded held name text �
 abbrev pub IsScriptAccepted : Held → Command → Type 0
 IsScriptAccepted held command = (text : List ℕ) × (program : ProgramTree) × (warnings : List Diagnostic) × Asks held command (run text program warnings)
 
--- the request to run this script
-abbrev pub IsRunOf : List ℕ → ProgramTree → List Diagnostic → Request → Type 0
-IsRunOf text program warnings request = request ≡ run text program warnings
+-- the name of the script was added to the failures
+abbrev pub IsLoadFailed : Command → List (List ℕ) → List (List ℕ) → Type 0
+IsLoadFailed usage failures failures_after = ⊥
+IsLoadFailed (script name) failures failures_after = failures_after ≡ failures ++ name ∷ []

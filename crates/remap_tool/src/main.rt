@@ -1,23 +1,15 @@
 //! `remap SCRIPT < events.jsonl`: runs a script over lines of JSON.
 #![tactic(auto)]
 
-mod gather;
-mod give;
-mod lines;
-mod results;
-mod script;
-mod status;
-#[cfg(test)]
-mod tests;
 mod tool;
 mod words;
 
-pub use status::Status;
 use std::process::ExitCode;
 use std::rt::Env;
 use std::{env, io};
 pub use tool::remap;
 use vrl_io::{FileStore, StdSink, StdSource, SystemClock};
+use vrl_run::Status;
 
 fn main(rt: HostRuntime) -> ExitCode {
     let words = match words_of(&rt) {

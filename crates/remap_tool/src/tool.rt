@@ -5,39 +5,30 @@ ghost use Rattle.vrl_value.specs.Tree.{Tree, is_object};
 ghost use Rattle.vrl_check.specs.Judgement.{Judgement, JudgesScript};
 ghost use Rattle.vrl_compile.specs.Answer.{IsSoundlyEnded, ends_of};
 ghost use Rattle.vrl_diag.specs.declared.diagnostic.Diagnostic.{Diagnostic as SpecDiagnostic};
-ghost use Rattle.vrl_resolve.specs.Program.{ProgramTree, ended_over, program_of};
+ghost use Rattle.vrl_resolve.specs.Program.{ProgramTree, ended_over};
 ghost use Rattle.vrl_syntax.specs.Tree.{Script as SpecScript};
-ghost use Rattle.vrl_run.specs.LineResult.{HandlesErrors};
+ghost use Rattle.vrl_run.specs.Devices.{devices, LeavesDevices};
+ghost use Rattle.vrl_run.specs.Events.{event_kind};
+ghost use Rattle.vrl_run.specs.Request.{bad_script, run as run_request};
+ghost use Rattle.vrl_run.specs.Status.{IsAnswer, IsOfLines, IsUnread, IsRefusal};
+ghost use Rattle.remap_tool.specs.OneAnswer.{HasOneAnswer};
+ghost use Rattle.remap_tool.specs.Request.{Asks, AsksByScript, IsAccepted, IsLoadFailed, IsScriptAccepted, IsScriptAnswer, IsTextOf};
 ghost use Rattle.remap_tool.specs.Words.{command, usage};
-ghost use Rattle.vrl_diag.specs.Rendering.{diagnostic_lines};
-ghost use Rattle.remap_tool.specs.Answer.{HasOneAnswer, usage_line};
-ghost use Rattle.remap_tool.specs.Request.{Asks, AsksByScript, IsAccepted, IsScriptAccepted, IsRunOf, IsScriptAnswer, IsTextOf, bad_script, event_kind, run as run_request};
-ghost use Rattle.remap_tool.specs.Results.{answer_of};
-ghost use Rattle.remap_tool.specs.Devices.{devices, Appends, AppendsFront, IsLoadFailed, LeavesDevices};
-ghost use Rattle.remap_tool.specs.Status.{IsAnswer, IsOfLines, IsUnread, IsRefusal};
 
-use crate::gather::{GatherFault, gather};
-use crate::give::give_all;
-use crate::results::{Results, run_lines};
-use crate::script::Script;
-use crate::status::Status;
 use crate::words::script_name;
 use std::alloc::Global;
 use std::thread::Threads;
 use vrl_check::judgements_are_determined;
 use vrl_compile::{
-    Compiled, Diagnostic, Diagnostics, SCRIPT_LIMIT, accepted_scripts_are_sound, compile,
+    Compiled, Diagnostics, SCRIPT_LIMIT, accepted_scripts_are_sound, compile,
     diagnostics_are_determined, scripts_have_one_reading,
 };
-use vrl_diag::render_all;
 use vrl_io::{Clock, LoadFault, Sink, Source, Store};
 use vrl_json::{json_needs_no_sources, lines_are_json, lines_are_ordered};
 use vrl_kind::{Kind, Rest, equal_tags_are_one_kind, kind_is_canonical};
+use vrl_run::{Request, Script, Status, answer, objects_are_events};
 use vrl_token::script_text;
-use vrl_value::{Memory, members_stay_json};
-
-/// What is reported where the words are refused.
-const USAGE_LINE: &str = "usage: remap SCRIPT\n";
+use vrl_value::Memory;
 
 /// All that the program does: reads the words, which are those behind the program's name, loads the script
 /// that they name, and runs it over the lines of the input. Events go to `output`; diagnostics, and reports
@@ -111,10 +102,10 @@ pub fn remap<R: Threads + Sync, F: Store, S: Source, O: Sink, E: Sink, C: Clock>
     lines_are_json();
     lines_are_ordered();
     json_needs_no_sources();
-    members_stay_json();
+    objects_are_events();
     let name = match script_name(words) {
         Some(name) => name,
-        None => return refuse_words(report),
+        None => return answer(alloc, &Request::Words, input, output, report, clock),
     };
     match files.load(name, SCRIPT_LIMIT + 1) {
         Ok(script) => run_script(alloc, script.as_slice(), input, output, report, clock),
@@ -155,17 +146,18 @@ fn run_script<S: Source, O: Sink, E: Sink, C: Clock>(
     match compile_bytes(alloc, text, &declared) {
         Ok(Compiled::Accepted(accepted)) => {
             accepted_scripts_are_sound();
-            let script = Script {
+            let request = Request::Run(Script {
                 text,
                 program: &accepted.program,
                 sources: &accepted.sources,
                 declared: &declared,
                 warnings: accepted.judged.diagnostics.as_slice(),
-            };
-            run_program(alloc, &script, input, output, report, clock)
+            });
+            answer(alloc, &request, input, output, report, clock)
         }
         Ok(Compiled::Refused(diagnostics)) => {
-            refuse_script(alloc, text, diagnostics.as_slice(), report)
+            let request = Request::Refused(text, diagnostics.as_slice());
+            answer(alloc, &request, input, output, report, clock)
         }
         Err(Memory) => Status::Memory,
     }
@@ -189,110 +181,5 @@ fn compile_bytes(alloc: Global, bytes: &[u8], declared: &Kind) -> Result<Compile
     match script_text(bytes) {
         Ok(text) => compile(alloc, text, declared),
         Err(fault) => Ok(Compiled::Refused(Diagnostics::new(vec![in alloc; fault]?))),
-    }
-}
-
-// Runs a script over the lines of the input.
-fn run_program<S: Source, O: Sink, E: Sink, C: Clock>(
-    alloc: Global,
-    script: &Script,
-    input: &mut S,
-    output: &mut O,
-    report: &mut E,
-    clock: &mut C,
-) -> Status
-    requires declared { script.now.declared.now ≡ event_kind }
-    requires sources { script.now.sources.now ≡ (program_of script.now.program.now).sources }
-    requires handled { HandlesErrors event_kind (program_of script.now.program.now) }
-    ensures devices { LeavesDevices (IsRunOf script.now.text.now (program_of script.now.program.now)
-        script.now.warnings.now) result
-        (devices (S.left input.old) (S.taken input.old) (C.ahead clock.old)
-        (O.written output.old) (E.written report.old))
-        (devices (S.left input.new) (S.taken input.new) (C.ahead clock.new)
-        (O.written output.new) (E.written report.new)) }
-    ensures end { IsOfLines result → IsTrue (S.ended input.new) }
-    ensures read_fault { result ≡ Status.ReadFault
-        → HasRisen (S.faults input.old) (S.faults input.new) }
-    ensures write_fault { result ≡ Status.WriteFault
-        → HasRisen (O.faults output.old) (O.faults output.new)
-        ⊎ HasRisen (E.faults report.old) (E.faults report.new) }
-{
-    let warnings = match render_all(alloc, script.warnings, script.text) {
-        Ok(warnings) => warnings,
-        Err(Memory) => return Status::Memory,
-    };
-    match gather(alloc, input) {
-        Ok(bytes) => {
-            match run_lines(alloc, script, warnings, &bytes, clock) {
-                Ok(results) => write_results(&results, output, report),
-                Err(Memory) => Status::Memory,
-            }
-        }
-        Err(GatherFault::Read) => Status::ReadFault,
-        Err(GatherFault::TooMuch) => Status::TooMuch,
-        Err(GatherFault::Memory) => Status::Memory,
-    }
-}
-
-// Writes what a run wrote.
-fn write_results<O: Sink, E: Sink>(results: &Results, output: &mut O, report: &mut E) -> Status
-    ensures whole { IsAnswer result → (result ≡ (answer_of results.now).status)
-        × Appends (O.written output.old) (O.written output.new) results.now.output.items
-        × Appends (E.written report.old) (E.written report.new) results.now.report.items }
-    ensures front { AppendsFront (O.written output.old) (O.written output.new)
-        results.now.output.items
-        × AppendsFront (E.written report.old) (E.written report.new) results.now.report.items }
-    ensures either { IsOfLines result ⊎ (result ≡ Status.WriteFault) }
-    ensures cause { result ≡ Status.WriteFault
-        → HasRisen (O.faults output.old) (O.faults output.new)
-        ⊎ HasRisen (E.faults report.old) (E.faults report.new) }
-{
-    if give_all(output, &results.output).is_err() || give_all(report, &results.report).is_err() {
-        return Status::WriteFault;
-    }
-    if results.marked {
-        Status::Marked
-    } else {
-        Status::Done
-    }
-}
-
-// Reports how the words go.
-fn refuse_words<E: Sink>(report: &mut E) -> Status
-    ensures whole { result ≡ Status.Usage
-        → Appends (E.written report.old) (E.written report.new) usage_line }
-    ensures front { AppendsFront (E.written report.old) (E.written report.new) usage_line }
-    ensures either { (result ≡ Status.Usage) ⊎ (result ≡ Status.WriteFault) }
-    ensures cause { result ≡ Status.WriteFault
-        → HasRisen (E.faults report.old) (E.faults report.new) }
-{
-    match give_all(report, USAGE_LINE.as_bytes()) {
-        Ok(()) => Status::Usage,
-        Err(_) => Status::WriteFault,
-    }
-}
-
-// Reports what is wrong with a script.
-fn refuse_script<E: Sink>(
-    alloc: Global,
-    text: &[u8],
-    diagnostics: &[Diagnostic],
-    report: &mut E,
-) -> Status
-    ensures whole { result ≡ Status.Refused → Appends (E.written report.old) (E.written report.new)
-        (diagnostic_lines text.now diagnostics.now) }
-    ensures front { AppendsFront (E.written report.old) (E.written report.new)
-        (diagnostic_lines text.now diagnostics.now) }
-    ensures either { (result ≡ Status.Refused) ⊎ (result ≡ Status.WriteFault)
-        ⊎ (result ≡ Status.Memory) }
-    ensures cause { result ≡ Status.WriteFault
-        → HasRisen (E.faults report.old) (E.faults report.new) }
-{
-    match render_all(alloc, diagnostics, text) {
-        Ok(lines) => match give_all(report, &lines) {
-            Ok(()) => Status::Refused,
-            Err(_) => Status::WriteFault,
-        },
-        Err(Memory) => Status::Memory,
     }
 }

@@ -1,6 +1,9 @@
-//! Runs of scripts: how each form ends, what it leaves of an event and of the variables, and what comes of a line.
+//! Runs of scripts: how each form ends, what it leaves of an event and of the variables, what comes of a line, and how requests are
+//! answered over devices that fail.
 #![tactic(auto)]
 
+#[cfg(test)]
+mod answers;
 #[cfg(test)]
 mod forms;
 #[cfg(test)]

@@ -1,4 +1,11 @@
-use vrl_value::{Bytes, Moment};
+ghost use Rattle.std.specs.Prelude.{◌≡◌, IfOk};
+ghost use Rattle.vrl_batch.specs.Lines.{line_at};
+
+use std::alloc::Global;
+use vrl_value::{Bytes, Memory, Moment};
+
+/// The most bytes of a line, its newline not counted.
+const LINE_LIMIT: usize = 1_048_576;
 
 /// A line of the input that isn't blank.
 #[derive(Drop)]
@@ -11,4 +18,20 @@ pub struct Line {
     pub long: bool,
     /// The moment at which it was read.
     pub moment: Moment,
+}
+
+impl Line {
+    /// The line of this number, with these bytes, read at this moment. `Memory`: want of memory.
+    pub fn new(alloc: Global, number: u64, bytes: &[u8], moment: Moment) -> Result<Line, Memory>
+        ensures { IfOk result (λ line. line ≡ line_at moment (number, bytes.now)) }
+    {
+        let long = bytes.len() > LINE_LIMIT;
+        let kept = if long { &[] } else { bytes };
+        Ok(Line {
+            number,
+            bytes: Bytes::new(kept.to_vec(alloc)?),
+            long,
+            moment,
+        })
+    }
 }

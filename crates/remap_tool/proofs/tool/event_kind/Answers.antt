@@ -1,4 +1,4 @@
-use Rattle.remap_tool.specs.Request.{event_kind}
+use Rattle.vrl_run.specs.Events.{event_kind}
 use Rattle.remap_tool.proofs.tool.event_kind.Goals as goal
 
 pub returns : goal.returns

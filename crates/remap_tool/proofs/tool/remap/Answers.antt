@@ -1,32 +1,11 @@
-use Rattle.std.proofs.Common.{arith, rules, subst, [], inr}
-use Rattle.remap_tool.specs.Status.{IsOfLines}
-use Rattle.remap_tool.proofs.AnswerLemmas.{accepted_named, asked_words, asks_named, leaves-by, load_fault_if_added, usage_loads_nothing, usage_only, within_limit, words_not_long}
+use Rattle.std.proofs.Common.{rules}
+use Rattle.remap_tool.proofs.AnswerLemmas.{accepted_named, asks_named, asks_words, leaves-by, load_fault_if_added, usage_loads_nothing}
 use Rattle.remap_tool.proofs.OneAnswer.{is_refusal, one_answer}
 use Rattle.remap_tool.proofs.RunSound.{run_is_sound}
-use Rattle.remap_tool.proofs.SinkLemmas.{appends-nil, appends_front-nil}
 use Rattle.remap_tool.proofs.tool.remap.Goals as goal
 
 pub returns-in-None-clause-devices : goal.returns-in-None-clause-devices
-returns-in-None-clause-devices g c = record {
-  whole = λ answered.
-      let refused = usage_only c.refuse_words.result c.refuse_words.ensures.either answered in
-      record {
-        answer = _;
-        asked = asked_words _ _ _ c.in-None.ensures;
-        status_is = refused;
-        output = appends-nil _;
-        report = c.refuse_words.ensures.whole refused;
-        taken_is = λ lines. absurd (subst IsOfLines refused lines);
-        clock_is = λ lines. absurd (subst IsOfLines refused lines);
-      };
-  front = inr (record {
-    answer = _;
-    asked = asked_words _ _ _ c.in-None.ensures;
-    output = appends_front-nil _ [];
-    report = c.refuse_words.ensures.front;
-  });
-  limit = within_limit c.refuse_words.result _ _ (words_not_long c.refuse_words.result c.refuse_words.ensures.either) (omega arith);
-}
+returns-in-None-clause-devices g c = leaves-by _ _ _ _ _ (asks_words _ _ c.in-None.ensures) c.answer.ensures.devices
 
 pub returns-in-Ok-clause-devices : goal.returns-in-Ok-clause-devices
 returns-in-Ok-clause-devices g c = leaves-by _ _ _ _ _ (asks_named _ _ c.in-Some.name.now c.in-Ok.script c.in-Some.ensures c.in-Ok.ensures.bytes) (rw c.as_slice.ensures at c.run_script.ensures.devices)
@@ -50,19 +29,19 @@ returns-in-Ok-clause-accepted_first g c =
 
 pub returns-in-None-clause-sound : goal.returns-in-None-clause-sound
 returns-in-None-clause-sound g c =
-    run_is_sound c.accepted_scripts_are_sound.ensures c.scripts_have_one_reading.ensures c.judgements_are_determined.ensures (record { json = c.lines_are_json.ensures; ordered = c.lines_are_ordered.ensures; below = c.json_needs_no_sources.ensures; members = c.members_stay_json.ensures }) _ _
+    run_is_sound c.accepted_scripts_are_sound.ensures c.scripts_have_one_reading.ensures c.judgements_are_determined.ensures (record { json = c.lines_are_json.ensures; ordered = c.lines_are_ordered.ensures; below = c.json_needs_no_sources.ensures; objects = c.objects_are_events.ensures }) _ _
 
 pub returns-in-Ok-clause-sound : goal.returns-in-Ok-clause-sound
 returns-in-Ok-clause-sound g c =
-    run_is_sound c.accepted_scripts_are_sound.ensures c.scripts_have_one_reading.ensures c.judgements_are_determined.ensures (record { json = c.lines_are_json.ensures; ordered = c.lines_are_ordered.ensures; below = c.json_needs_no_sources.ensures; members = c.members_stay_json.ensures }) _ _
+    run_is_sound c.accepted_scripts_are_sound.ensures c.scripts_have_one_reading.ensures c.judgements_are_determined.ensures (record { json = c.lines_are_json.ensures; ordered = c.lines_are_ordered.ensures; below = c.json_needs_no_sources.ensures; objects = c.objects_are_events.ensures }) _ _
 
 pub returns-in-Err-Failed-clause-sound : goal.returns-in-Err-Failed-clause-sound
 returns-in-Err-Failed-clause-sound g c =
-    run_is_sound c.accepted_scripts_are_sound.ensures c.scripts_have_one_reading.ensures c.judgements_are_determined.ensures (record { json = c.lines_are_json.ensures; ordered = c.lines_are_ordered.ensures; below = c.json_needs_no_sources.ensures; members = c.members_stay_json.ensures }) _ _
+    run_is_sound c.accepted_scripts_are_sound.ensures c.scripts_have_one_reading.ensures c.judgements_are_determined.ensures (record { json = c.lines_are_json.ensures; ordered = c.lines_are_ordered.ensures; below = c.json_needs_no_sources.ensures; objects = c.objects_are_events.ensures }) _ _
 
 pub returns-in-Err-Memory-clause-sound : goal.returns-in-Err-Memory-clause-sound
 returns-in-Err-Memory-clause-sound g c =
-    run_is_sound c.accepted_scripts_are_sound.ensures c.scripts_have_one_reading.ensures c.judgements_are_determined.ensures (record { json = c.lines_are_json.ensures; ordered = c.lines_are_ordered.ensures; below = c.json_needs_no_sources.ensures; members = c.members_stay_json.ensures }) _ _
+    run_is_sound c.accepted_scripts_are_sound.ensures c.scripts_have_one_reading.ensures c.judgements_are_determined.ensures (record { json = c.lines_are_json.ensures; ordered = c.lines_are_ordered.ensures; below = c.json_needs_no_sources.ensures; objects = c.objects_are_events.ensures }) _ _
 
 pub returns-in-None-clause-load_fault : goal.returns-in-None-clause-load_fault
 returns-in-None-clause-load_fault g c failed = absurd (usage_loads_nothing _ _ _ c.in-None.ensures failed)

@@ -1,35 +1,17 @@
-use Rattle.std.proofs.Common.{arith, subst, [], inr}
-use Rattle.remap_tool.specs.Status.{IsOfLines}
-use Rattle.remap_tool.proofs.AnswerLemmas.{asked_script, asks_run, leaves-by, refused_only, run_is_read, script_not_long, within_limit}
+use Rattle.std.proofs.Common.{refl, inr}
+use Rattle.vrl_run.specs.Request.{bad_script, run}
+use Rattle.remap_tool.specs.Request.{AsksByScript}
+use Rattle.remap_tool.proofs.AnswerLemmas.{leaves-by, only}
 use Rattle.remap_tool.proofs.RunSound.{accepted_handles}
-use Rattle.remap_tool.proofs.SinkLemmas.{appends-nil, appends_front-nil}
 use Rattle.remap_tool.proofs.tool.run_script.Goals as goal
 
 pub returns-in-Ok-Refused-clause-devices : goal.returns-in-Ok-Refused-clause-devices
-returns-in-Ok-Refused-clause-devices g c = record {
-  whole = λ answered.
-      let refused = refused_only c.refuse_script.result c.refuse_script.ensures.either answered in
-      record {
-        answer = _;
-        asked = asked_script c.args.text.now c.in-Ok-Refused.diagnostics _ (rw c.in-Ok-Refused.field-0-is at c.in-Ok-Refused.ensures);
-        status_is = refused;
-        output = appends-nil _;
-        report = rw c.as_slice-in-Ok-Refused.ensures at (c.refuse_script.ensures.whole refused);
-        taken_is = λ lines. absurd (subst IsOfLines refused lines);
-        clock_is = λ lines. absurd (subst IsOfLines refused lines);
-      };
-  front = inr (record {
-    answer = _;
-    asked = asked_script c.args.text.now c.in-Ok-Refused.diagnostics _ (rw c.in-Ok-Refused.field-0-is at c.in-Ok-Refused.ensures);
-    output = appends_front-nil _ [];
-    report = rw c.as_slice-in-Ok-Refused.ensures at c.refuse_script.ensures.front;
-  });
-  limit = within_limit c.refuse_script.result _ _ (script_not_long c.refuse_script.result c.refuse_script.ensures.either) (omega arith);
-}
+returns-in-Ok-Refused-clause-devices g c =
+    leaves-by _ _ _ _ _ (only (AsksByScript c.args.text.now) (bad_script _ _) (refl, rw c.in-Ok-Refused.field-0-is at c.in-Ok-Refused.ensures)) (rw c.as_slice-in-Ok-Refused.ensures at c.answer-in-Ok-Refused.ensures.devices)
 
 pub returns-in-Ok-Accepted-clause-devices : goal.returns-in-Ok-Accepted-clause-devices
 returns-in-Ok-Accepted-clause-devices g c =
-    leaves-by _ _ _ _ _ (asks_run _ _ _ (rw c.in-Ok-Accepted.field-0-is at c.in-Ok-Accepted.ensures).0) (rw c.as_slice.ensures at c.run_program.ensures.devices)
+    leaves-by _ _ _ _ _ (only (AsksByScript c.args.text.now) (run _ _ _) (refl, (rw c.in-Ok-Accepted.field-0-is at c.in-Ok-Accepted.ensures).0)) (rw c.as_slice.ensures at c.answer.ensures.devices)
 
 pub returns-in-Ok-Accepted-clause-refused : goal.returns-in-Ok-Accepted-clause-refused
 returns-in-Ok-Accepted-clause-refused g c = inr (_, _, (rw c.in-Ok-Accepted.field-0-is at c.in-Ok-Accepted.ensures).0)

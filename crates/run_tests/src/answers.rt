@@ -1,0 +1,190 @@
+ghost use Rattle.std.specs.Prelude.{◌≡◌};
+ghost use Rattle.vrl_resolve.specs.Program.{program_of};
+ghost use Rattle.vrl_run.specs.Events.{event_kind};
+ghost use Rattle.vrl_run.specs.LineResult.{HandlesErrors};
+ghost use Rattle.vrl_run.specs.Request.{IsReady};
+
+// Answers to requests, over devices in memory that give pieces and fail.
+use crate::running::{accepted, event_kind};
+use std::alloc::Global;
+use std::process::{Abort, ExitCode};
+use vrl_diag::{Diagnostic, Span};
+use vrl_io::{MemoryClock, MemorySink, MemorySource};
+use vrl_kind::Kind;
+use vrl_resolve::Program;
+use vrl_run::{Request, Script, Status, answer};
+use vrl_value::{Memory, Names};
+
+// The size of the input's pieces, where it comes in pieces, and the number of the call that fails, of the input, the output and the
+// report.
+#[derive(Clone, Copy)]
+struct Faults {
+    pieces: Option<usize>,
+    input: Option<u64>,
+    output: Option<u64>,
+    report: Option<u64>,
+}
+
+const NONE: Faults = Faults {
+    pieces: None,
+    input: None,
+    output: None,
+    report: None,
+};
+
+// A script (`None`: the words are refused), what fails, and what comes of it over `INPUT`: the status, the output and the report.
+type Row = (
+    Option<&'static str>,
+    Faults,
+    Status,
+    &'static str,
+    &'static str,
+);
+
+const INPUT: &str = "{\"a\":1}\n[2]\n{\"c\":3}";
+
+const OUTPUT: &str = "{\"a\":1,\"x\":1}\n{\"c\":3,\"x\":1}\n";
+
+const REPORT: &str = "line 2: refused: not of the declared kind\n";
+
+// What is wrong with each script that isn't accepted.
+const UNDEFINED: [Diagnostic; 1] = [Diagnostic {
+    code: 701,
+    span: Span { start: 5, end: 6 },
+}];
+
+// The numbers of the calls that fail.
+fn failing(alloc: Global, number: Option<u64>) -> Result<Vec<u64>, Memory> {
+    let mut numbers = Vec::new(alloc);
+    if let Some(number) = number {
+        numbers.push(number)?;
+    }
+    Ok(numbers)
+}
+
+fn sink(alloc: Global, number: Option<u64>) -> Result<MemorySink, Memory> {
+    Ok(MemorySink::new(alloc, failing(alloc, number)?))
+}
+
+fn pieces_of(alloc: Global, size: Option<usize>) -> Result<Vec<usize>, Memory> {
+    let mut pieces = Vec::new(alloc);
+    if let Some(size) = size {
+        pieces.resize(20, size)?;
+    }
+    Ok(pieces)
+}
+
+// The input, and how it comes.
+fn source(alloc: Global, faults: &Faults) -> Result<MemorySource, Memory> {
+    let bytes = INPUT.as_bytes().to_vec(alloc)?;
+    let pieces = pieces_of(alloc, faults.pieces)?;
+    Ok(MemorySource::new(bytes, pieces, failing(alloc, faults.input)?))
+}
+
+// Whether a request is answered as the row wants it.
+fn is_answered(alloc: Global, request: &Request, row: &Row) -> Result<bool, Memory>
+    requires { IsReady request.now }
+{
+    let (_script, faults, status, written, reported) = row;
+    let mut input = source(alloc, faults)?;
+    let mut output = sink(alloc, faults.output)?;
+    let mut report = sink(alloc, faults.report)?;
+    let mut clock = MemoryClock::new(Vec::new(alloc));
+    let told = answer(
+        alloc,
+        request,
+        &mut input,
+        &mut output,
+        &mut report,
+        &mut clock,
+    );
+    Ok(told == *status
+        && output.written() == written.as_bytes()
+        && report.written() == reported.as_bytes())
+}
+
+// Whether a script that runs does what the row wants.
+fn is_run(
+    alloc: Global,
+    text: &str,
+    program: &Program,
+    sources: &Names,
+    declared: &Kind,
+    row: &Row,
+) -> Result<bool, Memory>
+    requires kind { declared.now ≡ event_kind }
+    requires sources { sources.now ≡ (program_of program.now).sources }
+    requires handled { HandlesErrors event_kind (program_of program.now) }
+{
+    let request = Request::Run(Script {
+        text: text.as_bytes(),
+        program,
+        sources,
+        declared,
+        warnings: &[],
+    });
+    is_answered(alloc, &request, row)
+}
+
+fn is_told(alloc: Global, text: &str, row: &Row) -> Result<bool, Memory> {
+    let declared = event_kind(alloc)?;
+    match accepted(alloc, text, &declared)? {
+        Some(script) => is_run(alloc, text, &script.program, &script.sources, &declared, row),
+        None => is_answered(alloc, &Request::Refused(text.as_bytes(), &UNDEFINED), row),
+    }
+}
+
+fn holds(alloc: Global, row: &Row) -> Result<bool, Memory> {
+    match row.0 {
+        Some(text) => is_told(alloc, text, row),
+        None => is_answered(alloc, &Request::Words, row),
+    }
+}
+
+#[rattlefmt::skip]
+const FAULTS: [Row; 12] = [
+    // The input in pieces.
+    (Some(".x = 1"), Faults { pieces: Some(1), ..NONE }, Status::Marked, OUTPUT, REPORT),
+    (Some(".x = 1"), Faults { pieces: Some(7), ..NONE }, Status::Marked, OUTPUT, REPORT),
+    (Some(".x = 1"), Faults { pieces: Some(100), ..NONE }, Status::Marked, OUTPUT, REPORT),
+    // A take fails: in pieces of 7 bytes the input of 19 bytes takes three calls, and one that tells its end.
+    (Some(".x = 1"), Faults { pieces: Some(7), input: Some(0), ..NONE }, Status::ReadFault, "", ""),
+    (Some(".x = 1"), Faults { pieces: Some(7), input: Some(1), ..NONE }, Status::ReadFault, "", ""),
+    (Some(".x = 1"), Faults { pieces: Some(7), input: Some(2), ..NONE }, Status::ReadFault, "", ""),
+    (Some(".x = 1"), Faults { pieces: Some(7), input: Some(3), ..NONE }, Status::ReadFault, "", ""),
+    // A write fails: of the output, the report, the diagnostics of a script, and the usage line.
+    (Some(".x = 1"), Faults { output: Some(0), ..NONE }, Status::WriteFault, "", ""),
+    (Some(".x = 1"), Faults { report: Some(0), ..NONE }, Status::WriteFault, OUTPUT, ""),
+    (Some(".x = y"), Faults { report: Some(0), ..NONE }, Status::WriteFault, "", ""),
+    (None, Faults { report: Some(0), ..NONE }, Status::WriteFault, "", ""),
+    (None, NONE, Status::Usage, "", "usage: remap SCRIPT\n"),
+];
+
+#[test]
+fn devices_fail(rt: HostRuntime) -> Result<(), Memory> {
+    let alloc = rt.alloc();
+    for row in &FAULTS {
+        let is_so = holds(alloc, row)?;
+        assert!(rt; is_so, "at {:?}", row.0);
+    }
+    Ok(())
+}
+
+#[test]
+fn exit_codes(rt: HostRuntime) {
+    for (status, number) in &[
+        (Status::Done, 0u8),
+        (Status::Refused, 1),
+        (Status::Usage, 2),
+        (Status::ReadFault, 3),
+        (Status::WriteFault, 4),
+        (Status::Memory, 5),
+        (Status::Marked, 7),
+        (Status::TooMuch, 8),
+    ] {
+        assert!(rt;
+            status.exit_code() == ExitCode::from(*number),
+            "at {status:?}"
+        );
+    }
+}

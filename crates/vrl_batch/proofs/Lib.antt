@@ -1,0 +1,4 @@
+pub mod Fronts
+pub mod Gathering
+pub mod LineLemmas
+pub mod SinkLemmas

@@ -1,0 +1,100 @@
+ghost use Rattle.std.specs.Prelude.{◌≡◌, ◌≤◌, ◌<◌, IfOk, IfErr, OnOk, IfSome, IsTrue, [], length, vec_len};
+ghost use Rattle.vrl_batch.specs.Gathered.{IsGathered, HasCause, TakesOnto, HasPieceCause};
+
+use std::alloc::{AllocError, Global};
+use std::cmp::min;
+use vrl_io::Source;
+
+/// The most bytes that an input may have: 2^40.
+const INPUT_LIMIT: usize = 1 << 40;
+
+/// How many bytes one take asks for.
+const PIECE: usize = 65_536;
+
+/// Why the bytes of a source were not gathered.
+#[derive(Clone, Copy, Debug, PartialEq, Eq)]
+pub enum GatherFault {
+    /// The source failed.
+    Read,
+    /// The source has more than 2^40 bytes.
+    TooMuch,
+    /// Want of memory.
+    Memory,
+}
+
+/// All the bytes of a source, up to its end.
+pub fn gather<S: Source>(alloc: Global, source: &mut S) -> Result<Vec<u8>, GatherFault>
+    ensures bytes { IfOk result (λ bytes. IsGathered (S.left source.old) (S.taken source.old)
+        (S.taken source.new) bytes.items) }
+    ensures end { OnOk result (IsTrue (S.ended source.new)) }
+    ensures cause { IfErr result (HasCause (S.left source.old) (S.faults source.old)
+        (S.faults source.new) (S.taken source.old) (S.taken source.new)) }
+    ensures count { S.faults source.old ≤ S.faults source.new }
+{
+    match buffer(alloc) {
+        Ok(mut buffer) => gather_by(Vec::new(alloc), source, &mut buffer),
+        Err(_) => Err(GatherFault::Memory),
+    }
+}
+
+// A buffer for one take.
+fn buffer(alloc: Global) -> Result<Vec<u8>, AllocError>
+    ensures { IfOk result (λ buffer. vec_len buffer ≡ PIECE) }
+{
+    vec![in alloc; 0; PIECE]
+}
+
+// All the bytes of the source, put into `bytes`, which is empty, by way of the buffer.
+fn gather_by<S: Source>(
+    mut bytes: Vec<u8>,
+    source: &mut S,
+    buffer: &mut [u8],
+) -> Result<Vec<u8>, GatherFault>
+    requires empty { bytes.items ≡ [] }
+    requires room { 0 < length buffer.old }
+    ensures bytes { IfOk result (λ bytes. IsGathered (S.left source.old) (S.taken source.old)
+        (S.taken source.new) bytes.items) }
+    ensures end { OnOk result (IsTrue (S.ended source.new)) }
+    ensures cause { IfErr result (HasCause (S.left source.old) (S.faults source.old)
+        (S.faults source.new) (S.taken source.old) (S.taken source.new)) }
+    ensures count { S.faults source.old ≤ S.faults source.new }
+{
+    while bytes.len() < INPUT_LIMIT {
+        let room = min(buffer.len(), INPUT_LIMIT - bytes.len());
+        if take_onto(&mut bytes, source, &mut buffer[..room])? == 0 {
+            return Ok(bytes);
+        }
+    }
+    match source.take(&mut buffer[..1]) {
+        Ok(0) => Ok(bytes),
+        Ok(_) => Err(GatherFault::TooMuch),
+        Err(_) => Err(GatherFault::Read),
+    }
+}
+
+// Takes one piece, of at most the buffer's length, and adds it to the bytes. Answers its length, which is 0
+// at the end alone.
+fn take_onto<S: Source>(
+    bytes: &mut Vec<u8>,
+    source: &mut S,
+    buffer: &mut [u8],
+) -> Result<usize, GatherFault>
+    requires { 0 < length buffer.old }
+    ensures piece { IfOk result (TakesOnto bytes.old.items bytes.new.items (S.left source.old)
+        (S.left source.new) (S.taken source.old) (S.taken source.new)) }
+    ensures within { IfOk result (λ count. count ≤ length buffer.old) }
+    ensures end { IfOk result (λ count. count ≡ 0 → IsTrue (S.ended source.new)) }
+    ensures end_empty { IsTrue (S.ended source.new)
+        → IfSome (S.left source.new) (λ left. left ≡ []) }
+    ensures cause { IfErr result (HasPieceCause (length buffer.old) (S.faults source.old)
+        (S.faults source.new) (S.taken source.old) (S.taken source.new)) }
+    ensures count { S.faults source.old ≤ S.faults source.new }
+{
+    match source.take(buffer) {
+        Ok(count) => match bytes.extend_from_slice(&buffer[..count]) {
+            Ok(()) => Ok(count),
+            Err(_) => Err(GatherFault::Memory),
+        },
+        Err(_) => Err(GatherFault::Read),
+    }
+}
