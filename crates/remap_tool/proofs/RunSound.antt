@@ -6,12 +6,12 @@ use Rattle.vrl_diag.specs.declared.diagnostic.Diagnostic.{Diagnostic}
 use Rattle.vrl_json.specs.Line.{reading_of, whole}
 use Rattle.vrl_kind.specs.Kinds.{Inhabits}
 use Rattle.vrl_syntax.specs.Tree.{Script}
+use Rattle.vrl_store.specs.WellFormed.{IsWellFormed}
 use Rattle.vrl_check.specs.Determined.{JudgementsAreDetermined}
 use Rattle.vrl_check.specs.Judgement.{Judgement, JudgesScript}
 use Rattle.vrl_compile.specs.Answer.{AcceptedScriptsAreSound, IsSoundlyEnded, ends_of}
 use Rattle.vrl_compile.specs.Reading.{ScriptsHaveOneReading}
 use Rattle.vrl_resolve.specs.Program.{ProgramTree, ended_over}
-use Rattle.vrl_resolve.specs.WellFormed.{IsWellFormed}
 use Rattle.vrl_run.specs.LineResult.{HandlesErrors}
 use Rattle.vrl_run.specs.Events.{ObjectsAreEvents, event_kind}
 use Rattle.vrl_run.specs.Request.{run}

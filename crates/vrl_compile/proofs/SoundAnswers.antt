@@ -6,13 +6,13 @@ use Rattle.vrl_state.specs.Laws.{EitherHoldsBoth, JoinsKeepFits}
 use Rattle.vrl_state.specs.States.{IsEither, IsJoined, RootMap}
 use Rattle.vrl_state.specs.Stores.{Store}
 use Rattle.vrl_builtin.specs.Rows.{SettingTree}
+use Rattle.vrl_store.specs.Outcomes.{Ended, Outcome, value, error, returned}
+use Rattle.vrl_store.specs.WellFormed.{IsWellFormed}
 use Rattle.vrl_check.specs.Answer.{IsJudged, return_state, returning}
 use Rattle.vrl_check.specs.Judgement.{Judgement}
 use Rattle.vrl_check.specs.declared.judged.Judged.{Judged}
 use Rattle.vrl_resolve.specs.Meaning.{IsUnhandled}
-use Rattle.vrl_resolve.specs.Outcomes.{Ended, Outcome, value, error, returned}
 use Rattle.vrl_resolve.specs.Program.{ended_over}
-use Rattle.vrl_resolve.specs.WellFormed.{IsWellFormed}
 use Rattle.vrl_compile.specs.Answer.{AcceptedScriptsAreSound, ComesTo, Ends, IsAnswer, IsOfEither, IsSoundAnswer, IsSoundlyEnded, ends_of, ends_told}
 use Rattle.vrl_compile.specs.Program.{program_for}
 use Rattle.vrl_compile.specs.Sound.{IsSoundRun, ScriptsAreSound}

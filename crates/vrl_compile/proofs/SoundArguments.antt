@@ -12,11 +12,11 @@ use Rattle.vrl_kind.specs.Kinds.{Inhabits}
 use Rattle.vrl_state.specs.Stores.{FitsKnown, Store}
 use Rattle.vrl_builtin.specs.Rows.{SettingTree}
 use Rattle.vrl_table.specs.Binding.{keywords_of}
+use Rattle.vrl_store.specs.Outcomes.{Outcome, value, error, returned, ends}
+use Rattle.vrl_store.specs.WellFormed.{AreWellFormedArgs, IsWellFormed, IsWellFormedOutcome, IsWellFormedStore}
 use Rattle.vrl_check.specs.Judgement.{Argument, Judgement, JudgesArguments, no_more_arguments, one_more_argument}
 use Rattle.vrl_resolve.specs.Calls.{values_of}
 use Rattle.vrl_resolve.specs.Meaning.{eval, eval_args}
-use Rattle.vrl_resolve.specs.Outcomes.{Outcome, value, error, returned, ends}
-use Rattle.vrl_resolve.specs.WellFormed.{AreWellFormedArgs, IsWellFormed, IsWellFormedOutcome, IsWellFormedStore}
 use Rattle.vrl_compile.specs.Sound.{HasNoError, IsSoundOutcome}
 use Rattle.vrl_compile.proofs.SoundCounts.{behind_is}
 use Rattle.vrl_compile.proofs.SoundEnds.{IsSoundAs, as_on_value, as_run, as_weaker, ends_through, no_error_behind, second_ends}

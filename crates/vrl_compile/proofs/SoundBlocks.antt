@@ -18,11 +18,11 @@ use Rattle.vrl_kind.specs.Canonical.{never_kind}
 use Rattle.vrl_state.specs.States.{RootMap}
 use Rattle.vrl_state.specs.Stores.{FitsKind, FitsKnown, FitsMap, Store}
 use Rattle.vrl_builtin.specs.Rows.{SettingTree}
+use Rattle.vrl_store.specs.Operators.{is_true}
+use Rattle.vrl_store.specs.Outcomes.{Outcome, value, error, aborted, returned, banged, deep, Ended, block_left, ends, on_value}
+use Rattle.vrl_store.specs.WellFormed.{AreWellFormedArms, AreWellFormedExprs, IsWellFormedElse, IsWellFormedStore}
 use Rattle.vrl_check.specs.Judgement.{Judgement, IsBeside, IsScalar, gives, kept, left, nothing, of_predicate, settle, span_of, with_codes}
 use Rattle.vrl_resolve.specs.Meaning.{eval, eval_arms, eval_else, eval_items}
-use Rattle.vrl_resolve.specs.Operators.{is_true}
-use Rattle.vrl_resolve.specs.Outcomes.{Outcome, value, error, aborted, returned, banged, deep, Ended, block_left, ends, on_value}
-use Rattle.vrl_resolve.specs.WellFormed.{AreWellFormedArms, AreWellFormedExprs, IsWellFormedElse, IsWellFormedStore}
 use Rattle.vrl_compile.specs.Sound.{HasNoError, IsSoundEnd, IsSoundOutcome}
 use Rattle.vrl_compile.proofs.SoundCauses.{HasCause}
 use Rattle.vrl_compile.proofs.SoundCounts.{behind_arm_is, behind_block_counted, behind_counted}

@@ -19,13 +19,13 @@ use Rattle.vrl_table.specs.Binding.{binding, keywords_of}
 use Rattle.vrl_table.specs.Table.{row_of}
 use Rattle.vrl_table.specs.declared.binding.BindFault.{BindFault}
 use Rattle.vrl_table.specs.declared.function.Fun.{Fun}
+use Rattle.vrl_store.specs.Outcomes.{value, deep, on_value}
+use Rattle.vrl_store.specs.Places.{is_within}
+use Rattle.vrl_store.specs.WellFormed.{AreWellFormedArgs, IsWellFormedStore}
 use Rattle.vrl_check.specs.Empties.{closure_empties}
 use Rattle.vrl_check.specs.Judgement.{Argument, IsAnswered, IsAnsweredUnless, Judgement, a_call, at, banged, behind_arguments, bound, bound_by, gives, if_state, of_call, some_has_others, wants_literal, with_codes}
 use Rattle.vrl_resolve.specs.Calls.{acts, answer_outcome, argument_in, called, callee_of, first_unfit, fit_or_else, items_in, within_limit}
 use Rattle.vrl_resolve.specs.Meaning.{eval_args, eval_form}
-use Rattle.vrl_resolve.specs.Outcomes.{value, deep, on_value}
-use Rattle.vrl_resolve.specs.Places.{is_within}
-use Rattle.vrl_resolve.specs.WellFormed.{AreWellFormedArgs, IsWellFormedStore}
 use Rattle.vrl_compile.specs.Sound.{HasNoError, IsSoundEnd, IsSoundOutcome}
 use Rattle.vrl_compile.proofs.SoundArguments.{AreAllValues, AreValuesOf, argument_values, arguments_counted, arguments_empties, arguments_judged, arguments_written, own_empties}
 use Rattle.vrl_compile.proofs.SoundBound.{IsBoundCall, call_is_bound}

@@ -12,10 +12,10 @@ use Rattle.vrl_kind.specs.KindTree.{KindTree}
 use Rattle.vrl_kind.specs.Kinds.{Inhabits}
 use Rattle.vrl_state.specs.Stores.{FitsKnown, Store}
 use Rattle.vrl_builtin.specs.Rows.{SettingTree}
+use Rattle.vrl_store.specs.Outcomes.{on_value, Ended}
+use Rattle.vrl_store.specs.WellFormed.{AreWellFormed, AreWellFormedExprs, IsWellFormed, IsWellFormedExpr, IsWellFormedStore}
 use Rattle.vrl_check.specs.Judgement.{Argument, Judgement, Judges, IsThen}
 use Rattle.vrl_resolve.specs.Meaning.{eval, eval_all, eval_items}
-use Rattle.vrl_resolve.specs.Outcomes.{on_value, Ended}
-use Rattle.vrl_resolve.specs.WellFormed.{AreWellFormed, AreWellFormedExprs, IsWellFormed, IsWellFormedExpr, IsWellFormedStore}
 use Rattle.vrl_compile.specs.Sound.{HasNoError}
 use Rattle.vrl_compile.proofs.SoundCounts.{behind_counted}
 use Rattle.vrl_compile.proofs.SoundEnds.{as_on_value, as_run, ends_itself, ends_through, first_ends, no_error_behind, second_ends, sound_given, as_weaker, EndsAs, IsGiven, IsRun, IsSoundAs, IsSoundPart, IsValueOf}

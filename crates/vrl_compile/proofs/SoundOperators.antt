@@ -18,11 +18,11 @@ use Rattle.vrl_place.specs.Sets.{is_alone}
 use Rattle.vrl_state.specs.States.{IsCutOf, IsJoined, RootMap}
 use Rattle.vrl_state.specs.Stores.{FitsKnown, Store}
 use Rattle.vrl_builtin.specs.Rows.{SettingTree}
+use Rattle.vrl_store.specs.Operators.{applied, merged, negated}
+use Rattle.vrl_store.specs.Outcomes.{Outcome, value, error, Ended, ends, on_value}
+use Rattle.vrl_store.specs.WellFormed.{IsWellFormedEnded, IsWellFormedExpr, IsWellFormedStore}
 use Rattle.vrl_check.specs.Judgement.{Judgement, Judges, JudgesBoth, operands, IsBehind, IsMerged, IsMergedIf, IsScalar, IsThen, at, chained, if_state, is_equality, is_other, no_objects, of_pairs, scalars_at, some_pair, span_of, table_of, table_tags, when, with_codes}
 use Rattle.vrl_resolve.specs.Meaning.{combined, eval, eval_form}
-use Rattle.vrl_resolve.specs.Operators.{applied, merged, negated}
-use Rattle.vrl_resolve.specs.Outcomes.{Outcome, value, error, Ended, ends, on_value}
-use Rattle.vrl_resolve.specs.WellFormed.{IsWellFormedEnded, IsWellFormedExpr, IsWellFormedStore}
 use Rattle.vrl_compile.specs.Sound.{HasNoError, IsSoundEnd, IsSoundOutcome}
 use Rattle.vrl_compile.proofs.SoundCauses.{judges_cause}
 use Rattle.vrl_compile.proofs.SoundCounts.{behind_is}

@@ -17,12 +17,12 @@ use Rattle.vrl_state.specs.States.{RootMap}
 use Rattle.vrl_state.specs.Stores.{FitsKnown, Store}
 use Rattle.vrl_builtin.specs.Rows.{SettingTree}
 use Rattle.vrl_table.specs.Binding.{binding, keywords_of, path_parameters}
+use Rattle.vrl_store.specs.Outcomes.{Ended, on_value}
+use Rattle.vrl_store.specs.Places.{is_there, read_in, removed}
+use Rattle.vrl_store.specs.WellFormed.{AreWellFormedArgs, IsWellFormedStore}
 use Rattle.vrl_check.specs.Judgement.{Argument, IsDeletedAt, IsScalar, IsThen, Judgement, a_deletion, an_existence, argument_at, banged, behind_arguments, bound, deleted_kind, deleted_path, gives, is_error, of_call, wants_path}
 use Rattle.vrl_resolve.specs.Calls.{acts, callee_of, items_in}
 use Rattle.vrl_resolve.specs.Meaning.{eval, eval_args}
-use Rattle.vrl_resolve.specs.Outcomes.{Ended, on_value}
-use Rattle.vrl_resolve.specs.Places.{is_there, read_in, removed}
-use Rattle.vrl_resolve.specs.WellFormed.{AreWellFormedArgs, IsWellFormedStore}
 use Rattle.vrl_compile.specs.Sound.{HasNoError, IsSoundEnd}
 use Rattle.vrl_compile.proofs.SoundValues.{of_scalars}
 use Rattle.vrl_compile.proofs.SoundArguments.{arguments_counted, arguments_judged}

@@ -14,9 +14,9 @@ use Rattle.vrl_kind.specs.Kinds.{found_at, option_tags, tags_at, Inhabits}
 use Rattle.vrl_kind.specs.Tags.{Tags}
 use Rattle.vrl_state.specs.States.{with_kind, IsCutOf, IsWritten, RootMap}
 use Rattle.vrl_state.specs.Stores.{value_of, with_value, FitsKnown, IsWithout, Store}
+use Rattle.vrl_store.specs.Places.{left_in, removed, root_value, root_without}
 use Rattle.vrl_check.specs.Judgement as check
 use Rattle.vrl_check.specs.Judgement.{IsDeleted}
-use Rattle.vrl_resolve.specs.Places.{left_in, removed, root_value, root_without}
 use Rattle.vrl_compile.proofs.SoundValues.{same_tag-itself}
 use Rattle.vrl_compile.specs.SoundLaws.{Laws}
 

@@ -11,7 +11,7 @@ use Rattle.vrl_value.specs.Tree.{Tree, string, integer, boolean, null, timestamp
 use Rattle.vrl_parse.specs.Grammar.{IsScript, no_items, separator, last_item, more_items, IsItem, both_targets, single as single_item, IsSingle, assigned, merged, returned, aborted, aborted_with, coalesce, IsLevel, tighter, joined, tightest, IsUnary, negated, primary, IsPrimary, a_literal, a_path, without_suffix, with_suffix, with_closure, an_object, a_block, an_if, MayHaveSuffix, a_call, an_array, a_group, IsCall, called, AreArgs, no_arguments, last_argument, more_arguments, IsArg, named, unnamed, IsClosure, a_closure, AreSingles, no_singles, last_single, more_singles, ArePairs, no_parts, last_pair, more_pairs, IsBlock, a_script, AreArms, last_arm, with_else, more_arms}
 use Rattle.vrl_parse.specs.Reading.{Reads, sources_of}
 use Rattle.vrl_word.specs.Words.{Word, literal_at, regex_of, words_from}
-use Rattle.vrl_resolve.specs.WellFormed.{AreWellFormedArgs, AreWellFormedArms, AreWellFormedExprs, AreWellFormedPairs, IsWellFormed, IsWellFormedClosure, IsWellFormedElse, IsWellFormedExpr}
+use Rattle.vrl_store.specs.WellFormed.{AreWellFormedArgs, AreWellFormedArms, AreWellFormedExprs, AreWellFormedPairs, IsWellFormed, IsWellFormedClosure, IsWellFormedElse, IsWellFormedExpr}
 use Rattle.vrl_compile.proofs.PassingWords.{Pass, back_pass, behind_pass, first_passes, front_pass, rest_pass}
 
 -- ---- the numbers of words

@@ -11,10 +11,10 @@ use Rattle.vrl_kind.specs.Kinds.{Inhabits}
 use Rattle.vrl_state.specs.States.{RootMap}
 use Rattle.vrl_state.specs.Stores.{FitsKnown, Store}
 use Rattle.vrl_builtin.specs.Rows.{SettingTree}
+use Rattle.vrl_store.specs.Outcomes.{Outcome, value, error, returned, Ended}
+use Rattle.vrl_store.specs.WellFormed.{IsWellFormed, IsWellFormedExpr, AreWellFormedExprs, IsWellFormedStore}
 use Rattle.vrl_check.specs.Judgement.{Judgement, Judges, JudgesScript, is_error}
 use Rattle.vrl_resolve.specs.Meaning.{eval, run_script}
-use Rattle.vrl_resolve.specs.Outcomes.{Outcome, value, error, returned, Ended}
-use Rattle.vrl_resolve.specs.WellFormed.{IsWellFormed, IsWellFormedExpr, AreWellFormedExprs, IsWellFormedStore}
 
 -- none of the codes is an error
 abbrev pub HasNoError : List Diagnostic → Type 0

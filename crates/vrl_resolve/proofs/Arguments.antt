@@ -5,10 +5,10 @@ use Rattle.vrl_value.specs.Tree.{Tree, null}
 use Rattle.vrl_value.specs.View.{items_of_trees, tree_of}
 use Rattle.vrl_value.specs.declared.value.Value.{Value}
 use Rattle.vrl_syntax.specs.Stores.{Store}
+use Rattle.vrl_store.specs.StoreView.{Names}
 use Rattle.vrl_resolve.specs.Linked.{Linked, literal, read, linked_of}
 use Rattle.vrl_resolve.specs.Looks.{argument_values, AreReadable, IsReadable}
 use Rattle.vrl_resolve.specs.Plain.{is_plain, plain_value, plain_values, AllPlain}
-use Rattle.vrl_resolve.specs.StoreView.{Names}
 use Rattle.vrl_resolve.specs.declared.node.Node.{Node}
 
 -- ---- the value at a place

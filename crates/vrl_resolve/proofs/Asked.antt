@@ -2,8 +2,8 @@
 use Rattle.std.proofs.Common.{◌≡◌, Bool, true, false, refl, sym, ap, ◌∙◌}
 use Rattle.vrl_value.specs.Tree.{Tree, null}
 use Rattle.vrl_syntax.specs.Stores.{Store, store_kept}
+use Rattle.vrl_store.specs.Outcomes.{Outcome, value, error, aborted, returned, banged, deep, Ended, block_left, ends, on_value, value_then}
 use Rattle.vrl_resolve.specs.LinkedMeaning.{if_asked}
-use Rattle.vrl_resolve.specs.Outcomes.{Outcome, value, error, aborted, returned, banged, deep, Ended, block_left, ends, on_value, value_then}
 
 -- a step behind a step
 value_behind : (o : Outcome) (store : Store) (first second : Tree → Store → Ended) → on_value (value_then o store first) second ≡ value_then o store (λ v after. on_value (first v after) second)

@@ -12,9 +12,9 @@ use Rattle.std.proofs.lemmas.Map.Text.{is_eq-slice_cmp}
 use Rattle.std.proofs.lemmas.Option.{slice_get-map, slice_get_within, get_or_from_slice_get, unwrap_or-slice_get}
 use Rattle.std.proofs.lemmas.Slice.Eq.{bytes_eq-Decides}
 use Rattle.vrl_syntax.specs.declared.root.Root.TheVariants.{Name}
+use Rattle.vrl_store.specs.StoreView.{is_among, name_at, AreDistinct, Names}
+use Rattle.vrl_store.specs.declared.place.Base.TheVariants as base
 use Rattle.vrl_resolve.specs.Linking.{IsBaseOf, IsBeginning}
-use Rattle.vrl_resolve.specs.StoreView.{is_among, name_at, AreDistinct, Names}
-use Rattle.vrl_resolve.specs.declared.node.Base.TheVariants as base
 
 -- ---- beginnings
 

@@ -9,14 +9,14 @@ use Rattle.vrl_value.specs.declared.value.Value.{Value}
 use Rattle.vrl_syntax.specs.Stores.{Store}
 use Rattle.vrl_builtin.specs.Conditions.{arguments_below, below_if, AreArguments}
 use Rattle.vrl_builtin.specs.Rows.{Row, SettingTree}
+use Rattle.vrl_store.specs.StoreView.{Names}
+use Rattle.vrl_store.specs.WellFormed.{AreWellFormed, IsWellFormed, IsWellFormedOutcome, IsWellFormedStore}
 use Rattle.vrl_resolve.specs.Calls.{argument_in, first_unfit}
 use Rattle.vrl_resolve.specs.Fits.{AllFit, AreGiven, Fits}
 use Rattle.vrl_resolve.specs.Laws.{MeaningsStayWellFormed}
 use Rattle.vrl_resolve.specs.Linked.{Linked, literal, read, linked_of, parts_of_list, parts_view}
 use Rattle.vrl_resolve.specs.Looks.{argument_values, AreOf, AreReadable, IsOf, IsReadable}
 use Rattle.vrl_resolve.specs.Plain.{plain_value, plain_values, AllPlain}
-use Rattle.vrl_resolve.specs.StoreView.{Names}
-use Rattle.vrl_resolve.specs.WellFormed.{AreWellFormed, IsWellFormed, IsWellFormedOutcome, IsWellFormedStore}
 use Rattle.vrl_resolve.specs.declared.node.Node.{Node}
 use Rattle.vrl_resolve.proofs.GivenArguments.{arguments_are, AreKnownAs, IsKnownAs}
 use Rattle.vrl_resolve.proofs.RunArguments.{plain_mean}

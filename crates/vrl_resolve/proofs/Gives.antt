@@ -4,10 +4,10 @@ use Rattle.std.specs.declared.result.Result.{Result}
 use Rattle.std.specs.declared.result.Result.TheVariants.{Ok, Err}
 use Rattle.vrl_value.specs.declared.value.Value.{Value}
 use Rattle.vrl_syntax.specs.Stores.{Store}
-use Rattle.vrl_resolve.specs.Outcomes.{Outcome, ends}
-use Rattle.vrl_resolve.specs.Walk.{Ends, Gives, IsStop, Stops}
-use Rattle.vrl_resolve.specs.declared.stop.Stop.{Stop}
-use Rattle.vrl_resolve.specs.declared.stop.Stop.TheVariants as stop
+use Rattle.vrl_store.specs.Outcomes.{Outcome, ends}
+use Rattle.vrl_store.specs.Results.{Ends, Gives, IsStop, Stops}
+use Rattle.vrl_store.specs.declared.stop.Stop.{Stop}
+use Rattle.vrl_store.specs.declared.stop.Stop.TheVariants as stop
 
 stop_stops : (outcome : Outcome) (store : Store) (s : Stop) → IsStop outcome s → Stops (ends outcome store) store s
 stop_stops outcome store (stop.Error text) is = ap (λ o. ends o store) is

@@ -12,7 +12,7 @@ use Rattle.vrl_kind.specs.Laws.{AnyHoldsAll}
 use Rattle.vrl_builtin.specs.Conditions.{arguments_below, below_if, AreArguments, AreArgumentsFrom, AreGivenFrom, IsArgument, IsGiven, IsThere}
 use Rattle.vrl_builtin.specs.Law.{AreInstances, HoldsRegex, IsLawful, IsOfGiven, KeepsLaw}
 use Rattle.vrl_builtin.specs.Rows.{Answer, value as answered, failure, GivenTree, ParameterRow, Row, SettingTree, argument_at, kind_at, literal_at}
-use Rattle.vrl_resolve.specs.WellFormed.{IsWellFormed}
+use Rattle.vrl_store.specs.WellFormed.{IsWellFormed}
 
 abbrev pub IsWellFormedAnswer : ℕ → Answer → Type 0
 IsWellFormedAnswer count (answered v) = IsWellFormed count v

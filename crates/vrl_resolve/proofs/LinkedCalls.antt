@@ -16,11 +16,11 @@ use Rattle.vrl_syntax.specs.declared.tree.Closure.{Closure as CodeClosure}
 use Rattle.vrl_syntax.specs.declared.tree.Form.{the_lemmas}
 use Rattle.vrl_table.specs.Binding.{binding, keywords_of, path_parameters}
 use Rattle.vrl_table.specs.Table.{function_named}
+use Rattle.vrl_store.specs.StoreView.{Names}
 use Rattle.vrl_resolve.specs.Calls as called
 use Rattle.vrl_resolve.specs.Linked as linked
 use Rattle.vrl_resolve.specs.Linked.{Linked, Parts}
 use Rattle.vrl_resolve.specs.Linking.{a_call, path_argument, path_called, AreArgsLinked, IsCalleeIn, IsCalleeOf, IsFunctionCallee, IsPathCallee, Links, LinksAny}
-use Rattle.vrl_resolve.specs.StoreView.{Names}
 use Rattle.vrl_resolve.specs.declared.link.Linker.{Linker}
 use Rattle.vrl_resolve.specs.declared.node.Callee.{Callee}
 use Rattle.vrl_resolve.specs.declared.node.Callee.TheVariants as callee

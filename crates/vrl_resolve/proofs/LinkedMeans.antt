@@ -9,17 +9,17 @@ use Rattle.vrl_syntax.specs.declared.root.Op.TheVariants as op
 use Rattle.vrl_syntax.specs.declared.root.Target.{Target}
 use Rattle.vrl_syntax.specs.declared.root.Target.TheVariants as target
 use Rattle.vrl_builtin.specs.Rows.{SettingTree}
+use Rattle.vrl_store.specs.Operators.{is_true, negated}
+use Rattle.vrl_store.specs.Outcomes.{Outcome, value, error, aborted, returned, banged, deep, Ended, banged_if, ends, on_value}
+use Rattle.vrl_store.specs.Places.{part_of, read_in, target_value, writes, writes_to}
+use Rattle.vrl_store.specs.StoreView.{Names}
+use Rattle.vrl_store.specs.declared.place.Place.{Place}
 use Rattle.vrl_resolve.specs.Calls.{acts, items_in}
 use Rattle.vrl_resolve.specs.Linked as linked
 use Rattle.vrl_resolve.specs.Linked.{Linked, Parts}
 use Rattle.vrl_resolve.specs.LinkedMeaning.{all_mean, arms_mean, else_means, if_asked, items_mean, means, pairs_mean, target_of}
 use Rattle.vrl_resolve.specs.Linking.{AreArgsLinked, AreArmsLinked, AreItemsLinked, AreLinked, ArePairsLinked, IsElseLinked, IsLinked, IsLinkedForm, IsTargetOf, stands, a_literal, an_array, an_object, a_read, a_query, a_group, a_block, a_conditional, a_negation, a_binary, an_assignment, a_merge, an_error_assignment, a_call, a_return, a_bare_abort, an_abort, none_linked, one_linked, no_item, one_item, no_pair, one_pair, no_arm, one_arm, no_last, a_last, no_argument, one_argument}
 use Rattle.vrl_resolve.specs.Meaning.{aborted_with, assigned, both_assigned, combined, eval, eval_all, eval_args, eval_arms, eval_else, eval_form, eval_items, eval_pairs, written_both}
-use Rattle.vrl_resolve.specs.Operators.{is_true, negated}
-use Rattle.vrl_resolve.specs.Outcomes.{Outcome, value, error, aborted, returned, banged, deep, Ended, banged_if, ends, on_value}
-use Rattle.vrl_resolve.specs.Places.{part_of, read_in, target_value, writes, writes_to}
-use Rattle.vrl_resolve.specs.StoreView.{Names}
-use Rattle.vrl_resolve.specs.declared.node.Place.{Place}
 use Rattle.vrl_resolve.proofs.Asked.{asked_behind, asked_twice, block_same, same_value, unasked_before}
 
 -- ---- targets

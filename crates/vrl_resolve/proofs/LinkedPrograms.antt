@@ -6,12 +6,12 @@ use Rattle.vrl_syntax.specs.Limits.{KeepsLimits}
 use Rattle.vrl_syntax.specs.Regexes.{exprs_regexes_below}
 use Rattle.vrl_syntax.specs.Stores.{store_of}
 use Rattle.vrl_syntax.specs.Tree.{Exprs}
+use Rattle.vrl_store.specs.StoreView.{AreDistinct, Names}
 use Rattle.vrl_resolve.specs.Linked.{Parts}
 use Rattle.vrl_resolve.specs.LinkedMeaning.{items_mean}
 use Rattle.vrl_resolve.specs.Linking.{names_in, AreItemsLinked, IsBeginning, Links}
 use Rattle.vrl_resolve.specs.Program.{script_program, ProgramTree}
 use Rattle.vrl_resolve.specs.Ready.{IsReady}
-use Rattle.vrl_resolve.specs.StoreView.{AreDistinct, Names}
 use Rattle.vrl_resolve.specs.declared.link.Linker.{Linker}
 use Rattle.vrl_resolve.proofs.LinkedFits.{items_fit}
 use Rattle.vrl_resolve.proofs.LinkedMeans.{items_are_meant}
@@ -33,7 +33,7 @@ abbrev linked_program : Names → Parts → List (List ℕ) → ProgramTree
 linked_program names ns sources = record { sources = sources; ended = λ moment event. items_mean names (record { moment = moment; sources = sources }) null ns (store_of event) }
 
 pub linked_is_program : (before after : Linker) (count : ℕ) (names : Names) (tags : List Tag) (es : Exprs) (ns : Parts) (sources : List (List ℕ)) → Links before after count (λ known tags. AreItemsLinked known tags true es ns) → names ≡ names_in after
-    → before.tags.now ≡ tags → linked_program names ns sources ≡ script_program es tags sources
+    → before.tags.left.now ≡ tags → linked_program names ns sources ≡ script_program es tags sources
 linked_is_program before after count names tags es ns sources links is same =
     let items : AreItemsLinked names tags true es ns = subst (λ ts. AreItemsLinked names ts true es ns) same (links.so names (all_names (names_in after) names is)) in
     λ i. record { sources = sources; ended = λ moment event. items_are_meant (record { moment = moment; sources = sources }) items null (store_of event) i }

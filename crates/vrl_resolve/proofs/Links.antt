@@ -1,25 +1,26 @@
 -- What the calls of a linker say of it, one behind the other.
 use Rattle.std.proofs.Common.{◌≡◌, ℕ, suc, ◌+◌, Bool, List, [], ◌∷◌, drop, map, refl, sym, ap, ◌∙◌, subst, drop-drop}
 use Rattle.std.proofs.Math.Seq.{drop-nil}
+use Rattle.std.specs.Prelude.{⊤}
 use Rattle.std.specs.String.{string_bytes}
 use Rattle.vrl_value.specs.declared.value.Tag.{Tag}
 use Rattle.vrl_syntax.specs.ErrorAssignments.{in_expr, other_tags}
 use Rattle.vrl_syntax.specs.Tree.{Expr, expr, Form, group}
 use Rattle.vrl_diag.specs.declared.diagnostic.Span.{Span}
+use Rattle.vrl_store.specs.StoreView.{Names}
 use Rattle.vrl_resolve.specs.Linked.{Linked}
 use Rattle.vrl_resolve.specs.Linking.{names_in, a_group, stands, IsBeginning, IsLinked, IsLinkedForm, Links, LinksAny, LinksForm, Numbers}
-use Rattle.vrl_resolve.specs.StoreView.{Names}
 use Rattle.vrl_resolve.specs.declared.link.Linker.{Linker}
 use Rattle.vrl_resolve.proofs.Begins.{begins_behind, begins_itself}
 
 pub numbers_weaker : {a b : Linker} {P Q : Names → Type 0} → ((names : Names) → P names → Q names) → Numbers a b P → Numbers a b Q
 numbers_weaker follows one = record { grows = one.grows; tags = one.tags; so = λ names begins. follows names (one.so names begins) }
 
-pub links_weaker : {a b : Linker} {count : ℕ} {P Q : Names → List Tag → Type 0} → ((names : Names) → P names a.tags.now → Q names a.tags.now) → Links a b count P → Links a b count Q
+pub links_weaker : {a b : Linker} {count : ℕ} {P Q : Names → List Tag → Type 0} → ((names : Names) → P names a.tags.left.now → Q names a.tags.left.now) → Links a b count P → Links a b count Q
 links_weaker follows one = record { grows = one.grows; behind = one.behind; so = λ names begins. follows names (one.so names begins) }
 
 -- nothing is done
-pub links_itself : (a : Linker) {P : Names → List Tag → Type 0} → ((names : Names) → P names a.tags.now) → Links a a 0 P
+pub links_itself : (a : Linker) {P : Names → List Tag → Type 0} → ((names : Names) → P names a.tags.left.now) → Links a a 0 P
 links_itself a holds = record { grows = begins_itself (names_in a); behind = refl; so = λ names begins. holds names }
 
 pub links_numbers : {a b : Linker} {P : Names → Type 0} → Numbers a b P → Links a b 0 (λ names tags. P names)
@@ -28,7 +29,7 @@ links_numbers one = record { grows = one.grows; behind = one.tags; so = one.so }
 pub links_then : {a b c : Linker} {m n : ℕ} {P Q : Names → List Tag → Type 0} → Links a b m P → Links b c n Q → Links a c (m + n) (λ names tags. P names tags × Q names (drop m tags))
 links_then {a} {b} {c} {m} {n} {P} {Q} one two = record {
   grows = begins_behind (names_in a) (names_in b) (names_in c) one.grows two.grows;
-  behind = two.behind ∙ ap (drop n) one.behind ∙ drop-drop n m a.tags.now;
+  behind = two.behind ∙ ap (drop n) one.behind ∙ drop-drop n m a.tags.left.now;
   so = λ names begins. (one.so names (begins_behind (names_in b) (names_in c) names two.grows begins), subst (Q names) one.behind (two.so names begins));
 }
 
@@ -51,12 +52,16 @@ drop_other : (m : ℕ) (tags : List Tag) → drop m (other_tags tags) ≡ drop (
 drop_other m [] = drop-nil m ∙ sym (drop-nil {A = Tag} (suc m))
 drop_other m (t ∷ tags) = refl
 
-pub links_behind_tag : {a b c : Linker} {m : ℕ} {Q : Names → List Tag → Type 0} → names_in b ≡ names_in a → b.tags.now ≡ other_tags a.tags.now → Links b c m Q → Links a c (suc m) (λ names tags. Q names (other_tags tags))
+pub links_behind_tag : {a b c : Linker} {m : ℕ} {Q : Names → List Tag → Type 0} → names_in b ≡ names_in a → b.tags.left.now ≡ other_tags a.tags.left.now → Links b c m Q → Links a c (suc m) (λ names tags. Q names (other_tags tags))
 links_behind_tag {a} {b} {c} {m} {Q} same others two = record {
   grows = subst (λ names. IsBeginning names (names_in c)) same two.grows;
-  behind = two.behind ∙ ap (drop m) others ∙ drop_other m a.tags.now;
+  behind = two.behind ∙ ap (drop m) others ∙ drop_other m a.tags.left.now;
   so = λ names begins. subst (Q names) others (two.so names begins);
 }
+
+-- tags are passed over
+pub links_passed : (a b : Linker) (count : ℕ) → names_in b ≡ names_in a → b.tags.left.now ≡ drop count a.tags.left.now → Links a b count (λ names tags. ⊤)
+links_passed a b count same passed = record { grows = subst (IsBeginning (names_in a)) (sym same) (begins_itself (names_in a)); behind = passed; so = λ names begins. tt }
 
 -- ---- a form of an expression
 
@@ -69,15 +74,15 @@ any_stands {a} {b} {asked} {n} e span f is links = form_stands e span f is (reco
 
 -- ---- a form is made
 
-pub any_made : {a b : Linker} {count : ℕ} {P : Names → List Tag → Type 0} (f : Form) (m n : Linked) → m ≡ n → ((names : Names) (asked : Bool) → P names a.tags.now → IsLinkedForm names a.tags.now asked f n) → Links a b count P
+pub any_made : {a b : Linker} {count : ℕ} {P : Names → List Tag → Type 0} (f : Form) (m n : Linked) → m ≡ n → ((names : Names) (asked : Bool) → P names a.tags.left.now → IsLinkedForm names a.tags.left.now asked f n) → Links a b count P
     → Links a b count (λ names tags. (asked : Bool) → IsLinkedForm names tags asked f m)
 any_made {a} {b} {count} f m n is made one =
-    links_weaker (λ names holds asked. subst (IsLinkedForm names a.tags.now asked f) (sym is) (made names asked holds)) one
+    links_weaker (λ names holds asked. subst (IsLinkedForm names a.tags.left.now asked f) (sym is) (made names asked holds)) one
 
-pub form_made : {a b : Linker} {count : ℕ} {P : Names → List Tag → Type 0} (asked : Bool) (f : Form) (m n : Linked) → m ≡ n → ((names : Names) → P names a.tags.now → IsLinkedForm names a.tags.now asked f n) → Links a b count P
+pub form_made : {a b : Linker} {count : ℕ} {P : Names → List Tag → Type 0} (asked : Bool) (f : Form) (m n : Linked) → m ≡ n → ((names : Names) → P names a.tags.left.now → IsLinkedForm names a.tags.left.now asked f n) → Links a b count P
     → Links a b count (λ names tags. IsLinkedForm names tags asked f m)
 form_made {a} {b} {count} asked f m n is made one =
-    links_weaker (λ names holds. subst (IsLinkedForm names a.tags.now asked f) (sym is) (made names holds)) one
+    links_weaker (λ names holds. subst (IsLinkedForm names a.tags.left.now asked f) (sym is) (made names holds)) one
 
 pub group_stands : {a b : Linker} {asked : Bool} {n : Linked} (e part : Expr) (span : Span) → e ≡ expr span (group part) → Links a b (in_expr part) (λ names tags. IsLinked names tags asked part n) → Links a b (in_expr e) (λ names tags. IsLinked names tags asked e n)
 group_stands {a} {b} {asked} {n} e part span is links = form_stands e span (group part) is (links_weaker (λ names one. a_group one) links)

@@ -11,40 +11,41 @@ use Rattle.vrl_syntax.specs.declared.tree.Arg.{Arg as CodeArg}
 use Rattle.vrl_syntax.specs.declared.tree.Arm.{Arm as CodeArm, out-Arm}
 use Rattle.vrl_syntax.specs.declared.tree.Expr.{Expr as CodeExpr}
 use Rattle.vrl_syntax.specs.declared.tree.Form.{the_lemmas}
+use Rattle.vrl_store.specs.Asked.{is_last}
+use Rattle.vrl_store.specs.StoreView.{Names}
+use Rattle.vrl_store.proofs.Sizes.{args_size, arms_size, expr_size, exprs_size, pairs_size}
 use Rattle.vrl_resolve.specs.Linked as linked
 use Rattle.vrl_resolve.specs.Linked.{arm_of as linked_arm, Linked, Parts, parts, no_parts, linked_of, parts_of_list, pairs_of_list, arms_of_list, ArmTree}
-use Rattle.vrl_resolve.specs.Linking.{is_last, names_in, AreArgsLinked, AreArmsLinked, AreItemsLinked, AreLinked, ArePairsLinked, IsBeginning, IsLinked, Links, none_linked, one_linked, no_item, one_item, no_pair, one_pair, no_arm, one_arm, no_argument, one_argument}
-use Rattle.vrl_resolve.specs.StoreView.{Names}
+use Rattle.vrl_resolve.specs.Linking.{names_in, AreArgsLinked, AreArmsLinked, AreItemsLinked, AreLinked, ArePairsLinked, IsBeginning, IsLinked, Links, none_linked, one_linked, no_item, one_item, no_pair, one_pair, no_arm, one_arm, no_argument, one_argument}
 use Rattle.vrl_resolve.specs.declared.link.Linker.{Linker}
 use Rattle.vrl_resolve.specs.declared.node.Arm.{Arm}
 use Rattle.vrl_resolve.specs.declared.node.Node.{Node}
 use Rattle.vrl_resolve.proofs.Begins.{begins_behind, begins_itself}
 use Rattle.vrl_resolve.proofs.Links.{links_then}
-use Rattle.vrl_resolve.proofs.Sizes.{args_size, arms_size, expr_size, exprs_size, pairs_size}
 
 -- ---- of any parts
 
 -- so many error assignments are in the whole, and so many are left
 pub record IsPartway (before now : Linker) (whole left : ℕ) (Leads : Names → List Tag → List Tag → Type 0) : Type 0 where
   pub grows : IsBeginning (names_in before) (names_in now)
-  pub behind : drop left now.tags.now ≡ drop whole before.tags.now
-  pub leads : (names : Names) → IsBeginning (names_in now) names → Leads names before.tags.now now.tags.now
+  pub behind : drop left now.tags.left.now ≡ drop whole before.tags.left.now
+  pub leads : (names : Names) → IsBeginning (names_in now) names → Leads names before.tags.left.now now.tags.left.now
 
-partway_first : (before : Linker) (whole : ℕ) {Leads : Names → List Tag → List Tag → Type 0} → ((names : Names) → Leads names before.tags.now before.tags.now) → IsPartway before before whole whole Leads
+partway_first : (before : Linker) (whole : ℕ) {Leads : Names → List Tag → List Tag → Type 0} → ((names : Names) → Leads names before.tags.left.now before.tags.left.now) → IsPartway before before whole whole Leads
 partway_first before whole leads = record { grows = begins_itself (names_in before); behind = refl; leads = λ names begins. leads names }
 
 partway_next : {before now after : Linker} {whole m rest : ℕ} {Leads Follows : Names → List Tag → List Tag → Type 0} {P : Names → List Tag → Type 0}
     → IsPartway before now whole (m + rest) Leads → Links now after m P → ((names : Names) (old new : List Tag) → Leads names old new → P names new → Follows names old (drop m new)) → IsPartway before after whole rest Follows
 partway_next {before} {now} {after} {whole} {m} {rest} {Leads} {Follows} so_far one step = record {
   grows = begins_behind (names_in before) (names_in now) (names_in after) so_far.grows one.grows;
-  behind = ap (drop rest) one.behind ∙ drop-drop rest m now.tags.now ∙ so_far.behind;
+  behind = ap (drop rest) one.behind ∙ drop-drop rest m now.tags.left.now ∙ so_far.behind;
   leads = λ names begins.
       let before_it = begins_behind (names_in now) (names_in after) names one.grows begins in
-      subst (Follows names before.tags.now) (sym one.behind) (step names before.tags.now now.tags.now (so_far.leads names before_it) (one.so names begins));
+      subst (Follows names before.tags.left.now) (sym one.behind) (step names before.tags.left.now now.tags.left.now (so_far.leads names before_it) (one.so names begins));
 }
 
 partway_end : {before now : Linker} {whole : ℕ} {Leads : Names → List Tag → List Tag → Type 0} {Q : Names → List Tag → Type 0} → IsPartway before now whole 0 Leads → ((names : Names) (old new : List Tag) → Leads names old new → Q names old) → Links before now whole Q
-partway_end {before} {now} so_far end = record { grows = so_far.grows; behind = so_far.behind; so = λ names begins. end names before.tags.now now.tags.now (so_far.leads names begins) }
+partway_end {before} {now} so_far end = record { grows = so_far.grows; behind = so_far.behind; so = λ names begins. end names before.tags.left.now now.tags.left.now (so_far.leads names begins) }
 
 -- ---- what is linked, before what may still come
 
@@ -255,13 +256,6 @@ arms_end before now asked whole left as_ is so_far =
 
 pub arms_fewer : (before now : Linker) (asked : Bool) (whole left rest : Arms) (predicate : Expr) (es : Exprs) (as_ : List ArmTree) → left ≡ arm predicate es rest → IsArmsPartway before now asked whole left as_ → expr_size predicate + exprs_size es ≤ arms_size whole
 arms_fewer before now asked whole left rest predicate es as_ is so_far = let fewer : arms_size (arm predicate es rest) ≤ arms_size whole = subst (λ l. arms_size l ≤ arms_size whole) is so_far.fewer in omega (arith, fewer)
-
--- whether an item is the last one
-pub last_item : (b : Bool) (others : List CodeExpr) → b ≡ (length others == 0) → b ≡ is_last (exprs_view others)
-last_item b [] is = is
-last_item b (e ∷ others) is =
-    let none : (length (e ∷ others) == 0) ≡ false = grind (arith, nat_tests) in
-    is ∙ none
 
 -- ---- the next of what is left, and its end
 

@@ -7,15 +7,15 @@ use Rattle.vrl_value.specs.Tree.{Tree, array as items}
 use Rattle.vrl_value.specs.View.{items_of_trees}
 use Rattle.vrl_syntax.specs.Stores.{Store}
 use Rattle.vrl_builtin.specs.Rows.{SettingTree}
+use Rattle.vrl_store.specs.Outcomes.{ends, value}
+use Rattle.vrl_store.specs.Places.{read_in}
+use Rattle.vrl_store.specs.StoreView.{root_of, Names}
+use Rattle.vrl_store.specs.WellFormed.{AreWellFormed, IsWellFormed}
 use Rattle.vrl_resolve.specs.Fits.{AllFit}
 use Rattle.vrl_resolve.specs.Linked.{Linked, literal, read, parts_of_list}
 use Rattle.vrl_resolve.specs.LinkedMeaning.{all_mean}
 use Rattle.vrl_resolve.specs.Looks.{AreOf, IsOf}
-use Rattle.vrl_resolve.specs.Outcomes.{ends, value}
-use Rattle.vrl_resolve.specs.Places.{read_in}
 use Rattle.vrl_resolve.specs.Plain.{plain_values, AllPlain}
-use Rattle.vrl_resolve.specs.StoreView.{root_of, Names}
-use Rattle.vrl_resolve.specs.WellFormed.{AreWellFormed, IsWellFormed}
 use Rattle.vrl_resolve.proofs.GivenArguments.{AreKnownAs, IsKnownAs}
 use Rattle.vrl_resolve.proofs.WellFormedLinked.{arguments_known, known_of, known_parts}
 

@@ -11,11 +11,11 @@ use Rattle.vrl_value.specs.Tree.{Tree, object, Members, no_members, IsOrdered}
 use Rattle.vrl_syntax.specs.Stores.{Store, store_of}
 use Rattle.vrl_value.specs.View.{members_of}
 use Rattle.vrl_value.specs.declared.memory.Memory.{Memory}
+use Rattle.vrl_store.specs.Outcomes.{Ended, Outcome, value, error, aborted, returned, banged, deep}
+use Rattle.vrl_store.specs.WellFormed.{IsWellFormed, IsWellFormedEnded, IsWellFormedOutcome, IsWellFormedStore}
 use Rattle.vrl_resolve.specs.Leaving.{AreToldByMap}
 use Rattle.vrl_resolve.specs.Meaning.{End, ended, end_of}
-use Rattle.vrl_resolve.specs.Outcomes.{Ended, Outcome, value, error, aborted, returned, banged, deep}
 use Rattle.vrl_resolve.specs.Program.{AreVariables, IsEnd, IsRan, IsWellFormedEnd, IsWellFormedRan}
-use Rattle.vrl_resolve.specs.WellFormed.{IsWellFormed, IsWellFormedEnded, IsWellFormedOutcome, IsWellFormedStore}
 use Rattle.vrl_resolve.specs.declared.ran.Ended.{Ended as CodeEnded}
 use Rattle.vrl_resolve.specs.declared.ran.Ended.TheVariants as code
 use Rattle.vrl_resolve.specs.declared.ran.Ran.{Ran}

@@ -5,16 +5,16 @@ use Rattle.std.specs.declared.result.Result.{Result}
 use Rattle.vrl_value.specs.Tree.{Tree, null}
 use Rattle.vrl_value.specs.declared.value.Value.{Value}
 use Rattle.vrl_syntax.specs.Stores.{Store}
+use Rattle.vrl_store.specs.Operators.{is_true}
+use Rattle.vrl_store.specs.Outcomes.{Ended, block_left, ends, on_value, value}
+use Rattle.vrl_store.specs.Results.{Ends}
+use Rattle.vrl_store.specs.declared.stop.Stop.{Stop}
+use Rattle.vrl_store.specs.declared.store.Store.{Store as CodeStore}
 use Rattle.vrl_resolve.specs.Laws.{MeaningsStayWellFormed}
 use Rattle.vrl_resolve.specs.Linked.{ArmTree, Linked, Parts, arm, arm_of, arms_view, block}
 use Rattle.vrl_resolve.specs.LinkedMeaning.{arms_mean, items_mean}
-use Rattle.vrl_resolve.specs.Operators.{is_true}
-use Rattle.vrl_resolve.specs.Outcomes.{Ended, block_left, ends, on_value, value}
-use Rattle.vrl_resolve.specs.Walk.{Ends}
 use Rattle.vrl_resolve.specs.Walking.{AllFitIn, ArmsFitIn, FitsIn, Stays, meant, names_in, setting_in, store_at}
 use Rattle.vrl_resolve.specs.declared.node.Arm.{Arm}
-use Rattle.vrl_resolve.specs.declared.stop.Stop.{Stop}
-use Rattle.vrl_resolve.specs.declared.store.Store.{Store as CodeStore}
 use Rattle.vrl_resolve.specs.declared.walk.Context.{Context}
 use Rattle.vrl_resolve.proofs.Walks.{IsPartway, partway_next, ready_after}
 

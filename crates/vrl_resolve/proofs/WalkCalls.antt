@@ -6,20 +6,20 @@ use Rattle.vrl_value.specs.Tree.{Tree, array as items}
 use Rattle.vrl_value.specs.View.{items_of_trees, tree_of}
 use Rattle.vrl_value.specs.declared.value.Value.{Value}
 use Rattle.vrl_syntax.specs.Stores.{Store}
+use Rattle.vrl_store.specs.Outcomes.{ends, on_value, value}
+use Rattle.vrl_store.specs.Results.{Ends, Stops}
+use Rattle.vrl_store.specs.WellFormed.{AreWellFormed, IsWellFormedEnded, IsWellFormedStore}
+use Rattle.vrl_store.specs.declared.stop.Stop.{Stop}
+use Rattle.vrl_store.specs.declared.store.Store.{Store as CodeStore}
 use Rattle.vrl_resolve.specs.Calls.{acts, items_in}
 use Rattle.vrl_resolve.specs.Laws.{MeaningsStayWellFormed}
 use Rattle.vrl_resolve.specs.Linked.{Linked, linked_of, parts_of_list, parts_view}
 use Rattle.vrl_resolve.specs.LinkedMeaning.{all_mean, callee_in}
 use Rattle.vrl_resolve.specs.Looks.{argument_values, AreOf}
-use Rattle.vrl_resolve.specs.Outcomes.{ends, on_value, value}
 use Rattle.vrl_resolve.specs.Plain.{plain_values, AllPlain}
-use Rattle.vrl_resolve.specs.Walk.{Ends, Stops}
 use Rattle.vrl_resolve.specs.Walking.{AllFitIn, IsReady, names_in, setting_in, store_at}
-use Rattle.vrl_resolve.specs.WellFormed.{AreWellFormed, IsWellFormedEnded, IsWellFormedStore}
 use Rattle.vrl_resolve.specs.declared.node.Callee.{Callee}
 use Rattle.vrl_resolve.specs.declared.node.Node.{Node}
-use Rattle.vrl_resolve.specs.declared.stop.Stop.{Stop}
-use Rattle.vrl_resolve.specs.declared.store.Store.{Store as CodeStore}
 use Rattle.vrl_resolve.specs.declared.walk.Context.{Context}
 use Rattle.vrl_resolve.proofs.RunArguments.{front_fits, items_are, plain_mean, run_are_of}
 use Rattle.vrl_resolve.proofs.Walks.{after_stop, after_value, array_ends}

@@ -10,26 +10,26 @@ use Rattle.vrl_syntax.specs.Stores.{Store, store_kept}
 use Rattle.vrl_syntax.specs.declared.root.Op.{Op}
 use Rattle.vrl_syntax.specs.declared.root.Op.TheVariants as ops
 use Rattle.vrl_syntax.specs.declared.root.Target.{Target}
+use Rattle.vrl_store.specs.Operators.{applied}
+use Rattle.vrl_store.specs.Outcomes.{Ended, Outcome, block_left, ends, error, on_error, on_value, value}
+use Rattle.vrl_store.specs.Places.{writes_to}
+use Rattle.vrl_store.specs.StoreView.{left_with, AreNames, IsBase, IsKept, Names}
+use Rattle.vrl_store.specs.Results.{Ends, Stops}
+use Rattle.vrl_store.specs.WellFormed.{IsWellFormedEnded}
+use Rattle.vrl_store.specs.declared.place.Base.{Base}
+use Rattle.vrl_store.specs.declared.place.Base.TheVariants as base
+use Rattle.vrl_store.specs.declared.stop.Stop.{Stop}
+use Rattle.vrl_store.specs.declared.stop.Stop.TheVariants as stops
+use Rattle.vrl_store.specs.declared.store.Store.{Store as CodeStore}
+use Rattle.vrl_store.proofs.Left.{block_ended}
 use Rattle.vrl_resolve.specs.Laws.{MeaningsStayWellFormed}
 use Rattle.vrl_resolve.specs.Fits.{IsKnown}
 use Rattle.vrl_resolve.specs.Linked.{Linked, array, linked_of, no_pairs, pair, pairs_view, parts_of_list, parts_view}
 use Rattle.vrl_resolve.specs.LinkedMeaning.{all_mean, if_asked, items_mean, pairs_mean}
 use Rattle.vrl_resolve.specs.Meaning.{assigned, combined, written_both}
-use Rattle.vrl_resolve.specs.Operators.{applied}
-use Rattle.vrl_resolve.specs.Outcomes.{Ended, Outcome, block_left, ends, error, on_error, on_value, value}
-use Rattle.vrl_resolve.specs.Places.{writes_to}
-use Rattle.vrl_resolve.specs.StoreView.{left_with, AreNames, IsBase, IsKept, Names}
-use Rattle.vrl_resolve.specs.Walk.{Ends, Stops}
 use Rattle.vrl_resolve.specs.Walking.{AllFitIn, FitsIn, IsReady, PairsFitIn, Stays, both_sides, meant, names_in, setting_in, store_at}
-use Rattle.vrl_resolve.specs.WellFormed.{IsWellFormedEnded}
-use Rattle.vrl_resolve.specs.declared.node.Base.{Base}
-use Rattle.vrl_resolve.specs.declared.node.Base.TheVariants as base
 use Rattle.vrl_resolve.specs.declared.node.Node.{Node}
-use Rattle.vrl_resolve.specs.declared.stop.Stop.{Stop}
-use Rattle.vrl_resolve.specs.declared.stop.Stop.TheVariants as stops
-use Rattle.vrl_resolve.specs.declared.store.Store.{Store as CodeStore}
 use Rattle.vrl_resolve.specs.declared.walk.Context.{Context}
-use Rattle.vrl_resolve.proofs.Left.{block_ended}
 
 -- ---- what stays of the store
 

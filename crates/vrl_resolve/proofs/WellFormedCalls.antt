@@ -5,10 +5,10 @@ use Rattle.vrl_value.specs.declared.value.Tag.{Tag}
 use Rattle.vrl_syntax.specs.Stores.{Store}
 use Rattle.vrl_builtin.specs.Rows.{Answer, value as answered, failure, Row, SettingTree}
 use Rattle.vrl_table.specs.Table.{row_of}
+use Rattle.vrl_store.specs.Outcomes.{deep, value}
+use Rattle.vrl_store.specs.Places.{is_within, read_in}
+use Rattle.vrl_store.specs.WellFormed.{IsWellFormed, IsWellFormedEnded, IsWellFormedOutcome, IsWellFormedStore}
 use Rattle.vrl_resolve.specs.Calls.{Callee, function, deletion, existence, nothing_called, acts, answer_outcome, argument_in, first_unfit, fit_or_else, items_in, within_limit}
-use Rattle.vrl_resolve.specs.Outcomes.{deep, value}
-use Rattle.vrl_resolve.specs.Places.{is_within, read_in}
-use Rattle.vrl_resolve.specs.WellFormed.{IsWellFormed, IsWellFormedEnded, IsWellFormedOutcome, IsWellFormedStore}
 use Rattle.vrl_resolve.proofs.GivenArguments.{arguments_are, AreGivenAs, AreKnownAs}
 use Rattle.vrl_resolve.proofs.LawfulCalls.{lawful_answer, AreWellFormedArguments, IsWellFormedAnswer}
 use Rattle.vrl_resolve.proofs.WellFormedEnds.{read_in_is, removed_is}

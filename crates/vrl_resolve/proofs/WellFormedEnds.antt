@@ -22,11 +22,11 @@ use Rattle.vrl_syntax.specs.declared.root.Root.{Root}
 use Rattle.vrl_syntax.specs.declared.root.Root.TheVariants.{Event, Name}
 use Rattle.vrl_syntax.specs.declared.root.Target.{Target}
 use Rattle.vrl_syntax.specs.declared.root.Target.TheVariants.{Nowhere, Place}
+use Rattle.vrl_store.specs.Operators.{applied, cannot_apply, compared, difference_of, is_falsy, merged, negated, product_of, put_all, sum_of, truth_of}
+use Rattle.vrl_store.specs.Outcomes.{Outcome, value, error, aborted, returned, banged, deep, Ended, banged_if, block_left, ends, error_then, on_error, on_value, value_then}
+use Rattle.vrl_store.specs.Places.{is_within, part_of, read_in, removed, root_value, root_with, root_without, target_value, writes_to}
+use Rattle.vrl_store.specs.WellFormed.{IsWellFormed, IsWellFormedEnded, IsWellFormedOutcome, IsWellFormedStore}
 use Rattle.vrl_resolve.specs.Meaning.{aborted_with, assigned, both_assigned, combined, written_both}
-use Rattle.vrl_resolve.specs.Operators.{applied, cannot_apply, compared, difference_of, is_falsy, merged, negated, product_of, put_all, sum_of, truth_of}
-use Rattle.vrl_resolve.specs.Outcomes.{Outcome, value, error, aborted, returned, banged, deep, Ended, banged_if, block_left, ends, error_then, on_error, on_value, value_then}
-use Rattle.vrl_resolve.specs.Places.{is_within, part_of, read_in, removed, root_value, root_with, root_without, target_value, writes_to}
-use Rattle.vrl_resolve.specs.WellFormed.{IsWellFormed, IsWellFormedEnded, IsWellFormedOutcome, IsWellFormedStore}
 use Rattle.vrl_resolve.proofs.WellFormedValues.{Laws, boolean_is, moment_is, no_items_is, no_members_is, null_is, number_is, or_null, put_is, read_is, remove_is, set_is, text_is}
 
 -- ---- operators

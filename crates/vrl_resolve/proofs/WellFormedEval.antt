@@ -22,13 +22,13 @@ use Rattle.vrl_table.specs.Binding.{binding, keywords_of, path_parameters}
 use Rattle.vrl_table.specs.Table.{function_named, row_of}
 use Rattle.vrl_table.specs.declared.binding.BindFault.{BindFault}
 use Rattle.vrl_table.specs.declared.function.Fun.{Fun}
+use Rattle.vrl_store.specs.Operators.{is_true}
+use Rattle.vrl_store.specs.Outcomes.{Ended, ends, value}
+use Rattle.vrl_store.specs.Places.{target_value}
+use Rattle.vrl_store.specs.WellFormed.{AreWellFormed, AreWellFormedArgs, AreWellFormedArms, AreWellFormedExprs, AreWellFormedPairs, IsWellFormed, IsWellFormedElse, IsWellFormedEnded, IsWellFormedExpr, IsWellFormedForm, IsWellFormedStore}
 use Rattle.vrl_resolve.specs.Calls.{Callee, function, deletion, existence, nothing_called, are_written_right, bound_function, bound_path, callee_of, is_allowed_literal, is_written_right, items_in, named_function, path_callee, values_of, written_at, written_function}
 use Rattle.vrl_resolve.specs.Laws.{EvaluationsStayWellFormed}
 use Rattle.vrl_resolve.specs.Meaning.{eval, eval_all, eval_args, eval_arms, eval_else, eval_form, eval_items, eval_pairs}
-use Rattle.vrl_resolve.specs.Operators.{is_true}
-use Rattle.vrl_resolve.specs.Outcomes.{Ended, ends, value}
-use Rattle.vrl_resolve.specs.Places.{target_value}
-use Rattle.vrl_resolve.specs.WellFormed.{AreWellFormed, AreWellFormedArgs, AreWellFormedArms, AreWellFormedExprs, AreWellFormedPairs, IsWellFormed, IsWellFormedElse, IsWellFormedEnded, IsWellFormedExpr, IsWellFormedForm, IsWellFormedStore}
 use Rattle.vrl_resolve.proofs.BoundPlaces.{places_are, ArePlaced, IsPlaced}
 use Rattle.vrl_resolve.proofs.GivenArguments.{AreGivenAs, AreKnownAs, IsAllowedAs, IsGivenAs, IsKnownAs}
 use Rattle.vrl_resolve.proofs.WellFormedCalls.{acts_is, items_in_is, TakesKnown}

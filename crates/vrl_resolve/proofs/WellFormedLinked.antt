@@ -8,18 +8,18 @@ use Rattle.vrl_syntax.specs.Stores.{Store}
 use Rattle.vrl_syntax.specs.declared.root.Op.TheVariants as op
 use Rattle.vrl_builtin.specs.Rows.{ParameterRow, SettingTree}
 use Rattle.vrl_table.specs.Table.{row_of}
+use Rattle.vrl_store.specs.Operators.{is_true}
+use Rattle.vrl_store.specs.Outcomes.{Ended, ends, value}
+use Rattle.vrl_store.specs.Places.{target_value}
+use Rattle.vrl_store.specs.StoreView.{root_of, Names}
+use Rattle.vrl_store.specs.WellFormed.{AreWellFormed, IsWellFormed, IsWellFormedEnded, IsWellFormedStore}
 use Rattle.vrl_resolve.specs.Calls.{items_in}
 use Rattle.vrl_resolve.specs.Fits.{part_at, AllFit, AreGiven, ArmsFit, ElseFits, Fits, IsAllowedIf, IsCallee, IsGiven, PairsFit}
 use Rattle.vrl_resolve.specs.Laws.{MeaningsStayWellFormed}
 use Rattle.vrl_resolve.specs.Linked.{Linked, literal, array, object, read, query, block, conditional, negation, binary, assign, merge, both, call, return_of, abort_with, Parts, no_parts, parts, Pairs, no_pairs, pair, Arms, no_arms, arm, Else, no_else, else_block, no_message, message}
 use Rattle.vrl_resolve.specs.LinkedMeaning.{all_mean, arms_mean, callee_in, else_means, if_asked, items_mean, means, pairs_mean, target_of}
-use Rattle.vrl_resolve.specs.Operators.{is_true}
-use Rattle.vrl_resolve.specs.Outcomes.{Ended, ends, value}
-use Rattle.vrl_resolve.specs.Places.{target_value}
-use Rattle.vrl_resolve.specs.StoreView.{root_of, Names}
 use Rattle.vrl_resolve.specs.declared.node.Callee.{Callee}
 use Rattle.vrl_resolve.specs.declared.node.Callee.TheVariants as callee
-use Rattle.vrl_resolve.specs.WellFormed.{AreWellFormed, IsWellFormed, IsWellFormedEnded, IsWellFormedStore}
 use Rattle.vrl_resolve.proofs.GivenArguments.{AreGivenAs, AreKnownAs, IsAllowedAs, IsGivenAs, IsKnownAs}
 use Rattle.vrl_resolve.proofs.WellFormedCalls.{acts_is, items_in_is, TakesKnown}
 use Rattle.vrl_resolve.proofs.WellFormedEnds.{aborted_is, assigned_is, banged_is, block_is, both_is, combined_is, either_is, came_of, negated_is, on_value_is, on_value_known, part_of_is, read_in_is, same_value, target_is}

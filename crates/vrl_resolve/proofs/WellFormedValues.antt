@@ -14,7 +14,7 @@ use Rattle.vrl_path.specs.Write.{items_in, members_in}
 use Rattle.vrl_path.specs.declared.path.Step.{Step as CodeStep}
 use Rattle.vrl_path.specs.declared.path.Step.TheVariants as step
 use Rattle.vrl_table.specs.Table.{FunctionsKeepLaw}
-use Rattle.vrl_resolve.specs.WellFormed.{AreWellFormed, IsWellFormed}
+use Rattle.vrl_store.specs.WellFormed.{AreWellFormed, IsWellFormed}
 
 -- laws of the crates below
 pub record Laws : Type 0 where

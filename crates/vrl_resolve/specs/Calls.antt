@@ -21,8 +21,8 @@ use Rattle.vrl_table.specs.Binding.{binding, keywords_of, path_parameters}
 use Rattle.vrl_table.specs.Table.{function_named, row_of}
 use Rattle.vrl_table.specs.declared.binding.BindFault.{BindFault}
 use Rattle.vrl_table.specs.declared.function.Fun.{Fun}
-use Rattle.vrl_resolve.specs.Outcomes.{Outcome, value, error, deep, Ended, ends}
-use Rattle.vrl_resolve.specs.Places.{is_there, is_within, read_in, removed}
+use Rattle.vrl_store.specs.Outcomes.{Outcome, value, error, deep, Ended, ends}
+use Rattle.vrl_store.specs.Places.{is_there, is_within, read_in, removed}
 
 -- ---- what is called
 

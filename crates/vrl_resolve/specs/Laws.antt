@@ -1,22 +1,17 @@
--- Laws of the operators and of the meaning.
-use Rattle.std.specs.Prelude.{◌≡◌, ◌↔◌, ℕ, List, length, IsTrue}
+-- Laws of the meaning.
+use Rattle.std.specs.Prelude.{◌≡◌, ℕ, List, length}
 use Rattle.vrl_value.specs.Tree.{Tree, null, object, Members}
 use Rattle.vrl_value.specs.declared.value.Tag.{Tag}
 use Rattle.vrl_syntax.specs.Stores.{Store, store_of}
 use Rattle.vrl_syntax.specs.Tree.{Expr, Exprs, no_exprs}
 use Rattle.vrl_builtin.specs.Rows.{SettingTree}
+use Rattle.vrl_store.specs.Outcomes.{Ended, ends, value}
+use Rattle.vrl_store.specs.StoreView.{Names}
+use Rattle.vrl_store.specs.WellFormed.{AreWellFormed, AreWellFormedExprs, IsWellFormed, IsWellFormedEnded, IsWellFormedExpr, IsWellFormedStore}
 use Rattle.vrl_resolve.specs.Fits.{AllFit, ArmsFit, ElseFits, Fits, PairsFit}
 use Rattle.vrl_resolve.specs.Linked.{Arms, Else, Linked, Pairs, Parts}
 use Rattle.vrl_resolve.specs.LinkedMeaning.{all_mean, arms_mean, else_means, items_mean, means, pairs_mean}
 use Rattle.vrl_resolve.specs.Meaning.{eval, eval_items, run_script}
-use Rattle.vrl_resolve.specs.Operators.{same}
-use Rattle.vrl_resolve.specs.Outcomes.{Ended, ends, value}
-use Rattle.vrl_resolve.specs.StoreView.{Names}
-use Rattle.vrl_resolve.specs.WellFormed.{AreWellFormed, AreWellFormedExprs, IsWellFormed, IsWellFormedEnded, IsWellFormedExpr, IsWellFormedStore}
-
--- `==` says of two values whether they are equal
-abbrev pub EqualityIsTold : Type 0
-EqualityIsTold = (v w : Tree) → IsTrue (same v w) ↔ (v ≡ w)
 
 -- a script without items gives null, and leaves the event as it is
 abbrev pub EmptyScriptsGiveNull : Type 0

@@ -1,27 +1,22 @@
 -- What a run leaves, by how its walk ended.
-use Rattle.std.specs.Prelude.{◌≡◌, ℕ, List, IfSome, ⊤}
-use Rattle.std.specs.FinMap as map
+use Rattle.std.specs.Prelude.{◌≡◌, ⊤}
 use Rattle.std.specs.declared.result.Result.{Result}
 use Rattle.std.specs.declared.result.Result.TheVariants.{Ok, Err}
-use Rattle.vrl_value.specs.Tree.{Tree, object, Members, no_members}
+use Rattle.vrl_value.specs.Tree.{Tree, no_members}
 use Rattle.vrl_value.specs.View.{members_of, tree_of}
 use Rattle.vrl_value.specs.declared.value.Value.{Value}
 use Rattle.vrl_syntax.specs.Stores.{Store}
-use Rattle.vrl_resolve.specs.StoreView.{map_of}
-use Rattle.vrl_resolve.specs.WellFormed.{IsWellFormed}
+use Rattle.vrl_store.specs.StoreView.{map_of}
+use Rattle.vrl_store.specs.Told.{AreToldByMap}
+use Rattle.vrl_store.specs.declared.stop.Stop.{Stop}
+use Rattle.vrl_store.specs.declared.stop.Stop.TheVariants as stop
 use Rattle.vrl_resolve.specs.declared.ran.Ended.{Ended}
 use Rattle.vrl_resolve.specs.declared.ran.Ended.TheVariants as code
 use Rattle.vrl_resolve.specs.declared.ran.Ran.{Ran}
-use Rattle.vrl_resolve.specs.declared.stop.Stop.{Stop}
-use Rattle.vrl_resolve.specs.declared.stop.Stop.TheVariants as stop
 
 abbrev pub IsValue : Tree → Ended → Type 0
 IsValue v (code.Value w) = tree_of w ≡ v
 IsValue v other = ⊥
-
--- members are well-formed where each value of their map is
-abbrev pub AreToldByMap : Members → Type 0
-AreToldByMap ms = (count : ℕ) → ((x : List ℕ) → IfSome (map.get (map_of ms) x) (IsWellFormed count)) → IsWellFormed count (object ms)
 
 -- with this value, and what the store has
 pub record IsValued (v : Tree) (store : Store) (ran : Ran) : Type 0 where

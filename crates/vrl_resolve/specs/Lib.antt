@@ -7,13 +7,7 @@ pub mod LinkedMeaning
 pub mod Linking
 pub mod Looks
 pub mod Meaning
-pub mod Operators
-pub mod Outcomes
-pub mod Places
 pub mod Plain
 pub mod Program
 pub mod Ready
-pub mod StoreView
-pub mod Walk
 pub mod Walking
-pub mod WellFormed

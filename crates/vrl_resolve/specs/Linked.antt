@@ -8,8 +8,8 @@ use Rattle.vrl_value.specs.View.{tree_of}
 use Rattle.vrl_value.specs.declared.value.Tag.{Tag}
 use Rattle.vrl_path.specs.declared.path.Step.{Step}
 use Rattle.vrl_syntax.specs.declared.root.Op.{Op}
+use Rattle.vrl_store.specs.declared.place.Place.{Place}
 use Rattle.vrl_resolve.specs.declared.node.Callee.{Callee}
-use Rattle.vrl_resolve.specs.declared.node.Place.{Place}
 use Rattle.vrl_resolve.specs.declared.node.Node.{Node}
 use Rattle.vrl_resolve.specs.declared.node.Arm.{Arm}
 use Rattle.vrl_resolve.specs.declared.node.Call.{Call}

@@ -8,16 +8,16 @@ use Rattle.vrl_syntax.specs.declared.root.Op.TheVariants as op
 use Rattle.vrl_syntax.specs.declared.root.Target.{Target}
 use Rattle.vrl_syntax.specs.declared.root.Target.TheVariants as target
 use Rattle.vrl_builtin.specs.Rows.{SettingTree}
+use Rattle.vrl_store.specs.Operators.{is_true, negated}
+use Rattle.vrl_store.specs.Outcomes.{Ended, aborted, banged_if, block_left, ends, on_value, returned, value}
+use Rattle.vrl_store.specs.Places.{part_of, read_in, target_value}
+use Rattle.vrl_store.specs.StoreView.{root_of, Names}
+use Rattle.vrl_store.specs.declared.place.Place.{Place}
 use Rattle.vrl_resolve.specs.Calls.{acts, deletion, existence, function, items_in, nothing_called, Callee}
 use Rattle.vrl_resolve.specs.Linked.{Linked, literal, array, object, read, query, block, conditional, negation, binary, assign, merge, both, call, return_of, abort_with, Parts, no_parts, parts, Pairs, no_pairs, pair, Arms, no_arms, arm, Else, no_else, else_block, no_message, message}
 use Rattle.vrl_resolve.specs.Meaning.{aborted_with, assigned, both_assigned, combined}
-use Rattle.vrl_resolve.specs.Operators.{is_true, negated}
-use Rattle.vrl_resolve.specs.Outcomes.{Ended, aborted, banged_if, block_left, ends, on_value, returned, value}
-use Rattle.vrl_resolve.specs.Places.{part_of, read_in, target_value}
-use Rattle.vrl_resolve.specs.StoreView.{root_of, Names}
 use Rattle.vrl_resolve.specs.declared.node.Callee.{Callee as CodeCallee}
 use Rattle.vrl_resolve.specs.declared.node.Callee.TheVariants as callee
-use Rattle.vrl_resolve.specs.declared.node.Place.{Place}
 
 abbrev pub target_of : Names → Option Place → Target
 target_of names None = target.Nowhere

@@ -16,18 +16,19 @@ use Rattle.vrl_syntax.specs.declared.root.Target.{Target}
 use Rattle.vrl_syntax.specs.declared.root.Target.TheVariants as target
 use Rattle.vrl_builtin.specs.Rows.{ParameterRow}
 use Rattle.vrl_table.specs.declared.function.Fun.{Fun}
+use Rattle.vrl_store.specs.Asked.{is_last}
+use Rattle.vrl_store.specs.StoreView.{root_of, Names}
+use Rattle.vrl_store.specs.declared.place.Base.{Base}
+use Rattle.vrl_store.specs.declared.place.Place.{Place}
 use Rattle.vrl_resolve.specs.Calls as called
 use Rattle.vrl_resolve.specs.Calls.{callee_of}
 use Rattle.vrl_resolve.specs.Fits.{IsKnown}
 use Rattle.vrl_resolve.specs.Linked as linked
 use Rattle.vrl_resolve.specs.Linked.{Linked, Parts}
 use Rattle.vrl_resolve.specs.LinkedMeaning.{callee_in}
-use Rattle.vrl_resolve.specs.StoreView.{root_of, Names}
 use Rattle.vrl_resolve.specs.declared.link.Linker.{Linker}
-use Rattle.vrl_resolve.specs.declared.node.Base.{Base}
 use Rattle.vrl_resolve.specs.declared.node.Callee.{Callee}
 use Rattle.vrl_resolve.specs.declared.node.Callee.TheVariants as callee
-use Rattle.vrl_resolve.specs.declared.node.Place.{Place}
 
 -- ---- places and callees
 
@@ -56,11 +57,6 @@ pub record IsCalleeOf (names : Names) (name : List ℕ) (gs : Args) (c : Closure
   pub same : callee_in names d ≡ callee_of name gs c
 
 -- ---- expressions
-
--- the value of an item is asked for where it is the last one and the whole's is
-abbrev pub is_last : Exprs → Bool
-is_last no_exprs = true
-is_last (exprs e es) = false
 
 mutual
   pub data IsLinked (names : Names) : List Tag → Bool → Expr → Linked → Type 0 where
@@ -170,13 +166,13 @@ IsBeginning names known = (more : Names) × (known ≡ names ++ more)
 -- it knows more names, and has so many tags less; and so it is of the names in the end, and of the tags that it had
 pub record Links (before after : Linker) (count : ℕ) (So : Names → List Tag → Type 0) : Type 0 where
   pub grows : IsBeginning (names_in before) (names_in after)
-  pub behind : after.tags.now ≡ drop count before.tags.now
-  pub so : (names : Names) → IsBeginning (names_in after) names → So names before.tags.now
+  pub behind : after.tags.left.now ≡ drop count before.tags.left.now
+  pub so : (names : Names) → IsBeginning (names_in after) names → So names before.tags.left.now
 
 -- the same where it takes no tags
 pub record Numbers (before after : Linker) (So : Names → Type 0) : Type 0 where
   pub grows : IsBeginning (names_in before) (names_in after)
-  pub tags : after.tags.now ≡ before.tags.now
+  pub tags : after.tags.left.now ≡ before.tags.left.now
   pub so : (names : Names) → IsBeginning (names_in after) names → So names
 
 -- a form is linked, whether or not its value is asked for

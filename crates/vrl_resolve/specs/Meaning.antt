@@ -14,10 +14,10 @@ use Rattle.vrl_syntax.specs.declared.root.Op.{Op}
 use Rattle.vrl_syntax.specs.declared.root.Op.TheVariants as op
 use Rattle.vrl_syntax.specs.declared.root.Target.{Target}
 use Rattle.vrl_builtin.specs.Rows.{SettingTree}
+use Rattle.vrl_store.specs.Operators.{applied, is_falsy, is_true, negated, truth_of}
+use Rattle.vrl_store.specs.Outcomes.{Outcome, value, error, aborted, returned, banged, deep, Ended, banged_if, block_left, ends, on_error, on_value}
+use Rattle.vrl_store.specs.Places.{part_of, read_in, target_value, writes_to}
 use Rattle.vrl_resolve.specs.Calls.{acts, callee_of, items_in}
-use Rattle.vrl_resolve.specs.Operators.{applied, is_falsy, is_true, negated, truth_of}
-use Rattle.vrl_resolve.specs.Outcomes.{Outcome, value, error, aborted, returned, banged, deep, Ended, banged_if, block_left, ends, on_error, on_value}
-use Rattle.vrl_resolve.specs.Places.{part_of, read_in, target_value, writes_to}
 
 -- ---- forms, by how their parts end
 

@@ -2,9 +2,9 @@
 use Rattle.std.specs.Prelude.{Bool, true, false, List, [], ◌∷◌, Option, Some, None, unwrap_or, IsTrue, ⊤}
 use Rattle.vrl_value.specs.Tree.{Tree, null}
 use Rattle.vrl_syntax.specs.Stores.{Store}
+use Rattle.vrl_store.specs.Places.{read_in}
+use Rattle.vrl_store.specs.StoreView.{root_of, Names}
 use Rattle.vrl_resolve.specs.Linked.{Linked, literal, read}
-use Rattle.vrl_resolve.specs.Places.{read_in}
-use Rattle.vrl_resolve.specs.StoreView.{root_of, Names}
 
 abbrev pub is_plain : Linked → Bool
 is_plain (literal v) = true

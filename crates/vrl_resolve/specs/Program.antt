@@ -5,12 +5,12 @@ use Rattle.vrl_value.specs.View.{members_of, tree_of}
 use Rattle.vrl_value.specs.declared.value.Tag.{Tag}
 use Rattle.vrl_syntax.specs.Stores.{Store, store_of}
 use Rattle.vrl_syntax.specs.Tree.{Exprs}
+use Rattle.vrl_store.specs.Outcomes.{Ended}
+use Rattle.vrl_store.specs.StoreView.{map_of}
+use Rattle.vrl_store.specs.WellFormed.{IsWellFormed}
 use Rattle.vrl_resolve.specs.Linked.{parts_view}
 use Rattle.vrl_resolve.specs.LinkedMeaning.{items_mean}
 use Rattle.vrl_resolve.specs.Meaning.{End, ended, ended_aborted, ended_banged, ended_deep, end_of, run_script}
-use Rattle.vrl_resolve.specs.Outcomes.{Ended}
-use Rattle.vrl_resolve.specs.StoreView.{map_of}
-use Rattle.vrl_resolve.specs.WellFormed.{IsWellFormed}
 use Rattle.vrl_resolve.specs.declared.program.Program.{Program}
 use Rattle.vrl_resolve.specs.declared.ran.Ended.{Ended as CodeEnded}
 use Rattle.vrl_resolve.specs.declared.ran.Ended.TheVariants as code

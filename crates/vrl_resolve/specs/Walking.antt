@@ -12,18 +12,18 @@ use Rattle.vrl_syntax.specs.declared.root.Op.{Op}
 use Rattle.vrl_syntax.specs.declared.root.Target.{Target}
 use Rattle.vrl_builtin.specs.Rows.{SettingTree}
 use Rattle.vrl_builtin.specs.View.{setting_of}
+use Rattle.vrl_store.specs.Operators.{applied, is_true}
+use Rattle.vrl_store.specs.Outcomes.{Ended, ends, error, on_error, on_value, value}
+use Rattle.vrl_store.specs.Places.{writes_to}
+use Rattle.vrl_store.specs.StoreView.{count_of, present_of, store_in, AreNames, IsFront, IsKept, Names}
+use Rattle.vrl_store.specs.Results.{Ends, Stops}
+use Rattle.vrl_store.specs.WellFormed.{IsWellFormedStore}
+use Rattle.vrl_store.specs.declared.stop.Stop.{Stop}
+use Rattle.vrl_store.specs.declared.store.Store.{Store as CodeStore}
 use Rattle.vrl_resolve.specs.Fits.{AllFit, ArmsFit, ElseFits, Fits, MessageFits, PairsFit}
 use Rattle.vrl_resolve.specs.Linked.{Arms, Else, Linked, Message, Pairs, Parts, parts_of_list}
 use Rattle.vrl_resolve.specs.LinkedMeaning.{all_mean, means}
 use Rattle.vrl_resolve.specs.Meaning.{both_assigned, written_both}
-use Rattle.vrl_resolve.specs.Operators.{applied, is_true}
-use Rattle.vrl_resolve.specs.Outcomes.{Ended, ends, error, on_error, on_value, value}
-use Rattle.vrl_resolve.specs.Places.{writes_to}
-use Rattle.vrl_resolve.specs.StoreView.{store_in, AreNames, IsFront, IsKept, Names}
-use Rattle.vrl_resolve.specs.Walk.{Ends, Stops}
-use Rattle.vrl_resolve.specs.WellFormed.{IsWellFormedStore}
-use Rattle.vrl_resolve.specs.declared.stop.Stop.{Stop}
-use Rattle.vrl_resolve.specs.declared.store.Store.{Store as CodeStore}
 use Rattle.vrl_resolve.specs.declared.walk.Context.{Context}
 
 -- ---- the context of a run
@@ -69,8 +69,8 @@ MessageFitsIn x m = MessageFits (length (names_in x)) (length (setting_in x).sou
 -- what a run keeps of a store: its form, the variables that were there first, and how many variables there may be
 pub record Stays (before after : CodeStore) : Type 0 where
   pub kept : IsKept after
-  pub front : IsFront before.present.items after.present.items
-  pub as_many : length after.variables.items ≡ length before.variables.items
+  pub front : IsFront (present_of before) (present_of after)
+  pub as_many : count_of after ≡ count_of before
 
 -- what a part means, in the store
 abbrev pub meant : Context → Linked → CodeStore → Ended
@@ -103,9 +103,3 @@ WritesTo target v before after (Err stop) = (next : Store → Ended) → Stops (
 abbrev pub GivesBoth : Tag → Ended → Store → Result (Value × Value) Stop → Type 0
 GivesBoth tag given store (Ok vs) = (ok err : Target) → both_assigned ok err tag given.outcome given.store ≡ written_both ok err (tree_of vs.0) (tree_of vs.1) store
 GivesBoth tag given store (Err stop) = (ok err : Target) → Stops (both_assigned ok err tag given.outcome given.store) store stop
-
--- it ended with a value, or with an error, which is forgotten; whatever else it ended with stays
-abbrev pub EndsUnlessError : Ended → Store → Result (Option Value) Stop → Type 0
-EndsUnlessError ended store (Ok (Some v)) = ended ≡ ends (value (tree_of v)) store
-EndsUnlessError ended store (Ok None) = (text : List ℕ) × (ended ≡ ends (error text) store)
-EndsUnlessError ended store (Err stop) = (next : List ℕ → Store → Ended) → Stops (on_error ended next) store stop

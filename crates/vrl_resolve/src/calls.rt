@@ -4,6 +4,9 @@ ghost use Rattle.vrl_value.specs.View.{tree_of};
 ghost use Rattle.vrl_builtin.specs.Conditions.{arguments_below, AreArguments};
 ghost use Rattle.vrl_builtin.specs.View.{argument_tree, arguments_of, parameter_row, setting_of};
 ghost use Rattle.vrl_table.specs.Table.{row_of};
+ghost use Rattle.vrl_store.specs.StoreView.{count_of, present_of, store_in, AreNames, IsFront, IsKept, Names};
+ghost use Rattle.vrl_store.specs.Results.{Ends, Gives};
+ghost use Rattle.vrl_store.specs.WellFormed.{AreWellFormed, IsWellFormedStore};
 ghost use Rattle.vrl_resolve.specs.Calls.{acts, argument_in, argument_text, called, first_unfit, unfit_tag, within_limit};
 ghost use Rattle.vrl_resolve.specs.Fits.{AllFit, AreGiven, IsCallee};
 ghost use Rattle.vrl_resolve.specs.Linked.{linked_of, parts_view};
@@ -11,18 +14,13 @@ ghost use Rattle.vrl_resolve.specs.LinkedMeaning.{callee_in};
 ghost use Rattle.vrl_resolve.specs.Looks.{argument_values, AreOf, AreReadable, IsReadable};
 ghost use Rattle.vrl_resolve.specs.Plain as spec;
 ghost use Rattle.vrl_resolve.specs.Plain.{plain_value, AllPlain};
-ghost use Rattle.vrl_resolve.specs.StoreView.{store_in, AreNames, IsFront, IsKept, Names};
-ghost use Rattle.vrl_resolve.specs.Walk.{Ends, Gives};
-ghost use Rattle.vrl_resolve.specs.WellFormed.{AreWellFormed, IsWellFormedStore};
 
 use crate::laws::meanings_stay_well_formed;
 use crate::node::{Callee, Form, Node};
-use crate::operators::word;
-use crate::stop::Stop;
-use crate::store::Store;
 use crate::walk::Context;
 use std::alloc::Global;
 use vrl_builtin::{Applied, Arguments, Builtin, Parameter};
+use vrl_store::{Stop, Store, word};
 use vrl_table::{Fun, apply, parameters};
 use vrl_value::{Chars, Memory, Tag, Value};
 
@@ -49,114 +47,117 @@ pub(crate) fn is_plain(node: &Node) -> bool
     matches!(&node.form, Form::Literal(_) | Form::Read(_))
 }
 
-impl Store {
-    /// The value of a literal or of a path, where it stands. `None`: the node is something else.
-    pub(crate) fn peek<'a>(&'a self, node: &'a Node) -> Option<&'a Value>
-        requires readable { IsReadable (length self.now.variables.items) (linked_of node.now) }
-        requires kept { IsKept self.now }
-        ensures { (names : Names) → AreNames names self.now → option_map (λ value. tree_of value.now) result ≡ plain_value names (linked_of node.now) (store_in names self.now) }
-    {
-        match &node.form {
-            Form::Literal(value) => Some(value),
-            Form::Read(place) => Some(self.read(place)),
-            _ => None,
-        }
+/// The value of a literal or of a path, where it stands. `None`: the node is something else.
+pub(crate) fn peek<'a>(store: &'a Store, node: &'a Node) -> Option<&'a Value>
+    requires readable { IsReadable (count_of store.now) (linked_of node.now) }
+    requires kept { IsKept store.now }
+    ensures { (names : Names) → AreNames names store.now → option_map (λ value. tree_of value.now) result ≡ plain_value names (linked_of node.now) (store_in names store.now) }
+{
+    match &node.form {
+        Form::Literal(value) => Some(value),
+        Form::Read(place) => Some(store.read(place)),
+        _ => None,
     }
+}
 
-    // The value of the argument at a place: one of those that were run, or else one that is looked at where it stands.
-    fn argument<'a>(&'a self, run: &'a [Value], args: &'a [Node], place: usize) -> Option<&'a Value>
-        requires plain { AllPlain (map linked_of (drop (length run.now) args.now)) }
-        requires readable { AreReadable (length self.now.variables.items) (map linked_of args.now) }
-        requires kept { IsKept self.now }
-        ensures { (names : Names) → AreNames names self.now → option_map (λ value. tree_of value.now) result ≡ item_at place (argument_values names (store_in names self.now) run.now args.now) }
-    {
-        match run.get(place) {
-            Some(value) => Some(value),
-            None => match args.get(place) {
-                Some(node) => self.peek(node),
-                None => None,
-            },
-        }
+// The value of the argument at a place: one of those that were run, or else one that is looked at where it stands.
+fn argument<'a>(
+    store: &'a Store,
+    run: &'a [Value],
+    args: &'a [Node],
+    place: usize,
+) -> Option<&'a Value>
+    requires plain { AllPlain (map linked_of (drop (length run.now) args.now)) }
+    requires readable { AreReadable (count_of store.now) (map linked_of args.now) }
+    requires kept { IsKept store.now }
+    ensures { (names : Names) → AreNames names store.now → option_map (λ value. tree_of value.now) result ≡ item_at place (argument_values names (store_in names store.now) run.now args.now) }
+{
+    match run.get(place) {
+        Some(value) => Some(value),
+        None => match args.get(place) {
+            Some(node) => peek(store, node),
+            None => None,
+        },
     }
+}
 
-    // The arguments of a function, in the order of its parameters. `Memory`: want of memory.
-    fn arguments<'a>(
-        &'a self,
-        alloc: Global,
-        run: &'a [Value],
-        args: &'a [Node],
-        places: &[Option<usize>],
-    ) -> Result<Arguments<'a>, Memory>
-        requires plain { AllPlain (map linked_of (drop (length run.now) args.now)) }
-        requires readable { AreReadable (length self.now.variables.items) (map linked_of args.now) }
-        requires kept { IsKept self.now }
-        ensures { IfOk result (λ arguments. (names : Names) → AreNames names self.now → arguments_of arguments ≡ map (argument_in (argument_values names (store_in names self.now) run.now args.now)) places.now) }
-    {
-        let mut arguments = Vec::with_capacity(alloc, places.len())?;
-        for place in places {
-            let argument = match place {
-                Some(place) => self.argument(run, args, *place),
-                None => None,
-            };
-            arguments.push(argument)?;
-        }
-        Ok(Arguments::new(arguments))
+// The arguments of a function, in the order of its parameters. `Memory`: want of memory.
+fn arguments<'a>(
+    store: &'a Store,
+    alloc: Global,
+    run: &'a [Value],
+    args: &'a [Node],
+    places: &[Option<usize>],
+) -> Result<Arguments<'a>, Memory>
+    requires plain { AllPlain (map linked_of (drop (length run.now) args.now)) }
+    requires readable { AreReadable (count_of store.now) (map linked_of args.now) }
+    requires kept { IsKept store.now }
+    ensures { IfOk result (λ arguments. (names : Names) → AreNames names store.now → arguments_of arguments ≡ map (argument_in (argument_values names (store_in names store.now) run.now args.now)) places.now) }
+{
+    let mut arguments = Vec::with_capacity(alloc, places.len())?;
+    for place in places {
+        let argument = match place {
+            Some(place) => argument(store, run, args, *place),
+            None => None,
+        };
+        arguments.push(argument)?;
     }
+    Ok(Arguments::new(arguments))
+}
 
-    /// What a call comes to, whose first arguments were run and gave these values.
-    pub(crate) fn act(
-        &mut self,
-        context: &Context<'_>,
-        callee: &Callee,
-        run: Vec<Value>,
-        args: &[Node],
-    ) -> Result<Value, Stop>
-        requires names { AreNames context.now.names.now self.old }
-        requires kept { IsKept self.old }
-        requires callee { IsCallee (length context.now.names.now) (parts_view args.now) callee.now }
-        requires fits { AllFit (length context.now.names.now) (length context.now.setting.patterns.now) (parts_view args.now) }
-        requires plain { AllPlain (map linked_of (drop (length run.items) args.now)) }
-        requires of_args { AreOf (map linked_of args.now) (map tree_of run.items) }
-        requires run { AreWellFormed (length context.now.setting.patterns.now) (map tree_of run.items) }
-        requires formed { IsWellFormedStore (length context.now.setting.patterns.now) (store_in context.now.names.now self.old) }
-        ensures ends { let store = store_in context.now.names.now self.old in Ends (acts (setting_of context.now.setting) (callee_in context.now.names.now callee.now) (argument_values context.now.names.now store run.items args.now) store) (store_in context.now.names.now self.new) result }
-        ensures kept { IsKept self.new }
-        ensures front { IsFront self.old.present.items self.new.present.items }
-        ensures as_many { length self.new.variables.items ≡ length self.old.variables.items }
-    {
-        match callee {
-            Callee::Function(function, places) => {
-                self.call_function(context, *function, places, &run, args)
-            }
-            Callee::Deletion(place) => within_limit(self.take(context.alloc, place)?),
-            Callee::Existence(place) => Ok(Value::Bool(self.is_there(place))),
-            Callee::Nothing => Err(Stop::Error(Chars::new(String::new(context.alloc)))),
+/// What a call comes to, whose first arguments were run and gave these values.
+pub(crate) fn act(
+    store: &mut Store,
+    context: &Context<'_>,
+    callee: &Callee,
+    run: Vec<Value>,
+    args: &[Node],
+) -> Result<Value, Stop>
+    requires names { AreNames context.now.names.now store.old }
+    requires kept { IsKept store.old }
+    requires callee { IsCallee (length context.now.names.now) (parts_view args.now) callee.now }
+    requires fits { AllFit (length context.now.names.now) (length context.now.setting.patterns.now) (parts_view args.now) }
+    requires plain { AllPlain (map linked_of (drop (length run.items) args.now)) }
+    requires of_args { AreOf (map linked_of args.now) (map tree_of run.items) }
+    requires run { AreWellFormed (length context.now.setting.patterns.now) (map tree_of run.items) }
+    requires formed { IsWellFormedStore (length context.now.setting.patterns.now) (store_in context.now.names.now store.old) }
+    ensures ends { let before = store_in context.now.names.now store.old in Ends (acts (setting_of context.now.setting) (callee_in context.now.names.now callee.now) (argument_values context.now.names.now before run.items args.now) before) (store_in context.now.names.now store.new) result }
+    ensures kept { IsKept store.new }
+    ensures front { IsFront (present_of store.old) (present_of store.new) }
+    ensures as_many { count_of store.new ≡ count_of store.old }
+{
+    match callee {
+        Callee::Function(function, places) => {
+            call_function(store, context, *function, places, &run, args)
         }
+        Callee::Deletion(place) => within_limit(store.take(context.alloc, place)?),
+        Callee::Existence(place) => Ok(Value::Bool(store.is_there(place))),
+        Callee::Nothing => Err(Stop::Error(Chars::new(String::new(context.alloc)))),
     }
+}
 
-    // What a function answers to its arguments, of which the first were run and gave these values.
-    fn call_function(
-        &self,
-        context: &Context<'_>,
-        function: Fun,
-        places: &[Option<usize>],
-        run: &[Value],
-        args: &[Node],
-    ) -> Result<Value, Stop>
-        requires names { AreNames context.now.names.now self.now }
-        requires kept { IsKept self.now }
-        requires given { AreGiven 0 (row_of function).parameters (row_of function).accepts (parts_view args.now) places.now }
-        requires fits { AllFit (length context.now.names.now) (length context.now.setting.patterns.now) (parts_view args.now) }
-        requires plain { AllPlain (map linked_of (drop (length run.now) args.now)) }
-        requires of_args { AreOf (map linked_of args.now) (map tree_of run.now) }
-        requires run { AreWellFormed (length context.now.setting.patterns.now) (map tree_of run.now) }
-        requires formed { IsWellFormedStore (length context.now.setting.patterns.now) (store_in context.now.names.now self.now) }
-        ensures { Gives (called (setting_of context.now.setting) (row_of function) (map (argument_in (argument_values context.now.names.now (store_in context.now.names.now self.now) run.now args.now)) places.now)) result }
-    {
-        meanings_stay_well_formed();
-        let arguments = self.arguments(context.alloc, run, args, places)?;
-        answer(context, function, &arguments)
-    }
+// What a function answers to its arguments, of which the first were run and gave these values.
+fn call_function(
+    store: &Store,
+    context: &Context<'_>,
+    function: Fun,
+    places: &[Option<usize>],
+    run: &[Value],
+    args: &[Node],
+) -> Result<Value, Stop>
+    requires names { AreNames context.now.names.now store.now }
+    requires kept { IsKept store.now }
+    requires given { AreGiven 0 (row_of function).parameters (row_of function).accepts (parts_view args.now) places.now }
+    requires fits { AllFit (length context.now.names.now) (length context.now.setting.patterns.now) (parts_view args.now) }
+    requires plain { AllPlain (map linked_of (drop (length run.now) args.now)) }
+    requires of_args { AreOf (map linked_of args.now) (map tree_of run.now) }
+    requires run { AreWellFormed (length context.now.setting.patterns.now) (map tree_of run.now) }
+    requires formed { IsWellFormedStore (length context.now.setting.patterns.now) (store_in context.now.names.now store.now) }
+    ensures { Gives (called (setting_of context.now.setting) (row_of function) (map (argument_in (argument_values context.now.names.now (store_in context.now.names.now store.now) run.now args.now)) places.now)) result }
+{
+    meanings_stay_well_formed();
+    let arguments = arguments(store, context.alloc, run, args, places)?;
+    answer(context, function, &arguments)
 }
 
 // What a function answers to its arguments. `Error`: one has a tag that its parameter doesn't allow, or the function fails; `Deep`: its

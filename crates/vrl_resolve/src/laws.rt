@@ -1,13 +1,8 @@
-ghost use Rattle.vrl_resolve.specs.Laws.{EmptyScriptsGiveNull, EqualityIsTold, EvaluationsStayWellFormed, MeaningsStayWellFormed};
+ghost use Rattle.vrl_resolve.specs.Laws.{EmptyScriptsGiveNull, EvaluationsStayWellFormed, MeaningsStayWellFormed};
 
 use vrl_kind::any_holds_all;
 use vrl_table::functions_keep_law;
 use vrl_value::{regexes_stay_below, trees_stay_in_order};
-
-/// What the meaning says of `==` is that two values are equal. This takes no time: it is a law about the definitions.
-pub fn equality_is_told()
-    ensures { EqualityIsTold }
-{}
 
 /// A script without items gives null, and leaves the event as it is. This takes no time: it is a law about the definitions.
 pub fn empty_scripts_give_null()

@@ -9,16 +9,13 @@ mod laws;
 mod link;
 mod linking;
 mod node;
-mod operand;
-mod operators;
 mod program;
 mod ran;
 mod runner;
-mod stop;
-mod store;
 mod walk;
 
-pub use laws::{empty_scripts_give_null, equality_is_told, evaluations_stay_well_formed};
+pub use laws::{empty_scripts_give_null, evaluations_stay_well_formed};
 pub use program::Program;
 pub use ran::{Ended, Ran};
 pub use runner::run;
+pub use vrl_store::equality_is_told;

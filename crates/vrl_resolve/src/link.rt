@@ -1,20 +1,21 @@
-ghost use Rattle.std.specs.Prelude.{◌≡◌, ◌&&◌, [], true, map, option_map, IfOk, OnOk, ⊤};
+ghost use Rattle.std.specs.Prelude.{◌≡◌, [], true, map, option_map, IfOk, OnOk, ⊤};
 ghost use Rattle.vrl_syntax.specs.ErrorAssignments.{first_tag, in_args, in_arms, in_closure, in_else, in_expr, in_exprs, in_pairs, other_tags};
 ghost use Rattle.vrl_syntax.specs.Tree.{abort_with, array, assign, binary, block, both, conditional, literal, merge, negation, object, query, read, return_of};
-ghost use Rattle.vrl_syntax.specs.View.{args_of, arms_of, call_of, closure_in, closure_of, else_of, expr_of, exprs_of, exprs_view, message_of, pairs_of};
+ghost use Rattle.vrl_syntax.specs.View.{args_of, arms_of, call_of, closure_in, closure_of, else_of, expr_of, exprs_of, message_of, pairs_of};
 ghost use Rattle.vrl_syntax.specs.declared.root.Root.TheVariants.{Name};
 ghost use Rattle.vrl_value.specs.View.{tree_of};
+ghost use Rattle.vrl_store.specs.StoreView.{AreDistinct};
+ghost use Rattle.vrl_store.specs.declared.place.Base.TheVariants as base;
 ghost use Rattle.vrl_resolve.specs.Calls as called;
 ghost use Rattle.vrl_resolve.specs.Linked.{arms_view, linked_of, pairs_view, parts_view, else_of as linked_else, message_of as linked_message};
-ghost use Rattle.vrl_resolve.specs.Linking.{is_last, names_in, AreArgsLinked, AreArmsLinked, AreItemsLinked, AreLinked, ArePairsLinked, IsBaseOf, IsCalleeIn, IsElseLinked, IsLinked, IsLinkedForm, IsPathCallee, IsPlaceOf, IsTargetOf, Links, LinksAny, LinksForm, Numbers};
-ghost use Rattle.vrl_resolve.specs.StoreView.{AreDistinct};
-ghost use Rattle.vrl_resolve.specs.declared.node.Base.TheVariants as base;
+ghost use Rattle.vrl_resolve.specs.Linking.{names_in, AreArgsLinked, AreArmsLinked, AreItemsLinked, AreLinked, ArePairsLinked, IsBaseOf, IsCalleeIn, IsElseLinked, IsLinked, IsLinkedForm, IsPathCallee, IsPlaceOf, IsTargetOf, Links, LinksAny, LinksForm, Numbers};
 
 use crate::bound::{function_callee, path_of};
-use crate::node::{Arm, Base, Call, Callee, Form, Node, Place};
+use crate::node::{Arm, Call, Callee, Form, Node};
 use indexmap::IndexSet;
 use std::alloc::Global;
 use vrl_path::Path;
+use vrl_store::{Base, EmptyTags, Place, is_asked_of_item};
 use vrl_syntax::{
     Args, Arms, Call as SyntaxCall, Closure, Expr, Exprs, Form as SyntaxForm, Op, Pairs, Root,
     Target,
@@ -26,19 +27,19 @@ use vrl_value::{Chars, Memory, Names, Tag, Value};
 pub(crate) struct Linker<'a> {
     alloc: Global,
     names: IndexSet<String>,
-    tags: &'a [Tag],
+    tags: EmptyTags<'a>,
 }
 
 impl<'a> Linker<'a> {
     /// One that knows no name yet.
     pub(crate) fn new(alloc: Global, tags: &'a [Tag]) -> Linker<'a>
         ensures names { names_in result ≡ [] }
-        ensures tags { result.tags.now ≡ tags.now }
+        ensures tags { result.tags.left.now ≡ tags.now }
     {
         Linker {
             alloc,
             names: IndexSet::new(alloc),
-            tags,
+            tags: EmptyTags { left: tags },
         }
     }
 }
@@ -105,17 +106,11 @@ impl Linker<'_> {
 
     // The tag of the next error assignment; null where none is left.
     fn tag(&mut self) -> Tag
-        ensures first { result ≡ first_tag self.old.tags.now }
-        ensures others { self.new.tags.now ≡ other_tags self.old.tags.now }
+        ensures first { result ≡ first_tag self.old.tags.left.now }
+        ensures others { self.new.tags.left.now ≡ other_tags self.old.tags.left.now }
         ensures names { self.new.names ≡ self.old.names }
     {
-        match self.tags.split_first() {
-            Some((tag, others)) => {
-                self.tags = others;
-                *tag
-            }
-            None => Tag::Null,
-        }
+        self.tags.next()
     }
 
     /// The nodes of items, of which only the value of the last is asked for, and that only where the whole's is. `Memory`: want of memory.
@@ -366,7 +361,7 @@ impl Linker<'_> {
     {
         let callee = self.callee(call)?;
         let args = self.args(&call.args)?;
-        self.pass_over(&call.closure)?;
+        self.pass_over(&call.closure);
         let linked = Call {
             callee,
             bang: call.bang,
@@ -375,18 +370,11 @@ impl Linker<'_> {
         Ok(Node::of(Form::Call(Box::new(self.alloc, linked)?)))
     }
 
-    // Passes over a closure, which isn't run yet, and over the tags of the error assignments in it. `Memory`: want of memory.
-    #[cycle(link)]
-    fn pass_over(&mut self, closure: &Option<Closure>) -> Result<(), Memory>
-        ensures { OnOk result (Links self.old self.new (in_closure (closure_in (option_map closure_of closure.now))) (λ names tags. ⊤)) }
+    // Passes over the tags of the error assignments in a closure, which isn't run yet.
+    fn pass_over(&mut self, closure: &Option<Closure>)
+        ensures { Links self.old self.new (in_closure (closure_in (option_map closure_of closure.now))) (λ names tags. ⊤) }
     {
-        match closure {
-            Some(closure) => {
-                drop(self.items(&closure.body, false)?);
-                Ok(())
-            }
-            None => Ok(()),
-        }
+        self.tags.pass_over(closure);
     }
 
     #[cycle(link)]
@@ -435,11 +423,4 @@ impl Linker<'_> {
             None => Ok(Callee::Nothing),
         }
     }
-}
-
-// Whether the value of an item is asked for, where that of all is, before others.
-fn is_asked_of_item(is_asked: bool, others: &[Expr]) -> bool
-    ensures { result ≡ (is_asked && is_last (exprs_view others.now)) }
-{
-    is_asked && others.is_empty()
 }

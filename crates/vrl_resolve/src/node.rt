@@ -2,27 +2,10 @@ ghost use Rattle.std.specs.Prelude.{◌≡◌};
 ghost use Rattle.vrl_resolve.specs.Linked.{form_of, linked_of};
 
 use vrl_path::Path;
+use vrl_store::Place;
 use vrl_syntax::Op;
 use vrl_table::Fun;
 use vrl_value::{Chars, Tag, Value};
-
-/// Where a path begins: the event, or the variable with this number.
-#[derive(Clone, Copy)]
-pub(crate) enum Base {
-    /// The event.
-    Event,
-    /// A variable.
-    Variable(usize),
-}
-
-/// A path from the event or from a variable.
-#[derive(Drop)]
-pub(crate) struct Place {
-    /// Where it begins.
-    pub(crate) base: Base,
-    /// The steps from there.
-    pub(crate) path: Path,
-}
 
 /// What a call calls.
 #[derive(Drop)]

@@ -1,22 +1,22 @@
 ghost use Rattle.std.specs.Prelude.{◌≡◌, length, IfOk, IsTrue};
 ghost use Rattle.vrl_value.specs.Regexes.{regexes_below};
 ghost use Rattle.vrl_value.specs.View.{members_of, tree_of};
-ghost use Rattle.vrl_resolve.specs.Leaving.{AreToldByMap, IsEarly, IsHandled, IsHandledStop, IsValued};
+ghost use Rattle.vrl_store.specs.Outcomes as meaning;
+ghost use Rattle.vrl_store.specs.StoreView.{event_of, store_in, AreNames};
+ghost use Rattle.vrl_store.specs.Told.{AreToldByMap};
+ghost use Rattle.vrl_store.specs.Results.{Ends, Stops};
+ghost use Rattle.vrl_resolve.specs.Leaving.{IsEarly, IsHandled, IsHandledStop, IsValued};
 ghost use Rattle.vrl_resolve.specs.Meaning.{IsUnhandled};
-ghost use Rattle.vrl_resolve.specs.Outcomes as meaning;
 ghost use Rattle.vrl_resolve.specs.Program.{ended_over, program_of, IsRan, IsWellFormedRan};
-ghost use Rattle.vrl_resolve.specs.StoreView.{store_in, AreNames};
-ghost use Rattle.vrl_resolve.specs.Walk.{Ends, Stops};
 
 use crate::laws::meanings_stay_well_formed;
 use crate::program::Program;
 use crate::ran::{Ended, Ran};
-use crate::stop::Stop;
-use crate::store::Store;
-use crate::walk::Context;
+use crate::walk::{Context, items};
 use std::alloc::Global;
 use std::collections::BTreeMap;
 use vrl_builtin::Setting;
+use vrl_store::{Stop, Store};
 use vrl_value::{Fields, Memory, Moment, Names, Value};
 
 /// Runs a program over an event, at a moment, from which it ends with no error that it doesn't handle. Each regex in the event is one of the
@@ -38,7 +38,7 @@ pub fn run(alloc: Global, program: &Program, event: Value, moment: Moment) -> Re
         names: &program.names,
     };
     let mut store = Store::start(alloc, event, program.names.as_slice().len())?;
-    let end = store.items(&context, &program.items);
+    let end = items(&mut store, &context, &program.items);
     left(alloc, &program.names, store, end)
 }
 
@@ -87,7 +87,7 @@ fn stopped(alloc: Global, names: &Names, store: Store, stop: Stop) -> Result<Ran
 
 // What a run leaves that ended early: the event, and no variables.
 fn early(alloc: Global, store: Store, ended: Ended) -> Ran
-    ensures { IsEarly ended (tree_of store.event) result }
+    ensures { IsEarly ended (event_of store) result }
 {
     Ran {
         ended,

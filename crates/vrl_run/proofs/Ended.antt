@@ -7,8 +7,8 @@ use Rattle.vrl_value.specs.Tree.{Tree}
 use Rattle.vrl_value.specs.View.{tree_of}
 use Rattle.vrl_value.specs.declared.memory.Memory.{Memory}
 use Rattle.vrl_json.specs.Line.{whole, reading_of}
+use Rattle.vrl_store.specs.Outcomes.{Ended}
 use Rattle.vrl_resolve.specs.Meaning.{End, ended, ended_aborted, ended_banged, ended_deep}
-use Rattle.vrl_resolve.specs.Outcomes.{Ended}
 use Rattle.vrl_resolve.specs.Program.{IsEnd, IsRan}
 use Rattle.vrl_resolve.specs.declared.ran.Ended.{Ended as CodeEnded}
 use Rattle.vrl_resolve.specs.declared.ran.Ended.TheVariants as code

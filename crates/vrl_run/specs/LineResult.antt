@@ -5,10 +5,10 @@ use Rattle.vrl_value.specs.Tree.{Tree, string, array, Items, no_items, item}
 use Rattle.vrl_json.specs.Line.{Reading, not_json, not_whole, whole, reading_of, line_text}
 use Rattle.vrl_kind.specs.KindTree.{KindTree}
 use Rattle.vrl_kind.specs.Kinds.{Inhabits}
+use Rattle.vrl_store.specs.Outcomes.{Ended}
+use Rattle.vrl_store.specs.WellFormed.{IsWellFormed}
 use Rattle.vrl_resolve.specs.Meaning.{End, ended, ended_aborted, ended_banged, ended_deep, unhandled, end_of, IsUnhandled}
-use Rattle.vrl_resolve.specs.Outcomes.{Ended}
 use Rattle.vrl_resolve.specs.Program.{ended_over, ProgramTree}
-use Rattle.vrl_resolve.specs.WellFormed.{IsWellFormed}
 use Rattle.vrl_batch.specs.declared.line.Line.{Line}
 use Rattle.vrl_batch.specs.declared.work.LineOut.{LineOut}
 use Rattle.vrl_batch.specs.declared.work.Outcome.{Outcome}

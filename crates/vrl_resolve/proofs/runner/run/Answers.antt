@@ -2,13 +2,13 @@ use Rattle.std.proofs.Common.{length, sym, ap, subst}
 use Rattle.vrl_value.specs.Tree.{null}
 use Rattle.vrl_value.specs.View.{tree_of}
 use Rattle.vrl_builtin.specs.Rows.{SettingTree}
+use Rattle.vrl_store.specs.Outcomes.{Ended}
+use Rattle.vrl_store.specs.StoreView.{store_in}
+use Rattle.vrl_store.specs.Results.{Ends}
 use Rattle.vrl_resolve.specs.Fits.{AllFit}
 use Rattle.vrl_resolve.specs.Linked.{parts_view}
 use Rattle.vrl_resolve.specs.LinkedMeaning.{items_mean}
-use Rattle.vrl_resolve.specs.Outcomes.{Ended}
 use Rattle.vrl_resolve.specs.Program.{program_of}
-use Rattle.vrl_resolve.specs.StoreView.{store_in}
-use Rattle.vrl_resolve.specs.Walk.{Ends}
 use Rattle.vrl_resolve.proofs.RunsWellFormed.{left_is, start_is}
 use Rattle.vrl_resolve.proofs.WellFormedValues.{null_is}
 use Rattle.vrl_resolve.proofs.runner.run.Goals as goal
@@ -34,4 +34,4 @@ returns-clause-below c =
     let fits = subst (λ ns. AllFit (length names) count (parts_view ns)) (sym c.deref.ensures.value) c.args.program.now.ready.fits in
     let meant : Ended = items_mean names setting null (parts_view c.deref.result.now) (store_in names c.in_ok-store.store) in
     let well = c.meanings_stay_well_formed.ensures.items names setting (length names) null (parts_view c.deref.result.now) (store_in names c.in_ok-store.store) (null_is count) fits formed in
-    left_is count (λ m. Ends m (store_in names c.items-end.new.self) c.items-end.result) c.left.result meant c.left.ensures.ran c.left.ensures.told c.items-end.ensures.ended well
+    left_is count (λ m. Ends m (store_in names c.items-end.new.store) c.items-end.result) c.left.result meant c.left.ensures.ran c.left.ensures.told c.items-end.ensures.ended well

@@ -139,7 +139,7 @@ node-returns-in-Group t c =
 pub query-returns : goal.query-returns
 query-returns t c =
     let is : linked_of c.of.result ≡ linked.query (linked_of c.in_ok-part.part.value) c.in_ok-path.path = search (rules, the_lemmas) in
-    any_made (query (expr_of c.args.part.now) c.args.path.now) _ _ is (λ names asked part. subst (λ steps. IsLinkedForm names c.args.self.now.tags.now asked (query (expr_of c.args.part.now) steps) (linked.query (linked_of c.in_ok-part.part.value) c.in_ok-path.path)) c.in_ok-path.ensures (a_query part)) c.in_ok-part.ensures
+    any_made (query (expr_of c.args.part.now) c.args.path.now) _ _ is (λ names asked part. subst (λ steps. IsLinkedForm names c.args.self.now.tags.left.now asked (query (expr_of c.args.part.now) steps) (linked.query (linked_of c.in_ok-part.part.value) c.in_ok-path.path)) c.in_ok-path.ensures (a_query part)) c.in_ok-part.ensures
 
 pub negation-returns : goal.negation-returns
 negation-returns t c =
@@ -221,7 +221,7 @@ abort-returns-in-None t c =
 pub call-returns : goal.call-returns
 call-returns t c =
     let is : linked_of c.of.result ≡ linked.call c.in_ok-callee.callee (out-Call c.args.call.now).bang (parts_view c.in_ok-args.args.items) = search (rules, the_lemmas) in
-    call_made c.args.call.now _ c.in_ok-callee.callee (parts_view c.in_ok-args.args.items) is (numbers_and_links c.in_ok-callee.ensures (links_then c.in_ok-args.ensures c.in_ok-pass_over.ensures))
+    call_made c.args.call.now _ c.in_ok-callee.callee (parts_view c.in_ok-args.args.items) is (numbers_and_links c.in_ok-callee.ensures (links_then c.in_ok-args.ensures c.pass_over.ensures))
 
 pub otherwise-returns-in_ok-nodes-in-Some : goal.otherwise-returns-in_ok-nodes-in-Some
 otherwise-returns-in_ok-nodes-in-Some t c = rw c.in-Some.is (links_weaker (λ names items. a_last items) c.in_ok-nodes-in-Some.ensures)

@@ -1,8 +1,8 @@
 use Rattle.std.proofs.Common.{◌+◌, ◌*◌, drop, length, map, option_map}
 use Rattle.vrl_syntax.specs.View.{args_of, args_view, arms_of, arms_view, call_of, closure_in, closure_of, else_of, expr_of, exprs_of, exprs_view, message_of, pairs_of, pairs_view}
+use Rattle.vrl_store.proofs.Sizes.{args_size, arms_size, closure_size, else_size, expr_size, exprs_size, form_size, message_size, pairs_size}
 use Rattle.vrl_resolve.specs.Linked.{arm_of, linked_of}
 use Rattle.vrl_resolve.proofs.Partway.{IsArgsPartway, IsArmsPartway, IsArrayPartway, IsItemsPartway, IsObjectPartway}
-use Rattle.vrl_resolve.proofs.Sizes.{args_size, arms_size, closure_size, else_size, expr_size, exprs_size, form_size, message_size, pairs_size}
 use Rattle.vrl_resolve.proofs.link.Linker.+link.Given as goal
 
 -- first by what is left of the script, then by who calls whom for the same part
@@ -59,9 +59,6 @@ decreases-object l = 4 * pairs_size (pairs_of l.pairs.now) + 1
 
 abbrev pub decreases-otherwise : goal.decreases-otherwise
 decreases-otherwise l = 4 * else_size (else_of (option_map exprs_of l.otherwise.now)) + 2
-
-abbrev pub decreases-pass_over : goal.decreases-pass_over
-decreases-pass_over l = 4 * closure_size (closure_in (option_map closure_of l.closure.now)) + 2
 
 abbrev pub decreases-query : goal.decreases-query
 decreases-query l = 4 * expr_size (expr_of l.part.now) + 2

@@ -12,4 +12,4 @@ pub returns : goal.returns
 returns c =
     let is : linked_of c.of.result ≡ linked.literal (tree_of c.in_ok-value.value) = search (rules, the_lemmas) in
     let same : linked_of c.of.result ≡ linked.literal (tree_of c.args.value.now) = is ∙ ap linked.literal c.in_ok-value.ensures.equal in
-    links_itself c.args.self.now (λ names asked. subst (IsLinkedForm names c.args.self.now.tags.now asked (literal (tree_of c.args.value.now))) (sym same) (a_literal c.in_ok-value.ensures.ordered))
+    links_itself c.args.self.now (λ names asked. subst (IsLinkedForm names c.args.self.now.tags.left.now asked (literal (tree_of c.args.value.now))) (sym same) (a_literal c.in_ok-value.ensures.ordered))

@@ -1,0 +1,791 @@
+use Rattle.std.proofs.Common.{List, [], ap, ap₂, arith, false, length, length-append, map, rules, subst, sym, true, ℕ, ◌++◌, ◌∙◌, ◌∷◌, ◌≡◌}
+use Rattle.std.proofs.lemmas.Result.{err_from_is_err_and}
+use Rattle.vrl_store.specs.Operators.{applied}
+use Rattle.vrl_store.specs.Outcomes.{Ended, banged_if, block_left, ends, error, on_error, on_value, value}
+use Rattle.vrl_store.specs.Places.{target_value}
+use Rattle.vrl_store.specs.Results.{Ends, Stops}
+use Rattle.vrl_resolve.proofs.LinkedSizes.{arms_fewer, else_size, first_size, linked_size, message_size, pairs_fewer, parts_fewer}
+use Rattle.vrl_resolve.proofs.WalkArms.{arm_fits, arm_passed, arm_taken, arms_end}
+use Rattle.vrl_resolve.proofs.WalkCalls.{call_ends, call_stops, first_fit, given_are_of, given_formed, left_formed}
+use Rattle.vrl_resolve.proofs.Walks.{after_error, array_ends, array_stops, asks_both, assigned_stops, beside_ends, block_ends, block_store, first_stops, items_next, known_base, names_after, next_pair, next_part, null_stops, pairs_end, pairs_next, parts_end, parts_next, parts_stop, ready_after, second_stops, stays_here, stays_then}
+use Rattle.vrl_resolve.specs.Calls.{acts, items_in}
+use Rattle.vrl_resolve.specs.Linked.{ArmTree, abort_with, arm_of, arms_view, array, assign, binary, block, both, call, call_of, conditional, else_block, else_view, linked_of, literal, merge, message, message_view, negation, object, pairs_view, parts_of_list, parts_view, query, read, return_of}
+use Rattle.vrl_resolve.specs.LinkedMeaning.{all_mean, arms_mean, callee_in, else_means, items_mean, means, pairs_mean, target_of}
+use Rattle.vrl_resolve.specs.Meaning.{both_assigned, combined}
+use Rattle.vrl_resolve.specs.Walking.{AllFitIn, ElseFitsIn, FitsIn, MessageFitsIn, PairsFitIn, meant, names_in, setting_in, store_at}
+use Rattle.vrl_resolve.specs.declared.node.Arm.{out-Arm}
+use Rattle.vrl_resolve.specs.declared.node.Call.{out-Call}
+use Rattle.vrl_resolve.specs.declared.node.Form.{the_lemmas}
+use Rattle.vrl_syntax.specs.Stores.{Store}
+use Rattle.vrl_value.specs.Tree.{array as items, no_members, null, object as members, put}
+use Rattle.vrl_value.specs.View.{items_of, members_of, tree_of}
+use Rattle.vrl_value.specs.declared.value.Value.{the_lemmas as value_lemmas}
+use Rattle.vrl_syntax.specs.declared.root.Op.TheVariants as ops
+use Rattle.vrl_value.specs.declared.value.Value.TheVariants as values
+use Rattle.vrl_resolve.proofs.walk.+walk.Goals as goal
+
+pub abort-eval-requires : goal.abort-eval-requires
+abort-eval-requires t c =
+    let here0 : c.deref.result.now ≡ c.in-Some.part.value = search rules in
+    let is : message_view c.args.message.now ≡ message (linked_of c.deref.result.now) = ap message_view c.in-Some.is ∙ ap (λ n. message (linked_of n)) (sym here0) in
+    (omega (arith, c.decreases, ap message_size is), (c.requires.ready, subst (MessageFitsIn c.args.context.now) is c.requires.fits))
+
+pub answer-act-requires-clause-formed : goal.answer-act-requires-clause-formed
+answer-act-requires-clause-formed t c = left_formed c.meanings_stay_well_formed.ensures c.args.context.now c.run_before-count.result c.args.args.now c.args.store.now c.values.new.store (map tree_of c.in_ok-run.run'.items) c.requires.fits c.requires.ready c.in_ok-run.ensures.ended
+
+pub answer-act-requires-clause-of_args : goal.answer-act-requires-clause-of_args
+answer-act-requires-clause-of_args t c = given_are_of c.args.context.now c.run_before-count.result c.args.args.now c.args.store.now c.values.new.store (map tree_of c.in_ok-run.run'.items) c.in_ok-run.ensures.ended
+
+pub answer-act-requires-clause-run : goal.answer-act-requires-clause-run
+answer-act-requires-clause-run t c = given_formed c.meanings_stay_well_formed.ensures c.args.context.now c.run_before-count.result c.args.args.now c.args.store.now c.values.new.store (map tree_of c.in_ok-run.run'.items) c.requires.fits c.requires.ready c.in_ok-run.ensures.ended
+
+pub answer-returns-clause-ended : goal.answer-returns-clause-ended
+answer-returns-clause-ended t c =
+    let x = c.args.context.now in
+    call_ends x c.run_before-count.result c.args.args.now c.args.callee.now c.in_ok-run.run'.items c.args.store.now c.values.new.store (store_at x c.act.new.store) c.act.result c.run_before-count.ensures.within c.run_before-count.ensures.plain c.in_ok-run.ensures.counted
+    c.in_ok-run.ensures.ended c.act.ensures.ends
+
+pub answer-returns-in_err-run-clause-ended : goal.answer-returns-in_err-run-clause-ended
+answer-returns-in_err-run-clause-ended t c =
+    let x = c.args.context.now in
+    let told : Stops (on_value (all_mean (names_in x) (setting_in x) (parts_view c.args.args.now) [] (store_at x c.args.store.now)) (λ vs after. acts (setting_in x) (callee_in (names_in x) c.args.callee.now) (items_in vs) after)) (store_at x c.values.new.store) c.in_err-run.field-0.0 =
+    call_stops x c.run_before-count.result c.args.args.now c.args.callee.now c.args.store.now (store_at x c.values.new.store) c.in_err-run.field-0.0 c.in_err-run.ensures.ended in
+    search rules
+
+pub answer-values-requires : goal.answer-values-requires
+answer-values-requires t c =
+    let fewer = first_size c.run_before-count.result c.args.args.now in
+    (omega (arith, c.decreases, fewer), (c.requires.ready, first_fit c.args.context.now c.run_before-count.result c.args.args.now c.requires.fits))
+
+pub array-returns-clause-ended : goal.array-returns-clause-ended
+array-returns-clause-ended t c =
+    let x = c.args.context.now in
+    let one : tree_of (values.List c.new.result) ≡ items (items_of c.new.result) = search (rules, value_lemmas) in
+    array_ends x (map linked_of c.args.parts.now) c.args.store.now c.values.new.store (map tree_of c.in_ok-values.values.items) c.in_ok-values.ensures.ended
+    ∙ ap (λ v. ends (value v) (store_at x c.values.new.store)) (sym (one ∙ ap items c.new.ensures))
+
+pub array-returns-in_err-values-clause-ended : goal.array-returns-in_err-values-clause-ended
+array-returns-in_err-values-clause-ended t c =
+    let x = c.args.context.now in
+    let told : Stops (meant x (array (parts_view c.args.parts.now)) c.args.store.now) (store_at x c.values.new.store) c.in_err-values.field-0.0 =
+    array_stops x (map linked_of c.args.parts.now) c.args.store.now (store_at x c.values.new.store) c.in_err-values.field-0.0 c.in_err-values.ensures.ended in
+    search rules
+
+pub array-values-requires : goal.array-values-requires
+array-values-requires t c =
+    (omega (arith, c.decreases), (c.requires.ready, c.requires.fits))
+
+pub assign-eval-requires : goal.assign-eval-requires
+assign-eval-requires t c =
+    (omega (arith, c.decreases), (c.requires.ready, c.requires.fits))
+
+pub assign-returns-in_err-write_to-clause-ended : goal.assign-returns-in_err-write_to-clause-ended
+assign-returns-in_err-write_to-clause-ended t c =
+    let x = c.args.context.now in
+    let after = c.eval.new.store in
+    let T = target_of (names_in x) c.args.target.now in
+    let are = names_after (names_in x) c.args.store.now after c.requires.ready.names c.in_ok-value.ensures.stays in
+    let given : Stops (meant x (assign true c.args.target.now (linked_of c.args.part.now)) c.args.store.now) (store_at x c.write_to.new.store) c.in_err-write_to.field-0.0 =
+    assigned_stops T (meant x (linked_of c.args.part.now) c.args.store.now) (tree_of c.in_ok-value.value) (store_at x after) (store_at x c.write_to.new.store) c.in_err-write_to.field-0.0 c.in_ok-value.ensures.ended (c.in_err-write_to.ensures.written (names_in x) are) in
+    search rules
+
+pub beside-eval-requires : goal.beside-eval-requires
+beside-eval-requires t c =
+    (omega (arith, c.decreases), (c.requires.ready, c.requires.fits))
+
+pub binary-beside-requires : goal.binary-beside-requires
+binary-beside-requires t c = (
+  omega (arith, c.decreases),
+  (
+    ready_after c.args.context.now c.args.store.now c.eval.new.store (linked_of c.args.left.now) (value (tree_of c.in_ok-left-in_default.left)) c.meanings_stay_well_formed.ensures c.requires.left c.in_ok-left-in_default.ensures.ended c.requires.ready c.in_ok-left-in_default.ensures.stays,
+    c.requires.right,
+  ),
+)
+
+pub binary-coalescing-requires : goal.binary-coalescing-requires
+binary-coalescing-requires t c =
+    (omega (arith, c.decreases), (c.requires.ready, (c.requires.left, c.requires.right)))
+
+pub binary-conjunction-requires : goal.binary-conjunction-requires
+binary-conjunction-requires t c =
+    (omega (arith, c.decreases), (c.requires.ready, (c.requires.left, c.requires.right)))
+
+pub binary-disjunction-requires : goal.binary-disjunction-requires
+binary-disjunction-requires t c =
+    (omega (arith, c.decreases), (c.requires.ready, (c.requires.left, c.requires.right)))
+
+pub binary-eval-requires : goal.binary-eval-requires
+binary-eval-requires t c =
+    (omega (arith, c.decreases), (c.requires.ready, c.requires.left))
+
+pub binary-returns-in_ok-left-in_default : goal.binary-returns-in_ok-left-in_default
+binary-returns-in_ok-left-in_default t c =
+    let x = c.args.context.now in
+    let left = meant x (linked_of c.args.left.now) c.args.store.now in
+    let right : Store → Ended = λ after. means (names_in x) (setting_in x) (linked_of c.args.right.now) after in
+    let asks = asks_both c.args.op left right c.in_default.not-Coalesce c.in_default.not-Or c.in_default.not-And in
+    record {
+      ended = beside_ends c.args.op left right (tree_of c.in_ok-left-in_default.left) (store_at x c.eval.new.store) (store_at x c.beside.new.store) c.beside.result asks c.in_ok-left-in_default.ensures.ended c.beside.ensures.ended;
+      stays = stays_then c.args.store.now c.eval.new.store c.beside.new.store c.in_ok-left-in_default.ensures.stays c.beside.ensures.stays;
+    }
+
+pub binary-returns-then-is_plain-2 : goal.binary-returns-then-is_plain-2
+binary-returns-then-is_plain-2 t c =
+    let x = c.args.context.now in
+    let right : Store → Ended = λ after. means (names_in x) (setting_in x) (linked_of c.args.right.now) after in
+    let asks = asks_both c.args.op (meant x (linked_of c.args.left.now) c.args.store.now) right c.in_default.not-Coalesce c.in_default.not-Or c.in_default.not-And in
+    record {
+      ended = subst (λ e. Ends e (store_at x c.args.store.now) c.look.result) (sym asks) c.look.ensures;
+      stays = stays_here c.args.store.now c.requires.ready.kept;
+    }
+
+pub block-items-value-requires : goal.block-items-value-requires
+block-items-value-requires t c =
+    (omega (arith, c.decreases), (c.requires.ready, c.requires.fits))
+
+pub block-returns-clause-ended : goal.block-returns-clause-ended
+block-returns-clause-ended t c =
+    let x = c.args.context.now in
+    let before = c.args.store.now in
+    let middle = c.items-value.new.store in
+    let m = items_mean (names_in x) (setting_in x) null (parts_view c.args.body.now) (store_at x before) in
+    let left = c.leave.ensures.left (names_in x) (names_after (names_in x) before middle c.requires.ready.names c.items-value.ensures.stays) in
+    let store = block_store x before middle c.leave.new.self c.count-count.result c.requires.ready c.items-value.ensures.stays c.count-count.ensures left in
+    subst (λ s. Ends (block_left (store_at x before) m) s c.items-value.result) store (block_ends (store_at x before) m (store_at x middle) c.items-value.result c.items-value.ensures.ended)
+
+pub both-outcome-requires : goal.both-outcome-requires
+both-outcome-requires t c =
+    (omega (arith, c.decreases), (c.requires.ready, c.requires.fits))
+
+pub both-returns-in_err-value-clause-ended : goal.both-returns-in_err-value-clause-ended
+both-returns-in_err-value-clause-ended t c =
+    let x = c.args.context.now in
+    let T = target_of (names_in x) c.args.ok.now in
+    let U = target_of (names_in x) c.args.err.now in
+    let given = meant x (linked_of c.args.part.now) c.args.store.now in
+    let told : Stops (meant x (both true c.args.ok.now c.args.err.now c.args.tag (linked_of c.args.part.now)) c.args.store.now) (store_at x c.outcome.new.store) c.in_err-value.field-0.0 =
+    c.in_err-value.ensures.ended T U in
+    search rules
+
+pub both-returns-in_err-write_to-2-clause-ended : goal.both-returns-in_err-write_to-2-clause-ended
+both-returns-in_err-write_to-2-clause-ended t c =
+    let x = c.args.context.now in
+    let T = target_of (names_in x) c.args.ok.now in
+    let U = target_of (names_in x) c.args.err.now in
+    let given = meant x (linked_of c.args.part.now) c.args.store.now in
+    let are = names_after (names_in x) c.args.store.now c.outcome.new.store c.requires.ready.names c.in_ok-value.ensures.stays in
+    let are_then = names_after (names_in x) c.outcome.new.store c.write_to.new.store are c.in_ok-write_to.ensures.stays in
+    let told : Stops (meant x (both true c.args.ok.now c.args.err.now c.args.tag (linked_of c.args.part.now)) c.args.store.now) (store_at x c.write_to-2.new.store) c.in_err-write_to-2.field-0.0 =
+    second_stops T U (both_assigned T U c.args.tag given.outcome given.store) (tree_of c.in_ok-value.value) (tree_of c.in_ok-value.error) (store_at x c.outcome.new.store) (store_at x c.write_to.new.store) (store_at x c.write_to-2.new.store) c.in_err-write_to-2.field-0.0 (c.in_ok-value.ensures.ended T U) (c.in_ok-write_to.ensures.written (names_in x) are) (c.in_err-write_to-2.ensures.written (names_in x) are_then) in
+    search rules
+
+pub both-returns-in_err-write_to-clause-ended : goal.both-returns-in_err-write_to-clause-ended
+both-returns-in_err-write_to-clause-ended t c =
+    let x = c.args.context.now in
+    let T = target_of (names_in x) c.args.ok.now in
+    let U = target_of (names_in x) c.args.err.now in
+    let given = meant x (linked_of c.args.part.now) c.args.store.now in
+    let are = names_after (names_in x) c.args.store.now c.outcome.new.store c.requires.ready.names c.in_ok-value.ensures.stays in
+    let told : Stops (meant x (both true c.args.ok.now c.args.err.now c.args.tag (linked_of c.args.part.now)) c.args.store.now) (store_at x c.write_to.new.store) c.in_err-write_to.field-0.0 =
+    first_stops T U (both_assigned T U c.args.tag given.outcome given.store) (tree_of c.in_ok-value.value) (tree_of c.in_ok-value.error) (store_at x c.outcome.new.store) (store_at x c.write_to.new.store) c.in_err-write_to.field-0.0 (c.in_ok-value.ensures.ended T U) (c.in_err-write_to.ensures.written (names_in x) are) in
+    search rules
+
+pub call-answer-value-requires : goal.call-answer-value-requires
+call-answer-value-requires t c =
+    let a = out-Call c.args.call.now in
+    let args : c.deref.result.now ≡ a.args.items = search rules in
+    let is : call_of c.args.call.now ≡ call a.callee a.bang (parts_view c.deref.result.now) = search (rules, the_lemmas) in
+    let fits = subst (FitsIn c.args.context.now) is c.requires.fits in
+    (omega (arith, c.decreases, ap linked_size is), (c.requires.ready, (fits.0, fits.1)))
+
+pub call-returns-then-call-clause-ended : goal.call-returns-then-call-clause-ended
+call-returns-then-call-clause-ended t c =
+    let x = c.args.context.now in
+    let a = out-Call c.args.call.now in
+    let args : c.deref.result.now ≡ a.args.items = search rules in
+    let is : call_of c.args.call.now ≡ call a.callee a.bang (parts_view c.deref.result.now) = search (rules, the_lemmas) in
+    let e = on_value (all_mean (names_in x) (setting_in x) (parts_view c.deref.result.now) [] (store_at x c.args.store.now)) (λ vs after. acts (setting_in x) (callee_in (names_in x) a.callee) (items_in vs) after) in
+    let t = store_at x c.answer-value.new.store in
+    subst (λ n. Ends (meant x n c.args.store.now) t c.banged.result) (sym is)
+    (subst (λ b. Ends (banged_if b e) t c.banged.result) (sym c.if-call.true) (c.banged.ensures e t c.answer-value.ensures.ended))
+
+pub coalescing-eval-requires : goal.coalescing-eval-requires
+coalescing-eval-requires t c =
+    let x = c.args.context.now in
+    let told = rw c.in-None.is at (c.in_ok-value.ensures (meant x (linked_of c.args.left.now) c.args.store.now) (store_at x c.eval-value.new.store) c.eval-value.ensures.ended) in (
+      omega (arith, c.decreases),
+      (
+        ready_after x c.args.store.now c.eval-value.new.store (linked_of c.args.left.now) (error told.0) c.meanings_stay_well_formed.ensures c.requires.left told.1 c.requires.ready c.eval-value.ensures.stays,
+        c.requires.right,
+      ),
+    )
+
+pub coalescing-eval-value-requires : goal.coalescing-eval-value-requires
+coalescing-eval-value-requires t c =
+    (omega (arith, c.decreases), (c.requires.ready, c.requires.left))
+
+pub coalescing-returns-in-None-clause-ended : goal.coalescing-returns-in-None-clause-ended
+coalescing-returns-in-None-clause-ended t c =
+    let x = c.args.context.now in
+    let told = rw c.in-None.is at (c.in_ok-value.ensures (meant x (linked_of c.args.left.now) c.args.store.now) (store_at x c.eval-value.new.store) c.eval-value.ensures.ended) in
+    after_error (meant x (linked_of c.args.left.now) c.args.store.now) (λ text after. means (names_in x) (setting_in x) (linked_of c.args.right.now) after) told.0 (store_at x c.eval-value.new.store) (store_at x c.eval.new.store) c.eval.result told.1 c.eval.ensures.ended
+
+pub coalescing-returns-in-Some-clause-ended : goal.coalescing-returns-in-Some-clause-ended
+coalescing-returns-in-Some-clause-ended t c =
+    let x = c.args.context.now in
+    let told = rw c.in-Some.is at (c.in_ok-value.ensures (meant x (linked_of c.args.left.now) c.args.store.now) (store_at x c.eval-value.new.store) c.eval-value.ensures.ended) in
+    ap (λ e. on_error e (λ text after. means (names_in x) (setting_in x) (linked_of c.args.right.now) after)) told
+
+pub coalescing-returns-in_err-value-clause-ended : goal.coalescing-returns-in_err-value-clause-ended
+coalescing-returns-in_err-value-clause-ended t c =
+    let x = c.args.context.now in
+    let left = meant x (linked_of c.args.left.now) c.args.store.now in
+    let next : List ℕ → Store → Ended = λ text after. means (names_in x) (setting_in x) (linked_of c.args.right.now) after in
+    let given : Stops (on_error left next) (store_at x c.eval-value.new.store) c.in_err-value.field-0.0 = c.in_err-value.ensures left (store_at x c.eval-value.new.store) c.eval-value.ensures.ended next in
+    search rules
+
+pub conditional-block-requires : goal.conditional-block-requires
+conditional-block-requires t c =
+    let l = c.loop-arm in
+    let x = c.args.context.now in
+    let a = out-Arm c.arm-item.result in
+    let body : c.deref.result.now ≡ a.body.items = search rules in
+    let is : ◌≡◌ {A = ArmTree} (arm_of c.arm-item.result) (linked_of a.predicate, parts_view c.deref.result.now) = search (rules, the_lemmas) in
+    let fits = arm_fits x c.args.arms.now l.arm-index c.arm-item.result (linked_of a.predicate) (parts_view c.deref.result.now) c.loop-arm-test.true c.arm-item.is is l.invariant.fits in
+    let size = arms_fewer c.args.arms.now l.arm-index c.arm-item.result (linked_of a.predicate) (parts_view c.deref.result.now) c.loop-arm-test.true c.arm-item.is is in
+    let told = c.in_ok-holds.ensures.ended in (
+      omega (arith, c.decreases, l.invariant.fewer, size),
+      (
+        ready_after x l.store c.holds.new.store (linked_of a.predicate) (value told.0) c.meanings_stay_well_formed.ensures fits.0 told.1.0 l.invariant.so_far.ready c.in_ok-holds.ensures.stays,
+        fits.1.0,
+      ),
+    )
+
+pub conditional-block-requires-in-Some : goal.conditional-block-requires-in-Some
+conditional-block-requires-in-Some t c =
+    let l = c.loop-arm in
+    let here : c.deref-in-Some.result.now ≡ c.in-Some.items.items = search rules in
+    let is : else_view c.args.otherwise.now ≡ else_block (parts_view c.deref-in-Some.result.now) = ap else_view c.in-Some.is ∙ ap (λ ns. else_block (parts_view ns)) (sym here) in
+    (omega (arith, c.decreases, ap else_size is), (l.invariant.so_far.ready, subst (ElseFitsIn c.args.context.now) is c.requires.otherwise))
+
+pub conditional-holds-requires : goal.conditional-holds-requires
+conditional-holds-requires t c =
+    let l = c.loop-arm in
+    let x = c.args.context.now in
+    let a = out-Arm c.arm-item.result in
+    let is : ◌≡◌ {A = ArmTree} (arm_of c.arm-item.result) (linked_of a.predicate, parts_view a.body.items) = search (rules, the_lemmas) in
+    let fits = arm_fits x c.args.arms.now l.arm-index c.arm-item.result (linked_of a.predicate) (parts_view a.body.items) c.loop-arm-test.true c.arm-item.is is l.invariant.fits in
+    let size = arms_fewer c.args.arms.now l.arm-index c.arm-item.result (linked_of a.predicate) (parts_view a.body.items) c.loop-arm-test.true c.arm-item.is is in
+    (omega (arith, c.decreases, l.invariant.fewer, size), (l.invariant.so_far.ready, fits.0))
+
+pub conditional-loop-arm-preserved : goal.conditional-loop-arm-preserved
+conditional-loop-arm-preserved t c =
+    let l = c.loop-arm in
+    let x = c.args.context.now in
+    let a = out-Arm c.arm-item.result in
+    let is : ◌≡◌ {A = ArmTree} (arm_of c.arm-item.result) (linked_of a.predicate, parts_view a.body.items) = search (rules, the_lemmas) in
+    let told = c.in_ok-holds.ensures.ended in
+    let otherwise : Store → Ended = λ after. else_means (names_in x) (setting_in x) (else_view c.args.otherwise.now) after in
+    let next = arm_passed c.meanings_stay_well_formed.ensures x c.args.store.now l.store c.holds.new.store c.args.arms.now l.arm-index c.arm-item.result (linked_of a.predicate) (parts_view a.body.items) otherwise (arms_mean (names_in x) (setting_in x) (arms_view c.args.arms.now) otherwise (store_at x c.args.store.now)) c.in_ok-holds.field-0 told.0
+    c.loop-arm-test.true c.arm-item.is is l.invariant.fits l.invariant.so_far told.1.0 told.1.1 c.if-branch.false c.in_ok-holds.ensures.stays in
+    let size = arms_fewer c.args.arms.now l.arm-index c.arm-item.result (linked_of a.predicate) (parts_view a.body.items) c.loop-arm-test.true c.arm-item.is is in
+    record { so_far = next.0; fits = next.1; fewer = omega (arith, l.invariant.fewer, size) }
+
+pub conditional-returns-in-None-clause-ended : goal.conditional-returns-in-None-clause-ended
+conditional-returns-in-None-clause-ended t c =
+    let l = c.loop-arm in
+    let x = c.args.context.now in
+    let otherwise : Store → Ended = λ after. else_means (names_in x) (setting_in x) (else_view c.args.otherwise.now) after in
+    let is : tree_of values.Null ≡ null = search (rules, value_lemmas) in
+    arms_end x c.args.store.now l.store c.args.arms.now l.arm-index otherwise _ c.loop-arm-test.false l.invariant.so_far
+    ∙ ap (λ o. else_means (names_in x) (setting_in x) (else_view o) (store_at x l.store)) c.in-None.is ∙ ap (λ v. ends (value v) (store_at x l.store)) (sym is)
+
+pub conditional-returns-then-branch-clause-ended : goal.conditional-returns-then-branch-clause-ended
+conditional-returns-then-branch-clause-ended t c =
+    let l = c.loop-arm in
+    let x = c.args.context.now in
+    let a = out-Arm c.arm-item.result in
+    let body : c.deref.result.now ≡ a.body.items = search rules in
+    let is : ◌≡◌ {A = ArmTree} (arm_of c.arm-item.result) (linked_of a.predicate, parts_view c.deref.result.now) = search (rules, the_lemmas) in
+    let told = c.in_ok-holds.ensures.ended in
+    let otherwise : Store → Ended = λ after. else_means (names_in x) (setting_in x) (else_view c.args.otherwise.now) after in
+    arm_taken x c.args.store.now l.store c.holds.new.store c.args.arms.now l.arm-index c.arm-item.result (linked_of a.predicate) (parts_view c.deref.result.now) otherwise (arms_mean (names_in x) (setting_in x) (arms_view c.args.arms.now) otherwise (store_at x c.args.store.now)) c.in_ok-holds.field-0 told.0 (store_at x c.block.new.store) c.block.result
+    c.loop-arm-test.true c.arm-item.is is l.invariant.so_far told.1.0 told.1.1 c.if-branch.true c.block.ensures.ended
+
+pub conjunction-eval-requires : goal.conjunction-eval-requires
+conjunction-eval-requires t c =
+    (omega (arith, c.decreases), (c.requires.ready, c.requires.left))
+
+pub conjunction-eval-requires-2 : goal.conjunction-eval-requires-2
+conjunction-eval-requires-2 t c = (
+  omega (arith, c.decreases),
+  (
+    ready_after c.args.context.now c.args.store.now c.eval.new.store (linked_of c.args.left.now) (value (tree_of c.in_ok-value.value)) c.meanings_stay_well_formed.ensures c.requires.left c.in_ok-value.ensures.ended c.requires.ready c.in_ok-value.ensures.stays,
+    c.requires.right,
+  ),
+)
+
+pub disjunction-eval-requires : goal.disjunction-eval-requires
+disjunction-eval-requires t c =
+    (omega (arith, c.decreases), (c.requires.ready, c.requires.left))
+
+pub disjunction-eval-requires-then-is_falsy : goal.disjunction-eval-requires-then-is_falsy
+disjunction-eval-requires-then-is_falsy t c = (
+  omega (arith, c.decreases),
+  (
+    ready_after c.args.context.now c.args.store.now c.eval.new.store (linked_of c.args.left.now) (value (tree_of c.in_ok-value.value)) c.meanings_stay_well_formed.ensures c.requires.left c.in_ok-value.ensures.ended c.requires.ready c.in_ok-value.ensures.stays,
+    c.requires.right,
+  ),
+)
+
+pub eval-abort-requires : goal.eval-abort-requires
+eval-abort-requires t c =
+    let is : linked_of c.args.node.now ≡ abort_with (message_view c.in-Abort.message) = search (rules, the_lemmas) in
+    let fits = subst (FitsIn c.args.context.now) is c.requires.fits in
+    (omega (arith, c.decreases, ap linked_size is), (c.requires.ready, fits))
+
+pub eval-array-requires : goal.eval-array-requires
+eval-array-requires t c =
+    let here0 : c.deref.result.now ≡ c.in-Array.parts.items = search rules in
+    let at_box : linked_of c.args.node.now ≡ array (parts_view c.in-Array.parts.items) = search (rules, the_lemmas) in
+    let is : linked_of c.args.node.now ≡ array (parts_view c.deref.result.now) = at_box ∙ ap (λ n. array (parts_view n)) (sym here0) in
+    let fits = subst (FitsIn c.args.context.now) is c.requires.fits in
+    (omega (arith, c.decreases, ap linked_size is), (c.requires.ready, fits))
+
+pub eval-assign-requires : goal.eval-assign-requires
+eval-assign-requires t c =
+    let here0 : c.deref-in-Assign.result.now ≡ c.in-Assign.part.value = search rules in
+    let at_box : linked_of c.args.node.now ≡ assign true c.in-Assign.target (linked_of c.in-Assign.part.value) = search (rules, the_lemmas) in
+    let is : linked_of c.args.node.now ≡ assign true c.in-Assign.target (linked_of c.deref-in-Assign.result.now) = at_box ∙ ap (λ n. assign true c.in-Assign.target (linked_of n)) (sym here0) in
+    let fits = subst (FitsIn c.args.context.now) is c.requires.fits in
+    (omega (arith, c.decreases, ap linked_size is), (c.requires.ready, (fits.0, fits.1)))
+
+pub eval-binary-requires : goal.eval-binary-requires
+eval-binary-requires t c =
+    let here0 : c.deref-in-Binary.result.now ≡ c.in-Binary.left.value = search rules in
+    let here1 : c.deref-in-Binary-2.result.now ≡ c.in-Binary.right.value = search rules in
+    let at_box : linked_of c.args.node.now ≡ binary c.in-Binary.op (linked_of c.in-Binary.left.value) (linked_of c.in-Binary.right.value) = search (rules, the_lemmas) in
+    let is : linked_of c.args.node.now ≡ binary c.in-Binary.op (linked_of c.deref-in-Binary.result.now) (linked_of c.deref-in-Binary-2.result.now) = at_box ∙ ap₂ (λ n m. binary c.in-Binary.op (linked_of n) (linked_of m)) (sym here0) (sym here1) in
+    let fits = subst (FitsIn c.args.context.now) is c.requires.fits in
+    (omega (arith, c.decreases, ap linked_size is), (c.requires.ready, (fits.0, fits.1)))
+
+pub eval-block-requires : goal.eval-block-requires
+eval-block-requires t c =
+    let here0 : c.deref-in-Block.result.now ≡ c.in-Block.items.items = search rules in
+    let at_box : linked_of c.args.node.now ≡ block (parts_view c.in-Block.items.items) = search (rules, the_lemmas) in
+    let is : linked_of c.args.node.now ≡ block (parts_view c.deref-in-Block.result.now) = at_box ∙ ap (λ n. block (parts_view n)) (sym here0) in
+    let fits = subst (FitsIn c.args.context.now) is c.requires.fits in
+    (omega (arith, c.decreases, ap linked_size is), (c.requires.ready, fits))
+
+pub eval-both-requires : goal.eval-both-requires
+eval-both-requires t c =
+    let here0 : c.deref-in-Both.result.now ≡ c.in-Both.part.value = search rules in
+    let at_box : linked_of c.args.node.now ≡ both true c.in-Both.ok c.in-Both.err c.in-Both.tag (linked_of c.in-Both.part.value) = search (rules, the_lemmas) in
+    let is : linked_of c.args.node.now ≡ both true c.in-Both.ok c.in-Both.err c.in-Both.tag (linked_of c.deref-in-Both.result.now) = at_box ∙ ap (λ n. both true c.in-Both.ok c.in-Both.err c.in-Both.tag (linked_of n)) (sym here0) in
+    let fits = subst (FitsIn c.args.context.now) is c.requires.fits in
+    (omega (arith, c.decreases, ap linked_size is), (c.requires.ready, (fits.0, (fits.1.0, fits.1.1))))
+
+pub eval-call-requires : goal.eval-call-requires
+eval-call-requires t c =
+    let here0 : c.deref-in-Call.result.now ≡ c.in-Call.called.value = search rules in
+    let at_box : linked_of c.args.node.now ≡ call_of c.in-Call.called.value = search (rules, the_lemmas) in
+    let is : linked_of c.args.node.now ≡ call_of c.deref-in-Call.result.now = at_box ∙ ap (λ n. call_of n) (sym here0) in
+    let fits = subst (FitsIn c.args.context.now) is c.requires.fits in
+    (omega (arith, c.decreases, ap linked_size is), (c.requires.ready, fits))
+
+pub eval-conditional-requires : goal.eval-conditional-requires
+eval-conditional-requires t c =
+    let here0 : c.deref-in-If.result.now ≡ c.in-If.arms.items = search rules in
+    let at_box : linked_of c.args.node.now ≡ conditional (arms_view c.in-If.arms.items) (else_view c.in-If.otherwise) = search (rules, the_lemmas) in
+    let is : linked_of c.args.node.now ≡ conditional (arms_view c.deref-in-If.result.now) (else_view c.in-If.otherwise) = at_box ∙ ap (λ n. conditional (arms_view n) (else_view c.in-If.otherwise)) (sym here0) in
+    let fits = subst (FitsIn c.args.context.now) is c.requires.fits in
+    (omega (arith, c.decreases, ap linked_size is), (c.requires.ready, (fits.0, fits.1)))
+
+pub eval-give_back-requires : goal.eval-give_back-requires
+eval-give_back-requires t c =
+    let here0 : c.deref-in-Return.result.now ≡ c.in-Return.part.value = search rules in
+    let at_box : linked_of c.args.node.now ≡ return_of (linked_of c.in-Return.part.value) = search (rules, the_lemmas) in
+    let is : linked_of c.args.node.now ≡ return_of (linked_of c.deref-in-Return.result.now) = at_box ∙ ap (λ n. return_of (linked_of n)) (sym here0) in
+    let fits = subst (FitsIn c.args.context.now) is c.requires.fits in
+    (omega (arith, c.decreases, ap linked_size is), (c.requires.ready, fits))
+
+pub eval-merge-requires : goal.eval-merge-requires
+eval-merge-requires t c =
+    let here0 : c.deref-in-Merge.result.now ≡ c.in-Merge.part.value = search rules in
+    let at_box : linked_of c.args.node.now ≡ merge true c.in-Merge.target (linked_of c.in-Merge.part.value) = search (rules, the_lemmas) in
+    let is : linked_of c.args.node.now ≡ merge true c.in-Merge.target (linked_of c.deref-in-Merge.result.now) = at_box ∙ ap (λ n. merge true c.in-Merge.target (linked_of n)) (sym here0) in
+    let fits = subst (FitsIn c.args.context.now) is c.requires.fits in
+    (omega (arith, c.decreases, ap linked_size is), (c.requires.ready, (fits.0, fits.1)))
+
+pub eval-negation-requires : goal.eval-negation-requires
+eval-negation-requires t c =
+    let here0 : c.deref-in-Not.result.now ≡ c.in-Not.part.value = search rules in
+    let at_box : linked_of c.args.node.now ≡ negation (linked_of c.in-Not.part.value) = search (rules, the_lemmas) in
+    let is : linked_of c.args.node.now ≡ negation (linked_of c.deref-in-Not.result.now) = at_box ∙ ap (λ n. negation (linked_of n)) (sym here0) in
+    let fits = subst (FitsIn c.args.context.now) is c.requires.fits in
+    (omega (arith, c.decreases, ap linked_size is), (c.requires.ready, fits))
+
+pub eval-object-requires : goal.eval-object-requires
+eval-object-requires t c =
+    let here0 : c.deref-in-Object.result.now ≡ c.in-Object.pairs.items = search rules in
+    let at_box : linked_of c.args.node.now ≡ object (pairs_view c.in-Object.pairs.items) = search (rules, the_lemmas) in
+    let is : linked_of c.args.node.now ≡ object (pairs_view c.deref-in-Object.result.now) = at_box ∙ ap (λ n. object (pairs_view n)) (sym here0) in
+    let fits = subst (FitsIn c.args.context.now) is c.requires.fits in
+    (omega (arith, c.decreases, ap linked_size is), (c.requires.ready, fits))
+
+pub eval-query-requires : goal.eval-query-requires
+eval-query-requires t c =
+    let here0 : c.deref-in-Query.result.now ≡ c.in-Query.part.value = search rules in
+    let at_box : linked_of c.args.node.now ≡ query (linked_of c.in-Query.part.value) c.in-Query.path = search (rules, the_lemmas) in
+    let is : linked_of c.args.node.now ≡ query (linked_of c.deref-in-Query.result.now) c.in-Query.path = at_box ∙ ap (λ n. query (linked_of n) c.in-Query.path) (sym here0) in
+    let fits = subst (FitsIn c.args.context.now) is c.requires.fits in
+    (omega (arith, c.decreases, ap linked_size is), (c.requires.ready, fits))
+
+pub eval-read-requires-clause-base : goal.eval-read-requires-clause-base
+eval-read-requires-clause-base t c =
+    let is : linked_of c.args.node.now ≡ read c.in-Read.place = search (rules, the_lemmas) in
+    known_base c.args.context.now c.args.store.now c.in-Read.place.base c.requires.ready.names (subst (FitsIn c.args.context.now) is c.requires.fits)
+
+pub eval-returns-in-Abort-clause-ended : goal.eval-returns-in-Abort-clause-ended
+eval-returns-in-Abort-clause-ended t c =
+    let is : linked_of c.args.node.now ≡ abort_with (message_view c.in-Abort.message) = search (rules, the_lemmas) in
+    let x = c.args.context.now in
+    subst (λ n. Ends (meant x n c.args.store.now) (store_at x c.abort.new.store) c.abort.result) (sym is) c.abort.ensures.ended
+
+pub eval-returns-in-Array-clause-ended : goal.eval-returns-in-Array-clause-ended
+eval-returns-in-Array-clause-ended t c =
+    let here0 : c.deref.result.now ≡ c.in-Array.parts.items = search rules in
+    let at_box : linked_of c.args.node.now ≡ array (parts_view c.in-Array.parts.items) = search (rules, the_lemmas) in
+    let is : linked_of c.args.node.now ≡ array (parts_view c.deref.result.now) = at_box ∙ ap (λ n. array (parts_view n)) (sym here0) in
+    let x = c.args.context.now in
+    subst (λ n. Ends (meant x n c.args.store.now) (store_at x c.array.new.store) c.array.result) (sym is) c.array.ensures.ended
+
+pub eval-returns-in-Assign-clause-ended : goal.eval-returns-in-Assign-clause-ended
+eval-returns-in-Assign-clause-ended t c =
+    let here0 : c.deref-in-Assign.result.now ≡ c.in-Assign.part.value = search rules in
+    let at_box : linked_of c.args.node.now ≡ assign true c.in-Assign.target (linked_of c.in-Assign.part.value) = search (rules, the_lemmas) in
+    let is : linked_of c.args.node.now ≡ assign true c.in-Assign.target (linked_of c.deref-in-Assign.result.now) = at_box ∙ ap (λ n. assign true c.in-Assign.target (linked_of n)) (sym here0) in
+    let x = c.args.context.now in
+    subst (λ n. Ends (meant x n c.args.store.now) (store_at x c.assign.new.store) c.assign.result) (sym is) c.assign.ensures.ended
+
+pub eval-returns-in-Binary-clause-ended : goal.eval-returns-in-Binary-clause-ended
+eval-returns-in-Binary-clause-ended t c =
+    let here0 : c.deref-in-Binary.result.now ≡ c.in-Binary.left.value = search rules in
+    let here1 : c.deref-in-Binary-2.result.now ≡ c.in-Binary.right.value = search rules in
+    let at_box : linked_of c.args.node.now ≡ binary c.in-Binary.op (linked_of c.in-Binary.left.value) (linked_of c.in-Binary.right.value) = search (rules, the_lemmas) in
+    let is : linked_of c.args.node.now ≡ binary c.in-Binary.op (linked_of c.deref-in-Binary.result.now) (linked_of c.deref-in-Binary-2.result.now) = at_box ∙ ap₂ (λ n m. binary c.in-Binary.op (linked_of n) (linked_of m)) (sym here0) (sym here1) in
+    let x = c.args.context.now in
+    subst (λ n. Ends (meant x n c.args.store.now) (store_at x c.binary.new.store) c.binary.result) (sym is) c.binary.ensures.ended
+
+pub eval-returns-in-Block-clause-ended : goal.eval-returns-in-Block-clause-ended
+eval-returns-in-Block-clause-ended t c =
+    let here0 : c.deref-in-Block.result.now ≡ c.in-Block.items.items = search rules in
+    let at_box : linked_of c.args.node.now ≡ block (parts_view c.in-Block.items.items) = search (rules, the_lemmas) in
+    let is : linked_of c.args.node.now ≡ block (parts_view c.deref-in-Block.result.now) = at_box ∙ ap (λ n. block (parts_view n)) (sym here0) in
+    let x = c.args.context.now in
+    subst (λ n. Ends (meant x n c.args.store.now) (store_at x c.block.new.store) c.block.result) (sym is) c.block.ensures.ended
+
+pub eval-returns-in-Both-clause-ended : goal.eval-returns-in-Both-clause-ended
+eval-returns-in-Both-clause-ended t c =
+    let here0 : c.deref-in-Both.result.now ≡ c.in-Both.part.value = search rules in
+    let at_box : linked_of c.args.node.now ≡ both true c.in-Both.ok c.in-Both.err c.in-Both.tag (linked_of c.in-Both.part.value) = search (rules, the_lemmas) in
+    let is : linked_of c.args.node.now ≡ both true c.in-Both.ok c.in-Both.err c.in-Both.tag (linked_of c.deref-in-Both.result.now) = at_box ∙ ap (λ n. both true c.in-Both.ok c.in-Both.err c.in-Both.tag (linked_of n)) (sym here0) in
+    let x = c.args.context.now in
+    subst (λ n. Ends (meant x n c.args.store.now) (store_at x c.both.new.store) c.both.result) (sym is) c.both.ensures.ended
+
+pub eval-returns-in-Call-clause-ended : goal.eval-returns-in-Call-clause-ended
+eval-returns-in-Call-clause-ended t c =
+    let here0 : c.deref-in-Call.result.now ≡ c.in-Call.called.value = search rules in
+    let at_box : linked_of c.args.node.now ≡ call_of c.in-Call.called.value = search (rules, the_lemmas) in
+    let is : linked_of c.args.node.now ≡ call_of c.deref-in-Call.result.now = at_box ∙ ap (λ n. call_of n) (sym here0) in
+    let x = c.args.context.now in
+    subst (λ n. Ends (meant x n c.args.store.now) (store_at x c.call.new.store) c.call.result) (sym is) c.call.ensures.ended
+
+pub eval-returns-in-If-clause-ended : goal.eval-returns-in-If-clause-ended
+eval-returns-in-If-clause-ended t c =
+    let here0 : c.deref-in-If.result.now ≡ c.in-If.arms.items = search rules in
+    let at_box : linked_of c.args.node.now ≡ conditional (arms_view c.in-If.arms.items) (else_view c.in-If.otherwise) = search (rules, the_lemmas) in
+    let is : linked_of c.args.node.now ≡ conditional (arms_view c.deref-in-If.result.now) (else_view c.in-If.otherwise) = at_box ∙ ap (λ n. conditional (arms_view n) (else_view c.in-If.otherwise)) (sym here0) in
+    let x = c.args.context.now in
+    subst (λ n. Ends (meant x n c.args.store.now) (store_at x c.conditional.new.store) c.conditional.result) (sym is) c.conditional.ensures.ended
+
+pub eval-returns-in-Merge-clause-ended : goal.eval-returns-in-Merge-clause-ended
+eval-returns-in-Merge-clause-ended t c =
+    let here0 : c.deref-in-Merge.result.now ≡ c.in-Merge.part.value = search rules in
+    let at_box : linked_of c.args.node.now ≡ merge true c.in-Merge.target (linked_of c.in-Merge.part.value) = search (rules, the_lemmas) in
+    let is : linked_of c.args.node.now ≡ merge true c.in-Merge.target (linked_of c.deref-in-Merge.result.now) = at_box ∙ ap (λ n. merge true c.in-Merge.target (linked_of n)) (sym here0) in
+    let x = c.args.context.now in
+    subst (λ n. Ends (meant x n c.args.store.now) (store_at x c.merge.new.store) c.merge.result) (sym is) c.merge.ensures.ended
+
+pub eval-returns-in-Not-clause-ended : goal.eval-returns-in-Not-clause-ended
+eval-returns-in-Not-clause-ended t c =
+    let here0 : c.deref-in-Not.result.now ≡ c.in-Not.part.value = search rules in
+    let at_box : linked_of c.args.node.now ≡ negation (linked_of c.in-Not.part.value) = search (rules, the_lemmas) in
+    let is : linked_of c.args.node.now ≡ negation (linked_of c.deref-in-Not.result.now) = at_box ∙ ap (λ n. negation (linked_of n)) (sym here0) in
+    let x = c.args.context.now in
+    subst (λ n. Ends (meant x n c.args.store.now) (store_at x c.negation.new.store) c.negation.result) (sym is) c.negation.ensures.ended
+
+pub eval-returns-in-Object-clause-ended : goal.eval-returns-in-Object-clause-ended
+eval-returns-in-Object-clause-ended t c =
+    let here0 : c.deref-in-Object.result.now ≡ c.in-Object.pairs.items = search rules in
+    let at_box : linked_of c.args.node.now ≡ object (pairs_view c.in-Object.pairs.items) = search (rules, the_lemmas) in
+    let is : linked_of c.args.node.now ≡ object (pairs_view c.deref-in-Object.result.now) = at_box ∙ ap (λ n. object (pairs_view n)) (sym here0) in
+    let x = c.args.context.now in
+    subst (λ n. Ends (meant x n c.args.store.now) (store_at x c.object.new.store) c.object.result) (sym is) c.object.ensures.ended
+
+pub eval-returns-in-Query-clause-ended : goal.eval-returns-in-Query-clause-ended
+eval-returns-in-Query-clause-ended t c =
+    let here0 : c.deref-in-Query.result.now ≡ c.in-Query.part.value = search rules in
+    let at_box : linked_of c.args.node.now ≡ query (linked_of c.in-Query.part.value) c.in-Query.path = search (rules, the_lemmas) in
+    let is : linked_of c.args.node.now ≡ query (linked_of c.deref-in-Query.result.now) c.in-Query.path = at_box ∙ ap (λ n. query (linked_of n) c.in-Query.path) (sym here0) in
+    let x = c.args.context.now in
+    subst (λ n. Ends (meant x n c.args.store.now) (store_at x c.query.new.store) c.query.result) (sym is) c.query.ensures.ended
+
+pub eval-returns-in-Return-clause-ended : goal.eval-returns-in-Return-clause-ended
+eval-returns-in-Return-clause-ended t c =
+    let here0 : c.deref-in-Return.result.now ≡ c.in-Return.part.value = search rules in
+    let at_box : linked_of c.args.node.now ≡ return_of (linked_of c.in-Return.part.value) = search (rules, the_lemmas) in
+    let is : linked_of c.args.node.now ≡ return_of (linked_of c.deref-in-Return.result.now) = at_box ∙ ap (λ n. return_of (linked_of n)) (sym here0) in
+    let x = c.args.context.now in
+    subst (λ n. Ends (meant x n c.args.store.now) (store_at x c.give_back.new.store) c.give_back.result) (sym is) c.give_back.ensures.ended
+
+pub eval-returns-in-Write-clause-ended : goal.eval-returns-in-Write-clause-ended
+eval-returns-in-Write-clause-ended t c =
+    let here0 : c.deref-in-Write.result.now ≡ c.in-Write.part.value = search rules in
+    let at_box : linked_of c.args.node.now ≡ assign false c.in-Write.target (linked_of c.in-Write.part.value) = search (rules, the_lemmas) in
+    let is : linked_of c.args.node.now ≡ assign false c.in-Write.target (linked_of c.deref-in-Write.result.now) = at_box ∙ ap (λ n. assign false c.in-Write.target (linked_of n)) (sym here0) in
+    let x = c.args.context.now in
+    subst (λ n. Ends (meant x n c.args.store.now) (store_at x c.write_value.new.store) c.write_value.result) (sym is) c.write_value.ensures.ended
+
+pub eval-returns-in-WriteBoth-clause-ended : goal.eval-returns-in-WriteBoth-clause-ended
+eval-returns-in-WriteBoth-clause-ended t c =
+    let here0 : c.deref-in-WriteBoth.result.now ≡ c.in-WriteBoth.part.value = search rules in
+    let at_box : linked_of c.args.node.now ≡ both false c.in-WriteBoth.ok c.in-WriteBoth.err c.in-WriteBoth.tag (linked_of c.in-WriteBoth.part.value) = search (rules, the_lemmas) in
+    let is : linked_of c.args.node.now ≡ both false c.in-WriteBoth.ok c.in-WriteBoth.err c.in-WriteBoth.tag (linked_of c.deref-in-WriteBoth.result.now) = at_box ∙ ap (λ n. both false c.in-WriteBoth.ok c.in-WriteBoth.err c.in-WriteBoth.tag (linked_of n)) (sym here0) in
+    let x = c.args.context.now in
+    subst (λ n. Ends (meant x n c.args.store.now) (store_at x c.write_both.new.store) c.write_both.result) (sym is) c.write_both.ensures.ended
+
+pub eval-returns-in-WriteMerged-clause-ended : goal.eval-returns-in-WriteMerged-clause-ended
+eval-returns-in-WriteMerged-clause-ended t c =
+    let here0 : c.deref-in-WriteMerged.result.now ≡ c.in-WriteMerged.part.value = search rules in
+    let at_box : linked_of c.args.node.now ≡ merge false c.in-WriteMerged.target (linked_of c.in-WriteMerged.part.value) = search (rules, the_lemmas) in
+    let is : linked_of c.args.node.now ≡ merge false c.in-WriteMerged.target (linked_of c.deref-in-WriteMerged.result.now) = at_box ∙ ap (λ n. merge false c.in-WriteMerged.target (linked_of n)) (sym here0) in
+    let x = c.args.context.now in
+    subst (λ n. Ends (meant x n c.args.store.now) (store_at x c.write_merged.new.store) c.write_merged.result) (sym is) c.write_merged.ensures.ended
+
+pub eval-returns-in_ok-copy-in-Literal-clause-ended : goal.eval-returns-in_ok-copy-in-Literal-clause-ended
+eval-returns-in_ok-copy-in-Literal-clause-ended t c =
+    let x = c.args.context.now in
+    let is : linked_of c.args.node.now ≡ literal (tree_of c.in-Literal.value) = search (rules, the_lemmas) in
+    ap (λ n. meant x n c.args.store.now) is ∙ ap (λ v. ends (value v) (store_at x c.args.store.now)) (sym c.in_ok-copy-in-Literal.ensures.equal)
+
+pub eval-returns-in_ok-copy-in-Read-clause-ended : goal.eval-returns-in_ok-copy-in-Read-clause-ended
+eval-returns-in_ok-copy-in-Read-clause-ended t c =
+    let x = c.args.context.now in
+    let is : linked_of c.args.node.now ≡ read c.in-Read.place = search (rules, the_lemmas) in
+    ap (λ n. meant x n c.args.store.now) is ∙ ap (λ v. ends (value v) (store_at x c.args.store.now)) (sym (c.in_ok-copy-in-Read.ensures.equal ∙ c.read.ensures (names_in x) c.requires.ready.names))
+
+pub eval-write_both-requires : goal.eval-write_both-requires
+eval-write_both-requires t c =
+    let here0 : c.deref-in-WriteBoth.result.now ≡ c.in-WriteBoth.part.value = search rules in
+    let at_box : linked_of c.args.node.now ≡ both false c.in-WriteBoth.ok c.in-WriteBoth.err c.in-WriteBoth.tag (linked_of c.in-WriteBoth.part.value) = search (rules, the_lemmas) in
+    let is : linked_of c.args.node.now ≡ both false c.in-WriteBoth.ok c.in-WriteBoth.err c.in-WriteBoth.tag (linked_of c.deref-in-WriteBoth.result.now) = at_box ∙ ap (λ n. both false c.in-WriteBoth.ok c.in-WriteBoth.err c.in-WriteBoth.tag (linked_of n)) (sym here0) in
+    let fits = subst (FitsIn c.args.context.now) is c.requires.fits in
+    (omega (arith, c.decreases, ap linked_size is), (c.requires.ready, (fits.0, (fits.1.0, fits.1.1))))
+
+pub eval-write_merged-requires : goal.eval-write_merged-requires
+eval-write_merged-requires t c =
+    let here0 : c.deref-in-WriteMerged.result.now ≡ c.in-WriteMerged.part.value = search rules in
+    let at_box : linked_of c.args.node.now ≡ merge false c.in-WriteMerged.target (linked_of c.in-WriteMerged.part.value) = search (rules, the_lemmas) in
+    let is : linked_of c.args.node.now ≡ merge false c.in-WriteMerged.target (linked_of c.deref-in-WriteMerged.result.now) = at_box ∙ ap (λ n. merge false c.in-WriteMerged.target (linked_of n)) (sym here0) in
+    let fits = subst (FitsIn c.args.context.now) is c.requires.fits in
+    (omega (arith, c.decreases, ap linked_size is), (c.requires.ready, (fits.0, fits.1)))
+
+pub eval-write_value-requires : goal.eval-write_value-requires
+eval-write_value-requires t c =
+    let here0 : c.deref-in-Write.result.now ≡ c.in-Write.part.value = search rules in
+    let at_box : linked_of c.args.node.now ≡ assign false c.in-Write.target (linked_of c.in-Write.part.value) = search (rules, the_lemmas) in
+    let is : linked_of c.args.node.now ≡ assign false c.in-Write.target (linked_of c.deref-in-Write.result.now) = at_box ∙ ap (λ n. assign false c.in-Write.target (linked_of n)) (sym here0) in
+    let fits = subst (FitsIn c.args.context.now) is c.requires.fits in
+    (omega (arith, c.decreases, ap linked_size is), (c.requires.ready, (fits.0, fits.1)))
+
+pub give_back-eval-requires : goal.give_back-eval-requires
+give_back-eval-requires t c =
+    (omega (arith, c.decreases), (c.requires.ready, c.requires.fits))
+
+pub holds-eval-requires : goal.holds-eval-requires
+holds-eval-requires t c =
+    (omega (arith, c.decreases), (c.requires.ready, c.requires.fits))
+
+pub items-eval-requires : goal.items-eval-requires
+items-eval-requires t c =
+    let l = c.loop-item in
+    let next = next_part c.args.items.now l.item-index c.item-item.result c.loop-item-test.true c.item-item.is in
+    let fits = subst (λ ns. AllFitIn c.args.context.now (parts_of_list ns)) next l.invariant.fits in
+    let size = parts_fewer c.args.items.now l.item-index c.item-item.result c.loop-item-test.true c.item-item.is in
+    (omega (arith, c.decreases, l.invariant.fewer, size), (l.invariant.so_far.ready, fits.0))
+
+pub items-loop-item-preserved : goal.items-loop-item-preserved
+items-loop-item-preserved t c =
+    let l = c.loop-item in
+    let next = items_next c.meanings_stay_well_formed.ensures c.args.context.now c.args.store.now l.store c.eval.new.store c.args.items.now l.item-index c.item-item.result (tree_of l.last) (tree_of c.in_ok-last.last) (items_mean (names_in c.args.context.now) (setting_in c.args.context.now) null (parts_view c.args.items.now) (store_at c.args.context.now c.args.store.now)) c.loop-item-test.true c.item-item.is
+    l.invariant.fits l.invariant.so_far c.in_ok-last.ensures.ended c.in_ok-last.ensures.stays in
+    let size = parts_fewer c.args.items.now l.item-index c.item-item.result c.loop-item-test.true c.item-item.is in
+    record { so_far = next.0; fits = next.1; fewer = omega (arith, l.invariant.fewer, size) }
+
+pub merge-merged-requires : goal.merge-merged-requires
+merge-merged-requires t c =
+    (omega (arith, c.decreases), (c.requires.ready, (c.requires.target, c.requires.fits)))
+
+pub merge-returns-in_err-write_to-clause-ended : goal.merge-returns-in_err-write_to-clause-ended
+merge-returns-in_err-write_to-clause-ended t c =
+    let x = c.args.context.now in
+    let after = c.merged.new.store in
+    let T = target_of (names_in x) c.args.target.now in
+    let are = names_after (names_in x) c.args.store.now after c.requires.ready.names c.in_ok-value.ensures.stays in
+    let given : Stops (meant x (merge true c.args.target.now (linked_of c.args.part.now)) c.args.store.now) (store_at x c.write_to.new.store) c.in_err-write_to.field-0.0 =
+    assigned_stops T (combined ops.Merge (ends (value (target_value T (store_at x c.args.store.now))) (store_at x c.args.store.now)) (λ end. means (names_in x) (setting_in x) (linked_of c.args.part.now) end)) (tree_of c.in_ok-value.value) (store_at x after) (store_at x c.write_to.new.store) c.in_err-write_to.field-0.0 c.in_ok-value.ensures.ended (c.in_err-write_to.ensures.written (names_in x) are) in
+    search rules
+
+pub merged-beside-requires : goal.merged-beside-requires
+merged-beside-requires t c =
+    (omega (arith, c.decreases), (c.requires.ready, c.requires.fits))
+
+pub merged-returns-clause-ended : goal.merged-returns-clause-ended
+merged-returns-clause-ended t c =
+    let x = c.args.context.now in
+    let is = c.in_ok-value.ensures (names_in x) c.requires.ready.names in
+    subst (λ v. Ends (on_value (meant x (linked_of c.args.part.now) c.args.store.now) (λ w end. ends (applied ops.Merge v w) end)) (store_at x c.beside.new.store) c.beside.result) is c.beside.ensures.ended
+
+pub negation-eval-requires : goal.negation-eval-requires
+negation-eval-requires t c =
+    (omega (arith, c.decreases), (c.requires.ready, c.requires.fits))
+
+pub object-eval-requires : goal.object-eval-requires
+object-eval-requires t c =
+    let l = c.loop-name in
+    let next = next_pair c.args.pairs.now l.name-index c.loop-name-item.result c.loop-name-test.true c.loop-name-item.is in
+    let fits = subst (PairsFitIn c.args.context.now) next l.invariant.fits in
+    let size = pairs_fewer c.args.pairs.now l.name-index c.loop-name-item.result c.loop-name-test.true c.loop-name-item.is in
+    (omega (arith, c.decreases, l.invariant.fewer, size), (l.invariant.so_far.ready, fits.0))
+
+pub object-loop-name-preserved : goal.object-loop-name-preserved
+object-loop-name-preserved t c =
+    let l = c.loop-name in
+    let named = c.in_ok-insert.ensures.ok ∙ ap (λ name. put name (tree_of c.in_ok-value.value) (members_of l.fields)) c.in_ok-copy.ensures in
+    let next = pairs_next c.meanings_stay_well_formed.ensures c.args.context.now c.args.store.now l.store c.eval.new.store c.args.pairs.now l.name-index c.loop-name-item.result (members_of l.fields) _ (tree_of c.in_ok-value.value) (pairs_mean (names_in c.args.context.now) (setting_in c.args.context.now) (pairs_view c.args.pairs.now) no_members (store_at c.args.context.now c.args.store.now)) c.loop-name-test.true c.loop-name-item.is
+    l.invariant.fits l.invariant.so_far c.in_ok-value.ensures.ended c.in_ok-value.ensures.stays named in
+    let size = pairs_fewer c.args.pairs.now l.name-index c.loop-name-item.result c.loop-name-test.true c.loop-name-item.is in
+    record { so_far = next.0; fits = next.1; fewer = omega (arith, l.invariant.fewer, size) }
+
+pub object-returns-clause-ended : goal.object-returns-clause-ended
+object-returns-clause-ended t c =
+    let l = c.loop-name in
+    let is : tree_of (values.Object l.fields) ≡ members (members_of l.fields) = search (rules, value_lemmas) in
+    pairs_end c.args.context.now c.args.store.now l.store c.args.pairs.now l.name-index (members_of l.fields) (tree_of (values.Object l.fields)) _ c.loop-name-test.false is l.invariant.so_far
+
+pub outcome-eval-given-requires : goal.outcome-eval-given-requires
+outcome-eval-given-requires t c =
+    (omega (arith, c.decreases), (c.requires.ready, c.requires.fits))
+
+pub outcome-returns-clause-ended : goal.outcome-returns-clause-ended
+outcome-returns-clause-ended t c = c.both_values.ensures (meant c.args.context.now (linked_of c.args.part.now) c.args.store.now) (store_at c.args.context.now c.eval-given.new.store) c.eval-given.ensures.ended
+
+pub query-eval-requires : goal.query-eval-requires
+query-eval-requires t c =
+    (omega (arith, c.decreases), (c.requires.ready, c.requires.fits))
+
+pub values-eval-requires : goal.values-eval-requires
+values-eval-requires t c =
+    let l = c.loop-node in
+    let next = next_part c.args.nodes.now l.node-index c.node-item.result c.loop-node-test.true c.node-item.is in
+    let fits = subst (λ ns. AllFitIn c.args.context.now (parts_of_list ns)) next l.invariant.fits in
+    let size = parts_fewer c.args.nodes.now l.node-index c.node-item.result c.loop-node-test.true c.node-item.is in
+    (omega (arith, c.decreases, l.invariant.fewer, size), (l.invariant.so_far.ready, fits.0))
+
+pub values-loop-node-preserved : goal.values-loop-node-preserved
+values-loop-node-preserved t c =
+    let l = c.loop-node in
+    let next = parts_next c.meanings_stay_well_formed.ensures c.args.context.now c.args.store.now l.store c.eval.new.store c.args.nodes.now l.node-index c.node-item.result l.values.items c.push.new.values.items c.in_ok-value.value (λ more. all_mean (names_in c.args.context.now) (setting_in c.args.context.now) (parts_of_list (map linked_of c.args.nodes.now ++ more)) [] (store_at c.args.context.now c.args.store.now)) c.loop-node-test.true c.node-item.is
+    l.invariant.fits l.invariant.so_far c.in_ok-value.ensures.ended c.in_ok-value.ensures.stays c.in_ok-push.ensures in
+    let longer = ap length c.in_ok-push.ensures ∙ length-append l.values.items (c.in_ok-value.value ∷ []) in
+    let counted = l.invariant.counted in
+    let size = parts_fewer c.args.nodes.now l.node-index c.node-item.result c.loop-node-test.true c.node-item.is in
+    record { so_far = next.0; counted = omega arith; fits = next.1; fewer = omega (arith, l.invariant.fewer, size) }
+
+pub values-returns-clause-ended : goal.values-returns-clause-ended
+values-returns-clause-ended t c =
+    let l = c.loop-node in
+    parts_end c.args.context.now c.args.store.now l.store c.args.nodes.now l.node-index (map tree_of l.values.items) _ c.loop-node-test.false l.invariant.so_far
+
+pub values-returns-in_err-value-clause-ended : goal.values-returns-in_err-value-clause-ended
+values-returns-in_err-value-clause-ended t c =
+    let l = c.loop-node in
+    let x = c.args.context.now in
+    let p = err_from_is_err_and c.from_residual-in_err-value.result c.from_residual-in_err-value.ensures.1 in
+    rw (p.1, p.2) (λ more. parts_stop x c.args.store.now l.store c.args.nodes.now l.node-index c.node-item.result (map tree_of l.values.items) _ _ c.in_err-value.field-0.0 c.loop-node-test.true c.node-item.is l.invariant.so_far c.in_err-value.ensures.ended more)
+
+pub write_both-outcome-requires : goal.write_both-outcome-requires
+write_both-outcome-requires t c =
+    (omega (arith, c.decreases), (c.requires.ready, c.requires.fits))
+
+pub write_both-returns-in_err-value-clause-ended : goal.write_both-returns-in_err-value-clause-ended
+write_both-returns-in_err-value-clause-ended t c =
+    let x = c.args.context.now in
+    let T = target_of (names_in x) c.args.ok.now in
+    let U = target_of (names_in x) c.args.err.now in
+    let given = meant x (linked_of c.args.part.now) c.args.store.now in
+    let told : Stops (meant x (both false c.args.ok.now c.args.err.now c.args.tag (linked_of c.args.part.now)) c.args.store.now) (store_at x c.outcome.new.store) c.in_err-value.field-0.0 =
+    null_stops _ (store_at x c.outcome.new.store) c.in_err-value.field-0.0 (c.in_err-value.ensures.ended T U) in
+    search rules
+
+pub write_both-returns-in_err-write_to-2-clause-ended : goal.write_both-returns-in_err-write_to-2-clause-ended
+write_both-returns-in_err-write_to-2-clause-ended t c =
+    let x = c.args.context.now in
+    let T = target_of (names_in x) c.args.ok.now in
+    let U = target_of (names_in x) c.args.err.now in
+    let given = meant x (linked_of c.args.part.now) c.args.store.now in
+    let are = names_after (names_in x) c.args.store.now c.outcome.new.store c.requires.ready.names c.in_ok-value.ensures.stays in
+    let are_then = names_after (names_in x) c.outcome.new.store c.write_to.new.store are c.in_ok-write_to.ensures.stays in
+    let told : Stops (meant x (both false c.args.ok.now c.args.err.now c.args.tag (linked_of c.args.part.now)) c.args.store.now) (store_at x c.write_to-2.new.store) c.in_err-write_to-2.field-0.0 =
+    null_stops _ (store_at x c.write_to-2.new.store) c.in_err-write_to-2.field-0.0 (second_stops T U (both_assigned T U c.args.tag given.outcome given.store) (tree_of c.in_ok-value.value) (tree_of c.in_ok-value.error) (store_at x c.outcome.new.store) (store_at x c.write_to.new.store) (store_at x c.write_to-2.new.store) c.in_err-write_to-2.field-0.0 (c.in_ok-value.ensures.ended T U) (c.in_ok-write_to.ensures.written (names_in x) are) (c.in_err-write_to-2.ensures.written (names_in x) are_then)) in
+    search rules
+
+pub write_both-returns-in_err-write_to-clause-ended : goal.write_both-returns-in_err-write_to-clause-ended
+write_both-returns-in_err-write_to-clause-ended t c =
+    let x = c.args.context.now in
+    let T = target_of (names_in x) c.args.ok.now in
+    let U = target_of (names_in x) c.args.err.now in
+    let given = meant x (linked_of c.args.part.now) c.args.store.now in
+    let are = names_after (names_in x) c.args.store.now c.outcome.new.store c.requires.ready.names c.in_ok-value.ensures.stays in
+    let told : Stops (meant x (both false c.args.ok.now c.args.err.now c.args.tag (linked_of c.args.part.now)) c.args.store.now) (store_at x c.write_to.new.store) c.in_err-write_to.field-0.0 =
+    null_stops _ (store_at x c.write_to.new.store) c.in_err-write_to.field-0.0 (first_stops T U (both_assigned T U c.args.tag given.outcome given.store) (tree_of c.in_ok-value.value) (tree_of c.in_ok-value.error) (store_at x c.outcome.new.store) (store_at x c.write_to.new.store) c.in_err-write_to.field-0.0 (c.in_ok-value.ensures.ended T U) (c.in_err-write_to.ensures.written (names_in x) are)) in
+    search rules
+
+pub write_merged-merged-requires : goal.write_merged-merged-requires
+write_merged-merged-requires t c =
+    (omega (arith, c.decreases), (c.requires.ready, (c.requires.target, c.requires.fits)))
+
+pub write_merged-returns-in_err-write_to-clause-ended : goal.write_merged-returns-in_err-write_to-clause-ended
+write_merged-returns-in_err-write_to-clause-ended t c =
+    let x = c.args.context.now in
+    let after = c.merged.new.store in
+    let T = target_of (names_in x) c.args.target.now in
+    let are = names_after (names_in x) c.args.store.now after c.requires.ready.names c.in_ok-value.ensures.stays in
+    let given : Stops (meant x (merge false c.args.target.now (linked_of c.args.part.now)) c.args.store.now) (store_at x c.write_to.new.store) c.in_err-write_to.field-0.0 =
+    null_stops _ (store_at x c.write_to.new.store) c.in_err-write_to.field-0.0 (assigned_stops T (combined ops.Merge (ends (value (target_value T (store_at x c.args.store.now))) (store_at x c.args.store.now)) (λ end. means (names_in x) (setting_in x) (linked_of c.args.part.now) end)) (tree_of c.in_ok-value.value) (store_at x after) (store_at x c.write_to.new.store) c.in_err-write_to.field-0.0 c.in_ok-value.ensures.ended (c.in_err-write_to.ensures.written (names_in x) are)) in
+    search rules
+
+pub write_value-eval-requires : goal.write_value-eval-requires
+write_value-eval-requires t c =
+    (omega (arith, c.decreases), (c.requires.ready, c.requires.fits))
+
+pub write_value-returns-in_err-write_to-clause-ended : goal.write_value-returns-in_err-write_to-clause-ended
+write_value-returns-in_err-write_to-clause-ended t c =
+    let x = c.args.context.now in
+    let after = c.eval.new.store in
+    let T = target_of (names_in x) c.args.target.now in
+    let are = names_after (names_in x) c.args.store.now after c.requires.ready.names c.in_ok-value.ensures.stays in
+    let given : Stops (meant x (assign false c.args.target.now (linked_of c.args.part.now)) c.args.store.now) (store_at x c.write_to.new.store) c.in_err-write_to.field-0.0 =
+    null_stops _ (store_at x c.write_to.new.store) c.in_err-write_to.field-0.0 (assigned_stops T (meant x (linked_of c.args.part.now) c.args.store.now) (tree_of c.in_ok-value.value) (store_at x after) (store_at x c.write_to.new.store) c.in_err-write_to.field-0.0 c.in_ok-value.ensures.ended (c.in_err-write_to.ensures.written (names_in x) are)) in
+    search rules

@@ -1,0 +1,13 @@
+pub mod Deep
+pub mod Equality
+pub mod Kept
+pub mod LastEnded
+pub mod Left
+pub mod MapsOf
+pub mod Removal
+pub mod Sizes
+pub mod Started
+pub mod StoreReads
+pub mod Taken
+pub mod Variables
+pub mod Written

@@ -1,0 +1,27 @@
+use Rattle.std.proofs.Common.{◌≡◌, ◌<◌, [], ◌∷◌, ◌++◌, length, None, rules, refl, sym, subst, arith}
+use Rattle.vrl_store.specs.StoreView.{trees_of, ArePresent, Stay}
+use Rattle.vrl_store.proofs.LastEnded.{kept_ended, last_within, stay_ended}
+use Rattle.vrl_store.proofs.StoreReads.{length_map, map_set}
+use Rattle.vrl_store.proofs.store.Store.end_last.Goals as goal
+
+pub index_mut-requires : goal.index_mut-requires
+index_mut-requires c =
+    let s = c.args.self.now in
+    let is : s.present.items ≡ c.pop.new.self.items ++ c.in-Some.number ∷ [] = search rules in
+    let within = last_within (trees_of s.variables.items) c.pop.new.self.items c.in-Some.number (subst (ArePresent (trees_of s.variables.items)) is c.requires.kept.present) in
+    let mapped = length_map s.variables.items in
+    let is_length : c.in-Some.number < length s.variables.items = omega arith in
+    search rules
+
+pub returns-in-Some-clause-stay : goal.returns-in-Some-clause-stay
+returns-in-Some-clause-stay c =
+    let s = c.args.self.now in
+    let vs = trees_of s.variables.items in
+    let is : s.present.items ≡ c.pop.new.self.items ++ c.in-Some.number ∷ [] = search rules in
+    let stay = stay_ended vs c.pop.new.self.items c.in-Some.number (subst (ArePresent vs) is c.requires.kept.present) in
+    subst (λ ws. Stay vs ws c.pop.new.self.items) (sym (map_set s.variables.items c.in-Some.number None)) stay
+
+pub returns-in-Some-clause-kept : goal.returns-in-Some-clause-kept
+returns-in-Some-clause-kept c =
+    let is : c.args.self.now.present.items ≡ c.pop.new.self.items ++ c.in-Some.number ∷ [] = search rules in
+    kept_ended c.args.self.now _ c.in-Some.number c.requires.kept is refl refl refl refl

@@ -1,0 +1,24 @@
+use Rattle.std.proofs.Common.{None, ap, ◌∙◌}
+use Rattle.std.proofs.lemmas.Result.{err_from_is_err_and}
+use Rattle.vrl_value.specs.View.{tree_of}
+use Rattle.std.specs.declared.result.Result.TheVariants.{Err}
+use Rattle.vrl_store.proofs.StoreReads.{seen}
+use Rattle.vrl_store.proofs.Written.{absent_at, unwritten_in, written_there}
+use Rattle.vrl_store.proofs.store.Store.write_new.Goals as goal
+
+pub returns-in_err-variable-clause-written : goal.returns-in_err-variable-clause-written
+returns-in_err-variable-clause-written c = λ names are.
+    let f = c.in_err-variable.field-0.0 in
+    let p = err_from_is_err_and c.from_residual.result c.from_residual.ensures.1 in
+    let is = unwritten_in names c.args.self.now c.args.number c.args.path.now (tree_of c.args.value) f are c.requires.known c.requires.absent (λ deep. c.in_err-variable.ensures.deep (ap Err deep)) in
+    rw (p.1, p.2) is
+
+pub returns-clause-written : goal.returns-clause-written
+returns-clause-written c = λ names are.
+    let s = c.args.self.now in
+    let items = c.begin.new.self.variables.items in
+    let none = absent_at s.variables.items c.args.number c.requires.known c.requires.absent in
+    let made = c.in_ok-variable.ensures in
+    let got = c.in_ok-begin.ensures in
+    let there = written_there names s items c.args.number c.args.path.now (tree_of c.args.value) None c.in_ok-variable.variable are c.requires.known none got.value made.ok made.within in
+    (there.0, ap (λ event. seen names event items) got.event ∙ there.1)

@@ -1,0 +1,9 @@
+pub mod Asked
+pub mod Laws
+pub mod Operators
+pub mod Outcomes
+pub mod Places
+pub mod Results
+pub mod StoreView
+pub mod Told
+pub mod WellFormed

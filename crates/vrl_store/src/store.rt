@@ -1,0 +1,385 @@
+ghost use Rattle.std.specs.Prelude.{◌≡◌, ◌+◌, ◌-◌, ◌<◌, ◌≤◌, ◌↔◌, [], false, length, map, option_map, slice_set as set, take, IfOk, IsTrue, OnErr, OnOk};
+ghost use Rattle.vrl_value.specs.Depth.{depth_of};
+ghost use Rattle.vrl_value.specs.Tree.{null, IsOrdered};
+ghost use Rattle.vrl_value.specs.View.{members_of, tree_of};
+ghost use Rattle.vrl_path.specs.Steps.{plain, IsPlain, IsWritable};
+ghost use Rattle.vrl_path.specs.Trees.{remove_tree, set_tree};
+ghost use Rattle.vrl_path.specs.Write.{depth_limit};
+ghost use Rattle.vrl_syntax.specs.Stores.{store_of};
+ghost use Rattle.vrl_store.specs.Told.{AreToldByMap};
+ghost use Rattle.vrl_store.specs.Places as spec;
+ghost use Rattle.vrl_store.specs.StoreView.{count_of, event_of, is_numbered, left_with, map_of, present_of, root_of, store_in, trees_of, variables_of, AreDistinct, IsBase, IsFront, IsShallow, IsKept, IsWritten, AreNames, Names, Stay};
+
+use crate::place::{Base, Place};
+use std::alloc::Global;
+use std::collections::BTreeMap;
+use vrl_path::{
+    Path, SetFault, exists, get, put, reads_are_look_ups, remove, set, set_trees_are_sets,
+};
+use vrl_value::{Chars, Fields, Memory, Names, Value, regexes_stay_below, trees_stay_in_order};
+
+// The greatest depth of a value that a write may leave.
+const LIMIT: u64 = 128;
+
+/// The event and the variables of a run. A variable that isn't there has no value.
+#[derive(Drop)]
+pub struct Store {
+    event: Value,
+    // The event is known to be within the limit of depth, as each variable is.
+    is_shallow: bool,
+    variables: Vec<Option<Value>>,
+    // The numbers of the variables that are there, in the order in which they came.
+    present: Vec<usize>,
+    // Null, which is lent where nothing stands.
+    null: Value,
+}
+
+impl Store {
+    /// The store that a run of so many variables starts with: none is there yet. `Memory`: want of memory.
+    pub fn start(alloc: Global, event: Value, count: usize) -> Result<Store, Memory>
+        ensures kept { IfOk result (λ store. IsKept store) }
+        // What is in memory is in order.
+        ensures ordered { OnOk result (IsOrdered (tree_of event)) }
+        ensures started { IfOk result (λ store. (names : Names) → length names ≡ count → AreDistinct names → (store_in names store ≡ store_of (tree_of event)) × AreNames names store) }
+    {
+        let mut variables = Vec::with_capacity(alloc, count)?;
+        for _ in 0..count {
+            variables.push(None)?;
+        }
+        let is_shallow = event.depth() <= LIMIT;
+        Ok(Store {
+            event,
+            is_shallow,
+            variables,
+            present: Vec::new(alloc),
+            null: Value::Null,
+        })
+    }
+
+    /// What stands in a root; null in a variable that isn't there.
+    fn root(&self, base: Base) -> &Value
+        requires base { IsBase self.now base }
+        requires kept { IsKept self.now }
+        ensures { (names : Names) → AreNames names self.now → tree_of result.now ≡ spec.root_value (root_of names base) (store_in names self.now) }
+    {
+        match base {
+            Base::Event => &self.event,
+            Base::Variable(number) => match &self.variables[number] {
+                Some(value) => value,
+                None => &self.null,
+            },
+        }
+    }
+
+    /// What stands at a place; null where nothing does.
+    pub fn read(&self, place: &Place) -> &Value
+        requires base { IsBase self.now place.now.base }
+        requires kept { IsKept self.now }
+        ensures { (names : Names) → AreNames names self.now → tree_of result.now ≡ spec.read_in (root_of names place.now.base) place.now.path (store_in names self.now) }
+    {
+        match get(self.root(place.base), &place.path) {
+            Some(value) => value,
+            None => &self.null,
+        }
+    }
+
+    /// Whether something stands at a place, be it null; a root always does.
+    pub fn is_there(&self, place: &Place) -> bool
+        requires base { IsBase self.now place.now.base }
+        requires kept { IsKept self.now }
+        ensures { (names : Names) → AreNames names self.now → result ≡ spec.is_there (root_of names place.now.base) place.now.path (store_in names self.now) }
+    {
+        exists(self.root(place.base), &place.path)
+    }
+
+    /// Writes a value at a place. `TooDeep`: the root would be nested too deeply; `Memory`: want of memory. At both the store stays as it
+    /// was, and the value is gone.
+    pub fn write(&mut self, alloc: Global, place: &Place, value: Value) -> Result<(), SetFault>
+        requires base { IsBase self.old place.now.base }
+        requires writable { IsWritable place.now.path }
+        requires kept { IsKept self.old }
+        ensures written { (names : Names) → AreNames names self.old → IsWritten (root_of names place.now.base) place.now.path (tree_of value) (store_in names self.old) (store_in names self.new) result }
+        ensures kept { IsKept self.new }
+        ensures front { IsFront (present_of self.old) (present_of self.new) }
+        ensures as_many { count_of self.new ≡ count_of self.old }
+    {
+        match place.base {
+            Base::Event => {
+                set_in(alloc, &mut self.event, self.is_shallow, &place.path, value)?;
+                self.is_shallow = true;
+                Ok(())
+            }
+            Base::Variable(number) => self.write_variable(alloc, number, &place.path, value),
+        }
+    }
+
+    // Writes a value at a path of a variable, which starts at null where it isn't there.
+    fn write_variable(
+        &mut self,
+        alloc: Global,
+        number: usize,
+        path: &Path,
+        value: Value,
+    ) -> Result<(), SetFault>
+        requires known { number < length self.old.variables.items }
+        requires writable { IsWritable path.now }
+        requires kept { IsKept self.old }
+        ensures written { (names : Names) → AreNames names self.old → IsWritten (root_of names (Base.Variable number)) path.now (tree_of value) (store_in names self.old) (store_in names self.new) result }
+        ensures kept { IsKept self.new }
+        ensures front { IsFront self.old.present.items self.new.present.items }
+        ensures as_many { length self.new.variables.items ≡ length self.old.variables.items }
+    {
+        match &mut self.variables[number] {
+            Some(variable) => set_in(alloc, variable, true, path, value),
+            None => self.write_new(alloc, number, path, value),
+        }
+    }
+
+    // Writes a value at a path of a variable that isn't there: at one of null.
+    fn write_new(
+        &mut self,
+        alloc: Global,
+        number: usize,
+        path: &Path,
+        value: Value,
+    ) -> Result<(), SetFault>
+        requires known { number < length self.old.variables.items }
+        requires absent { is_numbered (trees_of self.old.variables.items) number ≡ false }
+        requires writable { IsWritable path.now }
+        requires kept { IsKept self.old }
+        ensures written { (names : Names) → AreNames names self.old → IsWritten (root_of names (Base.Variable number)) path.now (tree_of value) (store_in names self.old) (store_in names self.new) result }
+        ensures kept { IsKept self.new }
+        ensures front { IsFront self.old.present.items self.new.present.items }
+        ensures as_many { length self.new.variables.items ≡ length self.old.variables.items }
+    {
+        let variable = set_null(alloc, path, value)?;
+        self.begin(number, variable)?;
+        Ok(())
+    }
+
+    // Gives a variable that isn't there a value. `Memory`: want of memory; the store stays as it was.
+    fn begin(&mut self, number: usize, value: Value) -> Result<(), Memory>
+        requires known { number < length self.old.variables.items }
+        requires absent { is_numbered (trees_of self.old.variables.items) number ≡ false }
+        requires shallow { IsShallow (tree_of value) }
+        requires kept { IsKept self.old }
+        ensures value { OnOk result (self.new.variables.items ≡ set self.old.variables.items number (Some value)) }
+        ensures same { OnErr result (self.new.variables.items ≡ self.old.variables.items) }
+        ensures event { self.new.event ≡ self.old.event }
+        ensures kept { IsKept self.new }
+        ensures front { IsFront self.old.present.items self.new.present.items }
+        ensures as_many { length self.new.variables.items ≡ length self.old.variables.items }
+    {
+        self.present.push(number)?;
+        self.variables[number] = Some(value);
+        Ok(())
+    }
+
+    /// Takes out what stands at a place, and gives it; null where nothing does. Of the event's root an empty object is left, and of a
+    /// variable's null. `Memory`: want of memory; the store stays as it was.
+    pub fn take(&mut self, alloc: Global, place: &Place) -> Result<Value, Memory>
+        requires base { IsBase self.old place.now.base }
+        requires plain { IsPlain place.now.path }
+        requires kept { IsKept self.old }
+        ensures value { IfOk result (λ value. (names : Names) → AreNames names self.old → tree_of value ≡ spec.read_in (root_of names place.now.base) place.now.path (store_in names self.old)) }
+        ensures removed { OnOk result ((names : Names) → AreNames names self.old → store_in names self.new ≡ spec.removed (root_of names place.now.base) place.now.path (store_in names self.old)) }
+        ensures kept { IsKept self.new }
+        ensures front { IsFront (present_of self.old) (present_of self.new) }
+        ensures as_many { count_of self.new ≡ count_of self.old }
+    {
+        if place.path.as_slice().is_empty() {
+            return self.take_root(alloc, place.base);
+        }
+        Ok(self.take_part(place.base, &place.path))
+    }
+
+    // Takes out a whole root.
+    fn take_root(&mut self, alloc: Global, base: Base) -> Result<Value, Memory>
+        requires base { IsBase self.old base }
+        requires kept { IsKept self.old }
+        ensures value { IfOk result (λ value. (names : Names) → AreNames names self.old → tree_of value ≡ spec.root_value (root_of names base) (store_in names self.old)) }
+        ensures removed { OnOk result ((names : Names) → AreNames names self.old → store_in names self.new ≡ spec.removed (root_of names base) [] (store_in names self.old)) }
+        ensures kept { IsKept self.new }
+        ensures front { IsFront self.old.present.items self.new.present.items }
+        ensures as_many { length self.new.variables.items ≡ length self.old.variables.items }
+    {
+        match base {
+            Base::Event => {
+                let left = Value::Object(Fields::new(BTreeMap::new(alloc)));
+                Ok(std::mem::replace(&mut self.event, left))
+            }
+            Base::Variable(number) => match &mut self.variables[number] {
+                Some(variable) => Ok(std::mem::replace(variable, Value::Null)),
+                None => {
+                    self.begin(number, Value::Null)?;
+                    Ok(Value::Null)
+                }
+            },
+        }
+    }
+
+    // Takes out what stands at a path of a root; null where nothing does.
+    fn take_part(&mut self, base: Base, path: &Path) -> Value
+        requires base { IsBase self.old base }
+        requires part { 0 < length path.now }
+        requires plain { IsPlain path.now }
+        requires kept { IsKept self.old }
+        ensures value { (names : Names) → AreNames names self.old → tree_of result ≡ spec.read_in (root_of names base) path.now (store_in names self.old) }
+        ensures removed { (names : Names) → AreNames names self.old → store_in names self.new ≡ spec.removed (root_of names base) path.now (store_in names self.old) }
+        ensures kept { IsKept self.new }
+        ensures front { IsFront self.old.present.items self.new.present.items }
+        ensures as_many { length self.new.variables.items ≡ length self.old.variables.items }
+    {
+        match base {
+            Base::Event => take_from(&mut self.event, path),
+            Base::Variable(number) => match &mut self.variables[number] {
+                Some(variable) => take_from(variable, path),
+                None => Value::Null,
+            },
+        }
+    }
+
+    /// How many variables are there.
+    pub fn count(&self) -> usize
+        ensures { result ≡ length (present_of self.now) }
+    {
+        self.present.len()
+    }
+
+    /// Ends a block before which so many variables were there: those that came in it go.
+    pub fn leave(&mut self, count: usize)
+        requires within { count ≤ length (present_of self.old) }
+        requires kept { IsKept self.old }
+        ensures left { (names : Names) → AreNames names self.old → store_in names self.new ≡ left_with names (take count (present_of self.old)) (store_in names self.old) }
+        ensures present { present_of self.new ≡ take count (present_of self.old) }
+        ensures kept { IsKept self.new }
+        ensures as_many { count_of self.new ≡ count_of self.old }
+    {
+        while self.present.len() > count {
+            self.end_last();
+        }
+    }
+
+    // Ends the variable that came last.
+    fn end_last(&mut self)
+        requires some { 0 < length self.old.present.items }
+        requires kept { IsKept self.old }
+        ensures present { self.new.present.items ≡ take (length self.old.present.items - 1) self.old.present.items }
+        ensures stay { Stay (trees_of self.old.variables.items) (trees_of self.new.variables.items) self.new.present.items }
+        ensures event { self.new.event ≡ self.old.event }
+        ensures kept { IsKept self.new }
+        ensures as_many { length self.new.variables.items ≡ length self.old.variables.items }
+    {
+        if let Some(number) = self.present.pop() {
+            self.variables[number] = None;
+        }
+    }
+
+    /// The event, and the variables that are there with their names. `Memory`: want of memory.
+    pub fn into_parts(self, alloc: Global, names: &Names) -> Result<(Value, Fields), Memory>
+        requires { AreNames names.now self }
+        ensures event { IfOk result (λ parts. tree_of parts.0 ≡ event_of self) }
+        ensures variables { IfOk result (λ parts. map_of (members_of parts.1) ≡ (store_in names.now self).variables) }
+        ensures told { IfOk result (λ parts. AreToldByMap (members_of parts.1)) }
+    {
+        let Store {
+            event,
+            is_shallow: _,
+            variables,
+            present: _,
+            null: _,
+        } = self;
+        let fields = named(alloc, variables, names)?;
+        Ok((event, fields))
+    }
+
+    /// The event alone.
+    pub fn into_event(self) -> Value
+        ensures { tree_of result ≡ event_of self }
+    {
+        self.event
+    }
+}
+
+// Sets a value at a path of a root, which is known to be within the limit of depth or isn't.
+fn set_in(
+    alloc: Global,
+    root: &mut Value,
+    is_shallow: bool,
+    path: &Path,
+    value: Value,
+) -> Result<(), SetFault>
+    requires writable { IsWritable path.now }
+    requires shallow { IsTrue is_shallow → IsShallow (tree_of root.old) }
+    ensures ok { OnOk result (tree_of root.new ≡ set_tree (tree_of root.old) (plain path.now) (tree_of value)) }
+    ensures within { OnOk result (IsShallow (tree_of root.new)) }
+    ensures deep { result ≡ Err SetFault.TooDeep → depth_limit < depth_of (set_tree (tree_of root.old) (plain path.now) (tree_of value)) }
+    ensures err { OnErr result (tree_of root.new ≡ tree_of root.old) }
+{
+    set_trees_are_sets();
+    if !is_shallow {
+        return set(alloc, root, path, value);
+    }
+    if is_too_deep(path, &value) {
+        return Err(SetFault::TooDeep);
+    }
+    put(alloc, root, path, value)?;
+    Ok(())
+}
+
+// Takes out what stands at a path of a value; null where nothing does.
+fn take_from(value: &mut Value, path: &Path) -> Value
+    requires part { 0 < length path.now }
+    requires plain { IsPlain path.now }
+    ensures value { tree_of result ≡ spec.part_of (tree_of value.old) path.now }
+    ensures rest { tree_of value.new ≡ remove_tree (tree_of value.old) (plain path.now) }
+{
+    reads_are_look_ups();
+    match remove(value, path) {
+        Some(part) => part,
+        None => Value::Null,
+    }
+}
+
+// Null with a value at a path.
+fn set_null(alloc: Global, path: &Path, value: Value) -> Result<Value, SetFault>
+    requires { IsWritable path.now }
+    ensures ok { IfOk result (λ root. tree_of root ≡ set_tree null (plain path.now) (tree_of value)) }
+    ensures within { IfOk result (λ root. IsShallow (tree_of root)) }
+    ensures deep { result ≡ Err SetFault.TooDeep → depth_limit < depth_of (set_tree null (plain path.now) (tree_of value)) }
+{
+    let mut root = Value::Null;
+    set_in(alloc, &mut root, true, path, value)?;
+    Ok(root)
+}
+
+// Whether a value at the end of a path is deeper than the limit.
+fn is_too_deep(path: &Path, value: &Value) -> bool
+    ensures { IsTrue result ↔ (depth_limit < length path.now + depth_of (tree_of value.now)) }
+{
+    let depth = value.depth();
+    let length = path.as_slice().len() as u64;
+    depth > LIMIT || length > LIMIT - depth
+}
+
+// The variables that are there, with their names. `Memory`: want of memory.
+fn named(alloc: Global, variables: Vec<Option<Value>>, names: &Names) -> Result<Fields, Memory>
+    requires { AreDistinct names.now }
+    ensures variables { IfOk result (λ fields. map_of (members_of fields) ≡ variables_of names.now (trees_of variables.items)) }
+    ensures told { IfOk result (λ fields. AreToldByMap (members_of fields)) }
+{
+    trees_stay_in_order();
+    regexes_stay_below();
+    let mut fields = Fields::new(BTreeMap::new(alloc));
+    let mut left = names.as_slice();
+    for variable in variables {
+        let Some((name, others)) = left.split_first() else {
+            return Ok(fields);
+        };
+        left = others;
+        if let Some(value) = variable {
+            fields.insert(name.copy(alloc)?, value)?;
+        }
+    }
+    Ok(fields)
+}
