@@ -8,7 +8,8 @@ use Rattle.vrl_kind.specs.Kinds.{Inhabits}
 use Rattle.vrl_syntax.specs.Tree.{Script}
 use Rattle.vrl_store.specs.WellFormed.{IsWellFormed}
 use Rattle.vrl_check.specs.Determined.{JudgementsAreDetermined}
-use Rattle.vrl_check.specs.Judgement.{Judgement, JudgesScript}
+use Rattle.vrl_judge.specs.Rules.{Judgement}
+use Rattle.vrl_check.specs.Judgement.{JudgesScript}
 use Rattle.vrl_compile.specs.Answer.{AcceptedScriptsAreSound, IsSoundlyEnded, ends_of}
 use Rattle.vrl_compile.specs.Reading.{ScriptsHaveOneReading}
 use Rattle.vrl_resolve.specs.Program.{ProgramTree, ended_over}

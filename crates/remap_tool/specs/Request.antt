@@ -3,8 +3,8 @@ use Rattle.std.specs.Prelude.{◌≡◌, ℕ, ◌+◌, List, [], ◌∷◌, ◌+
 use Rattle.vrl_compile.specs.Answer.{IsAccepted as IsAcceptedText, IsRefused as IsRefusedText, IsScript}
 use Rattle.vrl_compile.specs.Program.{program_for}
 use Rattle.vrl_diag.specs.declared.diagnostic.Diagnostic.{Diagnostic}
-use Rattle.vrl_check.specs.Judgement.{Judgement}
-use Rattle.vrl_check.specs.Ordered.{AreOrdered}
+use Rattle.vrl_judge.specs.Rules.{Judgement}
+use Rattle.vrl_judge.specs.Ordered.{AreOrdered}
 use Rattle.vrl_resolve.specs.Program.{ProgramTree, program_of}
 use Rattle.vrl_syntax.specs.Tree.{Script}
 use Rattle.vrl_token.specs.Reading.{IsNoScript}

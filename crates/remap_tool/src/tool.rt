@@ -2,7 +2,8 @@ ghost use Rattle.std.specs.Prelude.{◌≡◌, ◌⊎◌, Some, IfOk, IsSome, Is
 ghost use Rattle.vrl_io.specs.Faults.{HasRisen};
 ghost use Rattle.vrl_json.specs.Line.{reading_of, whole};
 ghost use Rattle.vrl_value.specs.Tree.{Tree, is_object};
-ghost use Rattle.vrl_check.specs.Judgement.{Judgement, JudgesScript};
+ghost use Rattle.vrl_judge.specs.Rules.{Judgement};
+ghost use Rattle.vrl_check.specs.Judgement.{JudgesScript};
 ghost use Rattle.vrl_compile.specs.Answer.{IsSoundlyEnded, ends_of};
 ghost use Rattle.vrl_diag.specs.declared.diagnostic.Diagnostic.{Diagnostic as SpecDiagnostic};
 ghost use Rattle.vrl_resolve.specs.Program.{ProgramTree, ended_over};

@@ -5,7 +5,7 @@ ghost use Rattle.vrl_syntax.specs.Limits.{KeepsLimits};
 ghost use Rattle.vrl_syntax.specs.View.{exprs_of};
 ghost use Rattle.vrl_check.specs.Answer.{IsJudged};
 ghost use Rattle.vrl_check.specs.Calls.{exprs_hold_closure_call};
-ghost use Rattle.vrl_check.specs.Judgement.{Judgement};
+ghost use Rattle.vrl_judge.specs.Rules.{Judgement};
 
 // Scripts without calls: what is wrong with them, the kind of what they give, and what is known then.
 use std::alloc::Global;

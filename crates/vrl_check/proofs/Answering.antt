@@ -4,17 +4,20 @@ use Rattle.vrl_kind.specs.KindTree.{KindTree}
 use Rattle.vrl_state.specs.Known.{known_as, HaveRootKinds}
 use Rattle.vrl_state.specs.States.{IsEither, IsJoined, IsRootKind, IsStart, RootMap, State}
 use Rattle.vrl_syntax.specs.Tree.{Exprs}
-use Rattle.vrl_check.specs.Answer.{outside, return_kind, return_state, returning, IsEnding, IsJudged}
-use Rattle.vrl_check.specs.Judgement.{Judgement, JudgesScript, a_script, settle}
-use Rattle.vrl_check.specs.Judging.{known_on, AreEnds, IsScriptAs, IsWay}
-use Rattle.vrl_check.specs.Ordered.{AreOrdered}
-use Rattle.vrl_check.specs.declared.checker.Checker.{Checker}
-use Rattle.vrl_check.specs.declared.ends.Returned.{Returned}
+use Rattle.vrl_check.specs.Answer.{outside, IsEnding, IsJudged}
+use Rattle.vrl_judge.specs.Returns.{return_kind, return_state, returning}
+use Rattle.vrl_judge.specs.Rules.{Judgement, settle}
+use Rattle.vrl_check.specs.Judgement.{JudgesScript, a_script}
+use Rattle.vrl_judge.specs.Judging.{known_on, AreEnds, IsWay}
+use Rattle.vrl_check.specs.Walking.{IsScriptAs}
+use Rattle.vrl_judge.specs.Ordered.{AreOrdered}
+use Rattle.vrl_judge.specs.declared.checker.Checker.{Checker}
+use Rattle.vrl_judge.specs.declared.ends.Returned.{Returned}
 use Rattle.vrl_check.specs.declared.judged.Ending.{Ending}
 use Rattle.vrl_check.specs.declared.judged.Judged.{Judged}
-use Rattle.vrl_check.specs.declared.outcome.Outcome.{Outcome}
-use Rattle.vrl_check.proofs.RootKinds.{either_root}
-use Rattle.vrl_check.proofs.Ways.{way_known}
+use Rattle.vrl_judge.specs.declared.outcome.Outcome.{Outcome}
+use Rattle.vrl_judge.proofs.RootKinds.{either_root}
+use Rattle.vrl_judge.proofs.Joining.{way_known}
 
 -- the ends of a script as they are answered: without an error a dead state stands for it
 pub record AreAnswered (after : State) (outcome : Outcome) (judged : Judged) : Type 0 where

@@ -7,17 +7,21 @@ use Rattle.vrl_syntax.specs.View.{arg_of, args_view}
 use Rattle.vrl_syntax.specs.declared.tree.Arg.{Arg as CodeArg}
 use Rattle.vrl_kind.specs.Canonical.{never_kind}
 use Rattle.vrl_state.specs.States.{IsRootKind}
-use Rattle.vrl_check.specs.Calling.{told, written, AreArgumentsAs, AreRootKinds, IsCalledAs, IsTold}
-use Rattle.vrl_check.specs.Judgement.{Argument, Judgement, Judges, JudgesArguments, gives, no_more_arguments, one_more_argument}
-use Rattle.vrl_check.specs.Judging.{no_ends, AreEnds, AreJoinedEnds, ArgumentsCanBeJudged, CanBeJudged, HasEnds, HasGathered, HasJudged, HaveCommonScopes, IsGivenAs, IsJudgedAs}
-use Rattle.vrl_check.specs.declared.calls.Argument.{Argument as CodeArgument}
+use Rattle.vrl_judge.specs.Calling.{told}
+use Rattle.vrl_check.specs.Calling.{written, AreArgumentsAs, AreRootKinds, IsCalledAs, IsTold}
+use Rattle.vrl_judge.specs.Rules.{Argument, Judgement, gives}
+use Rattle.vrl_check.specs.Judgement.{Judges, JudgesArguments, no_more_arguments, one_more_argument}
+use Rattle.vrl_judge.specs.Judging.{no_ends, AreEnds, AreJoinedEnds, HasEnds, HasGathered, HasJudged, HaveCommonScopes}
+use Rattle.vrl_check.specs.Walking.{ArgumentsCanBeJudged, CanBeJudged, IsGivenAs, IsJudgedAs}
+use Rattle.vrl_judge.specs.declared.calls.Argument.{Argument as CodeArgument}
 use Rattle.vrl_check.specs.declared.calls.Arguments.{Arguments}
-use Rattle.vrl_check.specs.declared.checker.Checker.{Checker}
-use Rattle.vrl_check.specs.declared.ends.Ends.{Ends}
-use Rattle.vrl_check.specs.declared.outcome.Outcome.{Outcome}
+use Rattle.vrl_judge.specs.declared.checker.Checker.{Checker}
+use Rattle.vrl_judge.specs.declared.ends.Ends.{Ends}
+use Rattle.vrl_judge.specs.declared.outcome.Outcome.{Outcome}
 use Rattle.vrl_check.proofs.Capable.{first_argument_can, other_arguments_can}
-use Rattle.vrl_check.proofs.Parts.{behind_with, fails_as}
-use Rattle.vrl_check.proofs.Partway.{can_at, part_are, part_common, part_then, value_ends, value_gathered}
+use Rattle.vrl_judge.proofs.Parts.{behind_with, fails_as}
+use Rattle.vrl_check.proofs.Partway.{can_at, part_common}
+use Rattle.vrl_judge.proofs.Gathering.{part_are, part_then, value_ends, value_gathered}
 use Rattle.vrl_check.proofs.Sizes.{args_size, expr_size}
 use Rattle.vrl_check.proofs.Told.{judges_at}
 

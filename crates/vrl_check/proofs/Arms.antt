@@ -12,20 +12,25 @@ use Rattle.vrl_syntax.specs.View.{ArmTree, arm_of, arms_view}
 use Rattle.vrl_syntax.specs.declared.tree.Arm.{Arm as CodeArm}
 use Rattle.vrl_kind.specs.Canonical.{never_kind}
 use Rattle.vrl_state.specs.States.{IsEither, IsJoined, IsRootKind, Scope, State}
-use Rattle.vrl_check.specs.Branching.{no_ways, AreWays, IsBlockBeside, IsLastBeside, IsPredicateBeside}
+use Rattle.vrl_judge.specs.Branching.{no_ways, AreWays, IsBlockBeside, IsLastBeside, IsPredicateBeside}
 use Rattle.vrl_check.specs.Calls.{arms_hold_closure_call, expr_holds_closure_call, exprs_hold_closure_call}
-use Rattle.vrl_check.specs.Judgement.{Judgement, JudgesArms, JudgesBlock, a_conditional, a_missing_else, an_arm, an_else, gives, is_error, nothing, of_predicate, settle, span_of, IsBeside, Judges}
-use Rattle.vrl_check.specs.Judging.{known_on, predicate_of, AreEnds, AreJoinedEnds, ArmsCanBeJudged, CanBeJudged, HasJudged, HasWays, IsAnywhereAs, IsArmAs, IsArmBehind, IsBlockAs, IsElseAs, IsJudgedAs, IsReported, ItemsCanBeJudged}
-use Rattle.vrl_check.specs.Seen.{seen, seen_ways}
-use Rattle.vrl_check.specs.declared.branches.Ways.{Ways}
-use Rattle.vrl_check.specs.declared.checker.Checker.{Checker}
-use Rattle.vrl_check.specs.declared.ends.Ends.{Ends}
-use Rattle.vrl_check.specs.declared.outcome.Outcome.{Outcome}
+use Rattle.vrl_judge.specs.Rules.{Judgement, gives, is_error, nothing, of_predicate, settle}
+use Rattle.vrl_check.specs.Judgement.{span_of, IsBeside}
+use Rattle.vrl_check.specs.Judgement.{JudgesArms, JudgesBlock, a_conditional, a_missing_else, an_arm, an_else, Judges}
+use Rattle.vrl_judge.specs.Judging.{known_on, AreEnds, AreJoinedEnds, HasJudged, IsReported}
+use Rattle.vrl_check.specs.Walking.{predicate_of, HasWays}
+use Rattle.vrl_check.specs.Walking.{ArmsCanBeJudged, CanBeJudged, IsAnywhereAs, IsArmAs, IsArmBehind, IsBlockAs, IsElseAs, IsJudgedAs, ItemsCanBeJudged}
+use Rattle.vrl_judge.specs.Seen.{seen, seen_ways}
+use Rattle.vrl_judge.specs.declared.branches.Ways.{Ways}
+use Rattle.vrl_judge.specs.declared.checker.Checker.{Checker}
+use Rattle.vrl_judge.specs.declared.ends.Ends.{Ends}
+use Rattle.vrl_judge.specs.declared.outcome.Outcome.{Outcome}
 use Rattle.vrl_check.proofs.Capable.{neither, none_of_both}
-use Rattle.vrl_check.proofs.RootKinds.{either_root, never_either, never_root}
+use Rattle.vrl_judge.proofs.RootKinds.{either_root, never_either, never_root}
 use Rattle.vrl_check.proofs.Sizes.{arms_size}
-use Rattle.vrl_check.proofs.Told.{as_seen, block_at, gathers_both, gathers_moved, gathers_reported, told, told_block, told_expr, told_of, Gathers, IsTold, IsToldBlock, IsToldExpr}
-use Rattle.vrl_check.proofs.Ways.{join_none, no_ends_are}
+use Rattle.vrl_judge.proofs.Told.{as_seen, gathers_both, gathers_moved, gathers_reported, told, told_of, Gathers, IsTold}
+use Rattle.vrl_check.proofs.Told.{block_at, told_block, told_expr, IsToldBlock, IsToldExpr}
+use Rattle.vrl_judge.proofs.Joining.{join_none, no_ends_are}
 
 -- ---- ways as they were told
 

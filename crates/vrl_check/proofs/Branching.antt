@@ -1,28 +1,32 @@
 -- The branching forms behind their parts.
 use Rattle.std.proofs.Common.{◌≡◌, Bool, not, ◌||◌, List, [], Option, None, is_some, refl, sym, ap, ◌∙◌, subst, append-nil}
 use Rattle.vrl_value.specs.declared.value.Tag.{Tag}
-use Rattle.vrl_value.specs.declared.value.Tag.TheVariants as tag
 use Rattle.vrl_diag.specs.declared.diagnostic.Diagnostic.{Diagnostic}
 use Rattle.vrl_diag.specs.declared.diagnostic.Span.{Span}
 use Rattle.vrl_syntax.specs.Tree.{Expr, binary, return_of, abort_with, no_message, message}
-use Rattle.vrl_syntax.specs.declared.root.Op.TheVariants as op
 use Rattle.vrl_kind.specs.Canonical.{never_kind}
 use Rattle.vrl_kind.specs.Kinds.{root_tags}
 use Rattle.vrl_place.specs.Sets.{is_alone}
 use Rattle.vrl_state.specs.States.{IsCutOf, IsEither, IsJoined, RootMap, State}
-use Rattle.vrl_check.specs.Answer.{return_kind, return_state}
-use Rattle.vrl_check.specs.Branching.{of_message, AreBothSides, IsAborted, IsConjoined, IsLeftSide, IsOrFail, IsReturned, StandsIn}
-use Rattle.vrl_check.specs.Judgement.{Judgement, Judges, a_conjunction, a_disjunction, a_coalescing, a_return, an_abort, an_abort_with, at, if_state, is_alive, may_be_no_truth, may_be_truth, nothing, or_else_at, span_of, when, with_codes, IsBehind, IsThen}
-use Rattle.vrl_check.specs.Judging.{known_on, no_ends, AreEnds, AreJoinedEnds, IsAnywhereAs, IsGivenAs, IsJudgedAs, IsMoved, IsReported}
-use Rattle.vrl_check.specs.Seen.{seen}
-use Rattle.vrl_check.specs.declared.branches.LeftSide.{LeftSide}
-use Rattle.vrl_check.specs.declared.checker.Checker.{Checker}
-use Rattle.vrl_check.specs.declared.ends.Ends.{Ends}
-use Rattle.vrl_check.specs.declared.outcome.Outcome.{Outcome}
-use Rattle.vrl_check.proofs.Parts.{are_ends_of, behind_with, is_behind, reported_judged, returns_but_fail}
-use Rattle.vrl_check.proofs.RootKinds.{either_root, never_root, or_else_root, scalar_root}
-use Rattle.vrl_check.proofs.Told.{gathers_codes, gathers_moved, gathers_two, has_gathered, judges_at, told_expr, IsTold, IsToldExpr}
-use Rattle.vrl_check.proofs.Ways.{branch_alive, no_ends_are}
+use Rattle.vrl_judge.specs.Returns.{return_kind, return_state}
+use Rattle.vrl_judge.specs.Branching.{of_message, AreBothSides, IsAborted, IsConjoined, IsLeftSide, IsOrFail, IsReturned, StandsIn}
+use Rattle.vrl_judge.specs.Rules.{Judgement, at, if_state, is_alive, may_be_no_truth, may_be_truth, nothing, or_else_at, when, with_codes, IsBehind, IsThen}
+use Rattle.vrl_check.specs.Judgement.{span_of}
+use Rattle.vrl_check.specs.Judgement.{Judges, a_conjunction, a_disjunction, a_coalescing, a_return, an_abort, an_abort_with}
+use Rattle.vrl_judge.specs.Judging.{known_on, no_ends, AreEnds, AreJoinedEnds, IsMoved, IsReported}
+use Rattle.vrl_check.specs.Walking.{IsAnywhereAs, IsGivenAs, IsJudgedAs}
+use Rattle.vrl_judge.specs.Seen.{seen}
+use Rattle.vrl_judge.specs.declared.branches.LeftSide.{LeftSide}
+use Rattle.vrl_judge.specs.declared.checker.Checker.{Checker}
+use Rattle.vrl_judge.specs.declared.ends.Ends.{Ends}
+use Rattle.vrl_judge.specs.declared.outcome.Outcome.{Outcome}
+use Rattle.vrl_judge.proofs.Parts.{are_ends_of, behind_with, is_behind, reported_judged, returns_but_fail}
+use Rattle.vrl_judge.proofs.RootKinds.{either_root, never_root, or_else_root, scalar_root}
+use Rattle.vrl_judge.proofs.Told.{gathers_codes, gathers_moved, gathers_two, has_gathered, IsTold}
+use Rattle.vrl_check.proofs.Told.{judges_at, told_expr, IsToldExpr}
+use Rattle.vrl_judge.proofs.Joining.{branch_alive, no_ends_are}
+use Rattle.vrl_value.specs.declared.value.Tag.TheVariants as tag
+use Rattle.vrl_syntax.specs.declared.root.Op.TheVariants as op
 
 -- ---- two sides
 

@@ -17,14 +17,16 @@ use Rattle.vrl_builtin.specs.declared.tags.Tags.{Tags as TagSet}
 use Rattle.vrl_table.specs.Binding.{binding, bound_from, bound_or_missing, bound_or_unknown, first_missing, first_unknown, is_keyword, is_unknown, is_wrong_number, keyword_at, keywords_of, positional_at, Keywords}
 use Rattle.vrl_table.specs.Table.{row_of}
 use Rattle.vrl_table.specs.declared.binding.BindFault.{BindFault}
-use Rattle.vrl_table.specs.declared.binding.BindFault.TheVariants as fault
 use Rattle.vrl_table.specs.declared.function.Fun.{Fun}
 use Rattle.vrl_check.specs.Calling.{of_found, places_in, written, HasCodes, MayBeAsked}
 use Rattle.vrl_syntax.specs.Calls.{literal_of}
-use Rattle.vrl_check.specs.Judgement.{Argument, argument_at, at, bound, is_disjoint, is_error, is_fallible, is_known, of_argument, of_arguments, of_call, of_closure, of_unknown, span_of, wants_literal, when, AreGiven, IsGiven}
+use Rattle.vrl_judge.specs.Rules.{Argument, argument_at, at, is_disjoint, is_error, is_fallible, is_known, when}
+use Rattle.vrl_check.specs.Judgement.{span_of}
+use Rattle.vrl_check.specs.Judgement.{bound, of_argument, of_arguments, of_call, of_closure, of_unknown, wants_literal, AreGiven, IsGiven}
 use Rattle.vrl_check.specs.declared.calls.Arguments.{Arguments}
-use Rattle.vrl_check.specs.declared.calls.Callee.TheVariants as callee
 use Rattle.vrl_check.proofs.CallsCodes.{more_codes}
+use Rattle.vrl_table.specs.declared.binding.BindFault.TheVariants as fault
+use Rattle.vrl_check.specs.declared.calls.Callee.TheVariants as callee
 
 -- ---- places that are bound
 

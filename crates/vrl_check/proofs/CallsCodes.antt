@@ -9,16 +9,18 @@ use Rattle.vrl_builtin.specs.View.{parameter_row}
 use Rattle.vrl_builtin.specs.declared.parameter.Parameter.{Parameter}
 use Rattle.vrl_table.specs.Binding.{IsBound}
 use Rattle.vrl_table.specs.declared.binding.BindFault.{BindFault}
-use Rattle.vrl_table.specs.declared.binding.BindFault.TheVariants as fault
-use Rattle.vrl_check.specs.Calling.{callee_parameters, callee_wants, of_fault, of_found, told, written, AreTold}
-use Rattle.vrl_check.specs.Judgement.{Argument, argument_at, bound, of_arguments, of_call}
-use Rattle.vrl_check.specs.Judging.{IsReported}
-use Rattle.vrl_check.specs.declared.calls.Argument.{Argument as CodeArgument}
+use Rattle.vrl_check.specs.Calling.{callee_parameters, callee_wants, of_fault, of_found, written, AreTold}
+use Rattle.vrl_judge.specs.Calling.{told}
+use Rattle.vrl_judge.specs.Rules.{Argument, argument_at}
+use Rattle.vrl_check.specs.Judgement.{bound, of_arguments, of_call}
+use Rattle.vrl_judge.specs.Judging.{IsReported}
+use Rattle.vrl_judge.specs.declared.calls.Argument.{Argument as CodeArgument}
 use Rattle.vrl_check.specs.declared.calls.Callee.{Callee}
-use Rattle.vrl_check.specs.declared.checker.Checker.{Checker}
-use Rattle.vrl_check.specs.declared.ends.Ends.{Ends}
-use Rattle.vrl_check.proofs.CallsFound.{empty_list}
-use Rattle.vrl_check.proofs.Parts.{reported_more, reported_none}
+use Rattle.vrl_judge.specs.declared.checker.Checker.{Checker}
+use Rattle.vrl_judge.specs.declared.ends.Ends.{Ends}
+use Rattle.vrl_judge.proofs.Deleted.{empty_list}
+use Rattle.vrl_judge.proofs.Parts.{reported_more, reported_none}
+use Rattle.vrl_table.specs.declared.binding.BindFault.TheVariants as fault
 
 -- ---- the codes of the arguments
 

@@ -1,5 +1,5 @@
 -- Calls and their arguments as they are in memory, and as they are seen.
-use Rattle.std.proofs.Common.{◌≡◌, ℕ, zero, suc, Bool, true, false, ◌&&◌, List, [], ◌∷◌, length, map, Option, Some, None, is_some, option_map, slice_get, refl, sym, ap, ap₂, ◌∙◌, subst, arith, rules}
+use Rattle.std.proofs.Common.{◌≡◌, ℕ, zero, suc, Bool, true, false, ◌&&◌, List, [], ◌∷◌, map, Option, Some, None, is_some, option_map, slice_get, refl, sym, ap, ap₂, ◌∙◌, subst, rules}
 use Rattle.std.proofs.lemmas.Option.{slice_get-map}
 use Rattle.std.specs.Option.{option_map_or}
 use Rattle.vrl_diag.specs.declared.diagnostic.Span.{Span}
@@ -12,15 +12,13 @@ use Rattle.vrl_syntax.specs.declared.tree.Closure.{Closure as CodeClosure}
 use Rattle.vrl_syntax.specs.declared.tree.Expr.{Expr as CodeExpr}
 use Rattle.vrl_syntax.specs.declared.tree.Form.{the_lemmas}
 use Rattle.vrl_builtin.specs.Conditions.{below_if}
-use Rattle.vrl_check.specs.Calling.{call_args, call_bang, call_closure, call_name, told, written, AreTold, IsFound}
+use Rattle.vrl_check.specs.Calling.{call_args, call_bang, call_closure, call_name, written, AreTold, IsFound}
+use Rattle.vrl_judge.specs.Calling.{told}
 use Rattle.vrl_syntax.specs.Calls.{literal_of}
-use Rattle.vrl_check.specs.Judgement.{Argument, argument_at, at, of_closure, of_unknown, span_of, when}
-use Rattle.vrl_check.specs.declared.calls.Argument.{Argument as CodeArgument}
-
--- nothing is in a list without length
-pub empty_list : {X : Type 0} (xs : List X) → length xs ≡ 0 → xs ≡ []
-empty_list [] none = refl
-empty_list (x ∷ xs) none = absurd (omega arith)
+use Rattle.vrl_judge.specs.Rules.{Argument, argument_at, at, when}
+use Rattle.vrl_check.specs.Judgement.{span_of}
+use Rattle.vrl_check.specs.Judgement.{of_closure, of_unknown}
+use Rattle.vrl_judge.specs.declared.calls.Argument.{Argument as CodeArgument}
 
 -- ---- what is seen
 

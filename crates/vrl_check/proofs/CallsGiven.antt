@@ -11,10 +11,12 @@ use Rattle.vrl_builtin.specs.Rows.{GivenTree, ParameterRow}
 use Rattle.vrl_builtin.specs.View.{given_tree, parameter_row}
 use Rattle.vrl_builtin.specs.declared.given.Given.{Given}
 use Rattle.vrl_builtin.specs.declared.parameter.Parameter.{Parameter}
-use Rattle.vrl_check.specs.Calling.{told, AreTold}
-use Rattle.vrl_check.specs.Judgement.{Argument, argument_at, bound, some_has_others, AreGiven, IsGiven}
-use Rattle.vrl_check.specs.declared.calls.Argument.{Argument as CodeArgument}
-use Rattle.vrl_check.proofs.CallsFound.{empty_list}
+use Rattle.vrl_judge.specs.Calling.{told}
+use Rattle.vrl_check.specs.Calling.{AreTold}
+use Rattle.vrl_judge.specs.Rules.{Argument, argument_at}
+use Rattle.vrl_check.specs.Judgement.{bound, some_has_others, AreGiven, IsGiven}
+use Rattle.vrl_judge.specs.declared.calls.Argument.{Argument as CodeArgument}
+use Rattle.vrl_judge.proofs.Deleted.{empty_list}
 
 -- ---- all of them
 

@@ -2,7 +2,6 @@
 use Rattle.std.proofs.Common.{◌≡◌, ℕ, Bool, true, false, ◌||◌, List, [], ◌∷◌, ◌++◌, Option, Some, Result, Ok, Err, refl, sym, ap, ◌∙◌, subst, append_assoc}
 use Rattle.std.proofs.lemmas.Bool.{or_parts, or_from}
 use Rattle.std.specs.List.{list_any}
-use Rattle.vrl_value.specs.declared.value.Tag.TheVariants as tag
 use Rattle.vrl_diag.specs.declared.diagnostic.Diagnostic.{Diagnostic}
 use Rattle.vrl_diag.specs.declared.diagnostic.Span.{Span}
 use Rattle.vrl_syntax.specs.Limits.{args_faults, closure_faults, form_faults}
@@ -19,17 +18,20 @@ use Rattle.vrl_check.specs.Calling.{callee_codes, callee_parameters, places_in, 
 use Rattle.vrl_syntax.specs.Calls.{is_exists}
 use Rattle.vrl_check.specs.Calls.{args_hold_closure_call, closure_holds_closure_call, form_holds_closure_call, takes_closure}
 use Rattle.vrl_check.specs.Empties.{closure_empties}
-use Rattle.vrl_check.specs.Judgement.{Argument, Judgement, Gives, JudgesArguments, a_call, a_call_of_nothing, a_deletion, an_existence, at, bound, bound_by, deleted_kind, deleted_path, gives, if_state, is_error, with_codes, IsAnsweredUnless, IsDeletedAt, IsScalar}
-use Rattle.vrl_check.specs.Judging.{known_on, AreEnds, FormCanBeJudged, HasEnds, HasGathered, HasJudged, IsReported}
+use Rattle.vrl_judge.specs.Rules.{Argument, Judgement, at, gives, if_state, is_error, with_codes, IsScalar}
+use Rattle.vrl_check.specs.Judgement.{Gives, JudgesArguments, a_call, a_call_of_nothing, a_deletion, an_existence, bound, bound_by, deleted_kind, deleted_path, IsAnsweredUnless, IsDeletedAt}
+use Rattle.vrl_judge.specs.Judging.{known_on, AreEnds, HasEnds, HasGathered, HasJudged, IsReported}
+use Rattle.vrl_check.specs.Walking.{FormCanBeJudged}
 use Rattle.vrl_check.specs.declared.calls.Arguments.{Arguments}
 use Rattle.vrl_check.specs.declared.calls.Callee.{Callee}
+use Rattle.vrl_judge.specs.declared.checker.Checker.{Checker}
+use Rattle.vrl_judge.specs.declared.ends.Ends.{Ends}
+use Rattle.vrl_judge.specs.declared.outcome.Outcome.{Outcome}
+use Rattle.vrl_judge.proofs.Parts.{are_ends_of, ends_of, ends_or_fail, gathered_moved, gathered_of, reported_ends, reported_gathered}
+use Rattle.vrl_judge.proofs.RootKinds.{any_root, scalar_root}
+use Rattle.vrl_judge.proofs.Joining.{join_of}
+use Rattle.vrl_value.specs.declared.value.Tag.TheVariants as tag
 use Rattle.vrl_check.specs.declared.calls.Callee.TheVariants as callee
-use Rattle.vrl_check.specs.declared.checker.Checker.{Checker}
-use Rattle.vrl_check.specs.declared.ends.Ends.{Ends}
-use Rattle.vrl_check.specs.declared.outcome.Outcome.{Outcome}
-use Rattle.vrl_check.proofs.Parts.{are_ends_of, ends_of, ends_or_fail, gathered_moved, gathered_of, reported_ends, reported_gathered}
-use Rattle.vrl_check.proofs.RootKinds.{any_root, scalar_root}
-use Rattle.vrl_check.proofs.Ways.{join_of}
 
 -- ---- behind the closure
 

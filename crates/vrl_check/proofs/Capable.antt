@@ -11,7 +11,7 @@ use Rattle.vrl_syntax.specs.declared.root.Op.{Op}
 use Rattle.vrl_syntax.specs.declared.root.Target.{Target}
 use Rattle.vrl_check.specs.Calls.{takes_closure, expr_holds_closure_call, exprs_hold_closure_call, pairs_hold_closure_call}
 use Rattle.vrl_check.specs.Judgement.{pair_values}
-use Rattle.vrl_check.specs.Judging.{ArgumentsCanBeJudged, ArmsCanBeJudged, CanBeJudged, ElseCanBeJudged, FormCanBeJudged, ItemsCanBeJudged, PairsCanBeJudged}
+use Rattle.vrl_check.specs.Walking.{ArgumentsCanBeJudged, ArmsCanBeJudged, CanBeJudged, ElseCanBeJudged, FormCanBeJudged, ItemsCanBeJudged, PairsCanBeJudged}
 use Rattle.vrl_check.proofs.Sizes.{expr_size, exprs_size, pairs_size}
 
 -- ---- neither of two

@@ -4,21 +4,17 @@ use Rattle.std.proofs.lemmas.Bool.{false≢true, cases_lt, or_parts}
 use Rattle.std.proofs.lemmas.Slice.Eq.{bytes_eq-Decides}
 use Rattle.std.proofs.lemmas.Cmp.{nat_list_cmp_total}
 use Rattle.std.specs.Cmp.Lexicographic.{slice_cmp}
-use Rattle.std.specs.FinMap as map
 use Rattle.std.specs.FinMap.{IsAntisymmetric, nat_cmp-IsAntisymmetric, slice_cmp-IsAntisymmetric}
 use Rattle.std.specs.Ordering.{nat_cmp}
 use Rattle.vrl_value.specs.Look.{Step as PlainStep}
 use Rattle.vrl_value.specs.Tree.{Tree}
 use Rattle.vrl_value.specs.declared.value.Tag.{Tag}
-use Rattle.vrl_value.specs.declared.value.Tag.TheVariants as tag
 use Rattle.vrl_path.specs.Steps.{plain}
 use Rattle.vrl_path.specs.declared.path.Step.{Step}
 use Rattle.vrl_diag.specs.declared.diagnostic.Span.{Span}
-use Rattle.vrl_syntax.specs.Tree as syntax
 use Rattle.vrl_syntax.specs.Tree.{Expr, expr, Form, Exprs, no_exprs, exprs, Pairs, no_pairs, pair, Arms, no_arms, arm, Else, no_else, else_block, Args, no_args, arg, Closure, no_message, message}
 use Rattle.vrl_syntax.specs.Written.{is_del}
 use Rattle.vrl_syntax.specs.declared.root.Op.{Op}
-use Rattle.vrl_syntax.specs.declared.root.Op.TheVariants as op
 use Rattle.vrl_syntax.specs.declared.root.Root.{Root}
 use Rattle.vrl_syntax.specs.declared.root.Target.{Target}
 use Rattle.vrl_syntax.specs.declared.root.Target.TheVariants.{Nowhere, Place}
@@ -34,17 +30,22 @@ use Rattle.vrl_place.specs.Sets.{is_alone}
 use Rattle.vrl_state.specs.States.{HasNow, IsCutOf, IsEither, IsEitherVariable, IsJoined, RootMap, Variables, kind_of, with_kind}
 use Rattle.vrl_builtin.specs.Rows.{GivenTree, ParameterRow, Row}
 use Rattle.vrl_builtin.specs.declared.tags.Tags.{Tags as TagSet}
-use Rattle.vrl_table.specs.Binding.{binding, keywords_of}
+use Rattle.vrl_table.specs.Binding.{binding, keywords_of, path_parameters}
 use Rattle.vrl_table.specs.Table.{row_of, function_named, FunctionsAreFound}
 use Rattle.vrl_table.specs.declared.function.Fun.{Fun}
 use Rattle.vrl_syntax.specs.Calls.{is_exists, literal_of}
 use Rattle.vrl_syntax.specs.ErrorAssignments.{empty_value}
-use Rattle.vrl_table.specs.Binding.{path_parameters}
 use Rattle.vrl_check.specs.Calls.{takes_closure}
 use Rattle.vrl_check.specs.Empties.{closure_empties}
-use Rattle.vrl_check.specs.Judgement as judging
-use Rattle.vrl_check.specs.Judgement.{Argument, Judgement, Judges, Gives, JudgesBoth, JudgesAll, JudgesArguments, JudgesBlock, JudgesArms, JudgesItems, AreGiven, IsAnsweredUnless, IsBehind, IsBeside, IsCutDown, IsDeleted, IsDeletedAt, IsGiven, IsMerged, IsMergedIf, IsReadAt, IsThen, IsWritten, banged, behind_arguments, bound_by, deleted_kind, deleted_path, unreached, reached, gives, settle, wants_literal, with_codes, if_state, is_alive, span_of}
+use Rattle.vrl_judge.specs.Rules.{Argument, Judgement, IsBehind, IsDeleted, IsMerged, IsMergedIf, IsReadAt, IsThen, IsWritten, banged, gives, settle, with_codes, if_state, is_alive}
+use Rattle.vrl_check.specs.Judgement.{IsBeside, span_of}
+use Rattle.vrl_check.specs.Judgement.{Judges, Gives, JudgesBoth, JudgesAll, JudgesArguments, JudgesBlock, JudgesArms, JudgesItems, AreGiven, IsAnsweredUnless, IsCutDown, IsDeletedAt, IsGiven, behind_arguments, bound_by, deleted_kind, deleted_path, unreached, reached, wants_literal}
 use Rattle.vrl_check.specs.Determined.{JudgementsAreDetermined}
+use Rattle.std.specs.FinMap as map
+use Rattle.vrl_value.specs.declared.value.Tag.TheVariants as tag
+use Rattle.vrl_syntax.specs.Tree as syntax
+use Rattle.vrl_syntax.specs.declared.root.Op.TheVariants as op
+use Rattle.vrl_check.specs.Judgement as judging
 
 -- ---- kinds
 

@@ -1,5 +1,5 @@
 -- A judgement has one empty value for each error assignment of what is judged.
-use Rattle.std.proofs.Common.{arith, ◌≡◌, ℕ, zero, suc, ◌+◌, Bool, true, false, List, [], ◌∷◌, ◌++◌, length, Option, Some, None, refl, sym, ap, ◌∙◌, subst}
+use Rattle.std.proofs.Common.{arith, ◌≡◌, ℕ, suc, ◌+◌, Bool, true, false, List, [], ◌++◌, length, Option, refl, sym, ap, ◌∙◌}
 use Rattle.std.proofs.lemmas.List.{length-append}
 use Rattle.vrl_value.specs.declared.value.Tag.{Tag}
 use Rattle.vrl_diag.specs.declared.diagnostic.Span.{Span}
@@ -8,7 +8,9 @@ use Rattle.vrl_state.specs.States.{RootMap}
 use Rattle.vrl_syntax.specs.Tree.{Args, Arms, Closure, Else, Expr, Exprs, Form, Pairs, no_pairs, pair}
 use Rattle.vrl_check.specs.Determined.{EmptiesAreCounted}
 use Rattle.vrl_check.specs.Empties.{args_empties, arms_empties, closure_empties, else_empties, expr_empties, exprs_empties, form_empties, pairs_empties}
-use Rattle.vrl_check.specs.Judgement.{Argument, Judgement, Judges, unreached, reached, Gives, a_literal, an_array, an_object, a_known_root, an_unknown_root, a_query, a_group, a_block, a_conditional, a_negation, an_equality, of_table, a_merge, a_conjunction, a_disjunction, a_coalescing, an_assignment, a_merge_into_nothing, a_merge_assignment, an_error_assignment, a_call_of_nothing, a_call, a_deletion, an_existence, a_return, an_abort, an_abort_with, JudgesBoth, operands, JudgesAll, no_more, one_more, JudgesArguments, no_more_arguments, one_more_argument, JudgesBlock, unreached_block, reached_block, JudgesArms, an_arm, an_else, a_missing_else, JudgesItems, no_more_items, one_more_item, JudgesScript, a_script, banged, pair_values}
+use Rattle.vrl_judge.specs.Rules.{Argument, Judgement, banged}
+use Rattle.vrl_check.specs.Judgement.{pair_values}
+use Rattle.vrl_check.specs.Judgement.{Judges, unreached, reached, Gives, a_literal, an_array, an_object, a_known_root, an_unknown_root, a_query, a_group, a_block, a_conditional, a_negation, an_equality, of_table, a_merge, a_conjunction, a_disjunction, a_coalescing, an_assignment, a_merge_into_nothing, a_merge_assignment, an_error_assignment, a_call_of_nothing, a_call, a_deletion, an_existence, a_return, an_abort, an_abort_with, JudgesBoth, operands, JudgesAll, no_more, one_more, JudgesArguments, no_more_arguments, one_more_argument, JudgesBlock, unreached_block, reached_block, JudgesArms, an_arm, an_else, a_missing_else, JudgesItems, no_more_items, one_more_item, a_script}
 
 -- lists one behind the other
 joined : (a b c : List Tag) → c ≡ a ++ b → length c ≡ length a + length b

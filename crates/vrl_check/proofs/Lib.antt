@@ -12,15 +12,9 @@ pub mod CallsGiven
 pub mod CallsJudged
 pub mod CallsLiterals
 pub mod Capable
-pub mod Containers
 pub mod Determined
 pub mod Emptied
 pub mod Forms
-pub mod Order
-pub mod Parts
 pub mod Partway
-pub mod RootKinds
-pub mod Scalars
 pub mod Sizes
 pub mod Told
-pub mod Ways

@@ -1,57 +1,34 @@
 -- Parts of a list that were judged so far.
 use Rattle.std.proofs.Common.{◌≡◌, ◌≤◌, ◌+◌, ◌<◌, ℕ, List, [], ◌∷◌, ◌++◌, length, drop, get_or, refl, sym, ap, ap₂, ◌∙◌, subst, append_assoc, append-nil, arith}
 use Rattle.std.proofs.lemmas.List.{at_drop_all, at_drop_more, map-append}
-use Rattle.vrl_value.specs.declared.value.Tag.TheVariants as tag
 use Rattle.vrl_kind.specs.Canonical.{never_kind}
 use Rattle.vrl_kind.specs.KindTree.{KindTree}
 use Rattle.vrl_state.specs.States.{IsCutOf, IsRootKind}
 use Rattle.vrl_syntax.specs.Tree.{Else, Expr, Exprs, Form, no_exprs, exprs, Pairs, no_pairs, pair, array, object}
 use Rattle.vrl_syntax.specs.View.{expr_of, exprs_view, pairs_view}
 use Rattle.vrl_syntax.specs.declared.tree.Expr.{Expr as CodeExpr}
-use Rattle.vrl_check.specs.Judgement.{Judgement, Judges, JudgesAll, no_more, one_more, JudgesItems, no_more_items, one_more_item, an_array, an_object, IsScalar, IsThen, array_at, gives, object_at, of_item, pair_names, pair_values, span_of, with_codes}
-use Rattle.vrl_check.specs.Judging.{AreEnds, AreJoinedEnds, CanBeJudged, ElseCanBeJudged, FormCanBeJudged, HasEnds, HasGathered, HasJudged, HaveCommonScopes, IsAnywhereAs, IsItemAs, IsJudgedAs, IsScriptAs, IsSequenceAs, IsSettledAs, ItemsCanBeJudged, PairsCanBeJudged, no_ends}
-use Rattle.vrl_check.specs.declared.checker.Checker.{Checker}
-use Rattle.vrl_check.specs.declared.ends.Ends.{Ends}
-use Rattle.vrl_check.specs.declared.outcome.Outcome.{Outcome}
+use Rattle.vrl_judge.specs.Rules.{Judgement, IsScalar, array_at, gives, object_at, with_codes}
+use Rattle.vrl_check.specs.Judgement.{of_item, pair_names, pair_values, span_of}
+use Rattle.vrl_check.specs.Judgement.{Judges, JudgesAll, no_more, one_more, JudgesItems, no_more_items, one_more_item, an_array, an_object}
+use Rattle.vrl_judge.specs.Judging.{AreEnds, AreJoinedEnds, HasEnds, HasGathered, HasJudged, HaveCommonScopes, IsSettledAs, no_ends}
+use Rattle.vrl_check.specs.Walking.{CanBeJudged, ElseCanBeJudged, FormCanBeJudged, IsAnywhereAs, IsItemAs, IsJudgedAs, IsScriptAs, IsSequenceAs, ItemsCanBeJudged, PairsCanBeJudged}
+use Rattle.vrl_judge.specs.declared.checker.Checker.{Checker}
+use Rattle.vrl_judge.specs.declared.ends.Ends.{Ends}
+use Rattle.vrl_judge.specs.declared.outcome.Outcome.{Outcome}
 use Rattle.vrl_check.proofs.Capable.{first_can, rest_can, values_can, values_size}
-use Rattle.vrl_check.proofs.Containers.{kinds_in, names_in}
-use Rattle.vrl_check.proofs.Parts.{behind_with, ends_behind, ends_in, ends_of, gathered_behind, gathered_none, gathered_of, is_then}
-use Rattle.vrl_check.proofs.RootKinds.{array_root, object_root, scalar_root}
+use Rattle.vrl_judge.proofs.Containers.{kinds_in, names_in}
+use Rattle.vrl_judge.proofs.Parts.{behind_with}
+use Rattle.vrl_judge.proofs.RootKinds.{array_root, object_root, scalar_root}
 use Rattle.vrl_check.proofs.Sizes.{expr_size, exprs_size, pairs_size}
 use Rattle.vrl_check.proofs.Told.{judges_at}
-use Rattle.vrl_check.proofs.Ways.{common, no_ends_are}
+use Rattle.vrl_judge.proofs.Joining.{common}
+use Rattle.vrl_judge.proofs.Gathering.{part_are, part_then, value_ends, value_gathered, with_kind_of}
+use Rattle.vrl_value.specs.declared.value.Tag.TheVariants as tag
 
 -- ---- one part behind others
 
--- the ends of a part stand in the scopes of the whole
-pub part_are : (before now after : Checker) (part : Outcome) (j p : Judgement) → HasGathered before now j → HasJudged now after part p → AreEnds before.state.scopes part.ends
-part_are before now after part j p gathered has = subst (λ s. AreEnds s part.ends) gathered.scopes has.ends.are
-
 pub part_common : (before now after : Checker) (ends : Ends) (part : Outcome) (j p : Judgement) → HasEnds before.state.scopes ends j → HasGathered before now j → HasJudged now after part p → HaveCommonScopes ends part.ends
 part_common before now after ends part j p has_ends gathered has = common before.state.scopes ends part.ends has_ends.are (part_are before now after part j p gathered has)
-
--- what both are in order
-pub record IsAllThen (before after : Checker) (next : Ends) (j p : Judgement) : Type 0 where
-  pub in_order : IsThen j p (behind_with next j p)
-  pub ends : HasEnds before.state.scopes next (behind_with next j p)
-  pub gathered : HasGathered before after (behind_with next j p)
-
-pub part_then : (before now after : Checker) (ends next : Ends) (part : Outcome) (j p : Judgement) → HasEnds before.state.scopes ends j → HasGathered before now j → HasJudged now after part p → AreJoinedEnds ends part.ends next → AreEnds before.state.scopes next
-    → IsAllThen before after next j p
-part_then before now after ends next part j p has_ends gathered has joined are =
-    let ordered = is_then before.state.scopes ends part.ends next j p has_ends (ends_in now.state.scopes before.state.scopes part.ends p gathered.scopes has.ends) joined in
-    record {
-      in_order = ordered;
-      ends = ends_behind before.state.scopes next j p are;
-      gathered = gathered_behind before now after j p (behind_with next j p) gathered has.gathered ordered.behind;
-    }
-
--- nothing was judged yet
-pub value_ends : (before : Checker) (K : KindTree) → HasEnds before.state.scopes no_ends (gives K before.state.known)
-value_ends before K = record { are = no_ends_are before.state.scopes; fail = refl; ret = refl; returned = refl; poisoned = refl }
-
-pub value_gathered : (before : Checker) (K : KindTree) → HasGathered before before (gives K before.state.known)
-value_gathered before K = gathered_none before (gives K before.state.known) refl refl refl
 
 -- what can be judged at one place can be at another
 pub can_at : (before now : Checker) (e : Expr) → now.patterns ≡ before.patterns → CanBeJudged before.patterns.now e → CanBeJudged now.patterns.now e
@@ -112,15 +89,6 @@ next_pair all i e below is = at_drop_more pairs_view all i e below ∙ ap (λ x.
 
 pub no_pair_left : (all : List (List ℕ × CodeExpr)) (i : ℕ) → length all ≤ i → pairs_view (drop i all) ≡ no_pairs
 no_pair_left all i end = at_drop_all pairs_view all i end
-
--- what was judged, with another kind
-pub with_kind_of : (before after : Checker) (ends : Ends) (j : Judgement) (K : KindTree) → HasEnds before.state.scopes ends j → HasGathered before after j → IsRootKind K → HasJudged before after (record { kind = K; ends = ends }) (record j { kind = K })
-with_kind_of before after ends j K has_ends gathered root = record {
-  kind = refl;
-  root = root;
-  ends = ends_of before.state.scopes ends j (record j { kind = K }) has_ends refl refl refl refl;
-  gathered = gathered_of before after j (record j { kind = K }) gathered refl refl refl;
-}
 
 -- ---- arrays
 

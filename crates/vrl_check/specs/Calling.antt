@@ -15,24 +15,25 @@ use Rattle.vrl_kind.specs.Canonical.{never_kind}
 use Rattle.vrl_builtin.specs.Conditions.{AreGiven as AreAllowed}
 use Rattle.vrl_builtin.specs.Rows.{GivenTree, ParameterRow, Row}
 use Rattle.vrl_state.specs.States.{IsRootKind, RootMap}
-use Rattle.vrl_table.specs.Binding.{binding, keywords_of}
+use Rattle.vrl_table.specs.Binding.{binding, keywords_of, path_parameters}
 use Rattle.vrl_table.specs.Table.{row_of}
 use Rattle.vrl_table.specs.declared.binding.BindFault.{BindFault}
-use Rattle.vrl_table.specs.declared.binding.BindFault.TheVariants as fault
 use Rattle.vrl_table.specs.declared.function.Fun.{Fun}
-use Rattle.vrl_check.specs.Branching.{IsOrFail}
+use Rattle.vrl_judge.specs.Branching.{IsOrFail}
 use Rattle.vrl_syntax.specs.Calls.{is_exists}
 use Rattle.vrl_check.specs.Empties.{closure_empties}
-use Rattle.vrl_table.specs.Binding.{path_parameters}
-use Rattle.vrl_check.specs.Judgement.{Argument, AreGiven, Gives, JudgesArguments, IsAnsweredUnless, IsDeletedAt, Judgement, at, banged, behind_arguments, bound, deleted_kind, deleted_path, gives, if_state, is_error, is_fallible, is_known, of_argument, of_call, of_unknown, wants_literal, wants_path}
-use Rattle.vrl_check.specs.Judging.{AreEnds, HasEnds, HasGathered, HasJudged, IsMoved}
-use Rattle.vrl_check.specs.declared.calls.Argument.{Argument as CodeArgument}
+use Rattle.vrl_judge.specs.Rules.{Argument, Judgement, at, banged, gives, if_state, is_error}
+use Rattle.vrl_check.specs.Judgement.{AreGiven, Gives, JudgesArguments, IsAnsweredUnless, IsDeletedAt, behind_arguments, bound, deleted_kind, deleted_path, of_argument, of_call, of_unknown, wants_literal, wants_path}
+use Rattle.vrl_judge.specs.Judging.{AreEnds, HasEnds, HasGathered, HasJudged, IsMoved}
+use Rattle.vrl_judge.specs.declared.calls.Argument.{Argument as CodeArgument}
 use Rattle.vrl_check.specs.declared.calls.Arguments.{Arguments}
 use Rattle.vrl_check.specs.declared.calls.Callee.{Callee}
+use Rattle.vrl_judge.specs.declared.checker.Checker.{Checker}
+use Rattle.vrl_judge.specs.declared.ends.Ends.{Ends}
+use Rattle.vrl_judge.specs.declared.outcome.Outcome.{Outcome}
+use Rattle.vrl_judge.specs.Calling.{told}
+use Rattle.vrl_table.specs.declared.binding.BindFault.TheVariants as fault
 use Rattle.vrl_check.specs.declared.calls.Callee.TheVariants as callee
-use Rattle.vrl_check.specs.declared.checker.Checker.{Checker}
-use Rattle.vrl_check.specs.declared.ends.Ends.{Ends}
-use Rattle.vrl_check.specs.declared.outcome.Outcome.{Outcome}
 
 -- ---- a call
 
@@ -72,10 +73,6 @@ callee_wants callee.Deletion = wants_path
 callee_wants callee.Existence = wants_path
 
 -- ---- arguments that were judged
-
--- what the walk keeps of an argument
-abbrev pub told : Argument → CodeArgument
-told g = record { kind = g.judged.kind; fallible = is_fallible g.judged; known = is_known g.judged }
 
 -- the places of arguments from their keywords on, and their values
 abbrev pub written : Args → List (Span × Expr)
@@ -199,10 +196,6 @@ pub record IsDeletedAs (js : List Argument) (ends : Ends) (before after : Checke
   pub known : IsDeletedAt (deleted_path ends.poisoned js) before.state.known after.state.known
   pub kind : outcome.kind ≡ deleted_kind ends.poisoned js
   pub same : outcome.ends ≡ ends
-
--- a `!` leaves no error
-abbrev pub IsBangedAs : Span → Bool → Outcome → Checker → Checker → Outcome → Type 0
-IsBangedAs span bang part now after outcome = (before : Checker) (j : Judgement) → HasJudged before now part j → HasJudged before after outcome (banged span bang j)
 
 -- a literal stands at this place alone
 abbrev pub alone_at : ℕ → Tree → ℕ → Option Tree

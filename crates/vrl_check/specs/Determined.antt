@@ -3,7 +3,8 @@ use Rattle.std.specs.Prelude.{◌≡◌, ℕ, List, length}
 use Rattle.vrl_kind.specs.KindTree.{KindTree}
 use Rattle.vrl_syntax.specs.Tree.{Exprs}
 use Rattle.vrl_check.specs.Empties.{exprs_empties}
-use Rattle.vrl_check.specs.Judgement.{Judgement, JudgesScript}
+use Rattle.vrl_judge.specs.Rules.{Judgement}
+use Rattle.vrl_check.specs.Judgement.{JudgesScript}
 
 -- two judgements of a script over events of one kind are the same. A call of a function that takes a closure has no judgement where it
 -- is reached, nor has its script

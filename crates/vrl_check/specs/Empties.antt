@@ -2,8 +2,8 @@
 -- call counts too, as it does in a walk of the tree.
 use Rattle.std.specs.Prelude.{List, [], ◌∷◌, ◌++◌}
 use Rattle.vrl_value.specs.declared.value.Tag.{Tag}
-use Rattle.vrl_value.specs.declared.value.Tag.TheVariants as tag
 use Rattle.vrl_syntax.specs.Tree.{Expr, expr, Form, literal, array, object, read, query, group, block, conditional, negation, binary, assign, merge, both, call, return_of, abort_with, Exprs, no_exprs, exprs, Pairs, no_pairs, pair, Arms, no_arms, arm, Else, no_else, else_block, Args, no_args, arg, Closure, no_closure, closure, Message, no_message, message}
+use Rattle.vrl_value.specs.declared.value.Tag.TheVariants as tag
 
 abbrev mutual
   pub expr_empties : Expr → List Tag

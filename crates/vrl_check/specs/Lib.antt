@@ -1,12 +1,7 @@
 pub mod Answer
-pub mod Assigning
-pub mod Branching
 pub mod Calling
 pub mod Calls
 pub mod Determined
 pub mod Empties
 pub mod Judgement
-pub mod Judging
-pub mod Ordered
-pub mod Partners
-pub mod Seen
+pub mod Walking

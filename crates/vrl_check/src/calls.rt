@@ -1,38 +1,35 @@
-ghost use Rattle.std.specs.Prelude.{◌≡◌, ◌≢◌, ◌&&◌, ◌++◌, [], false, true, is_some, length, map, not, option_map, slice_get, IfOk, IfSome, IsSomeAnd, IsTrue, List, MatchOption, OnOk, Option, Some, ℕ};
-ghost use Rattle.std.specs.List.{list_any};
 ghost use Rattle.std.specs.Option.{option_map_or};
+ghost use Rattle.std.specs.Prelude.{[], false, is_some, length, map, not, option_map, slice_get, true, ◌++◌, ◌≡◌, ◌≢◌, IfOk, IfSome, IsSomeAnd, IsTrue, List, MatchOption, OnOk, Option, Some, ℕ};
 ghost use Rattle.vrl_builtin.specs.Conditions.{below_if, literals_below, AreGiven as AreAllowed};
 ghost use Rattle.vrl_builtin.specs.Rows.{literal_at};
-ghost use Rattle.vrl_builtin.specs.TagSets.{allows};
 ghost use Rattle.vrl_builtin.specs.View.{given_tree, givens_of as trees_of_givens, parameter_row};
+ghost use Rattle.vrl_check.specs.Calling.{alone_at, call_args, call_bang, call_closure, call_name, callee_codes, callee_parameters, callee_wants, of_code, of_fault, of_found, places_in, written, AreTold, HasCodes, IsAnsweredAs, IsBoundCallAs, IsCalledAs, IsDeletedAs, IsFound, IsNamed, IsPassedCallAs, IsTold, IsUnknown, MayBeAsked};
+ghost use Rattle.vrl_check.specs.Judgement.{bound as bound_at, deleted_kind, deleted_path, of_argument, of_arguments, of_closure, some_has_others as some_have_others, AreGiven, IsAnswered, IsDeletedAt, IsGiven};
+ghost use Rattle.vrl_check.specs.Walking.{FormCanBeJudged};
 ghost use Rattle.vrl_diag.specs.declared.diagnostic.Span.{Span as SpecSpan};
+ghost use Rattle.vrl_judge.specs.Calling.{told};
+ghost use Rattle.vrl_judge.specs.Judging.{AreEnds, IsMoved, IsReported};
+ghost use Rattle.vrl_judge.specs.Rules.{argument_at as argument_of, at, Argument as JudgedArgument, IsScalar};
 ghost use Rattle.vrl_kind.specs.Canonical.{any_kind};
-ghost use Rattle.vrl_kind.specs.Kinds.{root_tags};
-ghost use Rattle.vrl_kind.specs.Tags.{all_tags};
-ghost use Rattle.vrl_state.specs.States.{IsCutOf, IsRootKind, Scope};
-ghost use Rattle.vrl_syntax.specs.Limits.{args_faults, faults_at};
+ghost use Rattle.vrl_state.specs.States.{IsCutOf, IsRootKind};
+ghost use Rattle.vrl_syntax.specs.Calls.{literal_of, path_of};
+ghost use Rattle.vrl_syntax.specs.Limits.{args_faults};
 ghost use Rattle.vrl_syntax.specs.Regexes.{args_regexes_below, expr_regexes_below};
 ghost use Rattle.vrl_syntax.specs.View.{args_of, args_view, call_of, expr_of};
 ghost use Rattle.vrl_table.specs.Binding.{binding, keywords_of};
 ghost use Rattle.vrl_table.specs.Table.{row_of};
-ghost use Rattle.vrl_table.specs.declared.binding.BindFault.TheVariants as faults;
 ghost use Rattle.vrl_value.specs.View.{tree_of};
+ghost use Rattle.vrl_table.specs.declared.binding.BindFault.TheVariants as faults;
 ghost use Rattle.vrl_value.specs.declared.value.Tag.TheVariants as tags;
-ghost use Rattle.vrl_check.specs.Calling.{alone_at, call_args, call_bang, call_closure, call_name, callee_codes, callee_parameters, callee_wants, of_code, of_fault, of_found, places_in, told, written, AreArgumentsAs, AreTold, HasCodes, IsAnsweredAs, IsBangedAs, IsBoundCallAs, IsCalledAs, IsDeletedAs, IsFound, IsNamed, IsPassedCallAs, IsTold, IsUnknown, MayBeAsked};
-ghost use Rattle.vrl_syntax.specs.Calls.{literal_of, path_of};
-ghost use Rattle.vrl_syntax.specs.ErrorAssignments.{empty_value as value_of_empty};
-ghost use Rattle.vrl_check.specs.Judgement.{argument_at as argument_of, at, bound as bound_at, deleted_kind, deleted_path, has_others as has_tags_beside, is_disjoint as has_no_tag, left_in, of_argument, of_arguments, of_closure, some_has_others as some_have_others, AreGiven, Argument as JudgedArgument, IsAnswered, IsDeleted, IsDeletedAt, IsGiven, IsScalar};
-ghost use Rattle.vrl_check.specs.Judging.{AreEnds, AreJoinedEnds, ArgumentsCanBeJudged, FormCanBeJudged, HaveCommonScopes, IsGivenAs, IsMoved, IsReported};
 
-use crate::assignments::is_needless;
-use crate::checker::Checker;
-use crate::ends::{Ends, either_of};
-use crate::kinds::{empty_value, scalar};
-use crate::outcome::Outcome;
+use crate::empties::pass_closure;
 use std::alloc::Global;
 use vrl_builtin::{Given, Givens, Parameter, Tags, cut_down};
 use vrl_diag::Span;
-use vrl_kind::{Kind, TAGS, cut, has, kind_is_canonical, kind_of};
+use vrl_judge::{
+    Argument, Checker, Ends, Outcome, either_of, is_disjoint, part_has_others, scalar,
+};
+use vrl_kind::{Kind, cut, kind_is_canonical};
 use vrl_path::Path;
 use vrl_pattern::Patterns;
 use vrl_syntax::{Arg, Args, Call, Expr, Form, Root};
@@ -53,21 +50,11 @@ pub(crate) enum Callee {
     Existence,
 }
 
-// What an argument was judged to be.
-#[derive(Drop)]
-pub(crate) struct Argument {
-    kind: Kind,
-    // It may end with an error.
-    fallible: bool,
-    // It can end with a value and has no error of its own.
-    known: bool,
-}
-
 // The arguments of a call that were judged in order.
 #[derive(Drop)]
 pub(crate) struct Arguments {
-    parts: Vec<Argument>,
-    ends: Ends,
+    pub(crate) parts: Vec<Argument>,
+    pub(crate) ends: Ends,
 }
 
 // What a function says of its result before it is called.
@@ -158,389 +145,321 @@ impl Callee {
     }
 }
 
-impl Checker<'_> {
-    // Judges a call. `Memory`: want of memory.
-    #[cycle(judge)]
-    pub(crate) fn call(&mut self, span: Span, call: &Call) -> Result<Outcome, Memory>
-        requires { FormCanBeJudged self.old.patterns.now (call_of call.now) }
-        ensures { IfOk result (λ outcome. IsGivenAs span (call_of call.now) self.old self.new outcome) }
-    {
-        let arguments = self.arguments(&call.args)?;
-        self.called(span, call, arguments)
-    }
-
-    // Judges the arguments of a call in order. `Memory`: want of memory.
-    #[cycle(judge)]
-    fn arguments(&mut self, args: &Args) -> Result<Arguments, Memory>
-        requires { ArgumentsCanBeJudged self.old.patterns.now (args_of args.now) }
-        ensures { IfOk result (λ arguments. AreArgumentsAs (args_of args.now) self.old self.new arguments) }
-    {
-        let mut parts = Vec::new(self.alloc);
-        let mut ends = Ends::none();
-        for arg in args.as_slice() {
-            let part = self.expr(&arg.value)?;
-            let argument = self.argument(&mut ends, part)?;
-            parts.push(argument)?;
+// A call, behind its arguments. Its closure isn't judged. `Memory`: want of memory.
+pub(crate) fn called(
+    checker: &mut Checker<'_>,
+    span: Span,
+    call: &Call,
+    arguments: Arguments,
+) -> Result<Outcome, Memory>
+    requires form { FormCanBeJudged checker.old.patterns.now (call_of call.now) }
+    requires told { IsTold (call_args call.now) arguments.parts.items }
+    requires ends { AreEnds checker.old.state.scopes arguments.ends }
+    ensures { IfOk result (λ outcome. IsCalledAs span (call_of call.now) (call_args call.now) arguments checker.old checker.new outcome) }
+{
+    pass_closure(checker, &call.closure)?;
+    match Callee::of(call.name.as_str()) {
+        Some(callee) => call_of(checker, span, callee, call, arguments),
+        None => {
+            let outcome = call_of_nothing(checker, call.name_span, arguments)?;
+            Ok(outcome)
         }
-        Ok(Arguments { parts, ends })
-    }
-
-    // An argument that was judged last, behind others with these ends. `Memory`: want of memory.
-    fn argument(&self, ends: &mut Ends, part: Outcome) -> Result<Argument, Memory>
-        requires { HaveCommonScopes ends.old part.ends }
-        ensures argument { IfOk result (λ argument. argument ≡ record {
-          kind = part.kind;
-          fallible = is_some part.ends.fail;
-          known = is_some self.now.state.known && not part.ends.poisoned;
-        }) }
-        ensures joined { OnOk result (AreJoinedEnds ends.old part.ends ends.new) }
-        ensures scopes { OnOk result ((scopes : List Scope) → AreEnds scopes ends.old → AreEnds scopes part.ends → AreEnds scopes ends.new) }
-    {
-        let fallible = part.is_fallible();
-        let known = self.is_known(&part);
-        let kind = ends.absorb(self.alloc, part)?;
-        Ok(Argument {
-            kind,
-            fallible,
-            known,
-        })
-    }
-
-    // A call, behind its arguments. Its closure isn't judged. `Memory`: want of memory.
-    fn called(&mut self, span: Span, call: &Call, arguments: Arguments) -> Result<Outcome, Memory>
-        requires form { FormCanBeJudged self.old.patterns.now (call_of call.now) }
-        requires told { IsTold (call_args call.now) arguments.parts.items }
-        requires ends { AreEnds self.old.state.scopes arguments.ends }
-        ensures { IfOk result (λ outcome. IsCalledAs span (call_of call.now) (call_args call.now) arguments self.old self.new outcome) }
-    {
-        self.pass_closure(&call.closure)?;
-        match Callee::of(call.name.as_str()) {
-            Some(callee) => self.call_of(span, callee, call, arguments),
-            None => {
-                let outcome = self.call_of_nothing(call.name_span, arguments)?;
-                Ok(outcome)
-            }
-        }
-    }
-
-    // A function that there isn't is 105.
-    fn call_of_nothing(&mut self, name: Span, arguments: Arguments) -> Result<Outcome, Memory>
-        ensures kind { IfOk result (λ outcome. outcome.kind ≡ any_kind) }
-        ensures reported { IfOk result (λ outcome. IsReported (at 105 name) self.old self.new arguments.ends outcome.ends) }
-    {
-        let mut ends = arguments.ends;
-        self.report(&mut ends, true, 105, name)?;
-        let kind = Kind::any(self.alloc)?;
-        Ok(Outcome { kind, ends })
-    }
-
-    // The same of what there is.
-    fn call_of(
-        &mut self,
-        span: Span,
-        callee: Callee,
-        call: &Call,
-        arguments: Arguments,
-    ) -> Result<Outcome, Memory>
-        requires name { IsNamed (call_name call.now) callee }
-        requires form { FormCanBeJudged self.old.patterns.now (call_of call.now) }
-        requires told { IsTold (call_args call.now) arguments.parts.items }
-        requires ends { AreEnds self.old.state.scopes arguments.ends }
-        ensures { IfOk result (λ outcome. IsPassedCallAs span (call_of call.now) (call_args call.now) (call_closure call.now) arguments self.old self.new outcome) }
-    {
-        let mut arguments = arguments;
-        let bound = self.bound(span, callee, call, &mut arguments)?;
-        let outcome = self.answer(callee, call, &bound, arguments)?;
-        self.banged(span, call.bang, outcome)
-    }
-
-    // The places of a call's arguments, none where they aren't bound, with the call's own codes: one alone where they aren't, and else those
-    // of arguments and closure. `Memory`: want of memory.
-    fn bound(
-        &mut self,
-        span: Span,
-        callee: Callee,
-        call: &Call,
-        arguments: &mut Arguments,
-    ) -> Result<Bound, Memory>
-        ensures places { IfOk result (λ bound. bound ≡ places_in (binding (callee_parameters callee) (keywords_of (call_args call.now)))) }
-        ensures reported { OnOk result ((js : List JudgedArgument) → AreTold (call_args call.now) arguments.old.parts.items js
-            → IsReported (callee_codes callee span (call_args call.now) (call_closure call.now) js)
-            self.old self.new arguments.old.ends arguments.new.ends) }
-        ensures parts { arguments.new.parts ≡ arguments.old.parts }
-    {
-        match bind_to(self.alloc, callee.parameters(), &call.args) {
-            Ok(bound) => {
-                self.bound_codes(span, callee, call, bound.as_slice(), arguments)?;
-                Ok(bound)
-            }
-            Err(fault) => {
-                self.unbound(span, &call.args, fault, &mut arguments.ends)?;
-                Ok(Bound::new(Vec::new(self.alloc)))
-            }
-        }
-    }
-
-    // The codes of a call whose arguments are bound to these places. `Memory`: want of memory.
-    fn bound_codes(
-        &mut self,
-        span: Span,
-        callee: Callee,
-        call: &Call,
-        places: &[Option<usize>],
-        arguments: &mut Arguments,
-    ) -> Result<(), Memory>
-        ensures reported { OnOk result ((js : List JudgedArgument) → AreTold (call_args call.now) arguments.old.parts.items js
-            → IsReported (of_arguments (callee_wants callee) 0 (callee_parameters callee) (bound_at places.now js) ++ of_closure span (call_closure call.now))
-            self.old self.new arguments.old.ends arguments.new.ends) }
-        ensures parts { arguments.new.parts ≡ arguments.old.parts }
-    {
-        self.argument_codes(
-            callee,
-            call.args.as_slice(),
-            places,
-            &arguments.parts,
-            &mut arguments.ends,
-        )?;
-        self.report(&mut arguments.ends, call.closure.is_some(), 1010, span)
-    }
-
-    // The code of a call whose arguments aren't bound. `Memory`: want of memory.
-    fn unbound(
-        &mut self,
-        span: Span,
-        args: &Args,
-        fault: BindFault,
-        ends: &mut Ends,
-    ) -> Result<(), Memory>
-        ensures fault { OnOk result (fault ≢ faults.Memory) }
-        ensures reported { OnOk result ((js : List JudgedArgument) → written (args_of args.now) ≡ map (λ g. (g.span, g.value)) js
-            → IsReported (of_fault span js fault) self.old self.new ends.old ends.new) }
-    {
-        match fault {
-            BindFault::Number => self.report(ends, true, 106, span),
-            BindFault::Unknown(place) => self.report_unknown(ends, args.as_slice(), place),
-            BindFault::Missing(_) => self.report(ends, true, 107, span),
-            BindFault::Memory => Err(Memory),
-        }
-    }
-
-    // A keyword that is no parameter's name is 108.
-    fn report_unknown(&mut self, ends: &mut Ends, args: &[Arg], place: usize) -> Result<(), Memory>
-        ensures { OnOk result (IsReported (option_map_or (λ arg. at 108 arg.span) (slice_get args.now place) []) self.old self.new ends.old ends.new) }
-    {
-        match args.get(place) {
-            Some(arg) => self.report(ends, true, 108, arg.span),
-            None => Ok(()),
-        }
-    }
-
-    // The codes of bound arguments, by their parameters. `Memory`: want of memory.
-    fn argument_codes(
-        &mut self,
-        callee: Callee,
-        args: &[Arg],
-        places: &[Option<usize>],
-        parts: &[Argument],
-        ends: &mut Ends,
-    ) -> Result<(), Memory>
-        ensures { OnOk result ((js : List JudgedArgument) → AreTold (args_view args.now) parts.now js
-            → IsReported (of_arguments (callee_wants callee) 0 (callee_parameters callee) (bound_at places.now js)) self.old self.new ends.old ends.new) }
-    {
-        let parameters = callee.parameters();
-        let mut place = 0;
-        let mut left = parameters;
-        let mut bound = places;
-        while let Some((parameter, others)) = left.split_first() {
-            let Some((argument, rest)) = bound.split_first() else {
-                return Ok(());
-            };
-            let found = argument_at(args, parts, *argument);
-            self.found_code(callee, place, parameter, found, ends)?;
-            place += 1;
-            left = others;
-            bound = rest;
-        }
-        Ok(())
-    }
-
-    // The code of the argument of a parameter, where there is one. `Memory`: want of memory.
-    fn found_code(
-        &mut self,
-        callee: Callee,
-        place: usize,
-        parameter: &Parameter,
-        found: Option<(&Arg, &Argument)>,
-        ends: &mut Ends,
-    ) -> Result<(), Memory>
-        requires { slice_get (callee_parameters callee) place ≡ Some (parameter_row parameter.now) }
-        ensures { OnOk result ((g : Option JudgedArgument) → IsFound g (option_map (λ f. (f.0.now, f.1.now)) found.entry)
-            → IsReported (of_found (callee_wants callee) place (parameter_row parameter.now) g) self.old self.new ends.old ends.new) }
-    {
-        let Some((arg, part)) = found else {
-            return Ok(());
-        };
-        let code = callee.argument_code(self.alloc, place, parameter, &arg.value, part)?;
-        self.report_code(ends, code, arg.value.span)
-    }
-
-    // A code, if there is one. `Memory`: want of memory.
-    fn report_code(&mut self, ends: &mut Ends, code: Option<u16>, span: Span) -> Result<(), Memory>
-        ensures { OnOk result (IsReported (of_code code span) self.old self.new ends.old ends.new) }
-    {
-        match code {
-            Some(code) => self.report(ends, true, code, span),
-            None => Ok(()),
-        }
-    }
-
-    // What is called gives, behind the call's own codes, but for its `!`. `Memory`: want of memory.
-    fn answer(
-        &mut self,
-        callee: Callee,
-        call: &Call,
-        bound: &Bound,
-        arguments: Arguments,
-    ) -> Result<Outcome, Memory>
-        requires name { IsNamed (call_name call.now) callee }
-        requires form { FormCanBeJudged self.old.patterns.now (call_of call.now) }
-        requires codes { HasCodes callee (call_args call.now) (call_closure call.now) arguments bound.now }
-        requires ends { AreEnds self.old.state.scopes arguments.ends }
-        ensures { IfOk result (λ outcome. (span : SpecSpan) → IsBoundCallAs callee span (call_of call.now) (call_bang call.now) (call_args call.now)
-            (call_closure call.now) arguments self.old self.new outcome) }
-    {
-        match callee {
-            Callee::Function(function) => {
-                let outcome = self.answered(function, &call.args, bound, arguments)?;
-                Ok(outcome)
-            }
-            Callee::Deletion => {
-                let outcome = self.deleted(&call.args, arguments)?;
-                Ok(outcome)
-            }
-            Callee::Existence => {
-                let outcome = self.existing(arguments)?;
-                Ok(outcome)
-            }
-        }
-    }
-
-    // What a function answers to arguments without code, whose places these are: it may fail, or the kind of one may not be within its
-    // parameter's. `Memory`: want of memory.
-    fn answered(
-        &mut self,
-        function: Fun,
-        args: &Args,
-        bound: &Bound,
-        arguments: Arguments,
-    ) -> Result<Outcome, Memory>
-        requires asked { arguments.ends.poisoned ≡ false → MayBeAsked (row_of function) (args_of args.now) arguments.parts.items bound.now }
-        requires regexes { args_regexes_below (length self.old.patterns.now) (args_of args.now) ≡ true }
-        requires ends { AreEnds self.old.state.scopes arguments.ends }
-        ensures answered { IfOk result (λ outcome. (js : List JudgedArgument) → AreTold (args_of args.now) arguments.parts.items js
-            → IsAnsweredAs function (bound_at bound.now js) arguments.ends self.old outcome) }
-        ensures checker { self.new ≡ self.old }
-    {
-        let Arguments { parts, mut ends } = arguments;
-        if ends.poisoned {
-            let kind = Kind::any(self.alloc)?;
-            return Ok(Outcome { kind, ends });
-        }
-        let Answer { kind, fails } = ask(
-            self.alloc,
-            function,
-            bound.as_slice(),
-            args.as_slice(),
-            &parts,
-            self.patterns,
-        )?;
-        self.fail_if(&mut ends, fails)?;
-        Ok(Outcome { kind, ends })
-    }
-
-    // `del`, behind its argument: what stands at the path is taken out.
-    fn deleted(&mut self, args: &Args, arguments: Arguments) -> Result<Outcome, Memory>
-        requires { args_faults true (args_of args.now) ≡ [] }
-        ensures { IfOk result (λ outcome. (js : List JudgedArgument) → AreTold (args_of args.now) arguments.parts.items js
-            → IsDeletedAs js arguments.ends self.old self.new outcome) }
-    {
-        let Arguments { parts, ends } = arguments;
-        if ends.poisoned {
-            let kind = Kind::any(self.alloc)?;
-            return Ok(Outcome { kind, ends });
-        }
-        self.take_out_at(args.as_slice())?;
-        let kind = only_kind(self.alloc, parts)?;
-        Ok(Outcome { kind, ends })
-    }
-
-    // Takes out what stands at the one argument, if it is a path. `Memory`: want of memory.
-    fn take_out_at(&mut self, args: &[Arg]) -> Result<(), Memory>
-        requires { args_faults true (args_view args.now) ≡ [] }
-        ensures known { OnOk result ((js : List JudgedArgument) → written (args_view args.now) ≡ map (λ g. (g.span, g.value)) js
-            → IsDeletedAt (deleted_path false js) self.old.state.known self.new.state.known) }
-        ensures others { IsMoved self.old self.new }
-    {
-        let Some((arg, others)) = args.split_first() else {
-            return Ok(());
-        };
-        if !others.is_empty() {
-            return Ok(());
-        }
-        match path(&arg.value) {
-            Some((root, path)) => self.take_out(root, path),
-            None => Ok(()),
-        }
-    }
-
-    // Takes out what stands at a path; a root keeps what is left in it. `Memory`: want of memory.
-    fn take_out(&mut self, root: &Root, path: &Path) -> Result<(), Memory>
-        requires { (span : SpecSpan) × (faults_at span path.now ≡ []) }
-        ensures known { OnOk result (IsDeleted root.now path.now self.old.state.known self.new.state.known) }
-        ensures others { IsMoved self.old self.new }
-    {
-        if !path.as_slice().is_empty() {
-            return self.state.remove(self.alloc, root, path);
-        }
-        let left = empty_value(self.alloc, left_tag(root))?;
-        let kind = kind_of(self.alloc, &left)?;
-        kind_is_canonical(&kind);
-        self.state.assign(self.alloc, root, path, &kind)
-    }
-
-    // `exists`, behind its argument.
-    fn existing(&self, arguments: Arguments) -> Result<Outcome, Memory>
-        ensures kind { IfOk result (λ outcome. IsScalar tags.Bool outcome.kind) }
-        ensures ends { IfOk result (λ outcome. outcome.ends ≡ arguments.ends) }
-    {
-        let ends = arguments.ends;
-        let kind = scalar(self.alloc, Tag::Bool)?;
-        Ok(Outcome { kind, ends })
-    }
-
-    // A `!` leaves no error, and of a call that can't end with one it is 620.
-    fn banged(&mut self, span: Span, bang: bool, call: Outcome) -> Result<Outcome, Memory>
-        ensures { IfOk result (λ outcome. IsBangedAs span bang call self.old self.new outcome) }
-    {
-        let mut call = call;
-        if !bang {
-            return Ok(call);
-        }
-        let needless = is_needless(&call.ends);
-        self.report(&mut call.ends, needless, 620, span)?;
-        call.ends.fail = None;
-        Ok(call)
     }
 }
 
-// The tag of what a `del` leaves in a root.
-fn left_tag(root: &Root) -> Tag
-    ensures { value_of_empty result ≡ left_in root.now }
+// A function that there isn't is 105.
+fn call_of_nothing(
+    checker: &mut Checker<'_>,
+    name: Span,
+    arguments: Arguments,
+) -> Result<Outcome, Memory>
+    ensures kind { IfOk result (λ outcome. outcome.kind ≡ any_kind) }
+    ensures reported { IfOk result (λ outcome. IsReported (at 105 name) checker.old checker.new arguments.ends outcome.ends) }
 {
-    match root {
-        Root::Event => Tag::Object,
-        Root::Name(_) => Tag::Null,
+    let mut ends = arguments.ends;
+    checker.report(&mut ends, true, 105, name)?;
+    let kind = Kind::any(checker.alloc)?;
+    Ok(Outcome { kind, ends })
+}
+
+// The same of what there is.
+fn call_of(
+    checker: &mut Checker<'_>,
+    span: Span,
+    callee: Callee,
+    call: &Call,
+    arguments: Arguments,
+) -> Result<Outcome, Memory>
+    requires name { IsNamed (call_name call.now) callee }
+    requires form { FormCanBeJudged checker.old.patterns.now (call_of call.now) }
+    requires told { IsTold (call_args call.now) arguments.parts.items }
+    requires ends { AreEnds checker.old.state.scopes arguments.ends }
+    ensures { IfOk result (λ outcome. IsPassedCallAs span (call_of call.now) (call_args call.now) (call_closure call.now) arguments checker.old checker.new outcome) }
+{
+    let mut arguments = arguments;
+    let bound = bound(checker, span, callee, call, &mut arguments)?;
+    let outcome = answer_call(checker, callee, call, &bound, arguments)?;
+    checker.banged(span, call.bang, outcome)
+}
+
+// The places of a call's arguments, none where they aren't bound, with the call's own codes: one alone where they aren't, and else those
+// of arguments and closure. `Memory`: want of memory.
+fn bound(
+    checker: &mut Checker<'_>,
+    span: Span,
+    callee: Callee,
+    call: &Call,
+    arguments: &mut Arguments,
+) -> Result<Bound, Memory>
+    ensures places { IfOk result (λ bound. bound ≡ places_in (binding (callee_parameters callee) (keywords_of (call_args call.now)))) }
+    ensures reported { OnOk result ((js : List JudgedArgument) → AreTold (call_args call.now) arguments.old.parts.items js
+        → IsReported (callee_codes callee span (call_args call.now) (call_closure call.now) js)
+        checker.old checker.new arguments.old.ends arguments.new.ends) }
+    ensures parts { arguments.new.parts ≡ arguments.old.parts }
+{
+    match bind_to(checker.alloc, callee.parameters(), &call.args) {
+        Ok(bound) => {
+            bound_codes(checker, span, callee, call, bound.as_slice(), arguments)?;
+            Ok(bound)
+        }
+        Err(fault) => {
+            unbound(checker, span, &call.args, fault, &mut arguments.ends)?;
+            Ok(Bound::new(Vec::new(checker.alloc)))
+        }
     }
+}
+
+// The codes of a call whose arguments are bound to these places. `Memory`: want of memory.
+fn bound_codes(
+    checker: &mut Checker<'_>,
+    span: Span,
+    callee: Callee,
+    call: &Call,
+    places: &[Option<usize>],
+    arguments: &mut Arguments,
+) -> Result<(), Memory>
+    ensures reported { OnOk result ((js : List JudgedArgument) → AreTold (call_args call.now) arguments.old.parts.items js
+        → IsReported (of_arguments (callee_wants callee) 0 (callee_parameters callee) (bound_at places.now js) ++ of_closure span (call_closure call.now))
+        checker.old checker.new arguments.old.ends arguments.new.ends) }
+    ensures parts { arguments.new.parts ≡ arguments.old.parts }
+{
+    argument_codes(
+        checker,
+        callee,
+        call.args.as_slice(),
+        places,
+        &arguments.parts,
+        &mut arguments.ends,
+    )?;
+    checker.report(&mut arguments.ends, call.closure.is_some(), 1010, span)
+}
+
+// The code of a call whose arguments aren't bound. `Memory`: want of memory.
+fn unbound(
+    checker: &mut Checker<'_>,
+    span: Span,
+    args: &Args,
+    fault: BindFault,
+    ends: &mut Ends,
+) -> Result<(), Memory>
+    ensures fault { OnOk result (fault ≢ faults.Memory) }
+    ensures reported { OnOk result ((js : List JudgedArgument) → written (args_of args.now) ≡ map (λ g. (g.span, g.value)) js
+        → IsReported (of_fault span js fault) checker.old checker.new ends.old ends.new) }
+{
+    match fault {
+        BindFault::Number => checker.report(ends, true, 106, span),
+        BindFault::Unknown(place) => report_unknown(checker, ends, args.as_slice(), place),
+        BindFault::Missing(_) => checker.report(ends, true, 107, span),
+        BindFault::Memory => Err(Memory),
+    }
+}
+
+// A keyword that is no parameter's name is 108.
+fn report_unknown(
+    checker: &mut Checker<'_>,
+    ends: &mut Ends,
+    args: &[Arg],
+    place: usize,
+) -> Result<(), Memory>
+    ensures { OnOk result (IsReported (option_map_or (λ arg. at 108 arg.span) (slice_get args.now place) []) checker.old checker.new ends.old ends.new) }
+{
+    match args.get(place) {
+        Some(arg) => checker.report(ends, true, 108, arg.span),
+        None => Ok(()),
+    }
+}
+
+// The codes of bound arguments, by their parameters. `Memory`: want of memory.
+fn argument_codes(
+    checker: &mut Checker<'_>,
+    callee: Callee,
+    args: &[Arg],
+    places: &[Option<usize>],
+    parts: &[Argument],
+    ends: &mut Ends,
+) -> Result<(), Memory>
+    ensures { OnOk result ((js : List JudgedArgument) → AreTold (args_view args.now) parts.now js
+        → IsReported (of_arguments (callee_wants callee) 0 (callee_parameters callee) (bound_at places.now js)) checker.old checker.new ends.old ends.new) }
+{
+    let parameters = callee.parameters();
+    let mut place = 0;
+    let mut left = parameters;
+    let mut bound = places;
+    while let Some((parameter, others)) = left.split_first() {
+        let Some((argument, rest)) = bound.split_first() else {
+            return Ok(());
+        };
+        let found = argument_at(args, parts, *argument);
+        found_code(checker, callee, place, parameter, found, ends)?;
+        place += 1;
+        left = others;
+        bound = rest;
+    }
+    Ok(())
+}
+
+// The code of the argument of a parameter, where there is one. `Memory`: want of memory.
+fn found_code(
+    checker: &mut Checker<'_>,
+    callee: Callee,
+    place: usize,
+    parameter: &Parameter,
+    found: Option<(&Arg, &Argument)>,
+    ends: &mut Ends,
+) -> Result<(), Memory>
+    requires { slice_get (callee_parameters callee) place ≡ Some (parameter_row parameter.now) }
+    ensures { OnOk result ((g : Option JudgedArgument) → IsFound g (option_map (λ f. (f.0.now, f.1.now)) found.entry)
+        → IsReported (of_found (callee_wants callee) place (parameter_row parameter.now) g) checker.old checker.new ends.old ends.new) }
+{
+    let Some((arg, part)) = found else {
+        return Ok(());
+    };
+    let code = callee.argument_code(checker.alloc, place, parameter, &arg.value, part)?;
+    report_code(checker, ends, code, arg.value.span)
+}
+
+// A code, if there is one. `Memory`: want of memory.
+fn report_code(
+    checker: &mut Checker<'_>,
+    ends: &mut Ends,
+    code: Option<u16>,
+    span: Span,
+) -> Result<(), Memory>
+    ensures { OnOk result (IsReported (of_code code span) checker.old checker.new ends.old ends.new) }
+{
+    match code {
+        Some(code) => checker.report(ends, true, code, span),
+        None => Ok(()),
+    }
+}
+
+// What is called gives, behind the call's own codes, but for its `!`. `Memory`: want of memory.
+fn answer_call(
+    checker: &mut Checker<'_>,
+    callee: Callee,
+    call: &Call,
+    bound: &Bound,
+    arguments: Arguments,
+) -> Result<Outcome, Memory>
+    requires name { IsNamed (call_name call.now) callee }
+    requires form { FormCanBeJudged checker.old.patterns.now (call_of call.now) }
+    requires codes { HasCodes callee (call_args call.now) (call_closure call.now) arguments bound.now }
+    requires ends { AreEnds checker.old.state.scopes arguments.ends }
+    ensures { IfOk result (λ outcome. (span : SpecSpan) → IsBoundCallAs callee span (call_of call.now) (call_bang call.now) (call_args call.now)
+        (call_closure call.now) arguments checker.old checker.new outcome) }
+{
+    match callee {
+        Callee::Function(function) => {
+            let outcome = answered(checker, function, &call.args, bound, arguments)?;
+            Ok(outcome)
+        }
+        Callee::Deletion => {
+            let outcome = deleted(checker, &call.args, arguments)?;
+            Ok(outcome)
+        }
+        Callee::Existence => {
+            let outcome = existing(checker, arguments)?;
+            Ok(outcome)
+        }
+    }
+}
+
+// What a function answers to arguments without code, whose places these are: it may fail, or the kind of one may not be within its
+// parameter's. `Memory`: want of memory.
+fn answered(
+    checker: &mut Checker<'_>,
+    function: Fun,
+    args: &Args,
+    bound: &Bound,
+    arguments: Arguments,
+) -> Result<Outcome, Memory>
+    requires asked { arguments.ends.poisoned ≡ false → MayBeAsked (row_of function) (args_of args.now) arguments.parts.items bound.now }
+    requires regexes { args_regexes_below (length checker.old.patterns.now) (args_of args.now) ≡ true }
+    requires ends { AreEnds checker.old.state.scopes arguments.ends }
+    ensures answered { IfOk result (λ outcome. (js : List JudgedArgument) → AreTold (args_of args.now) arguments.parts.items js
+        → IsAnsweredAs function (bound_at bound.now js) arguments.ends checker.old outcome) }
+    ensures checker { checker.new ≡ checker.old }
+{
+    let Arguments { parts, mut ends } = arguments;
+    if ends.poisoned {
+        let kind = Kind::any(checker.alloc)?;
+        return Ok(Outcome { kind, ends });
+    }
+    let Answer { kind, fails } = ask(
+        checker.alloc,
+        function,
+        bound.as_slice(),
+        args.as_slice(),
+        &parts,
+        checker.patterns,
+    )?;
+    checker.fail_if(&mut ends, fails)?;
+    Ok(Outcome { kind, ends })
+}
+
+// `del`, behind its argument: what stands at the path is taken out.
+fn deleted(checker: &mut Checker<'_>, args: &Args, arguments: Arguments) -> Result<Outcome, Memory>
+    requires { args_faults true (args_of args.now) ≡ [] }
+    ensures { IfOk result (λ outcome. (js : List JudgedArgument) → AreTold (args_of args.now) arguments.parts.items js
+        → IsDeletedAs js arguments.ends checker.old checker.new outcome) }
+{
+    let Arguments { parts, ends } = arguments;
+    if ends.poisoned {
+        let kind = Kind::any(checker.alloc)?;
+        return Ok(Outcome { kind, ends });
+    }
+    take_out_at(checker, args.as_slice())?;
+    let kind = only_kind(checker.alloc, parts)?;
+    Ok(Outcome { kind, ends })
+}
+
+// Takes out what stands at the one argument, if it is a path. `Memory`: want of memory.
+fn take_out_at(checker: &mut Checker<'_>, args: &[Arg]) -> Result<(), Memory>
+    requires { args_faults true (args_view args.now) ≡ [] }
+    ensures known { OnOk result ((js : List JudgedArgument) → written (args_view args.now) ≡ map (λ g. (g.span, g.value)) js
+        → IsDeletedAt (deleted_path false js) checker.old.state.known checker.new.state.known) }
+    ensures others { IsMoved checker.old checker.new }
+{
+    let Some((arg, others)) = args.split_first() else {
+        return Ok(());
+    };
+    if !others.is_empty() {
+        return Ok(());
+    }
+    match path(&arg.value) {
+        Some((root, path)) => checker.take_out(root, path),
+        None => Ok(()),
+    }
+}
+
+// `exists`, behind its argument.
+fn existing(checker: &Checker<'_>, arguments: Arguments) -> Result<Outcome, Memory>
+    ensures kind { IfOk result (λ outcome. IsScalar tags.Bool outcome.kind) }
+    ensures ends { IfOk result (λ outcome. outcome.ends ≡ arguments.ends) }
+{
+    let ends = arguments.ends;
+    let kind = scalar(checker.alloc, Tag::Bool)?;
+    Ok(Outcome { kind, ends })
 }
 
 // The kind of the one argument; any where there is another number. `Memory`: want of memory.
@@ -584,31 +503,6 @@ fn literal(value: &Expr) -> Option<&Value>
     }
 }
 
-// Whether no tag of the kind is one of these.
-#[tactic(auto, unfolding(crate::specs::Judgement::is_disjoint))]
-fn is_disjoint(tags: &Tags, kind: &Kind) -> bool
-    ensures { result ≡ has_no_tag tags.now kind.now }
-{
-    !has_some(tags, kind)
-}
-
-// Whether some tag of the kind is one of these.
-fn has_some(tags: &Tags, kind: &Kind) -> bool
-    ensures { result ≡ list_any (λ t. root_tags kind.now t && allows tags.now t) all_tags }
-{
-    TAGS.iter()
-        .any(|tag| has(kind, *tag) && tags.contains(*tag))
-}
-
-// Whether some tag of the kind is none of these.
-#[tactic(auto, unfolding(crate::specs::Judgement::has_others))]
-fn has_others(tags: &Tags, kind: &Kind) -> bool
-    ensures { result ≡ has_tags_beside tags.now kind.now }
-{
-    TAGS.iter()
-        .any(|tag| has(kind, *tag) && !tags.contains(*tag))
-}
-
 // The argument at a place, with what it was judged to be. None: there is none.
 fn argument_at<'a>(
     args: &'a [Arg],
@@ -641,20 +535,6 @@ fn some_has_others(parameters: &[Parameter], places: &[Option<usize>], parts: &[
         bound = rest;
     }
     false
-}
-
-// The same of one argument.
-fn part_has_others(parameter: &Parameter, place: Option<usize>, parts: &[Argument]) -> bool
-    ensures { (js : List JudgedArgument) → parts.now ≡ map told js
-        → result ≡ option_map_or (λ g. has_tags_beside parameter.now.allowed g.judged.kind) (argument_of js place) false }
-{
-    match place {
-        Some(place) => match parts.get(place) {
-            Some(part) => has_others(&parameter.allowed, &part.kind),
-            None => false,
-        },
-        None => false,
-    }
 }
 
 // What a function is asked about: of each argument its kind, cut down to the tags that its parameter allows, and its value where it is

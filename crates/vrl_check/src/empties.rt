@@ -1,40 +1,40 @@
-ghost use Rattle.std.specs.Prelude.{◌≡◌, ◌++◌, option_map, IfOk, OnOk};
-ghost use Rattle.vrl_syntax.specs.View.{args_of, arms_of, call_of, closure_in, closure_of, expr_of, exprs_of, pairs_of};
+ghost use Rattle.std.specs.Prelude.{option_map, ◌++◌, ◌≡◌, IfOk, OnOk};
 ghost use Rattle.vrl_check.specs.Empties.{args_empties, arms_empties, closure_empties, expr_empties, exprs_empties, form_empties, pairs_empties};
-ghost use Rattle.vrl_check.specs.Judgement.{nothing};
-ghost use Rattle.vrl_check.specs.Judging.{HasJudged};
+ghost use Rattle.vrl_judge.specs.Judging.{HasJudged};
+ghost use Rattle.vrl_judge.specs.Rules.{nothing};
+ghost use Rattle.vrl_syntax.specs.View.{args_of, arms_of, call_of, closure_in, closure_of, expr_of, exprs_of, pairs_of};
 
-use crate::checker::Checker;
-use crate::outcome::Outcome;
+use vrl_judge::{Checker, Outcome};
 use vrl_syntax::{Args, Arms, Call, Closure, Expr, Exprs, Form, Pairs};
 use vrl_value::{Memory, Tag};
 
-impl Checker<'_> {
-    // What isn't judged gives nothing but its empty values, and the state stays. `Memory`: want of memory.
-    pub(crate) fn pass(&mut self, expr: &Expr) -> Result<Outcome, Memory>
-        ensures { IfOk result (λ outcome. HasJudged self.old self.new outcome (record (nothing (expr_empties (expr_of expr.now))) { ok = self.old.state.known })) }
-    {
-        add_expr(expr, &mut self.empties)?;
-        Outcome::nothing(self.alloc)
-    }
+// What isn't judged gives nothing but its empty values, and the state stays. `Memory`: want of memory.
+pub(crate) fn pass(checker: &mut Checker<'_>, expr: &Expr) -> Result<Outcome, Memory>
+    ensures { IfOk result (λ outcome. HasJudged checker.old checker.new outcome (record (nothing (expr_empties (expr_of expr.now))) { ok = checker.old.state.known })) }
+{
+    add_expr(expr, &mut checker.empties)?;
+    Outcome::nothing(checker.alloc)
+}
 
-    // The same of items. `Memory`: want of memory.
-    pub(crate) fn pass_items(&mut self, items: &Exprs) -> Result<Outcome, Memory>
-        ensures { IfOk result (λ outcome. HasJudged self.old self.new outcome (record (nothing (exprs_empties (exprs_of items.now))) { ok = self.old.state.known })) }
-    {
-        add_exprs(items, &mut self.empties)?;
-        Outcome::nothing(self.alloc)
-    }
+// The same of items. `Memory`: want of memory.
+pub(crate) fn pass_items(checker: &mut Checker<'_>, items: &Exprs) -> Result<Outcome, Memory>
+    ensures { IfOk result (λ outcome. HasJudged checker.old checker.new outcome (record (nothing (exprs_empties (exprs_of items.now))) { ok = checker.old.state.known })) }
+{
+    add_exprs(items, &mut checker.empties)?;
+    Outcome::nothing(checker.alloc)
+}
 
-    // The same of a closure that isn't judged. `Memory`: want of memory.
-    pub(crate) fn pass_closure(&mut self, closure: &Option<Closure>) -> Result<(), Memory>
-        ensures empties { OnOk result (self.new.empties.items ≡ self.old.empties.items ++ closure_empties (closure_in (option_map closure_of closure.now))) }
-        ensures others { OnOk result (self.new ≡ record self.old { empties = self.new.empties }) }
-    {
-        match closure {
-            Some(closure) => add_exprs(&closure.body, &mut self.empties),
-            None => Ok(()),
-        }
+// The same of a closure that isn't judged. `Memory`: want of memory.
+pub(crate) fn pass_closure(
+    checker: &mut Checker<'_>,
+    closure: &Option<Closure>,
+) -> Result<(), Memory>
+    ensures empties { OnOk result (checker.new.empties.items ≡ checker.old.empties.items ++ closure_empties (closure_in (option_map closure_of closure.now))) }
+    ensures others { OnOk result (checker.new ≡ record checker.old { empties = checker.new.empties }) }
+{
+    match closure {
+        Some(closure) => add_exprs(&closure.body, &mut checker.empties),
+        None => Ok(()),
     }
 }
 

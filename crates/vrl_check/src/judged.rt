@@ -1,5 +1,5 @@
-use crate::ends::Returned;
 use vrl_diag::Diagnostics;
+use vrl_judge::Returned;
 use vrl_kind::Kind;
 use vrl_state::{Branch, Known, Knowns};
 use vrl_syntax::Empties;

@@ -4,25 +4,15 @@
 //! a value, with an error and with a return.
 #![tactic(auto)]
 
-mod assignments;
-mod branches;
 mod calls;
-mod checker;
 mod closures;
 mod empties;
-mod ends;
-mod items;
 mod judged;
-mod kinds;
 mod laws;
-mod operators;
-mod outcome;
 mod script;
-mod tables;
-mod values;
+mod walk;
 
 pub use closures::holds_closure_call;
-pub use ends::Returned;
 pub use judged::{Ending, Judged};
 pub use laws::{empties_are_counted, judgements_are_determined};
 pub use script::{check, ending};

@@ -1,24 +1,25 @@
-ghost use Rattle.std.specs.Prelude.{◌≡◌, false, true, length, None, IfOk};
+ghost use Rattle.std.specs.Prelude.{false, length, true, ◌≡◌, IfOk, None};
+ghost use Rattle.vrl_check.specs.Answer.{IsEnding, IsJudged};
+ghost use Rattle.vrl_check.specs.Calls.{exprs_hold_closure_call};
+ghost use Rattle.vrl_check.specs.Judgement.{JudgesScript};
+ghost use Rattle.vrl_check.specs.Walking.{CanBeJudged, IsItemAs, IsScriptAs, ItemsCanBeJudged};
+ghost use Rattle.vrl_judge.specs.Rules.{Judgement};
 ghost use Rattle.vrl_kind.specs.Canonical.{allows_absent};
 ghost use Rattle.vrl_state.specs.Known.{known_as, HaveRootKinds};
 ghost use Rattle.vrl_syntax.specs.Limits.{KeepsLimits};
 ghost use Rattle.vrl_syntax.specs.Regexes.{exprs_regexes_below};
-ghost use Rattle.vrl_syntax.specs.View.{exprs_of};
-ghost use Rattle.vrl_check.specs.Answer.{IsEnding, IsJudged};
-ghost use Rattle.vrl_check.specs.Calls.{exprs_hold_closure_call};
-ghost use Rattle.vrl_check.specs.Judgement.{JudgesScript, Judgement};
-ghost use Rattle.vrl_check.specs.Ordered.{AreOrdered};
+ghost use Rattle.vrl_syntax.specs.View.{expr_of, exprs_of};
 
-use crate::checker::Checker;
 use crate::judged::{Ending, Judged};
-use crate::kinds::either;
+use crate::walk::expr;
 use std::alloc::Global;
-use vrl_diag::{Diagnostic, Diagnostics};
+use vrl_diag::Diagnostics;
+use vrl_judge::{Checker, Outcome, either, ordered, scalar};
 use vrl_kind::Kind;
 use vrl_pattern::Patterns;
 use vrl_state::{Branch, Knowns, State};
-use vrl_syntax::{Empties, Script};
-use vrl_value::Memory;
+use vrl_syntax::{Empties, Expr, Exprs, Script};
+use vrl_value::{Memory, Tag};
 
 /// Judges a script over events of a kind. `patterns` are its regex literals, one for each of its sources, and each regex in it is one of
 /// them. It calls no function that takes a closure, which [`holds_closure_call`](crate::holds_closure_call) tells. It walks the script
@@ -44,7 +45,7 @@ pub fn check(
         diagnostics: Vec::new(alloc),
         empties: Vec::new(alloc),
     };
-    let outcome = checker.script(&script.items)?;
+    let outcome = script_items(&mut checker, &script.items)?;
     let diagnostics = ordered(checker.diagnostics)?;
     let (ok, none) = split(alloc, checker.state)?;
     Ok(Judged {
@@ -58,13 +59,28 @@ pub fn check(
     })
 }
 
-// Codes by start, end and code. `Memory`: want of memory.
-fn ordered(diagnostics: Vec<Diagnostic>) -> Result<Vec<Diagnostic>, Memory>
-    ensures { IfOk result (λ ordered. AreOrdered diagnostics.items ordered.items) }
+// Judges the items of a script. `Memory`: want of memory.
+fn script_items(checker: &mut Checker<'_>, items: &Exprs) -> Result<Outcome, Memory>
+    requires { ItemsCanBeJudged checker.old.patterns.now (exprs_of items.now) }
+    ensures { IfOk result (λ outcome. IsScriptAs (exprs_of items.now) checker.old checker.new outcome) }
 {
-    let mut diagnostics = diagnostics;
-    diagnostics.sort_by_key(|d: &Diagnostic| (d.span.start, d.span.end, d.code))?;
-    Ok(diagnostics)
+    let mut last = Outcome::value(scalar(checker.alloc, Tag::Null)?);
+    for item in items.as_slice() {
+        let part = script_item(checker, item)?;
+        last.go_on(checker.alloc, part)?;
+    }
+    checker.settled(last)
+}
+
+// An item of the script itself that may fail is 100.
+fn script_item(checker: &mut Checker<'_>, item: &Expr) -> Result<Outcome, Memory>
+    requires { CanBeJudged checker.old.patterns.now (expr_of item.now) }
+    ensures { IfOk result (λ outcome. IsItemAs (expr_of item.now) checker.old checker.new outcome) }
+{
+    let part = expr(checker, item)?;
+    let fallible = part.is_fallible();
+    let outcome = checker.reported(part, fallible, 100, item.span)?;
+    Ok(outcome)
 }
 
 // The state as a branch, and a dead one beside it. `Memory`: want of memory.

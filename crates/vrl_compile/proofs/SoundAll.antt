@@ -7,7 +7,8 @@ use Rattle.vrl_kind.specs.KindTree.{KindTree}
 use Rattle.vrl_state.specs.States.{RootMap}
 use Rattle.vrl_builtin.specs.Rows.{SettingTree}
 use Rattle.vrl_check.specs.Empties.{closure_empties, expr_empties, exprs_empties}
-use Rattle.vrl_check.specs.Judgement.{Argument, Judgement, Judges, unreached, reached, Gives, a_literal, an_array, an_object, a_known_root, an_unknown_root, a_query, a_group, a_block, a_conditional, a_negation, an_equality, of_table, a_merge, a_conjunction, a_disjunction, a_coalescing, an_assignment, a_merge_into_nothing, a_merge_assignment, an_error_assignment, a_call_of_nothing, a_call, a_deletion, an_existence, a_return, an_abort, an_abort_with, operands, JudgesAll, no_more, one_more, JudgesArguments, no_more_arguments, one_more_argument, JudgesBlock, unreached_block, reached_block, JudgesArms, an_arm, an_else, a_missing_else, nothing, settle}
+use Rattle.vrl_judge.specs.Rules.{Argument, Judgement, nothing, settle}
+use Rattle.vrl_check.specs.Judgement.{Judges, unreached, reached, Gives, a_literal, an_array, an_object, a_known_root, an_unknown_root, a_query, a_group, a_block, a_conditional, a_negation, an_equality, of_table, a_merge, a_conjunction, a_disjunction, a_coalescing, an_assignment, a_merge_into_nothing, a_merge_assignment, an_error_assignment, a_call_of_nothing, a_call, a_deletion, an_existence, a_return, an_abort, an_abort_with, operands, JudgesAll, no_more, one_more, JudgesArguments, no_more_arguments, one_more_argument, JudgesBlock, unreached_block, reached_block, JudgesArms, an_arm, an_else, a_missing_else}
 use Rattle.vrl_compile.specs.Sound.{ExpressionsAreSound}
 use Rattle.vrl_compile.proofs.SoundBlocks.{block_is_sound, conditional_is_sound, reached_block_is_sound, sound_arm, sound_else, sound_missing_else, unreached_block_is_sound, AreSoundArms, IsSoundBlock}
 use Rattle.vrl_compile.proofs.SoundCalls.{call_is_sound, call_of_nothing_is_sound}

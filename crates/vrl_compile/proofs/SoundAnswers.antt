@@ -8,8 +8,9 @@ use Rattle.vrl_state.specs.Stores.{Store}
 use Rattle.vrl_builtin.specs.Rows.{SettingTree}
 use Rattle.vrl_store.specs.Outcomes.{Ended, Outcome, value, error, returned}
 use Rattle.vrl_store.specs.WellFormed.{IsWellFormed}
-use Rattle.vrl_check.specs.Answer.{IsJudged, return_state, returning}
-use Rattle.vrl_check.specs.Judgement.{Judgement}
+use Rattle.vrl_check.specs.Answer.{IsJudged}
+use Rattle.vrl_judge.specs.Returns.{return_state, returning}
+use Rattle.vrl_judge.specs.Rules.{Judgement}
 use Rattle.vrl_check.specs.declared.judged.Judged.{Judged}
 use Rattle.vrl_resolve.specs.Meaning.{IsUnhandled}
 use Rattle.vrl_resolve.specs.Program.{ended_over}

@@ -14,7 +14,8 @@ use Rattle.vrl_builtin.specs.Rows.{SettingTree}
 use Rattle.vrl_table.specs.Binding.{keywords_of}
 use Rattle.vrl_store.specs.Outcomes.{Outcome, value, error, returned, ends}
 use Rattle.vrl_store.specs.WellFormed.{AreWellFormedArgs, IsWellFormed, IsWellFormedOutcome, IsWellFormedStore}
-use Rattle.vrl_check.specs.Judgement.{Argument, Judgement, JudgesArguments, no_more_arguments, one_more_argument}
+use Rattle.vrl_judge.specs.Rules.{Argument, Judgement}
+use Rattle.vrl_check.specs.Judgement.{JudgesArguments, no_more_arguments, one_more_argument}
 use Rattle.vrl_resolve.specs.Calls.{values_of}
 use Rattle.vrl_resolve.specs.Meaning.{eval, eval_args}
 use Rattle.vrl_compile.specs.Sound.{HasNoError, IsSoundOutcome}

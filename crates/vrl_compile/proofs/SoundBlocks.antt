@@ -21,7 +21,8 @@ use Rattle.vrl_builtin.specs.Rows.{SettingTree}
 use Rattle.vrl_store.specs.Operators.{is_true}
 use Rattle.vrl_store.specs.Outcomes.{Outcome, value, error, aborted, returned, banged, deep, Ended, block_left, ends, on_value}
 use Rattle.vrl_store.specs.WellFormed.{AreWellFormedArms, AreWellFormedExprs, IsWellFormedElse, IsWellFormedStore}
-use Rattle.vrl_check.specs.Judgement.{Judgement, IsBeside, IsScalar, gives, kept, left, nothing, of_predicate, settle, span_of, with_codes}
+use Rattle.vrl_judge.specs.Rules.{Judgement, IsScalar, gives, kept, left, nothing, of_predicate, settle, with_codes}
+use Rattle.vrl_check.specs.Judgement.{IsBeside, span_of}
 use Rattle.vrl_resolve.specs.Meaning.{eval, eval_arms, eval_else, eval_items}
 use Rattle.vrl_compile.specs.Sound.{HasNoError, IsSoundEnd, IsSoundOutcome}
 use Rattle.vrl_compile.proofs.SoundCauses.{HasCause}

@@ -17,7 +17,8 @@ use Rattle.vrl_table.specs.Binding.{binding, keywords_of, path_parameters}
 use Rattle.vrl_table.specs.Table.{function_named, row_of, FunctionsAreFound}
 use Rattle.vrl_table.specs.declared.function.Fun.{Fun}
 use Rattle.vrl_store.specs.Outcomes.{Outcome, value, error, returned, Ended, banged_if, ends}
-use Rattle.vrl_check.specs.Judgement.{Argument, Judgement, argument_at, banged, bound, wants_literal}
+use Rattle.vrl_judge.specs.Rules.{Argument, Judgement, argument_at, banged}
+use Rattle.vrl_check.specs.Judgement.{bound, wants_literal}
 use Rattle.vrl_resolve.specs.Calls.{Callee, function, deletion, existence, nothing_called, are_written_right, bound_function, bound_path, callee_of, is_allowed_literal, is_written_right, named_function, values_of, written_at}
 use Rattle.vrl_compile.specs.Sound.{HasNoError, IsSoundEnd, IsSoundOutcome}
 use Rattle.vrl_compile.proofs.SoundBound.{AreWritten}

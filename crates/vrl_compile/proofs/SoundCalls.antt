@@ -23,7 +23,8 @@ use Rattle.vrl_store.specs.Outcomes.{value, deep, on_value}
 use Rattle.vrl_store.specs.Places.{is_within}
 use Rattle.vrl_store.specs.WellFormed.{AreWellFormedArgs, IsWellFormedStore}
 use Rattle.vrl_check.specs.Empties.{closure_empties}
-use Rattle.vrl_check.specs.Judgement.{Argument, IsAnswered, IsAnsweredUnless, Judgement, a_call, at, banged, behind_arguments, bound, bound_by, gives, if_state, of_call, some_has_others, wants_literal, with_codes}
+use Rattle.vrl_judge.specs.Rules.{Argument, Judgement, at, banged, gives, if_state, with_codes}
+use Rattle.vrl_check.specs.Judgement.{IsAnswered, IsAnsweredUnless, a_call, behind_arguments, bound, bound_by, of_call, some_has_others, wants_literal}
 use Rattle.vrl_resolve.specs.Calls.{acts, answer_outcome, argument_in, called, callee_of, first_unfit, fit_or_else, items_in, within_limit}
 use Rattle.vrl_resolve.specs.Meaning.{eval_args, eval_form}
 use Rattle.vrl_compile.specs.Sound.{HasNoError, IsSoundEnd, IsSoundOutcome}

@@ -11,7 +11,9 @@ use Rattle.vrl_syntax.specs.ErrorAssignments.{in_expr, in_form, in_exprs, in_pai
 use Rattle.vrl_syntax.specs.Tree.{Expr, Form, Exprs, Pairs, no_pairs, pair, Arms, arm, Else, Args, Closure}
 use Rattle.vrl_check.specs.Empties.{closure_empties}
 use Rattle.vrl_compile.proofs.CountedEmpties.{both_counted, closure_counted, expr_counted, exprs_counted}
-use Rattle.vrl_check.specs.Judgement.{Argument, Judgement, Judges, unreached, reached, Gives, a_literal, an_array, an_object, a_known_root, an_unknown_root, a_query, a_group, a_block, a_conditional, a_negation, an_equality, of_table, a_merge, a_conjunction, a_disjunction, a_coalescing, an_assignment, a_merge_into_nothing, a_merge_assignment, an_error_assignment, a_call_of_nothing, a_call, a_deletion, an_existence, a_return, an_abort, an_abort_with, JudgesBoth, operands, JudgesAll, no_more, one_more, JudgesArguments, no_more_arguments, one_more_argument, JudgesBlock, unreached_block, reached_block, JudgesArms, an_arm, an_else, a_missing_else, banged, pair_values}
+use Rattle.vrl_judge.specs.Rules.{Argument, Judgement, banged}
+use Rattle.vrl_check.specs.Judgement.{pair_values}
+use Rattle.vrl_check.specs.Judgement.{Judges, unreached, reached, Gives, a_literal, an_array, an_object, a_known_root, an_unknown_root, a_query, a_group, a_block, a_conditional, a_negation, an_equality, of_table, a_merge, a_conjunction, a_disjunction, a_coalescing, an_assignment, a_merge_into_nothing, a_merge_assignment, an_error_assignment, a_call_of_nothing, a_call, a_deletion, an_existence, a_return, an_abort, an_abort_with, JudgesBoth, operands, JudgesAll, no_more, one_more, JudgesArguments, no_more_arguments, one_more_argument, JudgesBlock, unreached_block, reached_block, JudgesArms, an_arm, an_else, a_missing_else}
 
 -- lists one behind the other
 joined : (a b c : List Tag) (n m : ℕ) → c ≡ a ++ b → length a ≡ n → length b ≡ m → length c ≡ n + m

@@ -14,7 +14,8 @@ use Rattle.vrl_state.specs.Stores.{FitsKnown, Store}
 use Rattle.vrl_builtin.specs.Rows.{SettingTree}
 use Rattle.vrl_store.specs.Outcomes.{on_value, Ended}
 use Rattle.vrl_store.specs.WellFormed.{AreWellFormed, AreWellFormedExprs, IsWellFormed, IsWellFormedExpr, IsWellFormedStore}
-use Rattle.vrl_check.specs.Judgement.{Argument, Judgement, Judges, IsThen}
+use Rattle.vrl_judge.specs.Rules.{Argument, Judgement, IsThen}
+use Rattle.vrl_check.specs.Judgement.{Judges}
 use Rattle.vrl_resolve.specs.Meaning.{eval, eval_all, eval_items}
 use Rattle.vrl_compile.specs.Sound.{HasNoError}
 use Rattle.vrl_compile.proofs.SoundCounts.{behind_counted}

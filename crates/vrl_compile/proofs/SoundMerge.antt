@@ -20,7 +20,7 @@ use Rattle.vrl_kind.specs.Tags.{same_tag}
 use Rattle.vrl_state.specs.Laws.{CutsHoldTheAllowed, IsAllowed}
 use Rattle.vrl_state.specs.States.{IsCutOf}
 use Rattle.vrl_store.specs.Operators.{put_all}
-use Rattle.vrl_check.specs.Judgement.{last_or}
+use Rattle.vrl_judge.specs.Rules.{last_or}
 
 -- ---- what is found among members that were put among others
 

@@ -19,7 +19,8 @@ use Rattle.vrl_builtin.specs.Law.{AreInstances, IsOfGiven}
 use Rattle.vrl_builtin.specs.Rows.{GivenTree, ParameterRow, Row, argument_at as value_at, held, kind_at, literal_at}
 use Rattle.vrl_builtin.specs.TagSets.{allows}
 use Rattle.vrl_builtin.specs.declared.tags.Tags.{Tags as TagSet}
-use Rattle.vrl_check.specs.Judgement.{Argument, argument_at, bound, has_others, some_has_others, wants_literal, AreGiven, IsCutDown, IsGiven}
+use Rattle.vrl_judge.specs.Rules.{Argument, argument_at, has_others}
+use Rattle.vrl_check.specs.Judgement.{bound, some_has_others, wants_literal, AreGiven, IsCutDown, IsGiven}
 use Rattle.vrl_resolve.specs.Calls.{argument_in, first_unfit, or_others, unfit_tag}
 use Rattle.vrl_compile.proofs.SoundArguments.{AreValuesOf, IsValueOf}
 use Rattle.vrl_compile.proofs.SoundBound.{ArePresent, AreWritten}

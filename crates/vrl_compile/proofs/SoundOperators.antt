@@ -21,7 +21,9 @@ use Rattle.vrl_builtin.specs.Rows.{SettingTree}
 use Rattle.vrl_store.specs.Operators.{applied, merged, negated}
 use Rattle.vrl_store.specs.Outcomes.{Outcome, value, error, Ended, ends, on_value}
 use Rattle.vrl_store.specs.WellFormed.{IsWellFormedEnded, IsWellFormedExpr, IsWellFormedStore}
-use Rattle.vrl_check.specs.Judgement.{Judgement, Judges, JudgesBoth, operands, IsBehind, IsMerged, IsMergedIf, IsScalar, IsThen, at, chained, if_state, is_equality, is_other, no_objects, of_pairs, scalars_at, some_pair, span_of, table_of, table_tags, when, with_codes}
+use Rattle.vrl_judge.specs.Rules.{Judgement, IsBehind, IsMerged, IsMergedIf, IsScalar, IsThen, at, chained, if_state, is_equality, is_other, no_objects, of_pairs, scalars_at, some_pair, table_tags, when, with_codes}
+use Rattle.vrl_check.specs.Judgement.{span_of, table_of}
+use Rattle.vrl_check.specs.Judgement.{Judges, JudgesBoth, operands}
 use Rattle.vrl_resolve.specs.Meaning.{combined, eval, eval_form}
 use Rattle.vrl_compile.specs.Sound.{HasNoError, IsSoundEnd, IsSoundOutcome}
 use Rattle.vrl_compile.proofs.SoundCauses.{judges_cause}

@@ -15,8 +15,8 @@ use Rattle.vrl_kind.specs.Tags.{Tags}
 use Rattle.vrl_state.specs.States.{with_kind, IsCutOf, IsWritten, RootMap}
 use Rattle.vrl_state.specs.Stores.{value_of, with_value, FitsKnown, IsWithout, Store}
 use Rattle.vrl_store.specs.Places.{left_in, removed, root_value, root_without}
-use Rattle.vrl_check.specs.Judgement as check
-use Rattle.vrl_check.specs.Judgement.{IsDeleted}
+use Rattle.vrl_judge.specs.Rules as check
+use Rattle.vrl_judge.specs.Rules.{IsDeleted}
 use Rattle.vrl_compile.proofs.SoundValues.{same_tag-itself}
 use Rattle.vrl_compile.specs.SoundLaws.{Laws}
 

@@ -13,7 +13,9 @@ use Rattle.vrl_state.specs.States.{IsEither, IsJoined, RootMap}
 use Rattle.vrl_state.specs.Stores.{FitsKnown, Store}
 use Rattle.vrl_builtin.specs.Rows.{SettingTree}
 use Rattle.vrl_store.specs.Outcomes.{returned, ends}
-use Rattle.vrl_check.specs.Judgement.{Judgement, Judges, at, is_alive, is_fallible, is_other, nothing, settled_kind, span_of, when, with_codes}
+use Rattle.vrl_judge.specs.Rules.{Judgement, at, is_alive, is_fallible, is_other, nothing, settled_kind, when, with_codes}
+use Rattle.vrl_check.specs.Judgement.{span_of}
+use Rattle.vrl_check.specs.Judgement.{Judges}
 use Rattle.vrl_resolve.specs.Meaning.{aborted_with, eval}
 use Rattle.vrl_compile.specs.Sound.{IsSoundEnd}
 use Rattle.vrl_compile.proofs.SoundCauses.{judges_cause}

@@ -15,7 +15,9 @@ use Rattle.vrl_state.specs.Stores.{FitsKnown, Store}
 use Rattle.vrl_builtin.specs.Rows.{SettingTree}
 use Rattle.vrl_store.specs.Outcomes.{Outcome, value, error, aborted, returned, banged, deep, Ended}
 use Rattle.vrl_store.specs.WellFormed.{IsWellFormed, IsWellFormedStore}
-use Rattle.vrl_check.specs.Judgement.{Judgement, JudgesItems, no_more_items, one_more_item, a_script, at, if_state, of_item, settle, span_of, when, with_codes}
+use Rattle.vrl_judge.specs.Rules.{Judgement, at, if_state, settle, when, with_codes}
+use Rattle.vrl_check.specs.Judgement.{of_item, span_of}
+use Rattle.vrl_check.specs.Judgement.{JudgesItems, no_more_items, one_more_item, a_script}
 use Rattle.vrl_resolve.specs.Meaning.{run_script}
 use Rattle.vrl_compile.specs.Sound.{ExpressionsAreSound, HasNoError, IsSoundOutcome, IsSoundRun, ScriptsAreSound}
 use Rattle.vrl_compile.proofs.SoundCauses.{items_cause}

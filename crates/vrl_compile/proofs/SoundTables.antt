@@ -15,7 +15,8 @@ use Rattle.vrl_state.specs.Laws.{CutsHoldTheAllowed}
 use Rattle.vrl_state.specs.States.{IsCutOf}
 use Rattle.vrl_store.specs.Operators.{applied, comparison_of, difference_of, product_of, sum_of}
 use Rattle.vrl_store.specs.Outcomes.{Outcome, value, error}
-use Rattle.vrl_check.specs.Judgement.{is_tag, number_tag, order_tag, scalars_at, some_pair, sum_tag, table_of, table_tags}
+use Rattle.vrl_judge.specs.Rules.{is_tag, number_tag, order_tag, scalars_at, some_pair, sum_tag, table_tags}
+use Rattle.vrl_check.specs.Judgement.{table_of}
 use Rattle.vrl_compile.proofs.SoundTags.{some_tag-intro}
 use Rattle.vrl_compile.proofs.SoundValues.{HasNoPart, of_scalars, same_tag-itself}
 

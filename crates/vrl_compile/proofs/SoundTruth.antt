@@ -20,7 +20,8 @@ use Rattle.vrl_state.specs.Stores.{FitsKnown, Store}
 use Rattle.vrl_builtin.specs.Rows.{SettingTree}
 use Rattle.vrl_store.specs.Operators.{is_falsy, truth_of}
 use Rattle.vrl_store.specs.Outcomes.{value, Ended, ends, on_value}
-use Rattle.vrl_check.specs.Judgement.{Judgement, Judges, IsBehind, IsScalar, IsThen, at, if_state, is_fallible, may_be_no_truth, may_be_truth, or_else_at, when, with_codes}
+use Rattle.vrl_judge.specs.Rules.{Judgement, IsBehind, IsScalar, IsThen, at, if_state, is_fallible, may_be_no_truth, may_be_truth, or_else_at, when, with_codes}
+use Rattle.vrl_check.specs.Judgement.{Judges}
 use Rattle.vrl_compile.specs.Sound.{IsSoundEnd, IsSoundOutcome}
 use Rattle.vrl_compile.proofs.SoundEnds.{EndsAs, IsGiven, IsRun, IsSoundForm, IsSoundPart, ends_alike, ends_through, first_ends, first_returns, left_either, left_joins, no_error_behind, no_error_parts, possible_state, returns_alike, returns_through, right_either, right_joins, second_ends, second_returns, sound_as, sound_on_error, sound_on_value}
 use Rattle.vrl_compile.specs.SoundLaws.{Laws}

@@ -28,7 +28,8 @@ use Rattle.vrl_builtin.specs.Rows.{SettingTree}
 use Rattle.vrl_store.specs.Outcomes.{ends, value, Ended}
 use Rattle.vrl_store.specs.Places.{part_of, root_value}
 use Rattle.vrl_store.specs.WellFormed.{AreWellFormedPairs, IsWellFormedStore}
-use Rattle.vrl_check.specs.Judgement.{Judgement, IsReadAt, array_at, at, field_of, gives, items_at, last_or, named_at, object_at, pair_names, pair_values, scalars_at, with_codes, IsScalar}
+use Rattle.vrl_judge.specs.Rules.{Judgement, IsReadAt, array_at, at, field_of, gives, items_at, last_or, named_at, object_at, scalars_at, with_codes, IsScalar}
+use Rattle.vrl_check.specs.Judgement.{pair_names, pair_values}
 use Rattle.vrl_resolve.specs.Meaning.{eval, eval_all, eval_pairs}
 use Rattle.vrl_compile.specs.Sound.{HasNoError}
 use Rattle.vrl_compile.proofs.SoundEnds.{as_weaker, ends_alike, sound_on_value, sound_told, IsSoundAs, IsSoundForm, IsSoundPart, IsValueOf}

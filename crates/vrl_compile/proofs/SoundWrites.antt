@@ -24,7 +24,7 @@ use Rattle.vrl_builtin.specs.Rows.{SettingTree}
 use Rattle.vrl_store.specs.Outcomes.{Outcome, value, error, returned, deep, Ended, ends}
 use Rattle.vrl_store.specs.Places.{is_within, root_value, root_with, writes_to}
 use Rattle.vrl_store.specs.WellFormed.{IsWellFormedEnded, IsWellFormedExpr}
-use Rattle.vrl_check.specs.Judgement.{IsScalar, IsWritten, Judgement, at, empty_tag, of_assignment, of_error_assignment, with_codes}
+use Rattle.vrl_judge.specs.Rules.{IsScalar, IsWritten, Judgement, at, empty_tag, of_assignment, of_error_assignment, with_codes}
 use Rattle.vrl_resolve.specs.Meaning.{assigned, both_assigned, eval, written_both}
 use Rattle.vrl_compile.specs.Sound.{IsSoundEnd, IsSoundOutcome}
 use Rattle.vrl_compile.proofs.SoundValues.{of_own_kind, scalar_is}

@@ -18,9 +18,11 @@ use Rattle.vrl_state.specs.States.{IsEither, IsJoined, RootMap}
 use Rattle.vrl_state.specs.Stores.{FitsKnown, Store}
 use Rattle.vrl_store.specs.Outcomes.{Ended, Outcome, error, returned, value}
 use Rattle.vrl_store.specs.WellFormed.{IsWellFormed}
-use Rattle.vrl_check.specs.Answer.{IsJudged, return_kind, return_state}
-use Rattle.vrl_check.specs.Judgement.{Judgement, JudgesScript, is_error}
-use Rattle.vrl_check.specs.Ordered.{AreOrdered}
+use Rattle.vrl_check.specs.Answer.{IsJudged}
+use Rattle.vrl_judge.specs.Returns.{return_kind, return_state}
+use Rattle.vrl_judge.specs.Rules.{Judgement, is_error}
+use Rattle.vrl_check.specs.Judgement.{JudgesScript}
+use Rattle.vrl_judge.specs.Ordered.{AreOrdered}
 use Rattle.vrl_check.specs.declared.judged.Judged.{Judged}
 use Rattle.vrl_resolve.specs.Meaning.{IsUnhandled}
 use Rattle.vrl_resolve.specs.Program.{ended_over, program_of}

@@ -8,7 +8,8 @@ ghost use Rattle.vrl_token.specs.OnFault.{OnFault};
 ghost use Rattle.vrl_token.specs.declared.token.Spanned.{Spanned as SpecSpanned};
 ghost use Rattle.vrl_parse.specs.Reading.{sources_of, Reads};
 ghost use Rattle.vrl_check.specs.Answer.{IsJudged};
-ghost use Rattle.vrl_check.specs.Judgement.{Judgement, JudgesScript};
+ghost use Rattle.vrl_judge.specs.Rules.{Judgement};
+ghost use Rattle.vrl_check.specs.Judgement.{JudgesScript};
 ghost use Rattle.vrl_compile.specs.Answer.{CanBeJudged, IsAnswer, IsRefused, IsScript, IsSoundAnswer, not_built};
 
 use crate::built::are_built;

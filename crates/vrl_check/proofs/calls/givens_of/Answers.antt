@@ -1,6 +1,7 @@
 use Rattle.std.proofs.Common.{map, subst, sym}
 use Rattle.vrl_builtin.specs.View.{parameter_row}
-use Rattle.vrl_check.specs.Judgement.{argument_at, bound, AreGiven}
+use Rattle.vrl_judge.specs.Rules.{argument_at}
+use Rattle.vrl_check.specs.Judgement.{bound, AreGiven}
 use Rattle.vrl_check.proofs.CallsGiven.{given_end, given_end_early, given_next}
 use Rattle.vrl_check.proofs.calls.givens_of.Goals as goal
 

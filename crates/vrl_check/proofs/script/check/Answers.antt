@@ -1,10 +1,10 @@
 use Rattle.std.proofs.Common.{ap, refl, sym, ◌∙◌, subst, unwrap_or}
 use Rattle.vrl_syntax.specs.View.{exprs_of}
-use Rattle.vrl_check.specs.Ordered.{AreOrdered}
-use Rattle.vrl_check.specs.declared.checker.Checker.{Checker}
+use Rattle.vrl_judge.specs.Ordered.{AreOrdered}
+use Rattle.vrl_judge.specs.declared.checker.Checker.{Checker}
 use Rattle.vrl_check.specs.declared.judged.Judged.{Judged}
 use Rattle.vrl_check.proofs.Answering.{script_judged, AreAnswered}
-use Rattle.vrl_check.proofs.Ways.{is_present}
+use Rattle.vrl_judge.proofs.Joining.{is_present}
 use Rattle.vrl_check.proofs.script.check.Goals as goal
 
 pub start-requires : goal.start-requires
@@ -14,7 +14,7 @@ pub returns : goal.returns
 returns c =
     let before : Checker = record { alloc = c.args.alloc; patterns = c.args.patterns; state = c.in_ok-state.state; diagnostics = c.new.result; empties = c.new-2.result } in
     let outcome = c.in_ok-outcome.outcome in
-    let after = c.script.new.self in
+    let after = c.script_items.new.checker in
     let judged : Judged = record { kind = outcome.kind; ok = c.in_ok-ok.ok; fail = c.unwrap_or.result; ret = outcome.ends.ret; empties = c.new-3.result; loops = c.new-5.result; diagnostics = c.new-6.result } in
     let answered : AreAnswered after.state outcome judged = record { kind = refl; ok = c.in_ok-ok.ensures.state; fail = c.unwrap_or.ensures ∙ ap (unwrap_or outcome.ends.fail) c.in_ok-ok.ensures.none; ret = refl } in
     script_judged c.args.start.now (exprs_of c.args.script.now.items) before after outcome judged c.in_ok-state.ensures.state c.new.ensures.items c.new-2.ensures.items c.in_ok-outcome.ensures

@@ -1,7 +1,7 @@
 use Rattle.std.proofs.Common.{None, Some, ap, subst}
 use Rattle.vrl_state.specs.States.{IsEither}
 use Rattle.vrl_check.proofs.Answering.{ended}
-use Rattle.vrl_check.proofs.Ways.{join_none}
+use Rattle.vrl_judge.proofs.Joining.{join_none}
 use Rattle.vrl_check.proofs.script.ending.Goals as goal
 
 pub returns-in_ok-ending-in-None : goal.returns-in_ok-ending-in-None

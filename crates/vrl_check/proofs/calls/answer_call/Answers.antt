@@ -1,0 +1,53 @@
+use Rattle.std.proofs.Common.{subst, sym}
+use Rattle.vrl_syntax.specs.View.{call_of}
+use Rattle.vrl_syntax.specs.declared.tree.Call.{out-Call}
+use Rattle.vrl_check.specs.Calling.{call_args, call_bang, call_closure, call_name, HasCodes, IsBoundCallAs, IsNamed}
+use Rattle.vrl_check.proofs.CallsAllowed.{may_be_asked}
+use Rattle.vrl_check.proofs.CallsFound.{call_seen}
+use Rattle.vrl_check.proofs.CallsJudged.{deleted_keeps, deletion_judged, existence_judged, function_judged}
+use Rattle.vrl_check.specs.declared.calls.Callee.TheVariants as callee
+use Rattle.vrl_check.proofs.calls.answer_call.Goals as goal
+
+pub answered-requires-clause-asked : goal.answered-requires-clause-asked
+answered-requires-clause-asked c =
+    let gs = call_args c.args.call.now in
+    let closure = call_closure c.args.call.now in
+    may_be_asked c.in-Function.function gs closure c.args.arguments c.args.bound.now (subst (λ n. HasCodes n gs closure c.args.arguments c.args.bound.now) c.in-Function.is c.requires.codes)
+
+pub deleted-requires : goal.deleted-requires
+deleted-requires c =
+    let x = c.args.call.now in
+    deleted_keeps (call_of x) (call_name x) (out-Call x).name_span (call_bang x) (call_args x) (call_closure x) (call_seen x) (subst (IsNamed (call_name x)) c.in-Deletion.is c.requires.name) c.requires.form
+
+pub returns-in_ok-outcome-in-Function : goal.returns-in_ok-outcome-in-Function
+returns-in_ok-outcome-in-Function c span =
+    let x = c.args.call.now in
+    let gs = call_args x in
+    let f = c.in-Function.function in
+    let after = c.answered.new.checker in
+    let outcome = c.in_ok-outcome-in-Function.outcome in
+    let codes = subst (λ n. HasCodes n gs (call_closure x) c.args.arguments c.args.bound.now) c.in-Function.is c.requires.codes in
+    subst (λ n. IsBoundCallAs n span (call_of x) (call_bang x) gs (call_closure x) c.args.arguments c.args.checker.now after outcome) (sym c.in-Function.is)
+    (subst (λ form. IsBoundCallAs (callee.Function f) span form (call_bang x) gs (call_closure x) c.args.arguments c.args.checker.now after outcome) (sym (call_seen x))
+    (function_judged f (call_name x) (out-Call x).name_span span (call_bang x) gs (call_closure x) c.args.arguments c.args.bound.now c.args.checker.now after outcome (subst (IsNamed (call_name x)) c.in-Function.is c.requires.name)
+    codes.places_are c.in_ok-outcome-in-Function.ensures.answered c.answered.ensures.checker))
+
+pub returns-in_ok-outcome-in-Deletion : goal.returns-in_ok-outcome-in-Deletion
+returns-in_ok-outcome-in-Deletion c span =
+    let x = c.args.call.now in
+    let gs = call_args x in
+    let after = c.deleted.new.checker in
+    let outcome = c.in_ok-outcome-in-Deletion.outcome in
+    subst (λ n. IsBoundCallAs n span (call_of x) (call_bang x) gs (call_closure x) c.args.arguments c.args.checker.now after outcome) (sym c.in-Deletion.is)
+    (subst (λ form. IsBoundCallAs callee.Deletion span form (call_bang x) gs (call_closure x) c.args.arguments c.args.checker.now after outcome) (sym (call_seen x))
+    (deletion_judged (call_name x) (out-Call x).name_span span (call_bang x) gs (call_closure x) c.args.arguments c.args.checker.now after outcome (subst (IsNamed (call_name x)) c.in-Deletion.is c.requires.name) c.in_ok-outcome-in-Deletion.ensures))
+
+pub returns-in_ok-outcome-in-Existence : goal.returns-in_ok-outcome-in-Existence
+returns-in_ok-outcome-in-Existence c span =
+    let x = c.args.call.now in
+    let gs = call_args x in
+    let outcome = c.in_ok-outcome-in-Existence.outcome in
+    subst (λ n. IsBoundCallAs n span (call_of x) (call_bang x) gs (call_closure x) c.args.arguments c.args.checker.now c.args.checker.now outcome) (sym c.in-Existence.is)
+    (subst (λ form. IsBoundCallAs callee.Existence span form (call_bang x) gs (call_closure x) c.args.arguments c.args.checker.now c.args.checker.now outcome) (sym (call_seen x))
+    (existence_judged (call_name x) (out-Call x).name_span span (call_bang x) gs (call_closure x) c.args.arguments c.args.checker.now outcome (subst (IsNamed (call_name x)) c.in-Existence.is c.requires.name)
+    c.in_ok-outcome-in-Existence.ensures.kind c.in_ok-outcome-in-Existence.ensures.ends))

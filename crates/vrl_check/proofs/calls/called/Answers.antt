@@ -1,0 +1,19 @@
+use Rattle.std.proofs.Common.{subst, sym}
+use Rattle.vrl_syntax.specs.View.{call_of}
+use Rattle.vrl_syntax.specs.declared.tree.Call.{out-Call}
+use Rattle.vrl_check.specs.Calling.{call_args, call_bang, call_closure, call_name, IsUnknown}
+use Rattle.vrl_check.specs.Judgement.{Gives}
+use Rattle.vrl_judge.specs.Rules.{Judgement}
+use Rattle.vrl_judge.specs.Judging.{HasJudged}
+use Rattle.vrl_check.proofs.CallsFound.{call_seen}
+use Rattle.vrl_check.proofs.CallsJudged.{closure_passed, nothing_judged, takes_none}
+use Rattle.vrl_check.proofs.calls.called.Goals as goal
+
+pub returns-in_ok-outcome-in-None : goal.returns-in_ok-outcome-in-None
+returns-in_ok-outcome-in-None c before known js j alive judged has =
+    let x = c.args.call.now in
+    let outcome = c.in_ok-outcome-in-None.outcome in
+    let passed = closure_passed before c.args.checker.now c.pass_closure.new.checker (call_args x) (call_closure x) c.args.arguments js j has c.in_ok-pass_closure.ensures.empties c.in_ok-pass_closure.ensures.others in
+    subst (λ f. (k : Judgement) × Gives before.patterns.now known c.args.span f k × HasJudged before c.call_of_nothing.new.checker outcome k) (sym (call_seen x))
+    (nothing_judged (call_name x) (out-Call x).name_span c.args.span (call_bang x) (call_args x) (call_closure x) before c.pass_closure.new.checker c.call_of_nothing.new.checker known js j c.args.arguments outcome (subst IsUnknown c.as_str.ensures c.in-None.ensures)
+    (takes_none (call_of x) (call_name x) (out-Call x).name_span (call_bang x) (call_args x) (call_closure x) (call_seen x) c.requires.form) judged passed c.in_ok-outcome-in-None.ensures.kind c.in_ok-outcome-in-None.ensures.reported)

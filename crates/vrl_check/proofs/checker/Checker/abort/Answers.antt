@@ -1,5 +1,0 @@
-use Rattle.vrl_check.proofs.Branching.{abort_alone}
-use Rattle.vrl_check.proofs.checker.Checker.abort.Goals as goal
-
-pub returns : goal.returns
-returns c = abort_alone c.args.self.now c.kill.new.self c.in_ok-outcome.outcome c.kill.ensures c.in_ok-outcome.ensures.kind c.in_ok-outcome.ensures.ends

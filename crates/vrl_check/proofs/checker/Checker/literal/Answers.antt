@@ -1,6 +1,0 @@
-use Rattle.vrl_value.specs.View.{tree_of}
-use Rattle.vrl_check.proofs.Forms.{literal_given}
-use Rattle.vrl_check.proofs.checker.Checker.literal.Goals as goal
-
-pub returns : goal.returns
-returns c = literal_given (tree_of c.args.value.now) c.args.self.now c.value.result _ c.in_ok-cut_kind_of.ensures c.value.ensures.kind c.value.ensures.ends

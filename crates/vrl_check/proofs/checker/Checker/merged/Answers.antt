@@ -1,5 +1,0 @@
-use Rattle.vrl_check.proofs.Forms.{merged}
-use Rattle.vrl_check.proofs.checker.Checker.merged.Goals as goal
-
-pub returns : goal.returns
-returns c = merged c.args.left_span c.args.right_span c.args.self.now c.report.new.self c.report-2.new.self c.args.parts c.report.new.ends c.report-2.new.ends _ c.in_ok-report.ensures c.in_ok-report-2.ensures c.in_ok-kind.ensures

@@ -1,6 +1,0 @@
-use Rattle.std.proofs.lemmas.Result.{IfOk-weaker}
-use Rattle.vrl_kind.specs.Cut.{IsCut}
-use Rattle.vrl_check.proofs.kinds.read_cut.Goals as goal
-
-pub returns : goal.returns
-returns c = IfOk-weaker c.cut.result (λ M. IsCut c.in_ok-found.found M) _ (λ M cut. record { whole = c.in_ok-found.found; canonical = c.kind_is_canonical.ensures; tags = c.in_ok-found.ensures.tags; is_cut = cut }) c.cut.ensures.cases

@@ -1,6 +1,0 @@
-use Rattle.std.proofs.lemmas.Result.{IfOk-weaker}
-use Rattle.vrl_check.proofs.Containers.{array_is_cut}
-use Rattle.vrl_check.proofs.values.array_kind.Goals as goal
-
-pub returns : goal.returns
-returns c = IfOk-weaker c.cut.result _ _ (λ kind is. array_is_cut c.args.kinds.items c.in_ok-whole.whole kind c.in_ok-whole.ensures c.kind_is_canonical.ensures is) c.cut.ensures.cases

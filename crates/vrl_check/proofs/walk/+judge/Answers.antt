@@ -1,0 +1,722 @@
+use Rattle.std.proofs.Common.{◌≡◌, ◌++◌, ◌∷◌, [], rules, sym, ◌∙◌, subst, arith, ap, option_map, refl, ap₂, ◌+◌, drop, length, vec_len, IfOk}
+use Rattle.std.proofs.lemmas.Bool.{true≢false}
+use Rattle.std.proofs.lemmas.Result.{IfOk-weaker}
+use Rattle.vrl_syntax.specs.Tree.{expr, abort_with, arg, array, assign, binary, block, both, call, conditional, group, literal, merge, message, negation, no_message, object, query, read, return_of}
+use Rattle.vrl_syntax.specs.View.{arg_of, args_of, args_view, call_of, closure_in, closure_of, expr_of, form_of, arms_of, else_of, exprs_of, pairs_of, exprs_view, pairs_view, arm_of, arms_view}
+use Rattle.vrl_syntax.specs.declared.tree.Arg.{out-Arg}
+use Rattle.vrl_syntax.specs.declared.tree.Arm.{out-Arm}
+use Rattle.vrl_syntax.specs.declared.tree.Call.{out-Call}
+use Rattle.vrl_syntax.specs.declared.tree.Form.{the_lemmas}
+use Rattle.vrl_check.specs.Walking.{CanBeJudged, FormCanBeJudged, IsArmBehind, IsGivenAs, ItemsCanBeJudged, ElseCanBeJudged, IsElseAs}
+use Rattle.vrl_check.proofs.Capable.{form_can, abort_can, arguments_can, array_can, assign_can, binary_can, block_can, both_can, conditional_can, group_can, merge_can, negation_can, object_can, query_can, return_can}
+use Rattle.vrl_check.proofs.Forms.{expr_passed, expr_reached, block_given, group_given, query_given, block_passed, block_reached, in_block, negation_given, here_are, operands_given, beside_given, both_common, equality_given, operands_are, table_given, merge_given, merge_into_given, merge_into_judged, place_are}
+use Rattle.vrl_check.proofs.Sizes.{expr_size, form_size, arms_size, else_size, exprs_size}
+use Rattle.vrl_value.specs.View.{tree_of}
+use Rattle.vrl_check.proofs.Partway.{can_at, else_at, form_at, items_at, array_can_next, array_common, array_first, array_given, array_next, next_item, no_item_left, array_fewer, next_pair, no_pair_left, object_can_next, object_common, object_first, object_given, object_next, object_fewer, sequence_can_next, sequence_common, sequence_end, sequence_first, sequence_next, sequence_fewer}
+use Rattle.vrl_check.specs.Judgement.{span_of}
+use Rattle.vrl_check.proofs.Branching.{conjunction_judged, stands_here, disjunction_judged, coalescing_judged, return_judged, abort_judged}
+use Rattle.vrl_check.proofs.Told.{expr_ends, block_ends, expr_root}
+use Rattle.vrl_check.proofs.Arguments.{argument_can_next, argument_common, argument_fewer, arguments_are, arguments_first, arguments_given, arguments_next, arguments_told, call_given, next_arg, no_arg_left}
+use Rattle.vrl_check.proofs.Arms.{conditional_judged, first_arms, last_ends, more_arms, next_arm, next_can, no_arm_left, ways_behind, ways_here, AreJudged, arm_judged, middle_here, ways_in}
+use Rattle.vrl_check.proofs.Assigning.{assignment_judged, judged_present, merge_judged, nowhere_judged, settled_present, error_judged}
+use Rattle.vrl_syntax.specs.declared.root.Op.TheVariants as ops
+use Rattle.vrl_check.proofs.walk.+judge.Goals as goal
+
+pub expr-form-requires : goal.expr-form-requires
+expr-form-requires t c =
+    let e = c.args.expr.now in
+    let is : expr_of e ≡ expr e.span (form_of e.form) = search (rules, the_lemmas) in
+    (omega (arith, c.decreases, ap expr_size is), form_can e.span (form_of e.form) (subst (CanBeJudged c.args.checker.now.patterns.now) is c.requires))
+
+pub expr-returns-then-is_dead : goal.expr-returns-then-is_dead
+expr-returns-then-is_dead t c =
+    IfOk-weaker c.pass.result _ _ (λ outcome has. expr_passed (expr_of c.args.expr.now) _ _ outcome (c.is_dead.ensures.0 c.if-is_dead.true) has) c.pass.ensures
+
+pub expr-returns : goal.expr-returns
+expr-returns t c =
+    let e = c.args.expr.now in
+    let is : expr_of e ≡ expr e.span (form_of e.form) = search (rules, the_lemmas) in
+    IfOk-weaker c.settled.result _ _
+    (λ outcome settles. expr_reached (expr_of e) e.span (form_of e.form) _ _ c.in_ok-outcome.outcome outcome is (λ dead. true≢false (sym (c.is_dead.ensures.1 dead) ∙ c.if-is_dead.false)) c.in_ok-outcome.ensures settles)
+    c.settled.ensures
+
+pub form-returns-in-Literal : goal.form-returns-in-Literal
+form-returns-in-Literal t c =
+    let is : form_of c.args.form.now ≡ literal (tree_of c.in-Literal.value) = search (rules, the_lemmas) in
+    rw is (IfOk-weaker c.literal.result _ _ (λ outcome given. given c.args.span) c.literal.ensures)
+
+pub form-array-requires : goal.form-array-requires
+form-array-requires t c =
+    let is : form_of c.args.form.now ≡ array (exprs_of c.in-Array.exprs) = search (rules, the_lemmas) in
+    let can = subst (FormCanBeJudged c.args.checker.now.patterns.now) is c.requires in
+    (omega (arith, c.decreases, ap form_size is), array_can _ can)
+
+pub form-returns-in-Array : goal.form-returns-in-Array
+form-returns-in-Array t c =
+    let is : form_of c.args.form.now ≡ array (exprs_of c.in-Array.exprs) = search (rules, the_lemmas) in
+    rw is (IfOk-weaker c.array.result _ _ (λ outcome given. given c.args.span) c.array.ensures)
+
+pub form-object-requires : goal.form-object-requires
+form-object-requires t c =
+    let is : form_of c.args.form.now ≡ object (pairs_of c.in-Map.pairs) = search (rules, the_lemmas) in
+    let can = subst (FormCanBeJudged c.args.checker.now.patterns.now) is c.requires in
+    (omega (arith, c.decreases, ap form_size is), object_can _ can)
+
+pub form-returns-in-Map : goal.form-returns-in-Map
+form-returns-in-Map t c =
+    let is : form_of c.args.form.now ≡ object (pairs_of c.in-Map.pairs) = search (rules, the_lemmas) in
+    rw is (IfOk-weaker c.object.result _ _ (λ outcome given. given c.args.span) c.object.ensures)
+
+pub form-returns-in-Read : goal.form-returns-in-Read
+form-returns-in-Read t c =
+    let is : form_of c.args.form.now ≡ read c.in-Read.root c.in-Read.path = search (rules, the_lemmas) in
+    rw is (c.read.ensures.given)
+
+pub form-query-requires : goal.form-query-requires
+form-query-requires t c =
+    let here0 : c.deref.result.now ≡ c.in-Query.inner.value = search rules in
+    let at_box : form_of c.args.form.now ≡ query (expr_of c.in-Query.inner.value) c.in-Query.path = search (rules, the_lemmas) in
+    let is : form_of c.args.form.now ≡ query (expr_of c.deref.result.now) c.in-Query.path = at_box ∙ ap (λ x. query (expr_of x) c.in-Query.path) (sym here0) in
+    let can = subst (FormCanBeJudged c.args.checker.now.patterns.now) is c.requires in
+    (omega (arith, c.decreases, ap form_size is), query_can _ _ can)
+
+pub form-returns-in-Query : goal.form-returns-in-Query
+form-returns-in-Query t c =
+    let here0 : c.deref.result.now ≡ c.in-Query.inner.value = search rules in
+    let at_box : form_of c.args.form.now ≡ query (expr_of c.in-Query.inner.value) c.in-Query.path = search (rules, the_lemmas) in
+    let is : form_of c.args.form.now ≡ query (expr_of c.deref.result.now) c.in-Query.path = at_box ∙ ap (λ x. query (expr_of x) c.in-Query.path) (sym here0) in
+    rw is (IfOk-weaker c.query.result _ _ (λ outcome given. given c.args.span) c.query.ensures)
+
+pub form-expr-requires : goal.form-expr-requires
+form-expr-requires t c =
+    let here0 : c.deref-in-Group.result.now ≡ c.in-Group.inner.value = search rules in
+    let at_box : form_of c.args.form.now ≡ group (expr_of c.in-Group.inner.value) = search (rules, the_lemmas) in
+    let is : form_of c.args.form.now ≡ group (expr_of c.deref-in-Group.result.now) = at_box ∙ ap (λ x. group (expr_of x)) (sym here0) in
+    let can = subst (FormCanBeJudged c.args.checker.now.patterns.now) is c.requires in
+    (omega (arith, c.decreases, ap form_size is), group_can _ can)
+
+pub form-returns-in-Group : goal.form-returns-in-Group
+form-returns-in-Group t c =
+    let here0 : c.deref-in-Group.result.now ≡ c.in-Group.inner.value = search rules in
+    let at_box : form_of c.args.form.now ≡ group (expr_of c.in-Group.inner.value) = search (rules, the_lemmas) in
+    let is : form_of c.args.form.now ≡ group (expr_of c.deref-in-Group.result.now) = at_box ∙ ap (λ x. group (expr_of x)) (sym here0) in
+    rw is (IfOk-weaker c.expr.result _ _ (λ outcome judged. group_given (expr_of c.deref-in-Group.result.now) c.args.checker.now c.expr.new.checker outcome judged c.args.span) c.expr.ensures)
+
+pub form-block-requires : goal.form-block-requires
+form-block-requires t c =
+    let is : form_of c.args.form.now ≡ block (exprs_of c.in-Block.items) = search (rules, the_lemmas) in
+    let can = subst (FormCanBeJudged c.args.checker.now.patterns.now) is c.requires in
+    (omega (arith, c.decreases, ap form_size is), block_can _ can)
+
+pub form-returns-in-Block : goal.form-returns-in-Block
+form-returns-in-Block t c =
+    let is : form_of c.args.form.now ≡ block (exprs_of c.in-Block.items) = search (rules, the_lemmas) in
+    rw is (IfOk-weaker c.block.result _ _ (λ outcome judged. block_given (exprs_of c.in-Block.items) c.args.checker.now c.block.new.checker outcome judged c.args.span) c.block.ensures)
+
+pub form-conditional-requires : goal.form-conditional-requires
+form-conditional-requires t c =
+    let is : form_of c.args.form.now ≡ conditional (arms_of c.in-If.arms) (else_of (option_map exprs_of c.in-If.otherwise)) = search (rules, the_lemmas) in
+    let can = subst (FormCanBeJudged c.args.checker.now.patterns.now) is c.requires in
+    (omega (arith, c.decreases, ap form_size is), ((conditional_can _ _ can).0, (conditional_can _ _ can).1))
+
+pub form-returns-in-If : goal.form-returns-in-If
+form-returns-in-If t c =
+    let is : form_of c.args.form.now ≡ conditional (arms_of c.in-If.arms) (else_of (option_map exprs_of c.in-If.otherwise)) = search (rules, the_lemmas) in
+    rw is (IfOk-weaker c.conditional.result _ _ (λ outcome given. given c.args.span) c.conditional.ensures)
+
+pub form-negation-requires : goal.form-negation-requires
+form-negation-requires t c =
+    let here0 : c.deref-in-Not.result.now ≡ c.in-Not.inner.value = search rules in
+    let at_box : form_of c.args.form.now ≡ negation (expr_of c.in-Not.inner.value) = search (rules, the_lemmas) in
+    let is : form_of c.args.form.now ≡ negation (expr_of c.deref-in-Not.result.now) = at_box ∙ ap (λ x. negation (expr_of x)) (sym here0) in
+    let can = subst (FormCanBeJudged c.args.checker.now.patterns.now) is c.requires in
+    (omega (arith, c.decreases, ap form_size is), negation_can _ can)
+
+pub form-returns-in-Not : goal.form-returns-in-Not
+form-returns-in-Not t c =
+    let here0 : c.deref-in-Not.result.now ≡ c.in-Not.inner.value = search rules in
+    let at_box : form_of c.args.form.now ≡ negation (expr_of c.in-Not.inner.value) = search (rules, the_lemmas) in
+    let is : form_of c.args.form.now ≡ negation (expr_of c.deref-in-Not.result.now) = at_box ∙ ap (λ x. negation (expr_of x)) (sym here0) in
+    rw is (c.negation.ensures)
+
+pub form-binary-requires : goal.form-binary-requires
+form-binary-requires t c =
+    let here0 : c.deref-in-Binary.result.now ≡ c.in-Binary.left.value = search rules in
+    let here1 : c.deref-in-Binary-2.result.now ≡ c.in-Binary.right.value = search rules in
+    let at_box : form_of c.args.form.now ≡ binary c.in-Binary.op (expr_of c.in-Binary.left.value) (expr_of c.in-Binary.right.value) = search (rules, the_lemmas) in
+    let is : form_of c.args.form.now ≡ binary c.in-Binary.op (expr_of c.deref-in-Binary.result.now) (expr_of c.deref-in-Binary-2.result.now) = at_box ∙ ap₂ (λ x y. binary c.in-Binary.op (expr_of x) (expr_of y)) (sym here0) (sym here1) in
+    let can = subst (FormCanBeJudged c.args.checker.now.patterns.now) is c.requires in
+    (omega (arith, c.decreases, ap form_size is), ((binary_can _ _ _ can).0, (binary_can _ _ _ can).1))
+
+pub form-returns-in-Binary : goal.form-returns-in-Binary
+form-returns-in-Binary t c =
+    let here0 : c.deref-in-Binary.result.now ≡ c.in-Binary.left.value = search rules in
+    let here1 : c.deref-in-Binary-2.result.now ≡ c.in-Binary.right.value = search rules in
+    let at_box : form_of c.args.form.now ≡ binary c.in-Binary.op (expr_of c.in-Binary.left.value) (expr_of c.in-Binary.right.value) = search (rules, the_lemmas) in
+    let is : form_of c.args.form.now ≡ binary c.in-Binary.op (expr_of c.deref-in-Binary.result.now) (expr_of c.deref-in-Binary-2.result.now) = at_box ∙ ap₂ (λ x y. binary c.in-Binary.op (expr_of x) (expr_of y)) (sym here0) (sym here1) in
+    rw is (c.binary.ensures)
+
+pub form-assignment-requires : goal.form-assignment-requires
+form-assignment-requires t c =
+    let here0 : c.deref-in-Assign.result.now ≡ c.in-Assign.value.value = search rules in
+    let at_box : form_of c.args.form.now ≡ assign c.in-Assign.target (expr_of c.in-Assign.value.value) = search (rules, the_lemmas) in
+    let is : form_of c.args.form.now ≡ assign c.in-Assign.target (expr_of c.deref-in-Assign.result.now) = at_box ∙ ap (λ x. assign c.in-Assign.target (expr_of x)) (sym here0) in
+    let can = subst (FormCanBeJudged c.args.checker.now.patterns.now) is c.requires in
+    (omega (arith, c.decreases, ap form_size is), ((assign_can _ _ can).0, (assign_can _ _ can).1))
+
+pub form-returns-in-Assign : goal.form-returns-in-Assign
+form-returns-in-Assign t c =
+    let here0 : c.deref-in-Assign.result.now ≡ c.in-Assign.value.value = search rules in
+    let at_box : form_of c.args.form.now ≡ assign c.in-Assign.target (expr_of c.in-Assign.value.value) = search (rules, the_lemmas) in
+    let is : form_of c.args.form.now ≡ assign c.in-Assign.target (expr_of c.deref-in-Assign.result.now) = at_box ∙ ap (λ x. assign c.in-Assign.target (expr_of x)) (sym here0) in
+    rw is (c.assignment.ensures)
+
+pub form-merge_assignment-requires : goal.form-merge_assignment-requires
+form-merge_assignment-requires t c =
+    let here0 : c.deref-in-Merge.result.now ≡ c.in-Merge.value.value = search rules in
+    let at_box : form_of c.args.form.now ≡ merge c.in-Merge.target (expr_of c.in-Merge.value.value) = search (rules, the_lemmas) in
+    let is : form_of c.args.form.now ≡ merge c.in-Merge.target (expr_of c.deref-in-Merge.result.now) = at_box ∙ ap (λ x. merge c.in-Merge.target (expr_of x)) (sym here0) in
+    let can = subst (FormCanBeJudged c.args.checker.now.patterns.now) is c.requires in
+    (omega (arith, c.decreases, ap form_size is), ((merge_can _ _ can).0, (merge_can _ _ can).1))
+
+pub form-returns-in-Merge : goal.form-returns-in-Merge
+form-returns-in-Merge t c =
+    let here0 : c.deref-in-Merge.result.now ≡ c.in-Merge.value.value = search rules in
+    let at_box : form_of c.args.form.now ≡ merge c.in-Merge.target (expr_of c.in-Merge.value.value) = search (rules, the_lemmas) in
+    let is : form_of c.args.form.now ≡ merge c.in-Merge.target (expr_of c.deref-in-Merge.result.now) = at_box ∙ ap (λ x. merge c.in-Merge.target (expr_of x)) (sym here0) in
+    rw is (c.merge_assignment.ensures)
+
+pub form-error_assignment-requires : goal.form-error_assignment-requires
+form-error_assignment-requires t c =
+    let here0 : c.deref-in-Both.result.now ≡ c.in-Both.value.value = search rules in
+    let at_box : form_of c.args.form.now ≡ both c.in-Both.ok c.in-Both.err (expr_of c.in-Both.value.value) = search (rules, the_lemmas) in
+    let is : form_of c.args.form.now ≡ both c.in-Both.ok c.in-Both.err (expr_of c.deref-in-Both.result.now) = at_box ∙ ap (λ x. both c.in-Both.ok c.in-Both.err (expr_of x)) (sym here0) in
+    let can = subst (FormCanBeJudged c.args.checker.now.patterns.now) is c.requires in
+    (omega (arith, c.decreases, ap form_size is), ((both_can _ _ _ can).0, ((both_can _ _ _ can).1, (both_can _ _ _ can).2)))
+
+pub form-returns-in-Both : goal.form-returns-in-Both
+form-returns-in-Both t c =
+    let here0 : c.deref-in-Both.result.now ≡ c.in-Both.value.value = search rules in
+    let at_box : form_of c.args.form.now ≡ both c.in-Both.ok c.in-Both.err (expr_of c.in-Both.value.value) = search (rules, the_lemmas) in
+    let is : form_of c.args.form.now ≡ both c.in-Both.ok c.in-Both.err (expr_of c.deref-in-Both.result.now) = at_box ∙ ap (λ x. both c.in-Both.ok c.in-Both.err (expr_of x)) (sym here0) in
+    rw is (c.error_assignment.ensures)
+
+pub form-return_with-requires : goal.form-return_with-requires
+form-return_with-requires t c =
+    let here0 : c.deref-in-Return.result.now ≡ c.in-Return.value.value = search rules in
+    let at_box : form_of c.args.form.now ≡ return_of (expr_of c.in-Return.value.value) = search (rules, the_lemmas) in
+    let is : form_of c.args.form.now ≡ return_of (expr_of c.deref-in-Return.result.now) = at_box ∙ ap (λ x. return_of (expr_of x)) (sym here0) in
+    let can = subst (FormCanBeJudged c.args.checker.now.patterns.now) is c.requires in
+    (omega (arith, c.decreases, ap form_size is), return_can _ can)
+
+pub form-returns-in-Return : goal.form-returns-in-Return
+form-returns-in-Return t c =
+    let here0 : c.deref-in-Return.result.now ≡ c.in-Return.value.value = search rules in
+    let at_box : form_of c.args.form.now ≡ return_of (expr_of c.in-Return.value.value) = search (rules, the_lemmas) in
+    let is : form_of c.args.form.now ≡ return_of (expr_of c.deref-in-Return.result.now) = at_box ∙ ap (λ x. return_of (expr_of x)) (sym here0) in
+    rw is (IfOk-weaker c.return_with.result _ _ (λ outcome given. given c.args.span) c.return_with.ensures)
+
+pub form-returns-in-Abort-None : goal.form-returns-in-Abort-None
+form-returns-in-Abort-None t c =
+    let is : form_of c.args.form.now ≡ abort_with no_message = search (rules, the_lemmas) in
+    rw is (IfOk-weaker c.abort.result _ _ (λ outcome given. given c.args.span) c.abort.ensures)
+
+pub form-abort_with-requires : goal.form-abort_with-requires
+form-abort_with-requires t c =
+    let here0 : c.deref-in-Abort-Some.result.now ≡ c.in-Abort-Some.message.value = search rules in
+    let at_box : form_of c.args.form.now ≡ abort_with (message (expr_of c.in-Abort-Some.message.value)) = search (rules, the_lemmas) in
+    let is : form_of c.args.form.now ≡ abort_with (message (expr_of c.deref-in-Abort-Some.result.now)) = at_box ∙ ap (λ x. abort_with (message (expr_of x))) (sym here0) in
+    let can = subst (FormCanBeJudged c.args.checker.now.patterns.now) is c.requires in
+    (omega (arith, c.decreases, ap form_size is), abort_can _ can)
+
+pub form-returns-in-Abort-Some : goal.form-returns-in-Abort-Some
+form-returns-in-Abort-Some t c =
+    let here0 : c.deref-in-Abort-Some.result.now ≡ c.in-Abort-Some.message.value = search rules in
+    let at_box : form_of c.args.form.now ≡ abort_with (message (expr_of c.in-Abort-Some.message.value)) = search (rules, the_lemmas) in
+    let is : form_of c.args.form.now ≡ abort_with (message (expr_of c.deref-in-Abort-Some.result.now)) = at_box ∙ ap (λ x. abort_with (message (expr_of x))) (sym here0) in
+    rw is (IfOk-weaker c.abort_with.result _ _ (λ outcome given. given c.args.span) c.abort_with.ensures)
+
+pub form-call-requires : goal.form-call-requires
+form-call-requires t c =
+    let here0 : c.deref-in-Call.result.now ≡ c.in-Call.inner.value = search rules in
+    let at_box : form_of c.args.form.now ≡ call_of c.in-Call.inner.value = search (rules, the_lemmas) in
+    let is : form_of c.args.form.now ≡ call_of c.deref-in-Call.result.now = at_box ∙ ap call_of (sym here0) in
+    (omega (arith, c.decreases, ap form_size is), subst (FormCanBeJudged c.args.checker.now.patterns.now) is c.requires)
+
+pub form-returns-in-Call : goal.form-returns-in-Call
+form-returns-in-Call t c =
+    let here0 : c.deref-in-Call.result.now ≡ c.in-Call.inner.value = search rules in
+    let at_box : form_of c.args.form.now ≡ call_of c.in-Call.inner.value = search (rules, the_lemmas) in
+    let is : form_of c.args.form.now ≡ call_of c.deref-in-Call.result.now = at_box ∙ ap call_of (sym here0) in
+    rw is (c.call.ensures)
+
+pub array-loop-item-init : goal.array-loop-item-init
+array-loop-item-init t c =
+    array_first c.args.checker.now (exprs_of c.args.exprs.now) (exprs_view c.as_slice-item-items.result.now) _ _ c.as_slice-item-items.ensures c.none-ends.ensures c.new-kinds.ensures.items c.requires
+
+pub array-expr-requires : goal.array-expr-requires
+array-expr-requires t c =
+    let l = c.loop-item in
+    let next = next_item c.as_slice-item-items.result.now l.item-index c.item-item.result c.loop-item-test.true c.item-item.is in
+    let fewer = array_fewer _ _ _ _ _ _ _ _ next l.invariant in
+    (omega (arith, c.decreases, fewer), array_can_next _ _ _ _ _ _ _ _ next l.invariant)
+
+pub array-absorb-requires : goal.array-absorb-requires
+array-absorb-requires t c =
+    let l = c.loop-item in
+    array_common _ l.checker c.expr.new.checker _ _ (expr_of c.item-item.result) _ c.in_ok-part.part _ l.invariant c.in_ok-part.ensures
+
+pub array-loop-item-preserved : goal.array-loop-item-preserved
+array-loop-item-preserved t c =
+    let l = c.loop-item in
+    let all = c.as_slice-item-items.result.now in
+    let next = next_item all l.item-index c.item-item.result c.loop-item-test.true c.item-item.is in
+    array_next _ l.checker c.expr.new.checker _ _ (exprs_view (drop (l.item-index + 1) all)) (expr_of c.item-item.result) _ _ c.in_ok-part.part _ _ next (c.in_ok-push.ensures.items ∙ ap (λ K. l.kinds.items ++ (K ∷ [])) c.in_ok-inner.ensures.kind) l.invariant c.in_ok-part.ensures c.in_ok-inner.ensures.joined (c.in_ok-inner.ensures.scopes _)
+
+pub array-returns : goal.array-returns
+array-returns t c =
+    let l = c.loop-item in
+    array_given _ _ _ _ _ _ _ (no_item_left c.as_slice-item-items.result.now l.item-index c.loop-item-test.false) l.invariant c.in_ok-kind.ensures
+
+pub object-loop-name-init : goal.object-loop-name-init
+object-loop-name-init t c =
+    object_first c.args.checker.now (pairs_of c.args.pairs.now) (pairs_view c.as_slice-name-items.result.now) _ _ c.as_slice-name-items.ensures c.none-ends.ensures c.new-fields.ensures.items c.requires
+
+pub object-expr-requires : goal.object-expr-requires
+object-expr-requires t c =
+    let l = c.loop-name in
+    let next = next_pair c.as_slice-name-items.result.now l.name-index c.loop-name-item.result c.loop-name-test.true c.loop-name-item.is in
+    let fewer = object_fewer _ _ _ _ _ _ _ _ _ next l.invariant in
+    (omega (arith, c.decreases, fewer), object_can_next _ _ _ _ _ _ _ _ _ next l.invariant)
+
+pub object-absorb-requires : goal.object-absorb-requires
+object-absorb-requires t c =
+    let l = c.loop-name in
+    object_common _ l.checker c.expr.new.checker _ _ (expr_of c.loop-name-item.result.1) _ c.in_ok-part.part _ l.invariant c.in_ok-part.ensures
+
+pub object-loop-name-preserved : goal.object-loop-name-preserved
+object-loop-name-preserved t c =
+    let l = c.loop-name in
+    let all = c.as_slice-name-items.result.now in
+    let next = next_pair all l.name-index c.loop-name-item.result c.loop-name-test.true c.loop-name-item.is in
+    let more = c.in_ok-add_field.ensures ∙ ap (λ K. l.fields.items ++ ((c.loop-name-item.result.0, K) ∷ [])) c.in_ok-inner.ensures.kind in
+    object_next _ l.checker c.expr.new.checker _ _ (pairs_view (drop (l.name-index + 1) all)) c.loop-name-item.result.0 (expr_of c.loop-name-item.result.1) _ _ c.in_ok-part.part _ _ next more l.invariant c.in_ok-part.ensures c.in_ok-inner.ensures.joined (c.in_ok-inner.ensures.scopes _)
+
+pub object-returns : goal.object-returns
+object-returns t c =
+    let l = c.loop-name in
+    object_given _ _ _ _ _ _ _ (no_pair_left c.as_slice-name-items.result.now l.name-index c.loop-name-test.false) l.invariant c.in_ok-kind.ensures
+
+pub query-returns : goal.query-returns
+query-returns t c =
+    IfOk-weaker c.read_off.result _ _ (λ outcome off. query_given (expr_of c.args.inner.now) c.args.path.now c.args.checker.now c.expr.new.checker c.in_ok-part.part outcome c.in_ok-part.ensures off) c.read_off.ensures
+
+pub block-returns-then-is_dead : goal.block-returns-then-is_dead
+block-returns-then-is_dead t c =
+    IfOk-weaker c.pass_items.result _ _ (λ outcome has. block_passed (exprs_of c.args.items.now) _ _ outcome (c.is_dead.ensures.0 c.if-is_dead.true) has) c.pass_items.ensures
+
+pub block-end_block-requires : goal.block-end_block-requires
+block-end_block-requires t c =
+    in_block (exprs_of c.args.items.now) c.args.checker.now _ _ c.in_ok-part.part (λ dead. true≢false (sym (c.is_dead.ensures.1 dead) ∙ c.if-is_dead.false)) c.in_ok-enter.ensures.entered c.in_ok-part.ensures
+
+pub block-returns : goal.block-returns
+block-returns t c =
+    IfOk-weaker c.end_block.result _ _
+    (λ outcome ends. block_reached (exprs_of c.args.items.now) c.args.checker.now _ _ _ c.in_ok-part.part outcome (λ dead. true≢false (sym (c.is_dead.ensures.1 dead) ∙ c.if-is_dead.false)) c.in_ok-enter.ensures.entered refl refl refl c.in_ok-part.ensures ends)
+    c.end_block.ensures
+
+pub sequence-loop-item-init : goal.sequence-loop-item-init
+sequence-loop-item-init t c =
+    sequence_first c.args.checker.now (exprs_of c.args.items.now) (exprs_view c.as_slice-item-items.result.now) c.value-last.result c.in_ok-scalar.field-0 c.as_slice-item-items.ensures c.value-last.ensures.kind c.value-last.ensures.ends c.in_ok-scalar.ensures c.requires
+
+pub sequence-expr-requires : goal.sequence-expr-requires
+sequence-expr-requires t c =
+    let l = c.loop-item in
+    let next = next_item c.as_slice-item-items.result.now l.item-index c.item-item.result c.loop-item-test.true c.item-item.is in
+    let fewer = sequence_fewer _ _ _ _ _ _ _ next l.invariant in
+    (omega (arith, c.decreases, fewer), sequence_can_next _ _ _ _ _ _ _ next l.invariant)
+
+pub sequence-go_on-requires : goal.sequence-go_on-requires
+sequence-go_on-requires t c =
+    let l = c.loop-item in
+    sequence_common _ l.checker c.expr.new.checker _ _ (expr_of c.item-item.result) _ c.in_ok-part.part l.invariant c.in_ok-part.ensures
+
+pub sequence-loop-item-preserved : goal.sequence-loop-item-preserved
+sequence-loop-item-preserved t c =
+    let l = c.loop-item in
+    let all = c.as_slice-item-items.result.now in
+    let next = next_item all l.item-index c.item-item.result c.loop-item-test.true c.item-item.is in
+    sequence_next _ l.checker c.expr.new.checker _ _ (exprs_view (drop (l.item-index + 1) all)) (expr_of c.item-item.result) _ _ c.in_ok-part.part next l.invariant c.in_ok-part.ensures c.in_ok-go_on.ensures.kind c.in_ok-go_on.ensures.joined (c.in_ok-go_on.ensures.scopes _)
+
+pub sequence-returns : goal.sequence-returns
+sequence-returns t c =
+    let l = c.loop-item in
+    sequence_end _ _ _ _ _ (no_item_left c.as_slice-item-items.result.now l.item-index c.loop-item-test.false) l.invariant
+
+pub binary-returns-in-Coalesce : goal.binary-returns-in-Coalesce
+binary-returns-in-Coalesce t c =
+    rw c.in-Coalesce.is (c.coalescing.ensures)
+
+pub binary-returns-in-Or : goal.binary-returns-in-Or
+binary-returns-in-Or t c =
+    rw c.in-Or.is (IfOk-weaker c.disjunction.result _ _ (λ outcome given. given c.args.span) c.disjunction.ensures)
+
+pub binary-returns-in-And : goal.binary-returns-in-And
+binary-returns-in-And t c =
+    rw c.in-And.is (IfOk-weaker c.conjunction.result _ _ (λ outcome given. given c.args.span) c.conjunction.ensures)
+
+pub binary-returns-in-Merge : goal.binary-returns-in-Merge
+binary-returns-in-Merge t c =
+    rw c.in-Merge.is (IfOk-weaker c.merge.result _ _ (λ outcome given. given c.args.span) c.merge.ensures)
+
+pub negation-returns : goal.negation-returns
+negation-returns t c =
+    IfOk-weaker c.negated.result _ _
+    (λ outcome negates. negation_given c.args.span (expr_of c.args.inner.now) c.args.checker.now c.expr.new.checker c.negated.new.self c.in_ok-part.part outcome c.in_ok-part.ensures negates)
+    c.negated.ensures
+
+pub operands-beside-requires : goal.operands-beside-requires
+operands-beside-requires t c =
+    (omega (arith, c.decreases), (can_at c.args.checker.now c.expr.new.checker (expr_of c.args.right.now) c.in_ok-left.ensures.2.gathered.patterns c.requires.right, here_are c.args.checker.now c.expr.new.checker c.in_ok-left.left c.in_ok-left.ensures.0 c.in_ok-left.ensures.2))
+
+pub operands-returns : goal.operands-returns
+operands-returns t c =
+    IfOk-weaker c.beside.result _ _
+    (λ parts beside. operands_given (expr_of c.args.left.now) (expr_of c.args.right.now) c.args.checker.now c.expr.new.checker c.beside.new.checker c.in_ok-left.left parts c.in_ok-left.ensures beside)
+    c.beside.ensures
+
+pub beside-paired-requires : goal.beside-paired-requires
+beside-paired-requires t c =
+    both_common c.args.checker.now c.expr.new.checker c.args.left c.in_ok-right.right (expr_of c.args.right.now) c.requires.ends c.in_ok-right.ensures
+
+pub beside-returns : goal.beside-returns
+beside-returns t c =
+    IfOk-weaker c.paired.result _ _
+    (λ parts paired. beside_given (expr_of c.args.right.now) c.args.checker.now c.expr.new.checker c.args.left c.in_ok-right.right c.is_other-left_no_object.result parts c.is_other-left_no_object.ensures c.in_ok-right.ensures paired)
+    c.paired.ensures
+
+pub equality-returns : goal.equality-returns
+equality-returns t c =
+    IfOk-weaker c.equated.result _ _
+    (λ outcome equates. equality_given c.args.span c.args.op (expr_of c.args.left.now) (expr_of c.args.right.now) c.args.checker.now c.operands.new.checker c.equated.new.self c.is_chained.result c.in_ok-parts.parts outcome c.requires.op c.is_chained.ensures c.in_ok-parts.ensures equates)
+    c.equated.ensures
+
+pub of_table-combined-requires : goal.of_table-combined-requires
+of_table-combined-requires t c =
+    operands_are (expr_of c.args.left.now) (expr_of c.args.right.now) c.args.checker.now c.operands.new.checker c.in_ok-parts.parts c.in_ok-parts.ensures
+
+pub of_table-returns : goal.of_table-returns
+of_table-returns t c =
+    IfOk-weaker c.combined.result _ _
+    (λ outcome combines. table_given c.args.span c.args.op c.args.table (expr_of c.args.left.now) (expr_of c.args.right.now) c.args.checker.now c.operands.new.checker c.combined.new.self c.is_chained.result c.in_ok-parts.parts outcome c.requires.op c.is_chained.ensures c.in_ok-parts.ensures combines)
+    c.combined.ensures
+
+pub merge-returns : goal.merge-returns
+merge-returns t c =
+    let left_is : c.args.left.now.span ≡ span_of (expr_of c.args.left.now) = search (rules, the_lemmas) in
+    let right_is : c.args.right.now.span ≡ span_of (expr_of c.args.right.now) = search (rules, the_lemmas) in
+    IfOk-weaker c.merged.result _ _
+    (λ outcome merges. merge_given (expr_of c.args.left.now) (expr_of c.args.right.now) c.args.left.now.span c.args.right.now.span c.args.checker.now c.operands.new.checker c.merged.new.self c.in_ok-parts.parts outcome left_is right_is c.in_ok-parts.ensures merges)
+    c.merged.ensures
+
+pub merge_into-beside-requires : goal.merge_into-beside-requires
+merge_into-beside-requires t c =
+    (omega (arith, c.decreases), (can_at c.args.checker.now c.read.new.checker (expr_of c.args.value.now) c.in_ok-read.ensures.judged.1.gathered.patterns c.requires, place_are c.args.checker.now c.read.new.checker c.in_ok-read.read c.in_ok-left.left c.in_ok-read.ensures.judged.0 c.in_ok-read.ensures.judged.1 c.in_ok-left.ensures))
+
+pub merge_into-returns-clause-given : goal.merge_into-returns-clause-given
+merge_into-returns-clause-given t c =
+    let right_is : c.args.value.now.span ≡ span_of (expr_of c.args.value.now) = search (rules, the_lemmas) in
+    IfOk-weaker c.merged.result _ _
+    (λ outcome merges. merge_into_given (expr_of c.args.value.now) c.args.place c.args.value.now.span c.args.root.now c.args.path.now c.args.checker.now c.read.new.checker c.beside.new.checker c.merged.new.self c.in_ok-read.read c.in_ok-left.left c.in_ok-parts.parts outcome right_is c.in_ok-read.ensures.given c.in_ok-left.ensures c.in_ok-parts.ensures merges)
+    c.merged.ensures
+
+pub merge_into-returns-clause-judged : goal.merge_into-returns-clause-judged
+merge_into-returns-clause-judged t c =
+    IfOk-weaker c.merged.result _ _
+    (λ outcome merges. merge_into_judged (expr_of c.args.value.now) c.args.place c.args.value.now.span c.args.checker.now c.read.new.checker c.beside.new.checker c.merged.new.self c.in_ok-read.read c.in_ok-left.left c.in_ok-parts.parts outcome c.in_ok-read.ensures.judged.0 c.in_ok-read.ensures.judged.1 c.in_ok-left.ensures c.in_ok-parts.ensures merges)
+    c.merged.ensures
+
+pub conjunction-left_of_and-requires : goal.conjunction-left_of_and-requires
+conjunction-left_of_and-requires t c =
+    expr_ends (expr_of c.args.left.now) c.args.checker.now c.expr.new.checker c.in_ok-part.part c.in_ok-part.ensures
+
+pub conjunction-expr-requires-2 : goal.conjunction-expr-requires-2
+conjunction-expr-requires-2 t c =
+    let same = c.in_ok-side.ensures.side.moved.patterns ∙ c.in_ok-part.ensures.2.gathered.patterns in
+    (omega (arith, c.decreases), can_at c.args.checker.now c.left_of_and.new.self (expr_of c.args.right.now) same c.requires.right)
+
+pub conjunction-conjoined-requires : goal.conjunction-conjoined-requires
+conjunction-conjoined-requires t c =
+    record {
+      left = stands_here (expr_of c.args.right.now) _ _ c.expr.new.checker c.left_of_and.new.self c.expr-2.new.checker c.in_ok-side.side c.in_ok-other.other c.in_ok-side.ensures.side c.in_ok-other.ensures;
+      right = expr_ends (expr_of c.args.right.now) c.left_of_and.new.self c.expr-2.new.checker c.in_ok-other.other c.in_ok-other.ensures;
+    }
+
+pub conjunction-returns : goal.conjunction-returns
+conjunction-returns t c =
+    IfOk-weaker c.conjoined.result _ _
+    (λ outcome last. conjunction_judged (expr_of c.args.left.now) (expr_of c.args.right.now) c.args.checker.now c.expr.new.checker c.left_of_and.new.self c.expr-2.new.checker c.conjoined.new.self c.in_ok-part.part c.in_ok-other.other outcome c.in_ok-side.side
+    c.in_ok-part.ensures c.in_ok-side.ensures.side c.in_ok-side.ensures.ends c.in_ok-other.ensures last)
+    c.conjoined.ensures
+
+pub disjunction-left_of_or-requires : goal.disjunction-left_of_or-requires
+disjunction-left_of_or-requires t c =
+    expr_ends (expr_of c.args.left.now) c.args.checker.now c.expr.new.checker c.in_ok-part.part c.in_ok-part.ensures
+
+pub disjunction-expr-requires-2 : goal.disjunction-expr-requires-2
+disjunction-expr-requires-2 t c =
+    let same = c.in_ok-side.ensures.side.moved.patterns ∙ c.in_ok-part.ensures.2.gathered.patterns in
+    (omega (arith, c.decreases), can_at c.args.checker.now c.left_of_or.new.self (expr_of c.args.right.now) same c.requires.right)
+
+pub disjunction-disjoined-requires : goal.disjunction-disjoined-requires
+disjunction-disjoined-requires t c =
+    record {
+      left = stands_here (expr_of c.args.right.now) _ _ c.expr.new.checker c.left_of_or.new.self c.expr-2.new.checker c.in_ok-side.side c.in_ok-other.other c.in_ok-side.ensures.side c.in_ok-other.ensures;
+      right = expr_ends (expr_of c.args.right.now) c.left_of_or.new.self c.expr-2.new.checker c.in_ok-other.other c.in_ok-other.ensures;
+    }
+
+pub disjunction-returns : goal.disjunction-returns
+disjunction-returns t c =
+    disjunction_judged (expr_of c.args.left.now) (expr_of c.args.right.now) c.args.checker.now c.expr.new.checker c.left_of_or.new.self c.expr-2.new.checker c.disjoined.new.self c.in_ok-part.part c.in_ok-other.other c.in_ok-outcome.outcome c.in_ok-side.side
+    c.in_ok-part.ensures c.in_ok-side.ensures.side c.in_ok-side.ensures.part c.in_ok-other.ensures c.in_ok-outcome.ensures.kind c.in_ok-outcome.ensures.sides
+
+pub coalescing-left_of_coalescing-requires : goal.coalescing-left_of_coalescing-requires
+coalescing-left_of_coalescing-requires t c =
+    expr_ends (expr_of c.args.left.now) c.args.checker.now c.expr.new.checker c.in_ok-part.part c.in_ok-part.ensures
+
+pub coalescing-expr-requires-2 : goal.coalescing-expr-requires-2
+coalescing-expr-requires-2 t c =
+    let same = c.in_ok-side.ensures.side.moved.patterns ∙ c.in_ok-part.ensures.2.gathered.patterns in
+    (omega (arith, c.decreases), can_at c.args.checker.now c.left_of_coalescing.new.self (expr_of c.args.right.now) same c.requires.right)
+
+pub coalescing-coalesced-requires : goal.coalescing-coalesced-requires
+coalescing-coalesced-requires t c =
+    record {
+      left = stands_here (expr_of c.args.right.now) _ _ c.expr.new.checker c.left_of_coalescing.new.self c.expr-2.new.checker c.in_ok-side.side c.in_ok-other.other c.in_ok-side.ensures.side c.in_ok-other.ensures;
+      right = expr_ends (expr_of c.args.right.now) c.left_of_coalescing.new.self c.expr-2.new.checker c.in_ok-other.other c.in_ok-other.ensures;
+    }
+
+pub coalescing-returns : goal.coalescing-returns
+coalescing-returns t c =
+    subst (IsGivenAs c.args.span (binary ops.Coalesce (expr_of c.args.left.now) (expr_of c.args.right.now)) c.args.checker.now c.reported.new.self) (sym c.in_ok-outcome.ensures.same)
+    (coalescing_judged c.args.span (expr_of c.args.left.now) (expr_of c.args.right.now) c.args.checker.now c.expr.new.checker c.left_of_coalescing.new.self c.expr-2.new.checker c.coalesced.new.self c.reported.new.self c.in_ok-part.part c.in_ok-other.other c.in_ok-both.both c.in_ok-side.side c.in_ok-outcome.outcome.ends c.is_needless-needless.result
+    c.in_ok-part.ensures c.is_needless-needless.ensures c.in_ok-side.ensures.side c.in_ok-side.ensures.part c.in_ok-other.ensures c.in_ok-both.ensures.kind c.in_ok-both.ensures.sides c.in_ok-outcome.ensures.reported)
+
+pub conditional-loop-arm-init : goal.conditional-loop-arm-init
+conditional-loop-arm-init t c =
+    first_arms (arms_of c.args.arms.now) (else_of (option_map exprs_of c.args.otherwise.now)) c.as_slice-arm-items.result.now c.args.checker.now c.in_ok-ways.ways c.as_slice-arm-items.ensures c.in_ok-ways.ensures c.requires.arms
+
+pub conditional-add_arm-requires : goal.conditional-add_arm-requires
+conditional-add_arm-requires t c =
+    let l = c.loop-arm in
+    let items = c.as_slice-arm-items.result.now in
+    let can = next_can (arms_of c.args.arms.now) (arms_view (drop (l.arm-index + 1) items)) (else_of (option_map exprs_of c.args.otherwise.now)) (arm_of c.arm-item.result) (arms_view (drop l.arm-index items)) c.args.checker.now l.checker l.ways (next_arm items l.arm-index c.arm-item.result c.loop-arm-test.true c.arm-item.is) l.invariant in
+    (omega (arith, c.decreases, l.invariant.size, ap arms_size (next_arm items l.arm-index c.arm-item.result c.loop-arm-test.true c.arm-item.is)), (can.0, (can.1, ways_here c.args.checker.now l.checker l.ways l.invariant.w l.invariant.told)))
+
+pub conditional-loop-arm-preserved : goal.conditional-loop-arm-preserved
+conditional-loop-arm-preserved t c =
+    let l = c.loop-arm in
+    let items = c.as_slice-arm-items.result.now in
+    more_arms (arms_of c.args.arms.now) (arms_view (drop (l.arm-index + 1) items)) (else_of (option_map exprs_of c.args.otherwise.now)) (arm_of c.arm-item.result) (arms_view (drop l.arm-index items)) c.args.checker.now l.checker c.add_arm.new.checker l.ways c.add_arm.new.ways (next_arm items l.arm-index c.arm-item.result c.loop-arm-test.true c.arm-item.is) l.invariant c.in_ok-add_arm.ensures
+
+pub conditional-last_way-requires : goal.conditional-last_way-requires
+conditional-last_way-requires t c =
+    let l = c.loop-arm in
+    (omega (arith, c.decreases), else_at c.args.checker.now l.checker (else_of (option_map exprs_of c.args.otherwise.now)) l.invariant.told.patterns c.requires.otherwise)
+
+pub conditional-add_last-requires : goal.conditional-add_last-requires
+conditional-add_last-requires t c =
+    let l = c.loop-arm in
+    record {
+      ways = ways_behind (else_of (option_map exprs_of c.args.otherwise.now)) c.args.checker.now l.checker c.last_way.new.checker l.ways l.invariant.w c.in_ok-last.last l.invariant.told c.in_ok-last.ensures;
+      last = last_ends (else_of (option_map exprs_of c.args.otherwise.now)) l.checker c.last_way.new.checker c.in_ok-last.last c.in_ok-last.ensures;
+    }
+
+pub conditional-returns : goal.conditional-returns
+conditional-returns t c =
+    let l = c.loop-arm in
+    let whole = arms_of c.args.arms.now in
+    let behind_all = else_of (option_map exprs_of c.args.otherwise.now) in
+    let items = c.as_slice-arm-items.result.now in
+    IfOk-weaker c.add_last.result _ _
+    (λ outcome behind. conditional_judged whole behind_all c.args.checker.now l.checker c.last_way.new.checker c.add_last.new.self l.ways c.in_ok-last.last outcome
+    (subst (λ rest. AreJudged whole behind_all rest c.args.checker.now l.checker l.ways) (no_arm_left items l.arm-index c.loop-arm-test.false) l.invariant) c.in_ok-last.ensures behind)
+    c.add_last.ensures
+
+pub add_arm-expr-requires : goal.add_arm-expr-requires
+add_arm-expr-requires t c =
+    let a = out-Arm c.args.arm.now in
+    let is : arm_of c.args.arm.now ≡ (expr_of a.predicate, exprs_of a.body) = search (rules, the_lemmas) in
+    (omega (arith, c.decreases, ap (λ a. expr_size a.0 + exprs_size a.1) is), subst (λ t. CanBeJudged c.args.checker.now.patterns.now t.0) is c.requires.predicate)
+
+pub add_arm-add_predicate-requires : goal.add_arm-add_predicate-requires
+add_arm-add_predicate-requires t c =
+    let a = out-Arm c.args.arm.now in
+    record {
+      ways = ways_in c.args.ways.now c.args.checker.now.state.scopes c.expr.new.checker.state.scopes (sym c.in_ok-part.ensures.2.gathered.scopes) c.requires.ways;
+      part = expr_ends (expr_of a.predicate) c.args.checker.now c.expr.new.checker c.in_ok-part.part c.in_ok-part.ensures;
+    }
+
+pub add_arm-block-requires : goal.add_arm-block-requires
+add_arm-block-requires t c =
+    let a = out-Arm c.args.arm.now in
+    let is : arm_of c.args.arm.now ≡ (expr_of a.predicate, exprs_of a.body) = search (rules, the_lemmas) in
+    let same = c.in_ok-add_predicate.ensures.reported.patterns ∙ c.in_ok-part.ensures.2.gathered.patterns in
+    let here = subst (λ t. ItemsCanBeJudged c.args.checker.now.patterns.now t.1) is c.requires.block in
+    (omega (arith, c.decreases, ap (λ a. expr_size a.0 + exprs_size a.1) is), items_at c.args.checker.now c.add_predicate.new.self (exprs_of a.body) same here)
+
+pub add_arm-add_block-requires : goal.add_arm-add_block-requires
+add_arm-add_block-requires t c =
+    let a = out-Arm c.args.arm.now in
+    record {
+      ways = middle_here (expr_of a.predicate) (exprs_of a.body) a.predicate.span c.args.checker.now c.expr.new.checker c.add_predicate.new.self c.block.new.checker c.mark.new.self c.args.ways.now c.add_predicate.new.ways c.in_ok-part.part c.in_ok-block.block c.in_ok-add_predicate.ensures c.mark.ensures.state c.in_ok-block.ensures;
+      block = block_ends (exprs_of a.body) _ c.block.new.checker c.in_ok-block.block c.in_ok-block.ensures;
+    }
+
+pub add_arm-returns : goal.add_arm-returns
+add_arm-returns t c =
+    let a = out-Arm c.args.arm.now in
+    let is : arm_of c.args.arm.now ≡ (expr_of a.predicate, exprs_of a.body) = search (rules, the_lemmas) in
+    let span_is : a.predicate.span ≡ span_of (expr_of a.predicate) = search (rules, the_lemmas) in
+    IfOk-weaker c.add_block.result _ _
+    (λ _ behind. subst (λ t. IsArmBehind t c.args.ways.now c.args.checker.now c.add_block.new.self c.add_block.new.ways) (sym is)
+    (arm_judged (expr_of a.predicate, exprs_of a.body) a.predicate.span c.args.checker.now c.expr.new.checker c.add_predicate.new.self c.block.new.checker c.add_block.new.self c.mark.new.self c.in_ok-mark.mark c.args.ways.now c.add_predicate.new.ways c.add_block.new.ways c.in_ok-part.part c.in_ok-block.block
+    c.in_ok-part.ensures span_is c.in_ok-add_predicate.ensures c.mark.ensures.state c.in_ok-mark.ensures.mark c.in_ok-block.ensures behind))
+    c.add_block.ensures
+
+pub last_way-block-requires : goal.last_way-block-requires
+last_way-block-requires t c =
+    let can = subst (λ o. ElseCanBeJudged c.args.checker.now.patterns.now (else_of (option_map exprs_of o))) c.in-Some.is c.requires in
+    (omega (arith, c.decreases, ap (λ o. else_size (else_of (option_map exprs_of o))) c.in-Some.is), record { calls = can.calls; limits = can.limits; regexes = can.regexes })
+
+pub last_way-returns-in-Some : goal.last_way-returns-in-Some
+last_way-returns-in-Some t c =
+    subst (λ o. IfOk c.block.result (IsElseAs (else_of (option_map exprs_of o)) c.args.checker.now c.block.new.checker)) (sym c.in-Some.is) c.block.ensures
+
+pub last_way-returns-in-None : goal.last_way-returns-in-None
+last_way-returns-in-None t c =
+    subst (λ o. IfOk c.missing_else.result (IsElseAs (else_of (option_map exprs_of o)) c.args.checker.now c.missing_else.new.checker)) (sym c.in-None.is) c.missing_else.ensures
+
+pub return_with-returned-requires : goal.return_with-returned-requires
+return_with-returned-requires t c =
+    record {
+      ends = expr_ends (expr_of c.args.value.now) c.args.checker.now c.expr.new.checker c.in_ok-part.part c.in_ok-part.ensures;
+      kind = expr_root (expr_of c.args.value.now) c.args.checker.now c.expr.new.checker c.in_ok-part.part c.in_ok-part.ensures;
+    }
+
+pub return_with-returns : goal.return_with-returns
+return_with-returns t c =
+    IfOk-weaker c.returned.result _ _
+    (λ outcome last. return_judged (expr_of c.args.value.now) c.args.checker.now c.expr.new.checker c.returned.new.self c.in_ok-part.part outcome c.in_ok-part.ensures last)
+    c.returned.ensures
+
+pub abort_with-aborted-requires : goal.abort_with-aborted-requires
+abort_with-aborted-requires t c =
+    expr_ends (expr_of c.args.message.now) c.args.checker.now c.expr.new.checker c.in_ok-part.part c.in_ok-part.ensures
+
+pub abort_with-returns : goal.abort_with-returns
+abort_with-returns t c =
+    let span_is : c.args.message.now.span ≡ span_of (expr_of c.args.message.now) = search (rules, the_lemmas) in
+    IfOk-weaker c.aborted.result _ _
+    (λ outcome last. abort_judged (expr_of c.args.message.now) c.args.message.now.span c.args.checker.now c.expr.new.checker c.aborted.new.self c.in_ok-part.part outcome span_is c.in_ok-part.ensures last)
+    c.aborted.ensures
+
+pub assignment-assigned-requires-clause-present : goal.assignment-assigned-requires-clause-present
+assignment-assigned-requires-clause-present t c =
+    judged_present c.args.checker.now c.expr.new.checker c.in_ok-part.part c.in_ok-part.ensures.0 c.in_ok-part.ensures.2
+
+pub assignment-returns : goal.assignment-returns
+assignment-returns t c =
+    IfOk-weaker c.assigned.result _ _
+    (λ outcome assigned. assignment_judged c.args.span c.args.target.now (expr_of c.args.value.now) c.args.checker.now c.expr.new.checker c.assigned.new.self c.in_ok-part.part outcome c.in_ok-part.ensures assigned)
+    c.assigned.ensures
+
+pub merge_assignment-returns-in_ok-outcome-in-Nowhere : goal.merge_assignment-returns-in_ok-outcome-in-Nowhere
+merge_assignment-returns-in_ok-outcome-in-Nowhere t c =
+    subst (IsGivenAs c.args.span (merge c.args.target.now (expr_of c.args.value.now)) c.args.checker.now c.reported.new.self) (sym c.in_ok-outcome-in-Nowhere.ensures.same)
+    (nowhere_judged c.args.span c.args.target.now (expr_of c.args.value.now) c.args.checker.now c.expr.new.checker c.reported.new.self c.in_ok-part-in-Nowhere.part c.in_ok-outcome-in-Nowhere.outcome.ends c.in-Nowhere.is c.in_ok-part-in-Nowhere.ensures c.in_ok-outcome-in-Nowhere.ensures.reported)
+
+pub merge_assignment-assigned-requires-clause-present : goal.merge_assignment-assigned-requires-clause-present
+merge_assignment-assigned-requires-clause-present t c =
+    settled_present c.args.checker.now c.merge_into.new.checker c.in_ok-whole-in-Place.whole c.in_ok-merged-in-Place.merged c.in_ok-whole-in-Place.ensures.judged c.in_ok-merged-in-Place.ensures
+
+pub merge_assignment-returns-in_ok-merged-in-Place : goal.merge_assignment-returns-in_ok-merged-in-Place
+merge_assignment-returns-in_ok-merged-in-Place t c =
+    IfOk-weaker c.assigned.result _ _
+    (λ outcome assigned. merge_judged c.args.span c.in-Place.place c.in-Place.root c.in-Place.path c.args.target.now (expr_of c.args.value.now) c.args.checker.now c.merge_into.new.checker c.assigned.new.self c.in_ok-whole-in-Place.whole c.in_ok-merged-in-Place.merged outcome c.in-Place.is c.in_ok-whole-in-Place.ensures.given c.in_ok-merged-in-Place.ensures assigned)
+    c.assigned.ensures
+
+pub error_assignment-both_assigned-requires-clause-kind : goal.error_assignment-both_assigned-requires-clause-kind
+error_assignment-both_assigned-requires-clause-kind t c =
+    expr_root (expr_of c.args.value.now) _ c.expr.new.checker c.in_ok-part.part c.in_ok-part.ensures
+
+pub error_assignment-both_assigned-requires-clause-ends : goal.error_assignment-both_assigned-requires-clause-ends
+error_assignment-both_assigned-requires-clause-ends t c =
+    expr_ends (expr_of c.args.value.now) _ c.expr.new.checker c.in_ok-part.part c.in_ok-part.ensures
+
+pub error_assignment-returns : goal.error_assignment-returns
+error_assignment-returns t c =
+    let counted : vec_len c.args.checker.now.empties ≡ length c.args.checker.now.empties.items = search rules in
+    IfOk-weaker c.both_assigned.result _ _
+    (λ outcome last. error_judged c.args.span c.args.ok.now c.args.err.now (expr_of c.args.value.now) c.args.checker.now _ c.expr.new.checker c.both_assigned.new.self c.len-place.result c.in_ok-part.part outcome refl refl refl c.in_ok-push.ensures.items (c.len-place.ensures ∙ counted) c.in_ok-part.ensures last)
+    c.both_assigned.ensures
+
+pub call-arguments-requires : goal.call-arguments-requires
+call-arguments-requires t c =
+    let a = out-Call c.args.call.now in
+    let is : call_of c.args.call.now ≡ call a.name a.name_span a.bang (args_of a.args) (closure_in (option_map closure_of a.closure)) = search (rules, the_lemmas) in
+    (omega (arith, c.decreases, ap form_size is), arguments_can _ _ _ _ _ (subst (FormCanBeJudged c.args.checker.now.patterns.now) is c.requires))
+
+pub call-called-requires-clause-form : goal.call-called-requires-clause-form
+call-called-requires-clause-form t c =
+    form_at c.args.checker.now c.arguments.new.checker (call_of c.args.call.now) c.in_ok-arguments.ensures.3.gathered.patterns c.requires
+
+pub call-called-requires-clause-told : goal.call-called-requires-clause-told
+call-called-requires-clause-told t c =
+    arguments_told _ c.args.checker.now c.arguments.new.checker c.in_ok-arguments.arguments c.in_ok-arguments.ensures
+
+pub call-called-requires-clause-ends : goal.call-called-requires-clause-ends
+call-called-requires-clause-ends t c =
+    arguments_are _ c.args.checker.now c.arguments.new.checker c.in_ok-arguments.arguments c.in_ok-arguments.ensures
+
+pub call-returns : goal.call-returns
+call-returns t c =
+    let a = out-Call c.args.call.now in
+    IfOk-weaker c.called.result _ _
+    (λ outcome called. call_given c.args.span (call_of c.args.call.now) (args_of a.args) c.args.checker.now c.arguments.new.checker c.called.new.checker c.in_ok-arguments.arguments outcome c.in_ok-arguments.ensures called)
+    c.called.ensures
+
+pub arguments-loop-arg-init : goal.arguments-loop-arg-init
+arguments-loop-arg-init t c =
+    arguments_first c.args.checker.now (args_of c.args.args.now) (args_view c.as_slice-arg-items.result.now) _ _ c.as_slice-arg-items.ensures c.new-parts.ensures.items c.none-ends.ensures c.requires
+
+pub arguments-expr-requires : goal.arguments-expr-requires
+arguments-expr-requires t c =
+    let l = c.loop-arg in
+    let all = c.as_slice-arg-items.result.now in
+    let a = out-Arg c.arg-item.result in
+    let is : arg_of c.arg-item.result ≡ (a.name, a.span, expr_of a.value) = search (rules, the_lemmas) in
+    let next = next_arg all l.arg-index c.arg-item.result c.loop-arg-test.true c.arg-item.is ∙ ap (λ g. arg g.0 g.1 g.2 (args_view (drop (l.arg-index + 1) all))) is in
+    let fewer = argument_fewer _ _ _ _ _ _ _ _ _ _ next l.invariant in
+    (omega (arith, c.decreases, fewer), argument_can_next _ _ _ _ _ _ _ _ _ _ next l.invariant)
+
+pub arguments-argument-requires : goal.arguments-argument-requires
+arguments-argument-requires t c =
+    let l = c.loop-arg in
+    let a = out-Arg c.arg-item.result in
+    argument_common _ l.checker c.expr.new.checker _ _ (expr_of a.value) _ _ c.in_ok-part.part l.invariant c.in_ok-part.ensures
+
+pub arguments-loop-arg-preserved : goal.arguments-loop-arg-preserved
+arguments-loop-arg-preserved t c =
+    let l = c.loop-arg in
+    let all = c.as_slice-arg-items.result.now in
+    let a = out-Arg c.arg-item.result in
+    let is : arg_of c.arg-item.result ≡ (a.name, a.span, expr_of a.value) = search (rules, the_lemmas) in
+    let next = next_arg all l.arg-index c.arg-item.result c.loop-arg-test.true c.arg-item.is ∙ ap (λ g. arg g.0 g.1 g.2 (args_view (drop (l.arg-index + 1) all))) is in
+    arguments_next _ l.checker c.expr.new.checker _ _ (args_view (drop (l.arg-index + 1) all)) a.name a.span (expr_of a.value) _ _ c.in_ok-argument.argument _ _ c.in_ok-part.part next c.in_ok-push.ensures.items l.invariant c.in_ok-part.ensures
+    c.in_ok-argument.ensures.argument c.in_ok-argument.ensures.joined (c.in_ok-argument.ensures.scopes _)
+
+pub arguments-returns : goal.arguments-returns
+arguments-returns t c =
+    let l = c.loop-arg in
+    arguments_given _ _ _ _ _ (no_arg_left c.as_slice-arg-items.result.now l.arg-index c.loop-arg-test.false) l.invariant

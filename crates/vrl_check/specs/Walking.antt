@@ -1,0 +1,131 @@
+-- What the walk over a script is asked, and what it gives.
+use Rattle.std.specs.Prelude.{◌≡◌, ℕ, true, false, List, [], Some, None, length, ◌++◌}
+use Rattle.vrl_diag.specs.declared.diagnostic.Span.{Span}
+use Rattle.vrl_syntax.specs.Limits.{args_faults, expr_faults, form_faults, exprs_faults, pairs_faults, arms_faults, else_faults}
+use Rattle.vrl_syntax.specs.Regexes.{args_regexes_below, arms_regexes_below, else_regexes_below, expr_regexes_below, exprs_regexes_below, form_regexes_below, pairs_regexes_below}
+use Rattle.vrl_syntax.specs.Tree.{Args, Expr, Form, Exprs, Pairs, Arms, Else, no_else, else_block}
+use Rattle.vrl_syntax.specs.View.{ArmTree}
+use Rattle.vrl_kind.specs.Canonical.{never_kind}
+use Rattle.vrl_kind.specs.KindTree.{KindTree}
+use Rattle.vrl_state.specs.States.{RootMap, IsRootKind}
+use Rattle.vrl_check.specs.Calls.{args_hold_closure_call, arms_hold_closure_call, else_holds_closure_call, expr_holds_closure_call, exprs_hold_closure_call, form_holds_closure_call, pairs_hold_closure_call}
+use Rattle.vrl_judge.specs.Rules.{Judgement, IsScalar, IsThen, gives, settle, with_codes, of_predicate}
+use Rattle.vrl_check.specs.Judgement.{IsBeside, of_item, span_of}
+use Rattle.vrl_check.specs.Judgement.{Judges, Gives, JudgesAll, JudgesBlock, JudgesItems}
+use Rattle.vrl_judge.specs.declared.branches.Ways.{Ways}
+use Rattle.vrl_judge.specs.declared.checker.Checker.{Checker}
+use Rattle.vrl_judge.specs.declared.operators.Operands.{Operands}
+use Rattle.vrl_judge.specs.declared.outcome.Outcome.{Outcome}
+use Rattle.vrl_judge.specs.Judging.{HasJudged, HasOperands, known_on, IsWay, HasEnds}
+use Rattle.vrl_value.specs.declared.value.Tag.TheVariants as tag
+
+-- ---- what can be judged: it calls no function that takes a closure, its paths keep their limits, and each of its regexes has a source
+
+pub record CanBeJudged (sources : List (List ℕ)) (e : Expr) : Type 0 where
+  pub calls : expr_holds_closure_call e ≡ false
+  pub limits : expr_faults e ≡ []
+  pub regexes : expr_regexes_below (length sources) e ≡ true
+
+pub record FormCanBeJudged (sources : List (List ℕ)) (f : Form) : Type 0 where
+  pub calls : form_holds_closure_call f ≡ false
+  pub limits : form_faults f ≡ []
+  pub regexes : form_regexes_below (length sources) f ≡ true
+
+pub record ItemsCanBeJudged (sources : List (List ℕ)) (es : Exprs) : Type 0 where
+  pub calls : exprs_hold_closure_call es ≡ false
+  pub limits : exprs_faults es ≡ []
+  pub regexes : exprs_regexes_below (length sources) es ≡ true
+
+pub record PairsCanBeJudged (sources : List (List ℕ)) (ps : Pairs) : Type 0 where
+  pub calls : pairs_hold_closure_call ps ≡ false
+  pub limits : pairs_faults ps ≡ []
+  pub regexes : pairs_regexes_below (length sources) ps ≡ true
+
+pub record ArmsCanBeJudged (sources : List (List ℕ)) (gs : Arms) : Type 0 where
+  pub calls : arms_hold_closure_call gs ≡ false
+  pub limits : arms_faults gs ≡ []
+  pub regexes : arms_regexes_below (length sources) gs ≡ true
+
+pub record ElseCanBeJudged (sources : List (List ℕ)) (otherwise : Else) : Type 0 where
+  pub calls : else_holds_closure_call otherwise ≡ false
+  pub limits : else_faults otherwise ≡ []
+  pub regexes : else_regexes_below (length sources) otherwise ≡ true
+
+-- arguments, whose paths are deleted or not
+pub record ArgumentsCanBeJudged (sources : List (List ℕ)) (gs : Args) : Type 0 where
+  pub calls : args_hold_closure_call gs ≡ false
+  pub limits : args_faults false gs ≡ []
+  pub regexes : args_regexes_below (length sources) gs ≡ true
+
+-- ---- what the walk gives
+
+-- an expression, a form where a way leads to it, items of a block, items before their block ends
+abbrev pub IsJudgedAs : Expr → Checker → Checker → Outcome → Type 0
+IsJudgedAs e before after outcome = (j : Judgement) × Judges before.patterns.now before.state.known e j × HasJudged before after outcome j
+
+abbrev pub IsGivenAs : Span → Form → Checker → Checker → Outcome → Type 0
+IsGivenAs span f before after outcome = (known : RootMap) → before.state.known ≡ Some known → (j : Judgement) × Gives before.patterns.now known span f j × HasJudged before after outcome j
+
+-- the same wherever it stands
+abbrev pub IsAnywhereAs : Form → Checker → Checker → Outcome → Type 0
+IsAnywhereAs f before after outcome = (span : Span) → IsGivenAs span f before after outcome
+
+abbrev pub IsBlockAs : Exprs → Checker → Checker → Outcome → Type 0
+IsBlockAs es before after outcome = (j : Judgement) × JudgesBlock before.patterns.now before.state.known es j × HasJudged before after outcome j
+
+abbrev pub IsSequenceAs : Exprs → Checker → Checker → Outcome → Type 0
+IsSequenceAs es before after outcome = (known : RootMap) → before.state.known ≡ Some known
+    → (N : KindTree) × (Ks : List KindTree) × (j : Judgement) × IsScalar tag.Null N × JudgesAll before.patterns.now (gives N (Some known)) es Ks j × HasJudged before after outcome j
+
+-- items of a script, and one of them
+abbrev pub IsScriptAs : Exprs → Checker → Checker → Outcome → Type 0
+IsScriptAs es before after outcome = (N : KindTree) × (j : Judgement) × IsScalar tag.Null N × JudgesItems before.patterns.now (gives N before.state.known) es j × HasJudged before after outcome (settle j)
+
+abbrev pub IsItemAs : Expr → Checker → Checker → Outcome → Type 0
+IsItemAs e before after outcome = (j : Judgement) × Judges before.patterns.now before.state.known e j × HasJudged before after outcome (with_codes (of_item (span_of e) j) j)
+
+-- ---- steps of the walk
+
+abbrev pub AreBoth : Expr → Expr → Checker → Checker → Operands → Type 0
+AreBoth l r before after parts = (j : Judgement) × (k : Judgement) × (whole : Judgement) × Judges before.patterns.now before.state.known l j × Judges before.patterns.now j.ok r k × IsThen j k whole × HasOperands before after parts j k whole
+
+-- the right one, behind the left one
+abbrev pub IsBesideAs : Expr → Outcome → Checker → Checker → Operands → Type 0
+IsBesideAs r left now after parts = (before : Checker) (j : Judgement) → HasJudged before now left j
+    → (k : Judgement) × (whole : Judgement) × Judges before.patterns.now now.state.known r k × IsThen j k whole × HasOperands before after parts j k whole
+
+-- the ways of an `if` that were judged so far
+pub record HasWays (before now : Checker) (ways : Ways) (w : Judgement) : Type 0 where
+  pub kind : ways.kind ≡ w.kind
+  pub root : IsRootKind w.kind
+  pub alive : IsWay before.state.scopes ways.ok
+  pub ok : known_on ways.ok ≡ w.ok
+  pub ends : HasEnds before.state.scopes ways.ends w
+  pub scopes : now.state.scopes ≡ before.state.scopes
+  pub diagnostics : now.diagnostics.items ≡ before.diagnostics.items ++ w.codes
+  pub empties : now.empties.items ≡ before.empties.items ++ w.empties
+  pub patterns : now.patterns ≡ before.patterns
+
+-- a predicate, with its own codes
+abbrev pub predicate_of : Expr → Judgement → Judgement
+predicate_of p j = with_codes (of_predicate (span_of p) j) j
+
+-- a predicate and its block, beside the ways before them
+pub record IsArmAs (a : ArmTree) (w : Judgement) (before now after : Checker) (ways : Ways) : Type 0 where
+  pub j : Judgement
+  pub k : Judgement
+  pub with_predicate : Judgement
+  pub all : Judgement
+  pub predicate : Judges now.patterns.now now.state.known a.0 j
+  pub first : IsBeside w (record (predicate_of a.0 j) { kind = never_kind; ok = None }) with_predicate
+  pub block : JudgesBlock now.patterns.now j.ok a.1 k
+  pub second : IsBeside with_predicate k all
+  pub known : after.state.known ≡ j.ok
+  pub told : HasWays before after ways all
+
+abbrev pub IsArmBehind : ArmTree → Ways → Checker → Checker → Ways → Type 0
+IsArmBehind a ways now after all = (before : Checker) (w : Judgement) → HasWays before now ways w → IsArmAs a w before now after all
+
+abbrev pub IsElseAs : Else → Checker → Checker → Outcome → Type 0
+IsElseAs (else_block es) before after outcome = IsBlockAs es before after outcome
+IsElseAs no_else before after outcome = (N : KindTree) × IsScalar tag.Null N × HasJudged before after outcome (settle (gives N before.state.known))

@@ -1,0 +1,12 @@
+pub mod Assigning
+pub mod Between
+pub mod Containers
+pub mod Deleted
+pub mod Forms
+pub mod Gathering
+pub mod Joining
+pub mod Order
+pub mod Parts
+pub mod RootKinds
+pub mod Scalars
+pub mod Told

@@ -1,0 +1,20 @@
+-- What the walk keeps of an argument, and what it does behind a call.
+use Rattle.std.specs.Prelude.{Bool}
+use Rattle.vrl_diag.specs.declared.diagnostic.Span.{Span}
+use Rattle.vrl_judge.specs.Rules.{Argument, Judgement, banged, is_fallible, is_known}
+use Rattle.vrl_judge.specs.Judging.{HasJudged}
+use Rattle.vrl_judge.specs.declared.calls.Argument.{Argument as CodeArgument}
+use Rattle.vrl_judge.specs.declared.checker.Checker.{Checker}
+use Rattle.vrl_judge.specs.declared.outcome.Outcome.{Outcome}
+
+-- ---- arguments that were judged
+
+-- what the walk keeps of an argument
+abbrev pub told : Argument → CodeArgument
+told g = record { kind = g.judged.kind; fallible = is_fallible g.judged; known = is_known g.judged }
+
+-- ---- what is called
+
+-- a `!` leaves no error
+abbrev pub IsBangedAs : Span → Bool → Outcome → Checker → Checker → Outcome → Type 0
+IsBangedAs span bang part now after outcome = (before : Checker) (j : Judgement) → HasJudged before now part j → HasJudged before after outcome (banged span bang j)

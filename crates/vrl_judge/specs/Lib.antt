@@ -1,0 +1,9 @@
+pub mod Assigning
+pub mod Branching
+pub mod Calling
+pub mod Judging
+pub mod Ordered
+pub mod Partners
+pub mod Returns
+pub mod Rules
+pub mod Seen

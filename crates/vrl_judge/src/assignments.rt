@@ -1,0 +1,241 @@
+ghost use Rattle.std.specs.Prelude.{[], false, is_some, not, ◌&&◌, ◌||◌, ◌≡◌, IfOk, OnOk};
+ghost use Rattle.vrl_judge.specs.Assigning.{AreAssigned};
+ghost use Rattle.vrl_judge.specs.Judging.{known_on, AreBothWritten, AreEnds, AreWritten, AreWrittenBeside, HasEnds, IsAssignedAs, IsMoved, IsPutAt, IsReported, IsWay};
+ghost use Rattle.vrl_judge.specs.Rules.{is_event as is_event_itself, is_no_event as is_no_event_at, is_nowhere as takes_nothing, of_error_assignment, IsWritten, Judgement};
+ghost use Rattle.vrl_kind.specs.Canonical.{allows_absent};
+ghost use Rattle.vrl_kind.specs.Kinds.{found_at};
+ghost use Rattle.vrl_state.specs.States.{IsCutOf, IsRootKind};
+ghost use Rattle.vrl_syntax.specs.ErrorAssignments.{empty_value as empty_value_of};
+ghost use Rattle.vrl_syntax.specs.Limits.{target_faults};
+
+use crate::checker::Checker;
+use crate::ends::Ends;
+use crate::kinds::{cut_kind_of, either, empty_tag, empty_value, may_be_event, scalar};
+use crate::outcome::Outcome;
+use std::alloc::Global;
+use vrl_diag::Span;
+use vrl_kind::Kind;
+use vrl_state::Branch;
+use vrl_syntax::{Root, Target};
+use vrl_value::{Memory, Tag};
+
+impl Checker<'_> {
+    // Writes a kind where a target says; one that takes nothing changes nothing. `Memory`: want of memory.
+    fn write(&mut self, target: &Target, kind: &Kind) -> Result<(), Memory>
+        requires target { target_faults target.now ≡ [] }
+        requires present { allows_absent kind.now ≡ false }
+        ensures written { OnOk result (IsWritten target.now kind.now self.old.state.known self.new.state.known) }
+        ensures others { IsMoved self.old self.new }
+    {
+        match target {
+            Target::Nowhere => Ok(()),
+            Target::Place(_, root, path) => self.state.assign(self.alloc, root, path, kind),
+        }
+    }
+
+    /// An assignment, behind its expression: one that may fail is 103, a target that takes nothing 640, and an event that is neither an object nor
+    /// an array 1006. `Memory`: want of memory.
+    pub fn assigned(&mut self, span: Span, target: &Target, part: Outcome) -> Result<Outcome, Memory>
+        requires target { target_faults target.now ≡ [] }
+        requires present { allows_absent part.kind ≡ false }
+        ensures { IfOk result (λ outcome. IsAssignedAs span target.now part self.old self.new outcome) }
+    {
+        let mut part = part;
+        let fallible = part.is_fallible();
+        let no_event = self.puts_no_event(target, &part);
+        self.report(&mut part.ends, fallible, 103, span)?;
+        self.report(&mut part.ends, is_nowhere(target), 640, span)?;
+        self.report(&mut part.ends, no_event, 1006, span)?;
+        self.write(target, &part.kind)?;
+        Ok(part)
+    }
+
+    // Whether the event gets a value that can't stand there.
+    fn puts_no_event(&self, target: &Target, part: &Outcome) -> bool
+        ensures { result ≡ (is_some self.now.state.known && not part.now.ends.poisoned && is_no_event_at target.now part.now.kind) }
+    {
+        self.is_known(part) && is_no_event(target, &part.kind)
+    }
+
+    /// An error assignment, behind its expression, with the place of its empty value: behind a value the value and null are written, and behind an
+    /// error the empty value and a text. `Memory`: want of memory.
+    pub fn both_assigned(
+        &mut self,
+        span: Span,
+        ok: &Target,
+        err: &Target,
+        place: usize,
+        part: Outcome,
+    ) -> Result<Outcome, Memory>
+        requires ok { target_faults ok.now ≡ [] }
+        requires err { target_faults err.now ≡ [] }
+        requires kind { IsRootKind part.kind }
+        requires ends { AreEnds self.old.state.scopes part.ends }
+        ensures { IfOk result (AreAssigned span ok.now err.now place part self.old self.new) }
+    {
+        let mut part = part;
+        let tag = empty_tag(&part.kind);
+        self.put_empty(place, tag);
+        let empty = empty_kind(self.alloc, tag)?;
+        let whole = either(self.alloc, &part.kind, &empty)?;
+        self.error_codes(span, ok, err, &mut part.ends, &whole)?;
+        let fail = part.ends.fail.take();
+        self.write_both(ok, err, &part.kind, &empty, fail)?;
+        part.kind = whole;
+        Ok(part)
+    }
+
+    // The empty value of an error assignment whose place was kept.
+    fn put_empty(&mut self, place: usize, tag: Tag)
+        ensures empties { IsPutAt place tag self.old.empties.items self.new.empties.items }
+        ensures state { self.new.state ≡ self.old.state }
+        ensures diagnostics { self.new.diagnostics ≡ self.old.diagnostics }
+        ensures patterns { self.new.patterns ≡ self.old.patterns }
+    {
+        if place < self.empties.len() {
+            self.empties[place] = tag;
+        }
+    }
+
+    // An expression that can't fail is 104, and two targets that take nothing are 640. An event that is
+    // neither an object nor an array is 1006, once.
+    fn error_codes(
+        &mut self,
+        span: Span,
+        ok: &Target,
+        err: &Target,
+        ends: &mut Ends,
+        kind: &Kind,
+    ) -> Result<(), Memory>
+        ensures { OnOk result ((j : Judgement) → self.old.state.known ≡ j.ok → HasEnds self.old.state.scopes ends.old j
+            → IsReported (of_error_assignment span ok.now err.now j kind.now) self.old self.new ends.old ends.new) }
+    {
+        let needless = is_needless(ends);
+        let no_event = self.writes_no_event(ok, err, ends, kind);
+        self.report(ends, needless, 104, span)?;
+        self.report(ends, are_nowhere(ok, err), 640, span)?;
+        self.report(ends, no_event, 1006, span)
+    }
+
+    // Whether the event may get a value that can't stand there, where the assignment is reached.
+    fn writes_no_event(&self, ok: &Target, err: &Target, ends: &Ends, kind: &Kind) -> bool
+        ensures { result ≡ ((is_some self.now.state.known || is_some ends.now.fail)
+            && ((not ends.now.poisoned && is_no_event_at ok.now kind.now) || is_event_itself err.now)) }
+    {
+        let reached = self.is_alive() || ends.fail.is_some();
+        let no_event = (!ends.poisoned && is_no_event(ok, kind)) || is_event(err);
+        reached && no_event
+    }
+
+    // Writes both targets behind a value, and behind an error, and joins what is known then.
+    fn write_both(
+        &mut self,
+        ok: &Target,
+        err: &Target,
+        kind: &Kind,
+        empty: &Kind,
+        fail: Option<Branch>,
+    ) -> Result<(), Memory>
+        requires ok { target_faults ok.now ≡ [] }
+        requires err { target_faults err.now ≡ [] }
+        requires present { allows_absent kind.now ≡ false }
+        requires empty { allows_absent empty.now ≡ false }
+        requires way { IsWay self.old.state.scopes fail }
+        ensures written { OnOk result (AreBothWritten ok.now err.now kind.now empty.now self.old.state.known (known_on fail) self.new.state.known) }
+        ensures others { IsMoved self.old self.new }
+    {
+        let null = scalar(self.alloc, Tag::Null)?;
+        let text = scalar(self.alloc, Tag::Text)?;
+        self.write_two(ok, err, kind, &null)?;
+        self.write_behind_error(ok, err, empty, &text, fail)
+    }
+
+    // Writes both behind an error alone, and joins what is known then. `Memory`: want of memory.
+    fn write_behind_error(
+        &mut self,
+        ok: &Target,
+        err: &Target,
+        empty: &Kind,
+        text: &Kind,
+        fail: Option<Branch>,
+    ) -> Result<(), Memory>
+        requires ok { target_faults ok.now ≡ [] }
+        requires err { target_faults err.now ≡ [] }
+        requires empty { allows_absent empty.now ≡ false }
+        requires text { allows_absent text.now ≡ false }
+        requires way { IsWay self.old.state.scopes fail }
+        ensures written { OnOk result (AreWrittenBeside ok.now err.now empty.now text.now self.old.state.known (known_on fail) self.new.state.known) }
+        ensures others { IsMoved self.old self.new }
+    {
+        if fail.is_none() {
+            return Ok(());
+        }
+        let mark = self.state.mark(self.alloc)?;
+        self.go_to(fail)?;
+        self.write_two(ok, err, empty, text)?;
+        self.join_behind(mark)
+    }
+
+    // Writes one target, and then the other. `Memory`: want of memory.
+    fn write_two(
+        &mut self,
+        ok: &Target,
+        err: &Target,
+        first: &Kind,
+        second: &Kind,
+    ) -> Result<(), Memory>
+        requires ok { target_faults ok.now ≡ [] }
+        requires err { target_faults err.now ≡ [] }
+        requires first { allows_absent first.now ≡ false }
+        requires second { allows_absent second.now ≡ false }
+        ensures written { OnOk result (AreWritten ok.now err.now first.now second.now self.old.state.known self.new.state.known) }
+        ensures others { IsMoved self.old self.new }
+    {
+        self.write(ok, first)?;
+        self.write(err, second)
+    }
+}
+
+// The kind of the empty value of a tag, cut. `Memory`: want of memory.
+fn empty_kind(alloc: Global, tag: Tag) -> Result<Kind, Memory>
+    ensures { IfOk result (IsCutOf (found_at (empty_value_of tag))) }
+{
+    let value = empty_value(alloc, tag)?;
+    cut_kind_of(alloc, &value)
+}
+
+/// Whether an expression can't fail, and no code tells why.
+pub fn is_needless(ends: &Ends) -> bool
+    ensures { result ≡ not (ends.now.poisoned || is_some ends.now.fail) }
+{
+    !(ends.poisoned || ends.fail.is_some())
+}
+
+fn are_nowhere(ok: &Target, err: &Target) -> bool
+    ensures { result ≡ (takes_nothing ok.now && takes_nothing err.now) }
+{
+    is_nowhere(ok) && is_nowhere(err)
+}
+
+fn is_nowhere(target: &Target) -> bool
+    ensures { result ≡ takes_nothing target.now }
+{
+    matches!(target, Target::Nowhere)
+}
+
+// Whether a target is the event itself.
+fn is_event(target: &Target) -> bool
+    ensures { result ≡ is_event_itself target.now }
+{
+    match target {
+        Target::Place(_, Root::Event, path) => path.as_slice().is_empty(),
+        _ => false,
+    }
+}
+
+// Whether a target is the event itself, and the kind neither an array nor an object.
+fn is_no_event(target: &Target, kind: &Kind) -> bool
+    ensures { result ≡ is_no_event_at target.now kind.now }
+{
+    is_event(target) && !may_be_event(kind)
+}

@@ -1,0 +1,269 @@
+ghost use Rattle.std.specs.Prelude.{[], not, ◌≡◌, IfOk, IfSome, None, OnOk};
+ghost use Rattle.vrl_judge.specs.Branching.{is_message_wrong, no_ways, of_message, AreBothSides, AreWays, IsAborted, IsBlockBeside, IsConjoined, IsLastBeside, IsLeftSide, IsOrFail, IsPredicateBeside, IsReturned, StandsIn};
+ghost use Rattle.vrl_judge.specs.Judging.{kept_if, known_on, AreEnds, IsMoved, IsReported};
+ghost use Rattle.vrl_judge.specs.Rules.{if_state, may_be_no_truth as may_be_another, may_be_truth as may_be_true, of_predicate, or_else_at};
+ghost use Rattle.vrl_judge.specs.Seen.{seen};
+ghost use Rattle.vrl_kind.specs.Kinds.{root_tags};
+ghost use Rattle.vrl_place.specs.Sets.{is_alone};
+ghost use Rattle.vrl_state.specs.States.{IsCutOf, IsEither, IsJoined, IsRootKind};
+ghost use Rattle.vrl_value.specs.declared.value.Tag.TheVariants as tags;
+
+use crate::checker::Checker;
+use crate::ends::{Ends, add_way};
+use crate::kinds::{either, is_exactly, may_be_no_truth, may_be_truth, scalar, widen};
+use crate::outcome::Outcome;
+use std::alloc::Global;
+use vrl_diag::Span;
+use vrl_kind::{Kind, has, without};
+use vrl_state::{Branch, Mark};
+use vrl_value::{Memory, Tag};
+
+/// The left side of a `&&`, a `||` or a `??`, behind which the right one is judged.
+#[derive(Drop)]
+pub struct LeftSide {
+    /// What it was judged to be.
+    pub part: Outcome,
+    /// What is known where the right side is left out. `None`: the whole doesn't end with a value there.
+    pub beside: Option<Mark>,
+}
+
+/// The ways of an `if` that were judged so far.
+#[derive(Drop)]
+pub struct Ways {
+    /// The kind of what they give.
+    pub kind: Kind,
+    /// What is known where they end with a value. `None`: none of them does.
+    pub ok: Option<Branch>,
+    /// Their other ends.
+    pub ends: Ends,
+}
+
+impl Checker<'_> {
+    // The state here, to come back to, if it is wanted. `Memory`: want of memory.
+    fn mark_if(&mut self, wanted: bool) -> Result<Option<Mark>, Memory>
+        ensures mark { IfOk result (λ mark. mark ≡ kept_if wanted self.old.state) }
+        ensures checker { self.new ≡ self.old }
+    {
+        if wanted {
+            Ok(Some(self.state.mark(self.alloc)?))
+        } else {
+            Ok(None)
+        }
+    }
+
+    // What is known where the state was marked, or here; without a mark, here.
+    fn join_behind_if(&mut self, mark: Option<Mark>) -> Result<(), Memory>
+        requires { IfSome mark (λ m. m.scopes ≡ self.old.state.scopes) }
+        ensures known { OnOk result (IsJoined (known_on mark) self.old.state.known self.new.state.known) }
+        ensures others { IsMoved self.old self.new }
+    {
+        match mark {
+            None => Ok(()),
+            Some(mark) => self.join_behind(mark),
+        }
+    }
+
+    /// The left side of a `&&`. It ends with an error where it is neither a boolean nor null; the right side is judged where it may be a boolean, and
+    /// left out where it may be a boolean or null. `Memory`: want of memory.
+    pub fn left_of_and(&mut self, part: Outcome) -> Result<LeftSide, Memory>
+        requires { AreEnds self.old.state.scopes part.ends }
+        ensures side { IfOk result (IsLeftSide (if_state (root_tags part.kind tags.Bool) self.old.state.known)
+            (if_state (may_be_true part.kind) self.old.state.known) self.old self.new) }
+        ensures kind { IfOk result (λ side. side.part.kind ≡ part.kind) }
+        ensures ends { IfOk result (λ side. IsOrFail part.ends (if_state (may_be_another part.kind) self.old.state.known) side.part.ends) }
+    {
+        let mut part = part;
+        let refuses = may_be_no_truth(&part.kind);
+        self.fail_if(&mut part.ends, refuses)?;
+        let beside = self.mark_if(may_be_truth(&part.kind))?;
+        self.go_on_if(has(&part.kind, Tag::Bool));
+        Ok(LeftSide { part, beside })
+    }
+
+    /// A `&&`, behind both sides: the right one ends with an error where it is neither a boolean nor null. `Memory`: want of memory.
+    pub fn conjoined(&mut self, left: LeftSide, right: Outcome) -> Result<Outcome, Memory>
+        requires left { StandsIn self.old.state.scopes left }
+        requires right { AreEnds self.old.state.scopes right.ends }
+        ensures { IfOk result (IsConjoined left right self.old self.new) }
+    {
+        let refused = self.branch_if(may_be_no_truth(&right.kind))?;
+        self.go_on_if(may_be_truth(&right.kind));
+        let mut both = self.both_sides(left, right.ends)?;
+        both.ends.add_fail(self.alloc, refused)?;
+        both.kind = scalar(self.alloc, Tag::Bool)?;
+        Ok(both)
+    }
+
+    /// The left side of a `||`: the right one is judged where it may be null or a boolean, and left out where it isn't exactly null. `Memory`: want
+    /// of memory.
+    pub fn left_of_or(&mut self, part: Outcome) -> Result<LeftSide, Memory>
+        requires { AreEnds self.old.state.scopes part.ends }
+        ensures side { IfOk result (IsLeftSide (if_state (may_be_true part.kind) self.old.state.known)
+            (if_state (not (is_alone (root_tags part.kind) tags.Null)) self.old.state.known) self.old self.new) }
+        ensures part { IfOk result (λ side. side.part ≡ part) }
+    {
+        let beside = self.mark_if(!is_exactly(&part.kind, Tag::Null))?;
+        self.go_on_if(may_be_truth(&part.kind));
+        Ok(LeftSide { part, beside })
+    }
+
+    /// A `||`, behind both sides: either value, but for a null on the left. `Memory`: want of memory.
+    pub fn disjoined(&mut self, left: LeftSide, right: Outcome) -> Result<Outcome, Memory>
+        requires left { StandsIn self.old.state.scopes left }
+        requires right { AreEnds self.old.state.scopes right.ends }
+        ensures kind { IfOk result (λ outcome. IsCutOf (or_else_at left.part.kind right.kind) outcome.kind) }
+        ensures sides { IfOk result (λ outcome. AreBothSides left right.ends self.old self.new outcome.ends) }
+    {
+        let mut both = self.both_sides(left, right.ends)?;
+        both.kind = or_else(self.alloc, &both.kind, &right.kind)?;
+        Ok(both)
+    }
+
+    /// The left side of a `??`: the right one is judged where it ended with an error, of which none is left. Where it ends with a value, the whole
+    /// does. `Memory`: want of memory.
+    pub fn left_of_coalescing(&mut self, part: Outcome) -> Result<LeftSide, Memory>
+        requires { AreEnds self.old.state.scopes part.ends }
+        ensures side { IfOk result (IsLeftSide (known_on part.ends.fail) self.old.state.known self.old self.new) }
+        ensures part { IfOk result (λ side. side.part ≡ record part { ends = record part.ends { fail = None } }) }
+    {
+        let mut part = part;
+        let beside = self.mark_if(true)?;
+        let fail = part.ends.fail.take();
+        self.go_to(fail)?;
+        Ok(LeftSide { part, beside })
+    }
+
+    /// A `??`, behind both sides: either value. `Memory`: want of memory.
+    pub fn coalesced(&mut self, left: LeftSide, right: Outcome) -> Result<Outcome, Memory>
+        requires left { StandsIn self.old.state.scopes left }
+        requires right { AreEnds self.old.state.scopes right.ends }
+        ensures kind { IfOk result (λ outcome. IsEither left.part.kind right.kind outcome.kind) }
+        ensures sides { IfOk result (λ outcome. AreBothSides left right.ends self.old self.new outcome.ends) }
+    {
+        let mut both = self.both_sides(left, right.ends)?;
+        widen(&mut both.kind, self.alloc, &right.kind)?;
+        Ok(both)
+    }
+
+    // The left side with the ends of both; what is known is that behind the right side or where it is left out.
+    fn both_sides(&mut self, left: LeftSide, right: Ends) -> Result<Outcome, Memory>
+        requires left { StandsIn self.old.state.scopes left }
+        requires right { AreEnds self.old.state.scopes right }
+        ensures kind { IfOk result (λ both. both.kind ≡ left.part.kind) }
+        ensures sides { IfOk result (λ both. AreBothSides left right self.old self.new both.ends) }
+    {
+        let LeftSide { mut part, beside } = left;
+        self.join_behind_if(beside)?;
+        part.ends.add(self.alloc, right)?;
+        Ok(part)
+    }
+
+    /// Adds a predicate to the ways before it: one that may fail is 1005, and one that isn't exactly a boolean 102. `Memory`: want of memory.
+    pub fn add_predicate(&mut self, ways: &mut Ways, part: Outcome, span: Span) -> Result<(), Memory>
+        requires ways { AreWays self.old.state.scopes ways.old }
+        requires part { AreEnds self.old.state.scopes part.ends }
+        ensures { OnOk result (IsPredicateBeside span part ways.old self.old self.new ways.new) }
+    {
+        let predicate = self.predicate(part, span)?;
+        ways.ends.add(self.alloc, predicate)?;
+        Ok(())
+    }
+
+    // A predicate that may fail is 1005, and one that isn't exactly a boolean 102.
+    fn predicate(&mut self, part: Outcome, span: Span) -> Result<Ends, Memory>
+        requires { AreEnds self.old.state.scopes part.ends }
+        ensures { IfOk result (IsReported (of_predicate span (seen part self.old [] [])) self.old self.new part.ends) }
+    {
+        let mut part = part;
+        if part.is_fallible() {
+            self.report(&mut part.ends, true, 1005, span)?;
+            return Ok(part.ends);
+        }
+        let other = self.is_other(Tag::Bool, &part);
+        self.report(&mut part.ends, other, 102, span)?;
+        Ok(part.ends)
+    }
+
+    /// Adds the block behind a predicate to the ways before it, and goes back to the state behind the predicate. `Memory`: want of memory.
+    pub fn add_block(&mut self, ways: &mut Ways, mark: Mark, block: Outcome) -> Result<(), Memory>
+        requires ways { AreWays self.old.state.scopes ways.old }
+        requires block { AreEnds self.old.state.scopes block.ends }
+        ensures { OnOk result (IsBlockBeside mark block ways.old self.old self.new ways.new) }
+    {
+        let left = self.back(mark);
+        add_way(&mut ways.ok, self.alloc, left)?;
+        let kind = ways.ends.absorb(self.alloc, block)?;
+        widen(&mut ways.kind, self.alloc, &kind)?;
+        Ok(())
+    }
+
+    /// The last way beside the others, and what is known behind any of them. `Memory`: want of memory.
+    pub fn add_last(&mut self, ways: Ways, last: Outcome) -> Result<Outcome, Memory>
+        requires ways { AreWays self.old.state.scopes ways }
+        requires last { AreEnds self.old.state.scopes last.ends }
+        ensures { IfOk result (IsLastBeside ways last self.old self.new) }
+    {
+        let Ways { kind, ok, ends } = ways;
+        self.join(ok)?;
+        let mut all = Outcome { kind, ends };
+        let kind = all.ends.absorb(self.alloc, last)?;
+        widen(&mut all.kind, self.alloc, &kind)?;
+        Ok(all)
+    }
+
+    /// A return, behind its expression: no way leads on. `Memory`: want of memory.
+    pub fn returned(&mut self, part: Outcome) -> Result<Outcome, Memory>
+        requires ends { AreEnds self.old.state.scopes part.ends }
+        requires kind { IsRootKind part.kind }
+        ensures { IfOk result (IsReturned part self.old self.new) }
+    {
+        let Outcome { kind, mut ends } = part;
+        let here = self.return_of(kind)?;
+        ends.add_return(self.alloc, here)?;
+        self.state.kill();
+        let kind = Kind::never(self.alloc)?;
+        Ok(Outcome { kind, ends })
+    }
+
+    /// An abort, behind its message: one that may fail, or isn't exactly a text, is 1011. `Memory`: want of memory.
+    pub fn aborted(&mut self, part: Outcome, span: Span) -> Result<Outcome, Memory>
+        requires { AreEnds self.old.state.scopes part.ends }
+        ensures { IfOk result (IsAborted (of_message span (seen part self.old [] [])) part self.old self.new) }
+    {
+        let mut part = part;
+        let wrong = self.is_no_message(&part);
+        self.report(&mut part.ends, wrong, 1011, span)?;
+        self.state.kill();
+        part.kind = Kind::never(self.alloc)?;
+        Ok(part)
+    }
+
+    // Whether it may fail, or isn't exactly a text.
+    fn is_no_message(&self, part: &Outcome) -> bool
+        requires { AreEnds self.now.state.scopes part.now.ends }
+        ensures { result ≡ is_message_wrong (seen part.now self.now [] []) }
+    {
+        part.is_fallible() || self.is_other(Tag::Text, part)
+    }
+}
+
+impl Ways {
+    /// No way so far. `Memory`: want of memory.
+    pub fn none(alloc: Global) -> Result<Ways, Memory>
+        ensures { IfOk result (λ ways. ways ≡ no_ways) }
+    {
+        Ok(Ways {
+            kind: Kind::never(alloc)?,
+            ok: None,
+            ends: Ends::none(),
+        })
+    }
+}
+
+// The kind of a value of the first, but for null, or of the second, cut. `Memory`: want of memory.
+fn or_else(alloc: Global, first: &Kind, second: &Kind) -> Result<Kind, Memory>
+    ensures { IfOk result (λ kind. IsCutOf (or_else_at first.now second.now) kind) }
+{
+    let rest = without(alloc, first, Tag::Null)?;
+    either(alloc, &rest, second)
+}

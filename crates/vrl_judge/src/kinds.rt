@@ -1,0 +1,139 @@
+ghost use Rattle.std.specs.Prelude.{false, find, option_copied, ◌||◌, ◌≡◌, IfOk, OnOk};
+ghost use Rattle.vrl_judge.specs.Rules.{empty_tag as tag_of_empty, may_be_no_truth as may_be_another, may_be_truth as may_be_true, IsReadAt, IsScalar};
+ghost use Rattle.vrl_kind.specs.Kinds.{found_at, root_tags};
+ghost use Rattle.vrl_kind.specs.Tags.{same_tag};
+ghost use Rattle.vrl_place.specs.Sets.{has_other as has_another, is_alone};
+ghost use Rattle.vrl_state.specs.States.{IsCutOf, IsEither};
+ghost use Rattle.vrl_syntax.specs.ErrorAssignments.{empty_value as value_of_empty};
+ghost use Rattle.vrl_value.specs.View.{tree_of};
+ghost use Rattle.vrl_value.specs.declared.value.Tag.TheVariants as tags;
+
+use std::alloc::Global;
+use std::collections::BTreeMap;
+use vrl_kind::{Kind, TAGS, cut, has, join, kind_is_canonical, kind_of};
+use vrl_path::Path;
+use vrl_place::read_kind;
+use vrl_value::{Chars, Fields, Items, Memory, Moment, Tag, Value};
+
+/// The kind of what is of either kind, cut. `Memory`: want of memory.
+pub fn either(alloc: Global, a: &Kind, b: &Kind) -> Result<Kind, Memory>
+    ensures { IfOk result (λ kind. IsEither a.now b.now kind) }
+{
+    let joined = join(alloc, a, b)?;
+    kind_is_canonical(&joined);
+    cut(alloc, &joined)
+}
+
+// Makes a kind the one of what is of it or of another, cut. `Memory`: want of memory.
+pub(crate) fn widen(kind: &mut Kind, alloc: Global, other: &Kind) -> Result<(), Memory>
+    ensures { OnOk result (IsEither kind.old other.now kind.new) }
+{
+    *kind = either(alloc, kind, other)?;
+    Ok(())
+}
+
+/// The kind of what is read at a path of a kind, cut. `Memory`: want of memory.
+pub fn read_cut(alloc: Global, kind: &Kind, path: &Path) -> Result<Kind, Memory>
+    ensures { IfOk result (λ found. IsReadAt kind.now path.now found) }
+{
+    let found = read_kind(alloc, kind, path)?;
+    kind_is_canonical(&found);
+    cut(alloc, &found)
+}
+
+/// The kind of a value, cut. `Memory`: want of memory.
+pub fn cut_kind_of(alloc: Global, value: &Value) -> Result<Kind, Memory>
+    ensures { IfOk result (λ kind. IsCutOf (found_at (tree_of value.now)) kind) }
+{
+    let kind = kind_of(alloc, value)?;
+    kind_is_canonical(&kind);
+    cut(alloc, &kind)
+}
+
+/// The kind of a scalar's tag. `Memory`: want of memory.
+pub fn scalar(alloc: Global, tag: Tag) -> Result<Kind, Memory>
+    requires { (same_tag tag tags.List || same_tag tag tags.Object) ≡ false }
+    ensures { IfOk result (λ kind. IsScalar tag kind) }
+{
+    let kind = Kind::of(alloc, tag)?;
+    kind_is_canonical(&kind);
+    cut(alloc, &kind)
+}
+
+// Whether the kind allows this tag, and no other.
+pub(crate) fn is_exactly(kind: &Kind, tag: Tag) -> bool
+    ensures { result ≡ is_alone (root_tags kind.now) tag }
+{
+    has(kind, tag) && !has_other(kind, tag)
+}
+
+// Whether the kind allows another tag than this.
+#[tactic(auto, unfolding(vrl_place::specs::Sets::has_other))]
+fn has_other(kind: &Kind, tag: Tag) -> bool
+    ensures { result ≡ has_another (root_tags kind.now) tag }
+{
+    TAGS.iter().any(|other| has(kind, *other) && *other != tag)
+}
+
+// Whether the kind allows a boolean or null.
+pub(crate) fn may_be_truth(kind: &Kind) -> bool
+    ensures { result ≡ may_be_true kind.now }
+{
+    has(kind, Tag::Bool) || has(kind, Tag::Null)
+}
+
+// Whether the kind allows neither a boolean nor null.
+#[tactic(auto, unfolding(crate::specs::Rules::may_be_no_truth))]
+pub(crate) fn may_be_no_truth(kind: &Kind) -> bool
+    ensures { result ≡ may_be_another kind.now }
+{
+    TAGS.iter().any(|tag| has(kind, *tag) && !(*tag == Tag::Bool || *tag == Tag::Null))
+}
+
+// Whether the kind allows an array or an object, which an event may be.
+pub(crate) fn may_be_event(kind: &Kind) -> bool
+    ensures { result ≡ (root_tags kind.now tags.List || root_tags kind.now tags.Object) }
+{
+    has(kind, Tag::List) || has(kind, Tag::Object)
+}
+
+// The tag of the empty value of a kind; that of null for a regex, for several tags and for none.
+pub(crate) fn empty_tag(kind: &Kind) -> Tag
+    ensures { result ≡ tag_of_empty kind.now }
+{
+    match first_alone(kind, &EMPTY_TAGS) {
+        Some(tag) => *tag,
+        None => Tag::Null,
+    }
+}
+
+// The first of these tags that the kind allows alone.
+fn first_alone<'a>(kind: &Kind, tags: &'a [Tag]) -> Option<&'a Tag>
+    ensures { option_copied result ≡ find (λ t. is_alone (root_tags kind.now) t) tags.now }
+{
+    tags.iter().find(|tag| is_exactly(kind, **tag))
+}
+
+const EMPTY_TAGS: [Tag; 6] = [
+    Tag::Text,
+    Tag::Int,
+    Tag::Bool,
+    Tag::Object,
+    Tag::List,
+    Tag::Time,
+];
+
+// The empty value of a tag. `Memory`: want of memory.
+pub(crate) fn empty_value(alloc: Global, tag: Tag) -> Result<Value, Memory>
+    ensures { IfOk result (λ value. tree_of value ≡ value_of_empty tag) }
+{
+    match tag {
+        Tag::Text => Ok(Value::Text(Chars::copy_of(alloc, "")?)),
+        Tag::Int => Ok(Value::Int(0)),
+        Tag::Bool => Ok(Value::Bool(false)),
+        Tag::Object => Ok(Value::Object(Fields::new(BTreeMap::new(alloc)))),
+        Tag::List => Ok(Value::List(Items::new(Vec::new(alloc)))),
+        Tag::Time => Ok(Value::Time(Moment::epoch())),
+        Tag::Null | Tag::Pattern | Tag::Absent => Ok(Value::Null),
+    }
+}

@@ -1,0 +1,30 @@
+//! What the judgement of a script makes of parts that were judged: operators, branches, assignments, blocks, returns and the arguments of
+//! calls, each behind its parts.
+//!
+//! A contract is told for all judgements of the parts. The walk over a script judges the parts, and hands them on.
+#![tactic(auto)]
+
+mod assignments;
+mod branches;
+mod calls;
+mod checker;
+mod ends;
+mod items;
+mod kinds;
+mod operators;
+mod ordering;
+mod outcome;
+mod tables;
+mod values;
+
+pub use assignments::is_needless;
+pub use branches::{LeftSide, Ways};
+pub use calls::{Argument, is_disjoint, part_has_others};
+pub use checker::Checker;
+pub use ends::{Ends, Returned, either_of};
+pub use kinds::{cut_kind_of, either, read_cut, scalar};
+pub use operators::Operands;
+pub use ordering::ordered;
+pub use outcome::Outcome;
+pub use tables::{Table, is_chained};
+pub use values::{add_field, array_kind, object_kind};

@@ -1,0 +1,129 @@
+ghost use Rattle.std.specs.Prelude.{IfOk};
+ghost use Rattle.vrl_judge.specs.Judging.{AreEnds, ArePairedAs, HaveCommonScopes, IsCombinedAs, IsEquatedAs, IsMergedAs, IsNegatedAs};
+ghost use Rattle.vrl_judge.specs.Rules.{IsMerged};
+
+use crate::checker::Checker;
+use crate::ends::{Ends, either_of};
+use crate::kinds::{is_exactly, scalar};
+use crate::outcome::Outcome;
+use crate::tables::Table;
+use vrl_diag::Span;
+use vrl_kind::{Kind, cut, kind_is_canonical, overlaid};
+use vrl_value::{Memory, Tag};
+
+/// Two operands that were judged in order.
+#[derive(Drop)]
+pub struct Operands {
+    /// The kind of the left one.
+    pub left: Kind,
+    /// The kind of the right one.
+    pub right: Kind,
+    /// The left one is known not to be exactly an object.
+    pub left_no_object: bool,
+    /// The right one is known not to be exactly an object.
+    pub right_no_object: bool,
+    /// The ends of both.
+    pub ends: Ends,
+}
+
+impl Checker<'_> {
+    /// A negation, behind its operand: one that isn't exactly a boolean is 660. `Memory`: want of memory.
+    pub fn negated(&mut self, span: Span, part: Outcome) -> Result<Outcome, Memory>
+        ensures { IfOk result (λ outcome. IsNegatedAs span part self.old self.new outcome) }
+    {
+        let mut part = part;
+        let other = self.is_other(Tag::Bool, &part);
+        self.report(&mut part.ends, other, 660, span)?;
+        part.kind = scalar(self.alloc, Tag::Bool)?;
+        Ok(part)
+    }
+
+    /// Both operands, where the right one was judged last. `Memory`: want of memory.
+    pub fn paired(
+        &self,
+        left: Outcome,
+        left_no_object: bool,
+        right: Outcome,
+    ) -> Result<Operands, Memory>
+        requires { HaveCommonScopes left.ends right.ends }
+        ensures { IfOk result (λ parts. ArePairedAs left left_no_object right self.now parts) }
+    {
+        let right_no_object = self.is_other(Tag::Object, &right);
+        let mut left = left;
+        let right_kind = left.ends.absorb(self.alloc, right)?;
+        Ok(Operands {
+            left: left.kind,
+            right: right_kind,
+            left_no_object,
+            right_no_object,
+            ends: left.ends,
+        })
+    }
+
+    /// An equality, behind its operands: a comparison of a comparison is 650. `Memory`: want of memory.
+    pub fn equated(&mut self, span: Span, chained: bool, parts: Operands) -> Result<Outcome, Memory>
+        ensures { IfOk result (λ outcome. IsEquatedAs span chained parts self.old self.new outcome) }
+    {
+        let mut parts = parts;
+        self.report(&mut parts.ends, chained, 650, span)?;
+        let kind = scalar(self.alloc, Tag::Bool)?;
+        let ends = parts.ends;
+        Ok(Outcome { kind, ends })
+    }
+
+    /// An operator of a table, behind its operands: a comparison of a comparison is 650. It may end with an error where a pair that isn't in the
+    /// table is possible, and not with a value where none of the table is; but behind an error code it goes on behind both operands. `Memory`: want of
+    /// memory.
+    pub fn combined(
+        &mut self,
+        span: Span,
+        table: Table,
+        chained: bool,
+        parts: Operands,
+    ) -> Result<Outcome, Memory>
+        requires { AreEnds self.old.state.scopes parts.ends }
+        ensures { IfOk result (λ outcome. IsCombinedAs span table chained parts self.old self.new outcome) }
+    {
+        let mut parts = parts;
+        self.report(&mut parts.ends, chained, 650, span)?;
+        let refuses = table.may_refuse(&parts.left, &parts.right);
+        self.fail_if(&mut parts.ends, refuses)?;
+        let takes = table.may_take(&parts.left, &parts.right);
+        self.go_on_if(either_of(parts.ends.poisoned, takes));
+        let kind = table.kind(self.alloc, &parts.left, &parts.right)?;
+        let ends = parts.ends;
+        Ok(Outcome { kind, ends })
+    }
+
+    /// A merge, behind its operands: a side that isn't exactly an object is 652. `Memory`: want of memory.
+    pub fn merged(
+        &mut self,
+        parts: Operands,
+        left_span: Span,
+        right_span: Span,
+    ) -> Result<Outcome, Memory>
+        ensures { IfOk result (λ outcome. IsMergedAs left_span right_span parts self.old self.new outcome) }
+    {
+        let mut parts = parts;
+        self.report(&mut parts.ends, parts.left_no_object, 652, left_span)?;
+        self.report(&mut parts.ends, parts.right_no_object, 652, right_span)?;
+        let kind = self.merged_kind(&parts.left, &parts.right)?;
+        let ends = parts.ends;
+        Ok(Outcome { kind, ends })
+    }
+
+    // The kind of a merge; any where a side isn't exactly an object, which is poisoned or gives no value.
+    fn merged_kind(&self, left: &Kind, right: &Kind) -> Result<Kind, Memory>
+        ensures { IfOk result (λ kind. IsMerged left.now right.now kind) }
+    {
+        if !is_exactly(left, Tag::Object) {
+            return Kind::any(self.alloc);
+        }
+        if !is_exactly(right, Tag::Object) {
+            return Kind::any(self.alloc);
+        }
+        let whole = overlaid(self.alloc, left, right)?;
+        kind_is_canonical(&whole);
+        cut(self.alloc, &whole)
+    }
+}

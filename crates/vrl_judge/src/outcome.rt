@@ -1,0 +1,68 @@
+ghost use Rattle.std.specs.Prelude.{is_some, ◌≡◌, IfOk, OnOk};
+ghost use Rattle.vrl_judge.specs.Judging.{no_ends, settled_ends};
+ghost use Rattle.vrl_judge.specs.Rules.{settled_kind as kind_settled};
+ghost use Rattle.vrl_kind.specs.Canonical.{never_kind};
+
+use crate::ends::Ends;
+use std::alloc::Global;
+use vrl_kind::Kind;
+use vrl_value::Memory;
+
+/// What an expression was judged to be.
+#[derive(Drop)]
+pub struct Outcome {
+    /// The kind of its value; never where it can't end with one, and any where it is poisoned.
+    pub kind: Kind,
+    /// Its other ends.
+    pub ends: Ends,
+}
+
+impl Outcome {
+    /// A value of this kind, and nothing else.
+    pub fn value(kind: Kind) -> Outcome
+        ensures kind { result.kind ≡ kind }
+        ensures ends { result.ends ≡ no_ends }
+    {
+        let ends = Ends::none();
+        Outcome { kind, ends }
+    }
+
+    /// Nothing can happen. `Memory`: want of memory.
+    pub fn nothing(alloc: Global) -> Result<Outcome, Memory>
+        ensures kind { IfOk result (λ outcome. outcome.kind ≡ never_kind) }
+        ensures ends { IfOk result (λ outcome. outcome.ends ≡ no_ends) }
+    {
+        Ok(Outcome::value(Kind::never(alloc)?))
+    }
+
+    /// Whether it may end with an error.
+    pub fn is_fallible(&self) -> bool
+        ensures { result ≡ is_some self.now.ends.fail }
+    {
+        self.ends.fail.is_some()
+    }
+
+    // What is poisoned has kind any and no error is left of it; what can't end with a value has kind never.
+    // `Memory`: want of memory.
+    pub(crate) fn settle(&mut self, alloc: Global, alive: bool) -> Result<(), Memory>
+        ensures kind { OnOk result (self.new.kind ≡ kind_settled self.old.ends.poisoned alive self.old.kind) }
+        ensures ends { OnOk result (self.new.ends ≡ settled_ends self.old.ends) }
+    {
+        settle_kind(&mut self.kind, alloc, self.ends.poisoned, alive)?;
+        self.ends.settle();
+        Ok(())
+    }
+}
+
+fn settle_kind(kind: &mut Kind, alloc: Global, poisoned: bool, alive: bool) -> Result<(), Memory>
+    ensures { OnOk result (kind.new ≡ kind_settled poisoned alive kind.old) }
+{
+    if poisoned {
+        *kind = Kind::any(alloc)?;
+        return Ok(());
+    }
+    if !alive {
+        *kind = Kind::never(alloc)?;
+    }
+    Ok(())
+}
