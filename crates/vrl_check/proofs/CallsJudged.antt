@@ -16,7 +16,8 @@ use Rattle.vrl_table.specs.declared.binding.BindFault.{BindFault}
 use Rattle.vrl_table.specs.declared.function.Fun.{Fun}
 use Rattle.vrl_check.specs.Calling.{callee_codes, callee_parameters, places_in, with_call_codes, AreRootKinds, AreTold, HasArguments, HasCodes, IsAnsweredAs, IsBound, IsBoundCallAs, IsDeletedAs, IsPassed, IsTold, IsUnknown}
 use Rattle.vrl_syntax.specs.Calls.{is_exists}
-use Rattle.vrl_check.specs.Calls.{args_hold_closure_call, closure_holds_closure_call, form_holds_closure_call, takes_closure}
+use Rattle.vrl_check.specs.Calls.{args_hold_closure_call, closure_holds_closure_call, form_holds_closure_call}
+use Rattle.vrl_syntax.specs.Calls.{takes_closure}
 use Rattle.vrl_check.specs.Empties.{closure_empties}
 use Rattle.vrl_judge.specs.Rules.{Argument, Judgement, at, gives, if_state, is_error, with_codes, IsScalar}
 use Rattle.vrl_check.specs.Judgement.{Gives, JudgesArguments, a_call, a_call_of_nothing, a_deletion, an_existence, bound, bound_by, deleted_kind, deleted_path, IsAnsweredUnless, IsDeletedAt}

@@ -9,7 +9,8 @@ use Rattle.vrl_syntax.specs.Tree.{Expr, expr, Form, array, object, query, group,
 use Rattle.vrl_syntax.specs.Written.{is_del}
 use Rattle.vrl_syntax.specs.declared.root.Op.{Op}
 use Rattle.vrl_syntax.specs.declared.root.Target.{Target}
-use Rattle.vrl_check.specs.Calls.{takes_closure, expr_holds_closure_call, exprs_hold_closure_call, pairs_hold_closure_call}
+use Rattle.vrl_check.specs.Calls.{expr_holds_closure_call, exprs_hold_closure_call, pairs_hold_closure_call}
+use Rattle.vrl_syntax.specs.Calls.{takes_closure}
 use Rattle.vrl_check.specs.Judgement.{pair_values}
 use Rattle.vrl_check.specs.Walking.{ArgumentsCanBeJudged, ArmsCanBeJudged, CanBeJudged, ElseCanBeJudged, FormCanBeJudged, ItemsCanBeJudged, PairsCanBeJudged}
 use Rattle.vrl_check.proofs.Sizes.{expr_size, exprs_size, pairs_size}

@@ -35,7 +35,7 @@ use Rattle.vrl_table.specs.Table.{row_of, function_named, FunctionsAreFound}
 use Rattle.vrl_table.specs.declared.function.Fun.{Fun}
 use Rattle.vrl_syntax.specs.Calls.{is_exists, literal_of}
 use Rattle.vrl_syntax.specs.ErrorAssignments.{empty_value}
-use Rattle.vrl_check.specs.Calls.{takes_closure}
+use Rattle.vrl_syntax.specs.Calls.{takes_closure}
 use Rattle.vrl_check.specs.Empties.{closure_empties}
 use Rattle.vrl_judge.specs.Rules.{Argument, Judgement, IsBehind, IsDeleted, IsMerged, IsMergedIf, IsReadAt, IsThen, IsWritten, banged, gives, settle, with_codes, if_state, is_alive}
 use Rattle.vrl_check.specs.Judgement.{IsBeside, span_of}

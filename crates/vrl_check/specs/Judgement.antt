@@ -34,7 +34,7 @@ use Rattle.vrl_table.specs.Binding.{binding, keywords_of, path_parameters}
 use Rattle.vrl_table.specs.Table.{row_of}
 use Rattle.vrl_table.specs.declared.binding.BindFault.{BindFault}
 use Rattle.vrl_table.specs.declared.function.Fun.{Fun}
-use Rattle.vrl_check.specs.Calls.{takes_closure}
+use Rattle.vrl_syntax.specs.Calls.{takes_closure}
 use Rattle.vrl_check.specs.Empties.{closure_empties, expr_empties, exprs_empties}
 use Rattle.vrl_judge.specs.Rules.{IsReadAt, scalars_at, IsScalar, array_at, object_at, Judgement, is_alive, if_state, nothing, gives, at, when, with_codes, settled_kind, settle, is_known, is_other, is_fallible, may_be_truth, may_be_no_truth, IsBehind, IsThen, left, is_equality, some_pair, table_tags, chained, of_pairs, no_objects, IsMerged, or_else_at, IsWritten, of_assignment, empty_tag, of_error_assignment, of_predicate, Argument, is_disjoint, has_others, argument_at, banged, IsDeleted, sum_tag, number_tag, order_tag}
 use Rattle.vrl_value.specs.declared.value.Tag.TheVariants as tag

@@ -1,5 +1,6 @@
 ghost use Rattle.std.specs.Prelude.{option_map, ◌≡◌};
-ghost use Rattle.vrl_check.specs.Calls.{args_hold_closure_call as args_hold_one, arms_hold_closure_call as arms_hold_one, closure_holds_closure_call as closure_holds_one, else_holds_closure_call as else_holds_one, expr_holds_closure_call as expr_holds_one, exprs_hold_closure_call, form_holds_closure_call as form_holds_one, pairs_hold_closure_call as pairs_hold_one, takes_closure as name_takes_closure};
+ghost use Rattle.vrl_check.specs.Calls.{args_hold_closure_call as args_hold_one, arms_hold_closure_call as arms_hold_one, closure_holds_closure_call as closure_holds_one, else_holds_closure_call as else_holds_one, expr_holds_closure_call as expr_holds_one, exprs_hold_closure_call, form_holds_closure_call as form_holds_one, pairs_hold_closure_call as pairs_hold_one};
+ghost use Rattle.vrl_syntax.specs.Calls.{takes_closure as name_takes_closure};
 ghost use Rattle.vrl_syntax.specs.View.{args_of, arms_of, call_of, closure_in, closure_of, else_of, expr_of, exprs_of, pairs_of};
 
 use vrl_syntax::{Args, Arms, Call, Closure, Expr, Exprs, Form, Pairs};

@@ -10,8 +10,9 @@ use Rattle.vrl_token.specs.declared.token.Token.TheVariants as token
 use Rattle.vrl_parse.specs.Grammar.{IsScript, no_items, separator, last_item, more_items, IsItem, both_targets, single as single_item, IsSingle, assigned, merged, returned, aborted, aborted_with, coalesce, IsLevel, tighter, joined, tightest, IsUnary, negated, primary, IsPrimary, a_literal, a_path, without_suffix, with_suffix, with_closure, an_object, a_block, an_if, MayHaveSuffix, a_call, an_array, a_group, IsCall, called, AreArgs, no_arguments, last_argument, more_arguments, IsArg, named, unnamed, IsClosure, a_closure, AreSingles, no_singles, last_single, more_singles, ArePairs, no_parts, last_pair, more_pairs, IsBlock, a_script, AreArms, last_arm, with_else, more_arms}
 use Rattle.vrl_parse.specs.Reading.{Reads}
 use Rattle.vrl_word.specs.Words.{Word, function_of, regex_of, words_from}
-use Rattle.vrl_check.specs.Calls.{args_hold_closure_call, arms_hold_closure_call, closure_holds_closure_call, else_holds_closure_call, expr_holds_closure_call, exprs_hold_closure_call, pairs_hold_closure_call, takes_closure}
-use Rattle.vrl_compile.specs.Built.{are_built, is_built_token, is_unbuilt, unbuilt_functions}
+use Rattle.vrl_check.specs.Calls.{args_hold_closure_call, arms_hold_closure_call, closure_holds_closure_call, else_holds_closure_call, expr_holds_closure_call, exprs_hold_closure_call, pairs_hold_closure_call}
+use Rattle.vrl_syntax.specs.Calls.{takes_closure}
+use Rattle.vrl_word.specs.Built.{are_built, is_built_token, is_unbuilt, unbuilt_functions}
 use Rattle.vrl_compile.proofs.PassingWords.{Pass, back_pass, behind_pass, first_passes, front_pass, rest_pass}
 
 neither : (a b : Bool) → a ≡ false → b ≡ false → (a || b) ≡ false

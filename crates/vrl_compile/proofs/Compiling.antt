@@ -21,7 +21,7 @@ use Rattle.vrl_judge.specs.Rules.{Judgement, is_error}
 use Rattle.vrl_check.specs.Judgement.{JudgesScript}
 use Rattle.vrl_judge.specs.Ordered.{AreOrdered}
 use Rattle.vrl_compile.specs.Answer.{CanBeJudged, IsAccepted, IsRefused, IsScript, beyond, judged, malformed, malformed_at, malformed_literals, not_built, of_script, unbuilt, unread, unread_at, wrong}
-use Rattle.vrl_compile.specs.Built.{are_built}
+use Rattle.vrl_word.specs.Built.{are_built}
 
 -- ---- refusals before the judgement
 

@@ -17,7 +17,7 @@ use Rattle.vrl_parse.specs.Reading.{Reads, ScriptsAreDetermined}
 use Rattle.vrl_check.specs.Determined.{JudgementsAreDetermined}
 use Rattle.vrl_judge.specs.Ordered.{AreOrdered, diagnostic_cmp}
 use Rattle.vrl_compile.specs.Answer.{AreOfScript, IsScript, IsUnread, beyond, judged, malformed, malformed_literals, of_script, unbuilt, unread, wrong}
-use Rattle.vrl_compile.specs.Built.{are_built}
+use Rattle.vrl_word.specs.Built.{are_built}
 use Rattle.vrl_compile.specs.Reading.{DiagnosticsAreDetermined, ScriptsHaveOneReading, same as one_list, both_unread}
 use Rattle.vrl_compile.proofs.Sorting.{one_order}
 

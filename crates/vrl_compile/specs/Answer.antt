@@ -26,7 +26,7 @@ use Rattle.vrl_judge.specs.Ordered.{AreOrdered}
 use Rattle.vrl_check.specs.declared.judged.Judged.{Judged}
 use Rattle.vrl_resolve.specs.Meaning.{IsUnhandled}
 use Rattle.vrl_resolve.specs.Program.{ended_over, program_of}
-use Rattle.vrl_compile.specs.Built.{are_built}
+use Rattle.vrl_word.specs.Built.{are_built}
 use Rattle.vrl_compile.specs.Program.{program_for}
 use Rattle.vrl_compile.specs.Sound.{HasNoError}
 use Rattle.vrl_compile.specs.declared.script.Accepted.{Accepted as AcceptedScript}

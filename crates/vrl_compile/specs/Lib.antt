@@ -1,5 +1,4 @@
 pub mod Answer
-pub mod Built
 pub mod Literals
 pub mod Program
 pub mod Reading

@@ -1,7 +1,6 @@
 //! Scripts: what a text says, whether it is accepted, and that what is accepted handles each of its errors.
 #![tactic(auto)]
 
-mod built;
 mod literals;
 mod reading;
 mod script;

@@ -12,7 +12,6 @@ ghost use Rattle.vrl_judge.specs.Rules.{Judgement};
 ghost use Rattle.vrl_check.specs.Judgement.{JudgesScript};
 ghost use Rattle.vrl_compile.specs.Answer.{CanBeJudged, IsAnswer, IsRefused, IsScript, IsSoundAnswer, not_built};
 
-use crate::built::are_built;
 use crate::literals::{LiteralFault, build_literals};
 use crate::soundness::accepted_scripts_are_sound;
 use std::alloc::Global;
@@ -25,6 +24,7 @@ use vrl_resolve::Program;
 use vrl_syntax::Script;
 use vrl_token::{SyntaxFault, Tokens, tokens};
 use vrl_value::{Memory, Names};
+use vrl_word::are_built;
 
 /// The most bytes of a script.
 pub const SCRIPT_LIMIT: usize = 65_536;

@@ -1,10 +1,12 @@
-//! What the single tokens of a script say, and expressions made of their parts: what a parser of the Vector Remap Language stands on.
+//! What the single tokens of a script say, which functions they may call so far, and expressions made of their parts: what a parser of the Vector Remap Language stands on.
 #![tactic(auto)]
 
+mod built;
 pub mod forms;
 mod sign;
 mod word;
 
+pub use built::are_built;
 pub use sign::{Sign, is_sign};
 pub use word::{
     function_of, is_path, literal_of, name_span, operator_of, over, path_of, target_of,

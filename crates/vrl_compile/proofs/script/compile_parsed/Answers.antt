@@ -3,7 +3,7 @@ use Rattle.vrl_syntax.specs.Regexes.{exprs_regexes_below}
 use Rattle.vrl_syntax.specs.View.{exprs_of, script_of}
 use Rattle.vrl_check.specs.Judgement.{JudgesScript}
 use Rattle.vrl_compile.specs.Answer.{IsRefused}
-use Rattle.vrl_compile.specs.Built.{are_built}
+use Rattle.vrl_word.specs.Built.{are_built}
 use Rattle.vrl_compile.proofs.BuiltCalls.{built_hold_no_closure_call}
 use Rattle.vrl_compile.proofs.Compiling.{refused_malformed, refused_unbuilt}
 use Rattle.vrl_compile.proofs.script.compile_parsed.Goals as goal

@@ -1,7 +1,7 @@
 ghost use Rattle.std.specs.Prelude.{◌≡◌, bytes_eq, map};
 ghost use Rattle.std.specs.List.{list_any};
-ghost use Rattle.vrl_check.specs.Calls.{takes_closure};
-ghost use Rattle.vrl_compile.specs.Built.{are_built, is_built_token, is_unbuilt, unbuilt_functions};
+ghost use Rattle.vrl_syntax.specs.Calls.{takes_closure};
+ghost use Rattle.vrl_word.specs.Built.{are_built, is_built_token, is_unbuilt, unbuilt_functions};
 
 use vrl_token::{Spanned, Token};
 
@@ -65,8 +65,8 @@ const UNBUILT: [&str; 56] = [
     "from_unix_timestamp",
 ];
 
-/// Whether no token names a function of the language that isn't built.
-pub(crate) fn are_built(tokens: &[Spanned]) -> bool
+/// Whether no token names a function of the language that isn't built, as those that take a closure. It takes no memory.
+pub fn are_built(tokens: &[Spanned]) -> bool
     ensures { result ≡ are_built tokens.now }
 {
     tokens.iter().all(|spanned| is_built_token(&spanned.token))

@@ -1,6 +1,6 @@
 use Rattle.std.proofs.Common.{◌≡◌, ◌||◌, ℕ, Bool, List, [], ◌∷◌, bytes_eq, map, refl, sym, ap, ◌∙◌}
 use Rattle.std.specs.List.{list_any}
-use Rattle.vrl_compile.proofs.built.is_to_come.Goals as goal
+use Rattle.vrl_word.proofs.built.is_to_come.Goals as goal
 
 -- some name passes where some of what it is seen in does
 any_seen : {X : Type 0} (p : List ℕ → Bool) (name_of : X → List ℕ) (xs : List X) → list_any p (map name_of xs) ≡ list_any (λ x. p (name_of x)) xs

@@ -1,7 +1,7 @@
 -- The functions that are built so far. A script that calls another of the language's functions is not compiled.
 use Rattle.std.specs.Prelude.{ℕ, Bool, true, ◌||◌, List, [], ◌∷◌, not, bytes_eq, codes}
 use Rattle.std.specs.List.{list_all, list_any}
-use Rattle.vrl_check.specs.Calls.{takes_closure}
+use Rattle.vrl_syntax.specs.Calls.{takes_closure}
 use Rattle.vrl_token.specs.declared.token.Spanned.{Spanned}
 use Rattle.vrl_token.specs.declared.token.Token.{Token}
 use Rattle.vrl_token.specs.declared.token.Token.TheVariants.{BangFunction, Function}
