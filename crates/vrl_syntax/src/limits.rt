@@ -1,4 +1,4 @@
-ghost use Rattle.std.specs.Prelude.{◌≡◌, ◌++◌, IfOk, OnOk};
+ghost use Rattle.std.specs.Prelude.{◌≡◌, ◌++◌, [], IfOk, OnOk, if◌then◌else◌};
 ghost use Rattle.std.specs.List.{list_any};
 ghost use Rattle.vrl_syntax.specs.View.{args_of, arms_of, call_of, expr_of, exprs_of, pairs_of};
 ghost use Rattle.vrl_syntax.specs.Limits.{args_faults, arms_faults, expr_faults, exprs_faults, fault_at as fault_at_place, faults_at, form_faults, is_negative as negative_step, is_too_large as too_large_step, pairs_faults, path_faults, target_faults};
@@ -122,18 +122,19 @@ fn add_args(args: &Args, deleted: bool, faults: &mut Vec<Diagnostic>) -> Result<
     ensures { OnOk result (faults.new.items ≡ faults.old.items ++ args_faults deleted (args_of args.now)) }
 {
     for arg in &args.args {
-        if deleted {
-            add_deleted(&arg.value, faults)?;
-        }
+        add_deleted(&arg.value, deleted, faults)?;
         add_expr(&arg.value, faults)?;
     }
     Ok(())
 }
 
-// Adds that of an expression that is a path or a name.
-fn add_deleted(expr: &Expr, faults: &mut Vec<Diagnostic>) -> Result<(), Memory>
-    ensures { OnOk result (faults.new.items ≡ faults.old.items ++ path_faults (expr_of expr.now)) }
+// Adds that of an expression that is a path or a name, where it is deleted.
+fn add_deleted(expr: &Expr, deleted: bool, faults: &mut Vec<Diagnostic>) -> Result<(), Memory>
+    ensures { OnOk result (faults.new.items ≡ faults.old.items ++ (if deleted then path_faults (expr_of expr.now) else [])) }
 {
+    if !deleted {
+        return Ok(());
+    }
     match &expr.form {
         Form::Read(_, path) => add_path(expr.span, path, faults),
         _ => Ok(()),

@@ -6,12 +6,21 @@ use vrl_path::Path;
 use vrl_value::{Chars, Memory};
 
 /// Where a path begins.
-#[derive(Drop)]
 pub enum Root {
     /// The event, written `.`.
     Event,
     /// The variable of this name.
     Name(Chars),
+}
+
+// Written out, so that a root is let go by one call.
+impl Drop for Root {
+    fn drop(self) {
+        match self {
+            Root::Event => {}
+            Root::Name(_name) => {}
+        }
+    }
 }
 
 impl Root {
@@ -27,12 +36,21 @@ impl Root {
 }
 
 /// Where an assignment writes.
-#[derive(Drop)]
 pub enum Target {
     /// Nowhere, written `_`.
     Nowhere,
     /// At this path from this root. The span is that of the path.
     Place(Span, Root, Path),
+}
+
+// Written out, so that a target is let go by one call.
+impl Drop for Target {
+    fn drop(self) {
+        match self {
+            Target::Nowhere => {}
+            Target::Place(_span, _root, _path) => {}
+        }
+    }
 }
 
 /// An operator with a left and a right side.

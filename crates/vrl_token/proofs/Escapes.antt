@@ -137,9 +137,6 @@ pub record IsRawSoFar (all : List Character) (out rest : List ℕ) : Type 0 wher
   pub parts : rest ≡ spelling_of left
   pub value : raw_of all ≡ out ++ raw_of left
 
-pub raw_none : (all : List Character) (rest : List ℕ) → IsInner 39 rest all → IsRawSoFar all [] rest
-raw_none all rest inner = record { left = all; inside = inner.inside; parts = inner.spelled; value = refl }
-
 other_letter : (letter : ℕ) (others : List Character) → letter ≢ 39 → raw_of (escaped letter ∷ others) ≡ 92 ∷ letter ∷ raw_of others
 other_letter letter others other = elim (eqb_tells letter 39) [ inl same ↦ absurd (other same.1) | inr apart ↦ rw apart.0 refl ]
 

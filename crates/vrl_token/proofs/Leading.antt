@@ -18,9 +18,6 @@ pub record IsLed (text rest : List ℕ) (context : Context) (found : List Lexeme
 pub span_is : (s : Span) (total : ℕ) (text rest : List ℕ) → s.start ≡ total - length text → s.«end» ≡ total - length rest → s ≡ span_between total text rest
 span_is s total text rest start ends = ap (λ n. let t : Span = record { start = n; «end» = s.«end» } in t) start ∙ ap (λ n. let t : Span = record { start = total - length text; «end» = n } in t) ends
 
-pub led_none : (text : List ℕ) {context : Context} → IsContext [] context → IsLed text text context []
-led_none text is = record { pieces = []; leads = refl; is_context = is; keeps = refl }
-
 pieces_behind-more : (before : List Piece) (ps : List Lexeme) (p : Lexeme) → pieces_behind before (ps ++ p ∷ []) ≡ p.piece ∷ pieces_behind before ps
 pieces_behind-more before [] p = refl
 pieces_behind-more before (q ∷ qs) p = pieces_behind-more (q.piece ∷ before) qs p

@@ -3,7 +3,7 @@ use Rattle.std.proofs.Common.{◌≡◌, ℕ, suc, ◌+◌, ◌<◌, ◌≤◌, 
 use Rattle.std.proofs.lemmas.Bool.{cases_lt}
 use Rattle.std.proofs.lemmas.List.{length-map, length-reverse, length-take-le, map-append, reverse-append, reverse-reverse, take-append-drop, take-map, take_more}
 use Rattle.std.proofs.lemmas.Grind.{get_or_default_zero}
-use Rattle.std.proofs.Math.Seq.{take-append_seam, take-length}
+use Rattle.std.proofs.Math.Seq.{take-append_seam}
 use Rattle.vrl_token.specs.declared.nesting.Place.{Place}
 use Rattle.vrl_token.specs.declared.token.Spanned.{Spanned}
 use Rattle.vrl_token.specs.declared.token.Token.{Token}
@@ -55,9 +55,6 @@ backwards_more tokens i x within is =
 
 pub length-backwards : (tokens : List Spanned) → length (backwards tokens) ≡ length tokens
 length-backwards tokens = length-reverse (map (λ t. t.token) tokens) ∙ length-map tokens (λ t. t.token)
-
-pub backwards_all : (tokens : List Spanned) → backwards (take (length tokens) tokens) ≡ backwards tokens
-backwards_all tokens = ap backwards (take-length tokens)
 
 pub deep_at : (tokens : List Spanned) (i : ℕ) → IsDeepAt (backwards tokens) (backwards (take i tokens)) → IsTooDeep (backwards tokens)
 deep_at tokens i deep = record {

@@ -1,8 +1,8 @@
 -- The longest run of a class that a text begins with: it is what a count of its bytes cuts off, and there is no other.
-use Rattle.std.proofs.Common.{◌≡◌, ◌≢◌, ℕ, zero, suc, ◌<◌, ◌≤◌, List, [], ◌∷◌, ◌++◌, length, get_or, take, drop, refl, sym, ap, ◌∙◌, subst, arith, add-one}
+use Rattle.std.proofs.Common.{◌≡◌, ◌≢◌, ℕ, zero, suc, ◌<◌, ◌≤◌, List, [], ◌∷◌, ◌++◌, length, get_or, take, drop, refl, sym, ◌∙◌, subst, arith, add-one}
 use Rattle.std.specs.List.{AllByRecursion}
 use Rattle.std.specs.Str.{IsUtf8, IsCharBoundary}
-use Rattle.std.proofs.lemmas.List.{take-append-drop, length-append, get_or_at}
+use Rattle.std.proofs.lemmas.List.{take-append-drop}
 use Rattle.std.proofs.lemmas.Str.{IsCharBoundary-start, IsCharBoundary-after_ascii}
 use Rattle.vrl_token.specs.Scan.{IsIn}
 use Rattle.vrl_token.specs.Lexical.{BeginsOutside, IsLongestRun}
@@ -34,16 +34,6 @@ IsCharBoundary-behind_run class text zero utf8 within before = IsCharBoundary-st
 IsCharBoundary-behind_run class text (suc n) utf8 within before =
     rw (← add-one n) (IsCharBoundary-after_ascii text n utf8 (omega arith) (in_ascii class _ (before n (omega arith))))
 
--- bytes of one class, then a byte outside another
-pub outside_run : (P Q : ℕ → Type 0) (run : List ℕ) (b : ℕ) (rest : List ℕ) → ((x : ℕ) → P x → ¬ Q x) → AllByRecursion P run → ¬ Q b → BeginsOutside Q (run ++ b ∷ rest)
-outside_run P Q [] b rest apart all last = last
-outside_run P Q (x ∷ xs) b rest apart all last = apart x all.0
-
--- bytes of one class alone
-pub outside_end : (P Q : ℕ → Type 0) (run : List ℕ) → ((x : ℕ) → P x → ¬ Q x) → AllByRecursion P run → BeginsOutside Q run
-outside_end P Q [] apart all = tt
-outside_end P Q (x ∷ xs) apart all = apart x all.0
-
 pub same_cut : (P : ℕ → Type 0) (run rest other last : List ℕ) → AllByRecursion P run → BeginsOutside P rest → AllByRecursion P other → BeginsOutside P last → run ++ rest ≡ other ++ last → (run ≡ other) × (rest ≡ last)
 same_cut P [] rest [] last run_in rest_out other_in last_out e = (refl, e)
 same_cut P [] [] (b ∷ other) last run_in rest_out other_in last_out e = cc
@@ -60,15 +50,6 @@ same_cut P (a ∷ run) rest (b ∷ other) last run_in rest_out other_in last_out
 pub same_longest_run : {P : ℕ → Type 0} {text run rest other last : List ℕ} → IsLongestRun P text run rest → IsLongestRun P text other last → (run ≡ other) × (rest ≡ last)
 same_longest_run {P} {text} {run} {rest} {other} {last} one two = same_cut P run rest other last one.passes one.ends two.passes two.ends (sym one.parts ∙ two.parts)
 
-pub all_weaker : (P Q : ℕ → Type 0) (xs : List ℕ) → ((x : ℕ) → P x → Q x) → AllByRecursion P xs → AllByRecursion Q xs
-all_weaker P Q [] each all = tt
-all_weaker P Q (x ∷ xs) each all = (each x all.0, all_weaker P Q xs each all.1)
-
--- a mark that stands nowhere in a text parts it nowhere
-pub no_mark : (mark : ℕ) (text : List ℕ) → ((k : ℕ) → k < length text → get_or text k 0 ≢ mark) → (before rest : List ℕ) → text ≢ before ++ mark ∷ rest
-no_mark mark text none before rest parts =
-    none (length before) (rw (parts, length-append) (omega arith)) (rw parts (get_or_at before mark rest 0 (length before) refl))
-
 pub passes-all : (P : ℕ → Type 0) (xs : List ℕ) → ((k : ℕ) → k < length xs → P (get_or xs k 0)) → AllByRecursion P xs
 passes-all P [] each = tt
 passes-all P (x ∷ xs) each = (each 0 (omega arith), passes-all P xs (λ k h. each (suc k) (omega arith)))
@@ -80,17 +61,6 @@ run_before_mark mark text before rest parts apart = record {
   passes = passes-all (λ b. b ≢ mark) before apart;
   ends = λ p. p refl;
 }
-
--- where a mark parts a text nowhere, it stands nowhere in it
-pub apart_from_mark : (mark : ℕ) (text : List ℕ) → ((before rest : List ℕ) → text ≢ before ++ mark ∷ rest) → AllByRecursion (λ b. b ≢ mark) text
-apart_from_mark mark [] none = tt
-apart_from_mark mark (b ∷ bs) none =
-    (λ e. none [] bs (ap (λ x. x ∷ bs) e), apart_from_mark mark bs (λ before rest e. none (b ∷ before) rest (ap (λ t. b ∷ t) e)))
-
--- what stands behind a run of bytes that are all of a class
-pub passes_behind : (P : ℕ → Type 0) (run rest : List ℕ) → AllByRecursion P (run ++ rest) → AllByRecursion P rest
-passes_behind P [] rest all = all
-passes_behind P (x ∷ xs) rest all = passes_behind P xs rest all.1
 
 pub heads : {a b : ℕ} {xs ys : List ℕ} → a ∷ xs ≡ b ∷ ys → a ≡ b
 heads same = cc

@@ -4,7 +4,7 @@ use Rattle.std.specs.List.{AllByRecursion}
 use Rattle.vrl_token.specs.Lexical.{IsDigit, IsFieldPart, IsLongestRun}
 use Rattle.vrl_token.specs.Characters.{Character, IsInside, IsQuoted, IsUnclosed, escaped, plain, spelling_of}
 use Rattle.vrl_token.specs.Numbers.{IsDigitRun}
-use Rattle.vrl_token.specs.Paths.{BeginsDotted, BeginsUndotted, Segment, field, index, minus_text, quoted}
+use Rattle.vrl_token.specs.Paths.{BeginsUndotted, Segment, field, index, minus_text, quoted}
 use Rattle.std.proofs.lemmas.List.{append-nil}
 use Rattle.vrl_token.specs.Segments.{IsFieldSegment, IsIndexSegment, IsUnsigned}
 use Rattle.vrl_token.proofs.Runs.{same_longest_run}
@@ -56,31 +56,11 @@ index_run {text} {behind} {unsigned} {rest} {negative} (index neg digits) is_ind
     let cut = index_run_with neg negative behind unsigned digits rest begins.is_segment.0 begins.is_segment.1 parts sign in
     record { digits = digits; is = ap (λ n. index n digits) cut.0; run = subst (λ t. IsDigitRun t digits (93 ∷ rest)) (sym cut.1) (run_to_bracket digits rest begins.is_segment.0 begins.is_segment.1) }
 
-pub no_bracket : {text : List ℕ} → ((behind : List ℕ) → text ≢ 91 ∷ behind) → (segment : Segment) (rest : List ℕ) → IsIndexSegment segment → ¬ BeginsUndotted text segment rest
-no_bracket none (field name) rest is_index begins = absurd is_index
-no_bracket none (quoted cs) rest is_index begins = absurd is_index
-no_bracket none (index negative digits) rest is_index begins = none _ begins.parts
-
-pub no_index_digits : {text behind unsigned : List ℕ} (negative : Bool) → text ≡ 91 ∷ behind → IsUnsigned negative behind unsigned → ((digits rest : List ℕ) → ¬ IsDigitRun unsigned digits rest)
-    → (segment : Segment) (rest : List ℕ) → IsIndexSegment segment → ¬ BeginsUndotted text segment rest
-no_index_digits negative opens sign none segment rest is_index begins = let run = index_run segment is_index begins opens sign in none run.digits (93 ∷ rest) run.run
-
 pub no_closing : {text behind unsigned digits closing : List ℕ} (negative : Bool) → text ≡ 91 ∷ behind → IsUnsigned negative behind unsigned → IsDigitRun unsigned digits closing → ((rest : List ℕ) → closing ≢ 93 ∷ rest)
     → (segment : Segment) (rest : List ℕ) → IsIndexSegment segment → ¬ BeginsUndotted text segment rest
 no_closing negative opens sign run none segment rest is_index begins =
     let own = index_run segment is_index begins opens sign in
     none rest (same_longest_run run.run own.run.run).1
-
-index_parts : (negative : Bool) (behind unsigned digits rest : List ℕ) → IsUnsigned negative behind unsigned → unsigned ≡ digits ++ 93 ∷ rest → behind ≡ minus_text negative ++ (digits ++ 93 ∷ rest)
-index_parts true behind unsigned digits rest sign run = sign ∙ ap (λ t. 45 ∷ t) run
-index_parts false behind unsigned digits rest sign run = sign.0 ∙ run
-
-pub index_begins : {text behind unsigned digits closing rest : List ℕ} (negative : Bool) → text ≡ 91 ∷ behind → IsUnsigned negative behind unsigned → IsDigitRun unsigned digits closing → closing ≡ 93 ∷ rest → BeginsUndotted text (index negative digits) rest
-index_begins {text} {behind} {unsigned} {digits} {closing} {rest} negative opens sign run closes = record {
-  parts = opens ∙ ap (λ t. 91 ∷ t) (index_parts negative behind unsigned digits rest sign (run.run.parts ∙ ap (λ t. digits ++ t) closes));
-  is_segment = (run.some, run.run.passes);
-  ends = tt;
-}
 
 -- ---- fields
 
@@ -95,32 +75,6 @@ no_field run unclosed (field name) last is_field begins =
     absurd (omega (arith, ap length same))
 no_field run unclosed (quoted cs) last is_field begins = closed_not_unclosed (λ e. absurd (omega (arith, e))) (record { parts = refl; inside = begins.is_segment }) (unclosed _ begins.parts)
 no_field run unclosed (index negative digits) last is_field begins = absurd is_field
-
--- ---- both
-
-pub no_segment : {text : List ℕ} → ((segment : Segment) (rest : List ℕ) → IsIndexSegment segment → ¬ BeginsUndotted text segment rest) → ((segment : Segment) (rest : List ℕ) → IsFieldSegment segment → ¬ BeginsUndotted text segment rest)
-    → (segment : Segment) (rest : List ℕ) → ¬ BeginsUndotted text segment rest
-no_segment no_index no_field (field name) rest begins = no_field (field name) rest tt begins
-no_segment no_index no_field (quoted cs) rest begins = no_field (quoted cs) rest tt begins
-no_segment no_index no_field (index negative digits) rest begins = no_index (index negative digits) rest tt begins
-
--- with its dot, a field begins where it does without behind that; an index has none
-pub index_dotted : {text rest : List ℕ} (segment : Segment) → IsIndexSegment segment → BeginsUndotted text segment rest → BeginsDotted text segment rest
-index_dotted (field name) is_index begins = absurd is_index
-index_dotted (quoted cs) is_index begins = absurd is_index
-index_dotted (index negative digits) is_index begins = record { parts = begins.parts; is_segment = begins.is_segment; ends = begins.ends }
-
-pub field_dotted : {text behind rest : List ℕ} (segment : Segment) → IsFieldSegment segment → text ≡ 46 ∷ behind → BeginsUndotted behind segment rest → BeginsDotted text segment rest
-field_dotted (field name) is_field dot begins = record { parts = dot ∙ ap (λ t. 46 ∷ t) begins.parts; is_segment = begins.is_segment; ends = begins.ends }
-field_dotted (quoted cs) is_field dot begins = record { parts = dot ∙ ap (λ t. 46 ∷ t) begins.parts; is_segment = begins.is_segment; ends = begins.ends }
-field_dotted (index negative digits) is_field dot begins = absurd is_field
-
-pub no_dotted : {text : List ℕ} → ((segment : Segment) (rest : List ℕ) → IsIndexSegment segment → ¬ BeginsUndotted text segment rest)
-    → ((behind : List ℕ) → text ≡ 46 ∷ behind → (segment : Segment) (rest : List ℕ) → IsFieldSegment segment → ¬ BeginsUndotted behind segment rest)
-    → (segment : Segment) (rest : List ℕ) → ¬ BeginsDotted text segment rest
-no_dotted no_index no_field (field name) rest begins = no_field _ begins.parts (field name) rest tt (record { parts = refl; is_segment = begins.is_segment; ends = begins.ends })
-no_dotted no_index no_field (quoted cs) rest begins = no_field _ begins.parts (quoted cs) rest tt (record { parts = refl; is_segment = begins.is_segment; ends = begins.ends })
-no_dotted no_index no_field (index negative digits) rest begins = no_index (index negative digits) rest tt (record { parts = begins.parts; is_segment = begins.is_segment; ends = begins.ends })
 
 pub same_behind : {b : ℕ} {behind other : List ℕ} → b ∷ behind ≡ b ∷ other → behind ≡ other
 same_behind same = cc

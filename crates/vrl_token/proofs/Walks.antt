@@ -20,9 +20,6 @@ pub record IsWalked (before : List Segment) (text rest : List ℕ) (found : Gath
   pub leads : (later : List Segment) (last : List ℕ) → Segments rest later last → Segments text (so_far ++ later) last
   pub gathered : IsGathered (before ++ so_far) found
 
-pub walked_none : {before : List Segment} (text : List ℕ) {found : Gathering} → IsGathered before found → IsWalked before text text found
-walked_none {before} text {found} gathered = record { so_far = []; leads = λ later last h. h; gathered = subst (λ ss. IsGathered ss found) (sym (append-nil before)) gathered }
-
 pub walked_more : {before : List Segment} {text rest next : List ℕ} {found new : Gathering} (segment : Segment) (walked : IsWalked before text rest found) → BeginsDotted rest segment next
     → IsGathered ((before ++ walked.so_far) ++ segment ∷ []) new → IsWalked before text next new
 walked_more {before} {text} {rest} {next} {found} {new} segment walked begins gathered = record {

@@ -6,7 +6,6 @@ use vrl_path::Path;
 use vrl_value::{Chars, Moment};
 
 /// A token of a script, with what its spelling says.
-#[derive(Drop)]
 pub enum Token {
     /// `".."`, with its escapes replaced by what they stand for.
     Text(Chars),
@@ -103,6 +102,30 @@ pub enum Token {
     Arrow,
     /// What parts items: `;`, or a newline that parts. Newlines that don't are no tokens.
     Separator,
+}
+
+// Written out, so that a token is let go by one call.
+impl Drop for Token {
+    fn drop(self) {
+        match self {
+            Token::Text(_text) | Token::RawText(_text) | Token::Regex(_text) => {}
+            Token::Timestamp(_) | Token::Number(_) => {}
+            Token::True | Token::False | Token::Null => {}
+            Token::If | Token::Else | Token::Abort | Token::Return => {}
+            Token::Name(_name) | Token::Function(_name) | Token::BangFunction(_name) => {}
+            Token::EventPath(_path) | Token::Suffix(_path) => {}
+            Token::NamePath(_name, _path) => {}
+            Token::Assign | Token::MergeAssign | Token::Coalesce | Token::Or | Token::And => {}
+            Token::Equal | Token::Unequal | Token::Less | Token::AtMost => {}
+            Token::More | Token::AtLeast | Token::Merge => {}
+            Token::Plus | Token::Minus | Token::Times | Token::Not => {}
+            Token::OpenParenthesis | Token::CloseParenthesis => {}
+            Token::OpenBracket | Token::CloseBracket => {}
+            Token::OpenBlock | Token::OpenObject | Token::CloseBrace => {}
+            Token::OpenBars | Token::CloseBars => {}
+            Token::Comma | Token::Colon | Token::Arrow | Token::Separator => {}
+        }
+    }
 }
 
 /// A token and where it stands.

@@ -1,0 +1,24 @@
+-- A walk over a list that adds what each part has.
+use Rattle.std.proofs.Common.{◌≡◌, ℕ, zero, suc, ◌<◌, List, [], ◌∷◌, ◌++◌, length, drop, get_or, refl, sym, ap, ◌∙◌, append_assoc, arith}
+
+-- what is left from a place on is the part there, and then what is left behind it
+drop_one : {A : Type 0} (xs : List A) (i next : ℕ) (x : A) → next ≡ suc i → i < length xs → x ≡ get_or xs i x → drop i xs ≡ x ∷ drop next xs
+drop_one [] i next x n below is = absurd (omega arith)
+drop_one (y ∷ xs) zero next x n below is = rw n (ap (λ z. z ∷ xs) (sym is))
+drop_one (y ∷ xs) (suc i) next x n below is = rw n (drop_one xs i (suc i) x refl (omega arith) is)
+
+-- with what the rest has it is the whole, also behind one more part, which has this
+pub walked_on : {A R : Type 0} (whole : List A → List R) (part : A → List R) → ((x : A) (xs : List A) → whole (x ∷ xs) ≡ part x ++ whole xs)
+    → (items : List A) (i next : ℕ) (x : A) (before after all this : List R) → next ≡ suc i → i < length items → x ≡ get_or items i x
+    → part x ≡ this → after ≡ before ++ this → before ++ whole (drop i items) ≡ all → after ++ whole (drop next items) ≡ all
+walked_on whole part step items i next x before after all this n below is has adds so_far =
+    ap (λ t. t ++ whole (drop next items)) adds ∙ append_assoc before this (whole (drop next items))
+    ∙ ap (λ t. before ++ t) (ap (λ p. p ++ whole (drop next items)) (sym has) ∙ sym (ap whole (drop_one items i next x n below is) ∙ step x (drop next items))) ∙ so_far
+
+-- the same where it is added in two steps
+pub walked_twice : {A R : Type 0} (whole : List A → List R) (first second : A → List R) → ((x : A) (xs : List A) → whole (x ∷ xs) ≡ first x ++ (second x ++ whole xs))
+    → (items : List A) (i next : ℕ) (x : A) (before between after all this that : List R) → next ≡ suc i → i < length items → x ≡ get_or items i x
+    → first x ≡ this → second x ≡ that → between ≡ before ++ this → after ≡ between ++ that → before ++ whole (drop i items) ≡ all → after ++ whole (drop next items) ≡ all
+walked_twice whole first second step items i next x before between after all this that n below is has also adds more so_far =
+    walked_on whole (λ y. first y ++ second y) (λ y ys. step y ys ∙ sym (append_assoc (first y) (second y) (whole ys))) items i next x before after all (this ++ that) n below is
+    (rw (has, also) refl) (more ∙ ap (λ t. t ++ that) adds ∙ append_assoc before this that) so_far
