@@ -35,7 +35,12 @@ impl Checker<'_> {
 
     /// An assignment, behind its expression: one that may fail is 103, a target that takes nothing 640, and an event that is neither an object nor
     /// an array 1006. `Memory`: want of memory.
-    pub fn assigned(&mut self, span: Span, target: &Target, part: Outcome) -> Result<Outcome, Memory>
+    pub fn assigned(
+        &mut self,
+        span: Span,
+        target: &Target,
+        part: Outcome,
+    ) -> Result<Outcome, Memory>
         requires target { target_faults target.now ≡ [] }
         requires present { allows_absent part.kind ≡ false }
         ensures { IfOk result (λ outcome. IsAssignedAs span target.now part self.old self.new outcome) }

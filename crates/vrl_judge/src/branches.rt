@@ -159,7 +159,12 @@ impl Checker<'_> {
     }
 
     /// Adds a predicate to the ways before it: one that may fail is 1005, and one that isn't exactly a boolean 102. `Memory`: want of memory.
-    pub fn add_predicate(&mut self, ways: &mut Ways, part: Outcome, span: Span) -> Result<(), Memory>
+    pub fn add_predicate(
+        &mut self,
+        ways: &mut Ways,
+        part: Outcome,
+        span: Span,
+    ) -> Result<(), Memory>
         requires ways { AreWays self.old.state.scopes ways.old }
         requires part { AreEnds self.old.state.scopes part.ends }
         ensures { OnOk result (IsPredicateBeside span part ways.old self.old self.new ways.new) }

@@ -82,7 +82,7 @@ pub(crate) fn may_be_truth(kind: &Kind) -> bool
     has(kind, Tag::Bool) || has(kind, Tag::Null)
 }
 
-// Whether the kind allows neither a boolean nor null.
+// Whether the kind allows something else than a boolean or null.
 #[tactic(auto, unfolding(crate::specs::Rules::may_be_no_truth))]
 pub(crate) fn may_be_no_truth(kind: &Kind) -> bool
     ensures { result ≡ may_be_another kind.now }

@@ -17,7 +17,7 @@ use vrl_value::{Memory, Tag};
 /// An operator that takes some pairs of tags.
 #[derive(Clone, Copy)]
 pub enum Table {
-    /// A sum, of two whole numbers or two texts.
+    /// A sum, of two whole numbers, of two texts, or of a text and null.
     Sum,
     /// A difference or a product, of two whole numbers.
     Number,
