@@ -2,7 +2,7 @@
 use Rattle.std.proofs.Common.{◌≡◌, ℕ, List, Some, None, IsSome, true, false, refl, sym, ap, ◌∙◌, subst, ◌⊎◌, inl, inr}
 use Rattle.std.specs.List.{list_any}
 use Rattle.std.proofs.lemmas.List.Sorted.{list_any-IsPermutation}
-use Rattle.vrl_judge.specs.Rules.{is_error}
+use Rattle.vrl_diag.specs.Refusal.{is_error}
 use Rattle.vrl_compile.specs.Answer.{AreDiagnostics, judged, of_script}
 use Rattle.vrl_compile.specs.Reading.{AreAlike, DiagnosticsAreDetermined, ScriptsHaveOneReading, same as same_list, both_unread}
 use Rattle.vrl_diag.specs.declared.diagnostic.Diagnostic.{Diagnostic}

@@ -14,7 +14,8 @@ use Rattle.vrl_kind.specs.Canonical.{never_kind}
 use Rattle.vrl_state.specs.States.{IsEither, IsJoined, IsRootKind, Scope, State}
 use Rattle.vrl_judge.specs.Branching.{no_ways, AreWays, IsBlockBeside, IsLastBeside, IsPredicateBeside}
 use Rattle.vrl_check.specs.Calls.{arms_hold_closure_call, expr_holds_closure_call, exprs_hold_closure_call}
-use Rattle.vrl_judge.specs.Rules.{Judgement, gives, is_error, nothing, of_predicate, settle}
+use Rattle.vrl_diag.specs.Refusal.{is_error}
+use Rattle.vrl_judge.specs.Rules.{Judgement, gives, nothing, of_predicate, settle}
 use Rattle.vrl_check.specs.Judgement.{span_of, IsBeside}
 use Rattle.vrl_check.specs.Judgement.{JudgesArms, JudgesBlock, a_conditional, a_missing_else, an_arm, an_else, Judges}
 use Rattle.vrl_judge.specs.Judging.{known_on, AreEnds, AreJoinedEnds, HasJudged, IsReported}

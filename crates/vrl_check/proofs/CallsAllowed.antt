@@ -20,7 +20,8 @@ use Rattle.vrl_table.specs.declared.binding.BindFault.{BindFault}
 use Rattle.vrl_table.specs.declared.function.Fun.{Fun}
 use Rattle.vrl_check.specs.Calling.{of_found, places_in, written, HasCodes, MayBeAsked}
 use Rattle.vrl_syntax.specs.Calls.{literal_of}
-use Rattle.vrl_judge.specs.Rules.{Argument, argument_at, at, is_disjoint, is_error, is_fallible, is_known, when}
+use Rattle.vrl_diag.specs.Refusal.{is_error}
+use Rattle.vrl_judge.specs.Rules.{Argument, argument_at, at, is_disjoint, is_fallible, is_known, when}
 use Rattle.vrl_check.specs.Judgement.{span_of}
 use Rattle.vrl_check.specs.Judgement.{bound, of_argument, of_arguments, of_call, of_closure, of_unknown, wants_literal, AreGiven, IsGiven}
 use Rattle.vrl_check.specs.declared.calls.Arguments.{Arguments}

@@ -19,7 +19,8 @@ use Rattle.vrl_syntax.specs.Calls.{is_exists}
 use Rattle.vrl_check.specs.Calls.{args_hold_closure_call, closure_holds_closure_call, form_holds_closure_call}
 use Rattle.vrl_syntax.specs.Calls.{takes_closure}
 use Rattle.vrl_check.specs.Empties.{closure_empties}
-use Rattle.vrl_judge.specs.Rules.{Argument, Judgement, at, gives, if_state, is_error, with_codes, IsScalar}
+use Rattle.vrl_diag.specs.Refusal.{is_error}
+use Rattle.vrl_judge.specs.Rules.{Argument, Judgement, at, gives, if_state, with_codes, IsScalar}
 use Rattle.vrl_check.specs.Judgement.{Gives, JudgesArguments, a_call, a_call_of_nothing, a_deletion, an_existence, bound, bound_by, deleted_kind, deleted_path, IsAnsweredUnless, IsDeletedAt}
 use Rattle.vrl_judge.specs.Judging.{known_on, AreEnds, HasEnds, HasGathered, HasJudged, IsReported}
 use Rattle.vrl_check.specs.Walking.{FormCanBeJudged}

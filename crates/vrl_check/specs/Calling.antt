@@ -22,7 +22,8 @@ use Rattle.vrl_table.specs.declared.function.Fun.{Fun}
 use Rattle.vrl_judge.specs.Branching.{IsOrFail}
 use Rattle.vrl_syntax.specs.Calls.{is_exists}
 use Rattle.vrl_check.specs.Empties.{closure_empties}
-use Rattle.vrl_judge.specs.Rules.{Argument, Judgement, at, banged, gives, if_state, is_error}
+use Rattle.vrl_diag.specs.Refusal.{is_error}
+use Rattle.vrl_judge.specs.Rules.{Argument, Judgement, at, banged, gives, if_state}
 use Rattle.vrl_check.specs.Judgement.{AreGiven, Gives, JudgesArguments, IsAnsweredUnless, IsDeletedAt, behind_arguments, bound, deleted_kind, deleted_path, of_argument, of_call, of_unknown, wants_literal, wants_path}
 use Rattle.vrl_judge.specs.Judging.{AreEnds, HasEnds, HasGathered, HasJudged, IsMoved}
 use Rattle.vrl_judge.specs.declared.calls.Argument.{Argument as CodeArgument}

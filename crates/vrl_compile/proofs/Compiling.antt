@@ -17,7 +17,8 @@ use Rattle.vrl_token.specs.declared.token.Spanned.{Spanned}
 use Rattle.vrl_pattern.specs.Malformed.{is_malformed}
 use Rattle.vrl_word.specs.Words.{regex_of}
 use Rattle.vrl_parse.specs.Reading.{IsWrong as IsWrongScript, no_script, parse_codes, path_fault}
-use Rattle.vrl_judge.specs.Rules.{Judgement, is_error}
+use Rattle.vrl_diag.specs.Refusal.{is_error}
+use Rattle.vrl_judge.specs.Rules.{Judgement}
 use Rattle.vrl_check.specs.Judgement.{JudgesScript}
 use Rattle.vrl_judge.specs.Ordered.{AreOrdered}
 use Rattle.vrl_compile.specs.Answer.{CanBeJudged, IsAccepted, IsRefused, IsScript, beyond, judged, malformed, malformed_at, malformed_literals, not_built, of_script, unbuilt, unread, unread_at, wrong}

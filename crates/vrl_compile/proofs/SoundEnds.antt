@@ -15,7 +15,8 @@ use Rattle.vrl_state.specs.Stores.{FitsKnown, Store}
 use Rattle.vrl_builtin.specs.Rows.{SettingTree}
 use Rattle.vrl_store.specs.Outcomes.{Outcome, value, error, aborted, returned, banged, deep, Ended, error_then, on_error, on_value, value_then}
 use Rattle.vrl_store.specs.WellFormed.{IsWellFormed, IsWellFormedEnded, IsWellFormedExpr, IsWellFormedForm, IsWellFormedOutcome, IsWellFormedStore}
-use Rattle.vrl_judge.specs.Rules.{Judgement, IsBehind, IsThen, if_state, is_alive, is_error, settle, settled_kind}
+use Rattle.vrl_diag.specs.Refusal.{is_error}
+use Rattle.vrl_judge.specs.Rules.{Judgement, IsBehind, IsThen, if_state, is_alive, settle, settled_kind}
 use Rattle.vrl_check.specs.Judgement.{IsBeside}
 use Rattle.vrl_resolve.specs.Meaning.{eval, eval_form}
 use Rattle.vrl_compile.specs.Sound.{HasNoError, IsSoundEnd, IsSoundFrom, IsSoundOutcome}

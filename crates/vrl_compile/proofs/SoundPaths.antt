@@ -20,7 +20,8 @@ use Rattle.vrl_table.specs.Binding.{binding, keywords_of, path_parameters}
 use Rattle.vrl_store.specs.Outcomes.{Ended, on_value}
 use Rattle.vrl_store.specs.Places.{is_there, read_in, removed}
 use Rattle.vrl_store.specs.WellFormed.{AreWellFormedArgs, IsWellFormedStore}
-use Rattle.vrl_judge.specs.Rules.{Argument, IsScalar, IsThen, Judgement, argument_at, banged, gives, is_error}
+use Rattle.vrl_diag.specs.Refusal.{is_error}
+use Rattle.vrl_judge.specs.Rules.{Argument, IsScalar, IsThen, Judgement, argument_at, banged, gives}
 use Rattle.vrl_check.specs.Judgement.{IsDeletedAt, a_deletion, an_existence, behind_arguments, bound, deleted_kind, deleted_path, of_call, wants_path}
 use Rattle.vrl_resolve.specs.Calls.{acts, callee_of, items_in}
 use Rattle.vrl_resolve.specs.Meaning.{eval, eval_args}

@@ -14,18 +14,13 @@ use Rattle.vrl_kind.specs.Kinds.{found_at, option_tags, tags_at, Inhabits}
 use Rattle.vrl_kind.specs.Tags.{Tags}
 use Rattle.vrl_state.specs.States.{with_kind, IsCutOf, IsWritten, RootMap}
 use Rattle.vrl_state.specs.Stores.{value_of, with_value, FitsKnown, IsWithout, Store}
-use Rattle.vrl_store.specs.Places.{left_in, removed, root_value, root_without}
-use Rattle.vrl_judge.specs.Rules as check
+use Rattle.vrl_syntax.specs.Stores.{left_in}
+use Rattle.vrl_store.specs.Places.{removed, root_value, root_without}
 use Rattle.vrl_judge.specs.Rules.{IsDeleted}
 use Rattle.vrl_compile.proofs.SoundValues.{same_tag-itself}
 use Rattle.vrl_compile.specs.SoundLaws.{Laws}
 
 -- ---- a root
-
--- what is left in a root, as it is judged and as it is done
-same_left : (root : Root) → check.left_in root ≡ left_in root
-same_left Event = refl
-same_left (Name x) = refl
 
 found_in : (found : Option Tag) (T : Tags) → ((t : Tag) → T t ≡ option_tags found t) → IfSome found (λ t. IsTrue (T t))
 found_in None T same = tt
@@ -41,10 +36,9 @@ whole_written root v K None after is same = same
 whole_written root v K (Some roots) after is same = (K, record { whole = is.whole; canonical = is.canonical; tags = λ p t. refl; cut = is.cut }, same)
 
 -- what is left in a root stands there
-root_left : Laws → (root : Root) (K : KindTree) (known after : Option RootMap) (store : Store) → IsCutOf (found_at (check.left_in root)) K → after ≡ option_map (with_kind root K) known → FitsKnown store known
+root_left : Laws → (root : Root) (K : KindTree) (known after : Option RootMap) (store : Store) → IsCutOf (found_at (left_in root)) K → after ≡ option_map (with_kind root K) known → FitsKnown store known
     → FitsKnown (with_value root (left_in root) store) after
-root_left laws root K known after store is same fits =
-    let cut : IsCutOf (found_at (left_in root)) K = subst (λ v. IsCutOf (found_at v) K) (same_left root) is in
+root_left laws root K known after store cut same fits =
     let set = laws.sets (root_value root store) [] (left_in root) in
     laws.writes root [] cut.whole (left_in root) known after store (with_value root (left_in root) store) (whole_written root (left_in root) K known after cut same) fits
     (of_its_tags (left_in root) cut.whole cut.tags) (record { value = left_in root; set = set.0; store = refl })

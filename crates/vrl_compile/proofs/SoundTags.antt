@@ -14,7 +14,8 @@ use Rattle.vrl_kind.specs.Tags.{Tags, all_tags, same_tag}
 use Rattle.vrl_place.specs.Sets.{has_other, is_alone}
 use Rattle.vrl_state.specs.States.{RootMap}
 use Rattle.vrl_state.specs.Stores.{FitsKnown, Store}
-use Rattle.vrl_judge.specs.Rules.{Judgement, at, is_alive, is_error, is_other, may_be_no_truth, may_be_truth, when}
+use Rattle.vrl_diag.specs.Refusal.{is_error}
+use Rattle.vrl_judge.specs.Rules.{Judgement, at, is_alive, is_other, may_be_no_truth, may_be_truth, when}
 use Rattle.vrl_compile.specs.Sound.{HasNoError}
 
 -- a tag that passes a test is one of them all

@@ -20,7 +20,8 @@ use Rattle.vrl_store.specs.Outcomes.{Ended, Outcome, error, returned, value}
 use Rattle.vrl_store.specs.WellFormed.{IsWellFormed}
 use Rattle.vrl_check.specs.Answer.{IsJudged}
 use Rattle.vrl_judge.specs.Returns.{return_kind, return_state}
-use Rattle.vrl_judge.specs.Rules.{Judgement, is_error}
+use Rattle.vrl_diag.specs.Refusal.{is_error}
+use Rattle.vrl_judge.specs.Rules.{Judgement}
 use Rattle.vrl_check.specs.Judgement.{JudgesScript}
 use Rattle.vrl_judge.specs.Ordered.{AreOrdered}
 use Rattle.vrl_check.specs.declared.judged.Judged.{Judged}

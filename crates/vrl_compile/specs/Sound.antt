@@ -13,7 +13,8 @@ use Rattle.vrl_state.specs.Stores.{FitsKnown, Store}
 use Rattle.vrl_builtin.specs.Rows.{SettingTree}
 use Rattle.vrl_store.specs.Outcomes.{Outcome, value, error, returned, Ended}
 use Rattle.vrl_store.specs.WellFormed.{IsWellFormed, IsWellFormedExpr, AreWellFormedExprs, IsWellFormedStore}
-use Rattle.vrl_judge.specs.Rules.{Judgement, is_error}
+use Rattle.vrl_diag.specs.Refusal.{is_error}
+use Rattle.vrl_judge.specs.Rules.{Judgement}
 use Rattle.vrl_check.specs.Judgement.{Judges, JudgesScript}
 use Rattle.vrl_resolve.specs.Meaning.{eval, run_script}
 

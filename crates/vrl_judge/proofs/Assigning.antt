@@ -12,7 +12,8 @@ use Rattle.vrl_kind.specs.Kinds.{found_at}
 use Rattle.vrl_state.specs.States.{IsCutOf, IsEither, IsPresent, RootMap}
 use Rattle.vrl_judge.specs.Assigning.{AreAssigned}
 use Rattle.vrl_syntax.specs.ErrorAssignments.{empty_value}
-use Rattle.vrl_judge.specs.Rules.{Judgement, at, empty_tag, is_error, is_no_event, is_nowhere, of_assignment, of_error_assignment, when, with_codes, IsWritten}
+use Rattle.vrl_diag.specs.Refusal.{is_error}
+use Rattle.vrl_judge.specs.Rules.{Judgement, at, empty_tag, is_no_event, is_nowhere, of_assignment, of_error_assignment, when, with_codes, IsWritten}
 use Rattle.vrl_judge.specs.Judging.{known_on, AreBothWritten, AreEnds, HasEnds, HasJudged, IsAssignedAs, IsMoved, IsPutAt, IsReported, IsWay}
 use Rattle.vrl_judge.specs.Seen.{seen}
 use Rattle.vrl_judge.specs.declared.checker.Checker.{Checker}

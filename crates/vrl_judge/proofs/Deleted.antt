@@ -12,7 +12,8 @@ use Rattle.vrl_kind.specs.Cut.{IsCut, flat, level_limit, node_limit}
 use Rattle.vrl_kind.specs.KindTree.{KindTree}
 use Rattle.vrl_kind.specs.Kinds.{found_at, tags_at}
 use Rattle.vrl_state.specs.States.{IsWritten, RootMap}
-use Rattle.vrl_judge.specs.Rules.{left_in, IsDeleted}
+use Rattle.vrl_syntax.specs.Stores.{left_in}
+use Rattle.vrl_judge.specs.Rules.{IsDeleted}
 use Rattle.vrl_value.specs.declared.value.Tag.TheVariants as tag
 use Rattle.vrl_syntax.specs.declared.root.Root.TheVariants as root
 

@@ -8,7 +8,8 @@ use Rattle.vrl_diag.specs.declared.diagnostic.Diagnostic.{Diagnostic}
 use Rattle.vrl_kind.specs.KindTree.{KindTree}
 use Rattle.vrl_state.specs.States.{kept as kept_by, knows, IsEither, IsJoined, RootMap, Scope, State}
 use Rattle.vrl_judge.specs.Returns.{return_kind, return_state, returning}
-use Rattle.vrl_judge.specs.Rules.{Judgement, IsBehind, IsThen, if_state, is_alive, is_error, kept, left, settle, settled_kind, with_codes}
+use Rattle.vrl_diag.specs.Refusal.{is_error}
+use Rattle.vrl_judge.specs.Rules.{Judgement, IsBehind, IsThen, if_state, is_alive, kept, left, settle, settled_kind, with_codes}
 use Rattle.vrl_judge.specs.Judging.{kept_unless, known_on, settled_ends, AreEnds, AreJoinedEnds, AreLeftEnds, HasEnds, HasGathered, HasJudged, IsMoved, IsReported, IsReturnIn, IsWay}
 use Rattle.vrl_judge.specs.declared.checker.Checker.{Checker}
 use Rattle.vrl_judge.specs.declared.ends.Ends.{Ends}

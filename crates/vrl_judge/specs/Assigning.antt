@@ -7,7 +7,8 @@ use Rattle.vrl_kind.specs.KindTree.{KindTree}
 use Rattle.vrl_kind.specs.Kinds.{found_at}
 use Rattle.vrl_state.specs.States.{IsCutOf, IsEither}
 use Rattle.vrl_syntax.specs.ErrorAssignments.{empty_value}
-use Rattle.vrl_judge.specs.Rules.{empty_tag, is_error, of_error_assignment}
+use Rattle.vrl_diag.specs.Refusal.{is_error}
+use Rattle.vrl_judge.specs.Rules.{empty_tag, of_error_assignment}
 use Rattle.vrl_judge.specs.Judging.{known_on, AreBothWritten, IsPutAt}
 use Rattle.vrl_judge.specs.Seen.{seen}
 use Rattle.vrl_judge.specs.declared.checker.Checker.{Checker}

@@ -6,7 +6,8 @@ use Rattle.vrl_diag.specs.declared.diagnostic.Span.{Span}
 use Rattle.vrl_kind.specs.Canonical.{never_kind}
 use Rattle.vrl_state.specs.States.{IsEither, IsJoined, RootMap, Scope, State}
 use Rattle.vrl_judge.specs.Returns.{return_kind, return_state}
-use Rattle.vrl_judge.specs.Rules.{at, if_state, is_alive, is_error, is_fallible, is_other, may_be_no_truth, may_be_truth, of_predicate, settled_kind, when, IsScalar, Judgement}
+use Rattle.vrl_diag.specs.Refusal.{is_error}
+use Rattle.vrl_judge.specs.Rules.{at, if_state, is_alive, is_fallible, is_other, may_be_no_truth, may_be_truth, of_predicate, settled_kind, when, IsScalar, Judgement}
 use Rattle.vrl_judge.specs.Judging.{known_on, no_ends, AreEnds, AreJoinedEnds, IsMoved, IsReported, IsWay}
 use Rattle.vrl_judge.specs.Seen.{seen}
 use Rattle.vrl_judge.specs.declared.branches.LeftSide.{LeftSide}

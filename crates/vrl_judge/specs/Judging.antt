@@ -9,7 +9,8 @@ use Rattle.vrl_syntax.specs.declared.root.Target.{Target}
 use Rattle.vrl_kind.specs.KindTree.{KindTree}
 use Rattle.vrl_state.specs.States.{IsCutOf, IsEither, IsEntered, IsJoined, IsRootKind, kept as kept_by, RootMap, Scope, State}
 use Rattle.vrl_judge.specs.Returns.{return_kind, return_state, returning}
-use Rattle.vrl_judge.specs.Rules.{Judgement, IsMerged, IsReadAt, IsScalar, IsThen, IsWritten, at, if_state, is_error, is_other, left as left_behind, no_objects, number_tag, of_assignment, of_pairs, order_tag, scalars_at, settle, some_pair, sum_tag, table_tags, when, with_codes}
+use Rattle.vrl_diag.specs.Refusal.{is_error}
+use Rattle.vrl_judge.specs.Rules.{Judgement, IsMerged, IsReadAt, IsScalar, IsThen, IsWritten, at, if_state, is_other, left as left_behind, no_objects, number_tag, of_assignment, of_pairs, order_tag, scalars_at, settle, some_pair, sum_tag, table_tags, when, with_codes}
 use Rattle.vrl_judge.specs.declared.checker.Checker.{Checker}
 use Rattle.vrl_judge.specs.declared.ends.Ends.{Ends}
 use Rattle.vrl_judge.specs.declared.ends.Returned.{Returned}

@@ -4,11 +4,12 @@
 use Rattle.std.specs.Prelude.{◌≡◌, ℕ, zero, suc, Bool, true, false, ◌||◌, ◌&&◌, not, ◌==◌, List, [], ◌∷◌, ◌++◌, slice_get, Option, Some, None, is_some, bytes_eq, find, unwrap_or, if◌then◌else◌, option_map}
 use Rattle.std.specs.List.{list_any}
 use Rattle.vrl_value.specs.Look.{field, place}
-use Rattle.vrl_value.specs.Tree.{Tree, null, object as members, no_members}
 use Rattle.vrl_value.specs.declared.value.Tag.{Tag}
 use Rattle.vrl_path.specs.Steps.{plain}
 use Rattle.vrl_diag.specs.declared.diagnostic.Span.{Span}
 use Rattle.vrl_diag.specs.declared.diagnostic.Diagnostic.{Diagnostic}
+use Rattle.vrl_diag.specs.Refusal.{is_error}
+use Rattle.vrl_syntax.specs.Stores.{left_in}
 use Rattle.vrl_syntax.specs.Tree.{Expr, expr, binary}
 use Rattle.vrl_syntax.specs.declared.root.Op.{Op}
 use Rattle.vrl_syntax.specs.declared.root.Root.{Root}
@@ -111,10 +112,6 @@ nothing tags = record { kind = never_kind; ok = None; fail = None; ret = None; r
 -- what gives a value of this kind, and does nothing else
 abbrev pub gives : KindTree → Option RootMap → Judgement
 gives K state = record (nothing []) { kind = K; ok = state }
-
--- every code but 651 refuses the script
-abbrev pub is_error : Diagnostic → Bool
-is_error d = not (d.code == 651)
 
 abbrev pub at : ℕ → Span → List Diagnostic
 at code span = record { code = code; span = span } ∷ []
@@ -329,11 +326,6 @@ argument_at js (Some i) = slice_get js i
 abbrev pub banged : Span → Bool → Judgement → Judgement
 banged span false j = j
 banged span true j = with_codes (when (not (j.poisoned || is_fallible j)) (at 620 span)) (record j { fail = None })
-
--- what a `del` leaves of a root: an empty object of the event, and null in a variable
-abbrev pub left_in : Root → Tree
-left_in root.Event = members no_members
-left_in (root.Name x) = null
 
 -- the state without what stands at a path; that of a root is what is left in it
 abbrev pub IsDeleted : Root → List steps.Step → Option RootMap → Option RootMap → Type 0

@@ -4,13 +4,13 @@
 -- written or removed is negative.
 use Rattle.std.specs.Prelude.{Bool, List, [], ◌∷◌, Option, Some, None, is_some, unwrap_or, nat_le, if◌then◌else◌}
 use Rattle.vrl_value.specs.Depth.{depth_of}
-use Rattle.vrl_value.specs.Tree.{Tree, null, object, no_members}
+use Rattle.vrl_value.specs.Tree.{Tree, null}
 use Rattle.vrl_path.specs.Read.{read_at}
 use Rattle.vrl_path.specs.Steps.{plain}
 use Rattle.vrl_path.specs.Trees.{remove_tree, set_tree}
 use Rattle.vrl_path.specs.Write.{depth_limit}
 use Rattle.vrl_path.specs.declared.path.Step.{Step}
-use Rattle.vrl_syntax.specs.Stores.{Store, value_of, with_value}
+use Rattle.vrl_syntax.specs.Stores.{Store, left_in, value_of, with_value}
 use Rattle.vrl_syntax.specs.declared.root.Root.{Root}
 use Rattle.vrl_syntax.specs.declared.root.Root.TheVariants.{Event, Name}
 use Rattle.vrl_syntax.specs.declared.root.Target.{Target}
@@ -53,11 +53,6 @@ writes_to (Place span root path) v store next = writes root path v store next
 abbrev pub target_value : Target → Store → Tree
 target_value Nowhere store = null
 target_value (Place span root path) store = read_in root path store
-
--- what is left in a root that is removed: an empty object of the event, and null in a variable
-abbrev pub left_in : Root → Tree
-left_in Event = object no_members
-left_in (Name x) = null
 
 -- a root without what stands at a path; a variable that isn't there stays so
 abbrev pub root_without : Root → List Step → Option Tree → Store → Store

@@ -3,7 +3,7 @@ use Rattle.std.specs.Prelude.{Option, Some}
 use Rattle.std.specs.Cmp.Lexicographic.{slice_cmp}
 use Rattle.std.specs.FinMap as map
 use Rattle.std.specs.Ordering.{nat_cmp}
-use Rattle.vrl_value.specs.Tree.{Tree}
+use Rattle.vrl_value.specs.Tree.{Tree, null, object, no_members}
 use Rattle.vrl_syntax.specs.declared.root.Root.{Root}
 use Rattle.vrl_syntax.specs.declared.root.Root.TheVariants.{Event, Name}
 
@@ -24,6 +24,11 @@ value_of (Name x) store = map.get store.variables x
 abbrev pub with_value : Root → Tree → Store → Store
 with_value Event v store = record store { event = v }
 with_value (Name x) v store = record store { variables = map.insert store.variables x v }
+
+-- what is left in a root that is removed: an empty object of the event, and null in a variable
+abbrev pub left_in : Root → Tree
+left_in Event = object no_members
+left_in (Name x) = null
 
 -- behind a block only what the store held where it began
 abbrev pub store_kept : Store → Store → Store

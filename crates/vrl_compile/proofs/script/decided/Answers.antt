@@ -1,7 +1,7 @@
 use Rattle.std.proofs.Common.{◌≡◌, true, false, sym, ap, ◌∙◌}
 use Rattle.std.specs.List.{list_any}
 use Rattle.vrl_syntax.specs.View.{exprs_of, script_of}
-use Rattle.vrl_judge.specs.Rules.{is_error}
+use Rattle.vrl_diag.specs.Refusal.{is_error}
 use Rattle.vrl_resolve.specs.Program.{script_program}
 use Rattle.vrl_compile.proofs.Compiling.{accepted, refused}
 use Rattle.vrl_compile.proofs.script.decided.Goals as goal
