@@ -1,5 +1,5 @@
 -- Removals: a store from which something was taken out fits what is known behind the removal.
-use Rattle.std.proofs.Common.{◌≡◌, List, [], ◌∷◌, Option, Some, None, IfSome, IfNone, IsTrue, MatchOption, OnSome, option_map, refl, ◌∙◌, subst}
+use Rattle.std.proofs.Common.{◌≡◌, List, [], ◌∷◌, Option, Some, None, IfSome, IfNone, IsTrue, MatchOption, OnSome, option_map, refl, ◌∙◌}
 use Rattle.vrl_value.specs.Look.{Step, raw_at, tag_found}
 use Rattle.vrl_value.specs.Tree.{Tree}
 use Rattle.vrl_value.specs.declared.value.Tag.{Tag}

@@ -12,7 +12,6 @@ use Rattle.vrl_path.specs.Write.{depth_limit}
 use Rattle.vrl_path.specs.declared.path.Step.{Step}
 use Rattle.vrl_syntax.specs.Stores.{Store, left_in, value_of, with_value}
 use Rattle.vrl_syntax.specs.declared.root.Root.{Root}
-use Rattle.vrl_syntax.specs.declared.root.Root.TheVariants.{Event, Name}
 use Rattle.vrl_syntax.specs.declared.root.Target.{Target}
 use Rattle.vrl_syntax.specs.declared.root.Target.TheVariants.{Nowhere, Place}
 use Rattle.vrl_store.specs.Outcomes.{Ended, deep, ends}
