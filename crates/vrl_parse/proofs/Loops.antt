@@ -77,9 +77,6 @@ leads-more {r} {q} {p} {f} {start} g h leads same step fails = record {
 pub leads-end : {r q : Rule} {f : Meaning q → Meaning r} {start now vs : List Word} {y : Meaning r} (x : Meaning q) → Leads r q f start now → y ≡ f x → RuleTakes q now x vs → RuleTakes r start y vs
 leads-end {r} {start = start} {vs = vs} x leads same run = subst (λ z. RuleTakes r start z vs) (sym same) (leads.takes x vs run)
 
-pub leads-start : (r : Rule) (ws : List Word) → Leads r r (λ x. x) ws ws
-leads-start r ws = record { takes = λ x vs run. run; refuses = λ run. run }
-
 pub exprs_onto-more : {new : List CodeExpr} (old : List CodeExpr) (x : CodeExpr) → new ≡ old ++ x ∷ [] → (es : Exprs) → exprs_onto new es ≡ exprs_onto old (exprs (expr_of x) es)
 exprs_onto-more old x pushed es = ap (λ l. exprs_onto l es) pushed ∙ exprs_onto-push old x es
 

@@ -1,5 +1,5 @@
 -- From tokens to what single words say.
-use Rattle.std.proofs.Common.{◌≡◌, ◌+◌, ℕ, Bool, List, [], ◌∷◌, Option, Some, None, length, refl, sym, subst, ap, ◌∙◌, zero-add}
+use Rattle.std.proofs.Common.{◌≡◌, ◌+◌, ℕ, Bool, List, [], ◌∷◌, Some, length, refl, sym, subst, ap, ◌∙◌, zero-add}
 use Rattle.vrl_diag.specs.declared.diagnostic.Span.{Span}
 use Rattle.vrl_path.specs.declared.path.Step.{Step}
 use Rattle.vrl_syntax.specs.declared.root.Op.{Op}
@@ -10,8 +10,8 @@ use Rattle.vrl_token.specs.declared.token.Token.{Token}
 use Rattle.vrl_token.specs.declared.token.Token.TheVariants as token
 use Rattle.vrl_word.specs.declared.sign.Sign.{Sign}
 use Rattle.vrl_word.specs.declared.sign.Sign.TheVariants as sign
-use Rattle.vrl_parse.specs.Descent.{Lacks, Piece, Said, Says, Takes, takes}
-use Rattle.vrl_word.specs.Signs.{sign_of, token_of}
+use Rattle.vrl_parse.specs.Descent.{Piece, Said, Says, Takes, takes}
+use Rattle.vrl_word.specs.Signs.{token_of}
 use Rattle.vrl_word.specs.Words.{Word, function_of, operator_of, path_of, regex_of, target_at, words_from}
 
 -- the word of a token that has so many regex literals before it
@@ -27,9 +27,6 @@ pub takes_first : {all ts : List Spanned} {t : Spanned} (n : ℕ) (k : Piece) (v
 takes_first {all} {ts} {t} n k v split none says =
     subst (λ l. Takes k (words_from n l) v t.span (words_from n ts)) (sym split)
     (subst (λ ws. Takes k (word_of t n ∷ words_from (length (regex_of t.token) + n) ts) v t.span ws) (words-behind t.token n ts none) (takes v says))
-
-pub lacks_first : {all ts : List Spanned} {t : Spanned} (n : ℕ) (k : Piece) → all ≡ t ∷ ts → ((v : Said k) → ¬ Says k (word_of t n) v) → Lacks k (words_from n all)
-lacks_first {all} {ts} {t} n k split says = subst (λ l. Lacks k (words_from n l)) (sym split) says
 
 -- the same of a word that may be a regex literal
 pub takes_counted : {all ts : List Spanned} {t : Spanned} (n : ℕ) {m : ℕ} (k : Piece) (v : Said k)
@@ -58,28 +55,6 @@ regex_of-target t span says = refl
 
 -- ---- signs
 
-pub sign_of-token_of : (s : Sign) → sign_of (token_of s) ≡ Some s
-sign_of-token_of sign.If = refl
-sign_of-token_of sign.Else = refl
-sign_of-token_of sign.Abort = refl
-sign_of-token_of sign.Return = refl
-sign_of-token_of sign.Assign = refl
-sign_of-token_of sign.MergeAssign = refl
-sign_of-token_of sign.Not = refl
-sign_of-token_of sign.OpenParenthesis = refl
-sign_of-token_of sign.CloseParenthesis = refl
-sign_of-token_of sign.OpenBracket = refl
-sign_of-token_of sign.CloseBracket = refl
-sign_of-token_of sign.OpenBlock = refl
-sign_of-token_of sign.OpenObject = refl
-sign_of-token_of sign.CloseBrace = refl
-sign_of-token_of sign.OpenBars = refl
-sign_of-token_of sign.CloseBars = refl
-sign_of-token_of sign.Comma = refl
-sign_of-token_of sign.Colon = refl
-sign_of-token_of sign.Arrow = refl
-sign_of-token_of sign.Separator = refl
-
 pub regex_of-sign : (s : Sign) → regex_of (token_of s) ≡ []
 regex_of-sign sign.If = refl
 regex_of-sign sign.Else = refl
@@ -101,60 +76,3 @@ regex_of-sign sign.Comma = refl
 regex_of-sign sign.Colon = refl
 regex_of-sign sign.Arrow = refl
 regex_of-sign sign.Separator = refl
-
--- what a token is, where it is a sign
-abbrev Is_sign : Token → Option Sign → Type 0
-Is_sign t None = Unit {0}
-Is_sign t (Some s) = t ≡ token_of s
-
-is_sign-sign_of : (t : Token) → Is_sign t (sign_of t)
-is_sign-sign_of (token.Text x) = tt
-is_sign-sign_of (token.RawText x) = tt
-is_sign-sign_of (token.Regex x) = tt
-is_sign-sign_of (token.Timestamp x) = tt
-is_sign-sign_of (token.Number x) = tt
-is_sign-sign_of token.True = tt
-is_sign-sign_of token.False = tt
-is_sign-sign_of token.Null = tt
-is_sign-sign_of token.If = refl
-is_sign-sign_of token.Else = refl
-is_sign-sign_of token.Abort = refl
-is_sign-sign_of token.Return = refl
-is_sign-sign_of (token.Name x) = tt
-is_sign-sign_of (token.Function x) = tt
-is_sign-sign_of (token.BangFunction x) = tt
-is_sign-sign_of (token.EventPath x) = tt
-is_sign-sign_of (token.NamePath x y) = tt
-is_sign-sign_of (token.Suffix x) = tt
-is_sign-sign_of token.Assign = refl
-is_sign-sign_of token.MergeAssign = refl
-is_sign-sign_of token.Coalesce = tt
-is_sign-sign_of token.Or = tt
-is_sign-sign_of token.And = tt
-is_sign-sign_of token.Equal = tt
-is_sign-sign_of token.Unequal = tt
-is_sign-sign_of token.Less = tt
-is_sign-sign_of token.AtMost = tt
-is_sign-sign_of token.More = tt
-is_sign-sign_of token.AtLeast = tt
-is_sign-sign_of token.Merge = tt
-is_sign-sign_of token.Plus = tt
-is_sign-sign_of token.Minus = tt
-is_sign-sign_of token.Times = tt
-is_sign-sign_of token.Not = refl
-is_sign-sign_of token.OpenParenthesis = refl
-is_sign-sign_of token.CloseParenthesis = refl
-is_sign-sign_of token.OpenBracket = refl
-is_sign-sign_of token.CloseBracket = refl
-is_sign-sign_of token.OpenBlock = refl
-is_sign-sign_of token.OpenObject = refl
-is_sign-sign_of token.CloseBrace = refl
-is_sign-sign_of token.OpenBars = refl
-is_sign-sign_of token.CloseBars = refl
-is_sign-sign_of token.Comma = refl
-is_sign-sign_of token.Colon = refl
-is_sign-sign_of token.Arrow = refl
-is_sign-sign_of token.Separator = refl
-
-pub token-sign_of : (t : Token) (s : Sign) → sign_of t ≡ Some s → t ≡ token_of s
-token-sign_of t s h = subst (Is_sign t) h (is_sign-sign_of t)
