@@ -12,8 +12,8 @@ use Rattle.vrl_syntax.specs.Stores.{Store, store_of}
 use Rattle.vrl_value.specs.View.{members_of}
 use Rattle.vrl_value.specs.declared.memory.Memory.{Memory}
 use Rattle.vrl_store.specs.Outcomes.{Ended, Outcome, value, error, aborted, returned, banged, deep}
+use Rattle.vrl_store.specs.Told.{AreToldByMap}
 use Rattle.vrl_store.specs.WellFormed.{IsWellFormed, IsWellFormedEnded, IsWellFormedOutcome, IsWellFormedStore}
-use Rattle.vrl_resolve.specs.Leaving.{AreToldByMap}
 use Rattle.vrl_resolve.specs.Meaning.{End, ended, end_of}
 use Rattle.vrl_resolve.specs.Program.{AreVariables, IsEnd, IsRan, IsWellFormedEnd, IsWellFormedRan}
 use Rattle.vrl_resolve.specs.declared.ran.Ended.{Ended as CodeEnded}
