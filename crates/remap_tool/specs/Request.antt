@@ -11,7 +11,8 @@ use Rattle.vrl_token.specs.Reading.{IsNoScript}
 use Rattle.vrl_token.specs.declared.token.Spanned.{Spanned}
 use Rattle.vrl_compile.specs.declared.script.Compiled.{Compiled}
 use Rattle.vrl_compile.specs.declared.script.Compiled.TheVariants.{Accepted, Refused}
-use Rattle.vrl_run.specs.Request.{Request, bad_script, bad_words, event_kind, run}
+use Rattle.vrl_run.specs.Events.{event_kind}
+use Rattle.vrl_run.specs.Request.{Request, bad_script, bad_words, run}
 use Rattle.remap_tool.specs.Words.{Command, usage, script}
 
 -- what a store may tell: the bytes that a name holds

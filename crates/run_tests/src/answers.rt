@@ -98,9 +98,11 @@ fn is_answered(alloc: Global, request: &Request, row: &Row) -> Result<bool, Memo
         &mut report,
         &mut clock,
     );
-    Ok(told == *status
-        && output.written() == written.as_bytes()
-        && report.written() == reported.as_bytes())
+    Ok(
+        told == *status
+            && output.written() == written.as_bytes()
+            && report.written() == reported.as_bytes(),
+    )
 }
 
 // Whether a script that runs does what the row wants.
@@ -129,7 +131,14 @@ fn is_run(
 fn is_told(alloc: Global, text: &str, row: &Row) -> Result<bool, Memory> {
     let declared = event_kind(alloc)?;
     match accepted(alloc, text, &declared)? {
-        Some(script) => is_run(alloc, text, &script.program, &script.sources, &declared, row),
+        Some(script) => is_run(
+            alloc,
+            text,
+            &script.program,
+            &script.sources,
+            &declared,
+            row,
+        ),
         None => is_answered(alloc, &Request::Refused(text.as_bytes(), &UNDEFINED), row),
     }
 }

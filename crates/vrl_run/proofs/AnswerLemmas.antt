@@ -121,14 +121,14 @@ pub told_leaves : (request : Request) (refusal s : Status) (bytes : List ℕ) (l
     → LeavesDevices (IsSame request) s (devices left taken ahead output report) (devices left taken ahead output report_after)
 told_leaves request refusal s bytes left taken ahead output report report_after is only unlined short whole front =
     let asked : IsAsked (IsSame request) (devices left taken ahead output report) (record { status = refusal; output = []; report = bytes }) = record {
-          request = request;
-          asked = refl;
-          input = unwrap_or left [];
-          is_left = some_input left;
-          moments = moments_of ahead;
-          are_ahead = some_moments ahead;
-          answered = sym is;
-        } in
+      request = request;
+      asked = refl;
+      input = unwrap_or left [];
+      is_left = some_input left;
+      moments = moments_of ahead;
+      are_ahead = some_moments ahead;
+      answered = sym is;
+    } in
     record {
       whole = λ answered. let same = only answered in record {
         answer = _;

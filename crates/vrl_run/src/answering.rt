@@ -11,8 +11,8 @@ ghost use Rattle.vrl_run.specs.Events.{event_kind};
 ghost use Rattle.vrl_run.specs.Results.{answer_of};
 ghost use Rattle.vrl_run.specs.Status.{IsAnswer, IsOfLines, IsUnread};
 
-use crate::request::Request;
 use crate::lines::{Results, run_lines};
+use crate::request::Request;
 use crate::script::Script;
 use crate::status::Status;
 use std::alloc::Global;

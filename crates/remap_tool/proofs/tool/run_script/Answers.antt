@@ -1,13 +1,16 @@
-use Rattle.std.proofs.Common.{refl, inr}
+use Rattle.std.proofs.Common.{refl, rules, inl, inr}
 use Rattle.vrl_run.specs.Request.{bad_script, run}
 use Rattle.remap_tool.specs.Request.{AsksByScript}
-use Rattle.remap_tool.proofs.AnswerLemmas.{leaves-by, only}
+use Rattle.remap_tool.proofs.AnswerLemmas.{first_of, leaves-by, only, refusal_told}
 use Rattle.remap_tool.proofs.RunSound.{accepted_handles}
 use Rattle.remap_tool.proofs.tool.run_script.Goals as goal
 
-pub returns-in-Ok-Refused-clause-devices : goal.returns-in-Ok-Refused-clause-devices
-returns-in-Ok-Refused-clause-devices g c =
-    leaves-by _ _ _ _ _ (only (AsksByScript c.args.text.now) (bad_script _ _) (refl, rw c.in-Ok-Refused.field-0-is at c.in-Ok-Refused.ensures)) (rw c.as_slice-in-Ok-Refused.ensures at c.answer-in-Ok-Refused.ensures.devices)
+pub answer-requires : goal.answer-requires
+answer-requires g c = record {
+  declared = search rules;
+  sources = (rw c.in-Ok-Accepted.field-0-is at c.in-Ok-Accepted.ensures).1;
+  handled = accepted_handles c.accepted_scripts_are_sound.ensures (rw c.in-Ok-Accepted.field-0-is at c.in-Ok-Accepted.ensures).0;
+}
 
 pub returns-in-Ok-Accepted-clause-devices : goal.returns-in-Ok-Accepted-clause-devices
 returns-in-Ok-Accepted-clause-devices g c =
@@ -19,11 +22,15 @@ returns-in-Ok-Accepted-clause-refused g c = inr (_, _, (rw c.in-Ok-Accepted.fiel
 pub returns-in-Ok-Accepted-clause-accepted_first : goal.returns-in-Ok-Accepted-clause-accepted_first
 returns-in-Ok-Accepted-clause-accepted_first g c = inr (_, _, (rw c.in-Ok-Accepted.field-0-is at c.in-Ok-Accepted.ensures).0)
 
-pub run_program-requires-clause-handled : goal.run_program-requires-clause-handled
-run_program-requires-clause-handled g c = accepted_handles c.accepted_scripts_are_sound.ensures (rw c.in-Ok-Accepted.field-0-is at c.in-Ok-Accepted.ensures).0
+pub returns-in-Ok-Refused-clause-devices : goal.returns-in-Ok-Refused-clause-devices
+returns-in-Ok-Refused-clause-devices g c =
+    leaves-by _ _ _ _ _ (only (AsksByScript c.args.text.now) (bad_script _ _) (refl, rw c.in-Ok-Refused.field-0-is at c.in-Ok-Refused.ensures)) (rw c.as_slice-in-Ok-Refused.ensures at c.answer-in-Ok-Refused.ensures.devices)
 
-pub run_program-requires-clause-sources : goal.run_program-requires-clause-sources
-run_program-requires-clause-sources g c = (rw c.in-Ok-Accepted.field-0-is at c.in-Ok-Accepted.ensures).1
+pub returns-in-Ok-Refused-clause-refused : goal.returns-in-Ok-Refused-clause-refused
+returns-in-Ok-Refused-clause-refused g c = inl (refusal_told c.args.text.now c.as_slice-in-Ok-Refused.result.now _ c.answer-in-Ok-Refused.ensures.status)
 
-pub returns-in-Ok-Accepted-clause-unread : goal.returns-in-Ok-Accepted-clause-unread
-returns-in-Ok-Accepted-clause-unread g c unread = absurd (run_is_read _ _ _ _ _ _ c.run_program.ensures.devices.whole unread)
+pub returns-in-Ok-Refused-clause-accepted_first : goal.returns-in-Ok-Refused-clause-accepted_first
+returns-in-Ok-Refused-clause-accepted_first g c = inl (first_of c.answer-in-Ok-Refused.ensures.run_first)
+
+pub returns-in-Ok-Refused-clause-unread : goal.returns-in-Ok-Refused-clause-unread
+returns-in-Ok-Refused-clause-unread g c unread = first_of c.answer-in-Ok-Refused.ensures.run_first
