@@ -847,6 +847,8 @@ LITERALS = {
     "array": ["[]", "[1, 2]", '["a", "b"]', '[["a", 1]]', "[null, [1]]", "[1, \"s\"]", "[r'a']", '["a", 0]'],
     "object": ["{}", '{"a": 1}', '{"a": "s", "b": {"a": 2}}', '{"a.b": null}', "."],
 }
+BUILT = ["is_string", "is_integer", "is_boolean", "is_null", "is_timestamp", "is_regex", "is_array", "is_object", "is_nullish", "is_empty", "string",
+         "int", "bool", "timestamp", "array", "object", "to_string", "to_int", "to_bool", "abs", "mod", "parse_int", "format_int"]
 CLOSED = ["for_each", "for_each", "filter", "map_values", "map_keys"]
 VARIANTS = {"variant": ['"SHA-256"', '"SHA-1"'], "format": ['"%+"', '"%Y-%m-%d"', '"%Y"', '"%j"', '"%"'], "unit": ['"seconds"', '"nanoseconds"', '"days"']}
 
@@ -863,8 +865,9 @@ def fitting(maker, parameter, depth):
 
 def call(maker, depth):
     rng = maker.rng
-    name = maker.pick((rng.choice(sorted(set(ROWS) - {"parse_url"})), 6), ("del", 1.5), ("exists", 1), (rng.choice(CLOSED), 3),
-                      (rng.choice(["to_int", "to_string", "push"]), 2))
+    every = BUILT if maker.built else sorted(set(ROWS) - {"parse_url"})
+    name = maker.pick((rng.choice(every), 6), ("del", 1.5), ("exists", 1), (rng.choice(CLOSED), 0 if maker.built else 3),
+                      (rng.choice(["to_int", "to_string", "mod" if maker.built else "push"]), 2))
     row = ROWS[name]
     arguments, named = [], False
     for one in row.parameters:

@@ -27,13 +27,13 @@ written or deleted, 1008 nested too deeply, 1009 too long or not UTF-8, 1012 ind
 """
 
 import argparse
+import contextlib
 import json
-import os
 import random
 import re
-import subprocess
 import sys
-import tempfile
+
+import programs
 
 # The deepest text that nesting lets through takes some thousand calls of the plain descent.
 sys.setrecursionlimit(20000)
@@ -280,6 +280,7 @@ def arrange(tokens):
         return None if place is None else tokens[place].sort
 
     before_any = None       # the word before, all newlines passed over
+    kinds_open = {"bars": 0, "body": 0}
     for i, token in enumerate(tokens):
         sort = token.sort
         before = words[-1][0] if words else None    # newlines that aren't separators are no words
@@ -304,7 +305,7 @@ def arrange(tokens):
         elif sort == "|":
             if before == "->":
                 word = "opening bar"
-            elif any(kind == "bars" for kind, _ in open_):
+            elif kinds_open["bars"]:
                 word = "closing bar"
         words.append((word, token))
         if sort != "newline":
@@ -317,11 +318,13 @@ def arrange(tokens):
         elif word in ("(", "[", "{block", "{body", "{object", "opening bar"):
             kind = {"opening bar": "bars", "{object": "object", "{block": "block", "{body": "body"}.get(word, word)
             open_.append((kind, now))
+            kinds_open[kind] = kinds_open.get(kind, 0) + 1
             now = Stretch(now)
             stretches.append(now)
         elif (word in CLOSING or word == "closing bar") and open_:
-            now = open_.pop()[1]
-        deep = deep or sum(kind == "body" for kind, _ in open_) > 4
+            kind, now = open_.pop()
+            kinds_open[kind] -= 1
+        deep = deep or kinds_open["body"] > 4
     # The stretches stand in an order in which outer ones come first.
     depth = {}
     for one in stretches:
@@ -360,6 +363,7 @@ def root_of(token):
 
 
 LEVELS = [["??"], ["||"], ["&&"], ["==", "!="], ["<", "<=", ">", ">="], ["|"], ["+", "-"], ["*"]]
+LEVEL_OF = {sign: number for number, signs in enumerate(LEVELS) for sign in signs}
 VALUES = {"number": "integer", "text": "string", "raw": "string", "regex": "regex", "time": "timestamp"}
 
 
@@ -425,12 +429,11 @@ class Reader:
         return self.level(0)
 
     def level(self, number):
-        if number == len(LEVELS):
-            return self.unary()
-        left = self.level(number + 1)
-        while self.look() in LEVELS[number]:
-            op = self.take(*LEVELS[number]).sort
-            right = self.level(number + 1)
+        """Operands joined by signs of this level and tighter ones, those of one level to the left."""
+        left = self.unary()
+        while LEVEL_OF.get(self.look(), -1) >= number:
+            op = self.take(*LEVEL_OF).sort
+            right = self.level(LEVEL_OF[op] + 1)
             left = Node("binary", left.start, right.end, op=op, left=left, right=right)
         return left
 
@@ -549,13 +552,14 @@ class Reader:
 
 def walk(node):
     """All nodes of a tree as written, an outer one before those in it."""
-    if isinstance(node, (list, tuple)):
-        for part in node:
-            yield from walk(part)
-    elif isinstance(node, Node):
-        yield node
-        for part in list(node.__dict__.values()):
-            yield from walk(part)
+    waiting = [node]
+    while waiting:
+        one = waiting.pop()
+        if isinstance(one, Node):
+            yield one
+            waiting += [part for part in one.__dict__.values() if isinstance(part, (Node, list, tuple))][::-1]
+        elif isinstance(one, (list, tuple)):
+            waiting += one[::-1]
 
 
 def tree_of(node, at):
@@ -1011,17 +1015,15 @@ def self_check():
 DIAGNOSTIC = re.compile(r"(?:error|warning)\[E([0-9]+)\] ([0-9]+):([0-9]+) ")
 
 
-def told_by(program, script, data):
-    with open(script, "wb") as file:
-        file.write(data)
-    ran = subprocess.run([program, script], stdin=subprocess.DEVNULL, capture_output=True)
-    lines = ran.stderr.decode("utf-8", "replace").split("\n")[:-1]
+def told_by(program, data):
+    _, report, status = program.run(data)
+    lines = report.decode("utf-8", "replace").split("\n")[:-1]
     found = [DIAGNOSTIC.match(line) for line in lines]
     told = [tuple(int(g) for g in one.groups()) for one in found if one]
     mine = [one for one in told if one[0] in CODES]
     if not mine:
-        return "ok" if ran.returncode in (0, 1) else f"status {ran.returncode}"
-    return mine[0] if len(lines) == 1 and ran.returncode == 1 else lines[:3]
+        return "ok" if status in (0, 1) else f"status {status}"
+    return mine[0] if len(lines) == 1 and status == 1 else lines[:3]
 
 
 def main():
@@ -1043,8 +1045,7 @@ def main():
     texts = list(hard_texts()) + [Maker(rng).text() for _ in range(given.count)]
     out = open(given.out, "w") if given.out else None
     met, differences = {}, 0
-    with tempfile.TemporaryDirectory() as place:
-        script = os.path.join(place, "script.vrl")
+    with programs.Program(given.program) if given.program else contextlib.nullcontext() as program:
         for data in texts:
             got = read(data)
             want = "ok" if isinstance(got, Script) else got
@@ -1053,7 +1054,7 @@ def main():
             if out:
                 out.write(case_line(data, got))
             if given.program:
-                told = told_by(given.program, script, data)
+                told = told_by(program, data)
             else:
                 told = want if agree(data) else "the other reader differs"
             if told != want:

@@ -1,6 +1,6 @@
 """Random trial of the judgement: kinds, states and codes of scripts.
 
-    python3 trials/judgement.py [--seed N] [--count N] [--no-calls] [--hard] [--out FILE] [--program PATH [--words]] [--show N]
+    python3 trials/judgement.py [--seed N] [--count N] [--no-calls | --built] [--hard] [--out FILE] [--program PATH [--words]] [--show N]
     python3 trials/judgement.py --text FILE [--kind FILE]
 
 The second form prints the diagnostics of a script, or its warnings and then its kinds as `--check` prints them. The
@@ -14,24 +14,24 @@ a JSON object a line:
     assignment's empty value, an outer one before those in it), loops (the state that each closure was judged in last)
 
 where result and end are null for a refused script. Calls are judged by the rows in `functions.py`; --no-calls makes
-scripts without them, --hard adds scripts about the limits of nodes and levels.
+scripts without them, --built makes those with calls of the functions that are built alone, --hard adds scripts about the
+limits of nodes and levels.
 
 A state is None where it is dead, else a map from roots to kinds; the event's root is ".".
 """
 
 import argparse
+import contextlib
 import json
-import os
 import random
-import subprocess
 import sys
-import tempfile
 
 sys.dont_write_bytecode = True
 
 import functions
 import grammar
 import kinds
+import programs
 from kinds import ABSENT, ANY, EVENT, NEVER, exactly, minus, plus, root_tags, scalars
 
 TITLES = {
@@ -47,6 +47,7 @@ TITLES = {
     1013: "literal or path argument wanted", 1014: "malformed timestamp literal", 1015: "closure result of the wrong kind",
     1016: "string template or too many regex literals",
 }
+NOT_BUILT = b"error[E1099] 1:1 form not built yet\n"
 COMPARISONS = {"==", "!=", "<", "<=", ">", ">="}
 PAIRS = {"+": {("integer", "integer"): "integer", ("string", "string"): "string", ("string", "null"): "string", ("null", "string"): "string"},
          "-": {("integer", "integer"): "integer"}, "*": {("integer", "integer"): "integer"}}
@@ -455,7 +456,7 @@ class Verdict:
         if not isinstance(self.script, grammar.Script):
             self.codes, lines = [self.script], ["error[E%d] %d:%d " % self.script + TITLES[self.script[0]]]
         else:
-            judge = Judge(self.script.patterns)
+            judge = self.judge = Judge(self.script.patterns)
             self.judged = judge.script({".": start}, self.script.items)
             self.codes = sorted(self.judged.codes)
             lines = []
@@ -469,12 +470,14 @@ class Verdict:
                     self.loops.append(judge.loops.get(node))
         self.diagnostics = lines
         self.accepted = self.judged is not None and not self.judged.poisoned
-        self.result = self.end = None
-        if self.accepted:
-            one = self.judged
-            end = join_states(one.ok, one.ret)
-            self.result = kinds.print_kind(join_kinds(one.kind, one.returned))
-            self.end = told_state(end) or [". never"]
+
+    @property
+    def result(self):
+        return kinds.print_kind(join_kinds(self.judged.kind, self.judged.returned)) if self.accepted else None
+
+    @property
+    def end(self):
+        return (told_state(join_states(self.judged.ok, self.judged.ret)) or [". never"]) if self.accepted else None
 
 
 # ---- scripts at random
@@ -487,8 +490,8 @@ class Maker:
     LITERALS = ["1", '"s"', "true", "null", "t'2024-01-02T03:04:05Z'", "r'a'", "-2", '""', "false"]
     SIGNS = ["+", "+", "+", "-", "*", "==", "!=", "<", ">=", "|", "|", "&&", "&&", "||", "||", "??", "??", "??"]
 
-    def __init__(self, rng, calls=None):
-        self.rng, self.calls = rng, calls
+    def __init__(self, rng, calls=None, built=False):
+        self.rng, self.calls, self.built = rng, calls, built
 
     def pick(self, *weighted):
         return self.rng.choices([w[0] for w in weighted], [w[1] for w in weighted])[0]
@@ -575,7 +578,7 @@ class Maker:
             lines.append("x = " + self.rng.choice(["1", '"s"', "{}", '{"a": 1}', "[1]", "null", ".a", "true", "."]))
         if self.rng.random() < 0.5:
             lines.append("y = " + self.rng.choice(["1", '"s"', "{}", '{"a": "s"}', "[]", "null", ".b", "x"]))
-        if self.calls and self.rng.random() < 0.1:
+        if self.calls and not self.built and self.rng.random() < 0.1:
             lines.append(self.calls.loop(self))
         if self.rng.random() < 0.08:
             lines.append(self.rng.choice(["x = {\"a\": [.]}", ".c.a.b = .", "x = [[.a]]", ".b[1].a = .a", ". = {\"a\": {\"a\": .}}", "y = [[[.c]]]"]))
@@ -708,21 +711,12 @@ def start_of(file):
     return EVENT if file is None else kinds.kind_file(json.dumps(file).encode())
 
 
-def told_by(program, place, script, file, words):
-    """Diagnostics and kinds as the program prints them, and its status."""
-    path = os.path.join(place, "script.vrl")
-    with open(path, "w") as out:
-        out.write(script)
-    command = [program, path]
-    if words:
-        command.append("--check")
-        if file is not None:
-            kind = os.path.join(place, "kind.json")
-            with open(kind, "w") as out:
-                json.dump(file, out)
-            command += ["--kind", kind]
-    ran = subprocess.run(command, stdin=subprocess.DEVNULL, capture_output=True)
-    return ran.stderr.decode().split("\n")[:-1], ran.stdout.decode().split("\n")[:-1], ran.returncode
+def told_by(program, script, file, words):
+    """Kinds and diagnostics as the program prints them, and its status."""
+    more = ["--check"] if words else []
+    if words and file is not None:
+        more += ["--kind", program.write("kind.json", json.dumps(file).encode())]
+    return program.run(script.encode(), words=more)
 
 
 def main():
@@ -733,6 +727,7 @@ def main():
     words.add_argument("--program")
     words.add_argument("--words", action="store_true")
     words.add_argument("--no-calls", action="store_true")
+    words.add_argument("--built", action="store_true")
     words.add_argument("--hard", action="store_true")
     words.add_argument("--text")
     words.add_argument("--kind")
@@ -752,10 +747,10 @@ def main():
         return 0 if found.accepted else 1
     rows = self_check()
     rng = random.Random(given.seed)
-    maker = Maker(rng, None if given.no_calls else functions)
+    maker = Maker(rng, None if given.no_calls else functions, given.built)
     met, differences, accepted, passed = {}, 0, 0, 0
     out = open(given.out, "w") if given.out else None
-    with tempfile.TemporaryDirectory() as place:
+    with programs.Program(given.program) if given.program else contextlib.nullcontext() as program:
         made, hard = 0, list(hard_scripts()) if given.hard else []
         while made < given.count or hard:
             script, file = (hard.pop(), None) if hard else (maker.script(), maker.kind_file())
@@ -773,9 +768,9 @@ def main():
                 out.write(case_line(script, file, found))
             if given.program:
                 printed = ["result " + found.result] + found.end if found.accepted and given.words else []
-                wanted = found.diagnostics, printed, 0 if found.accepted else 1
-                told = told_by(given.program, place, script, file, given.words)
-                if told[0] == ["error[E1099] 1:1 form not built yet"]:
+                wanted = programs.joined(printed), programs.joined(found.diagnostics), 0 if found.accepted else 1
+                told = told_by(program, script, file, given.words)
+                if told[1] == NOT_BUILT:
                     passed += 1
                 elif told != wanted:
                     differences += 1

@@ -31,6 +31,7 @@ whole numbers. A value is an object with one member, its tag: `{"integer": 1}`, 
 """
 
 import argparse
+import functools
 import json
 import random
 import sys
@@ -43,6 +44,10 @@ import json_lines
 
 SCALARS = ("string", "integer", "boolean", "null", "timestamp", "regex")
 ABSENT = "absent"
+
+
+# Kinds come again and again, so an answer is kept for a while.
+kept = functools.lru_cache(maxsize=1 << 15)
 
 
 class Kind(NamedTuple):
@@ -67,19 +72,19 @@ def root_tags(kind):
 
 
 def plus(kind, *tags):
-    return kind._replace(tags=kind.tags | set(tags))
+    return kind if kind.tags.issuperset(tags) else Kind(kind.tags.union(tags), kind.array, kind.object)
 
 
 def minus(kind, *tags):
-    kind = kind._replace(tags=kind.tags - set(tags))
-    if "array" in tags:
-        kind = kind._replace(array=None)
-    return kind._replace(object=None) if "object" in tags else kind
+    return Kind(kind.tags.difference(tags), None if "array" in tags else kind.array, None if "object" in tags else kind.object)
+
+
+OWN = {"nothing": GONE, "json": plus(JSON, ABSENT), "any": plus(ANY, ABSENT)}
 
 
 def own(rest):
     """The kind of every part that a rest stands for."""
-    return {"nothing": GONE, "json": plus(JSON, ABSENT), "any": plus(ANY, ABSENT)}[rest] if isinstance(rest, str) else plus(rest, ABSENT)
+    return OWN[rest] if isinstance(rest, str) else plus(rest, ABSENT)
 
 
 def rest_of(kind):
@@ -142,6 +147,7 @@ def tags_at(kind, path):
 
 # ---- operations on trees
 
+@kept
 def join(a, b):
     if a == b:
         return a
@@ -209,10 +215,12 @@ def flatten(kind):
     return Kind(kind.tags, ((), "any") if kind.array else None, ((), "any") if kind.object else None)
 
 
+@kept
 def cut(kind):
     return flatten(kind) if nodes(kind) > 1000 or levels(kind) > 32 else kind
 
 
+@kept
 def parts(kind):
     joined = NEVER
     for one in (kind.array, kind.object):
@@ -226,6 +234,7 @@ def to_null(kind):
     return plus(minus(kind, ABSENT), "null") if ABSENT in kind.tags else kind
 
 
+@kept
 def read(kind, path):
     for step in path:
         if isinstance(step, int) and step < 0:
@@ -239,6 +248,7 @@ def read(kind, path):
     return kind
 
 
+@kept
 def write(kind, path, new):
     if not path:
         return new
@@ -256,6 +266,7 @@ def write(kind, path, new):
     return make((), ([to_null(inner) for inner in places[:step]] + places[step:], rest))
 
 
+@kept
 def remove(kind, path):
     if not path:
         return kind

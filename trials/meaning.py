@@ -1,6 +1,6 @@
 """Random trial of the meaning: what accepted scripts do to lines.
 
-    python3 trials/meaning.py [--seed N] [--count N] [--no-calls] [--program PATH [--words]] [--show N]
+    python3 trials/meaning.py [--seed N] [--count N] [--no-calls | --built] [--program PATH [--words] [--refused]] [--show N]
     python3 trials/meaning.py --text FILE [--kind FILE] [--drop-on-error] [--keep-on-abort] < LINES
     python3 trials/meaning.py --text FILE --generate COUNT:SEED
 
@@ -9,18 +9,18 @@ runs it over made lines and prints the summary. The first
 makes accepted scripts and lines at random. Each run is held against the judgement of its script: it must not end with
 an error that nothing handles, its value must inhabit the script's kind, and its event and variables those of the
 joined state. With --program the bytes and the status of `PATH SCRIPTFILE < LINES` are compared; a script for which
-the program says 1099 is counted and passed over. With --words, too, the program takes `--kind FILE` and both flags.
-
+the program says 1099 is counted and passed over. Then the script is made to write its value, the event and the variables
+into the event, at its end and at each `return`, and what the program leaves so is held against the kinds that were judged
+for the script. With --words, too, the program takes `--kind FILE` and both flags. With --refused the scripts that are
+refused go through the program as well. --built makes scripts with calls of the functions that are built alone.
 """
 
 import argparse
+import contextlib
 import hashlib
 import json
-import os
 import random
-import subprocess
 import sys
-import tempfile
 
 sys.dont_write_bytecode = True
 
@@ -29,11 +29,15 @@ import grammar
 import json_lines
 import judgement
 import kinds
+import programs
 from values import NULL, Failed, cut_out, depth, flag, get, moment_text, objects, part, plain, put, text, value_of, whole
 
 DEEPEST = 128
 EMPTY = {"string": ("string", ""), "integer": ("integer", 0), "boolean": ("boolean", False), "null": NULL, "timestamp": ("timestamp", 0),
          "array": ("array", ()), "object": ("object", ())}
+
+
+TOLD = ("string", "timestamp", "regex")
 
 
 class Ended(Exception):
@@ -267,8 +271,6 @@ class Run:
 
 def run_lines(found, start, data, drop=False, keep=False, moments=None, watch=None):
     """What an accepted script writes and reports over these bytes, and the status."""
-    judge = judgement.Judge(found.script.patterns)
-    judge.script({".": start}, found.script.items)
     output, report, marked = [], list(found.diagnostics), False
     lines = data.split(b"\n")
     for number, line in enumerate(lines[:-1] if lines[-1] == b"" else lines, 1):
@@ -283,7 +285,7 @@ def run_lines(found, start, data, drop=False, keep=False, moments=None, watch=No
             report.append(f"line {number}: refused: {want[1]}")
             marked = True
             continue
-        run = Run(found.script, judge.empties, event, moment)
+        run = Run(found.script, found.judge.empties, event, moment)
         word, held = run.end()
         if watch:
             watch(run, word, held)
@@ -472,19 +474,97 @@ def self_check():
     return len(ROWS) + 10 + len(functions.EXAMPLES) + judgement.self_check()
 
 
-def told_by(program, place, script, file, data, options):
-    path = os.path.join(place, "script.vrl")
-    with open(path, "w") as out:
-        out.write(script)
-    command = [program, path]
-    if file is not None:
-        kind = os.path.join(place, "kind.json")
-        with open(kind, "w") as out:
-            json.dump(file, out)
-        command += ["--kind", kind]
-    command += [word for word, on in (("--drop-on-error", options.get("drop")), ("--keep-on-abort", options.get("keep"))) if on]
-    ran = subprocess.run(command, input=data, capture_output=True)
-    return ran.stdout.decode().split("\n")[:-1], ran.stderr.decode().split("\n")[:-1], ran.returncode
+def told_by(program, script, file, data, options):
+    more = ["--kind", program.write("kind.json", json.dumps(file).encode())] if file is not None else []
+    more += [word for word, on in (("--drop-on-error", options.get("drop")), ("--keep-on-abort", options.get("keep"))) if on]
+    return program.run(script.encode(), data, more)
+
+
+# ---- what a program leaves
+
+def probed(found):
+    """The script, made to write what it leaves into the event: at its end under `value`, at a `return` under `returned`, each
+    with the event and the variables that are known there. None where no way ends so."""
+    one, pieces = found.judged, []
+    for node in grammar.walk(found.script.items):
+        if node.form == "return" and one.ret is not None:
+            pieces += [(node.value.start, node.start, '(. = {"returned": '), (node.value.end, -node.start, left_in(one.ret) + ")")]
+    if one.ok is not None and found.script.items:
+        last = found.script.items[-1]
+        pieces += [(last.start, -1, "zz = ("), (last.end, 1, ")")]
+        pieces.append((len(found.script.text), 2, f'\n. = {{"value": zz, "told": {told_of("zz")}{left_in(one.ok)}'))
+    if not pieces:
+        return None
+    text_, at = "", 0
+    for place, _, piece in sorted(pieces):
+        text_, at = text_ + found.script.text[at:place] + piece, place
+    return text_ + found.script.text[at:]
+
+
+def told_of(name):
+    """What tells the three tags apart that JSON has one sort of text for."""
+    return "[" + ", ".join(f"is_{tag}({name})" for tag in TOLD) + "]"
+
+
+def left_in(state):
+    names = sorted(root for root in state if root != ".")
+    every = [f'"{name}": {{"value": {name}, "told": {told_of(name)}}}' for name in names]
+    return ', "event": ., "variables": {' + ", ".join(every) + "}}"
+
+
+def inhabits_as_json(held, kind, sources):
+    """Whether JSON may stand for a value of the kind: a timestamp and a regex stand in it as their texts."""
+    tag, _ = value = value_of(held)
+    if tag == "array":
+        missing = kind.array and kind.array[0][len(held):]
+        return bool(kind.array) and all(inhabits_as_json(one, kinds.part(kind, i), sources) for i, one in enumerate(held)) and all(
+            kinds.ABSENT in one.tags for one in missing)
+    if tag == "object":
+        missing = kind.object and [one for name, one in kind.object[0] if name not in held]
+        return bool(kind.object) and all(inhabits_as_json(one, kinds.part(kind, name), sources) for name, one in held.items()) and all(
+            kinds.ABSENT in one.tags for one in missing)
+    if tag == "string" and "string" not in kind.tags:
+        read = grammar.read_moment(held)
+        return ("timestamp" in kind.tags and read is not None and moment_text(read) == held) or ("regex" in kind.tags and held in sources)
+    return kinds.inhabits(value, kind)
+
+
+def left_by_program(found, ends, output):
+    """What isn't of the kinds judged in lines that the probe of a script wrote, as a text, or None. `ends` has the word of each run."""
+    one, sources = found.judged, [token.value for token in found.script.patterns]
+    lines = output.decode().split("\n")
+    for word in ends:
+        if word == "aborted":
+            continue
+        line = lines.pop(0)
+        if word != "value":
+            continue
+        left = json.loads(line)
+        if "returned" in left:
+            state, every = one.ret, [(left["returned"], one.returned, [])]
+        else:
+            state, every = one.ok, [(left["value"], one.kind, left["told"])]
+        every += [(left["event"], state["."], [])] + [(held["value"], state[name], held["told"]) for name, held in left["variables"].items()]
+        for held, kind, told in every:
+            tags = {tag for tag, is_so in zip(TOLD, told) if is_so}
+            if not inhabits_as_json(held, kind, sources) or not tags <= kind.tags:
+                return line
+    return None
+
+
+def try_what_is_left(program, found, start, data):
+    """Runs the probe of an accepted script: the number of lines that were held against the kinds judged, and what differs, if anything does."""
+    script = probed(found)
+    probe = judgement.Verdict(script.encode(), start) if script else None
+    if not probe or not probe.accepted:
+        return 0, None
+    ends = []
+    output, report, status = run_lines(probe, start, data, watch=lambda run, word, held: ends.append(word))
+    told = program.run(script.encode(), data)
+    if told != (programs.joined(output), programs.joined(report), status):
+        return 0, f"{script!r} over {data}\n  wanted {output} {report} {status}\n  got {told}"
+    wrong = left_by_program(found, ends, told[0])
+    return ends.count("value"), wrong and f"{script!r} over {data} left {wrong}, which isn't as judged"
 
 
 def main():
@@ -494,6 +574,8 @@ def main():
     words.add_argument("--program")
     words.add_argument("--words", action="store_true")
     words.add_argument("--no-calls", action="store_true")
+    words.add_argument("--built", action="store_true")
+    words.add_argument("--refused", action="store_true")
     words.add_argument("--text")
     words.add_argument("--kind")
     words.add_argument("--generate")
@@ -501,6 +583,7 @@ def main():
     words.add_argument("--keep-on-abort", action="store_true")
     words.add_argument("--show", type=int, default=10)
     given = words.parse_args()
+    given.refused = given.refused and given.program
     if given.text:
         start = kinds.EVENT
         if given.kind:
@@ -520,9 +603,9 @@ def main():
         return status
     rows = self_check()
     rng = random.Random(given.seed)
-    maker = judgement.Maker(rng, None if given.no_calls else functions)
-    met, differences, passed, made, lines = {}, 0, 0, 0, 0
-    with tempfile.TemporaryDirectory() as place:
+    maker = judgement.Maker(rng, None if given.no_calls else functions, given.built)
+    met, differences, passed, made, refused, lines, left = {}, 0, 0, 0, 0, 0, 0
+    with programs.Program(given.program) if given.program else contextlib.nullcontext() as program:
         while made < given.count:
             script, file = maker.script(), maker.kind_file()
             if given.program and not given.words:
@@ -530,6 +613,13 @@ def main():
             start = judgement.start_of(file)
             found = judgement.Verdict(script.encode(), start)
             if not found.accepted:
+                if given.refused:
+                    refused += 1
+                    told = program.run(script.encode())
+                    if told != (b"", programs.joined(found.diagnostics), 1) and told[1] != judgement.NOT_BUILT:
+                        differences += 1
+                        if differences <= given.show:
+                            print("difference on", repr(script), "\n  wanted", found.diagnostics, "\n  got", told)
                 continue
             made += 1
             data = some_lines(rng, start)
@@ -548,15 +638,22 @@ def main():
                 continue
             lines += len(data.split(b"\n"))
             if given.program:
-                told = told_by(given.program, place, script, file, data, options)
-                if told[1] == ["error[E1099] 1:1 form not built yet"]:
+                told = told_by(program, script, file, data, options)
+                if told[1] == judgement.NOT_BUILT:
                     passed += 1
-                elif told != wanted:
+                    continue
+                if told != (programs.joined(wanted[0]), programs.joined(wanted[1]), wanted[2]):
                     differences += 1
                     if differences <= given.show:
                         print("difference on", repr(script), "kind", json.dumps(file), options, "lines", data, "\n  wanted", wanted, "\n  got", told)
+                elif not given.words:
+                    held, wrong = try_what_is_left(program, found, start, data)
+                    left += held
+                    differences += wrong is not None
+                    if wrong and differences <= given.show:
+                        print("difference in what is left:", wrong)
     ends = ", ".join(f"{met[word]} {word}" for word in sorted(met))
-    compared = f"{differences} differences, {passed} not built" if given.program else f"{differences} not sound"
+    compared = f"{differences} differences, {passed} not built, {left} ends held against their kinds, {refused} refused" if given.program else f"{differences} not sound"
     print(f"meaning: seed {given.seed}, {rows} rows, {made} scripts over {lines} lines (ends: {ends}): {compared}")
     return 1 if differences else 0
 

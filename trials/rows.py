@@ -16,12 +16,10 @@ with kinds and values written as `kinds.py` writes them.
 """
 
 import argparse
+import contextlib
 import json
-import os
 import random
-import subprocess
 import sys
-import tempfile
 
 sys.dont_write_bytecode = True
 
@@ -29,6 +27,7 @@ import functions
 import json_lines
 import judgement
 import kinds
+import programs
 from values import Failed, moment_text, objects, plain, text
 
 # Patterns that match no empty text, so that each reader of patterns walks over the same matches.
@@ -165,19 +164,15 @@ def call_of(row, args, literals):
     return f"{row.name}({', '.join(words)})", json_lines.write(event).encode()
 
 
-def told_by(program, place, call, line):
+def told_by(program, call, line):
     """What the program writes for a call: its value, or its value and its error. None where it isn't built."""
     script = f". = {{\"r\": {call}}}"
     if not judgement.Verdict(script.encode()).accepted:
         script = f"r, e = {call}\n. = {{\"r\": r, \"e\": e}}"
-    path = os.path.join(place, "script.vrl")
-    with open(path, "w") as file:
-        file.write(script)
-    ran = subprocess.run([program, path], input=line, capture_output=True)
-    report = ran.stderr.decode()
-    if "E1099" in report:
+    output, report, status = program.run(script.encode(), line)
+    if report == judgement.NOT_BUILT:
         return None
-    return ran.stdout.decode() if ran.returncode == 0 and not report else report
+    return (output if status == 0 and not report else report).decode()
 
 
 def main():
@@ -195,7 +190,7 @@ def main():
         rows = [row for row in rows if row.name in given.only.split(",")]
     cases, failures, differences, passed, compared = 0, 0, 0, 0, 0
     out = open(given.out, "w") if given.out else None
-    with tempfile.TemporaryDirectory() as place:
+    with programs.Program(given.program) if given.program else contextlib.nullcontext() as program:
         for row in rows:
             for _ in range(given.count):
                 args, kinds_given, literals = maker.case(row)
@@ -209,7 +204,7 @@ def main():
                     out.write(json.dumps(one) + "\n")
                 written = call_of(row, args, literals) if given.program and row.name != "now" else None
                 if written:
-                    told = told_by(given.program, place, *written)
+                    told = told_by(program, *written)
                     if told is None:
                         passed += 1
                         continue

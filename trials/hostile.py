@@ -1,0 +1,232 @@
+"""Hostile uses of a built program: scripts, lines, words and devices at each limit and beyond it.
+
+    python3 trials/hostile.py --program PATH [--only WORD] [--big]
+
+What a script makes of its lines is told by the outside reading of the other trials; what else is wanted stands with the case. Each
+use is told with its seconds; the status is 1 at a difference. --big runs the cases of 200 MB too.
+"""
+
+import argparse
+import os
+import subprocess
+import sys
+import time
+
+sys.dont_write_bytecode = True
+
+import judgement
+import kinds
+import meaning
+import programs
+
+LONGEST = 65536
+LINE = 1048576
+USAGE = b"usage: remap SCRIPT\n"
+
+
+def filled(piece, end=""):
+    """As many pieces as a script holds, and the end."""
+    return piece * ((LONGEST - len(end.encode())) // len(piece.encode())) + end
+
+
+def scripts():
+    """Titles, scripts and lines, for all of which the outside reading has the answer."""
+    for size in (LONGEST, LONGEST + 1):
+        yield f"a script of {size} bytes", ".a = 1" + " " * (size - 6), b"{}"
+        yield f"a text in a script of {size} bytes", '.x = "' + "a" * (size - 7) + '"', b"{}"
+    for title, script in (
+            ("a comment", "#" + "c" * (LONGEST - 1)), ("newlines", "\n" * LONGEST), ("semicolons", ";" * LONGEST), ("opening braces", "{" * LONGEST),
+            ("closing braces", "}" * LONGEST), ("opening parentheses", "(" * LONGEST), ("opening brackets", "[" * LONGEST), ("quotes", '"' * LONGEST),
+            ("signs", "!" * LONGEST), ("minus signs", "-" * LONGEST), ("bars", "|" * LONGEST), ("commas", "," * LONGEST), ("dots", "." * LONGEST),
+            ("backslashes", "\\" * LONGEST), ("escapes", '.x = "' + "\\\\" * 32764 + '"'), ("a raw text", ".x = s'" + "\\'" * 32764 + "'"),
+            ("digits", ".x = " + "9" * 65531), ("zeros", ".x = " + "0" * 65530 + "7"), ("digits with low lines", ".x = " + "0_" * 32765 + "7"),
+            ("a name", "x" * 65532 + " = 1"), ("a field", "." + "x" * 65531 + " = 1"), ("a name that isn't known", "x" * LONGEST),
+            ("a read of 32,000 steps", ".x = " + ".a" * 32000), ("a read of 21,000 places", ".x = ." + "[0]" * 21000),
+            ("a write of 32,000 steps", ".a" * 32000 + " = 1"), ("letters of three bytes", filled("\u6f22")), ("a text of letters of three bytes", '.x = "' + "\u6f22" * 21840 + '" + q'),
+            ("items", filled(".a=1;")), ("variables", "".join(f"a{i}=1;" for i in range(7300))), ("error assignments", filled("a,b=.c+1;")),
+            ("an array", ".x = [" + filled("1,", " " * 10 + "]")), ("an array of texts", ".x = [" + filled('"",', " " * 10 + "]")),
+            ("an object", ".x = {" + "".join(f'"{i}":{i},' for i in range(5200)) + "}"), ("an object of one name", ".x = {" + filled('"a":1,', " " * 10 + "}")),
+            ("arguments", "abs(" + filled("1,", " " * 10 + ")")), ("branches", "if .a==0{}" + filled("else if .a==1{.b=1}")),
+            ("conditions", filled("if .a==1{.b=1};")), ("blocks", filled("{.a=1};")), ("chains of coalescing", filled(".b=.a+1??.a-1??0;")),
+            ("timestamps", filled("t'2024-01-02T03:04:05Z';")), ("calls", filled("exists(.a);")), ("error codes", filled(".a+1;")), ("unknown names", filled("q;")),
+            ("warnings", filled(".a??1;")), ("removals", filled("del(.a[0]);")), ("aborts", filled("abort;")), ("events", ". = [" + filled("{},", " " * 10 + "]"))):
+        yield f"a script of {title}", script, b'{"a":2}\n{}'
+    for many in (255, 256, 257):
+        yield f"{many} regex literals", "\n".join(["r'a'"] * many), b"{}"
+    for depth in (1, 31, 32, 33, 61, 62, 63, 64, 65, 66, 1000):
+        for title, script in (
+                ("parentheses", "(" * depth + "1" + ")" * depth), ("brackets", "[" * depth + "]" * depth), ("blocks", "{" * depth + "1" + "}" * depth),
+                ("objects", '{"a":' * depth + "1" + "}" * depth), ("negations", "!" * depth + "true"), ("conditions", "if true {" * depth + "}" * depth),
+                ("assignments", "x = " * depth + "1"), ("sums", " + ".join(["1"] * (depth + 1))), ("coalescing", ".a + 1" + " ?? .a + 1" * depth + " ?? 0"),
+                ("aborts", "abort " * depth + '"m"'), ("returns", "return " * depth + "1"), ("calls", "abs(" * depth + "1" + ")" * depth),
+                ("closures", "filter([1]) -> |a, b| { " * depth + "true" + " }" * depth), ("alternatives", "null || " * depth + "1"), ("merges", "{} | " * depth + "{}")):
+            yield f"{depth} {title}", ".r = " + script if title not in ("aborts", "returns") else script, b"{}"
+    for place in (65535, 65536, 9223372036854775807, 9223372036854775808):
+        yield f"a write at the place {place}", f".a[{place}] = 1", b"{}"
+        yield f"a read of the place {place}", f".r = .a[{place}]", b"{}"
+    for steps in (127, 128, 129):
+        yield f"a write of {steps} steps", ".a" * steps + " = 1", b"{}\n{"
+        yield f"a write of an object at {steps} steps", ".a" * steps + " = {}", b'{"b":1}'
+        yield f"a removal of {steps} steps", ".a" * (steps - 1) + " = {\"a\": 1}\ndel(" + ".a" * steps + ")", b"{}"
+    for depth in (126, 127, 128, 129):
+        data = b'{"a":' + b"[" * (depth - 1) + b"]" * (depth - 1) + b"}"
+        for title, script in (("as it is", ""), ("written beside itself", ".b = .a"), ("in an array", ". = [.]"), ("in an object", ".b = ."), ("in a variable", "x = {\"e\": .}"),
+                              ("twice in an array", ". = [[.]]"), ("by a call", "x = array!(.a)"), ("to its text", ".t = is_empty(.a) ?? true")):
+            yield f"an event {depth} deep, {title}", script, data
+    for size in (126, 127, 128, 129):
+        yield f"a variable nested by {size} writes", "x = null\n" + "x = [x]\n" * size + ".done = true", b'{"b":1}'
+        yield f"the event nested by {size} writes", 'e = {}\n' + '. = {"a": .}\n' * size, b'{"b":1}'
+    for size in (30, 31, 32, 33, 34):
+        for wrap in ("[x]", '{"a": x}'):
+            yield f"{size} levels of {wrap}", "x = 1\n" + f"x = {wrap}\n" * size + "y = x" + (".a" if "a" in wrap else "[0]") * size + " + 1", b"{}"
+    for size in (998, 999, 1000, 1001):
+        yield f"{size} fields of the event", "\n".join(f".k{i} = 1" for i in range(size)) + "\n.k7 = .k7 + 1", b"{}"
+        yield f"{size} fields of a variable", "x = {}\n" + "\n".join(f"x.k{i} = 1" for i in range(size)) + "\ny = x.k7 + 1", b"{}"
+        yield f"{size} fields of a literal", "x = {" + ",".join(f'"{i}":1' for i in range(size)) + '}\ny = x."7" + 1', b"{}"
+    for number in (2 ** 63 - 1, 2 ** 63, -2 ** 63, -2 ** 63 - 1):
+        yield f"the number {number}", f".n = {number}", b'{"a":%d}' % number
+    for title, script in (("a byte 0", ".x = 1\0"), ("a byte order mark", "\ufeff.x = 1"), ("ends of lines with carriage returns", ".x = 1\r\n.y = 2\r\n"),
+                          ("columns in characters", '.y = "\u00e9\u6f22\U0001f600" + q'), ("nothing", ""), ("no UTF-8", ".x = \"\udcff\""), ("no UTF-8 in a comment", "# \udcff")):
+        yield f"a script with {title}", script, b'{"b":1,"a":2}'
+
+
+def lines():
+    """Titles and lines for the script `.x = 1`."""
+    for size in (LINE, LINE + 1):
+        yield f"a line of {size} bytes", b'{"a":"' + b"z" * (size - 8) + b'"}'
+        yield f"a line of {size} bytes and its newline", b'{"a":"' + b"z" * (size - 8) + b'"}\n{}'
+        yield f"a blank line of {size} bytes", b" " * size + b"\n{}"
+        yield f"{size} opening brackets", b"[" * size
+        yield f"{size} closing brackets", b"]" * size
+        yield f"{size} bytes that are no UTF-8", b"\xff" * size
+    for depth in (126, 127, 128, 129):
+        yield f"arrays {depth} deep", b'{"a":' + b"[" * (depth - 1) + b"]" * (depth - 1) + b"}\n{}"
+        yield f"objects {depth} deep", b'{"a":' * depth + b"1" + b"}" * depth
+    yield "an object of 60,000 fields", b"{" + b",".join(b'"%d":%d' % (i, i) for i in range(60000)) + b"}"
+    yield "an array of 500,000 items", b'{"a":[' + b",".join([b"1"] * 500000) + b"]}"
+    yield "the same field 150,000 times", b"{" + b",".join([b'"a":1'] * 150000) + b"}"
+    yield "numbers at the limits", b"\n".join(b'{"a":%s}' % one for one in (
+        b"-0", b"0", b"9223372036854775807", b"9223372036854775808", b"-9223372036854775808", b"-9223372036854775809", b"1e2", b"1.0", b"1e400", b"01", b"1" * 100000))
+    yield "texts that are no UTF-8", b'{"a":"\xff"}\n\xff\n{"a":"\xed\xa0\x80"}\n{}'
+    yield "half of a surrogate pair", b'{"a":"\\ud800"}\n{"a":"\\ude00\\ud83d"}\n{"a":"\\ud83d\\ude00"}'
+    yield "bytes 0", b'\0\n{"a":"\0"}\n{"a":"\\u0000"}'
+    yield "a byte order mark", b"\xef\xbb\xbf{}"
+    yield "ends of lines with carriage returns", b'{"a":1}\r\n\r\n{}\r\n'
+    yield "1,000,000 empty lines", b"\n" * 1000000 + b"{"
+    yield "200,000 refused lines", b"[\n" * 200000
+    yield "a form feed", b"\x0c\n{}"
+    yield "a blank behind the event", b"{} "
+    yield "two values in a line", b"{} {}"
+    yield "no line", b""
+    yield "blanks alone", b" \t\r"
+
+
+# Titles, commands, and the status, output and report wanted, None where any will do. `$P` is the program, `one` a script `.x = 1`, `bad` one that is refused.
+def devices():
+    yield "no words", '"$P" </dev/null', 2, b"", USAGE
+    yield "two scripts", '"$P" one one </dev/null', 2, b"", USAGE
+    yield "an empty word", '"$P" "" </dev/null', 2, b"", USAGE
+    yield "a dash", '"$P" - </dev/null', 2, b"", USAGE
+    yield "an option", '"$P" --help </dev/null', 2, b"", USAGE
+    yield "10,000 words", '"$P" $(yes one | head -10000) </dev/null', 2, b"", USAGE
+    yield "a name that is no UTF-8", 'cp one $\'n\\xffm\'; "$P" $\'n\\xffm\' </dev/null', 2, b"", USAGE
+    yield "a name with blanks", 'cp one "a name with blanks"; echo "{}" | "$P" "a name with blanks"', 0, b'{"x":1}\n', b""
+    yield "a name with a newline", 'cp one $\'n\\n\\u00e4\'; echo "{}" | "$P" $\'n\\n\\u00e4\'', 0, b'{"x":1}\n', b""
+    yield "a name of 5,000 bytes", 'echo "{}" | "$P" $(printf %05000d 0)', 3, b"", b""
+    yield "a name that no file has", 'echo "{}" | "$P" nothere', 3, b"", b""
+    yield "a file under a file", 'echo "{}" | "$P" one/x', 3, b"", b""
+    yield "a folder as script", 'mkdir -p folder; echo "{}" | "$P" folder', 3, b"", b""
+    yield "a link to itself", 'ln -sf loop loop; echo "{}" | "$P" loop', 3, b"", b""
+    yield "/dev/null as script", 'echo "{}" | "$P" /dev/null', 0, b"{}\n", b""
+    yield "/dev/zero as script", 'echo "{}" | "$P" /dev/zero', 1, b"", b"error[E1009] 1:1 script too long or not UTF-8\n"
+    yield "the script from standard input", 'printf ".x = 1" | "$P" /dev/stdin', 0, b"", b""
+    yield "standard input closed", '"$P" one 0<&-', 3, b"", b""
+    yield "standard input a folder", 'mkdir -p folder; "$P" one <folder', 3, b"", b""
+    yield "standard input closed, a refused script", '"$P" bad 0<&-', 1, b"", b"error[E701] 1:1 undefined variable\n"
+    yield "standard output closed", 'echo "{}" | "$P" one >&-', 4, b"", b""
+    yield "standard output closed, nothing to write", '"$P" one >&- </dev/null', None, b"", b""
+    yield "standard error closed, nothing to report", 'echo "{}" | "$P" one 2>&-', 0, b'{"x":1}\n', b""
+    yield "standard error closed, a report", 'echo "{" | "$P" one 2>&-', 4, b"", b""
+    yield "standard error closed, a refused script", '"$P" bad 2>&- </dev/null', 4, b"", b""
+    yield "output onto a full disk", 'echo "{}" | "$P" one >/dev/full', 4, b"", b""
+    yield "nothing to write onto a full disk", '"$P" one >/dev/full </dev/null', 0, b"", b""
+    yield "report onto a full disk", 'echo "{" | "$P" one 2>/dev/full', 4, b"", b""
+    yield "usage onto a full disk", '"$P" 2>/dev/full </dev/null', 4, b"", b""
+    yield "a refusal onto a full disk", '"$P" bad 2>/dev/full </dev/null', 4, b"", b""
+    yield "both onto a full disk", 'printf "{}\\n{" | "$P" one >/dev/full 2>/dev/full', 4, b"", b""
+    yield "output closed at its first byte", 'yes "{}" | head -c 3000000 | { "$P" one; echo "status $?" >&2; } | head -c 1', 0, b"{", b"status 4\n"
+    yield "output closed at once", 'yes "{}" | head -c 3000000 | { "$P" one; echo "status $?" >&2; } | true', 0, b"", b"status 4\n"
+    yield "report closed at its first byte", 'yes "{" | head -c 3000000 | { "$P" one 2>&1 >/dev/null; echo "status $?" >&2; } | head -c 1', 0, b"l", b"status 4\n"
+    yield "a file of limited size", 'trap "" XFSZ; ulimit -f 8; yes "{}" | head -c 300000 | "$P" one >limited; echo "status $?"; wc -c <limited', 0, None, b""
+    yield "a slow input", '( printf "{\\"a\\""; sleep 1; printf ":1}\\n{" ; sleep 1; printf "}" ) | "$P" one', 0, b'{"a":1,"x":1}\n{"x":1}\n', b""
+    yield "60 MB of memory, 20 MB of lines", 'ulimit -v 60000; yes "{\\"a\\":1}" | head -c 20000000 | "$P" one >mem; echo "status $?"; wc -c <mem', 0, None, b""
+    yield "8 MB of memory", 'ulimit -v 8000; echo "{}" | "$P" one; echo "status $?"', 0, None, None
+    yield "values that double 60 times, 1 GB of memory", 'ulimit -v 1000000; for i in $(seq 60); do echo ".a = [., .]"; done >double; echo "{}" | "$P" double; echo "status $?"', 0, b"status 5\n", b""
+    yield "an event of 1 MB 13,000 times, 1 GB of memory", (
+        'ulimit -v 1000000; { printf ". = ["; for i in $(seq 13000); do printf ".,"; done; printf "]"; } >many; '
+        '{ printf "{\\"a\\":\\""; head -c 1000000 /dev/zero | tr "\\0" z; printf "\\"}"; } | "$P" many | wc -c; echo "status ${PIPESTATUS[1]}"'), 0, b"0\nstatus 5\n", b""
+    yield "a stack of 2 MB, 64 parentheses", 'ulimit -s 2048; printf "%064d1%064d" 0 0 | sed "s/^0*/((((((((((((((((((((((((((((((((((((((((((((((((((((((((((((((((/; s/0*$/))))))))))))))))))))))))))))))))))))))))))))))))))))))))))))))))/" >n64; echo "{}" | "$P" n64', 0, b"{}\n", b""
+
+
+def big():
+    line = '{"host":"h6","level":"ERROR","message":"request 1 took 543 ms","n":774}'
+    yield "200 MB of lines", f"yes '{line}' | head -c 199999944 >big; \"$P\" one <big >big.out; echo \"status $?\"; wc -l <big.out; wc -c <big.out", 0, b"status 0\n2777777\n216666606\n", b""
+    yield "200 MB of refused lines", f"yes '[{line}' | head -c 200000027 >big; \"$P\" one <big 2>big.report; echo \"status $?\"; wc -l <big.report; rm -f big big.*", 0, None, b""
+
+
+def short(data):
+    return repr(data) if len(data) <= 120 else f"{len(data)} bytes, from {data[:50]!r} to {data[-40:]!r}"
+
+
+def wanted_of(script, data):
+    """Output, report and status by the outside reading; a call of what isn't built is told as such by the caller."""
+    found = judgement.Verdict(script, kinds.EVENT)
+    if not found.accepted:
+        return b"", programs.joined(found.diagnostics), 1
+    output, report, status = meaning.run_lines(found, kinds.EVENT, data)
+    return programs.joined(output), programs.joined(report), status
+
+
+def main():
+    words = argparse.ArgumentParser(description="hostile uses of the program")
+    words.add_argument("--program", required=True)
+    words.add_argument("--only", default="")
+    words.add_argument("--big", action="store_true")
+    given = words.parse_args()
+    tried = differences = passed = 0
+
+    def tell(title, seconds, told, wanted):
+        nonlocal tried, differences, passed
+        tried += 1
+        if told[1] == judgement.NOT_BUILT:
+            passed += 1
+            return
+        same = all(want is None or one == want for one, want in zip(told, wanted))
+        differences += not same
+        if not same or seconds > 1 or None in wanted:
+            print(f"{'as wanted' if same else 'DIFFERENCE'}: {title}: status {told[2]}, {seconds:.2f} s, output {short(told[0])}, report {short(told[1])}", flush=True)
+        if not same:
+            print(f"    wanted {wanted[2]}, {short(wanted[0] or b'')}, {short(wanted[1] or b'')}", flush=True)
+
+    with programs.Program(given.program) as program:
+        program.write("one", b".x = 1")
+        program.write("bad", b"q")
+        every = [(title, script.encode("utf-8", "surrogateescape"), data) for title, script, data in scripts()]
+        every += [(title, b".x = 1", data) for title, data in lines()]
+        for title, script, data in every:
+            if given.only in title:
+                began = time.time()
+                told = program.run(script, data)
+                seconds = time.time() - began
+                tell(title, seconds, told, wanted_of(script, data))
+        for title, command, status, output, report in list(devices()) + (list(big()) if given.big else []):
+            if given.only in title:
+                began = time.time()
+                ran = subprocess.run(["bash", "-c", command], cwd=program.folder.name, capture_output=True, env={**os.environ, "P": program.path})
+                tell(title, time.time() - began, (ran.stdout, ran.stderr, ran.returncode), (output, report, status))
+    print(f"hostile: {tried} uses, {differences} differences, {passed} not built")
+    return 1 if differences else 0
+
+
+if __name__ == "__main__":
+    sys.exit(main())
