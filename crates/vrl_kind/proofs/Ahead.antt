@@ -1,5 +1,5 @@
 -- What a merge of fields has still ahead of it.
-use Rattle.std.proofs.Common.{◌≡◌, ℕ, ◌||◌, ◌+◌, ◌<◌, false, IsTrue, List, [], ◌∷◌, ◌++◌, Option, Some, None, is_some, unwrap_or, Ordering, Less, Equal, Greater, nat_cmp, is_eq, refl, sym, ap, ◌∙◌, subst, arith}
+use Rattle.std.proofs.Common.{◌≡◌, ℕ, ◌||◌, ◌+◌, false, IsTrue, List, [], ◌∷◌, ◌++◌, Option, Some, None, is_some, unwrap_or, Ordering, Less, Equal, Greater, nat_cmp, is_eq, refl, sym, ap, ◌∙◌, subst, arith}
 use Rattle.std.proofs.lemmas.Bool.{true≢false}
 use Rattle.std.proofs.lemmas.Cmp.{nat_cmp_total, nat_list_cmp_total, tied_itself}
 use Rattle.std.specs.Cmp.Lexicographic.{slice_cmp}
@@ -8,7 +8,7 @@ use Rattle.std.specs.Ordering.{match_ordering, ordering_reverse}
 use Rattle.vrl_kind.specs.KindTree.{KindTree, KnownFields, no_fields, known_field}
 use Rattle.vrl_kind.specs.Canonical.{IsBeforeFields, FieldsAreCanonical, field_or}
 use Rattle.vrl_kind.specs.Count.{fields_nodes}
-use Rattle.vrl_kind.specs.Merge.{FieldsAreSorted, with_field, IsTurn}
+use Rattle.vrl_kind.specs.Merge.{FieldsAreSorted, with_field}
 use Rattle.vrl_kind.specs.Seen.{option_nodes}
 
 -- the name comes after the last one that was taken
@@ -102,15 +102,6 @@ ahead_last K last all fs ahead none = ahead.same (some_past last).0 (some_past l
 pub turn_nodes : (n : List ℕ) (k : Option KindTree) (fs fs' : KnownFields) → fs ≡ with_field n k fs' → fields_nodes fs ≡ option_nodes k + fields_nodes fs'
 turn_nodes n None fs fs' is = ap fields_nodes is ∙ omega arith
 turn_nodes n (Some k) fs fs' is = ap fields_nodes is
-
-turn_count_at : (k l : Option KindTree) (n : List ℕ) (fs' gs' : KnownFields) → IsTrue (is_some k || is_some l) → fields_count fs' + fields_count gs' < fields_count (with_field n k fs') + fields_count (with_field n l gs')
-turn_count_at (Some k) None n fs' gs' some = omega arith
-turn_count_at (Some k) (Some l) n fs' gs' some = omega arith
-turn_count_at None (Some l) n fs' gs' some = omega arith
-turn_count_at None None n fs' gs' some = absurd (true≢false (sym some))
-
-pub turn_count : (n : List ℕ) (k l : Option KindTree) (fs gs fs' gs' : KnownFields) → IsTurn n k l fs gs fs' gs' → fields_count fs' + fields_count gs' < fields_count fs + fields_count gs
-turn_count n k l fs gs fs' gs' turn = rw (turn.left, turn.right) (turn_count_at k l n fs' gs' turn.some)
 
 pub not_first : (o : Ordering) (k l : KindTree) → is_eq o ≡ false → match_ordering o l k l ≡ l
 not_first Less k l e = refl

@@ -51,10 +51,6 @@ found_tags s l o v e list fields [] = one_set _ _ (root_at s l o (tag_of v) e li
 found_tags s l o v e list fields (place i ∷ p) = list.tags i p
 found_tags s l o v e list fields (field n ∷ p) = fields.tags n p
 
--- the kind over the parts of a value
-pub kind_found : (s : Scalars) (l : ListTree) (o : ObjectTree) (v : Tree) → s ≡ scalars_only (tag_of v) → IsListOfValue l v → IsObjectOfValue o v → IsKindOf (kind s l o) v
-kind_found s l o v e list fields = record { tags = found_tags s l o v e list fields; canonical = (list.canonical, fields.canonical) }
-
 tag_itself : (t : Tag) → IsTrue (only t t)
 tag_itself tag.Text = refl
 tag_itself tag.Int = refl

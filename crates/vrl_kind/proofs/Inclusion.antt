@@ -1,18 +1,18 @@
 -- When a kind is within another, part by part.
-use Rattle.std.proofs.Common.{◌≡◌, ℕ, zero, suc, ◌+◌, ◌-◌, ◌⊎◌, inl, inr, length, ◌<◌, ◌≤◌, Bool, true, false, IsTrue, List, [], ◌∷◌, Option, Some, None, MatchOption, unwrap_or, Ordering, Less, Equal, Greater, nat_cmp, is_eq, refl, sym, ap, ◌∙◌, subst, arith}
+use Rattle.std.proofs.Common.{◌≡◌, ℕ, zero, suc, ◌+◌, ◌⊎◌, inl, inr, length, ◌<◌, ◌≤◌, Bool, true, false, IsTrue, List, [], ◌∷◌, Option, Some, None, MatchOption, unwrap_or, Ordering, Less, Equal, Greater, nat_cmp, is_eq, refl, sym, ap, ◌∙◌, subst, arith}
 use Rattle.std.proofs.lemmas.Bool.{true≢false}
 use Rattle.vrl_value.specs.Look.{Step, field, place}
 use Rattle.vrl_value.specs.declared.value.Tag.{Tag}
 use Rattle.vrl_value.specs.declared.value.Tag.TheVariants as tag
+use Rattle.vrl_kind.specs.Canonical.{bare_rest, never_kind, json_kind, any_kind, with_absent, rest_kind, place_or, field_or, scalars_of, list_tree, object_tree}
+use Rattle.vrl_kind.specs.Canonical.{IsBeforeFields}
 use Rattle.vrl_kind.specs.KindTree.{KindTree, kind, ListTree, list_part, ObjectTree, object_part, RestTree, nothing, json_rest, any_rest, exact, Places, KnownFields}
 use Rattle.vrl_kind.specs.declared.scalars.Scalars.{Scalars}
-use Rattle.vrl_kind.specs.Canonical.{bare_rest, never_kind, json_kind, any_kind, with_absent, rest_kind, place_or, field_or, scalars_of, list_tree, object_tree}
 use Rattle.vrl_kind.specs.Kinds.{tags_at, IsWithin, or_absent, any_at}
 use Rattle.vrl_kind.specs.Parts.{ListsAreWithin, ObjectsAreWithin}
 use Rattle.vrl_kind.specs.Scalars.{ScalarsAreWithin}
 use Rattle.std.specs.Cmp.Lexicographic.{slice_cmp}
-use Rattle.vrl_kind.specs.Canonical.{IsBeforeFields}
-use Rattle.vrl_kind.specs.Count.{nodes, rest_nodes, list_nodes, object_nodes, fields_nodes}
+use Rattle.vrl_kind.specs.Count.{nodes, rest_nodes, fields_nodes}
 use Rattle.vrl_kind.specs.Seen.{covers, some_exact}
 use Rattle.vrl_kind.specs.Merge.{FieldsAreSorted, with_field, IsTurn, IsEnd}
 use Rattle.vrl_kind.proofs.Ahead.{IsAhead, ahead_first, ahead_next, ahead_here, ahead_last, past_turn, some_past, turn_nodes, here, not_here}
@@ -31,9 +31,6 @@ absent_of b (kind s l o) = refl
 -- a kind that may be absent isn't within one that may not
 pub not_absent : (k l : KindTree) → IsWithin (with_absent true k) (with_absent false l) → ⊥
 not_absent k l within = true≢false (sym (within [] tag.Absent (absent_of true k)) ∙ absent_of false l)
-
-implied : (x y : Bool) → (x ≡ true → y ≡ true) → IsTrue x → IsTrue y
-implied x y h is = h is
 
 never_within_at : (x y : Bool) (l : KindTree) → (IsTrue x → IsTrue y) → (t : Tag) → IsTrue (tags_at (with_absent x never_kind) [] t) → IsTrue (tags_at (with_absent y l) [] t)
 never_within_at x y l h tag.Text is = none _ is
@@ -257,19 +254,6 @@ not_covered any_rest (exact k) x y c h within = h (omega (arith, some_nodes k))
 not_covered (exact l) nothing x y c h within = h (omega (arith, some_nodes l))
 not_covered (exact l) json_rest x y c h within = h (omega (arith, some_nodes l))
 not_covered (exact l) (exact k) x y c h within = h (omega (arith, some_nodes l))
-
--- what is inside a kind weighs less than the kind
-pub inner_list : (r : RestTree) (b : Bool) → list_nodes (list_tree (with_absent b (bare_rest r))) ≤ rest_nodes r - 1
-inner_list nothing b = omega arith
-inner_list json_rest b = omega arith
-inner_list any_rest b = omega arith
-inner_list (exact (kind s l o)) b = omega arith
-
-pub inner_object : (r : RestTree) (b : Bool) → object_nodes (object_tree (with_absent b (bare_rest r))) ≤ rest_nodes r - 1
-inner_object nothing b = omega arith
-inner_object json_rest b = omega arith
-inner_object any_rest b = omega arith
-inner_object (exact (kind s l o)) b = omega arith
 
 -- facts of two things are those of what they equal
 pub along : {A : Type 0} (R : A → A → Type 0) (x x' y y' : A) → x ≡ x' → y ≡ y' → R x' y' → R x y

@@ -194,9 +194,6 @@ pub record IsSkipped (n : List ℕ) (fs gs : KnownFields) : Type 0 where
   pub sorted : FieldsAreSorted gs
   pub same : (t : Tree) (ms : Members) (r : RestTree) → IsBefore n ms → (MembersInhabit (member n t ms) fs r → MembersInhabit (member n t ms) gs r) × (MembersInhabit (member n t ms) gs r → MembersInhabit (member n t ms) fs r)
 
-pub skipped_none : (n : List ℕ) (fs : KnownFields) → FieldsAreSorted fs → IsSkipped n fs fs
-skipped_none n fs sorted = record { sorted = sorted; same = λ t ms r before. (λ h. h, λ h. h) }
-
 -- a field before the name, which may be absent
 pub skipped_next : (n m : List ℕ) (k : KindTree) (fs gs hs : KnownFields) → IsSkipped n fs gs → gs ≡ known_field m k hs → slice_cmp nat_cmp m n ≡ Less → IsTrue (allows_absent k) → IsSkipped n fs hs
 skipped_next n m k fs gs hs skipped is less absent =

@@ -21,10 +21,6 @@ use Rattle.vrl_kind.proofs.Making.{canonical_more}
 use Rattle.vrl_kind.proofs.Namewise.{combined_along, object_combined}
 use Rattle.vrl_kind.proofs.Slices.{place_beyond}
 
-pub or_no : (b : Bool) → b ≡ (b || false)
-or_no true = refl
-or_no false = refl
-
 or_yes : (a b : Bool) → (IsTrue b → IsTrue a) → a ≡ (a || b)
 or_yes true b h = refl
 or_yes false true h = absurd (true≢false (sym (h refl)))
@@ -51,9 +47,6 @@ or_both false b P f g is = g is
 -- a join is above both, and below each kind that is
 pub join_above : (k l j : KindTree) → IsJoin k l j → IsWithin k j × IsWithin l j
 join_above k l j join = (λ p t is. join p t ∙ or_first _ (tags_at l p t) is, λ p t is. join p t ∙ or_second (tags_at k p t) _ is)
-
-pub join_least : (k l j m : KindTree) → IsJoin k l j → IsWithin k m → IsWithin l m → IsWithin j m
-join_least k l j m join first second p t is = or_both (tags_at k p t) (tags_at l p t) _ (first p t) (second p t) (sym (join p t) ∙ is)
 
 pub join_swap : (k l j : KindTree) → IsJoin l k j → IsJoin k l j
 join_swap k l j join p t = join p t ∙ or_swap (tags_at l p t) (tags_at k p t)
@@ -100,19 +93,6 @@ parts_at s u l m j o q w lists objects (field n ∷ p) t = objects.inner n p t
 -- the join is that of the scalars, of the arrays and of the objects
 pub join_parts : (k l : KindTree) (s : Scalars) (j : ListTree) (w : ObjectTree) → s ≡ scalar_union (scalars_of k) (scalars_of l) → IsListJoin (list_tree k) (list_tree l) j → IsObjectJoin (object_tree k) (object_tree l) w → IsJoin k l (kind s j w)
 join_parts (kind s l o) (kind u m q) v j w is lists objects = rw is (parts_at s u l m j o q w lists objects)
-
--- where one has no arrays the join's are those of the other
-pub no_first_list : (m j : ListTree) → j ≡ m → IsListJoin no_list m j
-no_first_list m j is = rw is record { outer = refl; inner = λ i p t. refl }
-
-pub no_second_list : (l j : ListTree) → j ≡ l → IsListJoin l no_list j
-no_second_list l j is = rw is record { outer = or_no _; inner = λ i p t. or_no _ }
-
-pub no_first_object : (m j : ObjectTree) → j ≡ m → IsObjectJoin no_object m j
-no_first_object m j is = rw is record { outer = refl; inner = λ n p t. refl }
-
-pub no_second_object : (l j : ObjectTree) → j ≡ l → IsObjectJoin l no_object j
-no_second_object l j is = rw is record { outer = or_no _; inner = λ n p t. or_no _ }
 
 -- ---- places
 place_append_below : (ks : List KindTree) (k K : KindTree) (i : ℕ) → i < length ks → place_or (places_view (ks ++ k ∷ [])) K i ≡ place_or (places_view ks) K i

@@ -1,7 +1,7 @@
 -- Known places and fields put together in the one form.
-use Rattle.std.proofs.Common.{◌≡◌, ◌≢◌, ℕ, zero, suc, ◌<◌, true, false, List, [], ◌∷◌, ◌++◌, length, take, get_or, refl, sym, ap, ◌∙◌, subst, arith}
+use Rattle.std.proofs.Common.{◌≡◌, ◌≢◌, ℕ, zero, suc, ◌<◌, List, [], ◌∷◌, ◌++◌, length, take, get_or, refl, sym, ap, ◌∙◌, subst, arith}
 use Rattle.vrl_kind.specs.KindTree.{KindTree, kind, Places, known_field}
-use Rattle.vrl_kind.specs.Canonical.{with_absent, allows_absent, place_or, LastIsNot, IsCanonical, PlacesAreCanonical}
+use Rattle.vrl_kind.specs.Canonical.{place_or, LastIsNot, IsCanonical, PlacesAreCanonical}
 use Rattle.vrl_kind.specs.Make.{IsShortened, add_field}
 use Rattle.vrl_kind.specs.View.{places_view, fields_view}
 use Rattle.vrl_kind.specs.declared.kind.KindField.{KindField}
@@ -46,10 +46,6 @@ canonical_take (x ∷ ks) (suc i) next k e below is all one = rw e (all.0, canon
 pub canonical_more : (ks : List KindTree) (k : KindTree) → PlacesAreCanonical (places_view ks) → IsCanonical k → PlacesAreCanonical (places_view (ks ++ k ∷ []))
 canonical_more [] k all one = (one, tt)
 canonical_more (x ∷ ks) k all one = (all.0, canonical_more ks k all.1 one)
-
--- absent taken off and put on again
-pub absent_again : (k : KindTree) (b : KindTree) → allows_absent k ≡ true → b ≡ with_absent false k → with_absent true b ≡ k
-absent_again (kind s l o) b allows is = ap (with_absent true) is ∙ ap (λ a. kind (record s { absent = a }) l o) (sym allows)
 
 pub fields_view_add : (fs : List KindField) (n : List ℕ) (k : KindTree) → fields_view (fs ++ record { name = n; kind = k } ∷ []) ≡ add_field (fields_view fs) n k
 fields_view_add [] n k = refl

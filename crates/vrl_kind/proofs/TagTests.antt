@@ -4,7 +4,7 @@ use Rattle.std.proofs.lemmas.Grind.{common_steps}
 use Rattle.std.specs.List.{list_any}
 use Rattle.vrl_value.specs.declared.value.Tag.{Tag}
 use Rattle.vrl_value.specs.declared.value.Tag.TheVariants as tag
-use Rattle.vrl_kind.specs.Tags.{Tags, all_tags, IsWithin, IsDisjoint}
+use Rattle.vrl_kind.specs.Tags.{Tags, all_tags, IsDisjoint}
 
 -- a tag that passes a test is one of them all
 pub some_tag-intro : (test : Tags) (t : Tag) → test t ≡ true → list_any test all_tags ≡ true
@@ -30,15 +30,6 @@ no_tag test none t = no_tag_at test t (test t) refl none
 pub none_of_all : (test : Tags) → ((t : Tag) → test t ≡ false) → list_any test all_tags ≡ false
 none_of_all test none = rw (none tag.Text, none tag.Int, none tag.Bool, none tag.Null, none tag.Time, none tag.Pattern, none tag.List, none tag.Object, none tag.Absent) refl
 
-and_not-false : (a b : Bool) → (a && not b) ≡ false → a ≡ true → b ≡ true
-and_not-false true true h is = refl
-and_not-false true false h is = absurd (true≢false h)
-and_not-false false b h is = absurd (true≢false (sym is))
-
-and_not-true : (a b : Bool) → (a ≡ true → b ≡ true) → (a && not b) ≡ false
-and_not-true true b h = rw (h refl) refl
-and_not-true false b h = refl
-
 and-false : (a b : Bool) → (a && b) ≡ false → a ≡ true → b ≡ true → ⊥
 and-false a b h is also = true≢false (sym (rw (is, also) refl) ∙ h)
 
@@ -46,12 +37,6 @@ both_false : (a b : Bool) → (a ≡ true → b ≡ true → ⊥) → (a && b) �
 both_false true true h = absurd (h refl refl)
 both_false true false h = refl
 both_false false b h = refl
-
-pub within_from : (K L : Tags) → list_any (λ t. K t && not (L t)) all_tags ≡ false → IsWithin K L
-within_from K L none t is = and_not-false (K t) (L t) (no_tag (λ t. K t && not (L t)) none t) is
-
-pub within_to : (K L : Tags) → IsWithin K L → list_any (λ t. K t && not (L t)) all_tags ≡ false
-within_to K L within = none_of_all (λ t. K t && not (L t)) (λ t. and_not-true (K t) (L t) (within t))
 
 pub disjoint_from : (K L : Tags) → list_any (λ t. K t && L t) all_tags ≡ false → IsDisjoint K L
 disjoint_from K L none t is also = and-false (K t) (L t) (no_tag (λ t. K t && L t) none t) is also
