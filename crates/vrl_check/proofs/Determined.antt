@@ -46,6 +46,7 @@ use Rattle.vrl_value.specs.declared.value.Tag.TheVariants as tag
 use Rattle.vrl_syntax.specs.Tree as syntax
 use Rattle.vrl_syntax.specs.declared.root.Op.TheVariants as op
 use Rattle.vrl_check.specs.Judgement as judging
+use Rattle.vrl_judge.specs.Rules as words
 
 -- ---- kinds
 
@@ -221,13 +222,13 @@ one_literal kinds span v sources known j k (judging.a_literal one) (judging.a_li
 one_array : EqualTagsAreOneKind → (span : Span) (es : Exprs) → HaveOne es → GivesOne span (syntax.array es)
 one_array kinds span es all sources known j k (judging.an_array {j = a} {Ks = Ks} {K = K} one is) (judging.an_array {j = b} {Ks = Ls} {K = L} two is') =
     let parts : (Ks ≡ Ls) × (a ≡ b) = all sources _ Ks Ls a b one two in
-    let kind : K ≡ L = one_cut kinds (ap judging.array_at parts.0) is is' in
+    let kind : K ≡ L = one_cut kinds (ap words.array_at parts.0) is is' in
     λ i. record (parts.1 i) { kind = kind i }
 
 one_object : EqualTagsAreOneKind → (span : Span) (ps : Pairs) → HaveOne (judging.pair_values ps) → GivesOne span (syntax.object ps)
 one_object kinds span ps all sources known j k (judging.an_object {j = a} {Ks = Ks} {K = K} one is) (judging.an_object {j = b} {Ks = Ls} {K = L} two is') =
     let parts : (Ks ≡ Ls) × (a ≡ b) = all sources _ Ks Ls a b one two in
-    let kind : K ≡ L = one_cut kinds (ap (judging.object_at (judging.pair_names ps)) parts.0) is is' in
+    let kind : K ≡ L = one_cut kinds (ap (words.object_at (judging.pair_names ps)) parts.0) is is' in
     λ i. record (parts.1 i) { kind = kind i }
 
 some_is : {A : Type 0} (x y : A) → Some x ≡ Some y → x ≡ y
@@ -265,7 +266,7 @@ one_block : EqualTagsAreOneKind → (es : Exprs) → HaveOne es → BlockHasOne 
 one_block kinds es all sources None j k judging.unreached_block judging.unreached_block = refl
 one_block kinds es all sources (Some known) j k (judging.reached_block {Ks = Ks} {N = M} {j = a} null one) (judging.reached_block {Ks = Ls} {N = N} {j = b} null' two) =
     let kind : M ≡ N = one_cut kinds refl null null' in
-    ap (λ x. settle (judging.left known x)) (all sources (gives N (Some known)) Ks Ls a b (subst (λ K. JudgesAll sources (gives K (Some known)) es Ks a) kind one) two).1
+    ap (λ x. settle (words.left known x)) (all sources (gives N (Some known)) Ks Ls a b (subst (λ K. JudgesAll sources (gives K (Some known)) es Ks a) kind one) two).1
 
 block_once : {sources : Sources} {es : Exprs} {known known' : Option RootMap} {j k : Judgement} → BlockHasOne es → known ≡ known' → JudgesBlock sources known es j → JudgesBlock sources known' es k → j ≡ k
 block_once {sources = sources} {es = es} {known' = known'} {j = j} {k = k} has known one two = has sources known' j k (subst (λ s. JudgesBlock sources s es j) known one) two
@@ -278,7 +279,7 @@ one_arm kinds p es gs otherwise has block_has rest sources known ways a b
     (judging.an_arm {j = j} {with_predicate = m} {k = x} {with_branch = n} predicate tested branch joined more)
     (judging.an_arm {j = j'} {with_predicate = m'} {k = x'} {with_branch = n'} predicate' tested' branch' joined' more') =
     let same : j ≡ j' = has sources known j j' predicate predicate' in
-    let test : m ≡ m' = one_beside kinds refl (λ i. record (with_codes (judging.of_predicate (span_of p) (same i)) (same i)) { kind = never_kind; ok = None }) tested tested' in
+    let test : m ≡ m' = one_beside kinds refl (λ i. record (with_codes (words.of_predicate (span_of p) (same i)) (same i)) { kind = never_kind; ok = None }) tested tested' in
     let taken : x ≡ x' = block_once block_has (λ i. (same i).ok) branch branch' in
     let next : n ≡ n' = one_beside kinds test taken joined joined' in
     rest sources j'.ok n' a b (subst (λ y. JudgesArms sources y.ok n' gs otherwise a) same (subst (λ y. JudgesArms sources j.ok y gs otherwise a) next more)) more'
@@ -300,7 +301,7 @@ one_negation : EqualTagsAreOneKind → (span : Span) (e : Expr) → HasOne e →
 one_negation kinds span e has sources known j k (judging.a_negation {j = a} {K = K} one is) (judging.a_negation {j = b} {K = L} two is') =
     let same : a ≡ b = has sources (Some known) a b one two in
     let kind : K ≡ L = one_cut kinds refl is is' in
-    λ i. with_codes (judging.when (judging.is_other tag.Bool (same i)) (judging.at 660 span)) (record (same i) { kind = kind i })
+    λ i. with_codes (words.when (words.is_other tag.Bool (same i)) (words.at 660 span)) (record (same i) { kind = kind i })
 
 one_operands : EqualTagsAreOneKind → {sources : Sources} {known : RootMap} {l r : Expr} {j k whole j' k' whole' : Judgement} → HasOne l → HasOne r → JudgesBoth sources known l r j k whole → JudgesBoth sources known l r j' k' whole' → (j ≡ j') × (k ≡ k') × (whole ≡ whole')
 one_operands kinds {sources = sources} {known = known} {j = j} {k = k} {j' = j'} {k' = k'} left right (judging.operands first second then) (judging.operands first' second' then') =
@@ -309,7 +310,7 @@ one_operands kinds {sources = sources} {known = known} {j = j} {k = k} {j' = j'}
     (one, two, one_then kinds one two then then')
 
 -- an operator with a table is no comparison for equality
-no_table : (o : Op) (table : Tag → Tag → Option Tag) → judging.is_equality o ≡ true → judging.table_of o ≡ Some table → ⊥
+no_table : (o : Op) (table : Tag → Tag → Option Tag) → words.is_equality o ≡ true → judging.table_of o ≡ Some table → ⊥
 no_table op.Equal table is too = let wrong : None ≡ Some table = too in cc
 no_table op.Unequal table is too = let wrong : None ≡ Some table = too in cc
 no_table o table is too = false≢true is
@@ -318,22 +319,22 @@ one_binary : EqualTagsAreOneKind → (span : Span) (o : Op) (l r : Expr) → Has
 one_binary kinds span o l r left right sources known g h (judging.an_equality {whole = w} {K = K} is both cut) (judging.an_equality {whole = w'} {K = K'} is' both' cut') =
     let same : w ≡ w' = (one_operands kinds left right both both').2 in
     let kind : K ≡ K' = one_cut kinds refl cut cut' in
-    λ i. with_codes (judging.chained span o l r) (record (same i) { kind = kind i })
+    λ i. with_codes (words.chained span o l r) (record (same i) { kind = kind i })
 one_binary kinds span o l r left right sources known g h (judging.of_table {table = t} {j = j} {k = k} {whole = w} {K = K} {fail = F} is both cut fails) (judging.of_table {table = t'} {j = j'} {k = k'} {whole = w'} {K = K'} {fail = F'} is' both' cut' fails') =
     let table : t ≡ t' = some_is t t' (sym is ∙ is') in
     let same : (j ≡ j') × (k ≡ k') × (w ≡ w') = one_operands kinds left right both both' in
-    let kind : K ≡ K' = one_cut kinds (λ i. judging.scalars_at (judging.table_tags (table i) (same.0 i).kind (same.1 i).kind)) cut cut' in
-    let fail : F ≡ F' = one_join kinds (λ i. (same.2 i).fail) (λ i. if_state (judging.some_pair (λ a b. not (is_some (table i a b))) (same.0 i).kind (same.1 i).kind) (same.2 i).ok) fails fails' in
-    λ i. judging.of_pairs (table i) (same.0 i) (same.1 i) (with_codes (judging.chained span o l r) (same.2 i)) (kind i) (fail i)
+    let kind : K ≡ K' = one_cut kinds (λ i. words.scalars_at (words.table_tags (table i) (same.0 i).kind (same.1 i).kind)) cut cut' in
+    let fail : F ≡ F' = one_join kinds (λ i. (same.2 i).fail) (λ i. if_state (words.some_pair (λ a b. not (is_some (table i a b))) (same.0 i).kind (same.1 i).kind) (same.2 i).ok) fails fails' in
+    λ i. words.of_pairs (table i) (same.0 i) (same.1 i) (with_codes (words.chained span o l r) (same.2 i)) (kind i) (fail i)
 one_binary kinds span o l r left right sources known g h (judging.a_merge {j = j} {k = k} {whole = w} {K = K} both is) (judging.a_merge {j = j'} {k = k'} {whole = w'} {K = K'} both' is') =
     let same : (j ≡ j') × (k ≡ k') × (w ≡ w') = one_operands kinds left right both both' in
     let kind : K ≡ K' = one_merged kinds (λ i. (same.0 i).kind) (λ i. (same.1 i).kind) is is' in
-    λ i. with_codes (judging.no_objects (span_of l) (span_of r) (same.0 i) (same.1 i)) (record (same.2 i) { kind = kind i })
+    λ i. with_codes (words.no_objects (span_of l) (span_of r) (same.0 i) (same.1 i)) (record (same.2 i) { kind = kind i })
 one_binary kinds span o l r left right sources known g h
     (judging.a_conjunction {j = j} {k = k} {whole = w} {K = K} A B {ok = T} {fail = F} first second behind is ends left_fails part_fails fails)
     (judging.a_conjunction {j = j'} {k = k'} {whole = w'} {K = K'} A' B' {ok = T'} {fail = F'} first' second' behind' is' ends' left_fails' part_fails' fails') =
-    let truth : Judgement → Option RootMap = λ x. if_state (judging.may_be_truth x.kind) x.ok in
-    let no_truth : Judgement → Option RootMap = λ x. if_state (judging.may_be_no_truth x.kind) x.ok in
+    let truth : Judgement → Option RootMap = λ x. if_state (words.may_be_truth x.kind) x.ok in
+    let no_truth : Judgement → Option RootMap = λ x. if_state (words.may_be_no_truth x.kind) x.ok in
     let failing : Judgement → Option RootMap = λ x. x.fail in
     let one : j ≡ j' = left sources (Some known) j j' first first' in
     let two : k ≡ k' = judged_once right (λ i. if_state (root_tags (one i).kind tag.Bool) (one i).ok) second second' in
@@ -348,9 +349,9 @@ one_binary kinds span o l r left right sources known g h
     (judging.a_disjunction {j = j} {k = k} {whole = w} {K = K} {ok = T} first second then is ends)
     (judging.a_disjunction {j = j'} {k = k'} {whole = w'} {K = K'} {ok = T'} first' second' then' is' ends') =
     let one : j ≡ j' = left sources (Some known) j j' first first' in
-    let two : k ≡ k' = judged_once right (λ i. if_state (judging.may_be_truth (one i).kind) (one i).ok) second second' in
+    let two : k ≡ k' = judged_once right (λ i. if_state (words.may_be_truth (one i).kind) (one i).ok) second second' in
     let whole : w ≡ w' = one_then kinds one two then then' in
-    let kind : K ≡ K' = one_cut kinds (λ i. judging.or_else_at (one i).kind (two i).kind) is is' in
+    let kind : K ≡ K' = one_cut kinds (λ i. words.or_else_at (one i).kind (two i).kind) is is' in
     let ok : T ≡ T' = one_join kinds (λ i. if_state (not (is_alone (root_tags (one i).kind) tag.Null)) (one i).ok) (λ i. (two i).ok) ends ends' in
     λ i. record (whole i) { kind = kind i; ok = ok i }
 one_binary kinds span o l r left right sources known g h
@@ -361,7 +362,7 @@ one_binary kinds span o l r left right sources known g h
     let whole : record w { fail = None } ≡ record w' { fail = None } = one_behind kinds one two behind behind' in
     let kind : K ≡ K' = one_either kinds (λ i. (one i).kind) (λ i. (two i).kind) is is' in
     let ok : T ≡ T' = one_join kinds (λ i. (one i).ok) (λ i. (two i).ok) ends ends' in
-    λ i. with_codes (judging.when (not ((one i).poisoned || judging.is_fallible (one i))) (judging.at 651 span)) (record (whole i) { kind = kind i; ok = ok i; fail = (two i).fail })
+    λ i. with_codes (words.when (not ((one i).poisoned || words.is_fallible (one i))) (words.at 651 span)) (record (whole i) { kind = kind i; ok = ok i; fail = (two i).fail })
 one_binary kinds span o l r left right sources known g h (judging.an_equality is both cut) (judging.of_table {table = t} too parts tags fails) = absurd (no_table o t is too)
 one_binary kinds span o l r left right sources known g h (judging.of_table {table = t} too parts tags fails) (judging.an_equality is both cut) = absurd (no_table o t is too)
 one_binary kinds span o l r left right sources known g h (judging.an_equality is both cut) two = absurd (false≢true is)
@@ -372,10 +373,10 @@ one_binary kinds span o l r left right sources known g h one (judging.of_table {
 -- ---- assignments
 
 one_written_end : EqualTagsAreOneKind → (span : Span) (t : Target) {j k : Judgement} {a b : Option RootMap} → j ≡ k → IsWritten t j.kind j.ok a → IsWritten t k.kind k.ok b
-    → with_codes (judging.of_assignment span t j) (record j { ok = a }) ≡ with_codes (judging.of_assignment span t k) (record k { ok = b })
+    → with_codes (words.of_assignment span t j) (record j { ok = a }) ≡ with_codes (words.of_assignment span t k) (record k { ok = b })
 one_written_end kinds span t {a = a} {b = b} same one two =
     let ok : a ≡ b = one_written kinds t (λ i. (same i).kind) (λ i. (same i).ok) one two in
-    λ i. with_codes (judging.of_assignment span t (same i)) (record (same i) { ok = ok i })
+    λ i. with_codes (words.of_assignment span t (same i)) (record (same i) { ok = ok i })
 
 one_assignment : EqualTagsAreOneKind → (span : Span) (t : Target) (e : Expr) → HasOne e → GivesOne span (syntax.assign t e)
 one_assignment kinds span t e has sources known g h (judging.an_assignment {j = j} one written) (judging.an_assignment {j = k} two written') =
@@ -383,7 +384,7 @@ one_assignment kinds span t e has sources known g h (judging.an_assignment {j = 
 
 one_merge_into_nothing : (span : Span) (e : Expr) → HasOne e → GivesOne span (syntax.merge Nowhere e)
 one_merge_into_nothing span e has sources known g h (judging.a_merge_into_nothing {j = j} one) (judging.a_merge_into_nothing {j = k} two) =
-    ap (with_codes (judging.at 640 span)) (has sources (Some known) j k one two)
+    ap (with_codes (words.at 640 span)) (has sources (Some known) j k one two)
 
 -- `t |= e` is judged as `t = t | e`
 one_merge_assignment : EqualTagsAreOneKind → (span place : Span) (root : Root) (path : List Step) (e : Expr) → HasOne e → GivesOne span (syntax.merge (Place place root path) e)
@@ -398,7 +399,7 @@ one_error_assignment kinds span t u e has sources known g h
     (judging.an_error_assignment {j = k} {E = E'} {K = K'} {N = N'} {T = T'} A' B' C' D' {ok = O'} two is' either' is_null' is_text' given_t' given_u' failed_t' failed_u' ends') =
     let same : j ≡ k = has sources (Some known) j k one two in
     let kind : j.kind ≡ k.kind = λ i. (same i).kind in
-    let empty : E ≡ E' = one_cut kinds (ap (λ M. found_at (empty_value (judging.empty_tag M))) kind) is is' in
+    let empty : E ≡ E' = one_cut kinds (ap (λ M. found_at (empty_value (words.empty_tag M))) kind) is is' in
     let value : K ≡ K' = one_either kinds kind empty either either' in
     let null : N ≡ N' = one_cut kinds refl is_null is_null' in
     let text : T ≡ T' = one_cut kinds refl is_text is_text' in
@@ -407,7 +408,7 @@ one_error_assignment kinds span t u e has sources known g h
     let failed : C ≡ C' = one_written kinds t empty (λ i. (same i).fail) failed_t failed_t' in
     let failed_both : D ≡ D' = one_written kinds u text failed failed_u failed_u' in
     let ok : O ≡ O' = one_join kinds given_both failed_both ends ends' in
-    λ i. with_codes (judging.of_error_assignment span t u (same i) (value i)) (record (same i) { kind = value i; ok = ok i; fail = None; empties = judging.empty_tag (same i).kind ∷ (same i).empties })
+    λ i. with_codes (words.of_error_assignment span t u (same i) (value i)) (record (same i) { kind = value i; ok = ok i; fail = None; empties = words.empty_tag (same i).kind ∷ (same i).empties })
 
 -- ---- ends
 
@@ -415,7 +416,7 @@ one_return : EqualTagsAreOneKind → (span : Span) (e : Expr) → HasOne e → G
 one_return kinds span e has sources known g h (judging.a_return {j = j} {ret = A} {R = R} one ends is) (judging.a_return {j = k} {ret = B} {R = S} two ends' is') =
     let same : j ≡ k = has sources (Some known) j k one two in
     let ret : A ≡ B = one_join kinds (λ i. (same i).ret) (λ i. (same i).ok) ends ends' in
-    let returned : R ≡ S = one_either kinds (λ i. (same i).returned) (λ i. judging.settled_kind false (is_alive (same i).ok) (same i).kind) is is' in
+    let returned : R ≡ S = one_either kinds (λ i. (same i).returned) (λ i. words.settled_kind false (is_alive (same i).ok) (same i).kind) is is' in
     λ i. record (same i) { kind = never_kind; ok = None; ret = ret i; returned = returned i }
 
 one_abort : (span : Span) → GivesOne span (syntax.abort_with no_message)
@@ -423,7 +424,7 @@ one_abort span sources known g h judging.an_abort judging.an_abort = refl
 
 one_abort_with : (span : Span) (e : Expr) → HasOne e → GivesOne span (syntax.abort_with (message e))
 one_abort_with span e has sources known g h (judging.an_abort_with {j = j} one) (judging.an_abort_with {j = k} two) =
-    ap (λ (x : Judgement). with_codes (judging.when (judging.is_fallible x || judging.is_other tag.Text x) (judging.at 1011 (span_of e))) (record x { kind = never_kind; ok = None })) (has sources (Some known) j k one two)
+    ap (λ (x : Judgement). with_codes (words.when (words.is_fallible x || words.is_other tag.Text x) (words.at 1011 (span_of e))) (record x { kind = never_kind; ok = None })) (has sources (Some known) j k one two)
 
 -- ---- calls
 
@@ -493,7 +494,7 @@ one_call : EqualTagsAreOneKind → FunctionsAreFound → (span : Span) (name : L
 one_call kinds names span name place bang gs block all sources known g h
     (judging.a_call_of_nothing {js = js} {j = j} none other one) (judging.a_call_of_nothing {js = ks} {j = k} none' other' two) =
     let same : j ≡ k = (all sources _ js ks j k one two).1 in
-    λ i. with_codes (judging.at 105 place) (record (same i) { kind = any_kind; empties = (same i).empties ++ closure_empties block })
+    λ i. with_codes (words.at 105 place) (record (same i) { kind = any_kind; empties = (same i).empties ++ closure_empties block })
 one_call kinds names span name place bang gs block all sources known g h
     (judging.a_call f {js = js} {j = j} {whole = w} K may fail is one behind answered ends)
     (judging.a_call f' {js = ks} {j = k} {whole = v} L might fail' is' two behind' answered' ends') =
