@@ -1,6 +1,6 @@
 """Random trial of the meaning: what accepted scripts do to lines.
 
-    python3 trials/meaning.py [--seed N] [--count N] [--no-calls | --built] [--program PATH [--words] [--refused]] [--show N]
+    python3 trials/meaning.py [--seed N] [--count N] [--seconds N] [--no-calls | --built] [--program PATH [--words] [--refused]] [--show N]
     python3 trials/meaning.py --text FILE [--kind FILE] [--drop-on-error] [--keep-on-abort] < LINES
     python3 trials/meaning.py --text FILE --generate COUNT:SEED
 
@@ -12,7 +12,7 @@ joined state. With --program the bytes and the status of `PATH SCRIPTFILE < LINE
 the program says 1099 is counted and passed over. Then the script is made to write its value, the event and the variables
 into the event, at its end and at each `return`, and what the program leaves so is held against the kinds that were judged
 for the script. With --words, too, the program takes `--kind FILE` and both flags. With --refused the scripts that are
-refused go through the program as well. --built makes scripts with calls of the functions that are built alone.
+refused go through the program as well. It ends after --count accepted scripts, or --seconds. --built makes scripts with calls of the functions that are built alone.
 """
 
 import argparse
@@ -21,6 +21,7 @@ import hashlib
 import json
 import random
 import sys
+import time
 
 sys.dont_write_bytecode = True
 
@@ -571,6 +572,7 @@ def main():
     words = argparse.ArgumentParser(description="random runs against a plain reading of the meaning")
     words.add_argument("--seed", type=int, default=1)
     words.add_argument("--count", type=int, default=3000)
+    words.add_argument("--seconds", type=float, default=float("inf"))
     words.add_argument("--program")
     words.add_argument("--words", action="store_true")
     words.add_argument("--no-calls", action="store_true")
@@ -606,7 +608,8 @@ def main():
     maker = judgement.Maker(rng, None if given.no_calls else functions, given.built)
     met, differences, passed, made, refused, lines, left = {}, 0, 0, 0, 0, 0, 0
     with programs.Program(given.program) if given.program else contextlib.nullcontext() as program:
-        while made < given.count:
+        end = time.monotonic() + given.seconds
+        while made < given.count and time.monotonic() < end:
             script, file = maker.script(), maker.kind_file()
             if given.program and not given.words:
                 file = None

@@ -1,5 +1,5 @@
 -- The kind that a read makes has just the tags that a read may find.
-use Rattle.std.proofs.Common.{◌≡◌, ◌≢◌, inl, inr, ℕ, ℤ, pos, negsuc, Some, None, Bool, true, false, ◌||◌, ◌&&◌, not, IsTrue, List, [], ◌∷◌, length, refl, sym, ap, ◌∙◌, subst, arith}
+use Rattle.std.proofs.Common.{◌≡◌, ◌≢◌, inl, inr, ℕ, ℤ, pos, negsuc, Some, None, Bool, true, false, ◌||◌, ◌&&◌, not, IsTrue, List, [], ◌∷◌, refl, sym, ap, ◌∙◌, subst}
 use Rattle.std.proofs.lemmas.Bool.{true≢false}
 use Rattle.vrl_value.specs.Look.{Step, field, place}
 use Rattle.vrl_value.specs.declared.value.Tag.{Tag}
@@ -11,10 +11,10 @@ use Rattle.vrl_kind.specs.Change.{Sets, null_for_absent}
 use Rattle.vrl_kind.specs.Kinds.{IsParts, step_tag, tags_at, without_at}
 use Rattle.vrl_kind.specs.Tags.{Tags, same_tag}
 use Rattle.vrl_place.specs.Inner.{AreSomePlaces, from_start}
-use Rattle.vrl_place.specs.Read.{Allowed, AllowsOther, HasJust, allowed, read, read_part, read_some_place, read_step}
+use Rattle.vrl_place.specs.Read.{Allowed, HasJust, allowed, read, read_part, read_some_place, read_step}
 use Rattle.vrl_place.specs.Sets.{SameSets, has_other, or_absent_if, part}
 use Rattle.vrl_place.proofs.Same.{one_sets}
-use Rattle.vrl_place.proofs.Tags.{both, differ, first_of_both, left_of, not_same, one_of_both, one_tag, other_there, right_of, second_of_both, some_other, step_not_null, step_present}
+use Rattle.vrl_place.proofs.Tags.{both, differ, first_of_both, left_of, not_same, one_of_both, one_tag, other_there, right_of, second_of_both, some_other}
 
 abbrev Within : Allowed → Allowed → Type 0
 Within A B = (p : List Step) (t : Tag) → A p t → B p t
@@ -73,49 +73,11 @@ some_from A M are (q ∷ p) t h = (are.at (q ∷ p) t).1 (h, refl)
 some_from A M are [] t (inl x) = left_of _ _ (both _ _ (left_of _ _ ((are.at [] t).1 (x.1, not_same t tag.Absent x.0))) (not_same t tag.Absent x.0))
 some_from A M are [] t (inr e) = right_of _ _ (both _ _ (right_of (M [] tag.Absent) true refl) (ap (λ u. same_tag u tag.Null) e))
 
--- with null for absent a step reads the same
-filled_to : (A : Sets) (s : Step) → Within (read_part (allowed A) s) (read_part (allowed (null_for_absent A)) s)
-filled_to A s (q ∷ p) t h = h
-filled_to A s [] t (inl x) = inl x
-filled_to A s [] t (inr (e, inl a)) = inr (e, inl a)
-filled_to A s [] t (inr (e, inr x)) = inr (e, inr (other (same_tag x.0 tag.Absent) refl))
-  where
-    other : (b : Bool) → same_tag x.0 tag.Absent ≡ b → AllowsOther (allowed (null_for_absent A)) s
-    other true is = (tag.Null, step_not_null s, right_of _ _ (both _ _ (ap (A []) (sym (one_tag x.0 tag.Absent is)) ∙ x.2) refl))
-    other false is = (x.0, x.1, left_of _ _ (both _ _ x.2 (ap not is)))
-
-filled_from : (A : Sets) (s : Step) → Within (read_part (allowed (null_for_absent A)) s) (read_part (allowed A) s)
-filled_from A s (q ∷ p) t h = h
-filled_from A s [] t (inl x) = inl x
-filled_from A s [] t (inr (e, inl a)) = inr (e, inl a)
-filled_from A s [] t (inr (e, inr x)) = inr (
-  e,
-  inr (one_of_both (A [] x.0 && not (same_tag x.0 tag.Absent)) (A [] tag.Absent && same_tag x.0 tag.Null) (AllowsOther (allowed A) s) x.2
-      (λ a. (x.0, x.1, first_of_both (A [] x.0) (not (same_tag x.0 tag.Absent)) a))
-      (λ b. (tag.Absent, step_present s, first_of_both (A [] tag.Absent) (same_tag x.0 tag.Null) b))),
-)
-
-step_filled_to : (A : Sets) (s : CodeStep) → Within (read_step (allowed A) s) (read_step (allowed (null_for_absent A)) s)
-step_filled_to A (Field k) p t h = filled_to A (field k) p t h
-step_filled_to A (Place (pos i)) p t h = filled_to A (place i) p t h
-step_filled_to A (Place (negsuc i)) [] t h = h
-step_filled_to A (Place (negsuc i)) (q ∷ p) t h = h
-
-step_filled_from : (A : Sets) (s : CodeStep) → Within (read_step (allowed (null_for_absent A)) s) (read_step (allowed A) s)
-step_filled_from A (Field k) p t h = filled_from A (field k) p t h
-step_filled_from A (Place (pos i)) p t h = filled_from A (place i) p t h
-step_filled_from A (Place (negsuc i)) [] t h = h
-step_filled_from A (Place (negsuc i)) (q ∷ p) t h = h
-
--- what a read of all that is left finds
+-- what is found has null for absent
 pub read_end : (A k K : Sets) → SameSets k A → SameSets K (null_for_absent k) → HasJust K (allowed (null_for_absent A))
 read_end A k K first same p t =
     let e : K p t ≡ null_for_absent A p t = same p t ∙ ap (λ B. null_for_absent B p t) (one_sets k A first) in
     (λ h. sym e ∙ h, λ h. e ∙ h)
-
-pub read_more : (A K : Sets) (s : CodeStep) (r : List CodeStep) → HasJust K (read (read_step (allowed A) s) r) → HasJust K (read (allowed (null_for_absent A)) (s ∷ r))
-read_more A K s r has p t =
-    (λ h. read_within r _ _ (step_filled_to A s) p t ((has p t).0 h), λ h. (has p t).1 (read_within r _ _ (step_filled_from A s) p t h))
 
 -- what a read behind a step finds, where the part was opened
 pub read_opened : (A z g K : Sets) (s : Step) (b : Bool) (r : List CodeStep) → b ≡ has_other (A []) (step_tag s) → SameSets z (part A s) → SameSets g (or_absent_if b z) → HasJust K (read (allowed (null_for_absent g)) r) → HasJust K (read (read_part (allowed A) s) r)
@@ -179,11 +141,11 @@ pub read_from_end : (A K : Sets) (s : CodeStep) (z : ℤ) (r : List CodeStep) �
 read_from_end A K s (pos j) r is from has = cc
 read_from_end A K s (negsuc j) r is from has = subst (λ x. HasJust K (read (read_step (allowed A) x) r)) (sym is) has
 
--- no steps are left
-pub read_none : (A K : Sets) (r : List CodeStep) → length r ≡ 0 → HasJust K (allowed (null_for_absent A)) → HasJust K (read (allowed (null_for_absent A)) r)
-read_none A K [] none has = has
-read_none A K (s ∷ r) none has = absurd (omega arith)
-
 -- the same of sets and a path that are the same
 pub read_same : (A B K : Sets) (s : CodeStep) (r p : List CodeStep) → SameSets A B → p ≡ s ∷ r → HasJust K (read (read_step (allowed A) s) r) → HasJust K (read (allowed B) p)
 read_same A B K s r p same e has = subst (λ q. HasJust K (read (allowed B) q)) (sym e) (subst (λ C. HasJust K (read (read_step (allowed C) s) r)) (one_sets A B same) has)
+
+-- a read that goes on from what the first steps found
+pub read_further : (A : Allowed) (k K : Sets) (r : List CodeStep) → HasJust k A → HasJust K (read (allowed k) r) → HasJust K (read A r)
+read_further A k K r first rest p t =
+    (λ h. read_within r (allowed k) A (λ q u. (first q u).0) p t ((rest p t).0 h), λ h. (rest p t).1 (read_within r A (allowed k) (λ q u. (first q u).1) p t h))

@@ -124,10 +124,6 @@ pub step_present : (s : Step) → tag.Absent ≢ step_tag s
 step_present (field k) e = cc
 step_present (place i) e = cc
 
-pub step_not_null : (s : Step) → tag.Null ≢ step_tag s
-step_not_null (field k) e = cc
-step_not_null (place i) e = cc
-
 pub value_present : (v : Tree) → tag_of v ≢ tag.Absent
 value_present (string s) e = cc
 value_present (integer n) e = cc

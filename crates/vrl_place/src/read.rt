@@ -1,5 +1,4 @@
 ghost use Rattle.std.specs.Prelude.{◌≡◌, IfOk, [], false, unwrap_or};
-ghost use Rattle.vrl_kind.specs.Change.{null_for_absent};
 ghost use Rattle.vrl_kind.specs.Kinds.{Inhabits, tags_at};
 ghost use Rattle.vrl_path.specs.Read.{read_at};
 ghost use Rattle.vrl_place.specs.Inner.{AreSomePlaces, from_start, spot_sets};
@@ -18,7 +17,8 @@ use vrl_value::{Chars, Memory, Tag};
 /// there. A negative place, which counts from the end of its array, may be each place, or none. `Memory`:
 /// want of memory.
 ///
-/// It copies what the path leads to, and for each negative place all that the kind knows of the array.
+/// It copies what each step leads to, and for each negative place all that the kind knows of the array. It goes on step
+/// by step, so a path may have any number of them.
 pub fn read_kind(alloc: Global, kind: &Kind, path: &Path) -> Result<Kind, Memory>
     ensures tags { IfOk result (λ found. HasJust (tags_at found) (read (allowed (tags_at kind.now)) path.now)) }
     ensures inhabited { IfOk result (λ found. (value : Tree) → Inhabits value kind.now
@@ -32,62 +32,61 @@ pub fn read_kind(alloc: Global, kind: &Kind, path: &Path) -> Result<Kind, Memory
     }
 }
 
-// The kind of what a read finds at the end of the steps, where null stands here for absent.
-#[cycle(read)]
-fn read_at(alloc: Global, spot: Spot<'_>, steps: &[Step]) -> Result<Kind, Memory>
-    ensures { IfOk result (λ kind. HasJust (tags_at kind)
-        (read (allowed (null_for_absent (spot_sets spot.entry))) steps.now)) }
-{
-    match steps.split_first() {
-        None => Ok(spot.kind(alloc)?.null_for_absent()),
-        Some((step, behind)) => read_behind(alloc, spot, step, behind),
-    }
-}
-
-// The kind of what a read finds behind a step and at the end of the steps behind it. Whether null stands
-// here for absent changes nothing there.
-#[cycle(read)]
+// The kind of what a read finds behind a step and at the end of the steps behind it.
 fn read_behind(alloc: Global, spot: Spot<'_>, step: &Step, behind: &[Step]) -> Result<Kind, Memory>
     ensures { IfOk result (λ kind. HasJust (tags_at kind)
         (read (read_step (allowed (spot_sets spot.entry)) step.now) behind.now)) }
 {
+    read_on(alloc, read_one(alloc, spot, step)?, behind)
+}
+
+// The kind of what a read finds at the end of the steps in what is of a kind. It is a loop, and not a call for each
+// step: a path that is only read has no limit of steps, and the stack has.
+fn read_on(alloc: Global, kind: Kind, steps: &[Step]) -> Result<Kind, Memory>
+    ensures { IfOk result (λ found. HasJust (tags_at found) (read (allowed (tags_at kind)) steps.now)) }
+{
+    let mut found = kind;
+    for step in steps {
+        found = read_one(alloc, Spot::of(&found), step)?;
+    }
+    Ok(found)
+}
+
+// The kind of what a read finds behind one step.
+fn read_one(alloc: Global, spot: Spot<'_>, step: &Step) -> Result<Kind, Memory>
+    ensures { IfOk result (λ kind. HasJust (tags_at kind) (read_step (allowed (spot_sets spot.entry)) step.now)) }
+{
     match step {
-        Step::Field(name) => read_field(alloc, spot, name, behind),
+        Step::Field(name) => read_field(alloc, spot, name),
         Step::Place(at) => match from_start(*at) {
-            Some(at) => read_place(alloc, spot, at, behind),
-            None => read_some_place(alloc, spot, behind),
+            Some(at) => read_place(alloc, spot, at),
+            None => read_some_place(alloc, spot),
         },
     }
 }
 
-#[cycle(read)]
-fn read_field(alloc: Global, spot: Spot<'_>, name: &Chars, behind: &[Step]) -> Result<Kind, Memory>
-    ensures { IfOk result (λ kind. HasJust (tags_at kind)
-        (read (read_part (allowed (spot_sets spot.entry)) (field name.now)) behind.now)) }
+fn read_field(alloc: Global, spot: Spot<'_>, name: &Chars) -> Result<Kind, Memory>
+    ensures { IfOk result (λ kind. HasJust (tags_at kind) (read_part (allowed (spot_sets spot.entry)) (field name.now))) }
 {
     let part = spot.fields().field(name);
     let open = part.or_absent_if(spot.has_other(Tag::Object));
-    read_at(alloc, open, behind)
+    Ok(open.kind(alloc)?.null_for_absent())
 }
 
-#[cycle(read)]
-fn read_place(alloc: Global, spot: Spot<'_>, at: usize, behind: &[Step]) -> Result<Kind, Memory>
-    ensures { IfOk result (λ kind. HasJust (tags_at kind)
-        (read (read_part (allowed (spot_sets spot.entry)) (place at)) behind.now)) }
+fn read_place(alloc: Global, spot: Spot<'_>, at: usize) -> Result<Kind, Memory>
+    ensures { IfOk result (λ kind. HasJust (tags_at kind) (read_part (allowed (spot_sets spot.entry)) (place at))) }
 {
     let part = spot.places().place(at);
     let open = part.or_absent_if(spot.has_other(Tag::List));
-    read_at(alloc, open, behind)
+    Ok(open.kind(alloc)?.null_for_absent())
 }
 
-#[cycle(read)]
-fn read_some_place(alloc: Global, spot: Spot<'_>, behind: &[Step]) -> Result<Kind, Memory>
-    ensures { IfOk result (λ kind. HasJust (tags_at kind)
-        (read (read_some_place (allowed (spot_sets spot.entry))) behind.now)) }
+fn read_some_place(alloc: Global, spot: Spot<'_>) -> Result<Kind, Memory>
+    ensures { IfOk result (λ kind. HasJust (tags_at kind) (read_some_place (allowed (spot_sets spot.entry)))) }
 {
     let part = some_place(alloc, spot)?;
     let open = Spot::of(&part).or_absent_if(true);
-    read_at(alloc, open, behind)
+    Ok(open.kind(alloc)?.null_for_absent())
 }
 
 // The place, where it counts from the start. `None`: it counts from the end.
