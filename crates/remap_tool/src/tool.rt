@@ -86,6 +86,10 @@ pub fn remap<R: Threads + Sync, F: Store, S: Source, O: Sink, E: Sink, C: Clock>
     ensures write_fault { result ≡ Status.WriteFault
         → HasRisen (O.faults output.old) (O.faults output.new)
         ⊎ HasRisen (E.faults report.old) (E.faults report.new) }
+    // A fault of the input, of the output or of the report is told as that, and not as want of memory.
+    ensures read_told { (result ≡ Status.ReadFault) ⊎ (S.faults input.new ≡ S.faults input.old) }
+    ensures write_told { (result ≡ Status.WriteFault)
+        ⊎ ((O.faults output.new ≡ O.faults output.old) × (E.faults report.new ≡ E.faults report.old)) }
 
     // Where nothing fails, the answer comes, unless the input is too long or memory is wanted.
     ensures usage { command words.now ≡ usage
@@ -140,6 +144,9 @@ fn run_script<S: Source, O: Sink, E: Sink, C: Clock>(
     ensures write_fault { result ≡ Status.WriteFault
         → HasRisen (O.faults output.old) (O.faults output.new)
         ⊎ HasRisen (E.faults report.old) (E.faults report.new) }
+    ensures read_told { (result ≡ Status.ReadFault) ⊎ (S.faults input.new ≡ S.faults input.old) }
+    ensures write_told { (result ≡ Status.WriteFault)
+        ⊎ ((O.faults output.new ≡ O.faults output.old) × (E.faults report.new ≡ E.faults report.old)) }
 {
     let Ok(declared) = event_kind(alloc) else {
         return Status::Memory;

@@ -1,5 +1,5 @@
 -- What gathering the bytes of a source gives, and why it gives none.
-use Rattle.std.specs.Prelude.{◌≡◌, ℕ, ◌+◌, ◌<◌, ◌≤◌, List, ◌++◌, length, Option, option_map, IfSome}
+use Rattle.std.specs.Prelude.{◌≡◌, ℕ, ◌+◌, ◌<◌, ◌≤◌, List, ◌++◌, length, Option, option_map, IfSome, ⊤}
 use Rattle.vrl_io.specs.Faults.{HasRisen}
 use Rattle.vrl_batch.specs.declared.input.GatherFault.{GatherFault}
 use Rattle.vrl_batch.specs.declared.input.GatherFault.TheVariants.{Read, TooMuch, Memory}
@@ -19,6 +19,12 @@ abbrev pub HasCause : (left : Option (List ℕ)) (faults faults_after taken take
 HasCause left faults faults_after taken taken_after Read = HasRisen faults faults_after × (taken_after ≤ taken + input_limit)
 HasCause left faults faults_after taken taken_after TooMuch = IfSome left (λ told. input_limit < length told) × (taken_after ≡ taken + (input_limit + 1))
 HasCause left faults faults_after taken taken_after Memory = taken_after ≤ taken + input_limit
+
+-- but where the source failed, its count of faults stands where it stood
+abbrev pub KeepsFaults : (faults faults_after : ℕ) → GatherFault → Type 0
+KeepsFaults faults faults_after Read = ⊤
+KeepsFaults faults faults_after TooMuch = faults_after ≡ faults
+KeepsFaults faults faults_after Memory = faults_after ≡ faults
 
 -- a piece of this length was taken from the front of what was left, and added to the bytes
 pub record TakesOnto (bytes bytes_after : List ℕ) (left left_after : Option (List ℕ)) (taken taken_after count : ℕ) : Type 0 where

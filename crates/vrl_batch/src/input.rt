@@ -1,5 +1,5 @@
 ghost use Rattle.std.specs.Prelude.{◌≡◌, ◌≤◌, ◌<◌, IfOk, IfErr, OnOk, IfSome, IsTrue, [], length, vec_len};
-ghost use Rattle.vrl_batch.specs.Gathered.{IsGathered, HasCause, TakesOnto, HasPieceCause};
+ghost use Rattle.vrl_batch.specs.Gathered.{IsGathered, HasCause, KeepsFaults, TakesOnto, HasPieceCause};
 
 use std::alloc::{AllocError, Global};
 use std::cmp::min;
@@ -30,6 +30,8 @@ pub fn gather<S: Source>(alloc: Global, source: &mut S) -> Result<Vec<u8>, Gathe
     ensures cause { IfErr result (HasCause (S.left source.old) (S.faults source.old)
         (S.faults source.new) (S.taken source.old) (S.taken source.new)) }
     ensures count { S.faults source.old ≤ S.faults source.new }
+    ensures no_fault { OnOk result (S.faults source.new ≡ S.faults source.old) }
+    ensures other_fault { IfErr result (KeepsFaults (S.faults source.old) (S.faults source.new)) }
 {
     match buffer(alloc) {
         Ok(mut buffer) => gather_by(Vec::new(alloc), source, &mut buffer),
@@ -58,6 +60,8 @@ fn gather_by<S: Source>(
     ensures cause { IfErr result (HasCause (S.left source.old) (S.faults source.old)
         (S.faults source.new) (S.taken source.old) (S.taken source.new)) }
     ensures count { S.faults source.old ≤ S.faults source.new }
+    ensures no_fault { OnOk result (S.faults source.new ≡ S.faults source.old) }
+    ensures other_fault { IfErr result (KeepsFaults (S.faults source.old) (S.faults source.new)) }
 {
     while bytes.len() < INPUT_LIMIT {
         let room = min(buffer.len(), INPUT_LIMIT - bytes.len());
@@ -89,6 +93,8 @@ fn take_onto<S: Source>(
     ensures cause { IfErr result (HasPieceCause (length buffer.old) (S.faults source.old)
         (S.faults source.new) (S.taken source.old) (S.taken source.new)) }
     ensures count { S.faults source.old ≤ S.faults source.new }
+    ensures no_fault { OnOk result (S.faults source.new ≡ S.faults source.old) }
+    ensures other_fault { IfErr result (KeepsFaults (S.faults source.old) (S.faults source.new)) }
 {
     match source.take(buffer) {
         Ok(count) => match bytes.extend_from_slice(&buffer[..count]) {

@@ -49,6 +49,9 @@ pub fn answer<S: Source, O: Sink, E: Sink, C: Clock>(
     ensures write_fault { result ≡ Status.WriteFault
         → HasRisen (O.faults output.old) (O.faults output.new)
         ⊎ HasRisen (E.faults report.old) (E.faults report.new) }
+    ensures read_told { (result ≡ Status.ReadFault) ⊎ (S.faults input.new ≡ S.faults input.old) }
+    ensures write_told { (result ≡ Status.WriteFault)
+        ⊎ ((O.faults output.new ≡ O.faults output.old) × (E.faults report.new ≡ E.faults report.old)) }
 {
     match request {
         Request::Words => refuse_words(report),
@@ -81,6 +84,9 @@ fn run_script<S: Source, O: Sink, E: Sink, C: Clock>(
     ensures write_fault { result ≡ Status.WriteFault
         → HasRisen (O.faults output.old) (O.faults output.new)
         ⊎ HasRisen (E.faults report.old) (E.faults report.new) }
+    ensures read_told { (result ≡ Status.ReadFault) ⊎ (S.faults input.new ≡ S.faults input.old) }
+    ensures write_told { (result ≡ Status.WriteFault)
+        ⊎ ((O.faults output.new ≡ O.faults output.old) × (E.faults report.new ≡ E.faults report.old)) }
 {
     let warnings = match render_all(alloc, script.warnings, script.text) {
         Ok(warnings) => warnings,
@@ -111,6 +117,8 @@ fn write_results<O: Sink, E: Sink>(results: &Results, output: &mut O, report: &m
     ensures cause { result ≡ Status.WriteFault
         → HasRisen (O.faults output.old) (O.faults output.new)
         ⊎ HasRisen (E.faults report.old) (E.faults report.new) }
+    ensures told { (result ≡ Status.WriteFault)
+        ⊎ ((O.faults output.new ≡ O.faults output.old) × (E.faults report.new ≡ E.faults report.old)) }
 {
     if give_all(output, &results.output).is_err() || give_all(report, &results.report).is_err() {
         return Status::WriteFault;
@@ -130,6 +138,7 @@ fn refuse_words<E: Sink>(report: &mut E) -> Status
     ensures either { (result ≡ Status.Usage) ⊎ (result ≡ Status.WriteFault) }
     ensures cause { result ≡ Status.WriteFault
         → HasRisen (E.faults report.old) (E.faults report.new) }
+    ensures told { (result ≡ Status.WriteFault) ⊎ (E.faults report.new ≡ E.faults report.old) }
 {
     match give_all(report, USAGE_LINE.as_bytes()) {
         Ok(()) => Status::Usage,
@@ -152,6 +161,7 @@ fn refuse_script<E: Sink>(
         ⊎ (result ≡ Status.Memory) }
     ensures cause { result ≡ Status.WriteFault
         → HasRisen (E.faults report.old) (E.faults report.new) }
+    ensures told { (result ≡ Status.WriteFault) ⊎ (E.faults report.new ≡ E.faults report.old) }
 {
     match render_all(alloc, diagnostics, text) {
         Ok(lines) => match give_all(report, &lines) {

@@ -22,4 +22,5 @@ loop-given-preserved g c =
       omega (arith, within, length-drop n bytes),
       subst (λ x. Appends (g.K.Sink.written c.args.sink.now) (g.K.Sink.written c.give.new.self) x) (ap (λ x. take n bytes ++ take more x) rest ∙ take-more bytes n more) both,
       omega (arith, c.in_ok-given.ensures.count, c.loop-given.invariant.2),
+      c.in_ok-given.ensures.no_fault ∙ c.loop-given.invariant.3,
     )
