@@ -38,6 +38,10 @@ fn expect_faults(rt: &impl Abort, alloc: Global, rows: &[(i64, usize, u16)]) -> 
     Ok(())
 }
 
+fn is_event(root: &Root) -> bool {
+    matches!(root, Root::Event)
+}
+
 const WRITES: [(i64, usize, u16); 6] = [
     (0, 0, 0),
     (65_535, 127, 0),
@@ -56,6 +60,7 @@ fn what_an_assignment_writes(rt: HostRuntime) -> Result<(), Memory> {
         patterns: Names::new(Vec::new(alloc)),
     });
     let roots = written_roots(alloc, &script.items)?;
-    assert!(rt; matches!(roots.as_slice(), [Root::Event]));
+    let first = roots.as_slice().first().map(|root| is_event(root));
+    assert!(rt; first.unwrap_or(false) && roots.as_slice().len() == 1);
     Ok(())
 }
