@@ -16,7 +16,7 @@ use Rattle.vrl_judge.specs.declared.ends.Returned.{Returned}
 use Rattle.vrl_check.specs.declared.judged.Ending.{Ending}
 use Rattle.vrl_check.specs.declared.judged.Judged.{Judged}
 use Rattle.vrl_judge.specs.declared.outcome.Outcome.{Outcome}
-use Rattle.vrl_judge.proofs.RootKinds.{either_root}
+use Rattle.vrl_state.proofs.Limits.{either_root}
 use Rattle.vrl_judge.proofs.Joining.{way_known}
 
 -- the ends of a script as they are answered: without an error a dead state stands for it

@@ -22,7 +22,7 @@ use Rattle.vrl_check.proofs.Capable.{first_argument_can, other_arguments_can}
 use Rattle.vrl_judge.proofs.Parts.{behind_with, fails_as}
 use Rattle.vrl_check.proofs.Partway.{can_at, part_common}
 use Rattle.vrl_judge.proofs.Gathering.{part_are, part_then, value_ends, value_gathered}
-use Rattle.vrl_check.proofs.Sizes.{args_size, expr_size}
+use Rattle.vrl_syntax.proofs.PartSizes.{args_size, expr_size}
 use Rattle.vrl_check.proofs.Told.{judges_at}
 
 abbrev pub place_of : Argument → Span × Expr

@@ -27,8 +27,9 @@ use Rattle.vrl_judge.specs.declared.checker.Checker.{Checker}
 use Rattle.vrl_judge.specs.declared.ends.Ends.{Ends}
 use Rattle.vrl_judge.specs.declared.outcome.Outcome.{Outcome}
 use Rattle.vrl_check.proofs.Capable.{neither, none_of_both}
-use Rattle.vrl_judge.proofs.RootKinds.{either_root, never_either, never_root}
-use Rattle.vrl_check.proofs.Sizes.{arms_size}
+use Rattle.vrl_state.proofs.Limits.{either_root}
+use Rattle.vrl_judge.proofs.RootKinds.{never_either, never_root}
+use Rattle.vrl_syntax.proofs.PartSizes.{arms_size}
 use Rattle.vrl_judge.proofs.Told.{as_seen, gathers_both, gathers_moved, gathers_reported, told, told_of, Gathers, IsTold}
 use Rattle.vrl_check.proofs.Told.{block_at, told_block, told_expr, IsToldBlock, IsToldExpr}
 use Rattle.vrl_judge.proofs.Joining.{join_none, no_ends_are}

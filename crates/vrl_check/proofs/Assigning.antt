@@ -21,7 +21,8 @@ use Rattle.vrl_judge.specs.declared.checker.Checker.{Checker}
 use Rattle.vrl_judge.specs.declared.ends.Ends.{Ends}
 use Rattle.vrl_judge.specs.declared.outcome.Outcome.{Outcome}
 use Rattle.vrl_judge.proofs.Parts.{reported_judged}
-use Rattle.vrl_judge.proofs.RootKinds.{either_root, value_root}
+use Rattle.vrl_state.proofs.Limits.{either_root}
+use Rattle.vrl_judge.proofs.RootKinds.{value_root}
 use Rattle.vrl_check.proofs.Told.{judges_at, told_expr, IsToldExpr}
 use Rattle.vrl_judge.proofs.Assigning.{not_absent}
 use Rattle.vrl_value.specs.declared.value.Tag.TheVariants as tag

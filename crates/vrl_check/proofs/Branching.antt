@@ -21,7 +21,8 @@ use Rattle.vrl_judge.specs.declared.checker.Checker.{Checker}
 use Rattle.vrl_judge.specs.declared.ends.Ends.{Ends}
 use Rattle.vrl_judge.specs.declared.outcome.Outcome.{Outcome}
 use Rattle.vrl_judge.proofs.Parts.{are_ends_of, behind_with, is_behind, reported_judged, returns_but_fail}
-use Rattle.vrl_judge.proofs.RootKinds.{either_root, never_root, or_else_root, scalar_root}
+use Rattle.vrl_state.proofs.Limits.{either_root}
+use Rattle.vrl_judge.proofs.RootKinds.{never_root, or_else_root, scalar_root}
 use Rattle.vrl_judge.proofs.Told.{gathers_codes, gathers_moved, gathers_two, has_gathered, IsTold}
 use Rattle.vrl_check.proofs.Told.{judges_at, told_expr, IsToldExpr}
 use Rattle.vrl_judge.proofs.Joining.{branch_alive, no_ends_are}

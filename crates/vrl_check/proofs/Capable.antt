@@ -13,7 +13,7 @@ use Rattle.vrl_check.specs.Calls.{expr_holds_closure_call, exprs_hold_closure_ca
 use Rattle.vrl_syntax.specs.Calls.{takes_closure}
 use Rattle.vrl_check.specs.Judgement.{pair_values}
 use Rattle.vrl_check.specs.Walking.{ArgumentsCanBeJudged, ArmsCanBeJudged, CanBeJudged, ElseCanBeJudged, FormCanBeJudged, ItemsCanBeJudged, PairsCanBeJudged}
-use Rattle.vrl_check.proofs.Sizes.{expr_size, exprs_size, pairs_size}
+use Rattle.vrl_syntax.proofs.PartSizes.{expr_size, exprs_size, pairs_size}
 
 -- ---- neither of two
 

@@ -16,5 +16,4 @@ pub mod Determined
 pub mod Emptied
 pub mod Forms
 pub mod Partway
-pub mod Sizes
 pub mod Told

@@ -19,7 +19,7 @@ use Rattle.vrl_check.proofs.Capable.{first_can, rest_can, values_can, values_siz
 use Rattle.vrl_judge.proofs.Containers.{kinds_in, names_in}
 use Rattle.vrl_judge.proofs.Parts.{behind_with}
 use Rattle.vrl_judge.proofs.RootKinds.{array_root, object_root, scalar_root}
-use Rattle.vrl_check.proofs.Sizes.{expr_size, exprs_size, pairs_size}
+use Rattle.vrl_syntax.proofs.PartSizes.{expr_size, exprs_size, pairs_size}
 use Rattle.vrl_check.proofs.Told.{judges_at}
 use Rattle.vrl_judge.proofs.Joining.{common}
 use Rattle.vrl_judge.proofs.Gathering.{part_are, part_then, value_ends, value_gathered, with_kind_of}

@@ -8,7 +8,8 @@ use Rattle.vrl_judge.specs.Rules.{settled_kind}
 use Rattle.vrl_judge.specs.Judging.{kept_unless, known_on, no_ends, settled_ends, way, AreEnds, AreJoinedReturns, HaveCommonScopes, IsReturnIn, IsWay}
 use Rattle.vrl_judge.specs.declared.ends.Ends.{Ends}
 use Rattle.vrl_judge.specs.declared.ends.Returned.{Returned}
-use Rattle.vrl_judge.proofs.RootKinds.{either_never, either_root, either_turned, never_either, never_root}
+use Rattle.vrl_state.proofs.Limits.{either_root}
+use Rattle.vrl_judge.proofs.RootKinds.{either_never, either_turned, never_either, never_root}
 use Rattle.std.specs.FinMap as map
 
 -- ---- joins of what is known

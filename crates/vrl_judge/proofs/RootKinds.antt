@@ -1,60 +1,33 @@
 -- The kinds that a judgement names can be those of roots: they are within the limits, and never absent.
-use Rattle.std.proofs.Common.{◌≡◌, ◌≢◌, ℕ, pos, negsuc, inl, inr, Bool, true, false, ◌||◌, ◌&&◌, List, [], ◌∷◌, refl, sym, ap, ◌∙◌, subst, ⊎_elim, arith}
-use Rattle.std.proofs.lemmas.Bool.{cases_lt, true≢false}
+use Rattle.std.proofs.Common.{◌≡◌, ◌≢◌, ℕ, pos, negsuc, inl, inr, Bool, true, false, ◌||◌, ◌&&◌, List, [], ◌∷◌, refl, sym, ap, ◌∙◌, subst, arith}
+use Rattle.std.proofs.lemmas.Bool.{true≢false}
 use Rattle.vrl_value.specs.Look.{Step, field, place}
 use Rattle.vrl_value.specs.Tree.{Tree, string, integer, boolean, null, timestamp, regex, array, object}
 use Rattle.vrl_value.specs.declared.value.Tag.{Tag}
 use Rattle.vrl_path.specs.declared.path.Step.TheVariants.{Field, Place}
-use Rattle.vrl_kind.specs.Canonical.{any_kind, never_kind, IsCanonical, ListIsCanonical, ObjectIsCanonical}
+use Rattle.vrl_kind.specs.Canonical.{any_kind, never_kind}
 use Rattle.vrl_kind.specs.Change.{Sets}
-use Rattle.vrl_kind.specs.Count.{nodes, levels}
-use Rattle.vrl_kind.specs.Cut.{IsCut, flat, flat_list, flat_object, level_limit, node_limit}
-use Rattle.vrl_kind.specs.KindTree.{KindTree, kind, ListTree, no_list, list_part, ObjectTree, no_object, object_part}
+use Rattle.vrl_kind.specs.Cut.{IsCut}
+use Rattle.vrl_kind.specs.KindTree.{KindTree}
 use Rattle.vrl_kind.specs.Kinds.{found_at, root_tags, tags_at}
 use Rattle.vrl_kind.specs.Overlay.{overlaid_at}
 use Rattle.vrl_kind.specs.Tags.{Tags, only, same_tag}
 use Rattle.vrl_place.specs.Read.{Allowed, allowed, read, read_step}
 use Rattle.vrl_place.specs.Sets.{is_alone}
-use Rattle.vrl_state.specs.States.{either, IsCutOf, IsEither, IsPresent, IsRootKind}
+use Rattle.vrl_state.specs.States.{IsCutOf, IsEither, IsPresent, IsRootKind}
 use Rattle.vrl_judge.specs.Rules.{array_at, object_at, or_else_at, scalars_at, settled_kind, table_tags, IsMerged, IsMergedIf, IsReadAt, IsScalar}
 use Rattle.vrl_judge.specs.Judging.{table_rule}
 use Rattle.vrl_judge.specs.declared.tables.Table.{Table}
+use Rattle.vrl_state.proofs.Limits.{cut_root, sets_root}
 use Rattle.vrl_judge.proofs.Scalars.{absent_unlisted}
 use Rattle.vrl_value.specs.declared.value.Tag.TheVariants as tag
 use Rattle.vrl_path.specs.declared.path.Step as steps
 
--- ---- what is cut
-
-pub list_is_canonical : (l : ListTree) → ListIsCanonical (flat_list l)
-list_is_canonical no_list = tt
-list_is_canonical (list_part ps r) = (tt, tt, tt)
-
-pub object_is_canonical : (o : ObjectTree) → ObjectIsCanonical (flat_object o)
-object_is_canonical no_object = tt
-object_is_canonical (object_part fs r) = (tt, tt, tt)
-
-pub flat_root : (K : KindTree) → IsPresent K → IsRootKind (flat K)
-flat_root (kind s no_list no_object) h = record { canonical = (tt, tt); present = h; nodes = omega arith; levels = omega arith }
-flat_root (kind s no_list (object_part fs r)) h = record { canonical = (tt, object_is_canonical (object_part fs r)); present = h; nodes = omega arith; levels = omega arith }
-flat_root (kind s (list_part ps q) no_object) h = record { canonical = (list_is_canonical (list_part ps q), tt); present = h; nodes = omega arith; levels = omega arith }
-flat_root (kind s (list_part ps q) (object_part fs r)) h = record { canonical = (list_is_canonical (list_part ps q), object_is_canonical (object_part fs r)); present = h; nodes = omega arith; levels = omega arith }
-
--- a kind that is never absent, cut
-pub cut_root : (K M : KindTree) → IsCanonical K → IsPresent K → IsCut K M → IsRootKind M
-cut_root K M canonical present c =
-    ⊎_elim (λ many. subst IsRootKind (sym (c.too_many many)) (flat_root K present))
-    (λ few. ⊎_elim (λ deep. subst IsRootKind (sym (c.too_deep deep)) (flat_root K present))
-    (λ low. subst IsRootKind (sym (c.kept few low)) (record { canonical = canonical; present = present; nodes = few; levels = low })) (cases_lt level_limit (levels K)))
-    (cases_lt node_limit (nodes K))
-
-pub sets_root : (A : Sets) (M : KindTree) → IsCutOf A M → A [] tag.Absent ≡ false → IsRootKind M
-sets_root A M c present = cut_root c.whole M c.canonical (c.tags [] tag.Absent ∙ present) c.cut
+-- ---- what stays, every kind, and none
 
 -- a root's kind stays as it is
 pub kept_root : (K : KindTree) → IsRootKind K → IsCut K K
 kept_root K is = record { kept = λ few low. refl; too_many = λ many. absurd (omega (arith, many, is.nodes)); too_deep = λ deep. absurd (omega (arith, deep, is.levels)) }
-
--- ---- every value, and none
 
 pub any_root : IsRootKind any_kind
 any_root = record { canonical = ((tt, tt, tt), (tt, tt, tt)); present = refl; nodes = omega arith; levels = omega arith }
@@ -63,9 +36,6 @@ pub never_root : IsRootKind never_kind
 never_root = record { canonical = (tt, tt); present = refl; nodes = omega arith; levels = omega arith }
 
 -- ---- either kind
-
-pub either_root : (K L M : KindTree) → IsRootKind K → IsRootKind L → IsEither K L M → IsRootKind M
-either_root K L M k l is = sets_root (either K L) M is (ap (λ b. b || tags_at L [] tag.Absent) k.present ∙ l.present)
 
 pub never_allows : (p : List Step) (t : Tag) → tags_at never_kind p t ≡ false
 never_allows [] tag.Text = refl

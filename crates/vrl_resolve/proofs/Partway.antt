@@ -13,7 +13,7 @@ use Rattle.vrl_syntax.specs.declared.tree.Expr.{Expr as CodeExpr}
 use Rattle.vrl_syntax.specs.declared.tree.Form.{the_lemmas}
 use Rattle.vrl_store.specs.Asked.{is_last}
 use Rattle.vrl_store.specs.StoreView.{Names}
-use Rattle.vrl_store.proofs.Sizes.{args_size, arms_size, expr_size, exprs_size, pairs_size}
+use Rattle.vrl_syntax.proofs.PartSizes.{args_size, arms_size, expr_size, exprs_size, pairs_size}
 use Rattle.vrl_resolve.specs.Linked as linked
 use Rattle.vrl_resolve.specs.Linked.{arm_of as linked_arm, Linked, Parts, parts, no_parts, linked_of, parts_of_list, pairs_of_list, arms_of_list, ArmTree}
 use Rattle.vrl_resolve.specs.Linking.{names_in, AreArgsLinked, AreArmsLinked, AreItemsLinked, AreLinked, ArePairsLinked, IsBeginning, IsLinked, Links, none_linked, one_linked, no_item, one_item, no_pair, one_pair, no_arm, one_arm, no_argument, one_argument}

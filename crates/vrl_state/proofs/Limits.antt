@@ -75,7 +75,7 @@ removed_present A (s ∷ r) = refl
 pub removed_root : (K M : KindTree) (p : List Step) → IsRootKind K → IsCutOf (remove (tags_at K) p) M → IsRootKind M
 removed_root K M p is c = sets_root _ M c (removed_present (tags_at K) p ∙ is.present)
 
-either_root : (K L M : KindTree) → IsRootKind K → IsRootKind L → IsEither K L M → IsRootKind M
+pub either_root : (K L M : KindTree) → IsRootKind K → IsRootKind L → IsEither K L M → IsRootKind M
 either_root K L M k l c = sets_root _ M c (ap (λ b. b || tags_at L [] tag.Absent) k.present ∙ l.present)
 
 -- ---- of all roots

@@ -5,7 +5,6 @@ pub mod LastEnded
 pub mod Left
 pub mod MapsOf
 pub mod Removal
-pub mod Sizes
 pub mod Started
 pub mod StoreReads
 pub mod Taken

@@ -1,2 +1,3 @@
+pub mod PartSizes
 mod Sizes
 mod Walked

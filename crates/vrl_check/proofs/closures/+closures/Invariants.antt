@@ -1,7 +1,7 @@
 use Rattle.std.proofs.Common.{◌≡◌, ◌≤◌, ◌+◌, ◌*◌, drop, option_map}
 use Rattle.vrl_syntax.specs.View.{args_of, args_view, arms_of, arms_view, call_of, closure_in, closure_of, else_of, expr_of, exprs_of, exprs_view, pairs_of, pairs_view}
 use Rattle.vrl_check.specs.Calls.{args_hold_closure_call, arms_hold_closure_call, exprs_hold_closure_call, pairs_hold_closure_call}
-use Rattle.vrl_check.proofs.Sizes.{args_size, arms_size, closure_size, else_size, expr_size, exprs_size, form_size, pairs_size}
+use Rattle.vrl_syntax.proofs.PartSizes.{args_size, arms_size, closure_size, else_size, expr_size, exprs_size, form_size, pairs_size}
 use Rattle.vrl_check.proofs.closures.+closures.Given as goal
 
 abbrev pub decreases-args_hold_closure_call : goal.decreases-args_hold_closure_call

@@ -1,7 +1,7 @@
 use Rattle.std.proofs.Common.{◌≡◌, ◌≤◌, ◌+◌, ◌*◌, ◌++◌, drop}
 use Rattle.vrl_syntax.specs.View.{args_of, args_view, arms_of, arms_view, call_of, expr_of, exprs_of, exprs_view, pairs_of, pairs_view}
 use Rattle.vrl_check.specs.Empties.{args_empties, arms_empties, exprs_empties, pairs_empties}
-use Rattle.vrl_check.proofs.Sizes.{args_size, arms_size, expr_size, exprs_size, form_size, pairs_size}
+use Rattle.vrl_syntax.proofs.PartSizes.{args_size, arms_size, expr_size, exprs_size, form_size, pairs_size}
 use Rattle.vrl_check.proofs.empties.+empties.Given as goal
 
 abbrev pub decreases-add_args : goal.decreases-add_args

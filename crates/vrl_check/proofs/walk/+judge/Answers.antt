@@ -10,7 +10,7 @@ use Rattle.vrl_syntax.specs.declared.tree.Form.{the_lemmas}
 use Rattle.vrl_check.specs.Walking.{CanBeJudged, FormCanBeJudged, IsArmBehind, IsGivenAs, ItemsCanBeJudged, ElseCanBeJudged, IsElseAs}
 use Rattle.vrl_check.proofs.Capable.{form_can, abort_can, arguments_can, array_can, assign_can, binary_can, block_can, both_can, conditional_can, group_can, merge_can, negation_can, object_can, query_can, return_can}
 use Rattle.vrl_check.proofs.Forms.{expr_passed, expr_reached, block_given, group_given, query_given, block_passed, block_reached, in_block, negation_given, here_are, operands_given, beside_given, both_common, equality_given, operands_are, table_given, merge_given, merge_into_given, merge_into_judged, place_are}
-use Rattle.vrl_check.proofs.Sizes.{expr_size, form_size, arms_size, else_size, exprs_size}
+use Rattle.vrl_syntax.proofs.PartSizes.{expr_size, form_size, arms_size, else_size, exprs_size}
 use Rattle.vrl_value.specs.View.{tree_of}
 use Rattle.vrl_check.proofs.Partway.{can_at, else_at, form_at, items_at, array_can_next, array_common, array_first, array_given, array_next, next_item, no_item_left, array_fewer, next_pair, no_pair_left, object_can_next, object_common, object_first, object_given, object_next, object_fewer, sequence_can_next, sequence_common, sequence_end, sequence_first, sequence_next, sequence_fewer}
 use Rattle.vrl_check.specs.Judgement.{span_of}

@@ -1,6 +1,6 @@
 use Rattle.std.proofs.Common.{◌+◌, ◌*◌, option_map, drop}
 use Rattle.vrl_syntax.specs.View.{args_of, args_view, arm_of, arms_of, call_of, else_of, expr_of, exprs_of, form_of, pairs_of, exprs_view, pairs_view, arms_view}
-use Rattle.vrl_check.proofs.Sizes.{args_size, arms_size, else_size, expr_size, exprs_size, form_size, pairs_size}
+use Rattle.vrl_syntax.proofs.PartSizes.{args_size, arms_size, else_size, expr_size, exprs_size, form_size, pairs_size}
 use Rattle.vrl_check.proofs.Partway.{IsArrayPartway, IsObjectPartway, IsSequencePartway}
 use Rattle.vrl_check.proofs.Arguments.{IsArgumentsPartway}
 use Rattle.vrl_check.proofs.Arms.{AreJudged}

@@ -1,7 +1,7 @@
 use Rattle.std.proofs.Common.{◌≡◌, ◌≤◌, ◌+◌, ◌*◌, drop}
 use Rattle.vrl_syntax.specs.ErrorAssignments.{in_args, in_arms, in_exprs, in_pairs}
 use Rattle.vrl_syntax.specs.View.{args_of, args_view, arms_of, arms_view, call_of, expr_of, exprs_of, exprs_view, pairs_of, pairs_view}
-use Rattle.vrl_store.proofs.Sizes.{args_size, arms_size, expr_size, exprs_size, form_size, pairs_size}
+use Rattle.vrl_syntax.proofs.PartSizes.{args_size, arms_size, expr_size, exprs_size, form_size, pairs_size}
 use Rattle.vrl_store.proofs.empties.EmptyTags.+pass.Given as goal
 
 abbrev pub decreases-pass_args : goal.decreases-pass_args
