@@ -80,6 +80,9 @@ pub fn remap<R: Threads + Sync, F: Store, S: Source, O: Sink, E: Sink, C: Clock>
     ensures read_fault { result ≡ Status.ReadFault
         → IsLoadFailed (command words.now) (F.failures files.old)
         (F.failures files.new) ⊎ HasRisen (S.faults input.old) (S.faults input.new) }
+    // Only the script that the words name is asked of the store, so no other name joins its failures.
+    ensures loads { (F.failures files.new ≡ F.failures files.old)
+        ⊎ IsLoadFailed (command words.now) (F.failures files.old) (F.failures files.new) }
     // A script that its store fails to load is told as that, and not as want of memory.
     ensures load_fault { IsLoadFailed (command words.now) (F.failures files.old) (F.failures files.new)
         → result ≡ Status.ReadFault }
