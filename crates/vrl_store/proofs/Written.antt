@@ -97,6 +97,10 @@ same_there : (items : List (Option Value)) (n : ℕ) (w u : Value) → n < lengt
 same_there items n w u within is one =
     map_set items n (Some u) ∙ ap (λ x. set (trees_of items) n (Some x)) one ∙ sym (map_set items n (Some w)) ∙ ap trees_of (set_same items n (Some w) is)
 
+unchanged_there : (names : Names) (s : CodeStore) (n : ℕ) (w u : Value) → n < length s.variables.items → Some w ≡ get_or s.variables.items n (Some w) → tree_of u ≡ tree_of w
+    → seen names s.event (set s.variables.items n (Some u)) ≡ store_in names s
+unchanged_there names s n w u within is one = ap (λ vs. record { event = tree_of s.event; variables = variables_of names vs }) (same_there s.variables.items n w u within is one)
+
 -- in place
 pub written_in : (names : Names) (s : CodeStore) (n : ℕ) (path : List Step) (v : Tree) (w u : Value) (result : Result (Unit {0}) SetFault) → AreNames names s
     → n < length s.variables.items → Some w ≡ get_or s.variables.items n (Some w)
@@ -105,9 +109,8 @@ pub written_in : (names : Names) (s : CodeStore) (n : ℕ) (path : List Step) (v
     → IsWritten (root_of names (base.Variable n)) path v (store_in names s) (seen names s.event (set s.variables.items n (Some u))) result
 written_in names s n path v w u (Ok done) are within is ok shallow deep err = written_there names s (set s.variables.items n (Some u)) n path v (Some w) u are within is refl ok shallow
 written_in names s n path v w u (Err fault.TooDeep) are within is ok shallow deep err =
-    let same = same_there s.variables.items n w u within is err in
-    (too_deep_there names s n path v (Some w) are within is (deep refl), λ i. record { event = tree_of s.event; variables = variables_of names (same i) })
-written_in names s n path v w u (Err fault.Memory) are within is ok shallow deep err = tt
+    (too_deep_there names s n path v (Some w) are within is (deep refl), unchanged_there names s n w u within is err)
+written_in names s n path v w u (Err fault.Memory) are within is ok shallow deep err = unchanged_there names s n w u within is err
 
 pub shallow_written : (w u : Tree) (result : Result (Unit {0}) SetFault) → IsShallow w → OnOk result (IsShallow u) → OnErr result (u ≡ w) → IsShallow u
 shallow_written w u (Ok done) shallow ok err = ok
@@ -118,4 +121,4 @@ pub unwritten_in : (names : Names) (s : CodeStore) (n : ℕ) (path : List Step) 
     → is_numbered (trees_of s.variables.items) n ≡ false → (f ≡ fault.TooDeep → depth_limit < depth_of (set_tree null (plain path) v))
     → IsWritten (root_of names (base.Variable n)) path v (store_in names s) (store_in names s) (Err f)
 unwritten_in names s n path v fault.TooDeep are within absent deep = (too_deep_there names s n path v None are within (absent_at s.variables.items n within absent) (deep refl), refl)
-unwritten_in names s n path v fault.Memory are within absent deep = tt
+unwritten_in names s n path v fault.Memory are within absent deep = refl

@@ -121,11 +121,11 @@ IsBase s (base.Variable number) = number < count_of s
 abbrev pub IsFront : List ℕ → List ℕ → Type 0
 IsFront xs ys = (more : List ℕ) × (ys ≡ xs ++ more)
 
--- a value was written at a path, unless the root would be too deep; want of memory says nothing
+-- a value was written at a path; where the root would be too deep, and at want of memory, all stays as it was
 abbrev pub IsWritten : Root → List Step → Tree → Store → Store → Result (Unit {0}) SetFault → Type 0
 IsWritten root path v before after (Ok done) = (is_within (root_with root path v before) ≡ true) × (after ≡ with_value root (root_with root path v before) before)
 IsWritten root path v before after (Err fault.TooDeep) = (is_within (root_with root path v before) ≡ false) × (after ≡ before)
-IsWritten root path v before after (Err fault.Memory) = ⊤
+IsWritten root path v before after (Err fault.Memory) = after ≡ before
 
 -- only the variables with these numbers are left
 abbrev pub left_with : Names → List ℕ → Store → Store

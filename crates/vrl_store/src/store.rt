@@ -183,6 +183,7 @@ impl Store {
         requires kept { IsKept self.old }
         ensures value { IfOk result (λ value. (names : Names) → AreNames names self.old → tree_of value ≡ spec.read_in (root_of names place.now.base) place.now.path (store_in names self.old)) }
         ensures removed { OnOk result ((names : Names) → AreNames names self.old → store_in names self.new ≡ spec.removed (root_of names place.now.base) place.now.path (store_in names self.old)) }
+        ensures same { OnErr result ((names : Names) → AreNames names self.old → store_in names self.new ≡ store_in names self.old) }
         ensures kept { IsKept self.new }
         ensures front { IsFront (present_of self.old) (present_of self.new) }
         ensures as_many { count_of self.new ≡ count_of self.old }
@@ -199,6 +200,7 @@ impl Store {
         requires kept { IsKept self.old }
         ensures value { IfOk result (λ value. (names : Names) → AreNames names self.old → tree_of value ≡ spec.root_value (root_of names base) (store_in names self.old)) }
         ensures removed { OnOk result ((names : Names) → AreNames names self.old → store_in names self.new ≡ spec.removed (root_of names base) [] (store_in names self.old)) }
+        ensures same { OnErr result ((names : Names) → AreNames names self.old → store_in names self.new ≡ store_in names self.old) }
         ensures kept { IsKept self.new }
         ensures front { IsFront self.old.present.items self.new.present.items }
         ensures as_many { length self.new.variables.items ≡ length self.old.variables.items }
