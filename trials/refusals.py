@@ -1,10 +1,15 @@
 """Refuses a built program one thing after the other: an allocation, a read, a write.
 
     python3 trials/refusals.py --program PATH [--only WORD]
+    python3 trials/refusals.py --tests PATH .. [--only WORD] [--most N]
 
 Each row is a script with its lines. It is run once as it is, and then once for each allocation that this run made, which is refused: the program must end with
 the status of want of memory, and leave a front of the output and of the report that it left before. In the
 same way each read fails, and each write: then the status is that of a fault of reading or of writing. The status is 1 at a difference.
+
+With --tests each test of a crate of tests, as `rt test` builds it, is run so, where it makes at most N allocations (5,000 where none is
+given): it must go well, tell want of memory, or stop at an assertion. Which assertions these were is told; that a call with memory succeeds, and no other
+answer, is what they ask.
 
 The refusals are those of a small library, made with `cc` and put before the C library (`LD_PRELOAD`), which counts the calls of the
 program. So this runs where `cc` is found and where the program is linked to a C library that is shared.
@@ -12,6 +17,7 @@ program. So this runs where `cc` is found and where the program is linked to a C
 
 import argparse
 import os
+import signal
 import subprocess
 import sys
 import tempfile
@@ -81,7 +87,10 @@ ROWS = [
      b'{"a":"12","b":true}\n{"a":[1,{"k":"v"}],"c":5}\n{"c":"q"}\nno\n{"a":{}}\n'),
     ("many lines", b".k = {}\n.k.l = [.a, .a]\ndel(.a)", b'{"a":{"b":[1,2,"three"]},"m":"text"}\n' * 60),
 ]
-KINDS = {"allocation": (WANT_OF_MEMORY,), "read": (READ_FAULT,), "write": (WRITE_FAULT,)}
+KINDS = {"allocation": WANT_OF_MEMORY, "read": READ_FAULT, "write": WRITE_FAULT}
+
+# What a test says that ends for want of memory, by the error that it hands on.
+WANT = ("Memory", "AllocError", "AllocFailed", "OutOfMemory")
 
 
 def rows():
@@ -100,59 +109,108 @@ class Refuser:
 
     def __init__(self, program, folder):
         self.program, self.folder = os.path.abspath(program), folder
+        self.places = {name: os.path.join(folder, name) for name in ("script.vrl", "in", "out", "report")}
         self.library = os.path.join(folder, "refuser.so")
         with open(self.library + ".c", "w") as file:
             file.write(LIBRARY)
         subprocess.run(["cc", "-O1", "-shared", "-fPIC", "-o", self.library, self.library + ".c"], check=True)
 
-    def run(self, script, lines, kind="none", call=0):
-        """What a run writes and reports, its status, and whether the call was refused."""
-        for name, data in (("script.vrl", script), ("in", lines)):
-            with open(os.path.join(self.folder, name), "wb") as file:
-                file.write(data)
+    def run(self, word, kind="none", call=0):
+        """What a run with this word writes and reports, its status, and whether the call was refused."""
         seen, told = os.pipe()
         given = {**os.environ, "LD_PRELOAD": self.library, "REFUSED_KIND": kind, "REFUSED_CALL": str(call), "REFUSED_TOLD": str(told)}
-        places = [os.path.join(self.folder, name) for name in ("in", "out", "report")]
-        with open(places[0], "rb") as source, open(places[1], "wb") as output, open(places[2], "wb") as report:
-            status = subprocess.run([self.program, "script.vrl"], cwd=self.folder, env=given, pass_fds=[told], stdin=source, stdout=output, stderr=report, timeout=60).returncode
+        with open(self.places["in"], "rb") as source, open(self.places["out"], "wb") as output, open(self.places["report"], "wb") as report:
+            status = subprocess.run([self.program, word], cwd=self.folder, env=given, pass_fds=[told], stdin=source, stdout=output, stderr=report, timeout=60).returncode
         os.close(told)
         with os.fdopen(seen, "rb") as file:
             refused = bool(file.read())
-        left = []
-        for place in places[1:]:
-            with open(place, "rb") as file:
-                left.append(file.read())
-        return *left, status, refused
+        return *(self.read(name) for name in ("out", "report")), status, refused
+
+    def read(self, name):
+        with open(self.places[name], "rb") as file:
+            return file.read()
+
+    def write(self, name, data):
+        with open(self.places[name], "wb") as file:
+            file.write(data)
+
+    def allocations(self, word):
+        """How many allocations a run with this word makes."""
+        below, above = 0, 1
+        while self.run(word, "allocation", above)[3]:
+            below, above = above, above * 2
+        while above - below > 1:
+            middle = (below + above) // 2
+            below, above = (middle, above) if self.run(word, "allocation", middle)[3] else (below, middle)
+        return below
+
+
+def try_rows(refuser, only):
+    """Runs the rows with each call refused in turn, and gives the number of differences."""
+    failed, met = 0, {}
+    for name, script, lines in (it for it in rows() if only in it[0]):
+        refuser.write("script.vrl", script)
+        refuser.write("in", lines)
+        output, report, status, _ = refuser.run("script.vrl")
+        for kind, wanted in KINDS.items():
+            call, refused = 0, True
+            while refused:
+                call += 1
+                left, told, ended, refused = refuser.run("script.vrl", kind, call)
+                if refused:
+                    met[kind, ended] = met.get((kind, ended), 0) + 1
+                    wrong = ended != wanted or not (output.startswith(left) and report.startswith(told))
+                else:
+                    wrong = (left, told, ended) != (output, report, status)
+                if wrong:
+                    failed += 1
+                    print(f"{name}: {kind} {call} {'' if refused else 'not '}refused: status {ended}\n  wrote    {left!r:.200}\n  reported {told!r:.200}")
+            print(f"{name}: {call - 1} of kind {kind} refused")
+    for (kind, ended), count in sorted(met.items()):
+        print(f"{count} of kind {kind} refused ended with status {ended}")
+    return failed
+
+
+def try_tests(refuser, only, most):
+    """Runs the tests with each allocation refused in turn, and gives the number of those that ended in no way that is wanted."""
+    listed = subprocess.run([refuser.program, "--list"], capture_output=True, text=True).stdout
+    failed, sums = 0, {}
+    refuser.write("in", b"")
+    for name in (line[: -len(": test")] for line in listed.splitlines() if line.endswith(": test")):
+        count = refuser.allocations(name) if only in name else 0
+        if count > most:
+            print(f"{name}: {count} allocations, not tried")
+            continue
+        stopped = set()
+        for call in range(1, count + 1):
+            output, report, status, _ = refuser.run(name, "allocation", call)
+            lines = (report or output).decode(errors="replace").splitlines() or [""]
+            end = "went well" if status == 0 else "told" if any(word in lines[0] for word in WANT) else "stopped" if status == -signal.SIGABRT else "else"
+            sums[end] = sums.get(end, 0) + 1
+            if end == "stopped":
+                stopped.add(lines[-1])
+            if end == "else":
+                failed += 1
+                print(f"{name}: allocation {call} refused: status {status}, {lines}")
+        if only in name:
+            print(f"{name}: {count} allocations", *sorted(stopped), sep="\n  ")
+    print(*(f"{count} {end}" for end, count in sorted(sums.items())), sep=", ")
+    return failed
 
 
 def main():
     words = argparse.ArgumentParser(description=__doc__, formatter_class=argparse.RawDescriptionHelpFormatter)
-    words.add_argument("--program", required=True)
+    words.add_argument("--program")
+    words.add_argument("--tests", nargs="+", default=[])
     words.add_argument("--only", default="")
+    words.add_argument("--most", type=int, default=5000)
     words = words.parse_args()
-    failed, met = 0, {}
+    failed = 0
     with tempfile.TemporaryDirectory(dir="/dev/shm" if os.path.isdir("/dev/shm") else None) as folder:
-        refuser = Refuser(words.program, folder)
-        for name, script, lines in (it for it in rows() if words.only in it[0]):
-            output, report, status, _ = refuser.run(script, lines)
-            for kind, ends in KINDS.items():
-                call = 0
-                while True:
-                    call += 1
-                    left, told, ended, refused = refuser.run(script, lines, kind, call)
-                    if not refused:
-                        wrong = (left, told, ended) != (output, report, status)
-                    else:
-                        met[kind, ended] = met.get((kind, ended), 0) + 1
-                        wrong = not (output.startswith(left) and report.startswith(told)) or ended not in ends
-                    if wrong:
-                        failed += 1
-                        print(f"{name}: {kind} {call} {'refused' if refused else 'not refused'}: status {ended}\n  wrote    {left!r:.200}\n  reported {told!r:.200}")
-                    if not refused:
-                        break
-                print(f"{name}: {call - 1} of kind {kind} refused")
-    for (kind, ended), count in sorted(met.items()):
-        print(f"{count} of kind {kind} refused ended with status {ended}")
+        if words.program:
+            failed += try_rows(Refuser(words.program, folder), words.only)
+        for program in words.tests:
+            failed += try_tests(Refuser(program, folder), words.only, words.most)
     print(f"{failed} differences")
     return 1 if failed else 0
 
