@@ -1,7 +1,7 @@
 -- The words in which the rules of the judgement are told: kinds by their tags, what a part was judged to be, what a rule asks of it, and the
 -- codes of each form. The rules are those of the Vector Remap Language; the codes are those of its error reference, and some of this
 -- project's own. Every kind is cut, and so is every join.
-use Rattle.std.specs.Prelude.{◌≡◌, ℕ, zero, suc, Bool, true, false, ◌||◌, ◌&&◌, not, ◌==◌, List, [], ◌∷◌, ◌++◌, slice_get, Option, Some, None, is_some, bytes_eq, find, unwrap_or, if◌then◌else◌, option_map}
+use Rattle.std.specs.Prelude.{◌≡◌, ℕ, zero, suc, Bool, true, false, ◌||◌, ◌&&◌, not, List, [], ◌∷◌, ◌++◌, slice_get, Option, Some, None, is_some, bytes_eq, find, unwrap_or, if◌then◌else◌, option_map}
 use Rattle.std.specs.List.{list_any}
 use Rattle.vrl_value.specs.Look.{field, place}
 use Rattle.vrl_value.specs.declared.value.Tag.{Tag}
