@@ -50,6 +50,7 @@ is_asked-by asks asks_too before answer has asked = record {
   is_left = asked.is_left;
   moments = asked.moments;
   are_ahead = asked.are_ahead;
+  in_range = asked.in_range;
   answered = asked.answered;
 }
 

@@ -6,9 +6,9 @@ use Rattle.vrl_batch.specs.declared.work.LineOut.{LineOut}
 use Rattle.vrl_diag.specs.Rendering.{diagnostic_lines}
 use Rattle.vrl_diag.specs.declared.diagnostic.Diagnostic.{Diagnostic}
 use Rattle.vrl_resolve.specs.Program.{ProgramTree}
-use Rattle.vrl_run.specs.Answer.{Answer, answer_to, line_results, run_of}
+use Rattle.vrl_run.specs.Answer.{answer_to, line_results, run_of}
 use Rattle.vrl_run.specs.Devices.{Devices, IsAsked, IsWhole, IsWithinLimit, LeavesDevices, devices}
-use Rattle.vrl_run.specs.Request.{IsRunOf, IsSame, Request, run}
+use Rattle.vrl_run.specs.Request.{IsRunOf, IsSame, Request, RunsScript, run}
 use Rattle.vrl_run.specs.Results.{IsRun, IsRunOver, answer_of}
 use Rattle.vrl_run.specs.Status.{IsOfLines, IsUnread, IsAnswer as IsAnswerStatus, meaning_of}
 use Rattle.vrl_run.specs.declared.lines.Results.{Results}
@@ -41,6 +41,7 @@ asked_run text program diagnostics warnings before input r told is_left is = rec
   is_left = is_left;
   moments = is.moments;
   are_ahead = is.are_ahead;
+  in_range = λ runs. is.in_range;
   answered = answer_of-run warnings r _ is.is_run ∙ ap (λ w. run_of w (line_results program is.moments input)) told;
 }
 
@@ -116,10 +117,10 @@ run_is_read text items warnings status before after whole unread =
 
 -- the sinks once something was told of a request, of which the answer is just that
 pub told_leaves : (request : Request) (refusal s : Status) (bytes : List ℕ) (left : Option (List ℕ)) (taken : ℕ) (ahead : Option (ℕ → ℤ)) (output report report_after : Option (List ℕ))
-    → answer_to request (unwrap_or left []) (moments_of ahead) ≡ record { status = refusal; output = []; report = bytes } → (IsAnswerStatus s → s ≡ refusal) → ¬ IsOfLines refusal → (meaning_of s).too_long ≡ false
+    → answer_to request (unwrap_or left []) (moments_of ahead) ≡ record { status = refusal; output = []; report = bytes } → (IsAnswerStatus s → s ≡ refusal) → ¬ RunsScript request → ¬ IsOfLines refusal → (meaning_of s).too_long ≡ false
     → (s ≡ refusal → Appends report report_after bytes) → AppendsFront report report_after bytes
     → LeavesDevices (IsSame request) s (devices left taken ahead output report) (devices left taken ahead output report_after)
-told_leaves request refusal s bytes left taken ahead output report report_after is only unlined short whole front =
+told_leaves request refusal s bytes left taken ahead output report report_after is only unrun unlined short whole front =
     let asked : IsAsked (IsSame request) (devices left taken ahead output report) (record { status = refusal; output = []; report = bytes }) = record {
       request = request;
       asked = refl;
@@ -127,6 +128,7 @@ told_leaves request refusal s bytes left taken ahead output report report_after 
       is_left = some_input left;
       moments = moments_of ahead;
       are_ahead = some_moments ahead;
+      in_range = λ runs. absurd (unrun runs);
       answered = sym is;
     } in
     record {

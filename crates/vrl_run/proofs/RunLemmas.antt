@@ -1,9 +1,10 @@
 -- A run, line by line.
-use Rattle.std.proofs.Common.{◌≡◌, ◌==◌, ◌+◌, ℕ, zero, suc, List, [], ◌∷◌, ◌++◌, length, map, Bool, true, false, ◌||◌, Option, Some, None, IfSome, ℤ, pos, refl, sym, ap, ◌∙◌, append_assoc, subst, add-one, arith}
+use Rattle.std.proofs.Common.{◌≡◌, ◌==◌, ◌+◌, ◌<◌, ℕ, zero, suc, List, [], ◌∷◌, ◌++◌, length, map, Bool, true, false, ◌||◌, Option, Some, None, IfSome, ℤ, pos, refl, sym, ap, ◌∙◌, append_assoc, subst, add-one, arith}
 use Rattle.std.proofs.lemmas.Bool.Decides.{nat_tests}
 use Rattle.std.proofs.lemmas.Grind.{common_steps}
 use Rattle.std.proofs.lemmas.List.{append-nil}
 use Rattle.std.specs.List.{enumerate_from, flat_map, list_any}
+use Rattle.vrl_value.specs.Moment.{IsInRange}
 use Rattle.vrl_batch.specs.declared.work.LineOut.{LineOut}
 use Rattle.vrl_io.specs.Moments.{Advances}
 use Rattle.vrl_resolve.specs.Program.{ProgramTree}
@@ -31,6 +32,20 @@ begin-front (n ∷ ns) m moments begin = (begin.0, begin-front ns m (λ i. momen
 begin-last : (given : List ℤ) (m : ℤ) (moments : ℕ → ℤ) → Begin (given ++ m ∷ []) moments → m ≡ moments (length given)
 begin-last [] m moments begin = begin.0
 begin-last (n ∷ ns) m moments begin = begin-last ns m (λ i. moments (suc i)) begin.1
+
+-- these moments are in the range
+abbrev pub AreInRange : List ℤ → Type 0
+AreInRange [] = Unit {0}
+AreInRange (m ∷ ms) = IsInRange m × AreInRange ms
+
+in_range-push : (given : List ℤ) (m : ℤ) → AreInRange given → IsInRange m → AreInRange (given ++ m ∷ [])
+in_range-push [] m all is = (is, tt)
+in_range-push (n ∷ ns) m all is = (all.0, in_range-push ns m all.1 is)
+
+in_range-at : (given : List ℤ) (moments : ℕ → ℤ) → Begin given moments → AreInRange given → (i : ℕ) → i < length given → IsInRange (moments i)
+in_range-at [] moments begin all i below = absurd (omega (arith, below))
+in_range-at (m ∷ ms) moments begin all zero below = subst IsInRange begin.0 all.0
+in_range-at (m ∷ ms) moments begin all (suc i) below = in_range-at ms (λ i. moments (suc i)) begin.1 all.1 i (omega (arith, below))
 
 -- the moments of a clock that told no others
 abbrev moment_at : List ℤ → ℕ → ℤ
@@ -111,6 +126,7 @@ pub record IsRunTo (program : ProgramTree) (warnings : List ℕ) (input rest : L
   pub counted : length (event_lines input) ≡ length given + length (event_lines_from (suc number) rest)
   pub clock : MovesOn ahead (length given) ahead_after
   pub told : IfSome ahead (Begin given)
+  pub in_range : AreInRange given
 
 pub is_run_to-start : (program : ProgramTree) (warnings input : List ℕ) (run : Results) (ahead : Option (ℕ → ℤ)) → IsRun warnings run [] → IsRunTo program warnings input input 0 run ahead ahead
 is_run_to-start program warnings input run ahead is_run = record {
@@ -121,6 +137,7 @@ is_run_to-start program warnings input run ahead is_run = record {
   counted = omega arith;
   clock = moves_on-none ahead;
   told = told_none ahead;
+  in_range = tt;
 } where
   told_none : (ahead : Option (ℕ → ℤ)) → IfSome ahead (Begin [])
   told_none None = tt
@@ -138,11 +155,12 @@ is_run_to-blank_at program warnings input bytes line behind number run ahead aft
       counted = to.counted ∙ ap (λ lines. length to.given + length lines) left;
       clock = to.clock;
       told = to.told;
+      in_range = to.in_range;
     }
 
 is_run_to-event_at : (program : ProgramTree) (warnings input bytes line behind : List ℕ) (number : ℕ) (run run_after : Results) (ahead middle after : Option (ℕ → ℤ)) (moment : ℤ) → lines_of bytes ≡ line ∷ lines_of behind → is_blank line ≡ false
-    → IsRunTo program warnings input bytes number run ahead middle → Advances middle moment after → AddsResult run run_after (line_result program moment (suc number, line)) → IsRunTo program warnings input behind (suc number) run_after ahead after
-is_run_to-event_at program warnings input bytes line behind number run run_after ahead middle after moment first event to advances adds =
+    → IsRunTo program warnings input bytes number run ahead middle → Advances middle moment after → IsInRange moment → AddsResult run run_after (line_result program moment (suc number, line)) → IsRunTo program warnings input behind (suc number) run_after ahead after
+is_run_to-event_at program warnings input bytes line behind number run run_after ahead middle after moment first event to advances range adds =
     let r = line_result program moment (suc number, line) in
     let left = event_lines_from-event (suc number) bytes line behind first event in
     let longer = length-push to.given moment in
@@ -161,6 +179,7 @@ is_run_to-event_at program warnings input bytes line behind number run run_after
       counted = to.counted ∙ ap (λ lines. length to.given + length lines) left ∙ omega (arith, longer);
       clock = subst (λ k. MovesOn ahead k after) (sym longer) (moves_on-suc ahead middle after (length to.given) moment to.clock advances);
       told = begin-more to.given ahead middle after moment to.clock advances to.told;
+      in_range = in_range-push to.given moment to.in_range range;
     }
 
 -- a blank line is passed over
@@ -171,10 +190,10 @@ is_run_to-blank program warnings input bytes line behind number next run ahead a
 
 -- the result of the next event joins those that are done
 pub is_run_to-event : (program : ProgramTree) (warnings input bytes line behind : List ℕ) (number next : ℕ) (run run_after : Results) (ahead middle after : Option (ℕ → ℤ)) (moment : ℤ) → next ≡ suc number → lines_of bytes ≡ line ∷ lines_of behind → is_blank line ≡ false
-    → IsRunTo program warnings input bytes number run ahead middle → Advances middle moment after → AddsResult run run_after (line_result program moment (next, line)) → IsRunTo program warnings input behind next run_after ahead after
-is_run_to-event program warnings input bytes line behind number next run run_after ahead middle after moment is first event to advances =
+    → IsRunTo program warnings input bytes number run ahead middle → Advances middle moment after → IsInRange moment → AddsResult run run_after (line_result program moment (next, line)) → IsRunTo program warnings input behind next run_after ahead after
+is_run_to-event program warnings input bytes line behind number next run run_after ahead middle after moment is first event to advances range =
     subst (λ n. AddsResult run run_after (line_result program moment (n, line)) → IsRunTo program warnings input behind n run_after ahead after) (sym is)
-    (is_run_to-event_at program warnings input bytes line behind number run run_after ahead middle after moment first event to advances)
+    (is_run_to-event_at program warnings input bytes line behind number run run_after ahead middle after moment first event to advances range)
 
 -- ---- its end
 
@@ -191,11 +210,18 @@ run_at : (program : ProgramTree) (warnings input : List ℕ) (number : ℕ) (run
 run_at program warnings input number run ahead after to moments begin = subst (IsRun warnings run) (sym (to.divides moments begin ∙ append-nil to.done)) to.is_run
 
 -- each line was run at its moment
+over_at : (program : ProgramTree) (warnings input : List ℕ) (number : ℕ) (run : Results) (ahead after : Option (ℕ → ℤ)) (to : IsRunTo program warnings input [] number run ahead after) (moments : ℕ → ℤ) → Begin to.given moments
+    → IfSome ahead (λ told. (i : ℕ) → told i ≡ moments i) → IsRunOver program warnings input ahead run
+over_at program warnings input number run ahead after to moments begin told = record {
+  moments = moments;
+  are_ahead = told;
+  in_range = λ i below. in_range-at to.given moments begin to.in_range i (omega (arith, below, to.counted));
+  is_run = run_at program warnings input number run ahead after to moments begin;
+}
+
 pub run_over : (program : ProgramTree) (warnings input : List ℕ) (number : ℕ) (run : Results) (ahead after : Option (ℕ → ℤ)) → IsRunTo program warnings input [] number run ahead after → IsRunOver program warnings input ahead run
-run_over program warnings input number run None after to =
-    record { moments = moment_at to.given; are_ahead = tt; is_run = run_at program warnings input number run None after to (moment_at to.given) (begin_at to.given) }
-run_over program warnings input number run (Some first) after to =
-    record { moments = first; are_ahead = λ i. refl; is_run = run_at program warnings input number run (Some first) after to first to.told }
+run_over program warnings input number run None after to = over_at program warnings input number run None after to (moment_at to.given) (begin_at to.given) tt
+run_over program warnings input number run (Some first) after to = over_at program warnings input number run (Some first) after to first to.told (λ i. refl)
 
 -- and the clock told as many
 pub clock_over : (program : ProgramTree) (warnings input : List ℕ) (number : ℕ) (run : Results) (ahead after : Option (ℕ → ℤ)) → IsRunTo program warnings input [] number run ahead after → MovesOn ahead (length (event_lines input)) after

@@ -1,10 +1,11 @@
 -- What a call leaves in its devices, by its status.
 use Rattle.std.specs.Prelude.{◌≡◌, ℕ, ◌+◌, ◌<◌, ◌≤◌, Bool, true, false, List, length, ℤ, Option, Some, None, IfSome, IsSomeAnd, ◌⊎◌}
+use Rattle.vrl_value.specs.Moment.{IsInRange}
 use Rattle.vrl_run.specs.Answer.{Answer, answer_to}
 use Rattle.vrl_batch.specs.Gathered.{input_limit}
 use Rattle.vrl_batch.specs.Lines.{event_lines}
 use Rattle.vrl_batch.specs.Sinks.{Appends, AppendsFront}
-use Rattle.vrl_run.specs.Request.{Request}
+use Rattle.vrl_run.specs.Request.{Request, RunsScript}
 use Rattle.vrl_run.specs.Status.{IsAnswer, IsOfLines, meaning_of}
 use Rattle.vrl_run.specs.declared.status.Status.{Status}
 
@@ -33,6 +34,8 @@ pub record IsAsked (asks : Request → Type 0) (before : Devices) (answer : Answ
   pub is_left : IfSome before.left (λ bytes. bytes ≡ input)
   pub moments : ℕ → ℤ
   pub are_ahead : IfSome before.ahead (λ told. (i : ℕ) → told i ≡ moments i)
+  -- each line that is run has its moment in the range of moments
+  pub in_range : RunsScript request → (i : ℕ) → i < length (event_lines input) → IsInRange (moments i)
   pub answered : answer ≡ answer_to request input moments
 
 -- The sinks hold the whole of the answer, and the status is its own. Where lines were read, just their bytes were taken,

@@ -1,6 +1,8 @@
 -- What the results of lines are joined to.
-use Rattle.std.specs.Prelude.{◌≡◌, ℕ, ℤ, List, ◌++◌, ◌||◌, Option, IfSome, if◌then◌else◌}
+use Rattle.std.specs.Prelude.{◌≡◌, ℕ, ◌<◌, ℤ, List, ◌++◌, length, ◌||◌, Option, IfSome, if◌then◌else◌}
 use Rattle.std.specs.List.{flat_map, list_any}
+use Rattle.vrl_value.specs.Moment.{IsInRange}
+use Rattle.vrl_batch.specs.Lines.{event_lines}
 use Rattle.vrl_batch.specs.declared.work.LineOut.{LineOut}
 use Rattle.vrl_resolve.specs.Program.{ProgramTree}
 use Rattle.vrl_run.specs.Answer.{Answer, is_refused, line_results}
@@ -13,10 +15,11 @@ pub record IsRun (warnings : List ℕ) (run : Results) (results : List LineOut) 
   pub report : run.report.items ≡ warnings ++ flat_map (λ r. r.report) results
   pub marked : run.marked ≡ list_any (λ r. is_refused r.outcome) results
 
--- the lines of an input that aren't blank were run, each at its moment: the clock's, as far as it tells them
+-- the lines of an input that aren't blank were run, each at its moment, which is in the range: the clock's, as far as it tells them
 pub record IsRunOver (program : ProgramTree) (warnings input : List ℕ) (ahead : Option (ℕ → ℤ)) (run : Results) : Type 0 where
   pub moments : ℕ → ℤ
   pub are_ahead : IfSome ahead (λ told. (i : ℕ) → told i ≡ moments i)
+  pub in_range : (i : ℕ) → i < length (event_lines input) → IsInRange (moments i)
   pub is_run : IsRun warnings run (line_results program moments input)
 
 -- the result of one line more

@@ -10,7 +10,7 @@ pub returns-in-Words-clause-devices : goal.returns-in-Words-clause-devices
 returns-in-Words-clause-devices g c =
     let s = c.refuse_words.result in
     let told = c.refuse_words.ensures in
-    rw c.in-Words.is (told_leaves bad_words Usage s usage_line _ _ _ _ _ _ refl (usage_only s told.either) (λ lines. lines) (words_not_long s told.either) told.whole told.front)
+    rw c.in-Words.is (told_leaves bad_words Usage s usage_line _ _ _ _ _ _ refl (usage_only s told.either) (λ runs. runs) (λ lines. lines) (words_not_long s told.either) told.whole told.front)
 
 pub returns-in-Refused-clause-devices : goal.returns-in-Refused-clause-devices
 returns-in-Refused-clause-devices g c =
@@ -18,4 +18,4 @@ returns-in-Refused-clause-devices g c =
     let told = c.refuse_script.ensures in
     let text = c.in-Refused.text.now in
     let diagnostics = c.in-Refused.diagnostics.now in
-    rw c.in-Refused.is (told_leaves (bad_script text diagnostics) Refused s (diagnostic_lines text diagnostics) _ _ _ _ _ _ refl (refused_only s told.either) (λ lines. lines) (script_not_long s told.either) told.whole told.front)
+    rw c.in-Refused.is (told_leaves (bad_script text diagnostics) Refused s (diagnostic_lines text diagnostics) _ _ _ _ _ _ refl (refused_only s told.either) (λ runs. runs) (λ lines. lines) (script_not_long s told.either) told.whole told.front)

@@ -16,7 +16,7 @@ pub loop-rest-preserved-in_ok-add_line : goal.loop-rest-preserved-in_ok-add_line
 loop-rest-preserved-in_ok-add_line g c =
     let program = program_of c.args.script.now.program.now in
     let adds = subst (λ line. AddsResult c.loop-rest.results c.add_line.new.results (result_of_line program line)) c.in_ok-line.ensures c.in_ok-add_line.ensures in (
-      is_run_to-event _ _ _ _ _ _ c.loop-rest.number _ _ _ _ _ _ _ (add-one c.loop-rest.number) c.split_line.ensures.lines (search rules) c.loop-rest.invariant.0 c.moment.ensures adds,
+      is_run_to-event _ _ _ _ _ _ c.loop-rest.number _ _ _ _ _ _ _ (add-one c.loop-rest.number) c.split_line.ensures.lines (search rules) c.loop-rest.invariant.0 c.moment.ensures (search rules) adds,
       omega (arith, c.split_line.ensures.shorter, c.loop-rest.invariant.1),
     )
 
