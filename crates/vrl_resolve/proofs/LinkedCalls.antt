@@ -15,12 +15,11 @@ use Rattle.vrl_syntax.specs.declared.tree.Call.{Call as CodeCall, out-Call}
 use Rattle.vrl_syntax.specs.declared.tree.Closure.{Closure as CodeClosure}
 use Rattle.vrl_syntax.specs.declared.tree.Form.{the_lemmas}
 use Rattle.vrl_table.specs.Binding.{binding, keywords_of, path_parameters}
-use Rattle.vrl_table.specs.Table.{function_named}
 use Rattle.vrl_store.specs.StoreView.{Names}
 use Rattle.vrl_resolve.specs.Calls as called
 use Rattle.vrl_resolve.specs.Linked as linked
 use Rattle.vrl_resolve.specs.Linked.{Linked, Parts}
-use Rattle.vrl_resolve.specs.Linking.{a_call, path_argument, path_called, AreArgsLinked, IsCalleeIn, IsCalleeOf, IsFunctionCallee, IsPathCallee, Links, LinksAny}
+use Rattle.vrl_resolve.specs.Linking.{a_call, path_argument, path_called, AreArgsLinked, IsCalleeIn, IsCalleeOf, IsPathCallee, Links, LinksAny}
 use Rattle.vrl_resolve.specs.declared.link.Linker.{Linker}
 use Rattle.vrl_resolve.specs.declared.node.Callee.{Callee}
 use Rattle.vrl_resolve.specs.declared.node.Callee.TheVariants as callee
@@ -90,14 +89,6 @@ existence_called names c d none other named is =
     callee_seen names c d (record {
       known = is.known;
       same = is.same ∙ sym (path_bound called.existence gs) ∙ rw (no_closure_there (out-Call c).closure none, other, named) refl;
-    })
-
-pub function_called : (names : Names) (c : CodeCall) (d : Callee) → is_some (out-Call c).closure ≡ false → is_del (out-Call c).name ≡ false → is_exists (out-Call c).name ≡ false → IsFunctionCallee (function_named (out-Call c).name) (args_of (out-Call c).args) d
-    → IsCalleeIn names (call_of c) d
-function_called names c d none other another is =
-    callee_seen names c d (record {
-      known = is.known _;
-      same = is.same names ∙ rw (no_closure_there (out-Call c).closure none, other, another) refl;
     })
 
 pub nothing_called : (names : Names) (c : CodeCall) → is_some (out-Call c).closure ≡ true → IsCalleeIn names (call_of c) callee.Nothing

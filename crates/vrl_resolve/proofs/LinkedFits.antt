@@ -32,7 +32,7 @@ use Rattle.vrl_table.specs.declared.function.Fun.{Fun}
 use Rattle.vrl_store.specs.StoreView.{Names}
 use Rattle.vrl_store.specs.declared.place.Place.{Place}
 use Rattle.vrl_resolve.specs.Calls as called
-use Rattle.vrl_resolve.specs.Calls.{are_written_right, callee_of, is_allowed_literal, is_written_right, values_of, written_at}
+use Rattle.vrl_resolve.specs.Calls.{are_written_right, is_written_right, values_of, written_at}
 use Rattle.vrl_resolve.specs.Fits.{part_at, AllFit, AreGiven, ArmsFit, ElseFits, Fits, IsAllowed, IsAllowedIf, IsCallee, IsGiven, IsTarget, PairsFit}
 use Rattle.vrl_resolve.specs.Linked as linked
 use Rattle.vrl_resolve.specs.Linked.{Linked, Parts}

@@ -1,16 +1,22 @@
 -- What the calls of a linker say of it, one behind the other.
 use Rattle.std.proofs.Common.{◌≡◌, ℕ, suc, ◌+◌, Bool, List, [], ◌∷◌, drop, map, refl, sym, ap, ◌∙◌, subst, drop-drop}
 use Rattle.std.proofs.Math.Seq.{drop-nil}
-use Rattle.std.specs.Prelude.{⊤}
+use Rattle.std.proofs.lemmas.Result.{IfOk-weaker}
+use Rattle.std.specs.Prelude.{IfOk, ⊤}
+use Rattle.std.specs.declared.result.Result.{Result}
 use Rattle.std.specs.String.{string_bytes}
+use Rattle.vrl_value.specs.declared.memory.Memory.{Memory}
 use Rattle.vrl_value.specs.declared.value.Tag.{Tag}
 use Rattle.vrl_syntax.specs.ErrorAssignments.{in_expr, other_tags}
 use Rattle.vrl_syntax.specs.Tree.{Expr, expr, Form, group}
+use Rattle.vrl_syntax.specs.View.{expr_of}
+use Rattle.vrl_syntax.specs.declared.tree.Expr.{Expr as CodeExpr}
 use Rattle.vrl_diag.specs.declared.diagnostic.Span.{Span}
 use Rattle.vrl_store.specs.StoreView.{Names}
-use Rattle.vrl_resolve.specs.Linked.{Linked}
+use Rattle.vrl_resolve.specs.Linked.{Linked, linked_of}
 use Rattle.vrl_resolve.specs.Linking.{names_in, a_group, stands, IsBeginning, IsLinked, IsLinkedForm, Links, LinksAny, LinksForm, Numbers}
 use Rattle.vrl_resolve.specs.declared.link.Linker.{Linker}
+use Rattle.vrl_resolve.specs.declared.node.Node.{Node}
 use Rattle.vrl_resolve.proofs.Begins.{begins_behind, begins_itself}
 
 pub numbers_weaker : {a b : Linker} {P Q : Names → Type 0} → ((names : Names) → P names → Q names) → Numbers a b P → Numbers a b Q
@@ -71,6 +77,15 @@ form_stands {a} {b} {asked} {n} e span f is links =
 
 pub any_stands : {a b : Linker} {asked : Bool} {n : Linked} (e : Expr) (span : Span) (f : Form) → e ≡ expr span f → LinksAny a b f n → Links a b (in_expr e) (λ names tags. IsLinked names tags asked e n)
 any_stands {a} {b} {asked} {n} e span f is links = form_stands e span f is (record { grows = links.grows; behind = links.behind; so = λ names begins. links.so names begins asked })
+
+-- what the function of a form gives is the node of the expression; the form may have a part that was taken out of a box
+pub form_given : {A : Type 0} {part : A} (a b : Linker) (asked : Bool) (r : Result Node Memory) (e : CodeExpr) (f : A → Form) (box : A) → IfOk r (λ node. LinksForm a b asked (f part) (linked_of node)) → part ≡ box → expr_of e ≡ expr e.span (f box)
+    → IfOk r (λ node. Links a b (in_expr (expr_of e)) (λ names tags. IsLinked names tags asked (expr_of e) (linked_of node)))
+form_given a b asked r e f box given here is = IfOk-weaker r _ _ (λ node links. form_stands (expr_of e) e.span _ (is ∙ ap (λ x. expr e.span (f x)) (sym here)) links) given
+
+pub any_given : {A : Type 0} {part : A} (a b : Linker) (asked : Bool) (r : Result Node Memory) (e : CodeExpr) (f : A → Form) (box : A) → IfOk r (λ node. LinksAny a b (f part) (linked_of node)) → part ≡ box → expr_of e ≡ expr e.span (f box)
+    → IfOk r (λ node. Links a b (in_expr (expr_of e)) (λ names tags. IsLinked names tags asked (expr_of e) (linked_of node)))
+any_given a b asked r e f box given here is = IfOk-weaker r _ _ (λ node links. any_stands (expr_of e) e.span _ (is ∙ ap (λ x. expr e.span (f x)) (sym here)) links) given
 
 -- ---- a form is made
 

@@ -1,6 +1,5 @@
 -- What the loops of a linker have linked so far, told by what may still come.
-use Rattle.std.proofs.Common.{◌≡◌, ℕ, ◌+◌, ◌<◌, ◌≤◌, Bool, true, false, ◌&&◌, List, [], ◌∷◌, ◌++◌, ◌==◌, length, map, drop, get_or, refl, sym, ap, ◌∙◌, subst, drop-drop, arith, rules}
-use Rattle.std.proofs.lemmas.Bool.Decides.{nat_tests}
+use Rattle.std.proofs.Common.{◌≡◌, ℕ, ◌+◌, ◌<◌, ◌≤◌, Bool, true, ◌&&◌, List, [], ◌∷◌, ◌++◌, length, map, drop, get_or, refl, sym, ap, ◌∙◌, subst, drop-drop, arith, rules}
 use Rattle.std.proofs.lemmas.List.{at_drop_all, at_drop_more, map-append}
 use Rattle.vrl_value.specs.declared.value.Tag.{Tag}
 use Rattle.vrl_syntax.specs.ErrorAssignments.{in_args, in_arms, in_expr, in_exprs, in_pairs}
@@ -20,7 +19,7 @@ use Rattle.vrl_resolve.specs.Linking.{names_in, AreArgsLinked, AreArmsLinked, Ar
 use Rattle.vrl_resolve.specs.declared.link.Linker.{Linker}
 use Rattle.vrl_resolve.specs.declared.node.Arm.{Arm}
 use Rattle.vrl_resolve.specs.declared.node.Node.{Node}
-use Rattle.vrl_resolve.proofs.Begins.{begins_behind, begins_itself}
+use Rattle.vrl_resolve.proofs.Begins.{begins_behind}
 use Rattle.vrl_resolve.proofs.Links.{links_then}
 
 -- ---- of any parts
@@ -30,9 +29,6 @@ pub record IsPartway (before now : Linker) (whole left : ℕ) (Leads : Names →
   pub grows : IsBeginning (names_in before) (names_in now)
   pub behind : drop left now.tags.left.now ≡ drop whole before.tags.left.now
   pub leads : (names : Names) → IsBeginning (names_in now) names → Leads names before.tags.left.now now.tags.left.now
-
-partway_first : (before : Linker) (whole : ℕ) {Leads : Names → List Tag → List Tag → Type 0} → ((names : Names) → Leads names before.tags.left.now before.tags.left.now) → IsPartway before before whole whole Leads
-partway_first before whole leads = record { grows = begins_itself (names_in before); behind = refl; leads = λ names begins. leads names }
 
 partway_next : {before now after : Linker} {whole m rest : ℕ} {Leads Follows : Names → List Tag → List Tag → Type 0} {P : Names → List Tag → Type 0}
     → IsPartway before now whole (m + rest) Leads → Links now after m P → ((names : Names) (old new : List Tag) → Leads names old new → P names new → Follows names old (drop m new)) → IsPartway before after whole rest Follows
@@ -94,11 +90,6 @@ pub record IsArrayPartway (before now : Linker) (whole left : Exprs) (ns : List 
   pub linked : IsPartway before now (in_exprs whole) (in_exprs left) (ArrayLeads whole left ns)
   pub fewer : exprs_size left ≤ exprs_size whole
 
-pub array_first : (before : Linker) (whole left : Exprs) (ns : List Linked) → left ≡ whole → ns ≡ [] → IsArrayPartway before before whole left ns
-array_first before whole left ns all none =
-    subst (λ l. IsArrayPartway before before whole l ns) (sym all) (subst (IsArrayPartway before before whole whole) (sym none)
-    (record { linked = partway_first before (in_exprs whole) (λ names more linked. linked); fewer = omega arith }))
-
 pub array_next : (before now after : Linker) (whole left rest : Exprs) (e : Expr) (ns ms : List Linked) (n : Linked) → left ≡ exprs e rest → ms ≡ ns ++ (n ∷ [])
     → IsArrayPartway before now whole left ns → Links now after (in_expr e) (λ names tags. IsLinked names tags true e n) → IsArrayPartway before after whole rest ms
 array_next before now after whole left rest e ns ms n is more so_far one =
@@ -115,9 +106,6 @@ array_end before now whole left ns is so_far =
     let here = subst (λ l. IsArrayPartway before now whole l ns) is so_far in
     partway_end here.linked (λ names old new leads. subst (AreLinked names old whole) (parts_ended ns) (leads no_parts none_linked))
 
-pub array_fewer : (before now : Linker) (whole left rest : Exprs) (e : Expr) (ns : List Linked) → left ≡ exprs e rest → IsArrayPartway before now whole left ns → expr_size e ≤ exprs_size whole
-array_fewer before now whole left rest e ns is so_far = let fewer : exprs_size (exprs e rest) ≤ exprs_size whole = subst (λ l. exprs_size l ≤ exprs_size whole) is so_far.fewer in omega (arith, fewer)
-
 -- ---- items
 
 abbrev ItemsLead : Bool → Exprs → Exprs → List Linked → Names → List Tag → List Tag → Type 0
@@ -126,11 +114,6 @@ ItemsLead asked whole left ns names old new = (more : Parts) → AreItemsLinked 
 pub record IsItemsPartway (before now : Linker) (asked : Bool) (whole left : Exprs) (ns : List Linked) : Type 0 where
   pub linked : IsPartway before now (in_exprs whole) (in_exprs left) (ItemsLead asked whole left ns)
   pub fewer : exprs_size left ≤ exprs_size whole
-
-pub items_first : (before : Linker) (asked : Bool) (whole left : Exprs) (ns : List Linked) → left ≡ whole → ns ≡ [] → IsItemsPartway before before asked whole left ns
-items_first before asked whole left ns all none =
-    subst (λ l. IsItemsPartway before before asked whole l ns) (sym all) (subst (IsItemsPartway before before asked whole whole) (sym none)
-    (record { linked = partway_first before (in_exprs whole) (λ names more linked. linked); fewer = omega arith }))
 
 pub items_next : (before now after : Linker) (asked here_asked : Bool) (whole left rest : Exprs) (e : Expr) (ns ms : List Linked) (n : Linked) → left ≡ exprs e rest → ms ≡ ns ++ (n ∷ []) → here_asked ≡ (asked && is_last rest)
     → IsItemsPartway before now asked whole left ns → Links now after (in_expr e) (λ names tags. IsLinked names tags here_asked e n) → IsItemsPartway before after asked whole rest ms
@@ -149,9 +132,6 @@ items_end before now asked whole left ns is so_far =
     let here = subst (λ l. IsItemsPartway before now asked whole l ns) is so_far in
     partway_end here.linked (λ names old new leads. subst (AreItemsLinked names old asked whole) (parts_ended ns) (leads no_parts no_item))
 
-pub items_fewer : (before now : Linker) (asked : Bool) (whole left rest : Exprs) (e : Expr) (ns : List Linked) → left ≡ exprs e rest → IsItemsPartway before now asked whole left ns → expr_size e ≤ exprs_size whole
-items_fewer before now asked whole left rest e ns is so_far = let fewer : exprs_size (exprs e rest) ≤ exprs_size whole = subst (λ l. exprs_size l ≤ exprs_size whole) is so_far.fewer in omega (arith, fewer)
-
 -- ---- arguments
 
 abbrev ArgsLead : Args → Args → List Linked → Names → List Tag → List Tag → Type 0
@@ -160,11 +140,6 @@ ArgsLead whole left ns names old new = (more : Parts) → AreArgsLinked names ne
 pub record IsArgsPartway (before now : Linker) (whole left : Args) (ns : List Linked) : Type 0 where
   pub linked : IsPartway before now (in_args whole) (in_args left) (ArgsLead whole left ns)
   pub fewer : args_size left ≤ args_size whole
-
-pub args_first : (before : Linker) (whole left : Args) (ns : List Linked) → left ≡ whole → ns ≡ [] → IsArgsPartway before before whole left ns
-args_first before whole left ns all none =
-    subst (λ l. IsArgsPartway before before whole l ns) (sym all) (subst (IsArgsPartway before before whole whole) (sym none)
-    (record { linked = partway_first before (in_args whole) (λ names more linked. linked); fewer = omega arith }))
 
 pub args_next : (before now after : Linker) (whole left rest : Args) (name : _) (span : Span) (e : Expr) (ns ms : List Linked) (n : Linked) → left ≡ arg name span e rest → ms ≡ ns ++ (n ∷ [])
     → IsArgsPartway before now whole left ns → Links now after (in_expr e) (λ names tags. IsLinked names tags true e n) → IsArgsPartway before after whole rest ms
@@ -182,9 +157,6 @@ args_end before now whole left ns is so_far =
     let here = subst (λ l. IsArgsPartway before now whole l ns) is so_far in
     partway_end here.linked (λ names old new leads. subst (AreArgsLinked names old whole) (parts_ended ns) (leads no_parts no_argument))
 
-pub args_fewer : (before now : Linker) (whole left rest : Args) (name : _) (span : Span) (e : Expr) (ns : List Linked) → left ≡ arg name span e rest → IsArgsPartway before now whole left ns → expr_size e ≤ args_size whole
-args_fewer before now whole left rest name span e ns is so_far = let fewer : args_size (arg name span e rest) ≤ args_size whole = subst (λ l. args_size l ≤ args_size whole) is so_far.fewer in omega (arith, fewer)
-
 -- ---- objects
 
 abbrev ObjectLeads : Pairs → Pairs → List (List ℕ × Linked) → Names → List Tag → List Tag → Type 0
@@ -193,11 +165,6 @@ ObjectLeads whole left ps names old new = (more : linked.Pairs) → ArePairsLink
 pub record IsObjectPartway (before now : Linker) (whole left : Pairs) (ps : List (List ℕ × Linked)) : Type 0 where
   pub linked : IsPartway before now (in_pairs whole) (in_pairs left) (ObjectLeads whole left ps)
   pub fewer : pairs_size left ≤ pairs_size whole
-
-pub object_first : (before : Linker) (whole left : Pairs) (ps : List (List ℕ × Linked)) → left ≡ whole → ps ≡ [] → IsObjectPartway before before whole left ps
-object_first before whole left ps all none =
-    subst (λ l. IsObjectPartway before before whole l ps) (sym all) (subst (IsObjectPartway before before whole whole) (sym none)
-    (record { linked = partway_first before (in_pairs whole) (λ names more linked. linked); fewer = omega arith }))
 
 pub object_next : (before now after : Linker) (whole left rest : Pairs) (key : List ℕ) (e : Expr) (ps qs : List (List ℕ × Linked)) (n : Linked) → left ≡ pair key e rest → qs ≡ ps ++ ((key, n) ∷ [])
     → IsObjectPartway before now whole left ps → Links now after (in_expr e) (λ names tags. IsLinked names tags true e n) → IsObjectPartway before after whole rest qs
@@ -215,9 +182,6 @@ object_end before now whole left ps is so_far =
     let here = subst (λ l. IsObjectPartway before now whole l ps) is so_far in
     partway_end here.linked (λ names old new leads. subst (ArePairsLinked names old whole) (pairs_ended ps) (leads linked.no_pairs no_pair))
 
-pub object_fewer : (before now : Linker) (whole left rest : Pairs) (key : List ℕ) (e : Expr) (ps : List (List ℕ × Linked)) → left ≡ pair key e rest → IsObjectPartway before now whole left ps → expr_size e ≤ pairs_size whole
-object_fewer before now whole left rest key e ps is so_far = let fewer : pairs_size (pair key e rest) ≤ pairs_size whole = subst (λ l. pairs_size l ≤ pairs_size whole) is so_far.fewer in omega (arith, fewer)
-
 -- ---- arms
 
 abbrev ArmsLead : Bool → Arms → Arms → List ArmTree → Names → List Tag → List Tag → Type 0
@@ -226,11 +190,6 @@ ArmsLead asked whole left as_ names old new = (more : linked.Arms) → AreArmsLi
 pub record IsArmsPartway (before now : Linker) (asked : Bool) (whole left : Arms) (as_ : List ArmTree) : Type 0 where
   pub linked : IsPartway before now (in_arms whole) (in_arms left) (ArmsLead asked whole left as_)
   pub fewer : arms_size left ≤ arms_size whole
-
-pub arms_first : (before : Linker) (asked : Bool) (whole left : Arms) (as_ : List ArmTree) → left ≡ whole → as_ ≡ [] → IsArmsPartway before before asked whole left as_
-arms_first before asked whole left as_ all none =
-    subst (λ l. IsArmsPartway before before asked whole l as_) (sym all) (subst (IsArmsPartway before before asked whole whole) (sym none)
-    (record { linked = partway_first before (in_arms whole) (λ names more linked. linked); fewer = omega arith }))
 
 pub arms_next : (before now middle after : Linker) (asked : Bool) (whole left rest : Arms) (predicate : Expr) (es : Exprs) (as_ bs : List ArmTree) (last : ArmTree) (n : Linked) (ns : Parts) → left ≡ arm predicate es rest → bs ≡ as_ ++ (last ∷ []) → last ≡ (n, ns)
     → IsArmsPartway before now asked whole left as_ → Links now middle (in_expr predicate) (λ names tags. IsLinked names tags true predicate n)

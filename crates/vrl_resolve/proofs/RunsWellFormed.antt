@@ -39,9 +39,6 @@ end_is count outcome end is well = tt
 none_are : (count : ℕ) (ms : Members) → ms ≡ no_members → IsWellFormed count (object ms)
 none_are count ms is = subst (λ n. IsWellFormed count (object n)) (sym is) (no_members_is count)
 
-pub none_told : (ms : Members) → ms ≡ no_members → AreToldByMap ms
-none_told ms is = λ count all. none_are count ms is
-
 variables_are : (count : ℕ) (end : End) (store : Store) (ran : Ran) → AreVariables end store ran → AreToldByMap (members_of ran.variables) → IsWellFormedStore count store
     → IsWellFormed count (object (members_of ran.variables))
 variables_are count (ended v) store ran are told is = told count (subst (λ m. (x : List ℕ) → IfSome (finite.get m x) (IsWellFormed count)) (sym are) is.variables)

@@ -1,5 +1,5 @@
 -- Steps of a walk: what is behind a part that was run.
-use Rattle.std.proofs.Common.{◌≡◌, false, ℕ, ◌+◌, ◌<◌, ◌≤◌, List, [], ◌∷◌, ◌++◌, drop, get_or, length, map, take, arith, refl, sym, ap, ◌∙◌, subst, append_assoc, append-nil}
+use Rattle.std.proofs.Common.{◌≡◌, Bool, true, false, if◌then◌else◌, ℕ, ◌+◌, ◌<◌, ◌≤◌, List, [], ◌∷◌, ◌++◌, drop, get_or, length, map, take, arith, refl, sym, ap, ◌∙◌, subst, append_assoc, append-nil}
 use Rattle.std.proofs.lemmas.List.{at_drop_all, at_drop_more, map-append}
 use Rattle.std.specs.declared.result.Result.{Result}
 use Rattle.std.specs.declared.result.Result.TheVariants.{Ok, Err}
@@ -79,6 +79,11 @@ after_stop m next store stops.Memory is = tt
 
 pub after_error : (m : Ended) (next : List ℕ → Store → Ended) (text : List ℕ) (store t : Store) (r : Result Value Stop) → m ≡ ends (error text) store → Ends (next text store) t r → Ends (on_error m next) t r
 after_error m next text store t r is rest = subst (λ e. Ends (on_error e next) t r) (sym is) rest
+
+-- ---- a node of a form whose part was taken out of a box
+
+pub of_boxed : {A : Type 0} (n : Linked) (f : A → Linked) (part box : A) → part ≡ box → n ≡ f box → n ≡ f part
+of_boxed n f part box here is = is ∙ ap f (sym here)
 
 -- ---- loops
 
@@ -218,20 +223,40 @@ pub array_stops : (x : Context) (ns : List Linked) (before : CodeStore) (store :
     → Stops (meant x (array (parts_of_list ns)) before) store stop
 array_stops x ns before store stop all = subst (λ ms. Stops (all_mean (names_in x) (setting_in x) (parts_of_list ms) [] (store_at x before)) store stop) (append-nil ns) (all [])
 
--- ---- writes that aren't done
+-- ---- writes, whose value is asked for or isn't
 
-pub assigned_stops : (target : Target) (m : Ended) (v : Tree) (store t : Store) (stop : Stop) → m ≡ ends (value v) store → ((next : Store → Ended) → Stops (writes_to target v store next) t stop) → Stops (assigned target m) t stop
-assigned_stops target m v store t stop is writes = subst (λ e. Stops (assigned target e) t stop) (sym is) (writes (λ end. ends (value v) end))
+-- the value itself, or null in its place
+asked_ends : (asked : Bool) (m : Ended) (v copy : Tree) (store : Store) → m ≡ ends (value v) store → copy ≡ (if asked then v else null) → if_asked asked m ≡ ends (value copy) store
+asked_ends true m v copy store is copied = is ∙ ap (λ w. ends (value w) store) (sym copied)
+asked_ends false m v copy store is copied = ap (if_asked false) is ∙ ap (λ w. ends (value w) store) (sym copied)
 
--- the first of two writes
-pub first_stops : (ok err : Target) (whole : Ended) (v w : Tree) (store t : Store) (stop : Stop) → whole ≡ written_both ok err v w store → ((next : Store → Ended) → Stops (writes_to ok v store next) t stop) → Stops whole t stop
-first_stops ok err whole v w store t stop is writes = subst (λ e. Stops e t stop) (sym is) (writes (λ after. writes_to err w after (λ end. ends (value v) end)))
+pub asked_stops : (asked : Bool) (m : Ended) (store : Store) (stop : Stop) → Stops m store stop → Stops (if_asked asked m) store stop
+asked_stops true m store stop is = is
+asked_stops false m store stop is = after_stop m (λ v after. ends (value null) after) store stop is
+
+pub assigned_ends : (asked : Bool) (target : Target) (m : Ended) (v copy : Tree) (store t : Store) → m ≡ ends (value v) store → copy ≡ (if asked then v else null) → ((next : Store → Ended) → writes_to target v store next ≡ next t)
+    → if_asked asked (assigned target m) ≡ ends (value copy) t
+assigned_ends asked target m v copy store t is copied writes = asked_ends asked (assigned target m) v copy t (ap (assigned target) is ∙ writes (λ end. ends (value v) end)) copied
+
+pub assigned_stops : (asked : Bool) (target : Target) (m : Ended) (v : Tree) (store t : Store) (stop : Stop) → m ≡ ends (value v) store → ((next : Store → Ended) → Stops (writes_to target v store next) t stop)
+    → Stops (if_asked asked (assigned target m)) t stop
+assigned_stops asked target m v store t stop is writes =
+    asked_stops asked (assigned target m) t stop (subst (λ e. Stops (assigned target e) t stop) (sym is) (writes (λ end. ends (value v) end)))
+
+-- both of two writes
+pub both_end : (asked : Bool) (ok err : Target) (whole : Ended) (v w copy : Tree) (store middle t : Store) → whole ≡ written_both ok err v w store → copy ≡ (if asked then v else null)
+    → ((next : Store → Ended) → writes_to ok v store next ≡ next middle) → ((next : Store → Ended) → writes_to err w middle next ≡ next t) → if_asked asked whole ≡ ends (value copy) t
+both_end asked ok err whole v w copy store middle t is copied first second =
+    asked_ends asked whole v copy t (is ∙ first (λ after. writes_to err w after (λ end. ends (value v) end)) ∙ second (λ end. ends (value v) end)) copied
+
+-- the first one isn't done
+pub first_stops : (asked : Bool) (ok err : Target) (whole : Ended) (v w : Tree) (store t : Store) (stop : Stop) → whole ≡ written_both ok err v w store → ((next : Store → Ended) → Stops (writes_to ok v store next) t stop)
+    → Stops (if_asked asked whole) t stop
+first_stops asked ok err whole v w store t stop is writes =
+    asked_stops asked whole t stop (subst (λ e. Stops e t stop) (sym is) (writes (λ after. writes_to err w after (λ end. ends (value v) end))))
 
 -- the second one
-pub second_stops : (ok err : Target) (whole : Ended) (v w : Tree) (store middle t : Store) (stop : Stop) → whole ≡ written_both ok err v w store → ((next : Store → Ended) → writes_to ok v store next ≡ next middle)
-    → ((next : Store → Ended) → Stops (writes_to err w middle next) t stop) → Stops whole t stop
-second_stops ok err whole v w store middle t stop is first second =
-    subst (λ e. Stops e t stop) (sym (is ∙ first (λ after. writes_to err w after (λ end. ends (value v) end)))) (second (λ end. ends (value v) end))
-
-pub null_stops : (m : Ended) (t : Store) (stop : Stop) → Stops m t stop → Stops (if_asked false m) t stop
-null_stops m t stop is = after_stop m (λ v after. ends (value null) after) t stop is
+pub second_stops : (asked : Bool) (ok err : Target) (whole : Ended) (v w : Tree) (store middle t : Store) (stop : Stop) → whole ≡ written_both ok err v w store → ((next : Store → Ended) → writes_to ok v store next ≡ next middle)
+    → ((next : Store → Ended) → Stops (writes_to err w middle next) t stop) → Stops (if_asked asked whole) t stop
+second_stops asked ok err whole v w store middle t stop is first second =
+    asked_stops asked whole t stop (subst (λ e. Stops e t stop) (sym (is ∙ first (λ after. writes_to err w after (λ end. ends (value v) end)))) (second (λ end. ends (value v) end)))

@@ -1,6 +1,6 @@
 -- A node as plain data: an expression whose variables are numbers, whose calls are looked up and bound, and whose error assignments have the
 -- tags of their empty values.
-use Rattle.std.specs.Prelude.{ℕ, Bool, true, false, List, [], ◌∷◌, map, Option, Some, None, option_map, Vec}
+use Rattle.std.specs.Prelude.{ℕ, Bool, List, [], ◌∷◌, map, Option, Some, None, option_map, Vec}
 use Rattle.std.specs.declared.alloc.Global.{Global}
 use Rattle.std.specs.declared.boxed.Box.{Box}
 use Rattle.vrl_value.specs.Tree.{Tree}
@@ -92,12 +92,9 @@ form_step (Form-F.Block ns) = block (parts_of_list ns.items)
 form_step (Form-F.If as_ otherwise) = conditional (arms_of_list as_.items) (else_of (option_map (λ ns. ns.items) otherwise))
 form_step (Form-F.Not n) = negation n.value
 form_step (Form-F.Binary o l r) = binary o l.value r.value
-form_step (Form-F.Assign t n) = assign true t n.value
-form_step (Form-F.Write t n) = assign false t n.value
-form_step (Form-F.Merge t n) = merge true t n.value
-form_step (Form-F.WriteMerged t n) = merge false t n.value
-form_step (Form-F.Both t u tag n) = both true t u tag n.value
-form_step (Form-F.WriteBoth t u tag n) = both false t u tag n.value
+form_step (Form-F.Assign asked t n) = assign asked t n.value
+form_step (Form-F.Merge asked t n) = merge asked t n.value
+form_step (Form-F.Both asked t u tag n) = both asked t u tag n.value
 form_step (Form-F.Call c) = c.value
 form_step (Form-F.Return n) = return_of n.value
 form_step (Form-F.Abort n) = abort_with (message_of (option_map (λ b. b.value) n))

@@ -1,5 +1,5 @@
 -- What a run of a part asks of the store that it starts in, and what it promises of how it ends and of the store that it leaves.
-use Rattle.std.specs.Prelude.{◌≡◌, ℕ, Bool, List, [], ◌++◌, length, map, Option, Some, None, Vec}
+use Rattle.std.specs.Prelude.{◌≡◌, Bool, List, [], ◌++◌, length, map, Vec}
 use Rattle.std.specs.declared.alloc.Global.{Global}
 use Rattle.std.specs.declared.result.Result.{Result}
 use Rattle.std.specs.declared.result.Result.TheVariants.{Ok, Err}
@@ -13,7 +13,7 @@ use Rattle.vrl_syntax.specs.declared.root.Target.{Target}
 use Rattle.vrl_builtin.specs.Rows.{SettingTree}
 use Rattle.vrl_builtin.specs.View.{setting_of}
 use Rattle.vrl_store.specs.Operators.{applied, is_true}
-use Rattle.vrl_store.specs.Outcomes.{Ended, ends, error, on_error, on_value, value}
+use Rattle.vrl_store.specs.Outcomes.{Ended, ends, on_value, value}
 use Rattle.vrl_store.specs.Places.{writes_to}
 use Rattle.vrl_store.specs.StoreView.{count_of, present_of, store_in, AreNames, IsFront, IsKept, Names}
 use Rattle.vrl_store.specs.Results.{Ends, Stops}

@@ -1,5 +1,5 @@
 ghost use Rattle.std.specs.Prelude.{◌≡◌, [], true, map, option_map, IfOk, OnOk, ⊤};
-ghost use Rattle.vrl_syntax.specs.ErrorAssignments.{first_tag, in_args, in_arms, in_closure, in_else, in_expr, in_exprs, in_pairs, other_tags};
+ghost use Rattle.vrl_syntax.specs.ErrorAssignments.{first_tag, in_args, in_arms, in_closure, in_else, in_expr, in_exprs, other_tags};
 ghost use Rattle.vrl_syntax.specs.Tree.{abort_with, array, assign, binary, block, both, conditional, literal, merge, negation, object, query, read, return_of};
 ghost use Rattle.vrl_syntax.specs.View.{args_of, arms_of, call_of, closure_in, closure_of, else_of, expr_of, exprs_of, message_of, pairs_of};
 ghost use Rattle.vrl_syntax.specs.declared.root.Root.TheVariants.{Name};
@@ -7,8 +7,8 @@ ghost use Rattle.vrl_value.specs.View.{tree_of};
 ghost use Rattle.vrl_store.specs.StoreView.{AreDistinct};
 ghost use Rattle.vrl_store.specs.declared.place.Base.TheVariants as base;
 ghost use Rattle.vrl_resolve.specs.Calls as called;
-ghost use Rattle.vrl_resolve.specs.Linked.{arms_view, linked_of, pairs_view, parts_view, else_of as linked_else, message_of as linked_message};
-ghost use Rattle.vrl_resolve.specs.Linking.{names_in, AreArgsLinked, AreArmsLinked, AreItemsLinked, AreLinked, ArePairsLinked, IsBaseOf, IsCalleeIn, IsElseLinked, IsLinked, IsLinkedForm, IsPathCallee, IsPlaceOf, IsTargetOf, Links, LinksAny, LinksForm, Numbers};
+ghost use Rattle.vrl_resolve.specs.Linked.{arms_view, linked_of, parts_view, else_of as linked_else};
+ghost use Rattle.vrl_resolve.specs.Linking.{names_in, AreArgsLinked, AreArmsLinked, AreItemsLinked, IsBaseOf, IsCalleeIn, IsElseLinked, IsLinked, IsPathCallee, IsPlaceOf, IsTargetOf, Links, LinksAny, LinksForm, Numbers};
 
 use crate::bound::{function_callee, path_of};
 use crate::node::{Arm, Call, Callee, Form, Node};
@@ -293,11 +293,11 @@ impl Linker<'_> {
     {
         let part = self.boxed(part)?;
         let target = self.target(target)?;
-        if is_asked {
-            Ok(Node::of(Form::Assign(target, part)))
-        } else {
-            Ok(Node::of(Form::Write(target, part)))
-        }
+        Ok(Node::of(Form::Assign {
+            is_asked,
+            target,
+            part,
+        }))
     }
 
     #[cycle(link)]
@@ -306,11 +306,11 @@ impl Linker<'_> {
     {
         let part = self.boxed(part)?;
         let target = self.target(target)?;
-        if is_asked {
-            Ok(Node::of(Form::Merge(target, part)))
-        } else {
-            Ok(Node::of(Form::WriteMerged(target, part)))
-        }
+        Ok(Node::of(Form::Merge {
+            is_asked,
+            target,
+            part,
+        }))
     }
 
     #[cycle(link)]
@@ -327,11 +327,13 @@ impl Linker<'_> {
         let part = self.boxed(part)?;
         let ok = self.target(ok)?;
         let err = self.target(err)?;
-        if is_asked {
-            Ok(Node::of(Form::Both(ok, err, tag, part)))
-        } else {
-            Ok(Node::of(Form::WriteBoth(ok, err, tag, part)))
-        }
+        Ok(Node::of(Form::Both {
+            is_asked,
+            ok,
+            err,
+            tag,
+            part,
+        }))
     }
 
     #[cycle(link)]

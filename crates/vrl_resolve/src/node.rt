@@ -44,7 +44,8 @@ impl Drop for Node {
     }
 }
 
-/// The forms of a node. Three forms write a value that nobody asks for: they give null in its place, and copy nothing.
+/// The forms of a node. Three forms write a value: where it is asked for, the value is that of the whole too; else the whole is null, and
+/// nothing is copied.
 #[cycle(node)]
 #[derive(Drop)]
 pub(crate) enum Form {
@@ -66,18 +67,37 @@ pub(crate) enum Form {
     Not(Box<Node>),
     /// An operator between two sides.
     Binary(Op, Box<Node>, Box<Node>),
-    /// A value is written, where the target takes one, and is the value of the whole.
-    Assign(Option<Place>, Box<Node>),
-    /// A value is written, and nobody asks for it.
-    Write(Option<Place>, Box<Node>),
+    /// A value is written, where the target takes one.
+    Assign {
+        /// Whether the value is asked for.
+        is_asked: bool,
+        /// Where it is written.
+        target: Option<Place>,
+        /// Whose value it is.
+        part: Box<Node>,
+    },
     /// The fields of a value are put over those at a target.
-    Merge(Option<Place>, Box<Node>),
-    /// The same, where nobody asks for the value.
-    WriteMerged(Option<Place>, Box<Node>),
-    /// An error assignment with the tag of its empty value.
-    Both(Option<Place>, Option<Place>, Tag, Box<Node>),
-    /// The same, where nobody asks for the value.
-    WriteBoth(Option<Place>, Option<Place>, Tag, Box<Node>),
+    Merge {
+        /// Whether what is written is asked for.
+        is_asked: bool,
+        /// Where it is written.
+        target: Option<Place>,
+        /// Whose value has the fields.
+        part: Box<Node>,
+    },
+    /// An error assignment.
+    Both {
+        /// Whether the value is asked for.
+        is_asked: bool,
+        /// Where the value is written.
+        ok: Option<Place>,
+        /// Where the text of the error is written.
+        err: Option<Place>,
+        /// The tag of the empty value, which is written in place of a value at an error.
+        tag: Tag,
+        /// Whose value it is.
+        part: Box<Node>,
+    },
     /// A call.
     Call(Box<Call>),
     /// `return`.

@@ -1,4 +1,4 @@
-ghost use Rattle.std.specs.Prelude.{◌≡◌, length, IfOk, IsTrue};
+ghost use Rattle.std.specs.Prelude.{length, IfOk, IsTrue};
 ghost use Rattle.vrl_value.specs.Regexes.{regexes_below};
 ghost use Rattle.vrl_value.specs.View.{members_of, tree_of};
 ghost use Rattle.vrl_store.specs.Outcomes as meaning;

@@ -1,10 +1,10 @@
-ghost use Rattle.std.specs.Prelude.{◌≡◌, ◌++◌, ◌∷◌, [], false, length, map, true, IfOk, OnOk};
+ghost use Rattle.std.specs.Prelude.{◌≡◌, ◌++◌, ◌∷◌, [], length, map, true, if◌then◌else◌, IfOk, OnOk};
 ghost use Rattle.vrl_value.specs.Tree.{null};
 ghost use Rattle.vrl_value.specs.View.{tree_of};
 ghost use Rattle.vrl_syntax.specs.Stores.{Store as StoreTree};
 ghost use Rattle.vrl_syntax.specs.declared.root.Op.TheVariants as ops;
 ghost use Rattle.vrl_store.specs.Operators.{applied};
-ghost use Rattle.vrl_store.specs.Outcomes.{ends, on_value, value as value_of, Ended};
+ghost use Rattle.vrl_store.specs.Outcomes.{ends, on_value, Ended};
 ghost use Rattle.vrl_store.specs.Places as spec;
 ghost use Rattle.vrl_store.specs.StoreView.{store_in, AreNames, IsKept, Names};
 ghost use Rattle.vrl_store.specs.Results.{Ends, IsStop};
@@ -12,7 +12,7 @@ ghost use Rattle.vrl_resolve.specs.Calls.{acts, items_in};
 ghost use Rattle.vrl_resolve.specs.Linked as linked;
 ghost use Rattle.vrl_resolve.specs.Linked.{arms_view, call_of, else_view, linked_of, message_view, pairs_view, parts_view};
 ghost use Rattle.vrl_resolve.specs.LinkedMeaning.{all_mean, callee_in, items_mean, means, target_of};
-ghost use Rattle.vrl_resolve.specs.Meaning.{aborted_with, combined};
+ghost use Rattle.vrl_resolve.specs.Meaning.{aborted_with};
 ghost use Rattle.vrl_resolve.specs.Fits.{IsCallee, IsTarget};
 ghost use Rattle.vrl_resolve.specs.Plain.{is_plain};
 ghost use Rattle.vrl_resolve.specs.Walking.{both_sides, meant, names_in, setting_in, store_at, AllEnd, AllFitIn, ArmsFitIn, ElseFitsIn, EndsIn, EndsTrue, FitsIn, GivesBoth, IsReady, MessageFitsIn, PairsFitIn, Stays, WritesTo};
@@ -60,12 +60,23 @@ pub(crate) fn eval(store: &mut Store, context: &Context<'_>, node: &Node) -> Res
         Form::If(arms, otherwise) => conditional(store, context, arms, otherwise),
         Form::Not(part) => negation(store, context, part),
         Form::Binary(op, left, right) => binary(store, context, *op, left, right),
-        Form::Assign(target, part) => assign(store, context, target, part),
-        Form::Write(target, part) => write_value(store, context, target, part),
-        Form::Merge(target, part) => merge(store, context, target, part),
-        Form::WriteMerged(target, part) => write_merged(store, context, target, part),
-        Form::Both(ok, err, tag, part) => both(store, context, ok, err, *tag, part),
-        Form::WriteBoth(ok, err, tag, part) => write_both(store, context, ok, err, *tag, part),
+        Form::Assign {
+            is_asked,
+            target,
+            part,
+        } => assign(store, context, *is_asked, target, part),
+        Form::Merge {
+            is_asked,
+            target,
+            part,
+        } => merge(store, context, *is_asked, target, part),
+        Form::Both {
+            is_asked,
+            ok,
+            err,
+            tag,
+            part,
+        } => both(store, context, *is_asked, ok, err, *tag, part),
         Form::Call(called) => call(store, context, called),
         Form::Return(part) => give_back(store, context, part),
         Form::Abort(message) => abort(store, context, message),
@@ -376,41 +387,34 @@ fn write_to(
     Ok(())
 }
 
+// The value again, where it is asked for; else null. `Memory`: want of memory.
+fn asked_copy(alloc: Global, is_asked: bool, value: &Value) -> Result<Value, Memory>
+    ensures { IfOk result (λ copy. tree_of copy ≡ (if is_asked then tree_of value.now else null)) }
+{
+    if is_asked {
+        return value.copy(alloc);
+    }
+    Ok(Value::Null)
+}
+
 #[cycle(walk)]
 fn assign(
     store: &mut Store,
     context: &Context<'_>,
+    is_asked: bool,
     target: &Option<Place>,
     part: &Node,
 ) -> Result<Value, Stop>
     requires ready { IsReady context.now store.old }
     requires target { IsTarget (length (names_in context.now)) target.now }
     requires fits { FitsIn context.now (linked_of part.now) }
-    ensures ended { EndsIn context.now (meant context.now (linked.assign true target.now (linked_of part.now)) store.old) store.new result }
+    ensures ended { EndsIn context.now (meant context.now (linked.assign is_asked target.now (linked_of part.now)) store.old) store.new result }
     ensures stays { Stays store.old store.new }
 {
     let value = eval(store, context, part)?;
-    let copy = value.copy(context.alloc)?;
+    let copy = asked_copy(context.alloc, is_asked, &value)?;
     write_to(store, context, target, value)?;
     Ok(copy)
-}
-
-#[cycle(walk)]
-fn write_value(
-    store: &mut Store,
-    context: &Context<'_>,
-    target: &Option<Place>,
-    part: &Node,
-) -> Result<Value, Stop>
-    requires ready { IsReady context.now store.old }
-    requires target { IsTarget (length (names_in context.now)) target.now }
-    requires fits { FitsIn context.now (linked_of part.now) }
-    ensures ended { EndsIn context.now (meant context.now (linked.assign false target.now (linked_of part.now)) store.old) store.new result }
-    ensures stays { Stays store.old store.new }
-{
-    let value = eval(store, context, part)?;
-    write_to(store, context, target, value)?;
-    Ok(Value::Null)
 }
 
 // The value at a target; null where it takes nothing. `Memory`: want of memory.
@@ -425,59 +429,26 @@ fn at_target(store: &Store, context: &Context<'_>, target: &Option<Place>) -> Re
     }
 }
 
-// The value at a target, null where it takes nothing, with the fields of another one over it.
-#[cycle(walk)]
-fn merged(
-    store: &mut Store,
-    context: &Context<'_>,
-    target: &Option<Place>,
-    part: &Node,
-) -> Result<Value, Stop>
-    requires ready { IsReady context.now store.old }
-    requires target { IsTarget (length (names_in context.now)) target.now }
-    requires fits { FitsIn context.now (linked_of part.now) }
-    ensures ended { EndsIn context.now (combined ops.Merge (ends (value_of (spec.target_value (target_of (names_in context.now) target.now) (store_at context.now store.old))) (store_at context.now store.old)) (λ after. means (names_in context.now) (setting_in context.now) (linked_of part.now) after)) store.new result }
-    ensures stays { Stays store.old store.new }
-{
-    let value = at_target(store, context, target)?;
-    beside(store, context, Op::Merge, value, part)
-}
-
+// Writes the value at a target, null where it takes nothing, with the fields of another one over it.
 #[cycle(walk)]
 fn merge(
     store: &mut Store,
     context: &Context<'_>,
+    is_asked: bool,
     target: &Option<Place>,
     part: &Node,
 ) -> Result<Value, Stop>
     requires ready { IsReady context.now store.old }
     requires target { IsTarget (length (names_in context.now)) target.now }
     requires fits { FitsIn context.now (linked_of part.now) }
-    ensures ended { EndsIn context.now (meant context.now (linked.merge true target.now (linked_of part.now)) store.old) store.new result }
+    ensures ended { EndsIn context.now (meant context.now (linked.merge is_asked target.now (linked_of part.now)) store.old) store.new result }
     ensures stays { Stays store.old store.new }
 {
-    let value = merged(store, context, target, part)?;
-    let copy = value.copy(context.alloc)?;
+    let current = at_target(store, context, target)?;
+    let value = beside(store, context, Op::Merge, current, part)?;
+    let copy = asked_copy(context.alloc, is_asked, &value)?;
     write_to(store, context, target, value)?;
     Ok(copy)
-}
-
-#[cycle(walk)]
-fn write_merged(
-    store: &mut Store,
-    context: &Context<'_>,
-    target: &Option<Place>,
-    part: &Node,
-) -> Result<Value, Stop>
-    requires ready { IsReady context.now store.old }
-    requires target { IsTarget (length (names_in context.now)) target.now }
-    requires fits { FitsIn context.now (linked_of part.now) }
-    ensures ended { EndsIn context.now (meant context.now (linked.merge false target.now (linked_of part.now)) store.old) store.new result }
-    ensures stays { Stays store.old store.new }
-{
-    let value = merged(store, context, target, part)?;
-    write_to(store, context, target, value)?;
-    Ok(Value::Null)
 }
 
 // The values that an error assignment writes: the value and null, or at an error the empty value and the text.
@@ -501,6 +472,7 @@ fn outcome(
 fn both(
     store: &mut Store,
     context: &Context<'_>,
+    is_asked: bool,
     ok: &Option<Place>,
     err: &Option<Place>,
     tag: Tag,
@@ -510,36 +482,14 @@ fn both(
     requires ok { IsTarget (length (names_in context.now)) ok.now }
     requires err { IsTarget (length (names_in context.now)) err.now }
     requires fits { FitsIn context.now (linked_of part.now) }
-    ensures ended { EndsIn context.now (meant context.now (linked.both true ok.now err.now tag (linked_of part.now)) store.old) store.new result }
+    ensures ended { EndsIn context.now (meant context.now (linked.both is_asked ok.now err.now tag (linked_of part.now)) store.old) store.new result }
     ensures stays { Stays store.old store.new }
 {
     let (value, error) = outcome(store, context, tag, part)?;
-    let copy = value.copy(context.alloc)?;
+    let copy = asked_copy(context.alloc, is_asked, &value)?;
     write_to(store, context, ok, value)?;
     write_to(store, context, err, error)?;
     Ok(copy)
-}
-
-#[cycle(walk)]
-fn write_both(
-    store: &mut Store,
-    context: &Context<'_>,
-    ok: &Option<Place>,
-    err: &Option<Place>,
-    tag: Tag,
-    part: &Node,
-) -> Result<Value, Stop>
-    requires ready { IsReady context.now store.old }
-    requires ok { IsTarget (length (names_in context.now)) ok.now }
-    requires err { IsTarget (length (names_in context.now)) err.now }
-    requires fits { FitsIn context.now (linked_of part.now) }
-    ensures ended { EndsIn context.now (meant context.now (linked.both false ok.now err.now tag (linked_of part.now)) store.old) store.new result }
-    ensures stays { Stays store.old store.new }
-{
-    let (value, error) = outcome(store, context, tag, part)?;
-    write_to(store, context, ok, value)?;
-    write_to(store, context, err, error)?;
-    Ok(Value::Null)
 }
 
 #[cycle(walk)]

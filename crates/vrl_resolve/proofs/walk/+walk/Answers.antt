@@ -1,17 +1,17 @@
-use Rattle.std.proofs.Common.{List, [], ap, ap₂, arith, false, length, length-append, map, rules, subst, sym, true, ℕ, ◌++◌, ◌∙◌, ◌∷◌, ◌≡◌}
+use Rattle.std.proofs.Common.{List, [], ap, ap₂, arith, length, length-append, map, rules, subst, sym, ℕ, ◌++◌, ◌∙◌, ◌∷◌, ◌≡◌}
 use Rattle.std.proofs.lemmas.Result.{err_from_is_err_and}
 use Rattle.vrl_store.specs.Operators.{applied}
 use Rattle.vrl_store.specs.Outcomes.{Ended, banged_if, block_left, ends, error, on_error, on_value, value}
-use Rattle.vrl_store.specs.Places.{target_value}
+use Rattle.vrl_store.specs.Places.{target_value, writes_to}
 use Rattle.vrl_store.specs.Results.{Ends, Stops}
 use Rattle.vrl_resolve.proofs.LinkedSizes.{arms_fewer, else_size, first_size, linked_size, message_size, pairs_fewer, parts_fewer}
 use Rattle.vrl_resolve.proofs.WalkArms.{arm_fits, arm_passed, arm_taken, arms_end}
 use Rattle.vrl_resolve.proofs.WalkCalls.{call_ends, call_stops, first_fit, given_are_of, given_formed, left_formed}
-use Rattle.vrl_resolve.proofs.Walks.{after_error, array_ends, array_stops, asks_both, assigned_stops, beside_ends, block_ends, block_store, first_stops, items_next, known_base, names_after, next_pair, next_part, null_stops, pairs_end, pairs_next, parts_end, parts_next, parts_stop, ready_after, second_stops, stays_here, stays_then}
+use Rattle.vrl_resolve.proofs.Walks.{after_error, after_stop, array_ends, array_stops, asks_both, asked_stops, assigned_ends, assigned_stops, beside_ends, block_ends, block_store, both_end, first_stops, items_next, known_base, names_after, next_pair, next_part, of_boxed, pairs_end, pairs_next, parts_end, parts_next, parts_stop, ready_after, second_stops, stays_here, stays_then}
 use Rattle.vrl_resolve.specs.Calls.{acts, items_in}
 use Rattle.vrl_resolve.specs.Linked.{ArmTree, abort_with, arm_of, arms_view, array, assign, binary, block, both, call, call_of, conditional, else_block, else_view, linked_of, literal, merge, message, message_view, negation, object, pairs_view, parts_of_list, parts_view, query, read, return_of}
 use Rattle.vrl_resolve.specs.LinkedMeaning.{all_mean, arms_mean, callee_in, else_means, items_mean, means, pairs_mean, target_of}
-use Rattle.vrl_resolve.specs.Meaning.{both_assigned, combined}
+use Rattle.vrl_resolve.specs.Meaning.{assigned, both_assigned, combined}
 use Rattle.vrl_resolve.specs.Walking.{AllFitIn, ElseFitsIn, FitsIn, MessageFitsIn, PairsFitIn, meant, names_in, setting_in, store_at}
 use Rattle.vrl_resolve.specs.declared.node.Arm.{out-Arm}
 use Rattle.vrl_resolve.specs.declared.node.Call.{out-Call}
@@ -83,11 +83,17 @@ pub assign-returns-in_err-write_to-clause-ended : goal.assign-returns-in_err-wri
 assign-returns-in_err-write_to-clause-ended t c =
     let x = c.args.context.now in
     let after = c.eval.new.store in
-    let T = target_of (names_in x) c.args.target.now in
     let are = names_after (names_in x) c.args.store.now after c.requires.ready.names c.in_ok-value.ensures.stays in
-    let given : Stops (meant x (assign true c.args.target.now (linked_of c.args.part.now)) c.args.store.now) (store_at x c.write_to.new.store) c.in_err-write_to.field-0.0 =
-    assigned_stops T (meant x (linked_of c.args.part.now) c.args.store.now) (tree_of c.in_ok-value.value) (store_at x after) (store_at x c.write_to.new.store) c.in_err-write_to.field-0.0 c.in_ok-value.ensures.ended (c.in_err-write_to.ensures.written (names_in x) are) in
+    let told : Stops (meant x (assign c.args.is_asked c.args.target.now (linked_of c.args.part.now)) c.args.store.now) (store_at x c.write_to.new.store) c.in_err-write_to.field-0.0 =
+    assigned_stops c.args.is_asked (target_of (names_in x) c.args.target.now) (meant x (linked_of c.args.part.now) c.args.store.now) (tree_of c.in_ok-value.value) (store_at x after) (store_at x c.write_to.new.store) c.in_err-write_to.field-0.0 c.in_ok-value.ensures.ended (c.in_err-write_to.ensures.written (names_in x) are) in
     search rules
+
+pub assign-returns-clause-ended : goal.assign-returns-clause-ended
+assign-returns-clause-ended t c =
+    let x = c.args.context.now in
+    let after = c.eval.new.store in
+    let are = names_after (names_in x) c.args.store.now after c.requires.ready.names c.in_ok-value.ensures.stays in
+    assigned_ends c.args.is_asked (target_of (names_in x) c.args.target.now) (meant x (linked_of c.args.part.now) c.args.store.now) (tree_of c.in_ok-value.value) (tree_of c.in_ok-copy.copy) (store_at x after) (store_at x c.write_to.new.store) c.in_ok-value.ensures.ended c.in_ok-copy.ensures (c.in_ok-write_to.ensures.written (names_in x) are)
 
 pub beside-eval-requires : goal.beside-eval-requires
 beside-eval-requires t c =
@@ -163,8 +169,8 @@ both-returns-in_err-value-clause-ended t c =
     let T = target_of (names_in x) c.args.ok.now in
     let U = target_of (names_in x) c.args.err.now in
     let given = meant x (linked_of c.args.part.now) c.args.store.now in
-    let told : Stops (meant x (both true c.args.ok.now c.args.err.now c.args.tag (linked_of c.args.part.now)) c.args.store.now) (store_at x c.outcome.new.store) c.in_err-value.field-0.0 =
-    c.in_err-value.ensures.ended T U in
+    let told : Stops (meant x (both c.args.is_asked c.args.ok.now c.args.err.now c.args.tag (linked_of c.args.part.now)) c.args.store.now) (store_at x c.outcome.new.store) c.in_err-value.field-0.0 =
+    asked_stops c.args.is_asked (both_assigned T U c.args.tag given.outcome given.store) (store_at x c.outcome.new.store) c.in_err-value.field-0.0 (c.in_err-value.ensures.ended T U) in
     search rules
 
 pub both-returns-in_err-write_to-2-clause-ended : goal.both-returns-in_err-write_to-2-clause-ended
@@ -175,8 +181,8 @@ both-returns-in_err-write_to-2-clause-ended t c =
     let given = meant x (linked_of c.args.part.now) c.args.store.now in
     let are = names_after (names_in x) c.args.store.now c.outcome.new.store c.requires.ready.names c.in_ok-value.ensures.stays in
     let are_then = names_after (names_in x) c.outcome.new.store c.write_to.new.store are c.in_ok-write_to.ensures.stays in
-    let told : Stops (meant x (both true c.args.ok.now c.args.err.now c.args.tag (linked_of c.args.part.now)) c.args.store.now) (store_at x c.write_to-2.new.store) c.in_err-write_to-2.field-0.0 =
-    second_stops T U (both_assigned T U c.args.tag given.outcome given.store) (tree_of c.in_ok-value.value) (tree_of c.in_ok-value.error) (store_at x c.outcome.new.store) (store_at x c.write_to.new.store) (store_at x c.write_to-2.new.store) c.in_err-write_to-2.field-0.0 (c.in_ok-value.ensures.ended T U) (c.in_ok-write_to.ensures.written (names_in x) are) (c.in_err-write_to-2.ensures.written (names_in x) are_then) in
+    let told : Stops (meant x (both c.args.is_asked c.args.ok.now c.args.err.now c.args.tag (linked_of c.args.part.now)) c.args.store.now) (store_at x c.write_to-2.new.store) c.in_err-write_to-2.field-0.0 =
+    second_stops c.args.is_asked T U (both_assigned T U c.args.tag given.outcome given.store) (tree_of c.in_ok-value.value) (tree_of c.in_ok-value.error) (store_at x c.outcome.new.store) (store_at x c.write_to.new.store) (store_at x c.write_to-2.new.store) c.in_err-write_to-2.field-0.0 (c.in_ok-value.ensures.ended T U) (c.in_ok-write_to.ensures.written (names_in x) are) (c.in_err-write_to-2.ensures.written (names_in x) are_then) in
     search rules
 
 pub both-returns-in_err-write_to-clause-ended : goal.both-returns-in_err-write_to-clause-ended
@@ -186,9 +192,19 @@ both-returns-in_err-write_to-clause-ended t c =
     let U = target_of (names_in x) c.args.err.now in
     let given = meant x (linked_of c.args.part.now) c.args.store.now in
     let are = names_after (names_in x) c.args.store.now c.outcome.new.store c.requires.ready.names c.in_ok-value.ensures.stays in
-    let told : Stops (meant x (both true c.args.ok.now c.args.err.now c.args.tag (linked_of c.args.part.now)) c.args.store.now) (store_at x c.write_to.new.store) c.in_err-write_to.field-0.0 =
-    first_stops T U (both_assigned T U c.args.tag given.outcome given.store) (tree_of c.in_ok-value.value) (tree_of c.in_ok-value.error) (store_at x c.outcome.new.store) (store_at x c.write_to.new.store) c.in_err-write_to.field-0.0 (c.in_ok-value.ensures.ended T U) (c.in_err-write_to.ensures.written (names_in x) are) in
+    let told : Stops (meant x (both c.args.is_asked c.args.ok.now c.args.err.now c.args.tag (linked_of c.args.part.now)) c.args.store.now) (store_at x c.write_to.new.store) c.in_err-write_to.field-0.0 =
+    first_stops c.args.is_asked T U (both_assigned T U c.args.tag given.outcome given.store) (tree_of c.in_ok-value.value) (tree_of c.in_ok-value.error) (store_at x c.outcome.new.store) (store_at x c.write_to.new.store) c.in_err-write_to.field-0.0 (c.in_ok-value.ensures.ended T U) (c.in_err-write_to.ensures.written (names_in x) are) in
     search rules
+
+pub both-returns-clause-ended : goal.both-returns-clause-ended
+both-returns-clause-ended t c =
+    let x = c.args.context.now in
+    let T = target_of (names_in x) c.args.ok.now in
+    let U = target_of (names_in x) c.args.err.now in
+    let given = meant x (linked_of c.args.part.now) c.args.store.now in
+    let are = names_after (names_in x) c.args.store.now c.outcome.new.store c.requires.ready.names c.in_ok-value.ensures.stays in
+    let are_then = names_after (names_in x) c.outcome.new.store c.write_to.new.store are c.in_ok-write_to.ensures.stays in
+    both_end c.args.is_asked T U (both_assigned T U c.args.tag given.outcome given.store) (tree_of c.in_ok-value.value) (tree_of c.in_ok-value.error) (tree_of c.in_ok-copy.copy) (store_at x c.outcome.new.store) (store_at x c.write_to.new.store) (store_at x c.write_to-2.new.store) (c.in_ok-value.ensures.ended T U) c.in_ok-copy.ensures (c.in_ok-write_to.ensures.written (names_in x) are) (c.in_ok-write_to-2.ensures.written (names_in x) are_then)
 
 pub call-answer-value-requires : goal.call-answer-value-requires
 call-answer-value-requires t c =
@@ -346,17 +362,13 @@ eval-abort-requires t c =
 
 pub eval-array-requires : goal.eval-array-requires
 eval-array-requires t c =
-    let here0 : c.deref.result.now ≡ c.in-Array.parts.items = search rules in
-    let at_box : linked_of c.args.node.now ≡ array (parts_view c.in-Array.parts.items) = search (rules, the_lemmas) in
-    let is : linked_of c.args.node.now ≡ array (parts_view c.deref.result.now) = at_box ∙ ap (λ n. array (parts_view n)) (sym here0) in
+    let is = of_boxed (linked_of c.args.node.now) (λ n. array (parts_view n)) c.deref.result.now c.in-Array.parts.items (search rules) (search (rules, the_lemmas)) in
     let fits = subst (FitsIn c.args.context.now) is c.requires.fits in
     (omega (arith, c.decreases, ap linked_size is), (c.requires.ready, fits))
 
 pub eval-assign-requires : goal.eval-assign-requires
 eval-assign-requires t c =
-    let here0 : c.deref-in-Assign.result.now ≡ c.in-Assign.part.value = search rules in
-    let at_box : linked_of c.args.node.now ≡ assign true c.in-Assign.target (linked_of c.in-Assign.part.value) = search (rules, the_lemmas) in
-    let is : linked_of c.args.node.now ≡ assign true c.in-Assign.target (linked_of c.deref-in-Assign.result.now) = at_box ∙ ap (λ n. assign true c.in-Assign.target (linked_of n)) (sym here0) in
+    let is = of_boxed (linked_of c.args.node.now) (λ n. assign c.in-Assign.is_asked c.in-Assign.target (linked_of n)) c.deref-in-Assign.result.now c.in-Assign.part.value (search rules) (search (rules, the_lemmas)) in
     let fits = subst (FitsIn c.args.context.now) is c.requires.fits in
     (omega (arith, c.decreases, ap linked_size is), (c.requires.ready, (fits.0, fits.1)))
 
@@ -371,73 +383,55 @@ eval-binary-requires t c =
 
 pub eval-block-requires : goal.eval-block-requires
 eval-block-requires t c =
-    let here0 : c.deref-in-Block.result.now ≡ c.in-Block.items.items = search rules in
-    let at_box : linked_of c.args.node.now ≡ block (parts_view c.in-Block.items.items) = search (rules, the_lemmas) in
-    let is : linked_of c.args.node.now ≡ block (parts_view c.deref-in-Block.result.now) = at_box ∙ ap (λ n. block (parts_view n)) (sym here0) in
+    let is = of_boxed (linked_of c.args.node.now) (λ n. block (parts_view n)) c.deref-in-Block.result.now c.in-Block.items.items (search rules) (search (rules, the_lemmas)) in
     let fits = subst (FitsIn c.args.context.now) is c.requires.fits in
     (omega (arith, c.decreases, ap linked_size is), (c.requires.ready, fits))
 
 pub eval-both-requires : goal.eval-both-requires
 eval-both-requires t c =
-    let here0 : c.deref-in-Both.result.now ≡ c.in-Both.part.value = search rules in
-    let at_box : linked_of c.args.node.now ≡ both true c.in-Both.ok c.in-Both.err c.in-Both.tag (linked_of c.in-Both.part.value) = search (rules, the_lemmas) in
-    let is : linked_of c.args.node.now ≡ both true c.in-Both.ok c.in-Both.err c.in-Both.tag (linked_of c.deref-in-Both.result.now) = at_box ∙ ap (λ n. both true c.in-Both.ok c.in-Both.err c.in-Both.tag (linked_of n)) (sym here0) in
+    let is = of_boxed (linked_of c.args.node.now) (λ n. both c.in-Both.is_asked c.in-Both.ok c.in-Both.err c.in-Both.tag (linked_of n)) c.deref-in-Both.result.now c.in-Both.part.value (search rules) (search (rules, the_lemmas)) in
     let fits = subst (FitsIn c.args.context.now) is c.requires.fits in
     (omega (arith, c.decreases, ap linked_size is), (c.requires.ready, (fits.0, (fits.1.0, fits.1.1))))
 
 pub eval-call-requires : goal.eval-call-requires
 eval-call-requires t c =
-    let here0 : c.deref-in-Call.result.now ≡ c.in-Call.called.value = search rules in
-    let at_box : linked_of c.args.node.now ≡ call_of c.in-Call.called.value = search (rules, the_lemmas) in
-    let is : linked_of c.args.node.now ≡ call_of c.deref-in-Call.result.now = at_box ∙ ap (λ n. call_of n) (sym here0) in
+    let is = of_boxed (linked_of c.args.node.now) (λ n. call_of n) c.deref-in-Call.result.now c.in-Call.called.value (search rules) (search (rules, the_lemmas)) in
     let fits = subst (FitsIn c.args.context.now) is c.requires.fits in
     (omega (arith, c.decreases, ap linked_size is), (c.requires.ready, fits))
 
 pub eval-conditional-requires : goal.eval-conditional-requires
 eval-conditional-requires t c =
-    let here0 : c.deref-in-If.result.now ≡ c.in-If.arms.items = search rules in
-    let at_box : linked_of c.args.node.now ≡ conditional (arms_view c.in-If.arms.items) (else_view c.in-If.otherwise) = search (rules, the_lemmas) in
-    let is : linked_of c.args.node.now ≡ conditional (arms_view c.deref-in-If.result.now) (else_view c.in-If.otherwise) = at_box ∙ ap (λ n. conditional (arms_view n) (else_view c.in-If.otherwise)) (sym here0) in
+    let is = of_boxed (linked_of c.args.node.now) (λ n. conditional (arms_view n) (else_view c.in-If.otherwise)) c.deref-in-If.result.now c.in-If.arms.items (search rules) (search (rules, the_lemmas)) in
     let fits = subst (FitsIn c.args.context.now) is c.requires.fits in
     (omega (arith, c.decreases, ap linked_size is), (c.requires.ready, (fits.0, fits.1)))
 
 pub eval-give_back-requires : goal.eval-give_back-requires
 eval-give_back-requires t c =
-    let here0 : c.deref-in-Return.result.now ≡ c.in-Return.part.value = search rules in
-    let at_box : linked_of c.args.node.now ≡ return_of (linked_of c.in-Return.part.value) = search (rules, the_lemmas) in
-    let is : linked_of c.args.node.now ≡ return_of (linked_of c.deref-in-Return.result.now) = at_box ∙ ap (λ n. return_of (linked_of n)) (sym here0) in
+    let is = of_boxed (linked_of c.args.node.now) (λ n. return_of (linked_of n)) c.deref-in-Return.result.now c.in-Return.part.value (search rules) (search (rules, the_lemmas)) in
     let fits = subst (FitsIn c.args.context.now) is c.requires.fits in
     (omega (arith, c.decreases, ap linked_size is), (c.requires.ready, fits))
 
 pub eval-merge-requires : goal.eval-merge-requires
 eval-merge-requires t c =
-    let here0 : c.deref-in-Merge.result.now ≡ c.in-Merge.part.value = search rules in
-    let at_box : linked_of c.args.node.now ≡ merge true c.in-Merge.target (linked_of c.in-Merge.part.value) = search (rules, the_lemmas) in
-    let is : linked_of c.args.node.now ≡ merge true c.in-Merge.target (linked_of c.deref-in-Merge.result.now) = at_box ∙ ap (λ n. merge true c.in-Merge.target (linked_of n)) (sym here0) in
+    let is = of_boxed (linked_of c.args.node.now) (λ n. merge c.in-Merge.is_asked c.in-Merge.target (linked_of n)) c.deref-in-Merge.result.now c.in-Merge.part.value (search rules) (search (rules, the_lemmas)) in
     let fits = subst (FitsIn c.args.context.now) is c.requires.fits in
     (omega (arith, c.decreases, ap linked_size is), (c.requires.ready, (fits.0, fits.1)))
 
 pub eval-negation-requires : goal.eval-negation-requires
 eval-negation-requires t c =
-    let here0 : c.deref-in-Not.result.now ≡ c.in-Not.part.value = search rules in
-    let at_box : linked_of c.args.node.now ≡ negation (linked_of c.in-Not.part.value) = search (rules, the_lemmas) in
-    let is : linked_of c.args.node.now ≡ negation (linked_of c.deref-in-Not.result.now) = at_box ∙ ap (λ n. negation (linked_of n)) (sym here0) in
+    let is = of_boxed (linked_of c.args.node.now) (λ n. negation (linked_of n)) c.deref-in-Not.result.now c.in-Not.part.value (search rules) (search (rules, the_lemmas)) in
     let fits = subst (FitsIn c.args.context.now) is c.requires.fits in
     (omega (arith, c.decreases, ap linked_size is), (c.requires.ready, fits))
 
 pub eval-object-requires : goal.eval-object-requires
 eval-object-requires t c =
-    let here0 : c.deref-in-Object.result.now ≡ c.in-Object.pairs.items = search rules in
-    let at_box : linked_of c.args.node.now ≡ object (pairs_view c.in-Object.pairs.items) = search (rules, the_lemmas) in
-    let is : linked_of c.args.node.now ≡ object (pairs_view c.deref-in-Object.result.now) = at_box ∙ ap (λ n. object (pairs_view n)) (sym here0) in
+    let is = of_boxed (linked_of c.args.node.now) (λ n. object (pairs_view n)) c.deref-in-Object.result.now c.in-Object.pairs.items (search rules) (search (rules, the_lemmas)) in
     let fits = subst (FitsIn c.args.context.now) is c.requires.fits in
     (omega (arith, c.decreases, ap linked_size is), (c.requires.ready, fits))
 
 pub eval-query-requires : goal.eval-query-requires
 eval-query-requires t c =
-    let here0 : c.deref-in-Query.result.now ≡ c.in-Query.part.value = search rules in
-    let at_box : linked_of c.args.node.now ≡ query (linked_of c.in-Query.part.value) c.in-Query.path = search (rules, the_lemmas) in
-    let is : linked_of c.args.node.now ≡ query (linked_of c.deref-in-Query.result.now) c.in-Query.path = at_box ∙ ap (λ n. query (linked_of n) c.in-Query.path) (sym here0) in
+    let is = of_boxed (linked_of c.args.node.now) (λ n. query (linked_of n) c.in-Query.path) c.deref-in-Query.result.now c.in-Query.part.value (search rules) (search (rules, the_lemmas)) in
     let fits = subst (FitsIn c.args.context.now) is c.requires.fits in
     (omega (arith, c.decreases, ap linked_size is), (c.requires.ready, fits))
 
@@ -454,17 +448,13 @@ eval-returns-in-Abort-clause-ended t c =
 
 pub eval-returns-in-Array-clause-ended : goal.eval-returns-in-Array-clause-ended
 eval-returns-in-Array-clause-ended t c =
-    let here0 : c.deref.result.now ≡ c.in-Array.parts.items = search rules in
-    let at_box : linked_of c.args.node.now ≡ array (parts_view c.in-Array.parts.items) = search (rules, the_lemmas) in
-    let is : linked_of c.args.node.now ≡ array (parts_view c.deref.result.now) = at_box ∙ ap (λ n. array (parts_view n)) (sym here0) in
+    let is = of_boxed (linked_of c.args.node.now) (λ n. array (parts_view n)) c.deref.result.now c.in-Array.parts.items (search rules) (search (rules, the_lemmas)) in
     let x = c.args.context.now in
     subst (λ n. Ends (meant x n c.args.store.now) (store_at x c.array.new.store) c.array.result) (sym is) c.array.ensures.ended
 
 pub eval-returns-in-Assign-clause-ended : goal.eval-returns-in-Assign-clause-ended
 eval-returns-in-Assign-clause-ended t c =
-    let here0 : c.deref-in-Assign.result.now ≡ c.in-Assign.part.value = search rules in
-    let at_box : linked_of c.args.node.now ≡ assign true c.in-Assign.target (linked_of c.in-Assign.part.value) = search (rules, the_lemmas) in
-    let is : linked_of c.args.node.now ≡ assign true c.in-Assign.target (linked_of c.deref-in-Assign.result.now) = at_box ∙ ap (λ n. assign true c.in-Assign.target (linked_of n)) (sym here0) in
+    let is = of_boxed (linked_of c.args.node.now) (λ n. assign c.in-Assign.is_asked c.in-Assign.target (linked_of n)) c.deref-in-Assign.result.now c.in-Assign.part.value (search rules) (search (rules, the_lemmas)) in
     let x = c.args.context.now in
     subst (λ n. Ends (meant x n c.args.store.now) (store_at x c.assign.new.store) c.assign.result) (sym is) c.assign.ensures.ended
 
@@ -479,99 +469,57 @@ eval-returns-in-Binary-clause-ended t c =
 
 pub eval-returns-in-Block-clause-ended : goal.eval-returns-in-Block-clause-ended
 eval-returns-in-Block-clause-ended t c =
-    let here0 : c.deref-in-Block.result.now ≡ c.in-Block.items.items = search rules in
-    let at_box : linked_of c.args.node.now ≡ block (parts_view c.in-Block.items.items) = search (rules, the_lemmas) in
-    let is : linked_of c.args.node.now ≡ block (parts_view c.deref-in-Block.result.now) = at_box ∙ ap (λ n. block (parts_view n)) (sym here0) in
+    let is = of_boxed (linked_of c.args.node.now) (λ n. block (parts_view n)) c.deref-in-Block.result.now c.in-Block.items.items (search rules) (search (rules, the_lemmas)) in
     let x = c.args.context.now in
     subst (λ n. Ends (meant x n c.args.store.now) (store_at x c.block.new.store) c.block.result) (sym is) c.block.ensures.ended
 
 pub eval-returns-in-Both-clause-ended : goal.eval-returns-in-Both-clause-ended
 eval-returns-in-Both-clause-ended t c =
-    let here0 : c.deref-in-Both.result.now ≡ c.in-Both.part.value = search rules in
-    let at_box : linked_of c.args.node.now ≡ both true c.in-Both.ok c.in-Both.err c.in-Both.tag (linked_of c.in-Both.part.value) = search (rules, the_lemmas) in
-    let is : linked_of c.args.node.now ≡ both true c.in-Both.ok c.in-Both.err c.in-Both.tag (linked_of c.deref-in-Both.result.now) = at_box ∙ ap (λ n. both true c.in-Both.ok c.in-Both.err c.in-Both.tag (linked_of n)) (sym here0) in
+    let is = of_boxed (linked_of c.args.node.now) (λ n. both c.in-Both.is_asked c.in-Both.ok c.in-Both.err c.in-Both.tag (linked_of n)) c.deref-in-Both.result.now c.in-Both.part.value (search rules) (search (rules, the_lemmas)) in
     let x = c.args.context.now in
     subst (λ n. Ends (meant x n c.args.store.now) (store_at x c.both.new.store) c.both.result) (sym is) c.both.ensures.ended
 
 pub eval-returns-in-Call-clause-ended : goal.eval-returns-in-Call-clause-ended
 eval-returns-in-Call-clause-ended t c =
-    let here0 : c.deref-in-Call.result.now ≡ c.in-Call.called.value = search rules in
-    let at_box : linked_of c.args.node.now ≡ call_of c.in-Call.called.value = search (rules, the_lemmas) in
-    let is : linked_of c.args.node.now ≡ call_of c.deref-in-Call.result.now = at_box ∙ ap (λ n. call_of n) (sym here0) in
+    let is = of_boxed (linked_of c.args.node.now) (λ n. call_of n) c.deref-in-Call.result.now c.in-Call.called.value (search rules) (search (rules, the_lemmas)) in
     let x = c.args.context.now in
     subst (λ n. Ends (meant x n c.args.store.now) (store_at x c.call.new.store) c.call.result) (sym is) c.call.ensures.ended
 
 pub eval-returns-in-If-clause-ended : goal.eval-returns-in-If-clause-ended
 eval-returns-in-If-clause-ended t c =
-    let here0 : c.deref-in-If.result.now ≡ c.in-If.arms.items = search rules in
-    let at_box : linked_of c.args.node.now ≡ conditional (arms_view c.in-If.arms.items) (else_view c.in-If.otherwise) = search (rules, the_lemmas) in
-    let is : linked_of c.args.node.now ≡ conditional (arms_view c.deref-in-If.result.now) (else_view c.in-If.otherwise) = at_box ∙ ap (λ n. conditional (arms_view n) (else_view c.in-If.otherwise)) (sym here0) in
+    let is = of_boxed (linked_of c.args.node.now) (λ n. conditional (arms_view n) (else_view c.in-If.otherwise)) c.deref-in-If.result.now c.in-If.arms.items (search rules) (search (rules, the_lemmas)) in
     let x = c.args.context.now in
     subst (λ n. Ends (meant x n c.args.store.now) (store_at x c.conditional.new.store) c.conditional.result) (sym is) c.conditional.ensures.ended
 
 pub eval-returns-in-Merge-clause-ended : goal.eval-returns-in-Merge-clause-ended
 eval-returns-in-Merge-clause-ended t c =
-    let here0 : c.deref-in-Merge.result.now ≡ c.in-Merge.part.value = search rules in
-    let at_box : linked_of c.args.node.now ≡ merge true c.in-Merge.target (linked_of c.in-Merge.part.value) = search (rules, the_lemmas) in
-    let is : linked_of c.args.node.now ≡ merge true c.in-Merge.target (linked_of c.deref-in-Merge.result.now) = at_box ∙ ap (λ n. merge true c.in-Merge.target (linked_of n)) (sym here0) in
+    let is = of_boxed (linked_of c.args.node.now) (λ n. merge c.in-Merge.is_asked c.in-Merge.target (linked_of n)) c.deref-in-Merge.result.now c.in-Merge.part.value (search rules) (search (rules, the_lemmas)) in
     let x = c.args.context.now in
     subst (λ n. Ends (meant x n c.args.store.now) (store_at x c.merge.new.store) c.merge.result) (sym is) c.merge.ensures.ended
 
 pub eval-returns-in-Not-clause-ended : goal.eval-returns-in-Not-clause-ended
 eval-returns-in-Not-clause-ended t c =
-    let here0 : c.deref-in-Not.result.now ≡ c.in-Not.part.value = search rules in
-    let at_box : linked_of c.args.node.now ≡ negation (linked_of c.in-Not.part.value) = search (rules, the_lemmas) in
-    let is : linked_of c.args.node.now ≡ negation (linked_of c.deref-in-Not.result.now) = at_box ∙ ap (λ n. negation (linked_of n)) (sym here0) in
+    let is = of_boxed (linked_of c.args.node.now) (λ n. negation (linked_of n)) c.deref-in-Not.result.now c.in-Not.part.value (search rules) (search (rules, the_lemmas)) in
     let x = c.args.context.now in
     subst (λ n. Ends (meant x n c.args.store.now) (store_at x c.negation.new.store) c.negation.result) (sym is) c.negation.ensures.ended
 
 pub eval-returns-in-Object-clause-ended : goal.eval-returns-in-Object-clause-ended
 eval-returns-in-Object-clause-ended t c =
-    let here0 : c.deref-in-Object.result.now ≡ c.in-Object.pairs.items = search rules in
-    let at_box : linked_of c.args.node.now ≡ object (pairs_view c.in-Object.pairs.items) = search (rules, the_lemmas) in
-    let is : linked_of c.args.node.now ≡ object (pairs_view c.deref-in-Object.result.now) = at_box ∙ ap (λ n. object (pairs_view n)) (sym here0) in
+    let is = of_boxed (linked_of c.args.node.now) (λ n. object (pairs_view n)) c.deref-in-Object.result.now c.in-Object.pairs.items (search rules) (search (rules, the_lemmas)) in
     let x = c.args.context.now in
     subst (λ n. Ends (meant x n c.args.store.now) (store_at x c.object.new.store) c.object.result) (sym is) c.object.ensures.ended
 
 pub eval-returns-in-Query-clause-ended : goal.eval-returns-in-Query-clause-ended
 eval-returns-in-Query-clause-ended t c =
-    let here0 : c.deref-in-Query.result.now ≡ c.in-Query.part.value = search rules in
-    let at_box : linked_of c.args.node.now ≡ query (linked_of c.in-Query.part.value) c.in-Query.path = search (rules, the_lemmas) in
-    let is : linked_of c.args.node.now ≡ query (linked_of c.deref-in-Query.result.now) c.in-Query.path = at_box ∙ ap (λ n. query (linked_of n) c.in-Query.path) (sym here0) in
+    let is = of_boxed (linked_of c.args.node.now) (λ n. query (linked_of n) c.in-Query.path) c.deref-in-Query.result.now c.in-Query.part.value (search rules) (search (rules, the_lemmas)) in
     let x = c.args.context.now in
     subst (λ n. Ends (meant x n c.args.store.now) (store_at x c.query.new.store) c.query.result) (sym is) c.query.ensures.ended
 
 pub eval-returns-in-Return-clause-ended : goal.eval-returns-in-Return-clause-ended
 eval-returns-in-Return-clause-ended t c =
-    let here0 : c.deref-in-Return.result.now ≡ c.in-Return.part.value = search rules in
-    let at_box : linked_of c.args.node.now ≡ return_of (linked_of c.in-Return.part.value) = search (rules, the_lemmas) in
-    let is : linked_of c.args.node.now ≡ return_of (linked_of c.deref-in-Return.result.now) = at_box ∙ ap (λ n. return_of (linked_of n)) (sym here0) in
+    let is = of_boxed (linked_of c.args.node.now) (λ n. return_of (linked_of n)) c.deref-in-Return.result.now c.in-Return.part.value (search rules) (search (rules, the_lemmas)) in
     let x = c.args.context.now in
     subst (λ n. Ends (meant x n c.args.store.now) (store_at x c.give_back.new.store) c.give_back.result) (sym is) c.give_back.ensures.ended
-
-pub eval-returns-in-Write-clause-ended : goal.eval-returns-in-Write-clause-ended
-eval-returns-in-Write-clause-ended t c =
-    let here0 : c.deref-in-Write.result.now ≡ c.in-Write.part.value = search rules in
-    let at_box : linked_of c.args.node.now ≡ assign false c.in-Write.target (linked_of c.in-Write.part.value) = search (rules, the_lemmas) in
-    let is : linked_of c.args.node.now ≡ assign false c.in-Write.target (linked_of c.deref-in-Write.result.now) = at_box ∙ ap (λ n. assign false c.in-Write.target (linked_of n)) (sym here0) in
-    let x = c.args.context.now in
-    subst (λ n. Ends (meant x n c.args.store.now) (store_at x c.write_value.new.store) c.write_value.result) (sym is) c.write_value.ensures.ended
-
-pub eval-returns-in-WriteBoth-clause-ended : goal.eval-returns-in-WriteBoth-clause-ended
-eval-returns-in-WriteBoth-clause-ended t c =
-    let here0 : c.deref-in-WriteBoth.result.now ≡ c.in-WriteBoth.part.value = search rules in
-    let at_box : linked_of c.args.node.now ≡ both false c.in-WriteBoth.ok c.in-WriteBoth.err c.in-WriteBoth.tag (linked_of c.in-WriteBoth.part.value) = search (rules, the_lemmas) in
-    let is : linked_of c.args.node.now ≡ both false c.in-WriteBoth.ok c.in-WriteBoth.err c.in-WriteBoth.tag (linked_of c.deref-in-WriteBoth.result.now) = at_box ∙ ap (λ n. both false c.in-WriteBoth.ok c.in-WriteBoth.err c.in-WriteBoth.tag (linked_of n)) (sym here0) in
-    let x = c.args.context.now in
-    subst (λ n. Ends (meant x n c.args.store.now) (store_at x c.write_both.new.store) c.write_both.result) (sym is) c.write_both.ensures.ended
-
-pub eval-returns-in-WriteMerged-clause-ended : goal.eval-returns-in-WriteMerged-clause-ended
-eval-returns-in-WriteMerged-clause-ended t c =
-    let here0 : c.deref-in-WriteMerged.result.now ≡ c.in-WriteMerged.part.value = search rules in
-    let at_box : linked_of c.args.node.now ≡ merge false c.in-WriteMerged.target (linked_of c.in-WriteMerged.part.value) = search (rules, the_lemmas) in
-    let is : linked_of c.args.node.now ≡ merge false c.in-WriteMerged.target (linked_of c.deref-in-WriteMerged.result.now) = at_box ∙ ap (λ n. merge false c.in-WriteMerged.target (linked_of n)) (sym here0) in
-    let x = c.args.context.now in
-    subst (λ n. Ends (meant x n c.args.store.now) (store_at x c.write_merged.new.store) c.write_merged.result) (sym is) c.write_merged.ensures.ended
 
 pub eval-returns-in_ok-copy-in-Literal-clause-ended : goal.eval-returns-in_ok-copy-in-Literal-clause-ended
 eval-returns-in_ok-copy-in-Literal-clause-ended t c =
@@ -584,30 +532,6 @@ eval-returns-in_ok-copy-in-Read-clause-ended t c =
     let x = c.args.context.now in
     let is : linked_of c.args.node.now ≡ read c.in-Read.place = search (rules, the_lemmas) in
     ap (λ n. meant x n c.args.store.now) is ∙ ap (λ v. ends (value v) (store_at x c.args.store.now)) (sym (c.in_ok-copy-in-Read.ensures.equal ∙ c.read.ensures (names_in x) c.requires.ready.names))
-
-pub eval-write_both-requires : goal.eval-write_both-requires
-eval-write_both-requires t c =
-    let here0 : c.deref-in-WriteBoth.result.now ≡ c.in-WriteBoth.part.value = search rules in
-    let at_box : linked_of c.args.node.now ≡ both false c.in-WriteBoth.ok c.in-WriteBoth.err c.in-WriteBoth.tag (linked_of c.in-WriteBoth.part.value) = search (rules, the_lemmas) in
-    let is : linked_of c.args.node.now ≡ both false c.in-WriteBoth.ok c.in-WriteBoth.err c.in-WriteBoth.tag (linked_of c.deref-in-WriteBoth.result.now) = at_box ∙ ap (λ n. both false c.in-WriteBoth.ok c.in-WriteBoth.err c.in-WriteBoth.tag (linked_of n)) (sym here0) in
-    let fits = subst (FitsIn c.args.context.now) is c.requires.fits in
-    (omega (arith, c.decreases, ap linked_size is), (c.requires.ready, (fits.0, (fits.1.0, fits.1.1))))
-
-pub eval-write_merged-requires : goal.eval-write_merged-requires
-eval-write_merged-requires t c =
-    let here0 : c.deref-in-WriteMerged.result.now ≡ c.in-WriteMerged.part.value = search rules in
-    let at_box : linked_of c.args.node.now ≡ merge false c.in-WriteMerged.target (linked_of c.in-WriteMerged.part.value) = search (rules, the_lemmas) in
-    let is : linked_of c.args.node.now ≡ merge false c.in-WriteMerged.target (linked_of c.deref-in-WriteMerged.result.now) = at_box ∙ ap (λ n. merge false c.in-WriteMerged.target (linked_of n)) (sym here0) in
-    let fits = subst (FitsIn c.args.context.now) is c.requires.fits in
-    (omega (arith, c.decreases, ap linked_size is), (c.requires.ready, (fits.0, fits.1)))
-
-pub eval-write_value-requires : goal.eval-write_value-requires
-eval-write_value-requires t c =
-    let here0 : c.deref-in-Write.result.now ≡ c.in-Write.part.value = search rules in
-    let at_box : linked_of c.args.node.now ≡ assign false c.in-Write.target (linked_of c.in-Write.part.value) = search (rules, the_lemmas) in
-    let is : linked_of c.args.node.now ≡ assign false c.in-Write.target (linked_of c.deref-in-Write.result.now) = at_box ∙ ap (λ n. assign false c.in-Write.target (linked_of n)) (sym here0) in
-    let fits = subst (FitsIn c.args.context.now) is c.requires.fits in
-    (omega (arith, c.decreases, ap linked_size is), (c.requires.ready, (fits.0, fits.1)))
 
 pub give_back-eval-requires : goal.give_back-eval-requires
 give_back-eval-requires t c =
@@ -633,29 +557,42 @@ items-loop-item-preserved t c =
     let size = parts_fewer c.args.items.now l.item-index c.item-item.result c.loop-item-test.true c.item-item.is in
     record { so_far = next.0; fits = next.1; fewer = omega (arith, l.invariant.fewer, size) }
 
-pub merge-merged-requires : goal.merge-merged-requires
-merge-merged-requires t c =
-    (omega (arith, c.decreases), (c.requires.ready, (c.requires.target, c.requires.fits)))
+pub merge-beside-requires : goal.merge-beside-requires
+merge-beside-requires t c =
+    (omega (arith, c.decreases), (c.requires.ready, c.requires.fits))
+
+pub merge-returns-clause-ended : goal.merge-returns-clause-ended
+merge-returns-clause-ended t c =
+    let x = c.args.context.now in
+    let T = target_of (names_in x) c.args.target.now in
+    let given = meant x (linked_of c.args.part.now) c.args.store.now in
+    let current = c.in_ok-current.ensures (names_in x) c.requires.ready.names in
+    let made = subst (λ v. on_value given (λ w end. ends (applied ops.Merge v w) end) ≡ ends (value (tree_of c.in_ok-value.value)) (store_at x c.beside.new.store)) current c.in_ok-value.ensures.ended in
+    let are = names_after (names_in x) c.args.store.now c.beside.new.store c.requires.ready.names c.in_ok-value.ensures.stays in
+    assigned_ends c.args.is_asked T (combined ops.Merge (ends (value (target_value T (store_at x c.args.store.now))) (store_at x c.args.store.now)) (λ end. means (names_in x) (setting_in x) (linked_of c.args.part.now) end)) (tree_of c.in_ok-value.value) (tree_of c.in_ok-copy.copy) (store_at x c.beside.new.store) (store_at x c.write_to.new.store) made c.in_ok-copy.ensures (c.in_ok-write_to.ensures.written (names_in x) are)
+
+pub merge-returns-in_err-value-clause-ended : goal.merge-returns-in_err-value-clause-ended
+merge-returns-in_err-value-clause-ended t c =
+    let x = c.args.context.now in
+    let T = target_of (names_in x) c.args.target.now in
+    let given = meant x (linked_of c.args.part.now) c.args.store.now in
+    let current = c.in_ok-current.ensures (names_in x) c.requires.ready.names in
+    let made = subst (λ v. Stops (on_value given (λ w end. ends (applied ops.Merge v w) end)) (store_at x c.beside.new.store) c.in_err-value.field-0.0) current c.in_err-value.ensures.ended in
+    let told : Stops (meant x (merge c.args.is_asked c.args.target.now (linked_of c.args.part.now)) c.args.store.now) (store_at x c.beside.new.store) c.in_err-value.field-0.0 =
+    asked_stops c.args.is_asked (assigned T (combined ops.Merge (ends (value (target_value T (store_at x c.args.store.now))) (store_at x c.args.store.now)) (λ end. means (names_in x) (setting_in x) (linked_of c.args.part.now) end))) (store_at x c.beside.new.store) c.in_err-value.field-0.0 (after_stop (combined ops.Merge (ends (value (target_value T (store_at x c.args.store.now))) (store_at x c.args.store.now)) (λ end. means (names_in x) (setting_in x) (linked_of c.args.part.now) end)) (λ v after. writes_to T v after (λ end. ends (value v) end)) (store_at x c.beside.new.store) c.in_err-value.field-0.0 made) in
+    search rules
 
 pub merge-returns-in_err-write_to-clause-ended : goal.merge-returns-in_err-write_to-clause-ended
 merge-returns-in_err-write_to-clause-ended t c =
     let x = c.args.context.now in
-    let after = c.merged.new.store in
     let T = target_of (names_in x) c.args.target.now in
-    let are = names_after (names_in x) c.args.store.now after c.requires.ready.names c.in_ok-value.ensures.stays in
-    let given : Stops (meant x (merge true c.args.target.now (linked_of c.args.part.now)) c.args.store.now) (store_at x c.write_to.new.store) c.in_err-write_to.field-0.0 =
-    assigned_stops T (combined ops.Merge (ends (value (target_value T (store_at x c.args.store.now))) (store_at x c.args.store.now)) (λ end. means (names_in x) (setting_in x) (linked_of c.args.part.now) end)) (tree_of c.in_ok-value.value) (store_at x after) (store_at x c.write_to.new.store) c.in_err-write_to.field-0.0 c.in_ok-value.ensures.ended (c.in_err-write_to.ensures.written (names_in x) are) in
+    let given = meant x (linked_of c.args.part.now) c.args.store.now in
+    let current = c.in_ok-current.ensures (names_in x) c.requires.ready.names in
+    let made = subst (λ v. on_value given (λ w end. ends (applied ops.Merge v w) end) ≡ ends (value (tree_of c.in_ok-value.value)) (store_at x c.beside.new.store)) current c.in_ok-value.ensures.ended in
+    let are = names_after (names_in x) c.args.store.now c.beside.new.store c.requires.ready.names c.in_ok-value.ensures.stays in
+    let told : Stops (meant x (merge c.args.is_asked c.args.target.now (linked_of c.args.part.now)) c.args.store.now) (store_at x c.write_to.new.store) c.in_err-write_to.field-0.0 =
+    assigned_stops c.args.is_asked T (combined ops.Merge (ends (value (target_value T (store_at x c.args.store.now))) (store_at x c.args.store.now)) (λ end. means (names_in x) (setting_in x) (linked_of c.args.part.now) end)) (tree_of c.in_ok-value.value) (store_at x c.beside.new.store) (store_at x c.write_to.new.store) c.in_err-write_to.field-0.0 made (c.in_err-write_to.ensures.written (names_in x) are) in
     search rules
-
-pub merged-beside-requires : goal.merged-beside-requires
-merged-beside-requires t c =
-    (omega (arith, c.decreases), (c.requires.ready, c.requires.fits))
-
-pub merged-returns-clause-ended : goal.merged-returns-clause-ended
-merged-returns-clause-ended t c =
-    let x = c.args.context.now in
-    let is = c.in_ok-value.ensures (names_in x) c.requires.ready.names in
-    subst (λ v. Ends (on_value (meant x (linked_of c.args.part.now) c.args.store.now) (λ w end. ends (applied ops.Merge v w) end)) (store_at x c.beside.new.store) c.beside.result) is c.beside.ensures.ended
 
 pub negation-eval-requires : goal.negation-eval-requires
 negation-eval-requires t c =
@@ -724,68 +661,3 @@ values-returns-in_err-value-clause-ended t c =
     let x = c.args.context.now in
     let p = err_from_is_err_and c.from_residual-in_err-value.result c.from_residual-in_err-value.ensures.1 in
     rw (p.1, p.2) (λ more. parts_stop x c.args.store.now l.store c.args.nodes.now l.node-index c.node-item.result (map tree_of l.values.items) _ _ c.in_err-value.field-0.0 c.loop-node-test.true c.node-item.is l.invariant.so_far c.in_err-value.ensures.ended more)
-
-pub write_both-outcome-requires : goal.write_both-outcome-requires
-write_both-outcome-requires t c =
-    (omega (arith, c.decreases), (c.requires.ready, c.requires.fits))
-
-pub write_both-returns-in_err-value-clause-ended : goal.write_both-returns-in_err-value-clause-ended
-write_both-returns-in_err-value-clause-ended t c =
-    let x = c.args.context.now in
-    let T = target_of (names_in x) c.args.ok.now in
-    let U = target_of (names_in x) c.args.err.now in
-    let given = meant x (linked_of c.args.part.now) c.args.store.now in
-    let told : Stops (meant x (both false c.args.ok.now c.args.err.now c.args.tag (linked_of c.args.part.now)) c.args.store.now) (store_at x c.outcome.new.store) c.in_err-value.field-0.0 =
-    null_stops _ (store_at x c.outcome.new.store) c.in_err-value.field-0.0 (c.in_err-value.ensures.ended T U) in
-    search rules
-
-pub write_both-returns-in_err-write_to-2-clause-ended : goal.write_both-returns-in_err-write_to-2-clause-ended
-write_both-returns-in_err-write_to-2-clause-ended t c =
-    let x = c.args.context.now in
-    let T = target_of (names_in x) c.args.ok.now in
-    let U = target_of (names_in x) c.args.err.now in
-    let given = meant x (linked_of c.args.part.now) c.args.store.now in
-    let are = names_after (names_in x) c.args.store.now c.outcome.new.store c.requires.ready.names c.in_ok-value.ensures.stays in
-    let are_then = names_after (names_in x) c.outcome.new.store c.write_to.new.store are c.in_ok-write_to.ensures.stays in
-    let told : Stops (meant x (both false c.args.ok.now c.args.err.now c.args.tag (linked_of c.args.part.now)) c.args.store.now) (store_at x c.write_to-2.new.store) c.in_err-write_to-2.field-0.0 =
-    null_stops _ (store_at x c.write_to-2.new.store) c.in_err-write_to-2.field-0.0 (second_stops T U (both_assigned T U c.args.tag given.outcome given.store) (tree_of c.in_ok-value.value) (tree_of c.in_ok-value.error) (store_at x c.outcome.new.store) (store_at x c.write_to.new.store) (store_at x c.write_to-2.new.store) c.in_err-write_to-2.field-0.0 (c.in_ok-value.ensures.ended T U) (c.in_ok-write_to.ensures.written (names_in x) are) (c.in_err-write_to-2.ensures.written (names_in x) are_then)) in
-    search rules
-
-pub write_both-returns-in_err-write_to-clause-ended : goal.write_both-returns-in_err-write_to-clause-ended
-write_both-returns-in_err-write_to-clause-ended t c =
-    let x = c.args.context.now in
-    let T = target_of (names_in x) c.args.ok.now in
-    let U = target_of (names_in x) c.args.err.now in
-    let given = meant x (linked_of c.args.part.now) c.args.store.now in
-    let are = names_after (names_in x) c.args.store.now c.outcome.new.store c.requires.ready.names c.in_ok-value.ensures.stays in
-    let told : Stops (meant x (both false c.args.ok.now c.args.err.now c.args.tag (linked_of c.args.part.now)) c.args.store.now) (store_at x c.write_to.new.store) c.in_err-write_to.field-0.0 =
-    null_stops _ (store_at x c.write_to.new.store) c.in_err-write_to.field-0.0 (first_stops T U (both_assigned T U c.args.tag given.outcome given.store) (tree_of c.in_ok-value.value) (tree_of c.in_ok-value.error) (store_at x c.outcome.new.store) (store_at x c.write_to.new.store) c.in_err-write_to.field-0.0 (c.in_ok-value.ensures.ended T U) (c.in_err-write_to.ensures.written (names_in x) are)) in
-    search rules
-
-pub write_merged-merged-requires : goal.write_merged-merged-requires
-write_merged-merged-requires t c =
-    (omega (arith, c.decreases), (c.requires.ready, (c.requires.target, c.requires.fits)))
-
-pub write_merged-returns-in_err-write_to-clause-ended : goal.write_merged-returns-in_err-write_to-clause-ended
-write_merged-returns-in_err-write_to-clause-ended t c =
-    let x = c.args.context.now in
-    let after = c.merged.new.store in
-    let T = target_of (names_in x) c.args.target.now in
-    let are = names_after (names_in x) c.args.store.now after c.requires.ready.names c.in_ok-value.ensures.stays in
-    let given : Stops (meant x (merge false c.args.target.now (linked_of c.args.part.now)) c.args.store.now) (store_at x c.write_to.new.store) c.in_err-write_to.field-0.0 =
-    null_stops _ (store_at x c.write_to.new.store) c.in_err-write_to.field-0.0 (assigned_stops T (combined ops.Merge (ends (value (target_value T (store_at x c.args.store.now))) (store_at x c.args.store.now)) (λ end. means (names_in x) (setting_in x) (linked_of c.args.part.now) end)) (tree_of c.in_ok-value.value) (store_at x after) (store_at x c.write_to.new.store) c.in_err-write_to.field-0.0 c.in_ok-value.ensures.ended (c.in_err-write_to.ensures.written (names_in x) are)) in
-    search rules
-
-pub write_value-eval-requires : goal.write_value-eval-requires
-write_value-eval-requires t c =
-    (omega (arith, c.decreases), (c.requires.ready, c.requires.fits))
-
-pub write_value-returns-in_err-write_to-clause-ended : goal.write_value-returns-in_err-write_to-clause-ended
-write_value-returns-in_err-write_to-clause-ended t c =
-    let x = c.args.context.now in
-    let after = c.eval.new.store in
-    let T = target_of (names_in x) c.args.target.now in
-    let are = names_after (names_in x) c.args.store.now after c.requires.ready.names c.in_ok-value.ensures.stays in
-    let given : Stops (meant x (assign false c.args.target.now (linked_of c.args.part.now)) c.args.store.now) (store_at x c.write_to.new.store) c.in_err-write_to.field-0.0 =
-    null_stops _ (store_at x c.write_to.new.store) c.in_err-write_to.field-0.0 (assigned_stops T (meant x (linked_of c.args.part.now) c.args.store.now) (tree_of c.in_ok-value.value) (store_at x after) (store_at x c.write_to.new.store) c.in_err-write_to.field-0.0 c.in_ok-value.ensures.ended (c.in_err-write_to.ensures.written (names_in x) are)) in
-    search rules

@@ -64,9 +64,6 @@ decreases-items l = 16 * parts_size (parts_view l.items.now) + 16
 abbrev pub decreases-merge : goal.decreases-merge
 decreases-merge l = 16 * linked_size (linked_of l.part.now) + 18
 
-abbrev pub decreases-merged : goal.decreases-merged
-decreases-merged l = 16 * linked_size (linked_of l.part.now) + 17
-
 abbrev pub decreases-negation : goal.decreases-negation
 decreases-negation l = 16 * linked_size (linked_of l.part.now) + 16
 
@@ -81,15 +78,6 @@ decreases-query l = 16 * linked_size (linked_of l.part.now) + 16
 
 abbrev pub decreases-values : goal.decreases-values
 decreases-values l = 16 * parts_size (parts_view l.nodes.now) + 16
-
-abbrev pub decreases-write_both : goal.decreases-write_both
-decreases-write_both l = 16 * linked_size (linked_of l.part.now) + 17
-
-abbrev pub decreases-write_merged : goal.decreases-write_merged
-decreases-write_merged l = 16 * linked_size (linked_of l.part.now) + 18
-
-abbrev pub decreases-write_value : goal.decreases-write_value
-decreases-write_value l = 16 * linked_size (linked_of l.part.now) + 16
 
 -- the values of what is left, behind those so far, are those of all, whatever stands behind them
 abbrev pub invariant-values-loop-node : goal.invariant-values-loop-node

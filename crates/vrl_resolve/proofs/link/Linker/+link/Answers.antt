@@ -1,4 +1,4 @@
-use Rattle.std.proofs.Common.{◌≡◌, ◌<◌, ◌≤◌, true, false, length, map, option_map, rules, sym, ap, ap₂, ◌∙◌, subst, arith}
+use Rattle.std.proofs.Common.{◌≡◌, ◌<◌, ◌≤◌, true, length, map, option_map, rules, refl, sym, ap, ap₂, ◌∙◌, subst, arith}
 use Rattle.std.proofs.lemmas.Result.{IfOk-weaker}
 use Rattle.std.specs.Prelude.{⊤}
 use Rattle.vrl_value.specs.View.{tree_of}
@@ -12,7 +12,7 @@ use Rattle.vrl_resolve.specs.Linked.{arm_of, arms_view, linked_of, parts_view, e
 use Rattle.vrl_resolve.specs.Linking.{a_bare_abort, a_binary, a_block, a_conditional, a_last, a_merge, a_negation, a_query, a_return, an_abort, an_array, an_assignment, an_error_assignment, an_object, no_last, AreItemsLinked, IsLinked, IsLinkedForm, Links}
 use Rattle.vrl_resolve.specs.declared.node.Form.{the_lemmas}
 use Rattle.vrl_resolve.proofs.LinkedCalls.{call_made}
-use Rattle.vrl_resolve.proofs.Links.{any_made, any_stands, form_made, form_stands, group_stands, links_and_numbers, links_behind_tag, links_itself, links_then, links_weaker, numbers_and_links, same_names}
+use Rattle.vrl_resolve.proofs.Links.{any_given, any_made, any_stands, form_given, form_made, group_stands, links_and_numbers, links_behind_tag, links_itself, links_then, links_weaker, numbers_and_links, same_names}
 use Rattle.vrl_resolve.proofs.Partway.{args_end, args_next, arms_end, arms_next, arms_pushed, array_end, body_seen, array_next, items_end, items_next, next_arg, next_arm, next_item, next_pair, no_arg_left, no_arm_left, no_item_left, no_more_items, no_pair_left, nodes_pushed, object_end, object_next, pairs_pushed, predicate_seen}
 use Rattle.vrl_resolve.proofs.WrittenArguments.{value_seen}
 use Rattle.vrl_resolve.proofs.link.Linker.+link.Goals as goal
@@ -21,55 +21,35 @@ use Rattle.vrl_resolve.proofs.link.Linker.+link.Goals as goal
 
 pub node-returns-in-Literal : goal.node-returns-in-Literal
 node-returns-in-Literal t c =
-    let e = c.args.expr.now in
-    let is : expr_of e ≡ expr e.span (literal (tree_of c.in-Literal.value)) = search (rules, syntax_lemmas) in
-    IfOk-weaker c.literal.result _ _ (λ node links. any_stands (expr_of e) e.span _ is links) c.literal.ensures
+    any_given _ _ _ c.literal.result c.args.expr.now (λ v. literal (tree_of v)) c.in-Literal.value c.literal.ensures refl (search (rules, syntax_lemmas))
 
 pub node-returns-in-Array : goal.node-returns-in-Array
 node-returns-in-Array t c =
-    let e = c.args.expr.now in
-    let is : expr_of e ≡ expr e.span (array (exprs_of c.in-Array.parts)) = search (rules, syntax_lemmas) in
-    IfOk-weaker c.array.result _ _ (λ node links. any_stands (expr_of e) e.span _ is links) c.array.ensures
+    any_given _ _ _ c.array.result c.args.expr.now (λ es. array (exprs_of es)) c.in-Array.parts c.array.ensures refl (search (rules, syntax_lemmas))
 
 pub node-returns-in-Map : goal.node-returns-in-Map
 node-returns-in-Map t c =
-    let e = c.args.expr.now in
-    let is : expr_of e ≡ expr e.span (object (pairs_of c.in-Map.pairs)) = search (rules, syntax_lemmas) in
-    IfOk-weaker c.object.result _ _ (λ node links. any_stands (expr_of e) e.span _ is links) c.object.ensures
+    any_given _ _ _ c.object.result c.args.expr.now (λ ps. object (pairs_of ps)) c.in-Map.pairs c.object.ensures refl (search (rules, syntax_lemmas))
 
 pub node-returns-in-Read : goal.node-returns-in-Read
 node-returns-in-Read t c =
-    let e = c.args.expr.now in
-    let is : expr_of e ≡ expr e.span (read c.in-Read.root c.in-Read.path) = search (rules, syntax_lemmas) in
-    IfOk-weaker c.read.result _ _ (λ node links. any_stands (expr_of e) e.span _ is links) c.read.ensures
+    any_given _ _ _ c.read.result c.args.expr.now (λ root. read root c.in-Read.path) c.in-Read.root c.read.ensures refl (search (rules, syntax_lemmas))
 
 pub node-returns-in-Query : goal.node-returns-in-Query
 node-returns-in-Query t c =
-    let e = c.args.expr.now in
-    let here0 : c.deref.result.now ≡ c.in-Query.part.value = search rules in
-    let at_box : expr_of e ≡ expr e.span (query (expr_of c.in-Query.part.value) c.in-Query.path) = search (rules, syntax_lemmas) in
-    let is : expr_of e ≡ expr e.span (query (expr_of c.deref.result.now) c.in-Query.path) = at_box ∙ ap (λ x. expr e.span (query (expr_of x) c.in-Query.path)) (sym here0) in
-    IfOk-weaker c.query.result _ _ (λ node links. any_stands (expr_of e) e.span _ is links) c.query.ensures
+    any_given _ _ _ c.query.result c.args.expr.now (λ x. query (expr_of x) c.in-Query.path) c.in-Query.part.value c.query.ensures (search rules) (search (rules, syntax_lemmas))
 
 pub node-returns-in-Block : goal.node-returns-in-Block
 node-returns-in-Block t c =
-    let e = c.args.expr.now in
-    let is : expr_of e ≡ expr e.span (block (exprs_of c.in-Block.items)) = search (rules, syntax_lemmas) in
-    IfOk-weaker c.block.result _ _ (λ node links. form_stands (expr_of e) e.span _ is links) c.block.ensures
+    form_given _ _ _ c.block.result c.args.expr.now (λ es. block (exprs_of es)) c.in-Block.items c.block.ensures refl (search (rules, syntax_lemmas))
 
 pub node-returns-in-If : goal.node-returns-in-If
 node-returns-in-If t c =
-    let e = c.args.expr.now in
-    let is : expr_of e ≡ expr e.span (conditional (arms_of c.in-If.arms) (else_of (option_map exprs_of c.in-If.otherwise))) = search (rules, syntax_lemmas) in
-    IfOk-weaker c.conditional.result _ _ (λ node links. form_stands (expr_of e) e.span _ is links) c.conditional.ensures
+    form_given _ _ _ c.conditional.result c.args.expr.now (λ otherwise. conditional (arms_of c.in-If.arms) (else_of (option_map exprs_of otherwise))) c.in-If.otherwise c.conditional.ensures refl (search (rules, syntax_lemmas))
 
 pub node-returns-in-Not : goal.node-returns-in-Not
 node-returns-in-Not t c =
-    let e = c.args.expr.now in
-    let here0 : c.deref-in-Not.result.now ≡ c.in-Not.part.value = search rules in
-    let at_box : expr_of e ≡ expr e.span (negation (expr_of c.in-Not.part.value)) = search (rules, syntax_lemmas) in
-    let is : expr_of e ≡ expr e.span (negation (expr_of c.deref-in-Not.result.now)) = at_box ∙ ap (λ x. expr e.span (negation (expr_of x))) (sym here0) in
-    IfOk-weaker c.negation.result _ _ (λ node links. any_stands (expr_of e) e.span _ is links) c.negation.ensures
+    any_given _ _ _ c.negation.result c.args.expr.now (λ x. negation (expr_of x)) c.in-Not.part.value c.negation.ensures (search rules) (search (rules, syntax_lemmas))
 
 pub node-returns-in-Binary : goal.node-returns-in-Binary
 node-returns-in-Binary t c =
@@ -82,49 +62,27 @@ node-returns-in-Binary t c =
 
 pub node-returns-in-Assign : goal.node-returns-in-Assign
 node-returns-in-Assign t c =
-    let e = c.args.expr.now in
-    let here0 : c.deref-in-Assign.result.now ≡ c.in-Assign.part.value = search rules in
-    let at_box : expr_of e ≡ expr e.span (assign c.in-Assign.target (expr_of c.in-Assign.part.value)) = search (rules, syntax_lemmas) in
-    let is : expr_of e ≡ expr e.span (assign c.in-Assign.target (expr_of c.deref-in-Assign.result.now)) = at_box ∙ ap (λ x. expr e.span (assign c.in-Assign.target (expr_of x))) (sym here0) in
-    IfOk-weaker c.assign.result _ _ (λ node links. form_stands (expr_of e) e.span _ is links) c.assign.ensures
+    form_given _ _ _ c.assign.result c.args.expr.now (λ x. assign c.in-Assign.target (expr_of x)) c.in-Assign.part.value c.assign.ensures (search rules) (search (rules, syntax_lemmas))
 
 pub node-returns-in-Merge : goal.node-returns-in-Merge
 node-returns-in-Merge t c =
-    let e = c.args.expr.now in
-    let here0 : c.deref-in-Merge.result.now ≡ c.in-Merge.part.value = search rules in
-    let at_box : expr_of e ≡ expr e.span (merge c.in-Merge.target (expr_of c.in-Merge.part.value)) = search (rules, syntax_lemmas) in
-    let is : expr_of e ≡ expr e.span (merge c.in-Merge.target (expr_of c.deref-in-Merge.result.now)) = at_box ∙ ap (λ x. expr e.span (merge c.in-Merge.target (expr_of x))) (sym here0) in
-    IfOk-weaker c.merge.result _ _ (λ node links. form_stands (expr_of e) e.span _ is links) c.merge.ensures
+    form_given _ _ _ c.merge.result c.args.expr.now (λ x. merge c.in-Merge.target (expr_of x)) c.in-Merge.part.value c.merge.ensures (search rules) (search (rules, syntax_lemmas))
 
 pub node-returns-in-Both : goal.node-returns-in-Both
 node-returns-in-Both t c =
-    let e = c.args.expr.now in
-    let here0 : c.deref-in-Both.result.now ≡ c.in-Both.part.value = search rules in
-    let at_box : expr_of e ≡ expr e.span (both c.in-Both.ok c.in-Both.err (expr_of c.in-Both.part.value)) = search (rules, syntax_lemmas) in
-    let is : expr_of e ≡ expr e.span (both c.in-Both.ok c.in-Both.err (expr_of c.deref-in-Both.result.now)) = at_box ∙ ap (λ x. expr e.span (both c.in-Both.ok c.in-Both.err (expr_of x))) (sym here0) in
-    IfOk-weaker c.both.result _ _ (λ node links. form_stands (expr_of e) e.span _ is links) c.both.ensures
+    form_given _ _ _ c.both.result c.args.expr.now (λ x. both c.in-Both.ok c.in-Both.err (expr_of x)) c.in-Both.part.value c.both.ensures (search rules) (search (rules, syntax_lemmas))
 
 pub node-returns-in-Return : goal.node-returns-in-Return
 node-returns-in-Return t c =
-    let e = c.args.expr.now in
-    let here0 : c.deref-in-Return.result.now ≡ c.in-Return.part.value = search rules in
-    let at_box : expr_of e ≡ expr e.span (return_of (expr_of c.in-Return.part.value)) = search (rules, syntax_lemmas) in
-    let is : expr_of e ≡ expr e.span (return_of (expr_of c.deref-in-Return.result.now)) = at_box ∙ ap (λ x. expr e.span (return_of (expr_of x))) (sym here0) in
-    IfOk-weaker c.give_back.result _ _ (λ node links. any_stands (expr_of e) e.span _ is links) c.give_back.ensures
+    any_given _ _ _ c.give_back.result c.args.expr.now (λ x. return_of (expr_of x)) c.in-Return.part.value c.give_back.ensures (search rules) (search (rules, syntax_lemmas))
 
 pub node-returns-in-Abort : goal.node-returns-in-Abort
 node-returns-in-Abort t c =
-    let e = c.args.expr.now in
-    let is : expr_of e ≡ expr e.span (abort_with (message_of (option_map (λ part. expr_of part.value) c.in-Abort.message))) = search (rules, syntax_lemmas) in
-    IfOk-weaker c.abort.result _ _ (λ node links. any_stands (expr_of e) e.span _ is links) c.abort.ensures
+    any_given _ _ _ c.abort.result c.args.expr.now (λ m. abort_with (message_of (option_map (λ part. expr_of part.value) m))) c.in-Abort.message c.abort.ensures refl (search (rules, syntax_lemmas))
 
 pub node-returns-in-Call : goal.node-returns-in-Call
 node-returns-in-Call t c =
-    let e = c.args.expr.now in
-    let here0 : c.deref-in-Call.result.now ≡ c.in-Call.call.value = search rules in
-    let at_box : expr_of e ≡ expr e.span (call_of c.in-Call.call.value) = search (rules, syntax_lemmas) in
-    let is : expr_of e ≡ expr e.span (call_of c.deref-in-Call.result.now) = at_box ∙ ap (λ x. expr e.span (call_of x)) (sym here0) in
-    IfOk-weaker c.call.result _ _ (λ node links. any_stands (expr_of e) e.span _ is links) c.call.ensures
+    any_given _ _ _ c.call.result c.args.expr.now (λ x. call_of x) c.in-Call.call.value c.call.ensures (search rules) (search (rules, syntax_lemmas))
 
 pub node-returns-in-Group : goal.node-returns-in-Group
 node-returns-in-Group t c =
@@ -166,39 +124,21 @@ conditional-returns t c =
     let is : linked_of c.of.result ≡ linked.conditional (arms_view c.in_ok-arms.arms.items) (linked_else (option_map (λ nodes. map linked_of nodes.items) c.in_ok-otherwise.otherwise)) = search (rules, the_lemmas) in
     form_made c.args.is_asked (conditional (arms_of c.args.arms.now) (else_of (option_map exprs_of c.args.otherwise.now))) _ _ is (λ names both. a_conditional both.0 both.1) (links_then c.in_ok-arms.ensures c.in_ok-otherwise.ensures)
 
-pub assign-returns-then-is_asked : goal.assign-returns-then-is_asked
-assign-returns-then-is_asked t c =
-    let is : linked_of c.of.result ≡ linked.assign true c.in_ok-target.target (linked_of c.in_ok-part.part.value) = search (rules, the_lemmas) in
-    form_made c.args.is_asked (assign c.args.target.now (expr_of c.args.part.now)) _ _ (is ∙ ap (λ b. linked.assign b c.in_ok-target.target (linked_of c.in_ok-part.part.value)) (sym c.if-is_asked.true)) (λ names all. an_assignment all.1 all.0) (links_and_numbers c.in_ok-part.ensures c.in_ok-target.ensures)
+pub assign-returns : goal.assign-returns
+assign-returns t c =
+    let is : linked_of c.of.result ≡ linked.assign c.args.is_asked c.in_ok-target.target (linked_of c.in_ok-part.part.value) = search (rules, the_lemmas) in
+    form_made c.args.is_asked (assign c.args.target.now (expr_of c.args.part.now)) _ _ is (λ names all. an_assignment all.1 all.0) (links_and_numbers c.in_ok-part.ensures c.in_ok-target.ensures)
 
-pub assign-returns-else-is_asked : goal.assign-returns-else-is_asked
-assign-returns-else-is_asked t c =
-    let is : linked_of c.of-else-is_asked.result ≡ linked.assign false c.in_ok-target.target (linked_of c.in_ok-part.part.value) = search (rules, the_lemmas) in
-    form_made c.args.is_asked (assign c.args.target.now (expr_of c.args.part.now)) _ _ (is ∙ ap (λ b. linked.assign b c.in_ok-target.target (linked_of c.in_ok-part.part.value)) (sym c.if-is_asked.false)) (λ names all. an_assignment all.1 all.0) (links_and_numbers c.in_ok-part.ensures c.in_ok-target.ensures)
+pub merge-returns : goal.merge-returns
+merge-returns t c =
+    let is : linked_of c.of.result ≡ linked.merge c.args.is_asked c.in_ok-target.target (linked_of c.in_ok-part.part.value) = search (rules, the_lemmas) in
+    form_made c.args.is_asked (merge c.args.target.now (expr_of c.args.part.now)) _ _ is (λ names all. a_merge all.1 all.0) (links_and_numbers c.in_ok-part.ensures c.in_ok-target.ensures)
 
-pub merge-returns-then-is_asked : goal.merge-returns-then-is_asked
-merge-returns-then-is_asked t c =
-    let is : linked_of c.of.result ≡ linked.merge true c.in_ok-target.target (linked_of c.in_ok-part.part.value) = search (rules, the_lemmas) in
-    form_made c.args.is_asked (merge c.args.target.now (expr_of c.args.part.now)) _ _ (is ∙ ap (λ b. linked.merge b c.in_ok-target.target (linked_of c.in_ok-part.part.value)) (sym c.if-is_asked.true)) (λ names all. a_merge all.1 all.0) (links_and_numbers c.in_ok-part.ensures c.in_ok-target.ensures)
-
-pub merge-returns-else-is_asked : goal.merge-returns-else-is_asked
-merge-returns-else-is_asked t c =
-    let is : linked_of c.of-else-is_asked.result ≡ linked.merge false c.in_ok-target.target (linked_of c.in_ok-part.part.value) = search (rules, the_lemmas) in
-    form_made c.args.is_asked (merge c.args.target.now (expr_of c.args.part.now)) _ _ (is ∙ ap (λ b. linked.merge b c.in_ok-target.target (linked_of c.in_ok-part.part.value)) (sym c.if-is_asked.false)) (λ names all. a_merge all.1 all.0) (links_and_numbers c.in_ok-part.ensures c.in_ok-target.ensures)
-
-pub both-returns-then-is_asked : goal.both-returns-then-is_asked
-both-returns-then-is_asked t c =
+pub both-returns : goal.both-returns
+both-returns t c =
     let node = linked_of c.in_ok-part.part.value in
-    let is : linked_of c.of.result ≡ linked.both true c.in_ok-ok.ok c.in_ok-err.err c.tag-tag.result node = search (rules, the_lemmas) in
-    let so = is ∙ ap₂ (λ b tag. linked.both b c.in_ok-ok.ok c.in_ok-err.err tag node) (sym c.if-is_asked.true) c.tag-tag.ensures.first in
-    form_made c.args.is_asked (both c.args.ok.now c.args.err.now (expr_of c.args.part.now)) _ _ so (λ names all. an_error_assignment all.0.1 all.1 all.0.0)
-    (links_behind_tag (same_names c.args.self.now c.tag-tag.new.self c.tag-tag.ensures.names) c.tag-tag.ensures.others (links_and_numbers (links_and_numbers c.in_ok-part.ensures c.in_ok-ok.ensures) c.in_ok-err.ensures))
-
-pub both-returns-else-is_asked : goal.both-returns-else-is_asked
-both-returns-else-is_asked t c =
-    let node = linked_of c.in_ok-part.part.value in
-    let is : linked_of c.of-else-is_asked.result ≡ linked.both false c.in_ok-ok.ok c.in_ok-err.err c.tag-tag.result node = search (rules, the_lemmas) in
-    let so = is ∙ ap₂ (λ b tag. linked.both b c.in_ok-ok.ok c.in_ok-err.err tag node) (sym c.if-is_asked.false) c.tag-tag.ensures.first in
+    let is : linked_of c.of.result ≡ linked.both c.args.is_asked c.in_ok-ok.ok c.in_ok-err.err c.tag-tag.result node = search (rules, the_lemmas) in
+    let so = is ∙ ap (λ tag. linked.both c.args.is_asked c.in_ok-ok.ok c.in_ok-err.err tag node) c.tag-tag.ensures.first in
     form_made c.args.is_asked (both c.args.ok.now c.args.err.now (expr_of c.args.part.now)) _ _ so (λ names all. an_error_assignment all.0.1 all.1 all.0.0)
     (links_behind_tag (same_names c.args.self.now c.tag-tag.new.self c.tag-tag.ensures.names) c.tag-tag.ensures.others (links_and_numbers (links_and_numbers c.in_ok-part.ensures c.in_ok-ok.ensures) c.in_ok-err.ensures))
 

@@ -1,6 +1,6 @@
 use Rattle.std.proofs.Common.{◌+◌, ◌*◌, drop, length, map, option_map}
-use Rattle.vrl_syntax.specs.View.{args_of, args_view, arms_of, arms_view, call_of, closure_in, closure_of, else_of, expr_of, exprs_of, exprs_view, message_of, pairs_of, pairs_view}
-use Rattle.vrl_syntax.proofs.PartSizes.{args_size, arms_size, closure_size, else_size, expr_size, exprs_size, form_size, message_size, pairs_size}
+use Rattle.vrl_syntax.specs.View.{args_of, args_view, arms_of, arms_view, call_of, else_of, expr_of, exprs_of, exprs_view, message_of, pairs_of, pairs_view}
+use Rattle.vrl_syntax.proofs.PartSizes.{args_size, arms_size, else_size, expr_size, exprs_size, form_size, message_size, pairs_size}
 use Rattle.vrl_resolve.specs.Linked.{arm_of, linked_of}
 use Rattle.vrl_resolve.proofs.Partway.{IsArgsPartway, IsArmsPartway, IsArrayPartway, IsItemsPartway, IsObjectPartway}
 use Rattle.vrl_resolve.proofs.link.Linker.+link.Given as goal
