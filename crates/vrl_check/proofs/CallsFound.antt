@@ -4,19 +4,16 @@ use Rattle.std.proofs.lemmas.Option.{slice_get-map}
 use Rattle.std.specs.Option.{option_map_or}
 use Rattle.vrl_diag.specs.declared.diagnostic.Span.{Span}
 use Rattle.vrl_syntax.specs.Regexes.{args_regexes_below, expr_regexes_below}
-use Rattle.vrl_syntax.specs.Tree.{Expr, expr, literal, call}
+use Rattle.vrl_syntax.specs.Tree.{Expr, expr, call}
 use Rattle.vrl_syntax.specs.View.{arg_of, args_view, call_of, closure_in, closure_of, expr_of, form_of}
 use Rattle.vrl_syntax.specs.declared.tree.Arg.{Arg as CodeArg}
 use Rattle.vrl_syntax.specs.declared.tree.Call.{Call as CodeCall, out-Call}
 use Rattle.vrl_syntax.specs.declared.tree.Closure.{Closure as CodeClosure}
 use Rattle.vrl_syntax.specs.declared.tree.Expr.{Expr as CodeExpr}
 use Rattle.vrl_syntax.specs.declared.tree.Form.{the_lemmas}
-use Rattle.vrl_builtin.specs.Conditions.{below_if}
 use Rattle.vrl_check.specs.Calling.{call_args, call_bang, call_closure, call_name, written, AreTold, IsFound}
 use Rattle.vrl_judge.specs.Calling.{told}
-use Rattle.vrl_syntax.specs.Calls.{literal_of}
 use Rattle.vrl_judge.specs.Rules.{Argument, argument_at, at, when}
-use Rattle.vrl_check.specs.Judgement.{span_of}
 use Rattle.vrl_check.specs.Judgement.{of_closure, of_unknown}
 use Rattle.vrl_judge.specs.declared.calls.Argument.{Argument as CodeArgument}
 
@@ -24,9 +21,6 @@ use Rattle.vrl_judge.specs.declared.calls.Argument.{Argument as CodeArgument}
 
 pub expr_seen : (e : CodeExpr) → expr_of e ≡ expr e.span (form_of e.form)
 expr_seen e = search (rules, the_lemmas)
-
-pub span_seen : (e : CodeExpr) → span_of (expr_of e) ≡ e.span
-span_seen e = ap span_of (expr_seen e)
 
 arg_span : (a : CodeArg) → (arg_of a).1 ≡ a.span
 arg_span a = search (rules, the_lemmas)
@@ -145,8 +139,3 @@ regexes_at (x ∷ args) zero a count below is =
     let same : x ≡ a = cc in
     ap (λ y. expr_regexes_below count (expr_of y.value)) (sym same) ∙ ap (expr_regexes_below count) (sym (value_seen x)) ∙ and_first _ _ below
 regexes_at (x ∷ args) (suc i) a count below is = regexes_at args i a count (and_second (expr_regexes_below count (arg_of x).2) _ below) is
-
--- those of a literal are those of the expression
-pub literal_below : (e : Expr) (count : ℕ) → expr_regexes_below count e ≡ true → below_if count (literal_of e) ≡ true
-literal_below (expr span (literal v)) count below = below
-literal_below (expr span f) count below = refl

@@ -4,6 +4,7 @@ use Rattle.std.proofs.lemmas.Bool.{or_parts, or_from}
 use Rattle.std.specs.List.{list_any}
 use Rattle.vrl_diag.specs.declared.diagnostic.Diagnostic.{Diagnostic}
 use Rattle.vrl_diag.specs.declared.diagnostic.Span.{Span}
+use Rattle.vrl_syntax.specs.ErrorAssignments.{in_closure}
 use Rattle.vrl_syntax.specs.Limits.{args_faults, closure_faults, form_faults}
 use Rattle.vrl_syntax.specs.Tree.{Args, Closure, Form, call}
 use Rattle.vrl_syntax.specs.Written.{is_del}
@@ -18,10 +19,9 @@ use Rattle.vrl_check.specs.Calling.{callee_codes, callee_parameters, places_in, 
 use Rattle.vrl_syntax.specs.Calls.{is_exists}
 use Rattle.vrl_check.specs.Calls.{args_hold_closure_call, closure_holds_closure_call, form_holds_closure_call}
 use Rattle.vrl_syntax.specs.Calls.{takes_closure}
-use Rattle.vrl_check.specs.Empties.{closure_empties}
 use Rattle.vrl_diag.specs.Refusal.{is_error}
 use Rattle.vrl_judge.specs.Rules.{Argument, Judgement, at, gives, if_state, with_codes, IsScalar}
-use Rattle.vrl_check.specs.Judgement.{Gives, JudgesArguments, a_call, a_call_of_nothing, a_deletion, an_existence, bound, bound_by, deleted_kind, deleted_path, IsAnsweredUnless, IsDeletedAt}
+use Rattle.vrl_check.specs.Judgement.{Gives, JudgesArguments, a_call, a_call_of_nothing, a_deletion, an_existence, bound, bound_by, deleted_kind, deleted_path, nulls, IsAnsweredUnless, IsDeletedAt}
 use Rattle.vrl_judge.specs.Judging.{known_on, AreEnds, HasEnds, HasGathered, HasJudged, IsReported}
 use Rattle.vrl_check.specs.Walking.{FormCanBeJudged}
 use Rattle.vrl_check.specs.declared.calls.Arguments.{Arguments}
@@ -37,7 +37,7 @@ use Rattle.vrl_check.specs.declared.calls.Callee.TheVariants as callee
 
 -- ---- behind the closure
 
-pub closure_passed : (before now passed : Checker) (gs : Args) (c : Closure) (arguments : Arguments) (js : List Argument) (j : Judgement) → HasArguments before now gs arguments js j → passed.empties.items ≡ now.empties.items ++ closure_empties c → passed ≡ record now { empties = passed.empties }
+pub closure_passed : (before now passed : Checker) (gs : Args) (c : Closure) (arguments : Arguments) (js : List Argument) (j : Judgement) → HasArguments before now gs arguments js j → passed.empties.items ≡ now.empties.items ++ nulls (in_closure c) → passed ≡ record now { empties = passed.empties }
     → IsPassed before passed gs c arguments js j
 closure_passed before now passed gs c arguments js j has empties others = record {
   told = has.told;
@@ -47,7 +47,7 @@ closure_passed before now passed gs c arguments js j has empties others = record
     ok = ap (λ (x : Checker). x.state.known) others ∙ has.gathered.ok;
     scopes = ap (λ (x : Checker). x.state.scopes) others ∙ has.gathered.scopes;
     diagnostics = ap (λ (x : Checker). x.diagnostics.items) others ∙ has.gathered.diagnostics;
-    empties = empties ∙ ap (λ ts. ts ++ closure_empties c) has.gathered.empties ∙ append_assoc before.empties.items j.empties (closure_empties c);
+    empties = empties ∙ ap (λ ts. ts ++ nulls (in_closure c)) has.gathered.empties ∙ append_assoc before.empties.items j.empties (nulls (in_closure c));
     patterns = ap (λ (x : Checker). x.patterns) others ∙ has.gathered.patterns;
   };
 }
@@ -69,14 +69,14 @@ pub nothing_judged : (name : List ℕ) (s span : Span) (bang : Bool) (gs : Args)
     → IsUnknown name → takes_closure name ≡ false → JudgesArguments before.patterns.now (gives never_kind (Some known)) gs js j → IsPassed before now gs c arguments js j → outcome.kind ≡ any_kind → IsReported (at 105 s) now after arguments.ends outcome.ends
     → (k : Judgement) × Gives before.patterns.now known span (call name s bang gs c) k × HasJudged before after outcome k
 nothing_judged name s span bang gs c before now after known js j arguments outcome unknown none judged passed any reported =
-    let whole : Judgement = record j { kind = any_kind; empties = j.empties ++ closure_empties c } in (
+    let whole : Judgement = record j { kind = any_kind; empties = j.empties ++ nulls (in_closure c) } in (
       with_codes (at 105 s) whole,
       a_call_of_nothing unknown.functions (unknown_name name unknown none) judged,
       record {
         kind = any;
         root = any_root;
         ends = reported_ends before.state.scopes (at 105 s) now after arguments.ends outcome.ends whole reported (ends_of before.state.scopes arguments.ends j whole passed.ends refl refl refl refl);
-        gathered = reported_gathered (at 105 s) before now after arguments.ends outcome.ends whole reported (gathered_of before now (record j { empties = j.empties ++ closure_empties c }) whole passed.gathered refl refl refl);
+        gathered = reported_gathered (at 105 s) before now after arguments.ends outcome.ends whole reported (gathered_of before now (record j { empties = j.empties ++ nulls (in_closure c) }) whole passed.gathered refl refl refl);
       },
     )
 
@@ -85,7 +85,7 @@ nothing_judged name s span bang gs c before now after known js j arguments outco
 pub call_bound : (named : Callee) (span : Span) (before now after : Checker) (gs : Args) (c : Closure) (arguments next : Arguments) (js : List Argument) (j : Judgement) → IsPassed before now gs c arguments js j
     → IsReported (callee_codes named span gs c js) now after arguments.ends next.ends → next.parts ≡ arguments.parts → IsBound named span before after gs c next js j
 call_bound named span before now after gs c arguments next js j passed reported same =
-    let whole : Judgement = record j { empties = j.empties ++ closure_empties c } in
+    let whole : Judgement = record j { empties = j.empties ++ nulls (in_closure c) } in
     record {
       told = subst (λ ps. AreTold gs ps.items js) (sym same) passed.told;
       roots = passed.roots;

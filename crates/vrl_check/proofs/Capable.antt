@@ -10,7 +10,6 @@ use Rattle.vrl_syntax.specs.Written.{is_del}
 use Rattle.vrl_syntax.specs.declared.root.Op.{Op}
 use Rattle.vrl_syntax.specs.declared.root.Target.{Target}
 use Rattle.vrl_check.specs.Calls.{expr_holds_closure_call, exprs_hold_closure_call, pairs_hold_closure_call}
-use Rattle.vrl_syntax.specs.Calls.{takes_closure}
 use Rattle.vrl_check.specs.Judgement.{pair_values}
 use Rattle.vrl_check.specs.Walking.{ArgumentsCanBeJudged, ArmsCanBeJudged, CanBeJudged, ElseCanBeJudged, FormCanBeJudged, ItemsCanBeJudged, PairsCanBeJudged}
 use Rattle.vrl_syntax.proofs.PartSizes.{expr_size, exprs_size, pairs_size}
@@ -98,9 +97,6 @@ arguments_can name span bang gs c can = record {
   limits = kept_faults (is_del name) gs (none_of_both _ _ can.limits).0;
   regexes = (and_parts _ _ can.regexes).0;
 }
-
-pub callee_can : {sources : List (List ℕ)} (name : List ℕ) (span : Span) (bang : Bool) (gs : Args) (c : Closure) → FormCanBeJudged sources (call name span bang gs c) → takes_closure name ≡ false
-callee_can name span bang gs c can = (neither _ _ can.calls).0
 
 -- ---- lists
 

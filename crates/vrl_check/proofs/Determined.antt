@@ -34,12 +34,11 @@ use Rattle.vrl_table.specs.Binding.{binding, keywords_of, path_parameters}
 use Rattle.vrl_table.specs.Table.{row_of, function_named, FunctionsAreFound}
 use Rattle.vrl_table.specs.declared.function.Fun.{Fun}
 use Rattle.vrl_syntax.specs.Calls.{is_exists, literal_of}
-use Rattle.vrl_syntax.specs.ErrorAssignments.{empty_value}
+use Rattle.vrl_syntax.specs.ErrorAssignments.{empty_value, in_closure}
 use Rattle.vrl_syntax.specs.Calls.{takes_closure}
-use Rattle.vrl_check.specs.Empties.{closure_empties}
 use Rattle.vrl_judge.specs.Rules.{Argument, Judgement, IsBehind, IsDeleted, IsMerged, IsMergedIf, IsReadAt, IsThen, IsWritten, banged, gives, settle, with_codes, if_state, is_alive}
 use Rattle.vrl_check.specs.Judgement.{IsBeside, span_of}
-use Rattle.vrl_check.specs.Judgement.{Judges, Gives, JudgesBoth, JudgesAll, JudgesArguments, JudgesBlock, JudgesArms, JudgesItems, AreGiven, IsAnsweredUnless, IsCutDown, IsDeletedAt, IsGiven, behind_arguments, bound_by, deleted_kind, deleted_path, unreached, reached, wants_literal}
+use Rattle.vrl_check.specs.Judgement.{Judges, Gives, JudgesBoth, JudgesAll, JudgesArguments, JudgesBlock, JudgesArms, JudgesItems, AreGiven, IsAnsweredUnless, IsCutDown, IsDeletedAt, IsGiven, behind_arguments, bound_by, deleted_kind, deleted_path, nulls, unreached, reached, wants_literal}
 use Rattle.vrl_check.specs.Determined.{JudgementsAreDetermined}
 use Rattle.std.specs.FinMap as map
 use Rattle.vrl_value.specs.declared.value.Tag.TheVariants as tag
@@ -494,7 +493,7 @@ one_call : EqualTagsAreOneKind → FunctionsAreFound → (span : Span) (name : L
 one_call kinds names span name place bang gs block all sources known g h
     (judging.a_call_of_nothing {js = js} {j = j} none other one) (judging.a_call_of_nothing {js = ks} {j = k} none' other' two) =
     let same : j ≡ k = (all sources _ js ks j k one two).1 in
-    λ i. with_codes (words.at 105 place) (record (same i) { kind = any_kind; empties = (same i).empties ++ closure_empties block })
+    λ i. with_codes (words.at 105 place) (record (same i) { kind = any_kind; empties = (same i).empties ++ nulls (in_closure block) })
 one_call kinds names span name place bang gs block all sources known g h
     (judging.a_call f {js = js} {j = j} {whole = w} K may fail is one behind answered ends)
     (judging.a_call f' {js = ks} {j = k} {whole = v} L might fail' is' two behind' answered' ends') =

@@ -7,13 +7,13 @@ use Rattle.vrl_kind.specs.Kinds.{found_at, root_tags}
 use Rattle.vrl_place.specs.Sets.{is_alone}
 use Rattle.vrl_path.specs.declared.path.Step.{Step}
 use Rattle.vrl_state.specs.States.{kind_in, kind_of, IsCutOf, IsEntered, IsRootKind, RootMap}
+use Rattle.vrl_syntax.specs.ErrorAssignments.{in_expr, in_exprs}
 use Rattle.vrl_syntax.specs.Tree.{Expr, expr, Form, literal, read, query, group, block, negation, binary, Exprs}
 use Rattle.vrl_syntax.specs.declared.root.Op.{Op}
 use Rattle.vrl_syntax.specs.declared.root.Root.{Root}
 use Rattle.vrl_value.specs.Tree.{Tree}
-use Rattle.vrl_check.specs.Empties.{expr_empties, exprs_empties}
 use Rattle.vrl_judge.specs.Rules.{Judgement, IsReadAt, at, chained, gives, is_alive, is_compared, is_comparison, is_equality, is_other, left, no_objects, nothing, of_pairs, settle, with_codes, when}
-use Rattle.vrl_check.specs.Judgement.{of_item, span_of, table_of}
+use Rattle.vrl_check.specs.Judgement.{nulls, of_item, span_of, table_of}
 use Rattle.vrl_check.specs.Judgement.{Judges, unreached, reached, a_literal, a_known_root, an_unknown_root, a_query, a_group, a_block, a_negation, an_equality, of_table, a_merge, JudgesBoth, operands, JudgesBlock, unreached_block, reached_block, JudgesAll}
 use Rattle.vrl_check.specs.Walking.{AreBoth, IsAnywhereAs, IsBesideAs, IsBlockAs, IsGivenAs, IsItemAs, IsJudgedAs, IsSequenceAs}
 use Rattle.vrl_judge.specs.Judging.{AreEnds, ArePairedAs, HasEnds, HasJudged, HaveCommonScopes, IsBlockEndAs, IsCombinedAs, IsEquatedAs, IsInBlock, IsMergedAs, IsNegatedAs, IsReadOffAs, IsReported, IsSettledAs, no_ends, table_rule}
@@ -47,9 +47,9 @@ here_are before after part j has = subst (λ s. AreEnds s part.ends) (sym has.ga
 -- ---- an expression
 
 -- where no way leads to it
-pub expr_passed : (e : Expr) (before after : Checker) (outcome : Outcome) → before.state.known ≡ None → HasJudged before after outcome (record (nothing (expr_empties e)) { ok = before.state.known }) → IsJudgedAs e before after outcome
+pub expr_passed : (e : Expr) (before after : Checker) (outcome : Outcome) → before.state.known ≡ None → HasJudged before after outcome (record (nothing (nulls (in_expr e))) { ok = before.state.known }) → IsJudgedAs e before after outcome
 expr_passed e before after outcome dead has =
-    (nothing (expr_empties e), subst (λ k. Judges before.patterns.now k e (nothing (expr_empties e))) (sym dead) unreached, subst (λ k. HasJudged before after outcome (record (nothing (expr_empties e)) { ok = k })) dead has)
+    (nothing (nulls (in_expr e)), subst (λ k. Judges before.patterns.now k e (nothing (nulls (in_expr e)))) (sym dead) unreached, subst (λ k. HasJudged before after outcome (record (nothing (nulls (in_expr e))) { ok = k })) dead has)
 
 -- where one does
 pub expr_reached : (e : Expr) (span : Span) (f : Form) (before after : Checker) (part outcome : Outcome) → e ≡ expr span f → before.state.known ≢ None → IsGivenAs span f before after part → IsSettledAs part after outcome → IsJudgedAs e before after outcome
@@ -110,9 +110,9 @@ group_given e before after outcome judged span known alive = (judged.0, a_group 
 pub block_given : (es : Exprs) (before after : Checker) (outcome : Outcome) → IsBlockAs es before after outcome → IsAnywhereAs (block es) before after outcome
 block_given es before after outcome judged span known alive = (judged.0, a_block (subst (λ k. JudgesBlock before.patterns.now k es judged.0) alive judged.1), judged.2)
 
-pub block_passed : (es : Exprs) (before after : Checker) (outcome : Outcome) → before.state.known ≡ None → HasJudged before after outcome (record (nothing (exprs_empties es)) { ok = before.state.known }) → IsBlockAs es before after outcome
+pub block_passed : (es : Exprs) (before after : Checker) (outcome : Outcome) → before.state.known ≡ None → HasJudged before after outcome (record (nothing (nulls (in_exprs es))) { ok = before.state.known }) → IsBlockAs es before after outcome
 block_passed es before after outcome dead has =
-    (nothing (exprs_empties es), subst (λ k. JudgesBlock before.patterns.now k es (nothing (exprs_empties es))) (sym dead) unreached_block, subst (λ k. HasJudged before after outcome (record (nothing (exprs_empties es)) { ok = k })) dead has)
+    (nothing (nulls (in_exprs es)), subst (λ k. JudgesBlock before.patterns.now k es (nothing (nulls (in_exprs es)))) (sym dead) unreached_block, subst (λ k. HasJudged before after outcome (record (nothing (nulls (in_exprs es))) { ok = k })) dead has)
 
 pub block_reached : (es : Exprs) (before entered now after : Checker) (part outcome : Outcome) → before.state.known ≢ None → IsEntered before.state entered.state → entered.diagnostics ≡ before.diagnostics → entered.empties ≡ before.empties → entered.patterns ≡ before.patterns
     → IsSequenceAs es entered now part → IsBlockEndAs part now after outcome → IsBlockAs es before after outcome

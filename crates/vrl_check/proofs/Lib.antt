@@ -15,5 +15,6 @@ pub mod Capable
 pub mod Determined
 pub mod Emptied
 pub mod Forms
+pub mod Nulls
 pub mod Partway
 pub mod Told

@@ -6,6 +6,7 @@ use Rattle.std.specs.declared.result.Result.TheVariants.{Ok, Err}
 use Rattle.vrl_value.specs.Tree.{Tree}
 use Rattle.vrl_diag.specs.declared.diagnostic.Diagnostic.{Diagnostic}
 use Rattle.vrl_diag.specs.declared.diagnostic.Span.{Span}
+use Rattle.vrl_syntax.specs.ErrorAssignments.{in_closure}
 use Rattle.vrl_syntax.specs.Tree.{Expr, Form, Args, no_args, arg, Closure}
 use Rattle.vrl_syntax.specs.View.{args_of, closure_in, closure_of, expr_of}
 use Rattle.vrl_syntax.specs.Written.{is_del}
@@ -21,10 +22,9 @@ use Rattle.vrl_table.specs.declared.binding.BindFault.{BindFault}
 use Rattle.vrl_table.specs.declared.function.Fun.{Fun}
 use Rattle.vrl_judge.specs.Branching.{IsOrFail}
 use Rattle.vrl_syntax.specs.Calls.{is_exists}
-use Rattle.vrl_check.specs.Empties.{closure_empties}
 use Rattle.vrl_diag.specs.Refusal.{is_error}
 use Rattle.vrl_judge.specs.Rules.{Argument, Judgement, at, banged, gives, if_state}
-use Rattle.vrl_check.specs.Judgement.{AreGiven, Gives, JudgesArguments, IsAnsweredUnless, IsDeletedAt, behind_arguments, bound, deleted_kind, deleted_path, of_argument, of_call, of_unknown, wants_literal, wants_path}
+use Rattle.vrl_check.specs.Judgement.{AreGiven, Gives, JudgesArguments, IsAnsweredUnless, IsDeletedAt, behind_arguments, bound, deleted_kind, deleted_path, nulls, of_argument, of_call, of_unknown, wants_literal, wants_path}
 use Rattle.vrl_judge.specs.Judging.{AreEnds, HasEnds, HasGathered, HasJudged, IsMoved}
 use Rattle.vrl_judge.specs.declared.calls.Argument.{Argument as CodeArgument}
 use Rattle.vrl_check.specs.declared.calls.Arguments.{Arguments}
@@ -115,7 +115,7 @@ pub record IsPassed (before now : Checker) (gs : Args) (c : Closure) (arguments 
   pub told : AreTold gs arguments.parts.items js
   pub roots : AreRootKinds js
   pub ends : HasEnds before.state.scopes arguments.ends j
-  pub gathered : HasGathered before now (record j { empties = j.empties ++ closure_empties c })
+  pub gathered : HasGathered before now (record j { empties = j.empties ++ nulls (in_closure c) })
 
 abbrev pub IsPassedCallAs : Span → Form → Args → Closure → Arguments → Checker → Checker → Outcome → Type 0
 IsPassedCallAs span f gs c arguments now after outcome = (before : Checker) (known : RootMap) (js : List Argument) (j : Judgement)

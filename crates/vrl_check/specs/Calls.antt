@@ -1,5 +1,5 @@
 -- Whether a part of a script calls one of the four functions that take a closure.
-use Rattle.std.specs.Prelude.{ℕ, ◌||◌, Bool, false, List}
+use Rattle.std.specs.Prelude.{◌||◌, Bool, false}
 use Rattle.vrl_syntax.specs.Calls.{takes_closure}
 use Rattle.vrl_syntax.specs.Tree.{Expr, expr, Form, literal, array, object, read, query, group, block, conditional, negation, binary, assign, merge, both, call, return_of, abort_with, Exprs, no_exprs, exprs, Pairs, no_pairs, pair, Arms, no_arms, arm, Else, no_else, else_block, Args, no_args, arg, Closure, no_closure, closure, Message, no_message, message}
 

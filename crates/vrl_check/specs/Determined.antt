@@ -1,8 +1,8 @@
 -- What holds of every judgement of a script: there is at most one, and it has each empty value.
 use Rattle.std.specs.Prelude.{◌≡◌, ℕ, List, length}
 use Rattle.vrl_kind.specs.KindTree.{KindTree}
+use Rattle.vrl_syntax.specs.ErrorAssignments.{in_exprs}
 use Rattle.vrl_syntax.specs.Tree.{Exprs}
-use Rattle.vrl_check.specs.Empties.{exprs_empties}
 use Rattle.vrl_judge.specs.Rules.{Judgement}
 use Rattle.vrl_check.specs.Judgement.{JudgesScript}
 
@@ -13,4 +13,4 @@ JudgementsAreDetermined = (sources : List (List ℕ)) (start : KindTree) (items 
 
 -- as many empty values as there are error assignments
 abbrev pub EmptiesAreCounted : Type 0
-EmptiesAreCounted = (sources : List (List ℕ)) (start : KindTree) (items : Exprs) (j : Judgement) → JudgesScript sources start items j → length j.empties ≡ length (exprs_empties items)
+EmptiesAreCounted = (sources : List (List ℕ)) (start : KindTree) (items : Exprs) (j : Judgement) → JudgesScript sources start items j → length j.empties ≡ in_exprs items

@@ -4,7 +4,7 @@
 --
 -- Each form names its four ends: what is known where it ends with a value, with an error and with a return, and the kind of what
 -- is returned. In a dead state nothing can happen, and no code is given. Every kind is cut, and so is every join.
-use Rattle.std.specs.Prelude.{◌≡◌, ◌≢◌, ℕ, suc, Bool, true, false, ◌||◌, ◌&&◌, not, List, [], ◌∷◌, ◌++◌, map as map_list, slice_get, Option, Some, None, is_some, if◌then◌else◌}
+use Rattle.std.specs.Prelude.{◌≡◌, ◌≢◌, ℕ, suc, Bool, true, false, ◌||◌, ◌&&◌, not, List, [], ◌∷◌, ◌++◌, map as map_list, replicate, slice_get, Option, Some, None, is_some, if◌then◌else◌}
 use Rattle.std.specs.Option.{option_map_or}
 use Rattle.std.specs.declared.result.Result.{Result}
 use Rattle.std.specs.declared.result.Result.TheVariants.{Ok, Err}
@@ -14,7 +14,7 @@ use Rattle.vrl_diag.specs.declared.diagnostic.Span.{Span}
 use Rattle.vrl_diag.specs.declared.diagnostic.Diagnostic.{Diagnostic}
 use Rattle.vrl_syntax.specs.Tree.{Expr, expr, Form, literal, array, object, read, query, group, block, conditional, negation, binary, assign, merge, both, call, return_of, abort_with, Exprs, no_exprs, exprs, Pairs, Arms, no_arms, arm, Else, no_else, else_block, Args, no_args, arg, Closure, no_closure, closure, no_message, message, no_pairs, pair}
 use Rattle.vrl_syntax.specs.Calls.{is_exists, literal_of, path_of}
-use Rattle.vrl_syntax.specs.ErrorAssignments.{empty_value}
+use Rattle.vrl_syntax.specs.ErrorAssignments.{empty_value, in_closure, in_expr, in_exprs}
 use Rattle.vrl_syntax.specs.Written.{is_del}
 use Rattle.vrl_syntax.specs.declared.root.Op.{Op}
 use Rattle.vrl_syntax.specs.declared.root.Root.{Root}
@@ -23,7 +23,6 @@ use Rattle.vrl_syntax.specs.declared.root.Target.TheVariants.{Nowhere, Place}
 use Rattle.vrl_kind.specs.Canonical.{IsCanonical, any_kind, never_kind}
 use Rattle.vrl_kind.specs.KindTree.{KindTree}
 use Rattle.vrl_kind.specs.Kinds.{found_at, root_tags}
-use Rattle.vrl_place.specs.Read.{allowed}
 use Rattle.vrl_place.specs.Sets.{is_alone}
 use Rattle.vrl_state.specs.States.{RootMap, State, kind_of, IsCutOf, IsEither, IsJoined, IsStart}
 use Rattle.vrl_builtin.specs.CutDown.{cut_to}
@@ -35,14 +34,17 @@ use Rattle.vrl_table.specs.Table.{row_of}
 use Rattle.vrl_table.specs.declared.binding.BindFault.{BindFault}
 use Rattle.vrl_table.specs.declared.function.Fun.{Fun}
 use Rattle.vrl_syntax.specs.Calls.{takes_closure}
-use Rattle.vrl_check.specs.Empties.{closure_empties, expr_empties, exprs_empties}
 use Rattle.vrl_judge.specs.Rules.{IsReadAt, scalars_at, IsScalar, array_at, object_at, Judgement, is_alive, if_state, nothing, gives, at, when, with_codes, settled_kind, settle, is_known, is_other, is_fallible, may_be_truth, may_be_no_truth, IsBehind, IsThen, left, is_equality, some_pair, table_tags, chained, of_pairs, no_objects, IsMerged, or_else_at, IsWritten, of_assignment, empty_tag, of_error_assignment, of_predicate, Argument, is_disjoint, has_others, argument_at, banged, IsDeleted, sum_tag, number_tag, order_tag}
 use Rattle.vrl_value.specs.declared.value.Tag.TheVariants as tag
 use Rattle.vrl_path.specs.declared.path.Step as steps
 use Rattle.vrl_syntax.specs.declared.root.Op.TheVariants as op
-use Rattle.vrl_syntax.specs.declared.root.Root.TheVariants as root
-use Rattle.vrl_place.specs.Read as places
 use Rattle.vrl_table.specs.declared.binding.BindFault.TheVariants as fault
+
+-- ---- what isn't judged
+
+-- its empty values: so many times null, once for each error assignment in it
+abbrev pub nulls : ℕ → List Tag
+nulls n = replicate n tag.Null
 
 -- ---- parts of forms
 
@@ -130,7 +132,7 @@ of_call wants ps span c js (Err fault.Memory) = []
 
 -- the arguments in order, with the call's own codes; its closure isn't judged
 abbrev pub behind_arguments : (ℕ → ParameterRow → Expr → Bool) → List ParameterRow → Span → Args → Closure → List Argument → Judgement → Judgement
-behind_arguments wants ps span gs c js j = with_codes (of_call wants ps span c js (binding ps (keywords_of gs))) (record j { empties = j.empties ++ closure_empties c })
+behind_arguments wants ps span gs c js j = with_codes (of_call wants ps span c js (binding ps (keywords_of gs))) (record j { empties = j.empties ++ nulls (in_closure c) })
 
 -- the arguments of the parameters; none where they aren't bound
 abbrev pub bound_by : Result (List (Option ℕ)) BindFault → List Argument → List (Option Argument)
@@ -189,7 +191,7 @@ deleted_kind poisoned js = any_kind
 
 mutual
   pub data Judges (sources : List (List ℕ)) : Option RootMap → Expr → Judgement → Type 0 where
-    unreached : {e : Expr} → Judges sources None e (nothing (expr_empties e))
+    unreached : {e : Expr} → Judges sources None e (nothing (nulls (in_expr e)))
     reached : {known : RootMap} {span : Span} {f : Form} {j : Judgement} → Gives sources known span f j → Judges sources (Some known) (expr span f) (settle j)
 
   -- what a form gives where it is reached, before it is settled
@@ -279,7 +281,7 @@ mutual
     a_call_of_nothing : {known : RootMap} {span s : Span} {name : List ℕ} {bang : Bool} {gs : Args} {c : Closure} {js : List Argument} {j : Judgement}
         → ((function : Fun) → (row_of function).name ≢ name) → (is_del name || (is_exists name || takes_closure name)) ≡ false
         → JudgesArguments sources (gives never_kind (Some known)) gs js j
-        → Gives sources known span (call name s bang gs c) (with_codes (at 105 s) (record j { kind = any_kind; empties = j.empties ++ closure_empties c }))
+        → Gives sources known span (call name s bang gs c) (with_codes (at 105 s) (record j { kind = any_kind; empties = j.empties ++ nulls (in_closure c) }))
     a_call : {known : RootMap} {span s : Span} (function : Fun) {name : List ℕ} {bang : Bool} {gs : Args} {c : Closure} {js : List Argument} {j whole : Judgement} (K : KindTree) (fails : Bool) (fail : Option RootMap)
         → (row_of function).name ≡ name
         → JudgesArguments sources (gives never_kind (Some known)) gs js j
@@ -334,7 +336,7 @@ mutual
 
   -- the items of a block or a branch; an empty one gives null, and its names end with it
   pub data JudgesBlock (sources : List (List ℕ)) : Option RootMap → Exprs → Judgement → Type 0 where
-    unreached_block : {es : Exprs} → JudgesBlock sources None es (nothing (exprs_empties es))
+    unreached_block : {es : Exprs} → JudgesBlock sources None es (nothing (nulls (in_exprs es)))
     reached_block : {known : RootMap} {es : Exprs} {Ks : List KindTree} {N : KindTree} {j : Judgement}
         → IsScalar tag.Null N → JudgesAll sources (gives N (Some known)) es Ks j
         → JudgesBlock sources (Some known) es (settle (left known j))

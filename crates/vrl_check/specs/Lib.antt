@@ -2,6 +2,5 @@ pub mod Answer
 pub mod Calling
 pub mod Calls
 pub mod Determined
-pub mod Empties
 pub mod Judgement
 pub mod Walking

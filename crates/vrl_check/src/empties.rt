@@ -1,7 +1,8 @@
 ghost use Rattle.std.specs.Prelude.{option_map, ◌++◌, ◌≡◌, IfOk, OnOk};
-ghost use Rattle.vrl_check.specs.Empties.{args_empties, arms_empties, closure_empties, expr_empties, exprs_empties, form_empties, pairs_empties};
+ghost use Rattle.vrl_check.specs.Judgement.{nulls};
 ghost use Rattle.vrl_judge.specs.Judging.{HasJudged};
 ghost use Rattle.vrl_judge.specs.Rules.{nothing};
+ghost use Rattle.vrl_syntax.specs.ErrorAssignments.{in_args, in_arms, in_closure, in_expr, in_exprs, in_form, in_pairs};
 ghost use Rattle.vrl_syntax.specs.View.{args_of, arms_of, call_of, closure_in, closure_of, expr_of, exprs_of, pairs_of};
 
 use vrl_judge::{Checker, Outcome};
@@ -10,7 +11,7 @@ use vrl_value::{Memory, Tag};
 
 // What isn't judged gives nothing but its empty values, and the state stays. `Memory`: want of memory.
 pub(crate) fn pass(checker: &mut Checker<'_>, expr: &Expr) -> Result<Outcome, Memory>
-    ensures { IfOk result (λ outcome. HasJudged checker.old checker.new outcome (record (nothing (expr_empties (expr_of expr.now))) { ok = checker.old.state.known })) }
+    ensures { IfOk result (λ outcome. HasJudged checker.old checker.new outcome (record (nothing (nulls (in_expr (expr_of expr.now)))) { ok = checker.old.state.known })) }
 {
     add_expr(expr, &mut checker.empties)?;
     Outcome::nothing(checker.alloc)
@@ -18,7 +19,7 @@ pub(crate) fn pass(checker: &mut Checker<'_>, expr: &Expr) -> Result<Outcome, Me
 
 // The same of items. `Memory`: want of memory.
 pub(crate) fn pass_items(checker: &mut Checker<'_>, items: &Exprs) -> Result<Outcome, Memory>
-    ensures { IfOk result (λ outcome. HasJudged checker.old checker.new outcome (record (nothing (exprs_empties (exprs_of items.now))) { ok = checker.old.state.known })) }
+    ensures { IfOk result (λ outcome. HasJudged checker.old checker.new outcome (record (nothing (nulls (in_exprs (exprs_of items.now)))) { ok = checker.old.state.known })) }
 {
     add_exprs(items, &mut checker.empties)?;
     Outcome::nothing(checker.alloc)
@@ -29,7 +30,7 @@ pub(crate) fn pass_closure(
     checker: &mut Checker<'_>,
     closure: &Option<Closure>,
 ) -> Result<(), Memory>
-    ensures empties { OnOk result (checker.new.empties.items ≡ checker.old.empties.items ++ closure_empties (closure_in (option_map closure_of closure.now))) }
+    ensures empties { OnOk result (checker.new.empties.items ≡ checker.old.empties.items ++ nulls (in_closure (closure_in (option_map closure_of closure.now)))) }
     ensures others { OnOk result (checker.new ≡ record checker.old { empties = checker.new.empties }) }
 {
     match closure {
@@ -41,7 +42,7 @@ pub(crate) fn pass_closure(
 // Adds null for each error assignment of an expression.
 #[cycle(empties)]
 fn add_expr(expr: &Expr, empties: &mut Vec<Tag>) -> Result<(), Memory>
-    ensures { OnOk result (empties.new.items ≡ empties.old.items ++ expr_empties (expr_of expr.now)) }
+    ensures { OnOk result (empties.new.items ≡ empties.old.items ++ nulls (in_expr (expr_of expr.now))) }
 {
     match &expr.form {
         Form::Literal(_) | Form::Read(..) | Form::Abort(None) => Ok(()),
@@ -76,7 +77,7 @@ fn add_expr(expr: &Expr, empties: &mut Vec<Tag>) -> Result<(), Memory>
 // Adds those of a call.
 #[cycle(empties)]
 fn add_call(call: &Call, empties: &mut Vec<Tag>) -> Result<(), Memory>
-    ensures { OnOk result (empties.new.items ≡ empties.old.items ++ form_empties (call_of call.now)) }
+    ensures { OnOk result (empties.new.items ≡ empties.old.items ++ nulls (in_form (call_of call.now))) }
 {
     add_args(&call.args, empties)?;
     match &call.closure {
@@ -88,7 +89,7 @@ fn add_call(call: &Call, empties: &mut Vec<Tag>) -> Result<(), Memory>
 // Adds those of expressions.
 #[cycle(empties)]
 fn add_exprs(exprs: &Exprs, empties: &mut Vec<Tag>) -> Result<(), Memory>
-    ensures { OnOk result (empties.new.items ≡ empties.old.items ++ exprs_empties (exprs_of exprs.now)) }
+    ensures { OnOk result (empties.new.items ≡ empties.old.items ++ nulls (in_exprs (exprs_of exprs.now))) }
 {
     for expr in exprs.as_slice() {
         add_expr(expr, empties)?;
@@ -99,7 +100,7 @@ fn add_exprs(exprs: &Exprs, empties: &mut Vec<Tag>) -> Result<(), Memory>
 // Adds those of the values of an object.
 #[cycle(empties)]
 fn add_pairs(pairs: &Pairs, empties: &mut Vec<Tag>) -> Result<(), Memory>
-    ensures { OnOk result (empties.new.items ≡ empties.old.items ++ pairs_empties (pairs_of pairs.now)) }
+    ensures { OnOk result (empties.new.items ≡ empties.old.items ++ nulls (in_pairs (pairs_of pairs.now))) }
 {
     for (_, value) in pairs.as_slice() {
         add_expr(value, empties)?;
@@ -110,7 +111,7 @@ fn add_pairs(pairs: &Pairs, empties: &mut Vec<Tag>) -> Result<(), Memory>
 // Adds those of predicates and their blocks.
 #[cycle(empties)]
 fn add_arms(arms: &Arms, empties: &mut Vec<Tag>) -> Result<(), Memory>
-    ensures { OnOk result (empties.new.items ≡ empties.old.items ++ arms_empties (arms_of arms.now)) }
+    ensures { OnOk result (empties.new.items ≡ empties.old.items ++ nulls (in_arms (arms_of arms.now))) }
 {
     for arm in arms.as_slice() {
         add_expr(&arm.predicate, empties)?;
@@ -122,7 +123,7 @@ fn add_arms(arms: &Arms, empties: &mut Vec<Tag>) -> Result<(), Memory>
 // Adds those of the arguments of a call.
 #[cycle(empties)]
 fn add_args(args: &Args, empties: &mut Vec<Tag>) -> Result<(), Memory>
-    ensures { OnOk result (empties.new.items ≡ empties.old.items ++ args_empties (args_of args.now)) }
+    ensures { OnOk result (empties.new.items ≡ empties.old.items ++ nulls (in_args (args_of args.now))) }
 {
     for arg in args.as_slice() {
         add_expr(&arg.value, empties)?;

@@ -1,6 +1,5 @@
 pub mod BuiltCalls
 pub mod Compiling
-pub mod CountedEmpties
 pub mod Determined
 pub mod MalformedLiterals
 pub mod PassingWords

@@ -39,13 +39,6 @@ other_is number numbers source sources is other = by_form (is_malformed source) 
   by_form true told is = absurd (other number _ is refl)
   by_form false told is = record { left_is = is; malformed_is = told }
 
--- what is told of it
-pub told_malformed : (span : Span) (source : List ℕ) → is_malformed source ≡ true → malformed_at span (source ∷ []) ≡ record { code = 101; span = span } ∷ []
-told_malformed span source is = rw is refl
-
-pub told_well_formed : (span : Span) (source : List ℕ) → is_malformed source ≡ false → malformed_at span (source ∷ []) ≡ []
-told_well_formed span source is = rw is refl
-
 -- the numbers that are left are those of the literals that are left, and what was found stands before what is told of these
 pub record IsToldTo (tokens rest : List Spanned) (number : ℕ) (left : List ℕ) (found : List Diagnostic) : Type 0 where
   pub left_is : left ≡ malformed_from number (sources_of rest)

@@ -1,19 +1,19 @@
 -- Soundness of every expression: what is shown of each form, put together.
 use Rattle.std.proofs.Common.{ℕ, ℤ, List, [], ◌++◌, Option, Some, None, refl, ◌∙◌}
 use Rattle.vrl_diag.specs.declared.diagnostic.Span.{Span}
+use Rattle.vrl_syntax.specs.ErrorAssignments.{in_closure, in_expr, in_exprs}
 use Rattle.vrl_syntax.specs.Tree.{expr, Expr, Exprs, Form, Args, Arms, Else}
 use Rattle.vrl_kind.specs.Canonical.{any_kind}
 use Rattle.vrl_kind.specs.KindTree.{KindTree}
 use Rattle.vrl_state.specs.States.{RootMap}
 use Rattle.vrl_builtin.specs.Rows.{SettingTree}
-use Rattle.vrl_check.specs.Empties.{closure_empties, expr_empties, exprs_empties}
 use Rattle.vrl_judge.specs.Rules.{Argument, Judgement, nothing, settle}
-use Rattle.vrl_check.specs.Judgement.{Judges, unreached, reached, Gives, a_literal, an_array, an_object, a_known_root, an_unknown_root, a_query, a_group, a_block, a_conditional, a_negation, an_equality, of_table, a_merge, a_conjunction, a_disjunction, a_coalescing, an_assignment, a_merge_into_nothing, a_merge_assignment, an_error_assignment, a_call_of_nothing, a_call, a_deletion, an_existence, a_return, an_abort, an_abort_with, operands, JudgesAll, no_more, one_more, JudgesArguments, no_more_arguments, one_more_argument, JudgesBlock, unreached_block, reached_block, JudgesArms, an_arm, an_else, a_missing_else}
+use Rattle.vrl_check.specs.Judgement.{nulls, Judges, unreached, reached, Gives, a_literal, an_array, an_object, a_known_root, an_unknown_root, a_query, a_group, a_block, a_conditional, a_negation, an_equality, of_table, a_merge, a_conjunction, a_disjunction, a_coalescing, an_assignment, a_merge_into_nothing, a_merge_assignment, an_error_assignment, a_call_of_nothing, a_call, a_deletion, an_existence, a_return, an_abort, an_abort_with, operands, JudgesAll, no_more, one_more, JudgesArguments, no_more_arguments, one_more_argument, JudgesBlock, unreached_block, reached_block, JudgesArms, an_arm, an_else, a_missing_else}
+use Rattle.vrl_check.proofs.Emptied.{block_counted, judges_counted}
 use Rattle.vrl_compile.specs.Sound.{ExpressionsAreSound}
 use Rattle.vrl_compile.proofs.SoundBlocks.{block_is_sound, conditional_is_sound, reached_block_is_sound, sound_arm, sound_else, sound_missing_else, unreached_block_is_sound, AreSoundArms, IsSoundBlock}
 use Rattle.vrl_compile.proofs.SoundCalls.{call_is_sound, call_of_nothing_is_sound}
 use Rattle.vrl_compile.proofs.SoundCauses.{all_cause, given_cause, HasCause}
-use Rattle.vrl_compile.proofs.SoundCounts.{block_counted, judges_counted}
 use Rattle.vrl_compile.proofs.SoundEnds.{sound_settled, IsSoundForm, IsSoundPart}
 use Rattle.vrl_compile.specs.SoundLaws.{Laws}
 use Rattle.vrl_compile.proofs.SoundLists as lists
@@ -39,7 +39,7 @@ module _ (laws : Laws) (moment : ℤ) (sources : List (List ℕ)) where
 
   mutual
     expression_sound : {known : Option RootMap} {e : Expr} {j : Judgement} → Judges sources known e j → IsSoundPart setting known e j
-    expression_sound (unreached {e = e}) = dead_is_sound setting e (nothing (expr_empties e))
+    expression_sound (unreached {e = e}) = dead_is_sound setting e (nothing (nulls (in_expr e)))
     expression_sound (reached {known = known} {span = span} {f = f} {j = j} gives) = reached_is_sound setting known span f j (given_cause gives) (form_sound gives)
 
     form_sound : {known : RootMap} {span : Span} {f : Form} {j : Judgement} → Gives sources known span f j → IsSoundForm setting known f j
@@ -72,7 +72,7 @@ module _ (laws : Laws) (moment : ℤ) (sources : List (List ℕ)) where
     form_sound (an_error_assignment {known = known} {span = span} {t = t} {u = u} {e = e} {j = j} {E = E} {K = K} {N = N} {T = T} given given_both failed failed_both {ok = ok} part empty either null_kind text_kind one two three four oks) =
         error_assignment_is_sound laws setting known span t u e j E K N T given given_both failed failed_both ok empty either null_kind text_kind one two three four oks (expression_sound part)
     form_sound (a_call_of_nothing {known = known} {s = s} {name = name} {bang = bang} {gs = gs} {c = c} {j = j} unknown other arguments) =
-        call_of_nothing_is_sound setting known s name bang gs c (record j { kind = any_kind; empties = j.empties ++ closure_empties c })
+        call_of_nothing_is_sound setting known s name bang gs c (record j { kind = any_kind; empties = j.empties ++ nulls (in_closure c) })
     form_sound (a_call {known = known} {span = span} {s = s} function {name = name} {bang = bang} {gs = gs} {c = c} {js = js} {j = j} {whole = w} K fails fail named arguments is answered joined) =
         call_is_sound laws setting known span s function name bang gs c js j w K fails fail named (arguments_are_sound arguments) is answered joined
     form_sound (a_deletion {known = known} {span = span} {s = s} {name = name} {bang = bang} {gs = gs} {c = c} {js = js} {j = j} {whole = w} ok named arguments is deleted) =
@@ -92,7 +92,7 @@ module _ (laws : Laws) (moment : ℤ) (sources : List (List ℕ)) where
     arguments_are_sound (one_more_argument part in_order more) = lists.one_more_argument part (expression_sound part) in_order (arguments_are_sound more)
 
     block_sound : {known : Option RootMap} {es : Exprs} {j : Judgement} → JudgesBlock sources known es j → IsSoundBlock setting known es j
-    block_sound (unreached_block {es = es}) = unreached_block_is_sound setting es (nothing (exprs_empties es))
+    block_sound (unreached_block {es = es}) = unreached_block_is_sound setting es (nothing (nulls (in_exprs es)))
     block_sound (reached_block {known = known} {es = es} {Ks = Ks} {N = N} {j = j} null_kind all) = reached_block_is_sound laws setting known es Ks N j null_kind (all_cause all refl) (all_are_sound all)
 
     arms_are_sound : {state : Option RootMap} {ways all : Judgement} {gs : Arms} {otherwise : Else} → JudgesArms sources state ways gs otherwise all → AreSoundArms setting state ways gs otherwise all

@@ -7,6 +7,7 @@ use Rattle.vrl_value.specs.Tree.{Tree}
 use Rattle.vrl_value.specs.View.{items_of_trees}
 use Rattle.vrl_value.specs.declared.value.Tag.{Tag}
 use Rattle.vrl_diag.specs.declared.diagnostic.Span.{Span}
+use Rattle.vrl_syntax.specs.ErrorAssignments.{in_closure}
 use Rattle.vrl_syntax.specs.Tree.{Args, Closure, call}
 use Rattle.vrl_kind.specs.Canonical.{never_kind}
 use Rattle.vrl_kind.specs.Change.{Sets}
@@ -22,9 +23,8 @@ use Rattle.vrl_table.specs.declared.function.Fun.{Fun}
 use Rattle.vrl_store.specs.Outcomes.{value, deep, on_value}
 use Rattle.vrl_store.specs.Places.{is_within}
 use Rattle.vrl_store.specs.WellFormed.{AreWellFormedArgs, IsWellFormedStore}
-use Rattle.vrl_check.specs.Empties.{closure_empties}
 use Rattle.vrl_judge.specs.Rules.{Argument, Judgement, at, banged, gives, if_state, with_codes}
-use Rattle.vrl_check.specs.Judgement.{IsAnswered, IsAnsweredUnless, a_call, behind_arguments, bound, bound_by, of_call, some_has_others, wants_literal}
+use Rattle.vrl_check.specs.Judgement.{IsAnswered, IsAnsweredUnless, a_call, behind_arguments, bound, bound_by, nulls, of_call, some_has_others, wants_literal}
 use Rattle.vrl_resolve.specs.Calls.{acts, answer_outcome, argument_in, called, callee_of, first_unfit, fit_or_else, items_in, within_limit}
 use Rattle.vrl_resolve.specs.Meaning.{eval_args, eval_form}
 use Rattle.vrl_compile.specs.Sound.{HasNoError, IsSoundEnd, IsSoundOutcome}
@@ -90,21 +90,21 @@ module _ (laws : Laws) (whole : Judgement) (K : KindTree) (fails : Bool) (fail :
 -- ---- a call behind its arguments
 
 -- the tags that a call is run with begin with those of its arguments; those of its closure, which is never run, stand behind them
-call_tags : (c : Closure) (js : List Argument) (j whole : Judgement) (span : Span) (bang : Bool) (rest : List Tag) → j.empties ≡ own_empties js → whole.empties ≡ j.empties ++ closure_empties c
-    → own_empties js ++ (closure_empties c ++ rest) ≡ (banged span bang whole).empties ++ rest
+call_tags : (c : Closure) (js : List Argument) (j whole : Judgement) (span : Span) (bang : Bool) (rest : List Tag) → j.empties ≡ own_empties js → whole.empties ≡ j.empties ++ nulls (in_closure c)
+    → own_empties js ++ (nulls (in_closure c) ++ rest) ≡ (banged span bang whole).empties ++ rest
 call_tags c js j whole span bang rest own is =
-    ap (λ ts. ts ++ (closure_empties c ++ rest)) (sym own) ∙ sym (append_assoc j.empties (closure_empties c) rest) ∙ ap (λ ts. ts ++ rest) (sym is ∙ sym (banged_empties span bang whole))
+    ap (λ ts. ts ++ (nulls (in_closure c) ++ rest)) (sym own) ∙ sym (append_assoc j.empties (nulls (in_closure c)) rest) ∙ ap (λ ts. ts ++ rest) (sym is ∙ sym (banged_empties span bang whole))
 
 -- where what comes of each list of values is an end of the call, the call ends as it was judged
 sound_call : Laws → (setting : SettingTree) (known : RootMap) (span s : Span) (name : List ℕ) (bang : Bool) (gs : Args) (c : Closure) (js : List Argument) (j whole : Judgement) → AreSoundArguments setting (gives never_kind (Some known)) gs js j
-    → HasNoError j.codes → AreWellFormedArgs (length setting.sources) gs → EndsAs j whole → whole.empties ≡ j.empties ++ closure_empties c
+    → HasNoError j.codes → AreWellFormedArgs (length setting.sources) gs → EndsAs j whole → whole.empties ≡ j.empties ++ nulls (in_closure c)
     → ((vs : List Tree) (store : Store) → AreValuesOf (length setting.sources) js vs → FitsKnown store j.ok → IsSoundEnd whole (acts setting (callee_of name gs c) (items_of_trees vs) store))
     → (rest : List Tag) (store : Store) → IsWellFormedStore (length setting.sources) store → FitsKnown store (Some known)
     → IsSoundEnd (banged span bang whole) (eval_form setting ((banged span bang whole).empties ++ rest) (call name s bang gs c) store)
 sound_call laws setting known span s name bang gs c js j whole arguments none well as_whole empties acts_sound rest store stored fits =
     let count = length setting.sources in
-    let tags = own_empties js ++ (closure_empties c ++ rest) in
-    let values = argument_values laws setting arguments none well (closure_empties c ++ rest) [] store stored fits in
+    let tags = own_empties js ++ (nulls (in_closure c) ++ rest) in
+    let values = argument_values laws setting arguments none well (nulls (in_closure c) ++ rest) [] store stored fits in
     let acted = sound_behind (AreAllValues count [] js j) j whole (eval_args setting tags gs [] store) (λ w end. acts setting (callee_of name gs c) (items_in w) end) as_whole values
     (λ w end are. subst (λ x. IsSoundEnd whole (acts setting (callee_of name gs c) (items_in x) end)) (sym are.all) (acts_sound are.values end are.each are.ok))
     in

@@ -8,7 +8,6 @@ use Rattle.vrl_path.specs.Steps.{plain}
 use Rattle.vrl_path.specs.Trees.{remove_tree}
 use Rattle.vrl_path.specs.declared.path.Step.{Step as CodeStep}
 use Rattle.vrl_syntax.specs.declared.root.Root.{Root}
-use Rattle.vrl_syntax.specs.declared.root.Root.TheVariants.{Event, Name}
 use Rattle.vrl_kind.specs.KindTree.{KindTree}
 use Rattle.vrl_kind.specs.Kinds.{found_at, option_tags, tags_at, Inhabits}
 use Rattle.vrl_kind.specs.Tags.{Tags}

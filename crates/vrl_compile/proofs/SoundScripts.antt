@@ -21,7 +21,7 @@ use Rattle.vrl_check.specs.Judgement.{JudgesItems, no_more_items, one_more_item,
 use Rattle.vrl_resolve.specs.Meaning.{run_script}
 use Rattle.vrl_compile.specs.Sound.{ExpressionsAreSound, HasNoError, IsSoundOutcome, IsSoundRun, ScriptsAreSound}
 use Rattle.vrl_compile.proofs.SoundCauses.{items_cause}
-use Rattle.vrl_compile.proofs.SoundCounts.{judges_counted}
+use Rattle.vrl_check.proofs.Emptied.{judges_counted}
 use Rattle.vrl_compile.proofs.SoundEnds.{no_error_behind, no_error_parts, sound_settled, sound_told, IsSoundPart}
 use Rattle.vrl_compile.specs.SoundLaws.{Laws}
 use Rattle.vrl_compile.proofs.SoundLists.{items_sound, no_more_sound, one_more_sound, AreSound}
