@@ -31,11 +31,6 @@ use Rattle.vrl_judge.proofs.Forms.{other_of, paired}
 use Rattle.vrl_syntax.specs.declared.root.Op.TheVariants as op
 use Rattle.vrl_value.specs.declared.value.Tag.TheVariants as tag
 
--- two clauses of one outcome
-pub if_both : {T E : Type 0} (r : Result T E) (P Q R : T → Type 0) → ((x : T) → P x → Q x → R x) → IfOk r P → IfOk r Q → IfOk r R
-if_both (Ok x) P Q R f p q = f x p q
-if_both (Err y) P Q R f p q = tt
-
 -- an outcome is its kind and its ends
 pub outcome_is : (o : Outcome) (K : KindTree) (e : Ends) → o.kind ≡ K → o.ends ≡ e → o ≡ record { kind = K; ends = e }
 outcome_is o K e kind ends = λ i. record { kind = kind i; ends = ends i }

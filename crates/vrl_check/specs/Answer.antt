@@ -22,7 +22,7 @@ pub record IsJudged (j : Judgement) (judged : Judged) : Type 0 where
   pub returned : return_kind judged.ret ≡ j.returned
   pub returned_root : IsRootKind j.returned
   pub empties : judged.empties ≡ j.empties
-  -- it has no closure
+  -- nothing is told of closures so far
   pub loops : judged.loops ≡ []
   pub diagnostics : AreOrdered j.codes judged.diagnostics
 
