@@ -1,5 +1,5 @@
 -- The judgement of a form, from what its parts were judged to be.
-use Rattle.std.proofs.Common.{◌≡◌, ◌≢◌, Bool, true, ◌||◌, ◌&&◌, not, List, Option, Some, None, Result, Ok, Err, IfOk, is_some, refl, sym, ap, ◌∙◌, subst}
+use Rattle.std.proofs.Common.{◌≡◌, ◌≢◌, Bool, true, ◌||◌, ◌&&◌, not, List, Option, Some, None, is_some, refl, sym, ap, ◌∙◌, subst}
 use Rattle.vrl_diag.specs.declared.diagnostic.Span.{Span}
 use Rattle.vrl_kind.specs.Canonical.{any_kind}
 use Rattle.vrl_kind.specs.KindTree.{KindTree}
