@@ -83,7 +83,7 @@ ssize_t __write(int to, const void *from, size_t size) { return write(to, from, 
 ROWS = [
     ("one write", b".x = 1", b'{"a":1}\n[2]\n\n{"c":"' + b"z" * 200 + b'"}\n'),
     ("a script that is refused", b".x = y\n.a + 1\nz", b"{}\n"),
-    ("warnings and reports", b'x, e = to_int(.a)\n.n = x ?? 1\nif .b == true { abort "no" }\n. = [{"n": .n}, .a]\nmod!(.c, 0)',
+    ("warnings and reports", b'x, e = to_int(.a)\n.n = x ?? 1\nif .b == true { abort "no" }\n.m = mod!(.c, 7)\n. = [{"n": .n}, .a]',
      b'{"a":"12","b":true}\n{"a":[1,{"k":"v"}],"c":5}\n{"c":"q"}\nno\n{"a":{}}\n'),
     ("many lines", b".k = {}\n.k.l = [.a, .a]\ndel(.a)", b'{"a":{"b":[1,2,"three"]},"m":"text"}\n' * 60),
 ]
