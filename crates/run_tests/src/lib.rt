@@ -12,3 +12,5 @@ mod lines;
 mod rows;
 #[cfg(test)]
 mod running;
+#[cfg(test)]
+mod stores;

@@ -54,7 +54,7 @@ pub(crate) fn accepted(
 }
 
 // A value of JSON; null where the text is none.
-fn json_of(alloc: Global, text: &str) -> Result<Value, Memory> {
+pub(crate) fn json_of(alloc: Global, text: &str) -> Result<Value, Memory> {
     match from_line(alloc, text.as_bytes()) {
         Ok(value) => Ok(value),
         Err(JsonFault::Memory) => Err(Memory),

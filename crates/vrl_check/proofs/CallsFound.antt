@@ -4,12 +4,11 @@ use Rattle.std.proofs.lemmas.Option.{slice_get-map}
 use Rattle.std.specs.Option.{option_map_or}
 use Rattle.vrl_diag.specs.declared.diagnostic.Span.{Span}
 use Rattle.vrl_syntax.specs.Regexes.{args_regexes_below, expr_regexes_below}
-use Rattle.vrl_syntax.specs.Tree.{Expr, expr, call}
-use Rattle.vrl_syntax.specs.View.{arg_of, args_view, call_of, closure_in, closure_of, expr_of, form_of}
+use Rattle.vrl_syntax.specs.Tree.{Expr, call}
+use Rattle.vrl_syntax.specs.View.{arg_of, args_view, call_of, closure_in, closure_of, expr_of}
 use Rattle.vrl_syntax.specs.declared.tree.Arg.{Arg as CodeArg}
 use Rattle.vrl_syntax.specs.declared.tree.Call.{Call as CodeCall, out-Call}
 use Rattle.vrl_syntax.specs.declared.tree.Closure.{Closure as CodeClosure}
-use Rattle.vrl_syntax.specs.declared.tree.Expr.{Expr as CodeExpr}
 use Rattle.vrl_syntax.specs.declared.tree.Form.{the_lemmas}
 use Rattle.vrl_check.specs.Calling.{call_args, call_bang, call_closure, call_name, written, AreTold, IsFound}
 use Rattle.vrl_judge.specs.Calling.{told}
@@ -18,9 +17,6 @@ use Rattle.vrl_check.specs.Judgement.{of_closure, of_unknown}
 use Rattle.vrl_judge.specs.declared.calls.Argument.{Argument as CodeArgument}
 
 -- ---- what is seen
-
-pub expr_seen : (e : CodeExpr) → expr_of e ≡ expr e.span (form_of e.form)
-expr_seen e = search (rules, the_lemmas)
 
 arg_span : (a : CodeArg) → (arg_of a).1 ≡ a.span
 arg_span a = search (rules, the_lemmas)

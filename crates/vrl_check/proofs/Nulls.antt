@@ -1,5 +1,5 @@
 -- The empty values of what isn't judged, gathered part by part.
-use Rattle.std.proofs.Common.{arith, ◌≡◌, ℕ, suc, ◌+◌, ◌<◌, ◌≤◌, List, ◌∷◌, ◌++◌, length, drop, drop-cons, get_or, Result, OnOk, refl, sym, ap, ◌∙◌, append_assoc}
+use Rattle.std.proofs.Common.{arith, ◌≡◌, ℕ, ◌+◌, ◌≤◌, List, ◌++◌, Result, OnOk, refl, sym, ap, ◌∙◌, append_assoc}
 use Rattle.std.proofs.lemmas.List.{replicate-append-replicate}
 use Rattle.std.proofs.lemmas.Result.{on_ok_weaker}
 use Rattle.vrl_value.specs.declared.value.Tag.{Tag}
@@ -17,9 +17,6 @@ nulls_added r before between after m n whole is first = on_ok_weaker r (λ secon
 pub nulls_so_far : (before after all : List Tag) (part left whole this : ℕ) → whole ≡ part + left → part ≡ this → after ≡ before ++ nulls this → before ++ nulls whole ≡ all → after ++ nulls left ≡ all
 nulls_so_far before after all part left whole this is has adds so_far = two_nulls before after (after ++ nulls left) this left adds refl ∙ ap (λ k. before ++ nulls k) (ap (λ k. k + left) (sym has) ∙ sym is) ∙ so_far
 
--- what is left from a place on is the part there, and then what is left behind it, which is no larger
-pub left_is : {A : Type 0} (items : List A) (i next : ℕ) (x : A) → next ≡ suc i → i < length items → x ≡ get_or items i x → drop i items ≡ x ∷ drop next items
-left_is items i next x n below is = drop-cons items i x below ∙ (λ k. sym is k ∷ drop (sym n k) items)
-
+-- what is left is no larger than the whole
 pub left_within : (part left whole bound : ℕ) → whole ≡ part + left → whole ≤ bound → left ≤ bound
 left_within part left whole bound is within = omega (arith, is, within)

@@ -105,9 +105,6 @@ or_else_cut L R rest K less is = record {
 pub alive_fail : (scopes : List Scope) (part : Outcome) (now : Checker) (fallible : Bool) → AreEnds scopes part.ends → is_some part.ends.fail ≡ fallible → is_fallible (seen part now [] []) ≡ fallible
 alive_fail scopes part now fallible are is = sym (branch_alive scopes part.ends.fail are.fail) ∙ is
 
-pub fallible_predicate : (scopes : List Scope) (span : Span) (part : Outcome) (now : Checker) → AreEnds scopes part.ends → is_some part.ends.fail ≡ true → at 1005 span ≡ of_predicate span (seen part now [] [])
-fallible_predicate scopes span part now are is = sym (ap (λ b. if b then at 1005 span else when (is_other tag.Bool (seen part now [] [])) (at 102 span)) (alive_fail scopes part now true are is))
-
 pub sure_predicate : (scopes : List Scope) (span : Span) (part : Outcome) (now : Checker) (other : Bool) → AreEnds scopes part.ends → is_some part.ends.fail ≡ false → other ≡ is_other tag.Bool (seen part now [] []) → when other (at 102 span) ≡ of_predicate span (seen part now [] [])
 sure_predicate scopes span part now other are is same =
     ap (λ b. when b (at 102 span)) same ∙ sym (ap (λ b. if b then at 1005 span else when (is_other tag.Bool (seen part now [] [])) (at 102 span)) (alive_fail scopes part now false are is))
@@ -184,8 +181,3 @@ is_aborted part span a b s ends K wrong is told dead kind =
       kind = kind;
       ends = reported.ends;
     }
-
--- whether the part may fail, or is another
-pub message_wrong : (scopes : List Scope) (part : Outcome) (now : Checker) (fallible other : Bool) → AreEnds scopes part.ends → fallible ≡ is_some part.ends.fail → other ≡ is_other tag.Text (seen part now [] []) → (fallible || other) ≡ is_message_wrong (seen part now [] [])
-message_wrong scopes part now fallible other are is same =
-    ap (λ b. b || other) (is ∙ branch_alive scopes part.ends.fail are.fail) ∙ ap (λ b. is_fallible (seen part now [] []) || b) same

@@ -82,9 +82,6 @@ way_known scopes s is = by s.known refl where
   by None dead = absurd (let none : Some s ≡ None = is ∙ ap (way scopes) dead in cc)
   by (Some roots) alive = (roots, let one : Some s ≡ Some (state_at (Some roots) scopes) = is ∙ ap (way scopes) alive in cc)
 
-pub way_scopes : (scopes : List Scope) (s : State) → IsWay scopes (Some s) → s.scopes ≡ scopes
-way_scopes scopes s is = let found = way_known scopes s is in ap (λ t. t.scopes) found.1
-
 -- a state that is alive is a way in its scopes
 pub alive_way : (scopes : List Scope) (s : State) (roots : RootMap) → s.known ≡ Some roots → s.scopes ≡ scopes → IsWay scopes (Some s)
 alive_way scopes s roots alive same = ap Some (ap₂ state_at alive same) ∙ sym (ap (way scopes) alive)

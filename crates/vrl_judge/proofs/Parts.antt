@@ -54,11 +54,6 @@ ends_or_fail scopes a b j has same are =
     let returns = returns_but_fail a b j same (returns_of scopes a j has) in
     record { are = are; fail = refl; ret = returns.0; returned = returns.1; poisoned = returns.2 }
 
--- one more way to return
-pub ends_or_return : (scopes : List Scope) (a b : Ends) (j : Judgement) → HasEnds scopes a j → b ≡ record a { ret = b.ret } → AreEnds scopes b → HasEnds scopes b (record j { ret = return_state b.ret; returned = return_kind b.ret })
-ends_or_return scopes a b j has same are =
-    record { are = are; fail = ap (λ e. known_on e.fail) same ∙ has.fail; ret = refl; returned = refl; poisoned = ap (λ e. e.poisoned) same ∙ has.poisoned }
-
 -- ---- parts in order
 
 -- both in order, where these are the ends of both

@@ -1,5 +1,5 @@
 -- How the parts of an answer make the whole of it.
-use Rattle.std.proofs.Common.{◌≡◌, ◌≤◌, ◌+◌, ℕ, ℤ, pos, Bool, true, false, if◌then◌else◌, List, [], Option, Some, None, IfSome, unwrap_or, ◌⊎◌, inl, inr, refl, arith, sym, ap, ◌∙◌, subst}
+use Rattle.std.proofs.Common.{◌≡◌, ◌≤◌, ◌+◌, ℕ, ℤ, pos, false, List, [], Option, Some, None, IfSome, unwrap_or, ◌⊎◌, inl, inr, refl, arith, sym, ap, ◌∙◌, subst}
 use Rattle.vrl_batch.specs.Gathered.{input_limit}
 use Rattle.vrl_batch.specs.Sinks.{Appends, AppendsFront}
 use Rattle.vrl_batch.specs.declared.work.LineOut.{LineOut}
@@ -7,10 +7,10 @@ use Rattle.vrl_diag.specs.Rendering.{diagnostic_lines}
 use Rattle.vrl_diag.specs.declared.diagnostic.Diagnostic.{Diagnostic}
 use Rattle.vrl_resolve.specs.Program.{ProgramTree}
 use Rattle.vrl_run.specs.Answer.{answer_to, line_results, run_of}
-use Rattle.vrl_run.specs.Devices.{Devices, IsAsked, IsWhole, IsWithinLimit, LeavesDevices, devices}
+use Rattle.vrl_run.specs.Devices.{Devices, IsAsked, IsWithinLimit, LeavesDevices, devices}
 use Rattle.vrl_run.specs.Request.{IsRunOf, IsSame, Request, RunsScript, run}
 use Rattle.vrl_run.specs.Results.{IsRun, IsRunOver, answer_of}
-use Rattle.vrl_run.specs.Status.{IsOfLines, IsUnread, IsAnswer as IsAnswerStatus, meaning_of}
+use Rattle.vrl_run.specs.Status.{IsOfLines, IsAnswer as IsAnswerStatus, meaning_of}
 use Rattle.vrl_run.specs.declared.lines.Results.{Results}
 use Rattle.vrl_run.specs.declared.status.Status.{Status}
 use Rattle.vrl_run.specs.declared.status.Status.TheVariants.{Done, Refused, Usage, ReadFault, WriteFault, Memory, Marked, TooMuch}
@@ -91,27 +91,6 @@ usage_only Marked either answered = grind arith
 usage_only TooMuch either answered = absurd answered
 
 -- ---- a run reads the lines
-
-lines_are_read : (marked : Bool) (s : Status) → s ≡ (if marked then Marked else Done) → ¬ IsUnread s
-lines_are_read true s is unread = subst IsUnread is unread
-lines_are_read false s is unread = subst IsUnread is unread
-
-unread_answers : (s : Status) → IsUnread s → IsAnswerStatus s
-unread_answers Done unread = absurd unread
-unread_answers Refused unread = tt
-unread_answers Usage unread = tt
-unread_answers ReadFault unread = absurd unread
-unread_answers WriteFault unread = absurd unread
-unread_answers Memory unread = absurd unread
-unread_answers Marked unread = absurd unread
-unread_answers TooMuch unread = absurd unread
-
--- no answer to a run says that the words or the script were refused
-pub run_is_read : (text : List ℕ) (program : ProgramTree) (warnings : List Diagnostic) (status : Status) (before after : Devices) → (IsAnswerStatus status → IsWhole (IsRunOf text program warnings) status before after) → ¬ IsUnread status
-run_is_read text items warnings status before after whole unread =
-    let is = whole (unread_answers status unread) in
-    let asked = is.asked in
-    lines_are_read _ status (is.status_is ∙ ap (λ a. a.status) asked.answered ∙ ap (λ r. (answer_to r asked.input asked.moments).status) asked.asked) unread
 
 -- ---- a refusal is told, and nothing else is done
 

@@ -101,10 +101,6 @@ is_run-push warnings run run_after done r is_run adds = record {
 event_lines_from-event : (n : ℕ) (bytes line behind : List ℕ) → lines_of bytes ≡ line ∷ lines_of behind → is_blank line ≡ false → event_lines_from n bytes ≡ (n, line) ∷ event_lines_from (suc n) behind
 event_lines_from-event n bytes line behind first event = rw (first, event, add-one) refl
 
--- and a blank one is passed over
-event_lines_from-blank : (n : ℕ) (bytes line behind : List ℕ) → lines_of bytes ≡ line ∷ lines_of behind → is_blank line ≡ true → event_lines_from n bytes ≡ event_lines_from (suc n) behind
-event_lines_from-blank n bytes line behind first blank = rw (first, blank, add-one) refl
-
 -- the results of lines, the first of which has this place among those of the input
 abbrev results_from : ProgramTree → (ℕ → ℤ) → ℕ → List (ℕ × List ℕ) → List LineOut
 results_from program moments place lines = map (λ l. line_result program (moments l.0) l.1) (enumerate_from place lines)
@@ -143,21 +139,6 @@ is_run_to-start program warnings input run ahead is_run = record {
   told_none None = tt
   told_none (Some first) = tt
 
-is_run_to-blank_at : (program : ProgramTree) (warnings input bytes line behind : List ℕ) (number : ℕ) (run : Results) (ahead after : Option (ℕ → ℤ)) → lines_of bytes ≡ line ∷ lines_of behind → is_blank line ≡ true
-    → IsRunTo program warnings input bytes number run ahead after → IsRunTo program warnings input behind (suc number) run ahead after
-is_run_to-blank_at program warnings input bytes line behind number run ahead after first blank to =
-    let left = event_lines_from-blank (suc number) bytes line behind first blank in
-    record {
-      given = to.given;
-      done = to.done;
-      is_run = to.is_run;
-      divides = λ moments begin. to.divides moments begin ∙ ap (λ lines. to.done ++ results_from program moments (length to.given) lines) left;
-      counted = to.counted ∙ ap (λ lines. length to.given + length lines) left;
-      clock = to.clock;
-      told = to.told;
-      in_range = to.in_range;
-    }
-
 is_run_to-event_at : (program : ProgramTree) (warnings input bytes line behind : List ℕ) (number : ℕ) (run run_after : Results) (ahead middle after : Option (ℕ → ℤ)) (moment : ℤ) → lines_of bytes ≡ line ∷ lines_of behind → is_blank line ≡ false
     → IsRunTo program warnings input bytes number run ahead middle → Advances middle moment after → IsInRange moment → AddsResult run run_after (line_result program moment (suc number, line)) → IsRunTo program warnings input behind (suc number) run_after ahead after
 is_run_to-event_at program warnings input bytes line behind number run run_after ahead middle after moment first event to advances range adds =
@@ -181,12 +162,6 @@ is_run_to-event_at program warnings input bytes line behind number run run_after
       told = begin-more to.given ahead middle after moment to.clock advances to.told;
       in_range = in_range-push to.given moment to.in_range range;
     }
-
--- a blank line is passed over
-pub is_run_to-blank : (program : ProgramTree) (warnings input bytes line behind : List ℕ) (number next : ℕ) (run : Results) (ahead after : Option (ℕ → ℤ)) → next ≡ suc number → lines_of bytes ≡ line ∷ lines_of behind → is_blank line ≡ true
-    → IsRunTo program warnings input bytes number run ahead after → IsRunTo program warnings input behind next run ahead after
-is_run_to-blank program warnings input bytes line behind number next run ahead after is first blank to =
-    subst (λ n. IsRunTo program warnings input behind n run ahead after) (sym is) (is_run_to-blank_at program warnings input bytes line behind number run ahead after first blank to)
 
 -- the result of the next event joins those that are done
 pub is_run_to-event : (program : ProgramTree) (warnings input bytes line behind : List ℕ) (number next : ℕ) (run run_after : Results) (ahead middle after : Option (ℕ → ℤ)) (moment : ℤ) → next ≡ suc number → lines_of bytes ≡ line ∷ lines_of behind → is_blank line ≡ false
@@ -222,7 +197,3 @@ over_at program warnings input number run ahead after to moments begin told = re
 pub run_over : (program : ProgramTree) (warnings input : List ℕ) (number : ℕ) (run : Results) (ahead after : Option (ℕ → ℤ)) → IsRunTo program warnings input [] number run ahead after → IsRunOver program warnings input ahead run
 run_over program warnings input number run None after to = over_at program warnings input number run None after to (moment_at to.given) (begin_at to.given) tt
 run_over program warnings input number run (Some first) after to = over_at program warnings input number run (Some first) after to first to.told (λ i. refl)
-
--- and the clock told as many
-pub clock_over : (program : ProgramTree) (warnings input : List ℕ) (number : ℕ) (run : Results) (ahead after : Option (ℕ → ℤ)) → IsRunTo program warnings input [] number run ahead after → MovesOn ahead (length (event_lines input)) after
-clock_over program warnings input number run ahead after to = subst (λ k. MovesOn ahead k after) (sym (to.counted ∙ omega arith)) to.clock

@@ -1,5 +1,5 @@
 -- That the kinds of roots are within the limits and never absent.
-use Rattle.std.proofs.Common.{◌≡◌, ◌≤◌, ℕ, Bool, true, false, ◌||◌, cond, List, [], ◌∷◌, Option, Some, None, option_map, IfSome, Bor, refl, sym, ap, ◌∙◌, subst, ⊎_elim, arith}
+use Rattle.std.proofs.Common.{◌≡◌, ◌≤◌, ℕ, Bool, true, false, ◌||◌, cond, List, [], ◌∷◌, Option, Some, None, refl, sym, ap, ◌∙◌, subst, ⊎_elim, arith}
 use Rattle.std.proofs.lemmas.Bool.{cases_lt}
 use Rattle.std.specs.FinMap as map
 use Rattle.std.specs.FinSet as set
@@ -83,13 +83,6 @@ either_root K L M k l c = sets_root _ M c (ap (λ b. b || tags_at L [] tag.Absen
 pub root_of : (root : Root) (roots : RootMap) → HasRootKinds roots → IsRootKindIf (kind_of root roots)
 root_of Event roots all = all.event
 root_of (Name x) roots all = all.variables x
-
-seen_root : (o : Option (Bor KindTree)) → IsRootKindIf (option_map (λ k. k.now) o) → IfSome o (λ k. IsRootKind k.now)
-seen_root None h = tt
-seen_root (Some k) h = h
-
-pub found_root : (o : Option (Bor KindTree)) (K : Option KindTree) → option_map (λ k. k.now) o ≡ K → IsRootKindIf K → IfSome o (λ k. IsRootKind k.now)
-found_root o K e h = seen_root o (subst IsRootKindIf (sym e) h)
 
 pub with_root : (root : Root) (K : KindTree) (roots : RootMap) → IsRootKind K → HasRootKinds roots → HasRootKinds (with_kind root K roots)
 with_root Event K roots is all = record { event = is; variables = all.variables }

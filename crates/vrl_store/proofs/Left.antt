@@ -1,6 +1,5 @@
 -- What a block leaves behind: the variables that were there before it.
 use Rattle.std.proofs.Common.{◌≡◌, ℕ, zero, suc, ◌<◌, ◌==◌, Bool, true, false, cond, ◌||◌, List, [], ◌∷◌, ◌++◌, length, map, take, Option, Some, None, is_eq, is_some, refl, sym, ap, ◌∙◌, subst, true≢false, arith}
-use Rattle.std.proofs.lemmas.List.{append-nil}
 use Rattle.std.specs.Cmp.{eq_by_cmp_equiv, unsigned_Decides}
 use Rattle.std.proofs.lemmas.Cmp.{nat_list_cmp_total}
 use Rattle.std.specs.FinMap as finite
@@ -163,6 +162,3 @@ pub block_ended : (names : Names) (before after : CodeStore) → AreNames names 
     → left_with names (take (length before.present.items) after.present.items) (store_in names after) ≡ store_kept (store_in names before) (store_in names after)
 block_ended names before after store kept front =
     ap (λ ps. left_with names ps (store_in names after)) (take_front before.present.items front.0 after.present.items front.1) ∙ front_left names before after store kept
-
-pub front_taken : (xs ys zs : List ℕ) → IsFront xs ys → zs ≡ take (length xs) ys → IsFront xs zs
-front_taken xs ys zs front is = ([], is ∙ take_front xs front.0 ys front.1 ∙ sym (append-nil xs))

@@ -1,3 +1,3 @@
 pub mod PartSizes
 mod Sizes
-mod Walked
+pub mod Walked

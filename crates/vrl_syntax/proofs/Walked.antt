@@ -1,11 +1,9 @@
 -- A walk over a list that adds what each part has.
-use Rattle.std.proofs.Common.{◌≡◌, ℕ, zero, suc, ◌<◌, List, [], ◌∷◌, ◌++◌, length, drop, get_or, refl, sym, ap, ◌∙◌, append_assoc, arith}
+use Rattle.std.proofs.Common.{◌≡◌, ℕ, zero, suc, ◌<◌, List, [], ◌∷◌, ◌++◌, length, drop, drop-cons, get_or, refl, sym, ap, ◌∙◌, append_assoc, arith}
 
 -- what is left from a place on is the part there, and then what is left behind it
-drop_one : {A : Type 0} (xs : List A) (i next : ℕ) (x : A) → next ≡ suc i → i < length xs → x ≡ get_or xs i x → drop i xs ≡ x ∷ drop next xs
-drop_one [] i next x n below is = absurd (omega arith)
-drop_one (y ∷ xs) zero next x n below is = rw n (ap (λ z. z ∷ xs) (sym is))
-drop_one (y ∷ xs) (suc i) next x n below is = rw n (drop_one xs i (suc i) x refl (omega arith) is)
+pub drop_one : {A : Type 0} (xs : List A) (i next : ℕ) (x : A) → next ≡ suc i → i < length xs → x ≡ get_or xs i x → drop i xs ≡ x ∷ drop next xs
+drop_one xs i next x n below is = drop-cons xs i x below ∙ (λ k. sym is k ∷ drop (sym n k) xs)
 
 -- with what the rest has it is the whole, also behind one more part, which has this
 pub walked_on : {A R : Type 0} (whole : List A → List R) (part : A → List R) → ((x : A) (xs : List A) → whole (x ∷ xs) ≡ part x ++ whole xs)

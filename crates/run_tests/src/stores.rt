@@ -1,0 +1,288 @@
+ghost use Rattle.std.specs.Prelude.{◌≡◌, IfOk};
+ghost use Rattle.vrl_path.specs.Steps.{IsPlain, IsWritable};
+ghost use Rattle.vrl_store.specs.StoreView.{count_of, IsBase, IsKept};
+
+// The event and two variables of a run, step by step.
+use crate::running::json_of;
+use std::alloc::Global;
+use std::process::Abort;
+use vrl_path::{Path, SetFault, Step};
+use vrl_store::{Base, Place, Store};
+use vrl_value::{Chars, Items, Memory, Value};
+
+// Where something is done.
+#[derive(Clone, Copy)]
+enum Root {
+    Event,
+    X,
+    Y,
+}
+
+// What is done: a value is written, or arrays nested as deep as this, or one is taken, or a block ends before which so many variables were
+// there.
+#[derive(Clone, Copy)]
+enum Act {
+    Write(&'static str),
+    WriteDeep(u64),
+    Take,
+    Leave(usize),
+}
+
+// What is done, at which root, and at which field of it, where it is at one; what it gives, where `deep` is a write that isn't done; what is
+// read then of the event and of the two variables; and how many variables are there.
+type Row = (
+    Act,
+    Root,
+    &'static str,
+    &'static str,
+    &'static str,
+    &'static str,
+    &'static str,
+    usize,
+);
+
+const STEPS: [Row; 14] = [
+    (
+        Act::Write("1"),
+        Root::Event,
+        "a",
+        "null",
+        "{\"a\":1}",
+        "null",
+        "null",
+        0,
+    ),
+    (
+        Act::Write("2"),
+        Root::Y,
+        "b",
+        "null",
+        "{\"a\":1}",
+        "null",
+        "{\"b\":2}",
+        1,
+    ),
+    (
+        Act::WriteDeep(128),
+        Root::Y,
+        "b",
+        "\"deep\"",
+        "{\"a\":1}",
+        "null",
+        "{\"b\":2}",
+        1,
+    ),
+    (
+        Act::WriteDeep(2),
+        Root::Y,
+        "c",
+        "null",
+        "{\"a\":1}",
+        "null",
+        "{\"b\":2,\"c\":[[null]]}",
+        1,
+    ),
+    (
+        Act::Take,
+        Root::Y,
+        "c",
+        "[[null]]",
+        "{\"a\":1}",
+        "null",
+        "{\"b\":2}",
+        1,
+    ),
+    (
+        Act::WriteDeep(128),
+        Root::X,
+        "b",
+        "\"deep\"",
+        "{\"a\":1}",
+        "null",
+        "{\"b\":2}",
+        1,
+    ),
+    (
+        Act::Take,
+        Root::X,
+        "b",
+        "null",
+        "{\"a\":1}",
+        "null",
+        "{\"b\":2}",
+        1,
+    ),
+    (
+        Act::Take,
+        Root::X,
+        "",
+        "null",
+        "{\"a\":1}",
+        "null",
+        "{\"b\":2}",
+        2,
+    ),
+    (
+        Act::Write("[3]"),
+        Root::X,
+        "",
+        "null",
+        "{\"a\":1}",
+        "[3]",
+        "{\"b\":2}",
+        2,
+    ),
+    (
+        Act::Take,
+        Root::Event,
+        "a",
+        "1",
+        "{}",
+        "[3]",
+        "{\"b\":2}",
+        2,
+    ),
+    (
+        Act::Leave(1),
+        Root::Event,
+        "",
+        "null",
+        "{}",
+        "null",
+        "{\"b\":2}",
+        1,
+    ),
+    (Act::Take, Root::Y, "", "{\"b\":2}", "{}", "null", "null", 1),
+    (
+        Act::Write("[4]"),
+        Root::Event,
+        "",
+        "null",
+        "[4]",
+        "null",
+        "null",
+        1,
+    ),
+    (Act::Take, Root::Event, "", "[4]", "{}", "null", "null", 1),
+];
+
+// A root, or a field of it.
+fn place_of(alloc: Global, root: Root, field: &str) -> Result<Place, Memory>
+    ensures base { IfOk result (λ place. (store : Store) → count_of store ≡ 2 → IsBase store place.base) }
+    ensures writable { IfOk result (λ place. IsWritable place.path) }
+    ensures plain { IfOk result (λ place. IsPlain place.path) }
+{
+    let base = match root {
+        Root::Event => Base::Event,
+        Root::X => Base::Variable(0),
+        Root::Y => Base::Variable(1),
+    };
+    let mut steps = Vec::new(alloc);
+    if !field.is_empty() {
+        steps.push(Step::Field(Chars::copy_of(alloc, field)?))?;
+    }
+    Ok(Place {
+        base,
+        path: Path::new(steps),
+    })
+}
+
+// Writes a value, and gives null, or `deep` where it isn't written.
+fn write(alloc: Global, store: &mut Store, place: &Place, value: Value) -> Result<Value, Memory>
+    requires base { IsBase store.old place.now.base }
+    requires writable { IsWritable place.now.path }
+    requires kept { IsKept store.old }
+    ensures kept { IsKept store.new }
+    ensures as_many { count_of store.new ≡ count_of store.old }
+{
+    match store.write(alloc, place, value) {
+        Ok(()) => Ok(Value::Null),
+        Err(SetFault::TooDeep) => Ok(Value::Text(Chars::copy_of(alloc, "deep")?)),
+        Err(SetFault::Memory) => Err(Memory),
+    }
+}
+
+// Arrays in one another, this many.
+fn nest(alloc: Global, depth: u64) -> Result<Value, Memory> {
+    let mut value = Value::Null;
+    for _level in 0..depth {
+        let mut items = Vec::new(alloc);
+        items.push(value)?;
+        value = Value::List(Items::new(items));
+    }
+    Ok(value)
+}
+
+// Does a step, and gives what it gives; null for a block that ends.
+fn done(
+    alloc: Global,
+    store: &mut Store,
+    act: Act,
+    root: Root,
+    field: &str,
+) -> Result<Value, Memory>
+    requires two { count_of store.old ≡ 2 }
+    requires kept { IsKept store.old }
+    ensures two { count_of store.new ≡ 2 }
+    ensures kept { IsKept store.new }
+{
+    let place = place_of(alloc, root, field)?;
+    match act {
+        Act::Write(text) => write(alloc, store, &place, json_of(alloc, text)?),
+        Act::WriteDeep(depth) => write(alloc, store, &place, nest(alloc, depth)?),
+        Act::Take => store.take(alloc, &place),
+        Act::Leave(count) => {
+            if count <= store.count() {
+                store.leave(count);
+            }
+            Ok(Value::Null)
+        }
+    }
+}
+
+// Whether a root, read whole, is this value.
+fn stands(alloc: Global, store: &Store, root: Root, wanted: &str) -> Result<bool, Memory>
+    requires two { count_of store.now ≡ 2 }
+    requires kept { IsKept store.now }
+{
+    let place = place_of(alloc, root, "")?;
+    Ok(store.read(&place).same(&json_of(alloc, wanted)?))
+}
+
+// Does the step of a row. Whether all is as it says.
+fn goes(alloc: Global, store: &mut Store, row: &Row) -> Result<bool, Memory>
+    requires two { count_of store.old ≡ 2 }
+    requires kept { IsKept store.old }
+    ensures two { count_of store.new ≡ 2 }
+    ensures kept { IsKept store.new }
+{
+    let (act, root, field, given, event, x, y, count) = row;
+    let found = done(alloc, store, *act, *root, field)?;
+    let is_given = found.same(&json_of(alloc, given)?);
+    let is_event = stands(alloc, store, Root::Event, event)?;
+    let is_x = stands(alloc, store, Root::X, x)?;
+    let is_y = stands(alloc, store, Root::Y, y)?;
+    Ok(is_given & is_event & is_x & is_y & (store.count() == *count))
+}
+
+// A store of an empty event and two variables.
+fn started(alloc: Global) -> Result<Store, Memory>
+    ensures two { IfOk result (λ store. count_of store ≡ 2) }
+    ensures kept { IfOk result (λ store. IsKept store) }
+{
+    Store::start(alloc, json_of(alloc, "{}")?, 2)
+}
+
+fn expect_steps(rt: &impl Abort, alloc: Global, rows: &[Row]) -> Result<(), Memory> {
+    let mut store = started(alloc)?;
+    for row in rows {
+        let goes = goes(alloc, &mut store, row)?;
+        assert!(rt; goes, "at {} {}", row.2, row.4);
+    }
+    Ok(())
+}
+
+#[test]
+fn steps(rt: HostRuntime) -> Result<(), Memory> {
+    expect_steps(&rt, rt.alloc(), &STEPS)
+}
