@@ -32,7 +32,7 @@ use vrl_judge::{
 use vrl_kind::{Kind, cut, kind_is_canonical};
 use vrl_path::Path;
 use vrl_pattern::Patterns;
-use vrl_syntax::{Arg, Args, Call, Expr, Form, Root};
+use vrl_syntax::{Arg, Args, Call, Expr, Root};
 use vrl_table::{
     BindFault, Bound, Fun, bind_to, functions_keep_law, lookup, may_fail, parameters, result_kind,
     wrong_literal,
@@ -446,7 +446,7 @@ fn take_out_at(checker: &mut Checker<'_>, args: &[Arg]) -> Result<(), Memory>
     if !others.is_empty() {
         return Ok(());
     }
-    match path(&arg.value) {
+    match arg.value.as_path() {
         Some((root, path)) => checker.take_out(root, path),
         None => Ok(()),
     }
@@ -480,27 +480,7 @@ fn only_kind(alloc: Global, parts: Vec<Argument>) -> Result<Kind, Memory>
 fn is_path(value: &Expr) -> bool
     ensures { result ≡ is_some (path_of (expr_of value.now)) }
 {
-    path(value).is_some()
-}
-
-// The root and the steps of a path, or of a name alone.
-fn path(value: &Expr) -> Option<(&Root, &Path)>
-    ensures { option_map (λ f. (f.0.now, f.1.now)) result ≡ path_of (expr_of value.now) }
-{
-    match &value.form {
-        Form::Read(root, path) => Some((root, path)),
-        _ => None,
-    }
-}
-
-// The value of a literal that isn't in parentheses.
-fn literal(value: &Expr) -> Option<&Value>
-    ensures { option_map (λ literal. tree_of literal.now) result ≡ literal_of (expr_of value.now) }
-{
-    match &value.form {
-        Form::Literal(value) => Some(value),
-        _ => None,
-    }
+    value.as_path().is_some()
 }
 
 // The argument at a place, with what it was judged to be. None: there is none.
@@ -593,7 +573,7 @@ fn given_of(
 fn copy_literal(alloc: Global, value: &Expr) -> Result<Option<Value>, Memory>
     ensures { IfOk result (λ copy. option_map tree_of copy ≡ literal_of (expr_of value.now)) }
 {
-    match literal(value) {
+    match value.as_literal() {
         Some(value) => Ok(Some(value.copy(alloc)?)),
         None => Ok(None),
     }
@@ -605,7 +585,7 @@ fn is_no_literal(alloc: Global, function: Fun, place: usize, value: &Expr) -> Re
     ensures { IfOk result (λ wanting. IsSomeAnd (slice_get (row_of function).parameters place) (λ p. p.literal ≡ true)
         → wanting ≡ option_map_or (λ v. not ((row_of function).accepts place v)) (literal_of (expr_of value.now)) true) }
 {
-    let Some(value) = literal(value) else {
+    let Some(value) = value.as_literal() else {
         return Ok(true);
     };
     let alone = given_alone(alloc, place, value)?;

@@ -10,13 +10,13 @@ ghost use Rattle.vrl_syntax.specs.Limits.{target_faults};
 
 use crate::checker::Checker;
 use crate::ends::Ends;
-use crate::kinds::{cut_kind_of, either, empty_tag, empty_value, may_be_event, scalar};
+use crate::kinds::{cut_kind_of, either, empty_tag, may_be_event, scalar};
 use crate::outcome::Outcome;
 use std::alloc::Global;
 use vrl_diag::Span;
 use vrl_kind::Kind;
 use vrl_state::Branch;
-use vrl_syntax::{Root, Target};
+use vrl_syntax::{Root, Target, empty_value};
 use vrl_value::{Memory, Tag};
 
 impl Checker<'_> {
@@ -205,7 +205,7 @@ impl Checker<'_> {
 fn empty_kind(alloc: Global, tag: Tag) -> Result<Kind, Memory>
     ensures { IfOk result (IsCutOf (found_at (empty_value_of tag))) }
 {
-    let value = empty_value(alloc, tag)?;
+    let value = empty_value(alloc, tag);
     cut_kind_of(alloc, &value)
 }
 

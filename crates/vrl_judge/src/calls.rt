@@ -17,13 +17,12 @@ ghost use Rattle.vrl_value.specs.declared.value.Tag.TheVariants as tags;
 use crate::assignments::is_needless;
 use crate::checker::Checker;
 use crate::ends::Ends;
-use crate::kinds::empty_value;
 use crate::outcome::Outcome;
 use vrl_builtin::{Parameter, Tags};
 use vrl_diag::Span;
 use vrl_kind::{Kind, TAGS, has, kind_is_canonical, kind_of};
 use vrl_path::Path;
-use vrl_syntax::Root;
+use vrl_syntax::{Root, empty_value};
 use vrl_value::{Memory, Tag};
 
 /// What an argument was judged to be.
@@ -68,7 +67,7 @@ impl Checker<'_> {
         if !path.as_slice().is_empty() {
             return self.state.remove(self.alloc, root, path);
         }
-        let left = empty_value(self.alloc, left_tag(root))?;
+        let left = empty_value(self.alloc, left_tag(root));
         let kind = kind_of(self.alloc, &left)?;
         kind_is_canonical(&kind);
         self.state.assign(self.alloc, root, path, &kind)

@@ -4,16 +4,14 @@ ghost use Rattle.vrl_kind.specs.Kinds.{found_at, root_tags};
 ghost use Rattle.vrl_kind.specs.Tags.{same_tag};
 ghost use Rattle.vrl_place.specs.Sets.{has_other as has_another, is_alone};
 ghost use Rattle.vrl_state.specs.States.{IsCutOf, IsEither};
-ghost use Rattle.vrl_syntax.specs.ErrorAssignments.{empty_value as value_of_empty};
 ghost use Rattle.vrl_value.specs.View.{tree_of};
 ghost use Rattle.vrl_value.specs.declared.value.Tag.TheVariants as tags;
 
 use std::alloc::Global;
-use std::collections::BTreeMap;
 use vrl_kind::{Kind, TAGS, cut, has, join, kind_is_canonical, kind_of};
 use vrl_path::Path;
 use vrl_place::read_kind;
-use vrl_value::{Chars, Fields, Items, Memory, Moment, Tag, Value};
+use vrl_value::{Memory, Tag, Value};
 
 /// The kind of what is of either kind, cut. `Memory`: want of memory.
 pub fn either(alloc: Global, a: &Kind, b: &Kind) -> Result<Kind, Memory>
@@ -122,18 +120,3 @@ const EMPTY_TAGS: [Tag; 6] = [
     Tag::List,
     Tag::Time,
 ];
-
-// The empty value of a tag. `Memory`: want of memory.
-pub(crate) fn empty_value(alloc: Global, tag: Tag) -> Result<Value, Memory>
-    ensures { IfOk result (λ value. tree_of value ≡ value_of_empty tag) }
-{
-    match tag {
-        Tag::Text => Ok(Value::Text(Chars::copy_of(alloc, "")?)),
-        Tag::Int => Ok(Value::Int(0)),
-        Tag::Bool => Ok(Value::Bool(false)),
-        Tag::Object => Ok(Value::Object(Fields::new(BTreeMap::new(alloc)))),
-        Tag::List => Ok(Value::List(Items::new(Vec::new(alloc)))),
-        Tag::Time => Ok(Value::Time(Moment::epoch())),
-        Tag::Null | Tag::Pattern | Tag::Absent => Ok(Value::Null),
-    }
-}

@@ -1,6 +1,5 @@
 ghost use Rattle.std.specs.Prelude.{◌≡◌, map, option_map, IfOk, Some};
 ghost use Rattle.vrl_builtin.specs.View.{givens_of, parameter_row};
-ghost use Rattle.vrl_syntax.specs.Calls.{literal_of as literal_in, path_of as path_in_tree};
 ghost use Rattle.vrl_syntax.specs.View.{args_of, args_view, expr_of};
 ghost use Rattle.vrl_table.specs.Table.{function_named, row_of};
 ghost use Rattle.vrl_value.specs.View.{tree_of};
@@ -11,7 +10,7 @@ use crate::node::Callee;
 use std::alloc::Global;
 use vrl_builtin::{Given, Givens, Parameter};
 use vrl_path::Path;
-use vrl_syntax::{Arg, Args, Expr, Form, Root};
+use vrl_syntax::{Arg, Args, Expr, Root};
 use vrl_table::{BindFault, Fun, bind, functions_are_found, lookup, parameters, wrong_literal};
 use vrl_value::{Chars, Memory, Value};
 
@@ -24,19 +23,9 @@ pub(crate) fn path_of(args: &Args) -> Option<(&Root, &Path)>
         return None;
     }
     if is_value(&arg.name) {
-        path_in(&arg.value)
+        arg.value.as_path()
     } else {
         None
-    }
-}
-
-// The root and the steps of a path, or of a name alone.
-fn path_in(value: &Expr) -> Option<(&Root, &Path)>
-    ensures { option_map (λ place. (place.0.now, place.1.now)) result ≡ path_in_tree (expr_of value.now) }
-{
-    match &value.form {
-        Form::Read(root, path) => Some((root, path)),
-        _ => None,
     }
 }
 
@@ -130,7 +119,7 @@ fn is_no_literal(args: &[Arg], place: Option<usize>) -> bool
     ensures { result ≡ is_other (written_at (values_of (args_view args.now)) place) }
 {
     match argument_at(args, place) {
-        Some(value) => literal_of(value).is_none(),
+        Some(value) => value.as_literal().is_none(),
         None => false,
     }
 }
@@ -157,7 +146,7 @@ fn literal_at(alloc: Global, args: &[Arg], place: Option<usize>) -> Result<Optio
     let Some(value) = argument_at(args, place) else {
         return Ok(None);
     };
-    match literal_of(value) {
+    match value.as_literal() {
         Some(literal) => Ok(Some(literal.copy(alloc)?)),
         None => Ok(None),
     }
@@ -170,14 +159,4 @@ fn argument_at(args: &[Arg], place: Option<usize>) -> Option<&Expr>
     let place = place?;
     let arg = args.get(place)?;
     Some(&arg.value)
-}
-
-// The value of an expression that is written as a literal.
-fn literal_of(expr: &Expr) -> Option<&Value>
-    ensures { option_map (λ value. tree_of value.now) result ≡ literal_in (expr_of expr.now) }
-{
-    match &expr.form {
-        Form::Literal(value) => Some(value),
-        _ => None,
-    }
 }

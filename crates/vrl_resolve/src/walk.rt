@@ -25,10 +25,10 @@ use std::collections::BTreeMap;
 use vrl_builtin::Setting;
 use vrl_path::{Path, get};
 use vrl_store::{
-    Operand, Place, Stop, Store, apply, apply_to_borrowed, banged, empty_value, is_falsy, is_true,
+    Operand, Place, Stop, Store, apply, apply_to_borrowed, banged, is_falsy, is_true,
     negated, truth, unless_error,
 };
-use vrl_syntax::Op;
+use vrl_syntax::{Op, empty_value};
 use vrl_value::{Chars, Fields, Items, Memory, Names, Tag, Value};
 
 /// What stays the same while a script runs over an event.

@@ -1,12 +1,9 @@
 ghost use Rattle.std.specs.Prelude.{◌≡◌, drop, option_map};
-ghost use Rattle.vrl_syntax.specs.ErrorAssignments.{empty_value as empty_tree, first_tag, in_args, in_arms, in_closure, in_expr, in_exprs, in_form, in_pairs, other_tags};
+ghost use Rattle.vrl_syntax.specs.ErrorAssignments.{first_tag, in_args, in_arms, in_closure, in_expr, in_exprs, in_form, in_pairs, other_tags};
 ghost use Rattle.vrl_syntax.specs.View.{args_of, arms_of, call_of, closure_in, closure_of, expr_of, exprs_of, pairs_of};
-ghost use Rattle.vrl_value.specs.View.{tree_of};
 
-use std::alloc::Global;
-use std::collections::BTreeMap;
 use vrl_syntax::{Args, Arms, Call, Closure, Expr, Exprs, Form, Pairs};
-use vrl_value::{Chars, Fields, Items, Moment, Tag, Value};
+use vrl_value::Tag;
 
 /// The tags of the empty values of the error assignments that are to come, in the order in which a walk of the script meets them.
 #[derive(Drop)]
@@ -124,20 +121,5 @@ impl EmptyTags<'_> {
         for arg in args.as_slice() {
             self.pass_expr(&arg.value);
         }
-    }
-}
-
-/// The empty value of a tag; a regex and absent stand for null.
-pub fn empty_value(alloc: Global, tag: Tag) -> Value
-    ensures { tree_of result ≡ empty_tree tag }
-{
-    match tag {
-        Tag::Text => Value::Text(Chars::new(String::new(alloc))),
-        Tag::Int => Value::Int(0),
-        Tag::Bool => Value::Bool(false),
-        Tag::Time => Value::Time(Moment::epoch()),
-        Tag::List => Value::List(Items::new(Vec::new(alloc))),
-        Tag::Object => Value::Object(Fields::new(BTreeMap::new(alloc))),
-        Tag::Null | Tag::Pattern | Tag::Absent => Value::Null,
     }
 }

@@ -16,7 +16,7 @@ mod stop;
 mod store;
 
 pub use asked::is_asked_of_item;
-pub use empties::{EmptyTags, empty_value};
+pub use empties::EmptyTags;
 pub use ends::{banged, unless_error};
 pub use laws::equality_is_told;
 pub use operand::Operand;

@@ -5,6 +5,7 @@
 //! places by `without_spans`.
 #![tactic(auto)]
 
+mod empty;
 mod limits;
 mod lists;
 mod regexes;
@@ -12,6 +13,7 @@ mod root;
 mod tree;
 mod written;
 
+pub use empty::empty_value;
 pub use limits::limit_faults;
 pub use lists::{Empties, Roots};
 pub use regexes::regexes_below;

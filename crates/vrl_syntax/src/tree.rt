@@ -1,5 +1,7 @@
-ghost use Rattle.std.specs.Prelude.{◌≡◌};
-ghost use Rattle.vrl_syntax.specs.View.{args_of, args_view, arms_of, arms_view, exprs_of, exprs_view, pairs_of, pairs_view};
+ghost use Rattle.std.specs.Prelude.{◌≡◌, option_map};
+ghost use Rattle.vrl_value.specs.View.{tree_of};
+ghost use Rattle.vrl_syntax.specs.Calls.{literal_of, path_of};
+ghost use Rattle.vrl_syntax.specs.View.{args_of, args_view, arms_of, arms_view, expr_of, exprs_of, exprs_view, pairs_of, pairs_view};
 
 use crate::root::{Op, Root, Target};
 use vrl_diag::Span;
@@ -21,6 +23,28 @@ impl Drop for Expr {
     #[cycle(let_go)]
     fn drop(self) {
         let Expr { span: _, form: _ } = self;
+    }
+}
+
+impl Expr {
+    /// The value of a literal that isn't in parentheses. `None`: it is none.
+    pub fn as_literal(&self) -> Option<&Value>
+        ensures { option_map (λ value. tree_of value.now) result ≡ literal_of (expr_of self.now) }
+    {
+        match &self.form {
+            Form::Literal(value) => Some(value),
+            _ => None,
+        }
+    }
+
+    /// The root and the steps of a path, or of a name alone. `None`: it is none.
+    pub fn as_path(&self) -> Option<(&Root, &Path)>
+        ensures { option_map (λ path. (path.0.now, path.1.now)) result ≡ path_of (expr_of self.now) }
+    {
+        match &self.form {
+            Form::Read(root, path) => Some((root, path)),
+            _ => None,
+        }
     }
 }
 
