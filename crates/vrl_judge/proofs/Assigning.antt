@@ -1,5 +1,5 @@
 -- Assignments behind their expressions.
-use Rattle.std.proofs.Common.{◌≡◌, ℕ, Bool, false, not, ◌||◌, ◌&&◌, List, [], ◌++◌, Option, None, is_some, refl, sym, ap, ◌∙◌, subst}
+use Rattle.std.proofs.Common.{◌≡◌, ℕ, Bool, false, not, ◌||◌, ◌&&◌, List, [], ◌++◌, Option, None, is_some, slice_set, refl, sym, ap, ◌∙◌, subst}
 use Rattle.std.specs.List.{list_any}
 use Rattle.vrl_value.specs.Tree.{Tree}
 use Rattle.vrl_value.specs.declared.value.Tag.{Tag}
@@ -14,7 +14,7 @@ use Rattle.vrl_judge.specs.Assigning.{AreAssigned}
 use Rattle.vrl_syntax.specs.ErrorAssignments.{empty_value}
 use Rattle.vrl_diag.specs.Refusal.{is_error}
 use Rattle.vrl_judge.specs.Rules.{Judgement, at, empty_tag, is_no_event, is_nowhere, of_assignment, of_error_assignment, when, with_codes, IsWritten}
-use Rattle.vrl_judge.specs.Judging.{known_on, AreBothWritten, AreEnds, HasEnds, HasJudged, IsAssignedAs, IsMoved, IsPutAt, IsReported, IsWay}
+use Rattle.vrl_judge.specs.Judging.{known_on, AreBothWritten, AreEnds, HasEnds, HasJudged, IsAssignedAs, IsMoved, IsReported, IsWay}
 use Rattle.vrl_judge.specs.Seen.{seen}
 use Rattle.vrl_judge.specs.declared.checker.Checker.{Checker}
 use Rattle.vrl_judge.specs.declared.ends.Ends.{Ends}
@@ -84,7 +84,7 @@ assigned_judged span target now b c told after part first second ends fallible n
 
 -- the walk's steps: the tag is put, the codes are told, both targets are written
 pub are_assigned : (span : Span) (ok err : Target) (place : ℕ) (part : Outcome) (a b c d : Checker) (ends : Ends) (t : Tag) (E K : KindTree) → t ≡ empty_tag part.kind → AreEnds a.state.scopes part.ends
-    → b.state ≡ a.state → b.diagnostics ≡ a.diagnostics → b.patterns ≡ a.patterns → IsPutAt place t a.empties.items b.empties.items
+    → b.state ≡ a.state → b.diagnostics ≡ a.diagnostics → b.patterns ≡ a.patterns → b.empties.items ≡ slice_set a.empties.items place t
     → IsCutOf (found_at (empty_value (empty_tag part.kind))) E → IsEither part.kind E K
     → ((j : Judgement) → b.state.known ≡ j.ok → HasEnds b.state.scopes part.ends j → IsReported (of_error_assignment span ok err j K) b c part.ends ends)
     → AreBothWritten ok err part.kind E c.state.known (known_on ends.fail) d.state.known → IsMoved c d
@@ -102,7 +102,7 @@ are_assigned span ok err place part a b c d ends t E K tag_is are state diagnost
           (subst (λ s. AreBothWritten ok err part.kind E s.known (known_on ends.fail) d.state.known) (reported.state ∙ state) written);
       scopes = moved.scopes ∙ ap (λ s. s.scopes) (reported.state ∙ state);
       diagnostics = ap (λ v. v.items) moved.diagnostics ∙ reported.diagnostics ∙ ap (λ v. v.items ++ ds) diagnostics;
-      empties = subst (λ v. IsPutAt place (empty_tag part.kind) a.empties.items v.items) (sym (moved.empties ∙ reported.empties)) (subst (λ u. IsPutAt place u a.empties.items b.empties.items) tag_is put);
+      empties = ap (λ v. v.items) (moved.empties ∙ reported.empties) ∙ put ∙ ap (slice_set a.empties.items place) tag_is;
       patterns = moved.patterns ∙ reported.patterns ∙ patterns;
       ends = ends_are;
     }

@@ -1,5 +1,5 @@
 -- The steps between the parts of a branching form.
-use Rattle.std.proofs.Common.{◌≡◌, Bool, true, false, ◌||◌, List, [], Option, None, IfSome, is_some, if◌then◌else◌, refl, sym, ap, ◌∙◌, subst}
+use Rattle.std.proofs.Common.{◌≡◌, Bool, true, false, ◌||◌, List, [], Option, Some, None, IfSome, is_some, if◌then◌else◌, refl, sym, ap, ◌∙◌, subst}
 use Rattle.vrl_value.specs.Look.{Step}
 use Rattle.vrl_diag.specs.declared.diagnostic.Diagnostic.{Diagnostic}
 use Rattle.vrl_diag.specs.declared.diagnostic.Span.{Span}
@@ -8,9 +8,9 @@ use Rattle.vrl_kind.specs.KindTree.{KindTree}
 use Rattle.vrl_kind.specs.Kinds.{tags_at, without_at}
 use Rattle.vrl_state.specs.States.{IsCutOf, IsEither, IsJoined, IsRootKind, RootMap, Scope, State}
 use Rattle.vrl_judge.specs.Returns.{return_kind, return_state, returning}
-use Rattle.vrl_judge.specs.Branching.{is_message_wrong, of_message, AreBothSides, AreWays, IsAborted, IsBlockBeside, IsConjoined, IsLastBeside, IsLeftSide, IsOrFail, IsPredicateBeside, IsReturned, StandsIn}
-use Rattle.vrl_judge.specs.Rules.{at, if_state, is_fallible, is_other, may_be_no_truth, may_be_truth, of_predicate, or_else_at, when, IsScalar}
-use Rattle.vrl_judge.specs.Judging.{kept_if, known_on, no_ends, way, AreEnds, AreJoinedEnds, AreJoinedReturns, HaveCommonScopes, IsMoved, IsReported, IsReturnIn, IsWay}
+use Rattle.vrl_judge.specs.Branching.{AreBothSides, AreWays, IsAborted, IsBlockBeside, IsConjoined, IsLastBeside, IsLeftSide, IsOrFail, IsPredicateBeside, IsReturned, StandsIn}
+use Rattle.vrl_judge.specs.Rules.{at, if_state, is_fallible, is_message_wrong, is_other, may_be_no_truth, may_be_truth, of_message, of_predicate, or_else_at, when, IsScalar}
+use Rattle.vrl_judge.specs.Judging.{known_on, no_ends, way, AreEnds, AreJoinedEnds, AreJoinedReturns, HaveCommonScopes, IsMoved, IsReported, IsReturnIn, IsWay}
 use Rattle.vrl_judge.specs.Seen.{seen}
 use Rattle.vrl_judge.specs.declared.branches.LeftSide.{LeftSide}
 use Rattle.vrl_judge.specs.declared.branches.Ways.{Ways}
@@ -18,7 +18,7 @@ use Rattle.vrl_judge.specs.declared.checker.Checker.{Checker}
 use Rattle.vrl_judge.specs.declared.ends.Ends.{Ends}
 use Rattle.vrl_judge.specs.declared.ends.Returned.{Returned}
 use Rattle.vrl_judge.specs.declared.outcome.Outcome.{Outcome}
-use Rattle.vrl_judge.proofs.Parts.{are_ends_of}
+use Rattle.vrl_judge.proofs.Parts.{are_ends_of, known_if}
 use Rattle.vrl_judge.proofs.Joining.{branch_alive, common, join_turned, kept_return, kept_way, kind_of_return, known_way, no_return, state_of_return}
 use Rattle.vrl_value.specs.declared.value.Tag.TheVariants as tag
 
@@ -43,20 +43,16 @@ or_failed scopes known old new point wanted test is same joined others = record 
 
 -- ---- the left side
 
-pub kept_known : (wanted : Bool) (s : State) → known_on (kept_if wanted s) ≡ if_state wanted s.known
-kept_known true s = refl
-kept_known false s = refl
-
-pub kept_scopes : (wanted : Bool) (s : State) → IfSome (kept_if wanted s) (λ m. m.scopes ≡ s.scopes)
+pub kept_scopes : (wanted : Bool) (s : State) → IfSome (if_state wanted (Some s)) (λ m. m.scopes ≡ s.scopes)
 kept_scopes true s = refl
 kept_scopes false s = tt
 
-pub left_side : (start : Option RootMap) (a c d : Checker) (side : LeftSide) (wanted test : Bool) → wanted ≡ test → AreEnds a.state.scopes side.part.ends → side.beside ≡ kept_if wanted a.state → c ≡ a → d.state.known ≡ start → IsMoved c d
+pub left_side : (start : Option RootMap) (a c d : Checker) (side : LeftSide) (wanted test : Bool) → wanted ≡ test → AreEnds a.state.scopes side.part.ends → side.beside ≡ if_state wanted (Some a.state) → c ≡ a → d.state.known ≡ start → IsMoved c d
     → IsLeftSide start (if_state test a.state.known) a d side
 left_side start a c d side wanted test same are beside still known moved = record {
   moved = subst (λ x. IsMoved x d) still moved;
   known = known;
-  beside = ap known_on beside ∙ kept_known wanted a.state ∙ ap (λ b. if_state b a.state.known) same;
+  beside = ap known_on beside ∙ known_if wanted (Some a.state) ∙ ap (λ b. if_state b a.state.known) same;
   stands = record { ends = are; beside = subst (λ m. IfSome m (λ s. s.scopes ≡ a.state.scopes)) (sym beside) (kept_scopes wanted a.state) };
 }
 

@@ -1,11 +1,11 @@
 -- Ways that are kept, and joins of what is known on them.
-use Rattle.std.proofs.Common.{◌≡◌, Bool, true, false, List, Option, Some, None, is_some, option_map, refl, sym, ap, ap₂, ◌∙◌, subst}
+use Rattle.std.proofs.Common.{◌≡◌, Bool, true, false, not, List, Option, Some, None, is_some, option_map, refl, sym, ap, ap₂, ◌∙◌, subst}
 use Rattle.vrl_kind.specs.Canonical.{allows_absent}
 use Rattle.vrl_kind.specs.KindTree.{KindTree, kind}
 use Rattle.vrl_state.specs.States.{IsEither, IsEitherMap, IsEitherVariable, IsJoined, IsPresent, IsRootKind, RootMap, Scope, State}
 use Rattle.vrl_judge.specs.Returns.{return_kind, return_state, returning}
-use Rattle.vrl_judge.specs.Rules.{settled_kind}
-use Rattle.vrl_judge.specs.Judging.{kept_unless, known_on, no_ends, settled_ends, way, AreEnds, AreJoinedReturns, HaveCommonScopes, IsReturnIn, IsWay}
+use Rattle.vrl_judge.specs.Rules.{if_state, settled_kind}
+use Rattle.vrl_judge.specs.Judging.{known_on, no_ends, settled_ends, way, AreEnds, AreJoinedReturns, HaveCommonScopes, IsReturnIn, IsWay}
 use Rattle.vrl_judge.specs.declared.ends.Ends.{Ends}
 use Rattle.vrl_judge.specs.declared.ends.Returned.{Returned}
 use Rattle.vrl_state.proofs.Limits.{either_root}
@@ -157,9 +157,9 @@ no_ends_are scopes = record { fail = refl; ret = no_return scopes }
 pub common : (scopes : List Scope) (a b : Ends) → AreEnds scopes a → AreEnds scopes b → HaveCommonScopes a b
 common scopes a b first second = record { scopes = scopes; first = first; second = second }
 
-pub kept_unless_way : (scopes : List Scope) (dropped : Bool) (branch : Option State) → IsWay scopes branch → IsWay scopes (kept_unless dropped branch)
-kept_unless_way scopes true branch is = refl
-kept_unless_way scopes false branch is = is
+pub way_if : (scopes : List Scope) (wanted : Bool) (branch : Option State) → IsWay scopes branch → IsWay scopes (if_state wanted branch)
+way_if scopes true branch is = is
+way_if scopes false branch is = refl
 
 pub settled_are : (scopes : List Scope) (ends : Ends) → AreEnds scopes ends → AreEnds scopes (settled_ends ends)
-settled_are scopes ends are = record { fail = kept_unless_way scopes ends.poisoned ends.fail are.fail; ret = are.ret }
+settled_are scopes ends are = record { fail = way_if scopes (not ends.poisoned) ends.fail are.fail; ret = are.ret }

@@ -7,6 +7,7 @@ pub mod Gathering
 pub mod Joining
 pub mod Order
 pub mod Parts
+pub mod Results
 pub mod RootKinds
 pub mod Scalars
 pub mod Told

@@ -10,7 +10,7 @@ use Rattle.vrl_state.specs.States.{kept as kept_by, knows, IsEither, IsJoined, R
 use Rattle.vrl_judge.specs.Returns.{return_kind, return_state, returning}
 use Rattle.vrl_diag.specs.Refusal.{is_error}
 use Rattle.vrl_judge.specs.Rules.{Judgement, IsBehind, IsThen, if_state, is_alive, kept, left, settle, settled_kind, with_codes}
-use Rattle.vrl_judge.specs.Judging.{kept_unless, known_on, settled_ends, AreEnds, AreJoinedEnds, AreLeftEnds, HasEnds, HasGathered, HasJudged, IsMoved, IsReported, IsReturnIn, IsWay}
+use Rattle.vrl_judge.specs.Judging.{known_on, settled_ends, AreEnds, AreJoinedEnds, AreLeftEnds, HasEnds, HasGathered, HasJudged, IsMoved, IsReported, IsReturnIn, IsWay}
 use Rattle.vrl_judge.specs.declared.checker.Checker.{Checker}
 use Rattle.vrl_judge.specs.declared.ends.Ends.{Ends}
 use Rattle.vrl_judge.specs.declared.ends.Returned.{Returned}
@@ -203,14 +203,14 @@ reported_judged ds start before after part all j told same has = record {
   gathered = reported_gathered ds start before after part.ends all.ends j told has.gathered;
 }
 
-pub settled_fail : (poisoned : Bool) (branch : Option State) → known_on (kept_unless poisoned branch) ≡ if_state (not poisoned) (known_on branch)
-settled_fail true branch = refl
-settled_fail false branch = refl
+pub known_if : (wanted : Bool) (branch : Option State) → known_on (if_state wanted branch) ≡ if_state wanted (known_on branch)
+known_if true branch = refl
+known_if false branch = refl
 
 pub settled_ends_have : (scopes : List Scope) (ends : Ends) (j : Judgement) → HasEnds scopes ends j → HasEnds scopes (settled_ends ends) (settle j)
 settled_ends_have scopes ends j has = record {
   are = settled_are scopes ends has.are;
-  fail = settled_fail ends.poisoned ends.fail ∙ ap₂ (λ p f. if_state (not p) f) has.poisoned has.fail;
+  fail = known_if (not ends.poisoned) ends.fail ∙ ap₂ (λ p f. if_state (not p) f) has.poisoned has.fail;
   ret = has.ret;
   returned = has.returned;
   poisoned = has.poisoned;

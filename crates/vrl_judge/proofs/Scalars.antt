@@ -10,9 +10,9 @@ use Rattle.vrl_kind.specs.KindTree.{KindTree}
 use Rattle.vrl_kind.specs.Kinds.{any_at, never_at, only_at, or_absent, root_tags, step_tag, tags_at, IsJoin}
 use Rattle.vrl_kind.specs.Tags.{Tags, all_tags, only, same_tag}
 use Rattle.vrl_place.specs.Sets.{SameSets}
-use Rattle.vrl_judge.specs.Rules.{is_tag, scalars_at, some_pair, table_tags}
+use Rattle.vrl_judge.specs.Rules.{is_tag, scalars_at, some_pair, some_tag, table_tags}
 use Rattle.vrl_judge.specs.Judging.{table_rule}
-use Rattle.vrl_judge.specs.Partners.{only_where, some_partner}
+use Rattle.vrl_judge.specs.Partners.{only_where}
 use Rattle.vrl_judge.specs.declared.tables.Table.{Table}
 use Rattle.vrl_value.specs.declared.value.Tag.TheVariants as tag
 use Rattle.vrl_judge.specs.declared.tables.Table.TheVariants as table
@@ -43,11 +43,11 @@ none_sets given is t (s ∷ p) u = refl
 -- ---- tables
 
 -- a pair passes a test where some tag of the first kind has a partner in the second
-pub some_pair-by_partners : (test : Tag → Tag → Bool) (K L : KindTree) → list_any (λ a. root_tags K a && some_partner (test a) L) all_tags ≡ some_pair test K L
-unfolding some_pair some_partner
+pub some_pair-by_partners : (test : Tag → Tag → Bool) (K L : KindTree) → list_any (λ a. root_tags K a && some_tag (test a) L) all_tags ≡ some_pair test K L
+unfolding some_tag
 some_pair-by_partners test K L = refl
 
-pub table_tags-by_partners : (rule : Tag → Tag → Option Tag) (K L : KindTree) (t : Tag) → list_any (λ a. root_tags K a && some_partner (λ b. is_tag (rule a b) t) L) all_tags ≡ table_tags rule K L t
+pub table_tags-by_partners : (rule : Tag → Tag → Option Tag) (K L : KindTree) (t : Tag) → list_any (λ a. root_tags K a && some_tag (λ b. is_tag (rule a b) t) L) all_tags ≡ table_tags rule K L t
 unfolding table_tags
 table_tags-by_partners rule K L t = some_pair-by_partners (λ a b. is_tag (rule a b) t) K L
 
@@ -86,14 +86,14 @@ listed_other (Some a) t h other = absurd (true≢false (sym h))
 pub none_of_all : (test : Tags) → ((t : Tag) → test t ≡ false) → list_any test all_tags ≡ false
 none_of_all test none = list_any_none test all_tags (λ k d below. none (get_or all_tags k d))
 
-pub no_partner : (test : Tag → Bool) (L : KindTree) → ((b : Tag) → test b ≡ false) → some_partner test L ≡ false
-unfolding some_partner
+pub no_partner : (test : Tag → Bool) (L : KindTree) → ((b : Tag) → test b ≡ false) → some_tag test L ≡ false
+unfolding some_tag
 no_partner test L none = none_of_all (λ b. root_tags L b && test b) (λ b. rw (none b) (and-false (root_tags L b)))
 
 pub no_pair : (rule : Tag → Tag → Option Tag) (K L : KindTree) (t : Tag) → ((a b : Tag) → is_tag (rule a b) t ≡ false) → table_tags rule K L t ≡ false
 no_pair rule K L t none =
     sym (table_tags-by_partners rule K L t)
-    ∙ none_of_all (λ a. root_tags K a && some_partner (λ b. is_tag (rule a b) t) L)
+    ∙ none_of_all (λ a. root_tags K a && some_tag (λ b. is_tag (rule a b) t) L)
     (λ a. rw (no_partner (λ b. is_tag (rule a b) t) L (none a)) (and-false (root_tags K a)))
 
 -- no other tag is given for any pair

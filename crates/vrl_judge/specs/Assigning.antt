@@ -1,5 +1,5 @@
--- What the walk does behind the expression of an error assignment.
-use Rattle.std.specs.Prelude.{◌≡◌, ◌||◌, ◌++◌, ℕ, [], None}
+-- What an error assignment makes of its expression, of what is known behind that, and of the place that is kept for its empty value.
+use Rattle.std.specs.Prelude.{◌≡◌, ◌||◌, ◌++◌, ℕ, [], None, slice_set}
 use Rattle.std.specs.List.{list_any}
 use Rattle.vrl_diag.specs.declared.diagnostic.Span.{Span}
 use Rattle.vrl_syntax.specs.declared.root.Target.{Target}
@@ -9,7 +9,7 @@ use Rattle.vrl_state.specs.States.{IsCutOf, IsEither}
 use Rattle.vrl_syntax.specs.ErrorAssignments.{empty_value}
 use Rattle.vrl_diag.specs.Refusal.{is_error}
 use Rattle.vrl_judge.specs.Rules.{empty_tag, of_error_assignment}
-use Rattle.vrl_judge.specs.Judging.{known_on, AreBothWritten, IsPutAt}
+use Rattle.vrl_judge.specs.Judging.{known_on, AreBothWritten}
 use Rattle.vrl_judge.specs.Seen.{seen}
 use Rattle.vrl_judge.specs.declared.checker.Checker.{Checker}
 use Rattle.vrl_judge.specs.declared.outcome.Outcome.{Outcome}
@@ -23,5 +23,5 @@ pub record AreAssigned (span : Span) (ok err : Target) (place : ℕ) (part : Out
   pub scopes : after.state.scopes ≡ before.state.scopes
   pub diagnostics : after.diagnostics.items ≡ before.diagnostics.items ++ of_error_assignment span ok err (seen part before [] []) outcome.kind
   pub patterns : after.patterns ≡ before.patterns
-  pub empties : IsPutAt place (empty_tag part.kind) before.empties.items after.empties.items
+  pub empties : after.empties.items ≡ slice_set before.empties.items place (empty_tag part.kind)
   pub ends : outcome.ends ≡ record part.ends { fail = None; poisoned = part.ends.poisoned || list_any is_error (of_error_assignment span ok err (seen part before [] []) outcome.kind) }

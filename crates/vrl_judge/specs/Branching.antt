@@ -1,5 +1,5 @@
--- What the walk does between the parts of a branching form, and behind the last one.
-use Rattle.std.specs.Prelude.{◌≡◌, ◌||◌, ◌++◌, Bool, false, List, [], Option, None, IfSome}
+-- What is known between the parts of a branching form, which the walk judges one by one, and behind the last one.
+use Rattle.std.specs.Prelude.{◌≡◌, ◌||◌, ◌++◌, false, List, [], Option, None, IfSome}
 use Rattle.std.specs.List.{list_any}
 use Rattle.vrl_diag.specs.declared.diagnostic.Diagnostic.{Diagnostic}
 use Rattle.vrl_diag.specs.declared.diagnostic.Span.{Span}
@@ -7,7 +7,7 @@ use Rattle.vrl_kind.specs.Canonical.{never_kind}
 use Rattle.vrl_state.specs.States.{IsEither, IsJoined, RootMap, Scope, State}
 use Rattle.vrl_judge.specs.Returns.{return_kind, return_state}
 use Rattle.vrl_diag.specs.Refusal.{is_error}
-use Rattle.vrl_judge.specs.Rules.{at, if_state, is_alive, is_fallible, is_other, may_be_no_truth, may_be_truth, of_predicate, settled_kind, when, IsScalar, Judgement}
+use Rattle.vrl_judge.specs.Rules.{if_state, is_alive, may_be_no_truth, may_be_truth, of_predicate, settled_kind, IsScalar}
 use Rattle.vrl_judge.specs.Judging.{known_on, no_ends, AreEnds, AreJoinedEnds, IsMoved, IsReported, IsWay}
 use Rattle.vrl_judge.specs.Seen.{seen}
 use Rattle.vrl_judge.specs.declared.branches.LeftSide.{LeftSide}
@@ -99,13 +99,6 @@ pub record IsReturned (part : Outcome) (before after : Checker) (outcome : Outco
   pub returned : IsEither (return_kind part.ends.ret) (settled_kind false (is_alive before.state.known) part.kind) (return_kind outcome.ends.ret)
   pub others : outcome.ends ≡ record part.ends { ret = outcome.ends.ret }
   pub are : AreEnds before.state.scopes outcome.ends
-
--- a message that may fail, or isn't exactly a text, is 1011
-abbrev pub is_message_wrong : Judgement → Bool
-is_message_wrong j = is_fallible j || is_other tag.Text j
-
-abbrev pub of_message : Span → Judgement → List Diagnostic
-of_message span j = when (is_message_wrong j) (at 1011 span)
 
 -- behind the part and these codes no way leads on
 pub record IsAborted (ds : List Diagnostic) (part : Outcome) (before after : Checker) (outcome : Outcome) : Type 0 where

@@ -1,4 +1,4 @@
--- What the walk keeps of an argument, and what it does behind a call.
+-- What is kept of an argument that was judged, and what the `!` of a call makes of it.
 use Rattle.std.specs.Prelude.{Bool}
 use Rattle.vrl_diag.specs.declared.diagnostic.Span.{Span}
 use Rattle.vrl_judge.specs.Rules.{Argument, Judgement, banged, is_fallible, is_known}
@@ -9,7 +9,7 @@ use Rattle.vrl_judge.specs.declared.outcome.Outcome.{Outcome}
 
 -- ---- arguments that were judged
 
--- what the walk keeps of an argument
+-- what is kept of an argument
 abbrev pub told : Argument → CodeArgument
 told g = record { kind = g.judged.kind; fallible = is_fallible g.judged; known = is_known g.judged }
 

@@ -1,5 +1,5 @@
--- What the walk over a script gives and gathers, as a judgement, and what is made of parts that were judged.
-use Rattle.std.specs.Prelude.{◌≡◌, ◌||◌, not, ℕ, Bool, true, false, List, ◌∷◌, ◌++◌, Option, Some, None, is_some, length, option_map}
+-- What was judged of a part and gathered in it, told as a judgement, and what each plain form makes of such parts.
+use Rattle.std.specs.Prelude.{◌≡◌, ◌||◌, not, Bool, false, List, ◌∷◌, ◌++◌, Option, Some, None, is_some, option_map}
 use Rattle.std.specs.List.{list_any}
 use Rattle.vrl_value.specs.declared.value.Tag.{Tag}
 use Rattle.vrl_path.specs.declared.path.Step.{Step}
@@ -75,15 +75,11 @@ pub record AreLeftEnds (scope : Scope) (scopes : List Scope) (before after : End
 abbrev pub no_ends : Ends
 no_ends = record { fail = None; ret = None; poisoned = false }
 
-abbrev pub kept_unless : {A : Type 0} → Bool → Option A → Option A
-kept_unless true a = None
-kept_unless false a = a
-
 -- no error is left of what is poisoned
 abbrev pub settled_ends : Ends → Ends
-settled_ends ends = record ends { fail = kept_unless ends.poisoned ends.fail }
+settled_ends ends = record ends { fail = if_state (not ends.poisoned) ends.fail }
 
--- ---- what the walk gives
+-- ---- what was judged
 
 -- the ends but for that with a value
 pub record HasEnds (scopes : List Scope) (ends : Ends) (j : Judgement) : Type 0 where
@@ -107,7 +103,7 @@ pub record HasJudged (before after : Checker) (outcome : Outcome) (j : Judgement
   pub ends : HasEnds before.state.scopes outcome.ends j
   pub gathered : HasGathered before after j
 
--- ---- steps of the walk
+-- ---- what is made of it
 
 -- the pairs that an operator takes
 abbrev pub table_rule : Table → Tag → Tag → Option Tag
@@ -189,18 +185,10 @@ abbrev pub IsMergedAs : Span → Span → Operands → Checker → Checker → O
 IsMergedAs left_span right_span parts now after outcome = (before : Checker) (j k whole : Judgement) → HasOperands before now parts j k whole
     → (K : KindTree) × IsMerged j.kind k.kind K × HasJudged before after outcome (with_codes (no_objects left_span right_span j k) (record whole { kind = K }))
 
-abbrev pub kept_if : {A : Type 0} → Bool → A → Option A
-kept_if true a = Some a
-kept_if false a = None
-
 -- an assignment, behind its expression
 abbrev pub IsAssignedAs : Span → Target → Outcome → Checker → Checker → Outcome → Type 0
 IsAssignedAs span target part now after outcome = (before : Checker) (j : Judgement) → HasJudged before now part j
     → (ok : Option RootMap) × IsWritten target j.kind j.ok ok × HasJudged before after outcome (with_codes (of_assignment span target j) (record j { ok = ok }))
-
--- one tag stands in place of another
-abbrev pub IsPutAt : ℕ → Tag → List Tag → List Tag → Type 0
-IsPutAt n t before after = (front behind : List Tag) (old : Tag) → before ≡ front ++ (old ∷ behind) → length front ≡ n → after ≡ front ++ (t ∷ behind)
 
 -- one target is written, and then the other
 pub record AreWritten (t u : Target) (K L : KindTree) (before after : Option RootMap) : Type 0 where

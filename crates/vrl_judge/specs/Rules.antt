@@ -37,6 +37,10 @@ use Rattle.vrl_state.specs.States as states
 
 -- ---- kinds by their tags
 
+-- some tag of the kind passes the test
+unfoldable pub some_tag : (Tag → Bool) → KindTree → Bool
+some_tag test K = list_any (λ t. root_tags K t && test t) all_tags
+
 -- the kind of what is read at a path of a kind, cut
 pub record IsReadAt (K : KindTree) (path : List steps.Step) (M : KindTree) : Type 0 where
   pub whole : KindTree
@@ -101,7 +105,8 @@ pub record Judgement : Type 0 where
 abbrev pub is_alive : Option RootMap → Bool
 is_alive known = is_some known
 
-abbrev pub if_state : Bool → Option RootMap → Option RootMap
+-- what there is, if this holds; else nothing
+abbrev pub if_state : {A : Type 0} → Bool → Option A → Option A
 if_state true state = state
 if_state false state = None
 
@@ -147,13 +152,17 @@ is_other t j = is_known j && not (is_alone (root_tags j.kind) t)
 abbrev pub is_fallible : Judgement → Bool
 is_fallible j = is_alive j.fail
 
+-- the part can't end with an error, and no error code tells why
+abbrev pub is_needless : Judgement → Bool
+is_needless j = not (j.poisoned || is_fallible j)
+
 -- the kind allows a boolean or null
 abbrev pub may_be_truth : KindTree → Bool
 may_be_truth K = root_tags K tag.Bool || root_tags K tag.Null
 
 -- the kind allows something else
-unfoldable pub may_be_no_truth : KindTree → Bool
-may_be_no_truth K = list_any (λ t. root_tags K t && not (same_tag t tag.Bool || same_tag t tag.Null)) all_tags
+abbrev pub may_be_no_truth : KindTree → Bool
+may_be_no_truth K = some_tag (λ t. not (same_tag t tag.Bool || same_tag t tag.Null)) K
 
 -- ---- parts in order, and alternatives
 
@@ -207,8 +216,8 @@ is_equality op.Unequal = true
 is_equality o = false
 
 -- some pair of tags, one of each kind, passes the test
-unfoldable pub some_pair : (Tag → Tag → Bool) → KindTree → KindTree → Bool
-some_pair test K L = list_any (λ a. root_tags K a && list_any (λ b. root_tags L b && test a b) all_tags) all_tags
+abbrev pub some_pair : (Tag → Tag → Bool) → KindTree → KindTree → Bool
+some_pair test K L = some_tag (λ a. some_tag (test a) L) K
 
 abbrev pub is_tag : Option Tag → Tag → Bool
 is_tag None t = false
@@ -291,7 +300,7 @@ empty_tag K = unwrap_or (find (λ t. is_alone (root_tags K) t) (tag.Text ∷ tag
 -- null, is no event; no code stands twice at one place.
 abbrev pub of_error_assignment : Span → Target → Target → Judgement → KindTree → List Diagnostic
 of_error_assignment span ok err j value =
-    when (not (j.poisoned || is_fallible j)) (at 104 span) ++
+    when (is_needless j) (at 104 span) ++
     (when (is_nowhere ok && is_nowhere err) (at 640 span) ++
     when ((is_alive j.ok || is_alive j.fail) && ((not j.poisoned && is_no_event ok value) || is_event err)) (at 1006 span))
 
@@ -300,6 +309,13 @@ of_error_assignment span ok err j value =
 -- a predicate that may fail is 1005, and one that isn't exactly a boolean 102
 abbrev pub of_predicate : Span → Judgement → List Diagnostic
 of_predicate span j = if is_fallible j then at 1005 span else when (is_other tag.Bool j) (at 102 span)
+
+-- a message that may fail, or isn't exactly a text, is 1011
+abbrev pub is_message_wrong : Judgement → Bool
+is_message_wrong j = is_fallible j || is_other tag.Text j
+
+abbrev pub of_message : Span → Judgement → List Diagnostic
+of_message span j = when (is_message_wrong j) (at 1011 span)
 
 -- ---- calls
 
@@ -310,12 +326,12 @@ pub record Argument : Type 0 where
   pub judged : Judgement
 
 -- no tag of the kind is one of these
-unfoldable pub is_disjoint : TagSet → KindTree → Bool
-is_disjoint T K = not (list_any (λ t. root_tags K t && allows T t) all_tags)
+abbrev pub is_disjoint : TagSet → KindTree → Bool
+is_disjoint T K = not (some_tag (allows T) K)
 
 -- some tag of the kind is none of these: the kind isn't within them
-unfoldable pub has_others : TagSet → KindTree → Bool
-has_others T K = list_any (λ t. root_tags K t && not (allows T t)) all_tags
+abbrev pub has_others : TagSet → KindTree → Bool
+has_others T K = some_tag (λ t. not (allows T t)) K
 
 -- the argument of each parameter, where it has one
 abbrev pub argument_at : List Argument → Option ℕ → Option Argument
@@ -325,7 +341,7 @@ argument_at js (Some i) = slice_get js i
 -- A `!` leaves no error. A call that can't end with one is 620, where no other error code stands on it or in it.
 abbrev pub banged : Span → Bool → Judgement → Judgement
 banged span false j = j
-banged span true j = with_codes (when (not (j.poisoned || is_fallible j)) (at 620 span)) (record j { fail = None })
+banged span true j = with_codes (when (is_needless j) (at 620 span)) (record j { fail = None })
 
 -- the state without what stands at a path; that of a root is what is left in it
 abbrev pub IsDeleted : Root → List steps.Step → Option RootMap → Option RootMap → Type 0

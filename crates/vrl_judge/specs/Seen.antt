@@ -1,11 +1,10 @@
--- What the walk tells of a part, taken as a judgement, with the codes and the tags that were gathered in it.
+-- What the checker holds behind a part, taken as a judgement, with the codes and the tags that were gathered in it.
 use Rattle.std.specs.Prelude.{List}
 use Rattle.vrl_value.specs.declared.value.Tag.{Tag}
 use Rattle.vrl_diag.specs.declared.diagnostic.Diagnostic.{Diagnostic}
 use Rattle.vrl_judge.specs.Returns.{return_kind, return_state}
 use Rattle.vrl_judge.specs.Rules.{Judgement}
 use Rattle.vrl_judge.specs.Judging.{known_on}
-use Rattle.vrl_judge.specs.declared.branches.Ways.{Ways}
 use Rattle.vrl_judge.specs.declared.checker.Checker.{Checker}
 use Rattle.vrl_judge.specs.declared.outcome.Outcome.{Outcome}
 
@@ -18,19 +17,6 @@ seen outcome after codes tags = record {
   ret = return_state outcome.ends.ret;
   returned = return_kind outcome.ends.ret;
   poisoned = outcome.ends.poisoned;
-  codes = codes;
-  empties = tags;
-}
-
--- the ways of an `if`
-abbrev pub seen_ways : Ways → List Diagnostic → List Tag → Judgement
-seen_ways ways codes tags = record {
-  kind = ways.kind;
-  ok = known_on ways.ok;
-  fail = known_on ways.ends.fail;
-  ret = return_state ways.ends.ret;
-  returned = return_kind ways.ends.ret;
-  poisoned = ways.ends.poisoned;
   codes = codes;
   empties = tags;
 }

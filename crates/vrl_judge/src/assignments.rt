@@ -1,6 +1,6 @@
-ghost use Rattle.std.specs.Prelude.{[], false, is_some, not, ◌&&◌, ◌||◌, ◌≡◌, IfOk, OnOk};
+ghost use Rattle.std.specs.Prelude.{[], false, is_some, length, not, slice_set, ◌&&◌, ◌<◌, ◌||◌, ◌≡◌, IfOk, OnOk};
 ghost use Rattle.vrl_judge.specs.Assigning.{AreAssigned};
-ghost use Rattle.vrl_judge.specs.Judging.{known_on, AreBothWritten, AreEnds, AreWritten, AreWrittenBeside, HasEnds, IsAssignedAs, IsMoved, IsPutAt, IsReported, IsWay};
+ghost use Rattle.vrl_judge.specs.Judging.{known_on, AreBothWritten, AreEnds, AreWritten, AreWrittenBeside, HasEnds, IsAssignedAs, IsMoved, IsReported, IsWay};
 ghost use Rattle.vrl_judge.specs.Rules.{is_event as is_event_itself, is_no_event as is_no_event_at, is_nowhere as takes_nothing, of_error_assignment, IsWritten, Judgement};
 ghost use Rattle.vrl_kind.specs.Canonical.{allows_absent};
 ghost use Rattle.vrl_kind.specs.Kinds.{found_at};
@@ -76,6 +76,7 @@ impl Checker<'_> {
         requires err { target_faults err.now ≡ [] }
         requires kind { IsRootKind part.kind }
         requires ends { AreEnds self.old.state.scopes part.ends }
+        requires place { place < length self.old.empties.items }
         ensures { IfOk result (AreAssigned span ok.now err.now place part self.old self.new) }
     {
         let mut part = part;
@@ -92,14 +93,13 @@ impl Checker<'_> {
 
     // The empty value of an error assignment whose place was kept.
     fn put_empty(&mut self, place: usize, tag: Tag)
-        ensures empties { IsPutAt place tag self.old.empties.items self.new.empties.items }
+        requires { place < length self.old.empties.items }
+        ensures empties { self.new.empties.items ≡ slice_set self.old.empties.items place tag }
         ensures state { self.new.state ≡ self.old.state }
         ensures diagnostics { self.new.diagnostics ≡ self.old.diagnostics }
         ensures patterns { self.new.patterns ≡ self.old.patterns }
     {
-        if place < self.empties.len() {
-            self.empties[place] = tag;
-        }
+        self.empties[place] = tag;
     }
 
     // An expression that can't fail is 104, and two targets that take nothing are 640. An event that is
@@ -115,7 +115,7 @@ impl Checker<'_> {
         ensures { OnOk result ((j : Judgement) → self.old.state.known ≡ j.ok → HasEnds self.old.state.scopes ends.old j
             → IsReported (of_error_assignment span ok.now err.now j kind.now) self.old self.new ends.old ends.new) }
     {
-        let needless = is_needless(ends);
+        let needless = ends.is_needless();
         let no_event = self.writes_no_event(ok, err, ends, kind);
         self.report(ends, needless, 104, span)?;
         self.report(ends, are_nowhere(ok, err), 640, span)?;
@@ -207,13 +207,6 @@ fn empty_kind(alloc: Global, tag: Tag) -> Result<Kind, Memory>
 {
     let value = empty_value(alloc, tag);
     cut_kind_of(alloc, &value)
-}
-
-/// Whether an expression can't fail, and no code tells why.
-pub fn is_needless(ends: &Ends) -> bool
-    ensures { result ≡ not (ends.now.poisoned || is_some ends.now.fail) }
-{
-    !(ends.poisoned || ends.fail.is_some())
 }
 
 fn are_nowhere(ok: &Target, err: &Target) -> bool

@@ -1,7 +1,7 @@
-ghost use Rattle.std.specs.Prelude.{[], not, ◌≡◌, IfOk, IfSome, None, OnOk};
-ghost use Rattle.vrl_judge.specs.Branching.{is_message_wrong, no_ways, of_message, AreBothSides, AreWays, IsAborted, IsBlockBeside, IsConjoined, IsLastBeside, IsLeftSide, IsOrFail, IsPredicateBeside, IsReturned, StandsIn};
-ghost use Rattle.vrl_judge.specs.Judging.{kept_if, known_on, AreEnds, IsMoved, IsReported};
-ghost use Rattle.vrl_judge.specs.Rules.{if_state, may_be_no_truth as may_be_another, may_be_truth as may_be_true, of_predicate, or_else_at};
+ghost use Rattle.std.specs.Prelude.{[], not, ◌≡◌, IfOk, IfSome, None, OnOk, Some};
+ghost use Rattle.vrl_judge.specs.Branching.{no_ways, AreBothSides, AreWays, IsAborted, IsBlockBeside, IsConjoined, IsLastBeside, IsLeftSide, IsOrFail, IsPredicateBeside, IsReturned, StandsIn};
+ghost use Rattle.vrl_judge.specs.Judging.{known_on, AreEnds, IsMoved, IsReported};
+ghost use Rattle.vrl_judge.specs.Rules.{if_state, is_message_wrong, may_be_no_truth as may_be_another, may_be_truth as may_be_true, of_message, of_predicate, or_else_at};
 ghost use Rattle.vrl_judge.specs.Seen.{seen};
 ghost use Rattle.vrl_kind.specs.Kinds.{root_tags};
 ghost use Rattle.vrl_place.specs.Sets.{is_alone};
@@ -41,7 +41,7 @@ pub struct Ways {
 impl Checker<'_> {
     // The state here, to come back to, if it is wanted. `Memory`: want of memory.
     fn mark_if(&mut self, wanted: bool) -> Result<Option<Mark>, Memory>
-        ensures mark { IfOk result (λ mark. mark ≡ kept_if wanted self.old.state) }
+        ensures mark { IfOk result (λ mark. mark ≡ if_state wanted (Some self.old.state)) }
         ensures checker { self.new ≡ self.old }
     {
         if wanted {

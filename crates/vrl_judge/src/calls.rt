@@ -1,4 +1,3 @@
-ghost use Rattle.std.specs.List.{list_any};
 ghost use Rattle.std.specs.Option.{option_map_or};
 ghost use Rattle.std.specs.Prelude.{[], false, is_some, map, not, ◌&&◌, ◌≡◌, IfOk, List, OnOk, Option, Some};
 ghost use Rattle.vrl_builtin.specs.TagSets.{allows};
@@ -6,15 +5,12 @@ ghost use Rattle.vrl_diag.specs.declared.diagnostic.Span.{Span as SpecSpan};
 ghost use Rattle.vrl_judge.specs.Calling.{told, IsBangedAs};
 ghost use Rattle.vrl_judge.specs.Judging.{AreEnds, AreJoinedEnds, HaveCommonScopes, IsMoved};
 ghost use Rattle.vrl_syntax.specs.Stores.{left_in};
-ghost use Rattle.vrl_judge.specs.Rules.{argument_at as argument_of, at, has_others as has_tags_beside, is_disjoint as has_no_tag, Argument as JudgedArgument, IsDeleted};
-ghost use Rattle.vrl_kind.specs.Kinds.{root_tags};
-ghost use Rattle.vrl_kind.specs.Tags.{all_tags};
+ghost use Rattle.vrl_judge.specs.Rules.{argument_at as argument_of, at, has_others as has_tags_beside, is_disjoint as has_no_tag, some_tag, Argument as JudgedArgument, IsDeleted};
 ghost use Rattle.vrl_state.specs.States.{Scope};
 ghost use Rattle.vrl_syntax.specs.ErrorAssignments.{empty_value as value_of_empty};
 ghost use Rattle.vrl_syntax.specs.Limits.{faults_at};
 ghost use Rattle.vrl_value.specs.declared.value.Tag.TheVariants as tags;
 
-use crate::assignments::is_needless;
 use crate::checker::Checker;
 use crate::ends::Ends;
 use crate::outcome::Outcome;
@@ -81,7 +77,7 @@ impl Checker<'_> {
         if !bang {
             return Ok(call);
         }
-        let needless = is_needless(&call.ends);
+        let needless = call.ends.is_needless();
         self.report(&mut call.ends, needless, 620, span)?;
         call.ends.fail = None;
         Ok(call)
@@ -99,7 +95,6 @@ fn left_tag(root: &Root) -> Tag
 }
 
 /// Whether no tag of the kind is one of these.
-#[tactic(auto, unfolding(crate::specs::Rules::is_disjoint))]
 pub fn is_disjoint(tags: &Tags, kind: &Kind) -> bool
     ensures { result ≡ has_no_tag tags.now kind.now }
 {
@@ -107,15 +102,16 @@ pub fn is_disjoint(tags: &Tags, kind: &Kind) -> bool
 }
 
 // Whether some tag of the kind is one of these.
+#[tactic(auto, unfolding(crate::specs::Rules::some_tag))]
 fn has_some(tags: &Tags, kind: &Kind) -> bool
-    ensures { result ≡ list_any (λ t. root_tags kind.now t && allows tags.now t) all_tags }
+    ensures { result ≡ some_tag (allows tags.now) kind.now }
 {
     TAGS.iter()
         .any(|tag| has(kind, *tag) && tags.contains(*tag))
 }
 
 // Whether some tag of the kind is none of these.
-#[tactic(auto, unfolding(crate::specs::Rules::has_others))]
+#[tactic(auto, unfolding(crate::specs::Rules::some_tag))]
 fn has_others(tags: &Tags, kind: &Kind) -> bool
     ensures { result ≡ has_tags_beside tags.now kind.now }
 {

@@ -1,4 +1,5 @@
-ghost use Rattle.std.specs.Prelude.{is_some, not, ◌&&◌, ◌==◌, ◌≡◌, IfOk, OnOk};
+ghost use Rattle.std.specs.Prelude.{is_some, not, ◌&&◌, ◌≡◌, IfOk, OnOk};
+ghost use Rattle.vrl_diag.specs.Refusal.{is_error as refuses};
 ghost use Rattle.vrl_judge.specs.Branching.{IsOrFail};
 ghost use Rattle.vrl_judge.specs.Judging.{known_on, way, AreEnds, IsMoved, IsReported, IsWay};
 ghost use Rattle.vrl_judge.specs.Returns.{returning};
@@ -67,8 +68,9 @@ impl Checker<'_> {
         if !stands {
             return Ok(());
         }
-        self.diagnostics.push(Diagnostic { code, span })?;
-        ends.add_error(is_error(code));
+        let diagnostic = Diagnostic { code, span };
+        self.diagnostics.push(diagnostic)?;
+        ends.add_error(is_error(&diagnostic));
         Ok(())
     }
 
@@ -177,9 +179,9 @@ impl Checker<'_> {
     }
 }
 
-// Whether a code refuses the script.
-fn is_error(code: u16) -> bool
-    ensures { result ≡ not (code == 651) }
+// Whether a diagnostic refuses the script.
+fn is_error(diagnostic: &Diagnostic) -> bool
+    ensures { result ≡ refuses diagnostic.now }
 {
-    matches!(severity(code), Severity::Error)
+    matches!(severity(diagnostic.code), Severity::Error)
 }

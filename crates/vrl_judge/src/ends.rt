@@ -1,4 +1,4 @@
-ghost use Rattle.std.specs.Prelude.{◌||◌, ◌∷◌, ◌≡◌, IfOk, List, OnOk};
+ghost use Rattle.std.specs.Prelude.{is_some, not, ◌||◌, ◌∷◌, ◌≡◌, IfOk, List, OnOk};
 ghost use Rattle.vrl_judge.specs.Judging.{known_on, no_ends, settled_ends, AreEnds, AreJoinedEnds, AreJoinedReturns, AreLeftEnds, HaveCommonScopes, IsLeftReturn, IsLeftWay, IsReturnIn, IsWay};
 ghost use Rattle.vrl_state.specs.States.{HaveSameScopes, IsEither, IsJoined, Scope};
 
@@ -39,6 +39,13 @@ impl Ends {
             ret: None,
             poisoned: false,
         }
+    }
+
+    /// Whether it can't end with an error, and no error code tells why.
+    pub fn is_needless(&self) -> bool
+        ensures { result ≡ not (self.now.poisoned || is_some self.now.fail) }
+    {
+        !(self.poisoned || self.fail.is_some())
     }
 
     // Adds those of a part beside or behind these. `Memory`: want of memory.

@@ -81,7 +81,7 @@ pub(crate) fn may_be_truth(kind: &Kind) -> bool
 }
 
 // Whether the kind allows something else than a boolean or null.
-#[tactic(auto, unfolding(crate::specs::Rules::may_be_no_truth))]
+#[tactic(auto, unfolding(crate::specs::Rules::some_tag))]
 pub(crate) fn may_be_no_truth(kind: &Kind) -> bool
     ensures { result ≡ may_be_another kind.now }
 {

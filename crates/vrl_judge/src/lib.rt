@@ -1,7 +1,9 @@
 //! What the judgement of a script makes of parts that were judged: operators, branches, assignments, blocks, returns and the arguments of
 //! calls, each behind its parts.
 //!
-//! A contract is told for all judgements of the parts. The walk over a script judges the parts, and hands them on.
+//! The walk over a script, in the crate above, judges the parts and hands them on. Where a form is one call here, its contract is told for
+//! all judgements of the parts. Where the walk takes several steps, as for a branch or an error assignment, each step's contract says what
+//! it does to the checker's state and to the ends of the parts, with codes that are told of what was seen of a part.
 #![tactic(auto)]
 
 mod assignments;
@@ -17,7 +19,6 @@ mod outcome;
 mod tables;
 mod values;
 
-pub use assignments::is_needless;
 pub use branches::{LeftSide, Ways};
 pub use calls::{Argument, is_disjoint, part_has_others};
 pub use checker::Checker;

@@ -1,7 +1,7 @@
 ghost use Rattle.std.specs.Prelude.{false, is_some, not, ◌&&◌, ◌||◌, ◌≡◌, IfOk};
 ghost use Rattle.vrl_judge.specs.Judging.{table_rule};
-ghost use Rattle.vrl_judge.specs.Partners.{only_where, some_partner};
-ghost use Rattle.vrl_judge.specs.Rules.{is_compared as is_compared_part, is_comparison as compares, is_tag, number_tag as tag_of_numbers, order_tag as tag_of_order, scalars_at, some_pair, sum_tag as tag_of_sum, table_tags};
+ghost use Rattle.vrl_judge.specs.Partners.{only_where};
+ghost use Rattle.vrl_judge.specs.Rules.{is_compared as is_compared_part, is_comparison as compares, is_tag, number_tag as tag_of_numbers, order_tag as tag_of_order, scalars_at, some_pair, some_tag, sum_tag as tag_of_sum, table_tags};
 ghost use Rattle.vrl_kind.specs.Kinds.{tags_at};
 ghost use Rattle.vrl_kind.specs.Tags.{same_tag};
 ghost use Rattle.vrl_place.specs.Sets.{SameSets};
@@ -56,9 +56,9 @@ impl Table {
     }
 
     // The same with one tag on the left.
-    #[tactic(auto, unfolding(crate::specs::Partners::some_partner))]
+    #[tactic(auto, unfolding(crate::specs::Rules::some_tag))]
     fn gives_beside(self, left: Tag, right: &Kind, tag: Tag) -> bool
-        ensures { result ≡ some_partner (λ b. is_tag (table_rule self left b) tag) right.now }
+        ensures { result ≡ some_tag (λ b. is_tag (table_rule self left b) tag) right.now }
     {
         TAGS.iter()
             .any(|b| has(right, *b) && self.gives_for(left, *b, tag))
@@ -72,9 +72,9 @@ impl Table {
             .any(|a| has(left, *a) && self.may_take_beside(*a, right))
     }
 
-    #[tactic(auto, unfolding(crate::specs::Partners::some_partner))]
+    #[tactic(auto, unfolding(crate::specs::Rules::some_tag))]
     fn may_take_beside(self, left: Tag, right: &Kind) -> bool
-        ensures { result ≡ some_partner (λ b. is_some (table_rule self left b)) right.now }
+        ensures { result ≡ some_tag (λ b. is_some (table_rule self left b)) right.now }
     {
         TAGS.iter()
             .any(|b| has(right, *b) && self.tag(left, *b).is_some())
@@ -88,9 +88,9 @@ impl Table {
             .any(|a| has(left, *a) && self.may_refuse_beside(*a, right))
     }
 
-    #[tactic(auto, unfolding(crate::specs::Partners::some_partner))]
+    #[tactic(auto, unfolding(crate::specs::Rules::some_tag))]
     fn may_refuse_beside(self, left: Tag, right: &Kind) -> bool
-        ensures { result ≡ some_partner (λ b. not (is_some (table_rule self left b))) right.now }
+        ensures { result ≡ some_tag (λ b. not (is_some (table_rule self left b))) right.now }
     {
         TAGS.iter()
             .any(|b| has(right, *b) && self.tag(left, *b).is_none())

@@ -29,8 +29,7 @@ impl Checker<'_> {
         ensures { IfOk result (λ outcome. HasJudged self.old self.new outcome (with_codes (at 701 span) (gives any_kind self.old.state.known))) }
     {
         let part = Outcome::value(Kind::any(self.alloc)?);
-        let outcome = self.reported(part, true, 701, span)?;
-        Ok(outcome)
+        self.reported(part, true, 701, span)
     }
 
     /// What is read at a path of what was judged. `Memory`: want of memory.

@@ -1,7 +1,6 @@
-use Rattle.std.proofs.Common.{refl, ap, ◌∙◌, subst}
+use Rattle.std.proofs.Common.{Some, refl, ap, ◌∙◌, subst}
 use Rattle.vrl_judge.specs.Branching.{IsOrFail}
 use Rattle.vrl_judge.specs.Rules.{if_state}
-use Rattle.vrl_judge.specs.Judging.{kept_if}
 use Rattle.vrl_judge.proofs.Between.{goes_on, left_side}
 use Rattle.vrl_judge.proofs.checker.Checker.left_of_and.Goals as goal
 
@@ -11,7 +10,7 @@ returns c =
     record {
       side = left_side _ c.args.self.now c.mark_if.new.self _ _ _ _ c.may_be_truth.ensures
           c.in_ok-fail_if.ensures.scopes
-          (c.in_ok-beside.ensures.mark ∙ ap (λ x. kept_if c.may_be_truth.result x.state) c.fail_if.ensures.checker) still
+          (c.in_ok-beside.ensures.mark ∙ ap (λ x. if_state c.may_be_truth.result (Some x.state)) c.fail_if.ensures.checker) still
           (goes_on c.args.self.now c.mark_if.new.self c.go_on_if.new.self _ _ c.go_on_if.ensures.known still c.has.ensures)
           c.go_on_if.ensures.others;
       kind = refl;
