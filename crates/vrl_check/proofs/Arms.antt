@@ -12,16 +12,17 @@ use Rattle.vrl_syntax.specs.View.{ArmTree, arm_of, arms_view}
 use Rattle.vrl_syntax.specs.declared.tree.Arm.{Arm as CodeArm}
 use Rattle.vrl_kind.specs.Canonical.{never_kind}
 use Rattle.vrl_state.specs.States.{IsEither, IsJoined, IsRootKind, Scope, State}
+use Rattle.vrl_judge.specs.Returns.{return_kind, return_state}
 use Rattle.vrl_judge.specs.Branching.{no_ways, AreWays, IsBlockBeside, IsLastBeside, IsPredicateBeside}
 use Rattle.vrl_check.specs.Calls.{arms_hold_closure_call, expr_holds_closure_call, exprs_hold_closure_call}
 use Rattle.vrl_diag.specs.Refusal.{is_error}
 use Rattle.vrl_judge.specs.Rules.{Judgement, gives, nothing, of_predicate, settle}
-use Rattle.vrl_check.specs.Judgement.{span_of, IsBeside}
+use Rattle.vrl_check.specs.Judgement.{predicate_of, span_of, IsBeside}
 use Rattle.vrl_check.specs.Judgement.{JudgesArms, JudgesBlock, a_conditional, a_missing_else, an_arm, an_else, Judges}
 use Rattle.vrl_judge.specs.Judging.{known_on, AreEnds, AreJoinedEnds, HasJudged, IsReported}
-use Rattle.vrl_check.specs.Walking.{predicate_of, HasWays}
+use Rattle.vrl_check.specs.Walking.{HasWays}
 use Rattle.vrl_check.specs.Walking.{ArmsCanBeJudged, CanBeJudged, IsAnywhereAs, IsArmAs, IsArmBehind, IsBlockAs, IsElseAs, IsJudgedAs, ItemsCanBeJudged}
-use Rattle.vrl_judge.specs.Seen.{seen, seen_ways}
+use Rattle.vrl_judge.specs.Seen.{seen}
 use Rattle.vrl_judge.specs.declared.branches.Ways.{Ways}
 use Rattle.vrl_judge.specs.declared.checker.Checker.{Checker}
 use Rattle.vrl_judge.specs.declared.ends.Ends.{Ends}
@@ -35,6 +36,19 @@ use Rattle.vrl_check.proofs.Told.{block_at, told_block, told_expr, IsToldBlock, 
 use Rattle.vrl_judge.proofs.Joining.{join_none, no_ends_are}
 
 -- ---- ways as they were told
+
+-- the ways of an `if`, taken as a judgement
+abbrev seen_ways : Ways → List Diagnostic → List Tag → Judgement
+seen_ways ways codes tags = record {
+  kind = ways.kind;
+  ok = known_on ways.ok;
+  fail = known_on ways.ends.fail;
+  ret = return_state ways.ends.ret;
+  returned = return_kind ways.ends.ret;
+  poisoned = ways.ends.poisoned;
+  codes = codes;
+  empties = tags;
+}
 
 as_seen_ways : (before now : Checker) (ways : Ways) (w : Judgement) → HasWays before now ways w → w ≡ seen_ways ways w.codes w.empties
 as_seen_ways before now ways w has = λ i. record {

@@ -1,5 +1,7 @@
 -- Assignments behind their expressions.
-use Rattle.std.proofs.Common.{◌≡◌, ℕ, false, List, [], ◌∷◌, ◌++◌, length, Some, None, refl, sym, ap, ◌∙◌, subst, append_assoc}
+use Rattle.std.proofs.Common.{◌≡◌, ◌<◌, ◌+◌, ℕ, false, List, [], ◌∷◌, ◌++◌, length, slice_set, Some, None, refl, sym, ap, ap₂, ◌∙◌, subst, append_assoc, arith}
+use Rattle.std.proofs.Math.Seq.{set-append_seam}
+use Rattle.std.proofs.lemmas.List.{length-append}
 use Rattle.vrl_value.specs.declared.value.Tag.{Tag}
 use Rattle.vrl_path.specs.declared.path.Step.{Step}
 use Rattle.vrl_diag.specs.declared.diagnostic.Span.{Span}
@@ -14,7 +16,7 @@ use Rattle.vrl_judge.specs.Assigning.{AreAssigned}
 use Rattle.vrl_syntax.specs.ErrorAssignments.{empty_value}
 use Rattle.vrl_judge.specs.Rules.{Judgement, at, empty_tag, of_assignment, of_error_assignment, settle, with_codes}
 use Rattle.vrl_check.specs.Judgement.{Judges, a_merge_assignment, a_merge_into_nothing, an_assignment, an_error_assignment, reached}
-use Rattle.vrl_judge.specs.Judging.{known_on, HasJudged, IsAssignedAs, IsPutAt, IsReported, IsReturnIn, IsSettledAs, IsWay}
+use Rattle.vrl_judge.specs.Judging.{known_on, HasJudged, IsAssignedAs, IsReported, IsReturnIn, IsSettledAs, IsWay}
 use Rattle.vrl_check.specs.Walking.{IsAnywhereAs, IsGivenAs, IsJudgedAs}
 use Rattle.vrl_judge.specs.Seen.{seen}
 use Rattle.vrl_judge.specs.declared.checker.Checker.{Checker}
@@ -68,8 +70,16 @@ settled_present before now whole merged is settles = judged_present before now m
 
 -- the place that was kept has the tag
 put_behind : (t : Tag) (place : ℕ) (front first before after ts : List Tag) → place ≡ length front → first ≡ front ++ (tag.Null ∷ []) → before ≡ first ++ ts
-    → IsPutAt place t before after → after ≡ front ++ (t ∷ ts)
-put_behind t place front first before after ts at_place kept behind put = put front ts tag.Null (behind ∙ ap (λ xs. xs ++ ts) kept ∙ append_assoc front (tag.Null ∷ []) ts) (sym at_place)
+    → after ≡ slice_set before place t → after ≡ front ++ (t ∷ ts)
+put_behind t place front first before after ts at_place kept behind put =
+    put ∙ ap₂ {A = List Tag} {B = ℕ} (λ xs n. slice_set xs n t) (behind ∙ ap (λ xs. xs ++ ts) kept ∙ append_assoc front (tag.Null ∷ []) ts) at_place ∙ set-append_seam front tag.Null ts t
+
+-- it stands behind all that was told since
+pub place_stands : (place : ℕ) (front first before ts : List Tag) → place ≡ length front → first ≡ front ++ (tag.Null ∷ []) → before ≡ first ++ ts → place < length before
+place_stands place front first before ts at_place kept behind =
+    let one : length before ≡ length first + length ts = ap length behind ∙ length-append first ts in
+    let two : length first ≡ length front + 1 = ap length kept ∙ length-append front (tag.Null ∷ []) in
+    omega arith
 
 error_told : (span : Span) (t u : Target) (e : Expr) (a kept b c : Checker) (place : ℕ) (part outcome : Outcome) → kept.state ≡ a.state → kept.diagnostics ≡ a.diagnostics → kept.patterns ≡ a.patterns → kept.empties.items ≡ a.empties.items ++ (tag.Null ∷ [])
     → place ≡ length a.empties.items → IsToldExpr e kept b part → AreAssigned span t u place part b c outcome → IsGivenAs span (both t u e) a c outcome

@@ -9,8 +9,8 @@ use Rattle.vrl_kind.specs.Kinds.{root_tags}
 use Rattle.vrl_place.specs.Sets.{is_alone}
 use Rattle.vrl_state.specs.States.{IsCutOf, IsEither, IsJoined, RootMap, State}
 use Rattle.vrl_judge.specs.Returns.{return_kind, return_state}
-use Rattle.vrl_judge.specs.Branching.{of_message, AreBothSides, IsAborted, IsConjoined, IsLeftSide, IsOrFail, IsReturned, StandsIn}
-use Rattle.vrl_judge.specs.Rules.{Judgement, at, if_state, is_alive, may_be_no_truth, may_be_truth, nothing, or_else_at, when, with_codes, IsBehind, IsThen}
+use Rattle.vrl_judge.specs.Branching.{AreBothSides, IsAborted, IsConjoined, IsLeftSide, IsOrFail, IsReturned, StandsIn}
+use Rattle.vrl_judge.specs.Rules.{Judgement, at, if_state, is_alive, may_be_no_truth, may_be_truth, nothing, of_message, or_else_at, when, with_codes, IsBehind, IsThen}
 use Rattle.vrl_check.specs.Judgement.{span_of}
 use Rattle.vrl_check.specs.Judgement.{Judges, a_conjunction, a_disjunction, a_coalescing, a_return, an_abort, an_abort_with}
 use Rattle.vrl_judge.specs.Judging.{known_on, no_ends, AreEnds, AreJoinedEnds, IsMoved, IsReported}

@@ -18,14 +18,13 @@ use Rattle.vrl_table.specs.Binding.{binding, bound_from, bound_or_missing, bound
 use Rattle.vrl_table.specs.Table.{row_of}
 use Rattle.vrl_table.specs.declared.binding.BindFault.{BindFault}
 use Rattle.vrl_table.specs.declared.function.Fun.{Fun}
-use Rattle.vrl_check.specs.Calling.{of_found, places_in, written, HasCodes, MayBeAsked}
+use Rattle.vrl_check.specs.Calling.{written, HasCodes, MayBeAsked}
 use Rattle.vrl_syntax.specs.Calls.{literal_of}
 use Rattle.vrl_diag.specs.Refusal.{is_error}
 use Rattle.vrl_judge.specs.Rules.{Argument, argument_at, at, is_disjoint, is_fallible, is_known, when}
 use Rattle.vrl_check.specs.Judgement.{span_of}
-use Rattle.vrl_check.specs.Judgement.{bound, of_argument, of_arguments, of_call, of_closure, of_unknown, wants_literal, AreGiven, IsGiven}
+use Rattle.vrl_check.specs.Judgement.{bound, of_argument, of_arguments, of_call, of_closure, of_found, of_unknown, places_in, wants_literal, AreGiven, IsGiven}
 use Rattle.vrl_check.specs.declared.calls.Arguments.{Arguments}
-use Rattle.vrl_check.proofs.CallsCodes.{more_codes}
 use Rattle.vrl_table.specs.declared.binding.BindFault.TheVariants as fault
 use Rattle.vrl_check.specs.declared.calls.Callee.TheVariants as callee
 
@@ -135,7 +134,7 @@ allowed_from r place (p ∷ ps) (q ∷ places) js all (given ∷ givens) same wi
     let there : (p.required && is_none (argument_at js q)) ≡ false = ap (λ b. p.required && b) (none_at js q within.0) ∙ missing.0 in
     let codes = or_parts (list_any is_error (of_found (wants_literal r) place p (argument_at js q))) (list_any is_error (of_arguments (wants_literal r) (suc place) ps (bound places js)))
     (sym (list_any-append is_error (of_found (wants_literal r) place p (argument_at js q)) (of_arguments (wants_literal r) (suc place) ps (bound places js)))
-    ∙ ap (list_any is_error) (more_codes (wants_literal r) place p ps (argument_at js q) (bound places js)) ∙ none)
+    ∙ none)
     in
     let fewer : length places ≡ length ps = omega arith in (
       subst (λ (x : Option GivenTree). IsAllowed p (r.accepts place) (held (option_map (λ g. g.kind) x)) (held (option_map (λ g. g.literal) x))) (sym here) (one_allowed r place p (argument_at js q) given there codes.0 is.0),

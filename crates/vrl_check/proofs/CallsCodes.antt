@@ -1,7 +1,6 @@
 -- The codes of a call: those of its arguments, by their parameters, and that of arguments that aren't bound.
-use Rattle.std.proofs.Common.{◌≡◌, ◌≢◌, ℕ, zero, suc, ◌+◌, Bool, List, [], ◌∷◌, ◌++◌, length, map, Option, Some, None, Result, Err, slice_get, refl, sym, ap, ◌∙◌, subst, arith, add-zero}
-use Rattle.vrl_diag.specs.declared.diagnostic.Span.{Span}
-use Rattle.vrl_syntax.specs.Tree.{Args, Expr, Closure}
+use Rattle.std.proofs.Common.{◌≡◌, ◌≢◌, ℕ, zero, suc, ◌+◌, Bool, List, [], ◌∷◌, length, map, Option, Some, Result, Err, slice_get, refl, sym, ap, ◌∙◌, subst, arith, add-zero}
+use Rattle.vrl_syntax.specs.Tree.{Args, Expr}
 use Rattle.vrl_syntax.specs.View.{args_view}
 use Rattle.vrl_syntax.specs.declared.tree.Arg.{Arg as CodeArg}
 use Rattle.vrl_builtin.specs.Rows.{ParameterRow}
@@ -9,10 +8,10 @@ use Rattle.vrl_builtin.specs.View.{parameter_row}
 use Rattle.vrl_builtin.specs.declared.parameter.Parameter.{Parameter}
 use Rattle.vrl_table.specs.Binding.{IsBound}
 use Rattle.vrl_table.specs.declared.binding.BindFault.{BindFault}
-use Rattle.vrl_check.specs.Calling.{callee_parameters, callee_wants, of_fault, of_found, written, AreTold}
+use Rattle.vrl_check.specs.Calling.{callee_parameters, callee_wants, written, AreTold}
 use Rattle.vrl_judge.specs.Calling.{told}
 use Rattle.vrl_judge.specs.Rules.{Argument, argument_at}
-use Rattle.vrl_check.specs.Judgement.{bound, of_arguments, of_call}
+use Rattle.vrl_check.specs.Judgement.{bound, of_arguments, of_found}
 use Rattle.vrl_judge.specs.Judging.{IsReported}
 use Rattle.vrl_judge.specs.declared.calls.Argument.{Argument as CodeArgument}
 use Rattle.vrl_check.specs.declared.calls.Callee.{Callee}
@@ -27,10 +26,6 @@ use Rattle.vrl_table.specs.declared.binding.BindFault.TheVariants as fault
 -- the same arguments
 pub told_as : (gs gs' : Args) (parts parts' : List CodeArgument) (js : List Argument) → gs' ≡ gs → parts' ≡ parts → AreTold gs parts js → AreTold gs' parts' js
 told_as gs gs' parts parts' js same are told = record { parts_are = are ∙ told.parts_are; written_are = ap written same ∙ told.written_are }
-
-pub more_codes : (wants : ℕ → ParameterRow → Expr → Bool) (i : ℕ) (p : ParameterRow) (ps : List ParameterRow) (g : Option Argument) (gs : List (Option Argument)) → of_found wants i p g ++ of_arguments wants (suc i) ps gs ≡ of_arguments wants i (p ∷ ps) (g ∷ gs)
-more_codes wants i p ps None gs = refl
-more_codes wants i p ps (Some g) gs = refl
 
 no_codes : (wants : ℕ → ParameterRow → Expr → Bool) (i : ℕ) (ps : List ParameterRow) → [] ≡ of_arguments wants i ps []
 no_codes wants i [] = refl
@@ -57,10 +52,9 @@ codes_next named args parts places start first now after ends next place more le
       omega arith;
   leads = λ js told end new reported.
       let both = reported_more _ _ now after end ends next new (reports js told) (subst (λ n. IsReported (of_arguments (callee_wants named) n (map parameter_row rest) (bound behind js)) after end next new) counted reported) in
-      let all = subst (λ ds. IsReported ds now end ends new) (more_codes (callee_wants named) place (parameter_row p) (map parameter_row rest) (argument_at js q) (bound behind js)) both in
       so_far.leads js told end new
       (subst (λ qs. IsReported (of_arguments (callee_wants named) place (map parameter_row left) (bound qs js)) now end ends new) (sym bound_is)
-      (subst (λ ps. IsReported (of_arguments (callee_wants named) place (map parameter_row ps) (bound (q ∷ behind) js)) now end ends new) (sym is) all));
+      (subst (λ ps. IsReported (of_arguments (callee_wants named) place (map parameter_row ps) (bound (q ∷ behind) js)) now end ends new) (sym is) both));
 }
 
 -- the parameter that is next
@@ -84,12 +78,6 @@ codes_end_early named args parts places start first now ends place left others n
     (subst (λ ds. IsReported ds now now ends ends) (no_codes (callee_wants named) place (map parameter_row left)) (reported_none now ends)))
 
 -- ---- arguments that aren't bound
-
-pub fault_told : (wants : ℕ → ParameterRow → Expr → Bool) (ps : List ParameterRow) (span : Span) (c : Closure) (js : List Argument) (f : BindFault) → of_fault span js f ≡ of_call wants ps span c js (Err f)
-fault_told wants ps span c js fault.Number = refl
-fault_told wants ps span c js (fault.Unknown i) = refl
-fault_told wants ps span c js (fault.Missing i) = refl
-fault_told wants ps span c js fault.Memory = refl
 
 -- but for want of memory, what is answered is what is bound
 pub fault_is : (b : Result (List (Option ℕ)) BindFault) (f : BindFault) → f ≢ fault.Memory → IsBound b (Err f) → Err f ≡ b

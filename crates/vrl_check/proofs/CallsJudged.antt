@@ -1,5 +1,5 @@
 -- The judgement of a call, step by step behind its arguments.
-use Rattle.std.proofs.Common.{◌≡◌, ℕ, Bool, true, false, ◌||◌, List, [], ◌∷◌, ◌++◌, Option, Some, Result, Ok, Err, refl, sym, ap, ◌∙◌, subst, append_assoc}
+use Rattle.std.proofs.Common.{◌≡◌, ℕ, Bool, true, false, ◌||◌, List, [], ◌∷◌, ◌++◌, Option, Some, refl, sym, ap, ◌∙◌, subst, append_assoc}
 use Rattle.std.proofs.lemmas.Bool.{or_parts, or_from}
 use Rattle.std.specs.List.{list_any}
 use Rattle.vrl_diag.specs.declared.diagnostic.Diagnostic.{Diagnostic}
@@ -13,15 +13,14 @@ use Rattle.vrl_kind.specs.KindTree.{KindTree}
 use Rattle.vrl_state.specs.States.{IsJoined, IsRootKind, RootMap}
 use Rattle.vrl_table.specs.Binding.{binding, keywords_of}
 use Rattle.vrl_table.specs.Table.{row_of}
-use Rattle.vrl_table.specs.declared.binding.BindFault.{BindFault}
 use Rattle.vrl_table.specs.declared.function.Fun.{Fun}
-use Rattle.vrl_check.specs.Calling.{callee_codes, callee_parameters, places_in, with_call_codes, AreRootKinds, AreTold, HasArguments, HasCodes, IsAnsweredAs, IsBound, IsBoundCallAs, IsDeletedAs, IsPassed, IsTold, IsUnknown}
+use Rattle.vrl_check.specs.Calling.{callee_codes, callee_parameters, with_call_codes, AreRootKinds, AreTold, HasArguments, HasCodes, IsAnsweredAs, IsBoundCallAs, IsDeletedAs, IsPassed, IsTold, IsUnknown}
 use Rattle.vrl_syntax.specs.Calls.{is_exists}
 use Rattle.vrl_check.specs.Calls.{args_hold_closure_call, closure_holds_closure_call, form_holds_closure_call}
 use Rattle.vrl_syntax.specs.Calls.{takes_closure}
 use Rattle.vrl_diag.specs.Refusal.{is_error}
 use Rattle.vrl_judge.specs.Rules.{Argument, Judgement, at, gives, if_state, with_codes, IsScalar}
-use Rattle.vrl_check.specs.Judgement.{Gives, JudgesArguments, a_call, a_call_of_nothing, a_deletion, an_existence, bound, bound_by, deleted_kind, deleted_path, nulls, IsAnsweredUnless, IsDeletedAt}
+use Rattle.vrl_check.specs.Judgement.{Gives, JudgesArguments, a_call, a_call_of_nothing, a_deletion, an_existence, bound, deleted_kind, deleted_path, nulls, places_in, IsAnsweredUnless, IsDeletedAt}
 use Rattle.vrl_judge.specs.Judging.{known_on, AreEnds, HasEnds, HasGathered, HasJudged, IsReported}
 use Rattle.vrl_check.specs.Walking.{FormCanBeJudged}
 use Rattle.vrl_check.specs.declared.calls.Arguments.{Arguments}
@@ -42,7 +41,7 @@ pub closure_passed : (before now passed : Checker) (gs : Args) (c : Closure) (ar
 closure_passed before now passed gs c arguments js j has empties others = record {
   told = has.told;
   roots = has.roots;
-  ends = has.ends;
+  ends = ends_of before.state.scopes arguments.ends j (record j { empties = j.empties ++ nulls (in_closure c) }) has.ends refl refl refl refl;
   gathered = record {
     ok = ap (λ (x : Checker). x.state.known) others ∙ has.gathered.ok;
     scopes = ap (λ (x : Checker). x.state.scopes) others ∙ has.gathered.scopes;
@@ -75,7 +74,7 @@ nothing_judged name s span bang gs c before now after known js j arguments outco
       record {
         kind = any;
         root = any_root;
-        ends = reported_ends before.state.scopes (at 105 s) now after arguments.ends outcome.ends whole reported (ends_of before.state.scopes arguments.ends j whole passed.ends refl refl refl refl);
+        ends = reported_ends before.state.scopes (at 105 s) now after arguments.ends outcome.ends whole reported (ends_of before.state.scopes arguments.ends (record j { empties = j.empties ++ nulls (in_closure c) }) whole passed.ends refl refl refl refl);
         gathered = reported_gathered (at 105 s) before now after arguments.ends outcome.ends whole reported (gathered_of before now (record j { empties = j.empties ++ nulls (in_closure c) }) whole passed.gathered refl refl refl);
       },
     )
@@ -83,13 +82,13 @@ nothing_judged name s span bang gs c before now after known js j arguments outco
 -- ---- the call's own codes
 
 pub call_bound : (named : Callee) (span : Span) (before now after : Checker) (gs : Args) (c : Closure) (arguments next : Arguments) (js : List Argument) (j : Judgement) → IsPassed before now gs c arguments js j
-    → IsReported (callee_codes named span gs c js) now after arguments.ends next.ends → next.parts ≡ arguments.parts → IsBound named span before after gs c next js j
+    → IsReported (callee_codes named span gs c js) now after arguments.ends next.ends → next.parts ≡ arguments.parts → HasArguments before after gs next js (with_call_codes named span gs c js j)
 call_bound named span before now after gs c arguments next js j passed reported same =
     let whole : Judgement = record j { empties = j.empties ++ nulls (in_closure c) } in
     record {
       told = subst (λ ps. AreTold gs ps.items js) (sym same) passed.told;
       roots = passed.roots;
-      ends = reported_ends before.state.scopes (callee_codes named span gs c js) now after arguments.ends next.ends whole reported (ends_of before.state.scopes arguments.ends j whole passed.ends refl refl refl refl);
+      ends = reported_ends before.state.scopes (callee_codes named span gs c js) now after arguments.ends next.ends whole reported passed.ends;
       gathered = reported_gathered (callee_codes named span gs c js) before now after arguments.ends next.ends whole reported passed.gathered;
     }
 
@@ -116,10 +115,6 @@ codes_are ds now after old new reported are =
 
 -- ---- a function
 
-bound_in : (b : Result (List (Option ℕ)) BindFault) (js : List Argument) → bound (places_in b) js ≡ bound_by b js
-bound_in (Ok places) js = refl
-bound_in (Err f) js = refl
-
 answered_of : (poisoned poisoned' : Bool) (sources sources' : List (List ℕ)) (function : Fun) (js js' : List (Option Argument)) (K : KindTree) (fails : Bool) → poisoned ≡ poisoned' → sources ≡ sources' → js ≡ js'
     → IsAnsweredUnless poisoned sources (row_of function) js K fails → IsAnsweredUnless poisoned' sources' (row_of function) js' K fails
 answered_of poisoned poisoned' sources sources' function js js' K fails same_poison same_sources same is =
@@ -136,9 +131,9 @@ function_judged function name s span bang gs c arguments places now after outcom
     let scopes = before.state.scopes in
     let fail = known_on outcome.ends.fail in
     let are : AreEnds scopes outcome.ends = subst (λ x. AreEnds x outcome.ends) ready.gathered.scopes answer.are in
-    let given = answered_of arguments.ends.poisoned whole.poisoned now.patterns.now before.patterns.now function (bound places js) (bound_by (binding (row_of function).parameters (keywords_of gs)) js) outcome.kind answer.fails
+    let given = answered_of arguments.ends.poisoned whole.poisoned now.patterns.now before.patterns.now function (bound places js) (bound (places_in (binding (row_of function).parameters (keywords_of gs))) js) outcome.kind answer.fails
     ready.ends.poisoned (ap (λ ps. ps.now) ready.gathered.patterns)
-    (ap (λ qs. bound qs js) places_are ∙ bound_in (binding (row_of function).parameters (keywords_of gs)) js) answer.answered
+    (ap (λ qs. bound qs js) places_are) answer.answered
     in
     let joined : IsJoined whole.fail (if_state answer.fails whole.ok) fail =
     join_of (known_on arguments.ends.fail) whole.fail (if_state answer.fails now.state.known) (if_state answer.fails whole.ok) fail ready.ends.fail (ap (if_state answer.fails) ready.gathered.ok) answer.or_fail.fail

@@ -38,7 +38,7 @@ use Rattle.vrl_syntax.specs.ErrorAssignments.{empty_value, in_closure}
 use Rattle.vrl_syntax.specs.Calls.{takes_closure}
 use Rattle.vrl_judge.specs.Rules.{Argument, Judgement, IsBehind, IsDeleted, IsMerged, IsMergedIf, IsReadAt, IsThen, IsWritten, banged, gives, settle, with_codes, if_state, is_alive}
 use Rattle.vrl_check.specs.Judgement.{IsBeside, span_of}
-use Rattle.vrl_check.specs.Judgement.{Judges, Gives, JudgesBoth, JudgesAll, JudgesArguments, JudgesBlock, JudgesArms, JudgesItems, AreGiven, IsAnsweredUnless, IsCutDown, IsDeletedAt, IsGiven, behind_arguments, bound_by, deleted_kind, deleted_path, nulls, unreached, reached, wants_literal}
+use Rattle.vrl_check.specs.Judgement.{Judges, Gives, JudgesBoth, JudgesAll, JudgesArguments, JudgesBlock, JudgesArms, JudgesItems, AreGiven, IsAnsweredUnless, IsCutDown, IsDeletedAt, IsGiven, behind_arguments, bound, deleted_kind, deleted_path, nulls, places_in, unreached, reached, wants_literal}
 use Rattle.vrl_check.specs.Determined.{JudgementsAreDetermined}
 use Rattle.std.specs.FinMap as map
 use Rattle.vrl_value.specs.declared.value.Tag.TheVariants as tag
@@ -500,7 +500,7 @@ one_call kinds names span name place bang gs block all sources known g h
     let function : f ≡ f' = one_function names f f' name is is' in
     let parts : (js ≡ ks) × (j ≡ k) = all sources _ js ks j k one two in
     let whole : w ≡ v = behind ∙ (λ i. behind_arguments (wants_literal (row_of (function i))) (row_of (function i)).parameters span gs block (parts.0 i) (parts.1 i)) ∙ sym behind' in
-    let bound_in : Fun → List Argument → List (Option Argument) = λ x xs. bound_by (binding (row_of x).parameters (keywords_of gs)) xs in
+    let bound_in : Fun → List Argument → List (Option Argument) = λ x xs. bound (places_in (binding (row_of x).parameters (keywords_of gs))) xs in
     let by_function : IsAnsweredUnless w.poisoned sources (row_of f') (bound_in f' js) K may = subst (λ x. IsAnsweredUnless w.poisoned sources (row_of x) (bound_in x js) K may) function answered in
     let by_arguments : IsAnsweredUnless w.poisoned sources (row_of f') (bound_in f' ks) K may = subst (λ xs. IsAnsweredUnless w.poisoned sources (row_of f') (bound_in f' xs) K may) parts.0 by_function in
     let by_whole : IsAnsweredUnless v.poisoned sources (row_of f') (bound_in f' ks) K may = subst (λ x. IsAnsweredUnless x.poisoned sources (row_of f') (bound_in f' ks) K may) whole by_arguments in

@@ -1,8 +1,6 @@
--- What the walk does behind the arguments of a call.
-use Rattle.std.specs.Prelude.{◌≡◌, ◌≢◌, ◌||◌, ℕ, Bool, true, false, List, [], ◌∷◌, ◌++◌, map, slice_get, Option, Some, None, option_map, IsSomeAnd, zero, suc, ⊤}
+-- What the walk keeps of the arguments of a call, and what a call gives behind them.
+use Rattle.std.specs.Prelude.{◌≡◌, ◌≢◌, ◌||◌, ℕ, Bool, true, false, List, [], ◌∷◌, ◌++◌, map, Option, Some, None, option_map, IsSomeAnd, zero, suc, ⊤}
 use Rattle.std.specs.List.{list_any}
-use Rattle.std.specs.declared.result.Result.{Result}
-use Rattle.std.specs.declared.result.Result.TheVariants.{Ok, Err}
 use Rattle.vrl_value.specs.Tree.{Tree}
 use Rattle.vrl_diag.specs.declared.diagnostic.Diagnostic.{Diagnostic}
 use Rattle.vrl_diag.specs.declared.diagnostic.Span.{Span}
@@ -18,13 +16,12 @@ use Rattle.vrl_builtin.specs.Rows.{GivenTree, ParameterRow, Row}
 use Rattle.vrl_state.specs.States.{IsRootKind, RootMap}
 use Rattle.vrl_table.specs.Binding.{binding, keywords_of, path_parameters}
 use Rattle.vrl_table.specs.Table.{row_of}
-use Rattle.vrl_table.specs.declared.binding.BindFault.{BindFault}
 use Rattle.vrl_table.specs.declared.function.Fun.{Fun}
 use Rattle.vrl_judge.specs.Branching.{IsOrFail}
 use Rattle.vrl_syntax.specs.Calls.{is_exists}
 use Rattle.vrl_diag.specs.Refusal.{is_error}
 use Rattle.vrl_judge.specs.Rules.{Argument, Judgement, at, banged, gives, if_state}
-use Rattle.vrl_check.specs.Judgement.{AreGiven, Gives, JudgesArguments, IsAnsweredUnless, IsDeletedAt, behind_arguments, bound, deleted_kind, deleted_path, nulls, of_argument, of_call, of_unknown, wants_literal, wants_path}
+use Rattle.vrl_check.specs.Judgement.{AreGiven, Gives, JudgesArguments, IsAnsweredUnless, IsDeletedAt, behind_arguments, bound, deleted_kind, deleted_path, nulls, of_call, places_in, wants_literal, wants_path}
 use Rattle.vrl_judge.specs.Judging.{AreEnds, HasEnds, HasGathered, HasJudged, IsMoved}
 use Rattle.vrl_judge.specs.declared.calls.Argument.{Argument as CodeArgument}
 use Rattle.vrl_check.specs.declared.calls.Arguments.{Arguments}
@@ -33,7 +30,6 @@ use Rattle.vrl_judge.specs.declared.checker.Checker.{Checker}
 use Rattle.vrl_judge.specs.declared.ends.Ends.{Ends}
 use Rattle.vrl_judge.specs.declared.outcome.Outcome.{Outcome}
 use Rattle.vrl_judge.specs.Calling.{told}
-use Rattle.vrl_table.specs.declared.binding.BindFault.TheVariants as fault
 use Rattle.vrl_check.specs.declared.calls.Callee.TheVariants as callee
 
 -- ---- a call
@@ -111,11 +107,8 @@ IsCalledAs span f gs arguments now after outcome = (before : Checker) (known : R
     → (k : Judgement) × Gives before.patterns.now known span f k × HasJudged before after outcome k
 
 -- behind its closure, which isn't judged
-pub record IsPassed (before now : Checker) (gs : Args) (c : Closure) (arguments : Arguments) (js : List Argument) (j : Judgement) : Type 0 where
-  pub told : AreTold gs arguments.parts.items js
-  pub roots : AreRootKinds js
-  pub ends : HasEnds before.state.scopes arguments.ends j
-  pub gathered : HasGathered before now (record j { empties = j.empties ++ nulls (in_closure c) })
+abbrev pub IsPassed : Checker → Checker → Args → Closure → Arguments → List Argument → Judgement → Type 0
+IsPassed before now gs c arguments js j = HasArguments before now gs arguments js (record j { empties = j.empties ++ nulls (in_closure c) })
 
 abbrev pub IsPassedCallAs : Span → Form → Args → Closure → Arguments → Checker → Checker → Outcome → Type 0
 IsPassedCallAs span f gs c arguments now after outcome = (before : Checker) (known : RootMap) (js : List Argument) (j : Judgement)
@@ -129,42 +122,18 @@ abbrev pub of_code : Option ℕ → Span → List Diagnostic
 of_code None span = []
 of_code (Some code) span = at code span
 
--- the code of a parameter's argument, where it has one
-abbrev pub of_found : (ℕ → ParameterRow → Expr → Bool) → ℕ → ParameterRow → Option Argument → List Diagnostic
-of_found wants i p None = []
-of_found wants i p (Some g) = of_argument p.allowed (wants i p g.value) g
-
--- the code of a call whose arguments aren't bound
-abbrev pub of_fault : Span → List Argument → BindFault → List Diagnostic
-of_fault span js fault.Number = at 106 span
-of_fault span js (fault.Unknown i) = of_unknown (slice_get js i)
-of_fault span js (fault.Missing i) = at 107 span
-of_fault span js fault.Memory = []
-
 -- the call's own codes
 abbrev pub callee_codes : Callee → Span → Args → Closure → List Argument → List Diagnostic
 callee_codes f span gs c js = of_call (callee_wants f) (callee_parameters f) span c js (binding (callee_parameters f) (keywords_of gs))
-
--- the places of the parameters' arguments; none where they aren't bound
-abbrev pub places_in : Result (List (Option ℕ)) BindFault → List (Option ℕ)
-places_in (Ok places) = places
-places_in (Err f) = []
 
 -- the arguments with the call's own codes
 abbrev pub with_call_codes : Callee → Span → Args → Closure → List Argument → Judgement → Judgement
 with_call_codes f = behind_arguments (callee_wants f) (callee_parameters f)
 
--- behind these codes
-pub record IsBound (named : Callee) (span : Span) (before now : Checker) (gs : Args) (c : Closure) (arguments : Arguments) (js : List Argument) (j : Judgement) : Type 0 where
-  pub told : AreTold gs arguments.parts.items js
-  pub roots : AreRootKinds js
-  pub ends : HasEnds before.state.scopes arguments.ends (with_call_codes named span gs c js j)
-  pub gathered : HasGathered before now (with_call_codes named span gs c js j)
-
 -- what the call gives then, but for its `!`
 abbrev pub IsBoundCallAs : Callee → Span → Form → Bool → Args → Closure → Arguments → Checker → Checker → Outcome → Type 0
 IsBoundCallAs named span f bang gs c arguments now after outcome = (before : Checker) (known : RootMap) (js : List Argument) (j : Judgement)
-    → before.state.known ≡ Some known → JudgesArguments before.patterns.now (gives never_kind (Some known)) gs js j → IsBound named span before now gs c arguments js j
+    → before.state.known ≡ Some known → JudgesArguments before.patterns.now (gives never_kind (Some known)) gs js j → HasArguments before now gs arguments js (with_call_codes named span gs c js j)
     → (k : Judgement) × Gives before.patterns.now known span f (banged span bang k) × HasJudged before after outcome k
 
 -- arguments that are bound so were judged in some way, and where no error code stands on the call, none of its own does

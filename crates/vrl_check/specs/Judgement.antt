@@ -34,7 +34,7 @@ use Rattle.vrl_table.specs.Table.{row_of}
 use Rattle.vrl_table.specs.declared.binding.BindFault.{BindFault}
 use Rattle.vrl_table.specs.declared.function.Fun.{Fun}
 use Rattle.vrl_syntax.specs.Calls.{takes_closure}
-use Rattle.vrl_judge.specs.Rules.{IsReadAt, scalars_at, IsScalar, array_at, object_at, Judgement, is_alive, if_state, nothing, gives, at, when, with_codes, settled_kind, settle, is_known, is_other, is_fallible, may_be_truth, may_be_no_truth, IsBehind, IsThen, left, is_equality, some_pair, table_tags, chained, of_pairs, no_objects, IsMerged, or_else_at, IsWritten, of_assignment, empty_tag, of_error_assignment, of_predicate, Argument, is_disjoint, has_others, argument_at, banged, IsDeleted, sum_tag, number_tag, order_tag}
+use Rattle.vrl_judge.specs.Rules.{IsReadAt, scalars_at, IsScalar, array_at, object_at, Judgement, is_alive, if_state, nothing, gives, at, when, with_codes, settled_kind, settle, is_known, is_needless, is_other, is_fallible, may_be_truth, may_be_no_truth, IsBehind, IsThen, left, is_equality, some_pair, table_tags, chained, of_pairs, no_objects, IsMerged, or_else_at, IsWritten, of_assignment, empty_tag, of_error_assignment, of_message, of_predicate, Argument, is_disjoint, has_others, argument_at, banged, IsDeleted, sum_tag, number_tag, order_tag}
 use Rattle.vrl_value.specs.declared.value.Tag.TheVariants as tag
 use Rattle.vrl_path.specs.declared.path.Step as steps
 use Rattle.vrl_syntax.specs.declared.root.Op.TheVariants as op
@@ -86,6 +86,10 @@ table_of o = None
 abbrev pub of_item : Span → Judgement → List Diagnostic
 of_item span j = when (is_fallible j) (at 100 span)
 
+-- a predicate, with its own codes
+abbrev pub predicate_of : Expr → Judgement → Judgement
+predicate_of p j = with_codes (of_predicate (span_of p) j) j
+
 -- ---- calls
 
 -- At most one code stands on an argument, the first of these: one that may fail is 630, one whose kind has no tag that the parameter
@@ -105,12 +109,16 @@ wants_path i p e = not (is_some (path_of e))
 abbrev pub bound : List (Option ℕ) → List Argument → List (Option Argument)
 bound places js = map_list (argument_at js) places
 
+-- the code of a parameter's argument, where it has one
+abbrev pub of_found : (ℕ → ParameterRow → Expr → Bool) → ℕ → ParameterRow → Option Argument → List Diagnostic
+of_found wants i p None = []
+of_found wants i p (Some g) = of_argument p.allowed (wants i p g.value) g
+
 -- the codes of bound arguments, by the parameters from a place on
 abbrev pub of_arguments : (ℕ → ParameterRow → Expr → Bool) → ℕ → List ParameterRow → List (Option Argument) → List Diagnostic
 of_arguments wants i [] js = []
 of_arguments wants i (p ∷ ps) [] = []
-of_arguments wants i (p ∷ ps) (None ∷ js) = of_arguments wants (suc i) ps js
-of_arguments wants i (p ∷ ps) (Some g ∷ js) = of_argument p.allowed (wants i p g.value) g ++ of_arguments wants (suc i) ps js
+of_arguments wants i (p ∷ ps) (g ∷ js) = of_found wants i p g ++ of_arguments wants (suc i) ps js
 
 -- none of the functions that are told here takes a closure: 1010
 abbrev pub of_closure : Span → Closure → List Diagnostic
@@ -122,22 +130,26 @@ abbrev pub of_unknown : Option Argument → List Diagnostic
 of_unknown None = []
 of_unknown (Some g) = at 108 g.span
 
--- A call's own codes: one alone where its arguments aren't bound, which is 106, 108 or 107; else those of its arguments and of its closure.
+-- the code of a call whose arguments aren't bound: 106, 108 or 107
+abbrev pub of_fault : Span → List Argument → BindFault → List Diagnostic
+of_fault span js fault.Number = at 106 span
+of_fault span js (fault.Unknown i) = of_unknown (slice_get js i)
+of_fault span js (fault.Missing i) = at 107 span
+of_fault span js fault.Memory = []
+
+-- a call's own codes: one alone where its arguments aren't bound, else those of its arguments and of its closure
 abbrev pub of_call : (ℕ → ParameterRow → Expr → Bool) → List ParameterRow → Span → Closure → List Argument → Result (List (Option ℕ)) BindFault → List Diagnostic
 of_call wants ps span c js (Ok places) = of_arguments wants 0 ps (bound places js) ++ of_closure span c
-of_call wants ps span c js (Err fault.Number) = at 106 span
-of_call wants ps span c js (Err (fault.Unknown i)) = of_unknown (slice_get js i)
-of_call wants ps span c js (Err (fault.Missing i)) = at 107 span
-of_call wants ps span c js (Err fault.Memory) = []
+of_call wants ps span c js (Err f) = of_fault span js f
 
 -- the arguments in order, with the call's own codes; its closure isn't judged
 abbrev pub behind_arguments : (ℕ → ParameterRow → Expr → Bool) → List ParameterRow → Span → Args → Closure → List Argument → Judgement → Judgement
 behind_arguments wants ps span gs c js j = with_codes (of_call wants ps span c js (binding ps (keywords_of gs))) (record j { empties = j.empties ++ nulls (in_closure c) })
 
--- the arguments of the parameters; none where they aren't bound
-abbrev pub bound_by : Result (List (Option ℕ)) BindFault → List Argument → List (Option Argument)
-bound_by (Ok places) js = bound places js
-bound_by (Err f) js = []
+-- the places of the parameters' arguments; none where they aren't bound
+abbrev pub places_in : Result (List (Option ℕ)) BindFault → List (Option ℕ)
+places_in (Ok places) = places
+places_in (Err f) = []
 
 -- the kind without the tags at its root that aren't among these
 pub record IsCutDown (T : TagSet) (K L : KindTree) : Type 0 where
@@ -256,7 +268,7 @@ mutual
     a_coalescing : {known : RootMap} {span : Span} {l r : Expr} {j k whole : Judgement} {K : KindTree} {ok : Option RootMap}
         → Judges sources (Some known) l j → Judges sources j.fail r k → IsBehind j k whole
         → IsEither j.kind k.kind K → IsJoined j.ok k.ok ok
-        → Gives sources known span (binary op.Coalesce l r) (with_codes (when (not (j.poisoned || is_fallible j)) (at 651 span)) (record whole { kind = K; ok = ok; fail = k.fail }))
+        → Gives sources known span (binary op.Coalesce l r) (with_codes (when (is_needless j) (at 651 span)) (record whole { kind = K; ok = ok; fail = k.fail }))
     -- assignments
     an_assignment : {known : RootMap} {span : Span} {t : Target} {e : Expr} {j : Judgement} {ok : Option RootMap}
         → Judges sources (Some known) e j → IsWritten t j.kind j.ok ok
@@ -286,7 +298,7 @@ mutual
         → (row_of function).name ≡ name
         → JudgesArguments sources (gives never_kind (Some known)) gs js j
         → whole ≡ behind_arguments (wants_literal (row_of function)) (row_of function).parameters span gs c js j
-        → IsAnsweredUnless whole.poisoned sources (row_of function) (bound_by (binding (row_of function).parameters (keywords_of gs)) js) K fails
+        → IsAnsweredUnless whole.poisoned sources (row_of function) (bound (places_in (binding (row_of function).parameters (keywords_of gs))) js) K fails
         → IsJoined whole.fail (if_state fails whole.ok) fail
         → Gives sources known span (call name s bang gs c) (banged span bang (record whole { kind = K; fail = fail }))
     -- `del`: the kind is that of reading the path, and what stands there is taken out
@@ -312,7 +324,7 @@ mutual
     -- a message that may fail, or isn't exactly a text, is 1011
     an_abort_with : {known : RootMap} {span : Span} {e : Expr} {j : Judgement}
         → Judges sources (Some known) e j
-        → Gives sources known span (abort_with (message e)) (with_codes (when (is_fallible j || is_other tag.Text j) (at 1011 (span_of e))) (record j { kind = never_kind; ok = None }))
+        → Gives sources known span (abort_with (message e)) (with_codes (of_message (span_of e) j) (record j { kind = never_kind; ok = None }))
 
   -- two operands, the second judged where the first ends with a value
   pub data JudgesBoth (sources : List (List ℕ)) : RootMap → Expr → Expr → Judgement → Judgement → Judgement → Type 0 where
@@ -344,7 +356,7 @@ mutual
   -- the arms of an `if` beside the ways before them: each branch is judged behind all predicates before it
   pub data JudgesArms (sources : List (List ℕ)) : Option RootMap → Judgement → Arms → Else → Judgement → Type 0 where
     an_arm : {state : Option RootMap} {ways j with_predicate k with_branch all : Judgement} {p : Expr} {es : Exprs} {gs : Arms} {otherwise : Else}
-        → Judges sources state p j → IsBeside ways (record (with_codes (of_predicate (span_of p) j) j) { kind = never_kind; ok = None }) with_predicate
+        → Judges sources state p j → IsBeside ways (record (predicate_of p j) { kind = never_kind; ok = None }) with_predicate
         → JudgesBlock sources j.ok es k → IsBeside with_predicate k with_branch
         → JudgesArms sources j.ok with_branch gs otherwise all
         → JudgesArms sources state ways (arm p es gs) otherwise all

@@ -9,8 +9,8 @@ use Rattle.vrl_kind.specs.Canonical.{never_kind}
 use Rattle.vrl_kind.specs.KindTree.{KindTree}
 use Rattle.vrl_state.specs.States.{RootMap, IsRootKind}
 use Rattle.vrl_check.specs.Calls.{args_hold_closure_call, arms_hold_closure_call, else_holds_closure_call, expr_holds_closure_call, exprs_hold_closure_call, form_holds_closure_call, pairs_hold_closure_call}
-use Rattle.vrl_judge.specs.Rules.{Judgement, IsScalar, IsThen, gives, settle, with_codes, of_predicate}
-use Rattle.vrl_check.specs.Judgement.{IsBeside, of_item, span_of}
+use Rattle.vrl_judge.specs.Rules.{Judgement, IsScalar, IsThen, gives, settle, with_codes}
+use Rattle.vrl_check.specs.Judgement.{IsBeside, of_item, predicate_of, span_of}
 use Rattle.vrl_check.specs.Judgement.{Judges, Gives, JudgesAll, JudgesBlock, JudgesItems}
 use Rattle.vrl_judge.specs.declared.branches.Ways.{Ways}
 use Rattle.vrl_judge.specs.declared.checker.Checker.{Checker}
@@ -105,10 +105,6 @@ pub record HasWays (before now : Checker) (ways : Ways) (w : Judgement) : Type 0
   pub diagnostics : now.diagnostics.items ≡ before.diagnostics.items ++ w.codes
   pub empties : now.empties.items ≡ before.empties.items ++ w.empties
   pub patterns : now.patterns ≡ before.patterns
-
--- a predicate, with its own codes
-abbrev pub predicate_of : Expr → Judgement → Judgement
-predicate_of p j = with_codes (of_predicate (span_of p) j) j
 
 -- a predicate and its block, beside the ways before them
 pub record IsArmAs (a : ArmTree) (w : Judgement) (before now after : Checker) (ways : Ways) : Type 0 where

@@ -3,8 +3,8 @@ ghost use Rattle.std.specs.Prelude.{[], false, is_some, length, map, not, option
 ghost use Rattle.vrl_builtin.specs.Conditions.{below_if, literals_below, AreGiven as AreAllowed};
 ghost use Rattle.vrl_builtin.specs.Rows.{literal_at};
 ghost use Rattle.vrl_builtin.specs.View.{given_tree, givens_of as trees_of_givens, parameter_row};
-ghost use Rattle.vrl_check.specs.Calling.{alone_at, call_args, call_bang, call_closure, call_name, callee_codes, callee_parameters, callee_wants, of_code, of_fault, of_found, places_in, written, AreTold, HasCodes, IsAnsweredAs, IsBoundCallAs, IsCalledAs, IsDeletedAs, IsFound, IsNamed, IsPassedCallAs, IsTold, IsUnknown, MayBeAsked};
-ghost use Rattle.vrl_check.specs.Judgement.{bound as bound_at, deleted_kind, deleted_path, of_argument, of_arguments, of_closure, some_has_others as some_have_others, AreGiven, IsAnswered, IsDeletedAt, IsGiven};
+ghost use Rattle.vrl_check.specs.Calling.{alone_at, call_args, call_bang, call_closure, call_name, callee_codes, callee_parameters, callee_wants, of_code, written, AreTold, HasCodes, IsAnsweredAs, IsBoundCallAs, IsCalledAs, IsDeletedAs, IsFound, IsNamed, IsPassedCallAs, IsTold, IsUnknown, MayBeAsked};
+ghost use Rattle.vrl_check.specs.Judgement.{bound as bound_at, deleted_kind, deleted_path, of_argument, of_arguments, of_closure, of_fault, of_found, places_in, some_has_others as some_have_others, AreGiven, IsAnswered, IsDeletedAt, IsGiven};
 ghost use Rattle.vrl_check.specs.Walking.{FormCanBeJudged};
 ghost use Rattle.vrl_diag.specs.declared.diagnostic.Span.{Span as SpecSpan};
 ghost use Rattle.vrl_judge.specs.Calling.{told};
@@ -160,10 +160,7 @@ pub(crate) fn called(
     pass_closure(checker, &call.closure)?;
     match Callee::of(call.name.as_str()) {
         Some(callee) => call_of(checker, span, callee, call, arguments),
-        None => {
-            let outcome = call_of_nothing(checker, call.name_span, arguments)?;
-            Ok(outcome)
-        }
+        None => call_of_nothing(checker, call.name_span, arguments),
     }
 }
 
@@ -369,18 +366,9 @@ fn answer_call(
         (call_closure call.now) arguments checker.old checker.new outcome) }
 {
     match callee {
-        Callee::Function(function) => {
-            let outcome = answered(checker, function, &call.args, bound, arguments)?;
-            Ok(outcome)
-        }
-        Callee::Deletion => {
-            let outcome = deleted(checker, &call.args, arguments)?;
-            Ok(outcome)
-        }
-        Callee::Existence => {
-            let outcome = existing(checker, arguments)?;
-            Ok(outcome)
-        }
+        Callee::Function(function) => answered(checker, function, &call.args, bound, arguments),
+        Callee::Deletion => deleted(checker, &call.args, arguments),
+        Callee::Existence => existing(checker, arguments),
     }
 }
 
@@ -648,6 +636,5 @@ fn answer_kind(
     functions_keep_law();
     let whole = result_kind(alloc, function, givens, patterns)?;
     kind_is_canonical(&whole);
-    let kind = cut(alloc, &whole)?;
-    Ok(kind)
+    cut(alloc, &whole)
 }

@@ -1,7 +1,8 @@
 //! The judgement of scripts: what each form gives before any event is there, and what is wrong with it.
 //!
-//! A contract says it by `Judges`, which names the kind of a form's value and what is known where it ends with
-//! a value, with an error and with a return.
+//! The contract of [`check`] says it by `JudgesScript`, the relation of a script to its judgements, and by `IsJudged`, which says that the
+//! answer tells this one: the kind of the script's value, what is known where it ends with a value, with an error and with a return, and its
+//! codes in their order. Within a script the judgement of an expression is `Judges`.
 #![tactic(auto)]
 
 mod calls;

@@ -79,8 +79,7 @@ fn script_item(checker: &mut Checker<'_>, item: &Expr) -> Result<Outcome, Memory
 {
     let part = expr(checker, item)?;
     let fallible = part.is_fallible();
-    let outcome = checker.reported(part, fallible, 100, item.span)?;
-    Ok(outcome)
+    checker.reported(part, fallible, 100, item.span)
 }
 
 // The state as a branch, and a dead one beside it. `Memory`: want of memory.
@@ -109,14 +108,12 @@ pub fn ending(alloc: Global, judged: &Judged) -> Result<Ending, Memory>
     match &judged.ret {
         None => {
             let kind = either(alloc, &judged.kind, &Kind::never(alloc)?)?;
-            let ending = end(alloc, state, kind)?;
-            Ok(ending)
+            end(alloc, state, kind)
         }
         Some(ret) => {
             state.join(alloc, &ret.state)?;
             let kind = either(alloc, &judged.kind, &ret.kind)?;
-            let ending = end(alloc, state, kind)?;
-            Ok(ending)
+            end(alloc, state, kind)
         }
     }
 }

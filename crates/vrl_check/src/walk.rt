@@ -16,7 +16,7 @@ use crate::empties::{pass, pass_items};
 use vrl_diag::Span;
 use vrl_judge::{
     Checker, Ends, Operands, Outcome, Table, Ways, add_field, array_kind, cut_kind_of, is_chained,
-    is_needless, object_kind, read_cut, scalar,
+    object_kind, read_cut, scalar,
 };
 use vrl_path::Path;
 use vrl_syntax::{Args, Arm, Arms, Call, Expr, Exprs, Form, Op, Pairs, Root, Target};
@@ -296,8 +296,7 @@ fn disjunction(checker: &mut Checker<'_>, left: &Expr, right: &Expr) -> Result<O
     let part = expr(checker, left)?;
     let side = checker.left_of_or(part)?;
     let other = expr(checker, right)?;
-    let outcome = checker.disjoined(side, other)?;
-    Ok(outcome)
+    checker.disjoined(side, other)
 }
 
 // The right side is judged where the left one ended with an error. A left side that can't fail is 651.
@@ -313,12 +312,11 @@ fn coalescing(
     ensures { IfOk result (λ outcome. IsGivenAs span (binary_form ops.Coalesce (expr_of left.now) (expr_of right.now)) checker.old checker.new outcome) }
 {
     let part = expr(checker, left)?;
-    let needless = is_needless(&part.ends);
+    let needless = part.ends.is_needless();
     let side = checker.left_of_coalescing(part)?;
     let other = expr(checker, right)?;
     let both = checker.coalesced(side, other)?;
-    let outcome = checker.reported(both, needless, 651, span)?;
-    Ok(outcome)
+    checker.reported(both, needless, 651, span)
 }
 
 // Each branch is judged behind all predicates before it.
@@ -405,8 +403,7 @@ fn merge_assignment(
     match target {
         Target::Nowhere => {
             let part = expr(checker, value)?;
-            let outcome = checker.reported(part, true, 640, span)?;
-            Ok(outcome)
+            checker.reported(part, true, 640, span)
         }
         Target::Place(place, root, path) => {
             let whole = merge_into(checker, *place, root, path, value)?;
@@ -475,8 +472,7 @@ fn abort(checker: &mut Checker<'_>) -> Result<Outcome, Memory>
     ensures { IfOk result (λ outcome. IsAnywhereAs (abort_form no_message) checker.old checker.new outcome) }
 {
     checker.state.kill();
-    let outcome = Outcome::nothing(checker.alloc)?;
-    Ok(outcome)
+    Outcome::nothing(checker.alloc)
 }
 
 // A message that may fail, or isn't exactly a text, is 1011.

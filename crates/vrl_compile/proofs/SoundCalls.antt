@@ -24,7 +24,7 @@ use Rattle.vrl_store.specs.Outcomes.{value, deep, on_value}
 use Rattle.vrl_store.specs.Places.{is_within}
 use Rattle.vrl_store.specs.WellFormed.{AreWellFormedArgs, IsWellFormedStore}
 use Rattle.vrl_judge.specs.Rules.{Argument, Judgement, at, banged, gives, if_state, with_codes}
-use Rattle.vrl_check.specs.Judgement.{IsAnswered, IsAnsweredUnless, a_call, behind_arguments, bound, bound_by, nulls, of_call, some_has_others, wants_literal}
+use Rattle.vrl_check.specs.Judgement.{IsAnswered, IsAnsweredUnless, a_call, behind_arguments, bound, nulls, of_call, places_in, some_has_others, wants_literal}
 use Rattle.vrl_resolve.specs.Calls.{acts, answer_outcome, argument_in, called, callee_of, first_unfit, fit_or_else, items_in, within_limit}
 use Rattle.vrl_resolve.specs.Meaning.{eval_args, eval_form}
 use Rattle.vrl_compile.specs.Sound.{HasNoError, IsSoundEnd, IsSoundOutcome}
@@ -115,9 +115,9 @@ sound_call laws setting known span s name bang gs c js j whole arguments none we
 
 -- what is told of a call without an error code, whose arguments are bound
 as_answered : (sources : List (List ℕ)) (r : Row) (js : List Argument) (K : KindTree) (fails poisoned : Bool) (b : Result (List (Option ℕ)) BindFault) (places : List (Option ℕ)) → poisoned ≡ false → b ≡ Ok places
-    → IsAnsweredUnless poisoned sources r (bound_by b js) K fails → IsAnswered sources r (bound places js) K fails
+    → IsAnsweredUnless poisoned sources r (bound (places_in b) js) K fails → IsAnswered sources r (bound places js) K fails
 as_answered sources r js K fails true b places clean found told = absurd (true≢false clean)
-as_answered sources r js K fails false b places clean found told = subst (λ x. IsAnswered sources r (bound_by x js) K fails) found told
+as_answered sources r js K fails false b places clean found told = subst (λ x. IsAnswered sources r (bound (places_in x) js) K fails) found told
 
 module _ (laws : Laws) (setting : SettingTree) (known : RootMap) (span s : Span) (f : Fun) (name : List ℕ) (bang : Bool) (gs : Args) (c : Closure) (js : List Argument) (j : Judgement) (K : KindTree) (fails : Bool) (fail : Option RootMap)
     (named : (row_of f).name ≡ name) (arguments : AreSoundArguments setting (gives never_kind (Some known)) gs js j) where
@@ -125,7 +125,7 @@ module _ (laws : Laws) (setting : SettingTree) (known : RootMap) (span s : Span)
   behind_them = behind_arguments (wants_literal (row_of f)) (row_of f).parameters span gs c js j
 
   abbrev IsTold : Judgement → Type 0
-  IsTold k = IsAnsweredUnless k.poisoned setting.sources (row_of f) (bound_by (binding (row_of f).parameters (keywords_of gs)) js) K fails
+  IsTold k = IsAnsweredUnless k.poisoned setting.sources (row_of f) (bound (places_in (binding (row_of f).parameters (keywords_of gs))) js) K fails
 
   function_is_sound : IsTold behind_them → IsJoined behind_them.fail (if_state fails behind_them.ok) fail → IsSoundForm setting known (call name s bang gs c) (banged span bang (record behind_them { kind = K; fail = fail }))
   function_is_sound told joined none well rest store stored fits =
@@ -144,12 +144,12 @@ module _ (laws : Laws) (setting : SettingTree) (known : RootMap) (span s : Span)
 
 pub call_is_sound : Laws → (setting : SettingTree) (known : RootMap) (span s : Span) (f : Fun) (name : List ℕ) (bang : Bool) (gs : Args) (c : Closure) (js : List Argument) (j whole : Judgement) (K : KindTree) (fails : Bool) (fail : Option RootMap)
     → (row_of f).name ≡ name → AreSoundArguments setting (gives never_kind (Some known)) gs js j → whole ≡ behind_arguments (wants_literal (row_of f)) (row_of f).parameters span gs c js j
-    → IsAnsweredUnless whole.poisoned setting.sources (row_of f) (bound_by (binding (row_of f).parameters (keywords_of gs)) js) K fails → IsJoined whole.fail (if_state fails whole.ok) fail
+    → IsAnsweredUnless whole.poisoned setting.sources (row_of f) (bound (places_in (binding (row_of f).parameters (keywords_of gs))) js) K fails → IsJoined whole.fail (if_state fails whole.ok) fail
     → IsSoundForm setting known (call name s bang gs c) (banged span bang (record whole { kind = K; fail = fail }))
 call_is_sound laws setting known span s f name bang gs c js j whole K fails fail named arguments is told joined =
     subst (λ w. IsSoundForm setting known (call name s bang gs c) (banged span bang (record w { kind = K; fail = fail }))) (sym is)
     (function_is_sound laws setting known span s f name bang gs c js j K fails fail named arguments
-    (subst (λ w. IsAnsweredUnless w.poisoned setting.sources (row_of f) (bound_by (binding (row_of f).parameters (keywords_of gs)) js) K fails) is told)
+    (subst (λ w. IsAnsweredUnless w.poisoned setting.sources (row_of f) (bound (places_in (binding (row_of f).parameters (keywords_of gs))) js) K fails) is told)
     (subst (λ w. IsJoined w.fail (if_state fails w.ok) fail) is joined))
 
 -- a call of no function has an error code

@@ -19,7 +19,7 @@ use Rattle.vrl_builtin.specs.Law.{AreInstances, IsOfGiven}
 use Rattle.vrl_builtin.specs.Rows.{GivenTree, ParameterRow, Row, argument_at as value_at, held, kind_at, literal_at}
 use Rattle.vrl_builtin.specs.TagSets.{allows}
 use Rattle.vrl_builtin.specs.declared.tags.Tags.{Tags as TagSet}
-use Rattle.vrl_judge.specs.Rules.{Argument, argument_at, has_others}
+use Rattle.vrl_judge.specs.Rules.{Argument, argument_at, has_others, some_tag}
 use Rattle.vrl_check.specs.Judgement.{bound, some_has_others, wants_literal, AreGiven, IsCutDown, IsGiven}
 use Rattle.vrl_resolve.specs.Calls.{argument_in, first_unfit, or_others, unfit_tag}
 use Rattle.vrl_compile.proofs.SoundArguments.{AreValuesOf, IsValueOf}
@@ -78,7 +78,7 @@ fails_test test K v none of_kind = by (test (tag_of v)) refl where
 
 -- a value of a kind within a parameter's tags has one of these
 within_tags : (T : TagSet) (K : KindTree) (v : Tree) → has_others T K ≡ false → Inhabits v K → allows T (tag_of v) ≡ true
-unfolding has_others
+unfolding some_tag
 within_tags T K v none of_kind = not-false (allows T (tag_of v)) (fails_test (λ t. not (allows T t)) K v none of_kind)
 
 fits_parameter : (p : ParameterRow) (v : Tree) → allows p.allowed (tag_of v) ≡ true → unfit_tag p (Some v) ≡ None

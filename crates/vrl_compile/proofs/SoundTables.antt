@@ -15,7 +15,7 @@ use Rattle.vrl_state.specs.Laws.{CutsHoldTheAllowed}
 use Rattle.vrl_state.specs.States.{IsCutOf}
 use Rattle.vrl_store.specs.Operators.{applied, comparison_of, difference_of, product_of, sum_of}
 use Rattle.vrl_store.specs.Outcomes.{Outcome, value, error}
-use Rattle.vrl_judge.specs.Rules.{is_tag, number_tag, order_tag, scalars_at, some_pair, sum_tag, table_tags}
+use Rattle.vrl_judge.specs.Rules.{is_tag, number_tag, order_tag, scalars_at, some_pair, some_tag, sum_tag, table_tags}
 use Rattle.vrl_check.specs.Judgement.{table_of}
 use Rattle.vrl_compile.proofs.SoundTags.{some_tag-intro}
 use Rattle.vrl_compile.proofs.SoundValues.{HasNoPart, of_scalars, same_tag-itself}
@@ -72,7 +72,7 @@ applied_is_tabled o table v w is = absurd (cc)
 
 -- one pair that passes is a pair that passes
 some_pair-intro : (test : Tag → Tag → Bool) (K L : KindTree) (a b : Tag) → IsTrue (root_tags K a) → IsTrue (root_tags L b) → IsTrue (test a b) → IsTrue (some_pair test K L)
-unfolding some_pair
+unfolding some_tag
 some_pair-intro test K L a b in_first in_second passes =
     some_tag-intro (λ a. root_tags K a && list_any (λ b. root_tags L b && test a b) all_tags) a (and_from _ _ in_first (some_tag-intro (λ b. root_tags L b && test a b) b (and_from _ _ in_second passes)))
 

@@ -15,7 +15,7 @@ use Rattle.vrl_place.specs.Sets.{has_other, is_alone}
 use Rattle.vrl_state.specs.States.{RootMap}
 use Rattle.vrl_state.specs.Stores.{FitsKnown, Store}
 use Rattle.vrl_diag.specs.Refusal.{is_error}
-use Rattle.vrl_judge.specs.Rules.{Judgement, at, is_alive, is_other, may_be_no_truth, may_be_truth, when}
+use Rattle.vrl_judge.specs.Rules.{Judgement, at, is_alive, is_other, may_be_no_truth, may_be_truth, some_tag, when}
 use Rattle.vrl_compile.specs.Sound.{HasNoError}
 
 -- a tag that passes a test is one of them all
@@ -86,7 +86,7 @@ null_may_be_truth K allowed = or_right _ _ allowed
 
 -- another tag is no truth
 pub other_is_no_truth : (K : KindTree) (t : Tag) → IsTrue (root_tags K t) → (same_tag t tag.Bool || same_tag t tag.Null) ≡ false → IsTrue (may_be_no_truth K)
-unfolding may_be_no_truth
+unfolding some_tag
 other_is_no_truth K t allowed other = some_tag-intro (λ t. root_tags K t && not (same_tag t tag.Bool || same_tag t tag.Null)) t (and_from _ _ allowed (ap not other))
 
 -- ---- what no code says

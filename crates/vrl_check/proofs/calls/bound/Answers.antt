@@ -1,9 +1,9 @@
 use Rattle.std.proofs.Common.{◌≡◌, ◌++◌, Ok, Err, ap, ◌∙◌, subst}
 use Rattle.vrl_table.specs.Binding.{binding, keywords_of, IsBound}
-use Rattle.vrl_check.specs.Calling.{call_args, call_closure, callee_parameters, callee_wants, places_in}
-use Rattle.vrl_check.specs.Judgement.{bound, of_arguments, of_call, of_closure}
+use Rattle.vrl_check.specs.Calling.{call_args, call_closure, callee_parameters, callee_wants}
+use Rattle.vrl_check.specs.Judgement.{bound, of_arguments, of_call, of_closure, places_in}
 use Rattle.vrl_judge.specs.Judging.{IsReported}
-use Rattle.vrl_check.proofs.CallsCodes.{fault_is, fault_told}
+use Rattle.vrl_check.proofs.CallsCodes.{fault_is}
 use Rattle.vrl_check.proofs.calls.bound.Goals as goal
 
 pub returns-in_ok-bound_codes-in-Ok-clause-places : goal.returns-in_ok-bound_codes-in-Ok-clause-places
@@ -39,4 +39,4 @@ returns-in_ok-unbound-in-Err-clause-reported c js told =
     let ks = keywords_of (call_args c.args.call.now) in
     let is : Err c.in-Err.fault ≡ binding ps ks = fault_is (binding ps ks) c.in-Err.fault c.in_ok-unbound-in-Err.ensures.fault (subst (λ rows. IsBound (binding rows ks) (Err c.in-Err.fault)) c.parameters.ensures c.in-Err.ensures) in
     subst (λ b. IsReported (of_call wants ps c.args.span closure js b) c.args.checker.now c.unbound.new.checker c.args.arguments.now.ends c.unbound.new.ends) is
-    (subst (λ ds. IsReported ds c.args.checker.now c.unbound.new.checker c.args.arguments.now.ends c.unbound.new.ends) (fault_told wants ps c.args.span closure js c.in-Err.fault) (c.in_ok-unbound-in-Err.ensures.reported js told.written_are))
+    (c.in_ok-unbound-in-Err.ensures.reported js told.written_are)

@@ -1,7 +1,8 @@
 use Rattle.std.proofs.Common.{◌≡◌, ◌∙◌, ap, map, subst, sym}
 use Rattle.std.proofs.lemmas.Result.{IfOk-weaker}
 use Rattle.vrl_syntax.specs.View.{args_view}
-use Rattle.vrl_check.specs.Calling.{of_fault, written}
+use Rattle.vrl_check.specs.Calling.{written}
+use Rattle.vrl_check.specs.Judgement.{of_fault}
 use Rattle.vrl_judge.specs.Rules.{Argument}
 use Rattle.vrl_judge.specs.Judging.{IsReported}
 use Rattle.vrl_check.proofs.CallsFound.{unknown_told}

@@ -13,12 +13,13 @@ use Rattle.vrl_check.proofs.Forms.{expr_passed, expr_reached, block_given, group
 use Rattle.vrl_syntax.proofs.PartSizes.{expr_size, form_size, arms_size, else_size, exprs_size}
 use Rattle.vrl_value.specs.View.{tree_of}
 use Rattle.vrl_check.proofs.Partway.{can_at, else_at, form_at, items_at, array_can_next, array_common, array_first, array_given, array_next, next_item, no_item_left, array_fewer, next_pair, no_pair_left, object_can_next, object_common, object_first, object_given, object_next, object_fewer, sequence_can_next, sequence_common, sequence_end, sequence_first, sequence_next, sequence_fewer}
+use Rattle.vrl_judge.proofs.Results.{by_both}
 use Rattle.vrl_check.specs.Judgement.{span_of}
 use Rattle.vrl_check.proofs.Branching.{conjunction_judged, stands_here, disjunction_judged, coalescing_judged, return_judged, abort_judged}
 use Rattle.vrl_check.proofs.Told.{expr_ends, block_ends, expr_root}
 use Rattle.vrl_check.proofs.Arguments.{argument_can_next, argument_common, argument_fewer, arguments_are, arguments_first, arguments_given, arguments_next, arguments_told, call_given, next_arg, no_arg_left}
 use Rattle.vrl_check.proofs.Arms.{conditional_judged, first_arms, last_ends, more_arms, next_arm, next_can, no_arm_left, ways_behind, ways_here, AreJudged, arm_judged, middle_here, ways_in}
-use Rattle.vrl_check.proofs.Assigning.{assignment_judged, judged_present, merge_judged, nowhere_judged, settled_present, error_judged}
+use Rattle.vrl_check.proofs.Assigning.{assignment_judged, error_judged, judged_present, merge_judged, nowhere_judged, place_stands, settled_present}
 use Rattle.vrl_syntax.specs.declared.root.Op.TheVariants as ops
 use Rattle.vrl_check.proofs.walk.+judge.Goals as goal
 
@@ -477,8 +478,10 @@ disjunction-disjoined-requires t c =
 
 pub disjunction-returns : goal.disjunction-returns
 disjunction-returns t c =
-    disjunction_judged (expr_of c.args.left.now) (expr_of c.args.right.now) c.args.checker.now c.expr.new.checker c.left_of_or.new.self c.expr-2.new.checker c.disjoined.new.self c.in_ok-part.part c.in_ok-other.other c.in_ok-outcome.outcome c.in_ok-side.side
-    c.in_ok-part.ensures c.in_ok-side.ensures.side c.in_ok-side.ensures.part c.in_ok-other.ensures c.in_ok-outcome.ensures.kind c.in_ok-outcome.ensures.sides
+    by_both c.disjoined.result _ _ _
+    (λ outcome. disjunction_judged (expr_of c.args.left.now) (expr_of c.args.right.now) c.args.checker.now c.expr.new.checker c.left_of_or.new.self c.expr-2.new.checker c.disjoined.new.self c.in_ok-part.part c.in_ok-other.other outcome c.in_ok-side.side
+    c.in_ok-part.ensures c.in_ok-side.ensures.side c.in_ok-side.ensures.part c.in_ok-other.ensures)
+    c.disjoined.ensures.kind c.disjoined.ensures.sides
 
 pub coalescing-left_of_coalescing-requires : goal.coalescing-left_of_coalescing-requires
 coalescing-left_of_coalescing-requires t c =
@@ -498,9 +501,11 @@ coalescing-coalesced-requires t c =
 
 pub coalescing-returns : goal.coalescing-returns
 coalescing-returns t c =
-    subst (IsGivenAs c.args.span (binary ops.Coalesce (expr_of c.args.left.now) (expr_of c.args.right.now)) c.args.checker.now c.reported.new.self) (sym c.in_ok-outcome.ensures.same)
-    (coalescing_judged c.args.span (expr_of c.args.left.now) (expr_of c.args.right.now) c.args.checker.now c.expr.new.checker c.left_of_coalescing.new.self c.expr-2.new.checker c.coalesced.new.self c.reported.new.self c.in_ok-part.part c.in_ok-other.other c.in_ok-both.both c.in_ok-side.side c.in_ok-outcome.outcome.ends c.is_needless-needless.result
-    c.in_ok-part.ensures c.is_needless-needless.ensures c.in_ok-side.ensures.side c.in_ok-side.ensures.part c.in_ok-other.ensures c.in_ok-both.ensures.kind c.in_ok-both.ensures.sides c.in_ok-outcome.ensures.reported)
+    by_both c.reported.result _ _ _
+    (λ outcome same reported. subst (IsGivenAs c.args.span (binary ops.Coalesce (expr_of c.args.left.now) (expr_of c.args.right.now)) c.args.checker.now c.reported.new.self) (sym same)
+    (coalescing_judged c.args.span (expr_of c.args.left.now) (expr_of c.args.right.now) c.args.checker.now c.expr.new.checker c.left_of_coalescing.new.self c.expr-2.new.checker c.coalesced.new.self c.reported.new.self c.in_ok-part.part c.in_ok-other.other c.in_ok-both.both c.in_ok-side.side outcome.ends c.is_needless-needless.result
+    c.in_ok-part.ensures c.is_needless-needless.ensures c.in_ok-side.ensures.side c.in_ok-side.ensures.part c.in_ok-other.ensures c.in_ok-both.ensures.kind c.in_ok-both.ensures.sides reported))
+    c.reported.ensures.same c.reported.ensures.reported
 
 pub conditional-loop-arm-init : goal.conditional-loop-arm-init
 conditional-loop-arm-init t c =
@@ -631,10 +636,12 @@ assignment-returns t c =
     (λ outcome assigned. assignment_judged c.args.span c.args.target.now (expr_of c.args.value.now) c.args.checker.now c.expr.new.checker c.assigned.new.self c.in_ok-part.part outcome c.in_ok-part.ensures assigned)
     c.assigned.ensures
 
-pub merge_assignment-returns-in_ok-outcome-in-Nowhere : goal.merge_assignment-returns-in_ok-outcome-in-Nowhere
-merge_assignment-returns-in_ok-outcome-in-Nowhere t c =
-    subst (IsGivenAs c.args.span (merge c.args.target.now (expr_of c.args.value.now)) c.args.checker.now c.reported.new.self) (sym c.in_ok-outcome-in-Nowhere.ensures.same)
-    (nowhere_judged c.args.span c.args.target.now (expr_of c.args.value.now) c.args.checker.now c.expr.new.checker c.reported.new.self c.in_ok-part-in-Nowhere.part c.in_ok-outcome-in-Nowhere.outcome.ends c.in-Nowhere.is c.in_ok-part-in-Nowhere.ensures c.in_ok-outcome-in-Nowhere.ensures.reported)
+pub merge_assignment-returns-in_ok-part-in-Nowhere : goal.merge_assignment-returns-in_ok-part-in-Nowhere
+merge_assignment-returns-in_ok-part-in-Nowhere t c =
+    by_both c.reported.result _ _ _
+    (λ outcome same reported. subst (IsGivenAs c.args.span (merge c.args.target.now (expr_of c.args.value.now)) c.args.checker.now c.reported.new.self) (sym same)
+    (nowhere_judged c.args.span c.args.target.now (expr_of c.args.value.now) c.args.checker.now c.expr.new.checker c.reported.new.self c.in_ok-part-in-Nowhere.part outcome.ends c.in-Nowhere.is c.in_ok-part-in-Nowhere.ensures reported))
+    c.reported.ensures.same c.reported.ensures.reported
 
 pub merge_assignment-assigned-requires-clause-present : goal.merge_assignment-assigned-requires-clause-present
 merge_assignment-assigned-requires-clause-present t c =
@@ -653,6 +660,11 @@ error_assignment-both_assigned-requires-clause-kind t c =
 pub error_assignment-both_assigned-requires-clause-ends : goal.error_assignment-both_assigned-requires-clause-ends
 error_assignment-both_assigned-requires-clause-ends t c =
     expr_ends (expr_of c.args.value.now) _ c.expr.new.checker c.in_ok-part.part c.in_ok-part.ensures
+
+pub error_assignment-both_assigned-requires-clause-place : goal.error_assignment-both_assigned-requires-clause-place
+error_assignment-both_assigned-requires-clause-place t c =
+    let counted : vec_len c.args.checker.now.empties ≡ length c.args.checker.now.empties.items = search rules in
+    place_stands c.len-place.result c.args.checker.now.empties.items _ _ c.in_ok-part.ensures.0.empties (c.len-place.ensures ∙ counted) c.in_ok-push.ensures.items c.in_ok-part.ensures.2.gathered.empties
 
 pub error_assignment-returns : goal.error_assignment-returns
 error_assignment-returns t c =
