@@ -1,5 +1,6 @@
 -- What the walk over a script is asked, and what it gives.
-use Rattle.std.specs.Prelude.{◌≡◌, ℕ, true, false, List, [], Some, None, length, ◌++◌}
+use Rattle.std.specs.Prelude.{◌≡◌, ℕ, Bool, true, false, List, [], Some, None, length, ◌++◌}
+use Rattle.vrl_diag.specs.declared.diagnostic.Diagnostic.{Diagnostic}
 use Rattle.vrl_diag.specs.declared.diagnostic.Span.{Span}
 use Rattle.vrl_syntax.specs.Limits.{args_faults, expr_faults, form_faults, exprs_faults, pairs_faults, arms_faults, else_faults}
 use Rattle.vrl_syntax.specs.Regexes.{args_regexes_below, arms_regexes_below, else_regexes_below, expr_regexes_below, exprs_regexes_below, form_regexes_below, pairs_regexes_below}
@@ -19,43 +20,36 @@ use Rattle.vrl_judge.specs.declared.outcome.Outcome.{Outcome}
 use Rattle.vrl_judge.specs.Judging.{HasJudged, HasOperands, known_on, IsWay, HasEnds}
 use Rattle.vrl_value.specs.declared.value.Tag.TheVariants as tag
 
--- ---- what can be judged: it calls no function that takes a closure, its paths keep their limits, and each of its regexes has a source
+-- ---- what can be judged
 
-pub record CanBeJudged (sources : List (List ℕ)) (e : Expr) : Type 0 where
-  pub calls : expr_holds_closure_call e ≡ false
-  pub limits : expr_faults e ≡ []
-  pub regexes : expr_regexes_below (length sources) e ≡ true
+-- By these functions on parts, a part calls no function that takes a closure, its paths keep their limits, and each of its regexes has a
+-- source.
+pub record IsJudgeable {A : Type 0} (holds_closure_call : A → Bool) (faults : A → List Diagnostic) (regexes_below : ℕ → A → Bool) (sources : List (List ℕ)) (part : A) : Type 0 where
+  pub calls : holds_closure_call part ≡ false
+  pub limits : faults part ≡ []
+  pub regexes : regexes_below (length sources) part ≡ true
 
-pub record FormCanBeJudged (sources : List (List ℕ)) (f : Form) : Type 0 where
-  pub calls : form_holds_closure_call f ≡ false
-  pub limits : form_faults f ≡ []
-  pub regexes : form_regexes_below (length sources) f ≡ true
+abbrev pub CanBeJudged : List (List ℕ) → Expr → Type 0
+CanBeJudged = IsJudgeable expr_holds_closure_call expr_faults expr_regexes_below
 
-pub record ItemsCanBeJudged (sources : List (List ℕ)) (es : Exprs) : Type 0 where
-  pub calls : exprs_hold_closure_call es ≡ false
-  pub limits : exprs_faults es ≡ []
-  pub regexes : exprs_regexes_below (length sources) es ≡ true
+abbrev pub FormCanBeJudged : List (List ℕ) → Form → Type 0
+FormCanBeJudged = IsJudgeable form_holds_closure_call form_faults form_regexes_below
 
-pub record PairsCanBeJudged (sources : List (List ℕ)) (ps : Pairs) : Type 0 where
-  pub calls : pairs_hold_closure_call ps ≡ false
-  pub limits : pairs_faults ps ≡ []
-  pub regexes : pairs_regexes_below (length sources) ps ≡ true
+abbrev pub ItemsCanBeJudged : List (List ℕ) → Exprs → Type 0
+ItemsCanBeJudged = IsJudgeable exprs_hold_closure_call exprs_faults exprs_regexes_below
 
-pub record ArmsCanBeJudged (sources : List (List ℕ)) (gs : Arms) : Type 0 where
-  pub calls : arms_hold_closure_call gs ≡ false
-  pub limits : arms_faults gs ≡ []
-  pub regexes : arms_regexes_below (length sources) gs ≡ true
+abbrev pub PairsCanBeJudged : List (List ℕ) → Pairs → Type 0
+PairsCanBeJudged = IsJudgeable pairs_hold_closure_call pairs_faults pairs_regexes_below
 
-pub record ElseCanBeJudged (sources : List (List ℕ)) (otherwise : Else) : Type 0 where
-  pub calls : else_holds_closure_call otherwise ≡ false
-  pub limits : else_faults otherwise ≡ []
-  pub regexes : else_regexes_below (length sources) otherwise ≡ true
+abbrev pub ArmsCanBeJudged : List (List ℕ) → Arms → Type 0
+ArmsCanBeJudged = IsJudgeable arms_hold_closure_call arms_faults arms_regexes_below
+
+abbrev pub ElseCanBeJudged : List (List ℕ) → Else → Type 0
+ElseCanBeJudged = IsJudgeable else_holds_closure_call else_faults else_regexes_below
 
 -- arguments, whose paths are deleted or not
-pub record ArgumentsCanBeJudged (sources : List (List ℕ)) (gs : Args) : Type 0 where
-  pub calls : args_hold_closure_call gs ≡ false
-  pub limits : args_faults false gs ≡ []
-  pub regexes : args_regexes_below (length sources) gs ≡ true
+abbrev pub ArgumentsCanBeJudged : List (List ℕ) → Args → Type 0
+ArgumentsCanBeJudged = IsJudgeable args_hold_closure_call (args_faults false) args_regexes_below
 
 -- ---- what the walk gives
 
