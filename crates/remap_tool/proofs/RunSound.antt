@@ -10,8 +10,9 @@ use Rattle.vrl_store.specs.WellFormed.{IsWellFormed}
 use Rattle.vrl_check.specs.Determined.{JudgementsAreDetermined}
 use Rattle.vrl_judge.specs.Rules.{Judgement}
 use Rattle.vrl_check.specs.Judgement.{JudgesScript}
-use Rattle.vrl_compile.specs.Answer.{AcceptedScriptsAreSound, IsSoundlyEnded, ends_of}
+use Rattle.vrl_compile.specs.Answer.{AcceptedScriptsAreSound, IsSoundlyEnded}
 use Rattle.vrl_compile.specs.Reading.{ScriptsHaveOneReading}
+use Rattle.vrl_compile.specs.Sound.{ends_of}
 use Rattle.vrl_resolve.specs.Program.{ProgramTree, ended_over}
 use Rattle.vrl_run.specs.LineResult.{HandlesErrors}
 use Rattle.vrl_run.specs.Events.{ObjectsAreEvents, event_kind}

@@ -16,7 +16,7 @@ use Rattle.vrl_token.specs.declared.token.Spanned.{Spanned}
 use Rattle.vrl_parse.specs.Reading.{Reads, ScriptsAreDetermined}
 use Rattle.vrl_check.specs.Determined.{JudgementsAreDetermined}
 use Rattle.vrl_judge.specs.Ordered.{AreOrdered, diagnostic_cmp}
-use Rattle.vrl_compile.specs.Answer.{AreOfScript, IsScript, IsUnread, beyond, judged, malformed, malformed_literals, of_script, unbuilt, unread, wrong}
+use Rattle.vrl_compile.specs.Answer.{AreOfScript, IsScript, IsUngrammatical, beyond, judged, malformed, malformed_literals, of_script, unbuilt, unread, wrong}
 use Rattle.vrl_word.specs.Built.{are_built}
 use Rattle.vrl_compile.specs.Reading.{DiagnosticsAreDetermined, ScriptsHaveOneReading, same as one_list, both_unread}
 use Rattle.vrl_compile.proofs.Sorting.{one_order}
@@ -29,7 +29,7 @@ one_reading tokens scripts text ts us s t one two =
     record { tokens_are = lists; script_is = scripts us s t (subst (λ xs. Reads xs s) lists one.reads) two.reads }
 
 -- tokens in which no script is read are no script's
-read_and_unread : TokensAreDetermined → (text : List ℕ) (ts : List Spanned) (s : Script) → IsScript text ts s → ¬ IsUnread text
+read_and_unread : TokensAreDetermined → (text : List ℕ) (ts : List Spanned) (s : Script) → IsScript text ts s → ¬ IsUngrammatical text
 read_and_unread tokens text ts s is none =
     none.unread s (subst (λ xs. Reads xs s) (tokens.one_list text ts none.tokens is.tokenized none.tokenized) is.reads)
 

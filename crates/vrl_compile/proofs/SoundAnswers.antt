@@ -14,41 +14,36 @@ use Rattle.vrl_judge.specs.Rules.{Judgement}
 use Rattle.vrl_check.specs.declared.judged.Judged.{Judged}
 use Rattle.vrl_resolve.specs.Meaning.{IsUnhandled}
 use Rattle.vrl_resolve.specs.Program.{ended_over}
-use Rattle.vrl_compile.specs.Answer.{AcceptedScriptsAreSound, ComesTo, Ends, IsAnswer, IsOfEither, IsSoundAnswer, IsSoundlyEnded, ends_of, ends_told}
+use Rattle.vrl_compile.specs.Answer.{AcceptedScriptsAreSound, IsAnswer, IsSoundAnswer, IsSoundlyEnded, ends_told}
 use Rattle.vrl_compile.specs.Program.{program_for}
-use Rattle.vrl_compile.specs.Sound.{IsSoundRun, ScriptsAreSound}
+use Rattle.vrl_compile.specs.Sound.{ComesTo, Ends, ScriptsAreSound, ends_of}
 use Rattle.vrl_compile.specs.declared.script.Compiled.{Compiled}
 use Rattle.vrl_compile.specs.declared.script.Compiled.TheVariants as compiled
 use Rattle.vrl_compile.proofs.WellFormedLiterals.{literals_are_well_formed}
 
 -- ---- how it ended
 
-is_handled : (j : Judgement) (outcome : Outcome) (store : Store) → IsSoundRun j outcome store → ¬ IsUnhandled outcome
-is_handled j (error text) store sound unhandled = sound
-is_handled j other store sound unhandled = unhandled
-
-came_to : (j : Judgement) (outcome : Outcome) (store : Store) → IsSoundRun j outcome store → ComesTo (ends_of j) outcome store
-came_to j (value v) store sound = sound
-came_to j (returned v) store sound = sound
-came_to j (error text) store sound = sound
-came_to j other store sound = tt
+is_handled : (ends : Ends) (outcome : Outcome) (store : Store) → ComesTo ends outcome store → ¬ IsUnhandled outcome
+is_handled ends (error text) store came unhandled = came
+is_handled ends other store came unhandled = unhandled
 
 -- whichever end it came to
-of_either : EitherHoldsBoth → JoinsKeepFits → (ends : Ends) (outcome : Outcome) (store : Store) → ComesTo ends outcome store → (K : KindTree) (known : Option RootMap) → IsEither ends.kind ends.returned K → IsJoined ends.ok ends.ret known → IsOfEither K known outcome store
+of_either : EitherHoldsBoth → JoinsKeepFits → (ends : Ends) (outcome : Outcome) (store : Store) → ComesTo ends outcome store → (K : KindTree) (known : Option RootMap) → IsEither ends.kind ends.returned K → IsJoined ends.ok ends.ret known
+    → ComesTo (record { kind = K; ok = known; returned = K; ret = known }) outcome store
 of_either either joins ends (value v) store came K known kinds states = (either v ends.kind ends.returned K kinds (inl came.0), joins ends.ok ends.ret known store states (inl came.1))
 of_either either joins ends (returned v) store came K known kinds states = (either v ends.kind ends.returned K kinds (inr came.0), joins ends.ok ends.ret known store states (inr came.1))
+of_either either joins ends (error text) store came K known kinds states = came
 of_either either joins ends other store came K known kinds states = tt
 
-soundly_ended : EitherHoldsBoth → JoinsKeepFits → (j : Judgement) (ended : Ended) → IsSoundRun j ended.outcome ended.store → IsSoundlyEnded (ends_of j) ended
-soundly_ended either joins j ended sound =
-    let came = came_to j ended.outcome ended.store sound in
-    record { handled = is_handled j ended.outcome ended.store sound; came = came; joined = of_either either joins (ends_of j) ended.outcome ended.store came }
+soundly_ended : EitherHoldsBoth → JoinsKeepFits → (ends : Ends) (ended : Ended) → ComesTo ends ended.outcome ended.store → IsSoundlyEnded ends ended
+soundly_ended either joins ends ended came =
+    record { handled = is_handled ends ended.outcome ended.store came; came = came; joined = of_either either joins ends ended.outcome ended.store came }
 
 pub accepted_scripts_are_sound : ScriptsAreSound → EitherHoldsBoth → JoinsKeepFits → AcceptedScriptsAreSound
 accepted_scripts_are_sound sound either joins declared text script j is moment event of_kind formed =
     let setting : SettingTree = record { moment = moment; sources = script.patterns } in
     let formed_items = literals_are_well_formed is.tokens script is.is_script.reads in
-    soundly_ended either joins j (ended_over (program_for script j) moment event) (sound setting declared script.items j is.judges is.no_error formed_items event of_kind formed)
+    soundly_ended either joins (ends_of j) (ended_over (program_for script j) moment event) (sound setting declared script.items j is.judges is.no_error formed_items event of_kind formed)
 
 -- ---- what `compile` answers
 

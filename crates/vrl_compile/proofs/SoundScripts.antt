@@ -19,7 +19,7 @@ use Rattle.vrl_judge.specs.Rules.{Judgement, at, if_state, settle, when, with_co
 use Rattle.vrl_check.specs.Judgement.{of_item, span_of}
 use Rattle.vrl_check.specs.Judgement.{JudgesItems, no_more_items, one_more_item, a_script}
 use Rattle.vrl_resolve.specs.Meaning.{run_script}
-use Rattle.vrl_compile.specs.Sound.{ExpressionsAreSound, HasNoError, IsSoundOutcome, IsSoundRun, ScriptsAreSound}
+use Rattle.vrl_compile.specs.Sound.{ComesTo, ExpressionsAreSound, HasNoError, IsSoundOutcome, ScriptsAreSound, ends_of}
 use Rattle.vrl_compile.proofs.SoundCauses.{items_cause}
 use Rattle.vrl_check.proofs.Emptied.{judges_counted}
 use Rattle.vrl_compile.proofs.SoundEnds.{no_error_behind, no_error_parts, sound_settled, sound_told, IsSoundPart}
@@ -62,7 +62,7 @@ items_never_fail (one_more_item {before = before} {j = j} {middle = middle} {e =
 
 -- ---- scripts
 
-run_outcome : (j : Judgement) (outcome : Outcome) (store : Store) → j.fail ≡ None → IsSoundOutcome j outcome store → IsSoundRun j outcome store
+run_outcome : (j : Judgement) (outcome : Outcome) (store : Store) → j.fail ≡ None → IsSoundOutcome j outcome store → ComesTo (ends_of j) outcome store
 run_outcome j (value v) store fail sound = sound
 run_outcome j (returned v) store fail sound = sound
 run_outcome j (error text) store fail sound = subst (FitsKnown store) fail sound

@@ -15,8 +15,7 @@ use Rattle.vrl_kind.specs.KindTree.{KindTree}
 use Rattle.vrl_kind.specs.Kinds.{Inhabits}
 use Rattle.vrl_pattern.specs.Malformed.{is_malformed}
 use Rattle.vrl_state.specs.States.{IsEither, IsJoined, RootMap}
-use Rattle.vrl_state.specs.Stores.{FitsKnown, Store}
-use Rattle.vrl_store.specs.Outcomes.{Ended, Outcome, error, returned, value}
+use Rattle.vrl_store.specs.Outcomes.{Ended}
 use Rattle.vrl_store.specs.WellFormed.{IsWellFormed}
 use Rattle.vrl_check.specs.Answer.{IsJudged}
 use Rattle.vrl_judge.specs.Returns.{return_kind, return_state}
@@ -29,7 +28,7 @@ use Rattle.vrl_resolve.specs.Meaning.{IsUnhandled}
 use Rattle.vrl_resolve.specs.Program.{ended_over, program_of}
 use Rattle.vrl_word.specs.Built.{are_built}
 use Rattle.vrl_compile.specs.Program.{program_for}
-use Rattle.vrl_compile.specs.Sound.{HasNoError}
+use Rattle.vrl_compile.specs.Sound.{ComesTo, Ends, HasNoError, ends_of}
 use Rattle.vrl_compile.specs.declared.script.Accepted.{Accepted as AcceptedScript}
 use Rattle.vrl_compile.specs.declared.script.Compiled.{Compiled}
 use Rattle.vrl_compile.specs.declared.script.Compiled.TheVariants.{Accepted, Refused}
@@ -42,7 +41,7 @@ pub record IsScript (text : List ℕ) (tokens : List Spanned) (script : Script) 
   pub reads : Reads tokens script
 
 -- the text has tokens, in which the grammar reads no script
-pub record IsUnread (text : List ℕ) : Type 0 where
+pub record IsUngrammatical (text : List ℕ) : Type 0 where
   pub tokens : List Spanned
   pub tokenized : IsTokenized text tokens
   pub unread : (script : Script) → ¬ Reads tokens script
@@ -57,12 +56,12 @@ unread_at span = record { code = 203; span = span } ∷ []
 abbrev pub not_built : List Diagnostic
 not_built = record { code = 1099; span = record { start = 0; end = 0 } } ∷ []
 
--- 101, malformed regex literal, where there is one with a source that isn't well formed
+-- 101, malformed regex literal, where the token has a source, as a regex literal has, and that isn't well formed
 abbrev pub malformed_at : Span → List (List ℕ) → List Diagnostic
 malformed_at span [] = []
 malformed_at span (source ∷ sources) = if is_malformed source then record { code = 101; span = span } ∷ [] else []
 
--- the same of each regex literal, in order
+-- at each of the tokens, in order
 abbrev pub malformed_literals : List Spanned → List Diagnostic
 malformed_literals [] = []
 malformed_literals (t ∷ ts) = malformed_at t.span (regex_of t.token) ++ malformed_literals ts
@@ -76,7 +75,7 @@ pub record CanBeJudged (tokens : List Spanned) (script : Script) : Type 0 where
 
 -- the diagnostics of a script over events of a kind
 pub data AreOfScript (declared : KindTree) (tokens : List Spanned) (script : Script) (diagnostics : List Diagnostic) : Type 0 where
-  -- of the paths that are written or deleted, the first that keeps not the limits (1007, 1012)
+  -- the first path that is written or deleted beyond the limits (1007, 1012)
   beyond : (first : Diagnostic) (others : List Diagnostic) → exprs_faults script.items ≡ first ∷ others → diagnostics ≡ first ∷ [] → AreOfScript declared tokens script diagnostics
   -- it calls a function that is not built
   unbuilt : KeepsLimits script.items → are_built tokens ≡ false → diagnostics ≡ not_built → AreOfScript declared tokens script diagnostics
@@ -90,7 +89,7 @@ pub data AreDiagnostics (declared : KindTree) (text : List ℕ) (diagnostics : L
   -- a spelling is at fault, or tokens are nested too deeply (1008)
   wrong : (fault : Diagnostic) → IsWrong text fault → diagnostics ≡ fault ∷ [] → AreDiagnostics declared text diagnostics
   -- the grammar reads no script. Of this one diagnostic the place isn't told
-  unread : (span : Span) → IsUnread text → diagnostics ≡ unread_at span → AreDiagnostics declared text diagnostics
+  unread : (span : Span) → IsUngrammatical text → diagnostics ≡ unread_at span → AreDiagnostics declared text diagnostics
   of_script : (tokens : List Spanned) (script : Script) → IsScript text tokens script → AreOfScript declared tokens script diagnostics → AreDiagnostics declared text diagnostics
 
 -- ---- answers
@@ -125,40 +124,17 @@ IsAnswer declared text (Refused diagnostics) = IsRefused declared text diagnosti
 
 -- ---- soundness
 
--- the ends of a script that has a value: at its end, of which kind it is and what is known there, and the same at a return
-pub record Ends : Type 0 where
-  pub kind : KindTree
-  pub ok : Option RootMap
-  pub returned : KindTree
-  pub ret : Option RootMap
-
--- as a judgement says, and as its answer tells
-abbrev pub ends_of : Judgement → Ends
-ends_of j = record { kind = j.kind; ok = j.ok; returned = j.returned; ret = j.ret }
-
+-- the ends that an answer tells
 abbrev pub ends_told : Judged → Ends
 ends_told told = record { kind = told.kind; ok = told.ok.known; returned = return_kind told.ret; ret = return_state told.ret }
 
--- A run came to one of its ends: a value is of the kind that it has there, and the store that is left fits what is known there. An error is none
--- of them; of an `abort`, a call with a `!` and the limit of depth nothing more is said.
-abbrev pub ComesTo : Ends → Outcome → Store → Type 0
-ComesTo ends (value v) store = Inhabits v ends.kind × FitsKnown store ends.ok
-ComesTo ends (returned v) store = Inhabits v ends.returned × FitsKnown store ends.ret
-ComesTo ends (error text) store = ⊥
-ComesTo ends other store = ⊤
-
--- whichever end it is, a value is of this kind, and the store fits what is known: the event at each path, and each variable
-abbrev pub IsOfEither : KindTree → Option RootMap → Outcome → Store → Type 0
-IsOfEither K known (value v) store = Inhabits v K × FitsKnown store known
-IsOfEither K known (returned v) store = Inhabits v K × FitsKnown store known
-IsOfEither K known other store = ⊤
-
+-- a run of an accepted script ended so
 pub record IsSoundlyEnded (ends : Ends) (ended : Ended) : Type 0 where
   -- it handled each of its errors
   pub handled : ¬ IsUnhandled ended.outcome
   pub came : ComesTo ends ended.outcome ended.store
-  -- a value is of the kind that joins those of both ends, which `ending` tells, and the store fits the join of what is known at them
-  pub joined : (K : KindTree) (known : Option RootMap) → IsEither ends.kind ends.returned K → IsJoined ends.ok ends.ret known → IsOfEither K known ended.outcome ended.store
+  -- whichever end it is, a value is of the kind that joins those of both, which `ending` tells, and the store fits the join of what is known at them
+  pub joined : (K : KindTree) (known : Option RootMap) → IsEither ends.kind ends.returned K → IsJoined ends.ok ends.ret known → ComesTo (record { kind = K; ok = known; returned = K; ret = known }) ended.outcome ended.store
 
 -- so ends every script that is accepted, over every well-formed event of the declared kind, at every moment
 abbrev pub AcceptedScriptsAreSound : Type 0

@@ -5,21 +5,21 @@ use Rattle.vrl_diag.specs.declared.diagnostic.Span.{Span}
 use Rattle.vrl_kind.specs.KindTree.{KindTree}
 use Rattle.vrl_syntax.specs.Tree.{Script}
 use Rattle.vrl_token.specs.declared.token.Spanned.{Spanned}
-use Rattle.vrl_compile.specs.Answer.{AreDiagnostics, IsScript, IsUnread, unread_at}
+use Rattle.vrl_compile.specs.Answer.{AreDiagnostics, IsScript, IsUngrammatical, unread_at}
 
 -- two readings of a text are the same
 pub record AreOneReading (tokens others : List Spanned) (script other : Script) : Type 0 where
   pub tokens_are : tokens ≡ others
   pub script_is : script ≡ other
 
--- of every text
+-- so are any two readings of any text
 abbrev pub ScriptsHaveOneReading : Type 0
 ScriptsHaveOneReading = (text : List ℕ) (tokens others : List Spanned) (script other : Script) → IsScript text tokens script → IsScript text others other → AreOneReading tokens others script other
 
 -- the same list, or two that tell at two places that the grammar reads no script
 pub data AreAlike (text : List ℕ) (a b : List Diagnostic) : Type 0 where
   same : a ≡ b → AreAlike text a b
-  both_unread : IsUnread text → (s t : Span) → a ≡ unread_at s → b ≡ unread_at t → AreAlike text a b
+  both_unread : IsUngrammatical text → (s t : Span) → a ≡ unread_at s → b ≡ unread_at t → AreAlike text a b
 
 -- so the diagnostics of a text under a kind are one list, but for that place
 abbrev pub DiagnosticsAreDetermined : Type 0

@@ -40,25 +40,36 @@ IsSoundEnd j ended = IsSoundOutcome j ended.outcome ended.store
 abbrev pub IsSoundFrom : SettingTree → Option RootMap → Expr → Judgement → Type 0
 IsSoundFrom setting known e j = (rest : List Tag) (store : Store) → IsWellFormedStore (length setting.sources) store → FitsKnown store known → IsSoundEnd j (eval setting (j.empties ++ rest) e store)
 
--- of every expression of well-formed literals, wherever it is judged without an error code
+-- so it is of every expression of well-formed literals, wherever it is judged without an error code
 abbrev pub ExpressionsAreSound : Type 0
 ExpressionsAreSound = (setting : SettingTree) (known : Option RootMap) (e : Expr) (j : Judgement) → Judges setting.sources known e j → HasNoError j.codes → IsWellFormedExpr (length setting.sources) e → IsSoundFrom setting known e j
 
 -- ---- scripts
 
--- A run ended as the script was judged: with a value, or with that of a return, of the kind that was judged there, and the store fits what is
--- known there; or by an `abort`, a call with a `!` or the limit of depth. It never ends with an error that the script doesn't handle.
-abbrev pub IsSoundRun : Judgement → Outcome → Store → Type 0
-IsSoundRun j (value v) store = Inhabits v j.kind × FitsKnown store j.ok
-IsSoundRun j (returned v) store = Inhabits v j.returned × FitsKnown store j.ret
-IsSoundRun j (error text) store = ⊥
-IsSoundRun j other store = ⊤
+-- the ends of a script that has a value: at its end, of which kind it is and what is known there, and the same at a return
+pub record Ends : Type 0 where
+  pub kind : KindTree
+  pub ok : Option RootMap
+  pub returned : KindTree
+  pub ret : Option RootMap
 
--- the run of a script over an event, with the empty values of its judgement
+-- as a judgement says
+abbrev pub ends_of : Judgement → Ends
+ends_of j = record { kind = j.kind; ok = j.ok; returned = j.returned; ret = j.ret }
+
+-- A run came to one of its ends: a value is of the kind that it has there, and the store that is left fits what is known there. An error is none
+-- of them; of an `abort`, a call with a `!` and the limit of depth nothing more is said.
+abbrev pub ComesTo : Ends → Outcome → Store → Type 0
+ComesTo ends (value v) store = Inhabits v ends.kind × FitsKnown store ends.ok
+ComesTo ends (returned v) store = Inhabits v ends.returned × FitsKnown store ends.ret
+ComesTo ends (error text) store = ⊥
+ComesTo ends other store = ⊤
+
+-- the run of a script over an event, with the empty values of its judgement, comes to one of the ends that were judged
 abbrev pub IsSoundOver : SettingTree → Judgement → Exprs → Tree → Type 0
-IsSoundOver setting j items event = let ended = run_script setting j.empties items event in IsSoundRun j ended.outcome ended.store
+IsSoundOver setting j items event = let ended = run_script setting j.empties items event in ComesTo (ends_of j) ended.outcome ended.store
 
--- of every script of well-formed literals that is judged without an error code, over every well-formed event of the declared kind
+-- so it is of every script of well-formed literals that is judged without an error code, over every well-formed event of the declared kind
 abbrev pub ScriptsAreSound : Type 0
 ScriptsAreSound = (setting : SettingTree) (declared : KindTree) (items : Exprs) (j : Judgement) → JudgesScript setting.sources declared items j → HasNoError j.codes → AreWellFormedExprs (length setting.sources) items
     → (event : Tree) → Inhabits event declared → IsWellFormed (length setting.sources) event → IsSoundOver setting j items event
