@@ -9,12 +9,12 @@ use Rattle.vrl_run.specs.Answer.{Answer}
 use Rattle.vrl_run.specs.Devices.{Devices, IsAsked, IsAtMostFront, IsWhole, LeavesDevices}
 use Rattle.vrl_run.specs.Events.{event_kind}
 use Rattle.vrl_run.specs.Request.{IsSame, MayCome, Request, bad_script, bad_words, run}
-use Rattle.vrl_run.specs.Status.{IsRefusal}
+use Rattle.vrl_run.specs.Status.{ComesOfRefusal}
 use Rattle.vrl_run.specs.declared.status.Status.{Status}
 use Rattle.vrl_run.specs.declared.status.Status.TheVariants.{ReadFault}
 use Rattle.vrl_token.specs.Reading.{IsNoScript}
 use Rattle.vrl_value.specs.declared.memory.Memory.{Memory as WantOfMemory}
-use Rattle.remap_tool.specs.Request.{Held, Asks, AsksByScript, IsAccepted, IsLoaded, IsLoadFailed, IsRefused, IsScriptAccepted, IsScriptAnswer, has_error}
+use Rattle.remap_tool.specs.Request.{Held, Asks, AsksByScript, IsAccepted, IsLoaded, IsLoadFailed, IsScriptAccepted, IsScriptAnswer, has_error}
 use Rattle.remap_tool.specs.Words.{Command, usage, script}
 
 -- a question that has this request has each that is the same
@@ -22,10 +22,10 @@ pub only : (asks : Request → Type 0) (one : Request) → asks one → (request
 only asks one has request is = subst asks (sym is) has
 
 -- what comes of a script that is refused
-pub refusal_told : (text : List ℕ) (diagnostics : List Diagnostic) (s : Status) → MayCome (bad_script text diagnostics) s → IsRefusal s
-refusal_told text diagnostics s (inl is) = subst IsRefusal (sym is) tt
-refusal_told text diagnostics s (inr (inl is)) = subst IsRefusal (sym is) tt
-refusal_told text diagnostics s (inr (inr is)) = subst IsRefusal (sym is) tt
+pub refusal_told : (text : List ℕ) (diagnostics : List Diagnostic) (s : Status) → MayCome (bad_script text diagnostics) s → ComesOfRefusal s
+refusal_told text diagnostics s (inl is) = subst ComesOfRefusal (sym is) tt
+refusal_told text diagnostics s (inr (inl is)) = subst ComesOfRefusal (sym is) tt
+refusal_told text diagnostics s (inr (inr is)) = subst ComesOfRefusal (sym is) tt
 
 -- the one that holds of two
 pub first_of : {A : Type 0} → A ⊎ ⊥ → A

@@ -13,7 +13,7 @@ use Rattle.vrl_resolve.specs.Program.{ProgramTree}
 use Rattle.vrl_run.specs.Answer.{answer_to}
 use Rattle.vrl_run.specs.Events.{event_kind}
 use Rattle.vrl_run.specs.Request.{bad_script, bad_words, run}
-use Rattle.vrl_run.specs.Status.{IsRefusal}
+use Rattle.vrl_run.specs.Status.{ComesOfRefusal}
 use Rattle.vrl_run.specs.declared.status.Status.{Status}
 use Rattle.remap_tool.specs.OneAnswer.{AreAnsweredAlike, HasOneAnswer, same as same_answer, both_unread as both_unread_answers}
 use Rattle.remap_tool.specs.Request.{Asks, AsksByScript, Held, IsAccepted, IsLoaded, IsRefused, has_error, no_text}
@@ -90,8 +90,8 @@ one_answer one_reading judgements determined held (script name) told a b one two
 
 -- the script that was loaded is the one that the store tells
 pub is_refusal : DiagnosticsAreDetermined → (held : Held) (command : Command) (name loaded : List ℕ) (status : Status) → command ≡ script name → IsLoaded held name loaded
-    → IsRefusal status ⊎ ((program : ProgramTree) × (warnings : List Diagnostic) × IsAccepted loaded program warnings)
-    → IsSome held → (text : List ℕ) (diagnostics : List Diagnostic) → Asks held command (bad_script text diagnostics) → IsRefusal status
+    → ComesOfRefusal status ⊎ ((program : ProgramTree) × (warnings : List Diagnostic) × IsAccepted loaded program warnings)
+    → IsSome held → (text : List ℕ) (diagnostics : List Diagnostic) → Asks held command (bad_script text diagnostics) → ComesOfRefusal status
 is_refusal determined held command name loaded status is one (inl refusal) told text diagnostics asks = refusal
 is_refusal determined held command name loaded status is one (inr accepted) told text diagnostics asks =
     let named : Asks held (script name) (bad_script text diagnostics) = subst (λ c. Asks held c (bad_script text diagnostics)) is asks in

@@ -12,7 +12,7 @@ ghost use Rattle.vrl_syntax.specs.Tree.{Script as SpecScript};
 ghost use Rattle.vrl_run.specs.Devices.{devices, LeavesDevices};
 ghost use Rattle.vrl_run.specs.Events.{event_kind};
 ghost use Rattle.vrl_run.specs.Request.{bad_script, run as run_request};
-ghost use Rattle.vrl_run.specs.Status.{IsAnswer, IsOfLines, IsUnread, IsRefusal};
+ghost use Rattle.vrl_run.specs.Status.{ComesOfRefusal, IsAnswer, IsOfLines, TellsRefusal};
 ghost use Rattle.remap_tool.specs.OneAnswer.{HasOneAnswer};
 ghost use Rattle.remap_tool.specs.Request.{Asks, AsksByScript, IsAccepted, IsLoadFailed, IsScriptAccepted, IsScriptAnswer, IsTextOf};
 ghost use Rattle.remap_tool.specs.Words.{command, usage};
@@ -59,12 +59,12 @@ pub fn remap<R: Threads + Sync, F: Store, S: Source, O: Sink, E: Sink, C: Clock>
         (command words.now)) }
     ensures refused { IsSome (F.held files.old) → (text : List ℕ) (diagnostics : List SpecDiagnostic)
         → Asks (F.held files.old) (command words.now)
-        (bad_script text diagnostics) → IsRefusal result }
+        (bad_script text diagnostics) → ComesOfRefusal result }
 
     // The input and the clock are asked once the script is accepted, and lines answer at the input's end.
     ensures accepted_first { ((input.new ≡ input.old) × (clock.new ≡ clock.old))
         ⊎ IsScriptAccepted (F.held files.old) (command words.now) }
-    ensures unread { IsUnread result → (input.new ≡ input.old) × (clock.new ≡ clock.old) }
+    ensures unread { TellsRefusal result → (input.new ≡ input.old) × (clock.new ≡ clock.old) }
     ensures end { IsOfLines result → IsTrue (S.ended input.new) }
 
     // A script that runs handles each of its errors over the event of each line, at every moment: it ends with a value, by an `abort`, by a
@@ -137,11 +137,11 @@ fn run_script<S: Source, O: Sink, E: Sink, C: Clock>(
         (O.written output.old) (E.written report.old))
         (devices (S.left input.new) (S.taken input.new) (C.ahead clock.new)
         (O.written output.new) (E.written report.new)) }
-    ensures refused { IsRefusal result
+    ensures refused { ComesOfRefusal result
         ⊎ ((program : ProgramTree) × (warnings : List SpecDiagnostic) × IsAccepted text.now program warnings) }
     ensures accepted_first { ((input.new ≡ input.old) × (clock.new ≡ clock.old))
         ⊎ ((program : ProgramTree) × (warnings : List SpecDiagnostic) × IsAccepted text.now program warnings) }
-    ensures unread { IsUnread result → (input.new ≡ input.old) × (clock.new ≡ clock.old) }
+    ensures unread { TellsRefusal result → (input.new ≡ input.old) × (clock.new ≡ clock.old) }
     ensures end { IsOfLines result → IsTrue (S.ended input.new) }
     ensures read_fault { result ≡ Status.ReadFault
         → HasRisen (S.faults input.old) (S.faults input.new) }

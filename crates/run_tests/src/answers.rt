@@ -2,7 +2,7 @@ ghost use Rattle.std.specs.Prelude.{◌≡◌};
 ghost use Rattle.vrl_resolve.specs.Program.{program_of};
 ghost use Rattle.vrl_run.specs.Events.{event_kind};
 ghost use Rattle.vrl_run.specs.LineResult.{HandlesErrors};
-ghost use Rattle.vrl_run.specs.Request.{IsReady};
+ghost use Rattle.vrl_run.specs.Request.{IsReadyRequest};
 
 // Answers to requests, over devices in memory that give pieces and fail.
 use crate::running::{accepted, event_kind};
@@ -83,7 +83,7 @@ fn source(alloc: Global, faults: &Faults) -> Result<MemorySource, Memory> {
 
 // Whether a request is answered as the row wants it.
 fn is_answered(alloc: Global, request: &Request, row: &Row) -> Result<bool, Memory>
-    requires { IsReady request.now }
+    requires { IsReadyRequest request.now }
 {
     let (_script, faults, status, written, reported) = row;
     let mut input = source(alloc, faults)?;

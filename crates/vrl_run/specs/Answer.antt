@@ -37,6 +37,7 @@ result_of_reading program line (whole event) = result_of_tree program line event
 abbrev pub result_of_line : ProgramTree → Line → LineOut
 result_of_line program line = if line.long then refused_line TooLong line.number else result_of_reading program line (reading_of line.bytes)
 
+-- the result of a line, given as its number and its bytes, at a moment
 abbrev pub line_result : ProgramTree → ℤ → ℕ × List ℕ → LineOut
 line_result program moment l = result_of_line program (line_at moment l)
 

@@ -5,7 +5,7 @@ use Rattle.vrl_resolve.specs.Program.{ProgramTree, program_of}
 use Rattle.vrl_run.specs.Events.{event_kind}
 use Rattle.vrl_run.specs.LineResult.{HandlesErrors}
 use Rattle.vrl_run.specs.declared.script.Script.{Script}
-use Rattle.vrl_run.specs.Status.{IsUnread}
+use Rattle.vrl_run.specs.Status.{TellsRefusal}
 use Rattle.vrl_run.specs.declared.status.Status.{Status}
 use Rattle.vrl_run.specs.declared.status.Status.TheVariants.{Refused, Usage, WriteFault, Memory}
 use Rattle.vrl_run.specs.declared.request.Request.{Request as Asked}
@@ -39,10 +39,11 @@ pub record IsReadyScript (script : Script) : Type 0 where
   pub sources : script.sources.now ≡ (program_of script.program.now).sources
   pub handled : HandlesErrors event_kind (program_of script.program.now)
 
-abbrev pub IsReady : Asked → Type 0
-IsReady asked.Words = ⊤
-IsReady (asked.Refused text diagnostics) = ⊤
-IsReady (asked.Run script) = IsReadyScript script
+-- a request is ready where the script that is to run is
+abbrev pub IsReadyRequest : Asked → Type 0
+IsReadyRequest asked.Words = ⊤
+IsReadyRequest (asked.Refused text diagnostics) = ⊤
+IsReadyRequest (asked.Run script) = IsReadyScript script
 
 -- a script is to run
 abbrev pub RunsScript : Request → Type 0
@@ -55,4 +56,4 @@ RunsScript (run text program warnings) = ⊤
 abbrev pub MayCome : Request → Status → Type 0
 MayCome bad_words status = (status ≡ Usage) ⊎ (status ≡ WriteFault)
 MayCome (bad_script text diagnostics) status = (status ≡ Refused) ⊎ (status ≡ WriteFault) ⊎ (status ≡ Memory)
-MayCome (run text program warnings) status = ¬ IsUnread status
+MayCome (run text program warnings) status = ¬ TellsRefusal status

@@ -42,8 +42,8 @@ IsAnswer status = Says (meaning_of status).answers
 abbrev pub IsOfLines : Status → Type 0
 IsOfLines status = Says (meaning_of status).reads_lines
 
-abbrev pub IsUnread : Status → Type 0
-IsUnread status = Says (meaning_of status).refuses
+abbrev pub TellsRefusal : Status → Type 0
+TellsRefusal status = Says (meaning_of status).refuses
 
-abbrev pub IsRefusal : Status → Type 0
-IsRefusal status = Says (meaning_of status).may_refuse
+abbrev pub ComesOfRefusal : Status → Type 0
+ComesOfRefusal status = Says (meaning_of status).may_refuse

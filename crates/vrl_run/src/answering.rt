@@ -5,11 +5,9 @@ ghost use Rattle.vrl_diag.specs.Rendering.{diagnostic_lines};
 ghost use Rattle.vrl_resolve.specs.Program.{program_of};
 ghost use Rattle.vrl_run.specs.Answer.{usage_line};
 ghost use Rattle.vrl_run.specs.Devices.{devices, LeavesDevices};
-ghost use Rattle.vrl_run.specs.LineResult.{HandlesErrors};
-ghost use Rattle.vrl_run.specs.Request.{IsReady, IsRunOf, IsSame, MayCome, RunsScript, request_of};
-ghost use Rattle.vrl_run.specs.Events.{event_kind};
+ghost use Rattle.vrl_run.specs.Request.{IsReadyRequest, IsReadyScript, IsRunOf, IsSame, MayCome, RunsScript, request_of};
 ghost use Rattle.vrl_run.specs.Results.{answer_of};
-ghost use Rattle.vrl_run.specs.Status.{IsAnswer, IsOfLines, IsUnread};
+ghost use Rattle.vrl_run.specs.Status.{IsAnswer, IsOfLines};
 
 use crate::lines::{Results, run_lines};
 use crate::request::Request;
@@ -35,7 +33,7 @@ pub fn answer<S: Source, O: Sink, E: Sink, C: Clock>(
     report: &mut E,
     clock: &mut C,
 ) -> Status
-    requires { IsReady request.now }
+    requires { IsReadyRequest request.now }
     ensures devices { LeavesDevices (IsSame (request_of request.now)) result
         (devices (S.left input.old) (S.taken input.old) (C.ahead clock.old)
         (O.written output.old) (E.written report.old))
@@ -69,9 +67,7 @@ fn run_script<S: Source, O: Sink, E: Sink, C: Clock>(
     report: &mut E,
     clock: &mut C,
 ) -> Status
-    requires declared { script.now.declared.now ≡ event_kind }
-    requires sources { script.now.sources.now ≡ (program_of script.now.program.now).sources }
-    requires handled { HandlesErrors event_kind (program_of script.now.program.now) }
+    requires { IsReadyScript script.now }
     ensures devices { LeavesDevices (IsRunOf script.now.text.now (program_of script.now.program.now)
         script.now.warnings.now) result
         (devices (S.left input.old) (S.taken input.old) (C.ahead clock.old)

@@ -1,10 +1,9 @@
 ghost use Rattle.std.specs.Prelude.{◌≡◌, IfOk, OnOk, length};
 ghost use Rattle.vrl_resolve.specs.Program.{program_of};
-ghost use Rattle.vrl_run.specs.LineResult.{HandlesErrors};
 ghost use Rattle.vrl_batch.specs.Lines.{event_lines};
 ghost use Rattle.vrl_run.specs.Answer.{is_refused, result_of_line};
 ghost use Rattle.vrl_run.specs.Devices.{MovesOn};
-ghost use Rattle.vrl_run.specs.Events.{event_kind};
+ghost use Rattle.vrl_run.specs.Request.{IsReadyScript};
 ghost use Rattle.vrl_run.specs.Results.{IsRunOver, AddsResult};
 
 use crate::options::Options;
@@ -55,9 +54,7 @@ pub fn run_lines<C: Clock>(
     input: &[u8],
     clock: &mut C,
 ) -> Result<Results, Memory>
-    requires declared { script.now.declared.now ≡ event_kind }
-    requires sources { script.now.sources.now ≡ (program_of script.now.program.now).sources }
-    requires handled { HandlesErrors event_kind (program_of script.now.program.now) }
+    requires { IsReadyScript script.now }
     ensures results { IfOk result (IsRunOver (program_of script.now.program.now) report.items input.now
         (C.ahead clock.old)) }
     ensures clock { OnOk result (MovesOn (C.ahead clock.old) (length (event_lines input.now))
@@ -89,9 +86,7 @@ fn add_line(
     line: &Line,
     results: &mut Results,
 ) -> Result<(), Memory>
-    requires declared { script.now.declared.now ≡ event_kind }
-    requires sources { script.now.sources.now ≡ (program_of script.now.program.now).sources }
-    requires handled { HandlesErrors event_kind (program_of script.now.program.now) }
+    requires { IsReadyScript script.now }
     ensures { OnOk result (AddsResult results.old results.new
         (result_of_line (program_of script.now.program.now) line.now)) }
 {
