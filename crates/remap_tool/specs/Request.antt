@@ -27,8 +27,8 @@ script_limit = 65536
 abbrev pub no_script_text : List Diagnostic
 no_script_text = record { code = 1009; span = record { start = 0; end = 0 } } ∷ []
 
--- the bytes are those of a script that is accepted over such events: the program that it is run as, of which no diagnostic is an error, and its
--- warnings
+-- the bytes are those of a script that is accepted over events that are objects of JSON: this is the program that it is run as, and these are its
+-- diagnostics, all of them warnings
 pub record IsAccepted (text : List ℕ) (program : ProgramTree) (warnings : List Diagnostic) : Type 0 where
   pub is_text : ¬ IsNoScript text
   pub script : Script
@@ -56,6 +56,7 @@ IsScriptAnswer text (Refused diagnostics) = IsRefused text diagnostics
 abbrev pub IsLoaded : Held → List ℕ → List ℕ → Type 0
 IsLoaded held name text = IfSome held (λ h. option_map (take (script_limit + 1)) (h name) ≡ Some text)
 
+-- a call whose script has these bytes asks this
 abbrev pub AsksByScript : List ℕ → Request → Type 0
 AsksByScript text bad_words = ⊥
 AsksByScript text (bad_script told diagnostics) = (told ≡ text) × IsRefused text diagnostics

@@ -54,17 +54,20 @@ pub fn remap<R: Threads + Sync, F: Store, S: Source, O: Sink, E: Sink, C: Clock>
         (O.written output.new) (E.written report.new)) }
 
     // Where the store tells what it holds, one answer fits what is asked, but for the place where the grammar
-    // reads no script; a script that is refused is told so.
+    // reads no script.
     ensures one_answer { IsSome (F.held files.old) → HasOneAnswer (Asks (F.held files.old)
         (command words.now)) }
+    // There a script that is refused is told so, or a fault or want of memory is.
     ensures refused { IsSome (F.held files.old) → (text : List ℕ) (diagnostics : List SpecDiagnostic)
         → Asks (F.held files.old) (command words.now)
         (bad_script text diagnostics) → ComesOfRefusal result }
 
-    // The input and the clock are asked once the script is accepted, and lines answer at the input's end.
+    // The input and the clock are asked only once a script is accepted.
     ensures accepted_first { ((input.new ≡ input.old) × (clock.new ≡ clock.old))
         ⊎ IsScriptAccepted (F.held files.old) (command words.now) }
+    // Where it is told that the words or the script are refused, neither was asked.
     ensures unread { TellsRefusal result → (input.new ≡ input.old) × (clock.new ≡ clock.old) }
+    // Lines are answered once the input has said that it is at its end.
     ensures end { IsOfLines result → IsTrue (S.ended input.new) }
 
     // A script that runs handles each of its errors over the event of each line, at every moment: it ends with a value, by an `abort`, by a
@@ -77,27 +80,27 @@ pub fn remap<R: Threads + Sync, F: Store, S: Source, O: Sink, E: Sink, C: Clock>
         → (line : List ℕ) (event : Tree) → reading_of line ≡ whole event → IsTrue (is_object event)
         → (moment : ℤ) → IsSoundlyEnded (ends_of judgement) (ended_over program moment event) }
 
-    // Why each other status comes.
+    // ReadFault comes only where the script could not be loaded or the input failed, WriteFault where the output or the report did.
     ensures read_fault { result ≡ Status.ReadFault
         → IsLoadFailed (command words.now) (F.failures files.old)
         (F.failures files.new) ⊎ HasRisen (S.faults input.old) (S.faults input.new) }
-    // Only the script that the words name is asked of the store, so no other name joins its failures.
-    ensures loads { (F.failures files.new ≡ F.failures files.old)
-        ⊎ IsLoadFailed (command words.now) (F.failures files.old) (F.failures files.new) }
-    // A script that its store fails to load is told as that, and not as want of memory.
-    ensures load_fault { IsLoadFailed (command words.now) (F.failures files.old) (F.failures files.new)
-        → result ≡ Status.ReadFault }
     ensures write_fault { result ≡ Status.WriteFault
         → HasRisen (O.faults output.old) (O.faults output.new)
         ⊎ HasRisen (E.faults report.old) (E.faults report.new) }
-    // A fault of the input, of the output or of the report is told as that, and not as want of memory.
+    // Where one of these failed, that is told, and not want of memory.
+    ensures load_fault { IsLoadFailed (command words.now) (F.failures files.old) (F.failures files.new)
+        → result ≡ Status.ReadFault }
     ensures read_told { (result ≡ Status.ReadFault) ⊎ (S.faults input.new ≡ S.faults input.old) }
     ensures write_told { (result ≡ Status.WriteFault)
         ⊎ ((O.faults output.new ≡ O.faults output.old) × (E.faults report.new ≡ E.faults report.old)) }
+    // No name joins the failures of the store but that of the script, so nothing else is loaded.
+    ensures loads { (F.failures files.new ≡ F.failures files.old)
+        ⊎ IsLoadFailed (command words.now) (F.failures files.old) (F.failures files.new) }
 
-    // Where nothing fails, the answer comes, unless the input is too long or memory is wanted.
+    // Words that are refused are told so, unless the report fails.
     ensures usage { command words.now ≡ usage
         → (result ≡ Status.Usage) ⊎ (result ≡ Status.WriteFault) }
+    // Where nothing fails, the answer comes, unless the input is too long or memory is wanted.
     ensures complete { F.failures files.new ≡ F.failures files.old
         → ¬ HasRisen (S.faults input.old) (S.faults input.new)
         → ¬ HasRisen (O.faults output.old) (O.faults output.new)
