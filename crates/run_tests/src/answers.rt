@@ -7,7 +7,7 @@ ghost use Rattle.vrl_run.specs.Request.{IsReadyRequest};
 // Answers to requests, over devices in memory that give pieces and fail.
 use crate::running::{accepted, event_kind};
 use std::alloc::Global;
-use std::process::{Abort, ExitCode};
+use std::process::Abort;
 use vrl_diag::{Diagnostic, Span};
 use vrl_io::{MemoryClock, MemorySink, MemorySource};
 use vrl_kind::Kind;
@@ -151,7 +151,7 @@ fn holds(alloc: Global, row: &Row) -> Result<bool, Memory> {
 }
 
 #[rattlefmt::skip]
-const FAULTS: [Row; 12] = [
+const FAULTS: [Row; 13] = [
     // The input in pieces.
     (Some(".x = 1"), Faults { pieces: Some(1), ..NONE }, Status::Marked, OUTPUT, REPORT),
     (Some(".x = 1"), Faults { pieces: Some(7), ..NONE }, Status::Marked, OUTPUT, REPORT),
@@ -166,6 +166,8 @@ const FAULTS: [Row; 12] = [
     (Some(".x = 1"), Faults { report: Some(0), ..NONE }, Status::WriteFault, OUTPUT, ""),
     (Some(".x = y"), Faults { report: Some(0), ..NONE }, Status::WriteFault, "", ""),
     (None, Faults { report: Some(0), ..NONE }, Status::WriteFault, "", ""),
+    // No call fails: a script is refused, and the words are.
+    (Some(".x = y"), NONE, Status::Refused, "", "error[E701] 1:6 undefined variable\n"),
     (None, NONE, Status::Usage, "", "usage: remap SCRIPT\n"),
 ];
 
@@ -177,23 +179,4 @@ fn devices_fail(rt: HostRuntime) -> Result<(), Memory> {
         assert!(rt; is_so, "at {:?}", row.0);
     }
     Ok(())
-}
-
-#[test]
-fn exit_codes(rt: HostRuntime) {
-    for (status, number) in &[
-        (Status::Done, 0u8),
-        (Status::Refused, 1),
-        (Status::Usage, 2),
-        (Status::ReadFault, 3),
-        (Status::WriteFault, 4),
-        (Status::Memory, 5),
-        (Status::Marked, 7),
-        (Status::TooMuch, 8),
-    ] {
-        assert!(rt;
-            status.exit_code() == ExitCode::from(*number),
-            "at {status:?}"
-        );
-    }
 }
