@@ -13,7 +13,7 @@ use Rattle.vrl_syntax.specs.declared.root.Target.{Target}
 use Rattle.vrl_store.specs.Operators.{applied}
 use Rattle.vrl_store.specs.Outcomes.{Ended, Outcome, block_left, ends, error, on_error, on_value, value}
 use Rattle.vrl_store.specs.Places.{writes_to}
-use Rattle.vrl_store.specs.StoreView.{left_with, AreNames, IsBase, IsKept, Names}
+use Rattle.vrl_store.specs.StoreView.{count_of, left_with, AreNames, IsKnown, Names}
 use Rattle.vrl_store.specs.Results.{Ends, Stops}
 use Rattle.vrl_store.specs.WellFormed.{IsWellFormedEnded}
 use Rattle.vrl_store.specs.declared.place.Base.{Base}
@@ -23,22 +23,20 @@ use Rattle.vrl_store.specs.declared.stop.Stop.TheVariants as stops
 use Rattle.vrl_store.specs.declared.store.Store.{Store as CodeStore}
 use Rattle.vrl_store.proofs.Left.{block_ended}
 use Rattle.vrl_resolve.specs.Laws.{MeaningsStayWellFormed}
-use Rattle.vrl_resolve.specs.Fits.{IsKnown}
 use Rattle.vrl_resolve.specs.Linked.{Linked, array, linked_of, no_pairs, pair, pairs_view, parts_of_list, parts_view}
 use Rattle.vrl_resolve.specs.LinkedMeaning.{all_mean, if_asked, items_mean, pairs_mean}
-use Rattle.vrl_resolve.specs.Meaning.{assigned, combined, written_both}
-use Rattle.vrl_resolve.specs.Walking.{AllFitIn, FitsIn, IsReady, PairsFitIn, Stays, both_sides, meant, names_in, setting_in, store_at}
+use Rattle.vrl_resolve.specs.Meaning.{assigned, both_sides, combined, written_both}
+use Rattle.vrl_resolve.specs.Walking.{AllFitIn, FitsIn, IsReady, PairsFitIn, Stays, meant, names_in, setting_in, store_at}
 use Rattle.vrl_resolve.specs.declared.node.Node.{Node}
 use Rattle.vrl_resolve.specs.declared.walk.Context.{Context}
 
 -- ---- what stays of the store
 
-pub stays_here : (s : CodeStore) → IsKept s → Stays s s
-stays_here s kept = record { kept = kept; front = ([], sym (append-nil s.present.items)); as_many = refl }
+pub stays_here : (s : CodeStore) → Stays s s
+stays_here s = record { front = ([], sym (append-nil s.present.items)); as_many = refl }
 
 pub stays_then : (s t u : CodeStore) → Stays s t → Stays t u → Stays s u
 stays_then s t u first second = record {
-  kept = second.kept;
   front = (first.front.0 ++ second.front.0, second.front.1 ∙ ap (λ ps. ps ++ second.front.0) first.front.1 ∙ append_assoc s.present.items first.front.0 second.front.0);
   as_many = second.as_many ∙ first.as_many;
 }
@@ -47,7 +45,7 @@ pub names_after : (names : Names) (s t : CodeStore) → AreNames names s → Sta
 names_after names s t are stays = record { as_many = stays.as_many ∙ are.as_many; distinct = are.distinct }
 
 -- a root that is known is one that the store has
-pub known_base : (x : Context) (s : CodeStore) (b : Base) → AreNames (names_in x) s → IsKnown (length (names_in x)) b → IsBase s b
+pub known_base : (x : Context) (s : CodeStore) (b : Base) → AreNames (names_in x) s → IsKnown (length (names_in x)) b → IsKnown (count_of s) b
 known_base x s base.Event are known = tt
 known_base x s (base.Variable number) are known = let as_many = are.as_many in omega (arith, known)
 
@@ -55,7 +53,6 @@ known_base x s (base.Variable number) are known = let as_many = are.as_many in o
 
 pub ready_from : (x : Context) (s t : CodeStore) (ended : Ended) (outcome : Outcome) → IsWellFormedEnded (length (setting_in x).sources) ended → ended ≡ ends outcome (store_at x t) → IsReady x s → Stays s t → IsReady x t
 ready_from x s t ended outcome formed is ready stays = record {
-  kept = stays.kept;
   names = names_after (names_in x) s t ready.names stays;
   formed = (subst (IsWellFormedEnded (length (setting_in x).sources)) is formed).1;
 }
@@ -186,7 +183,7 @@ block_ends before m store (Err stops.Memory) is = tt
 pub block_store : (x : Context) (before middle after : CodeStore) (count : ℕ) → IsReady x before → Stays before middle → count ≡ length before.present.items
     → store_at x after ≡ left_with (names_in x) (take count middle.present.items) (store_at x middle) → store_kept (store_at x before) (store_at x middle) ≡ store_at x after
 block_store x before middle after count ready stays counted left =
-    sym (left ∙ ap (λ k. left_with (names_in x) (take k middle.present.items) (store_at x middle)) counted ∙ block_ended (names_in x) before middle ready.names ready.kept stays.front)
+    sym (left ∙ ap (λ k. left_with (names_in x) (take k middle.present.items) (store_at x middle)) counted ∙ block_ended (names_in x) before middle ready.names stays.front)
 
 -- ---- operators
 

@@ -1,22 +1,16 @@
 -- What is asked of a linked expression that is run with so many variables and regexes.
-use Rattle.std.specs.Prelude.{ℕ, zero, suc, ◌<◌, Bool, true, false, List, [], ◌∷◌, Option, Some, None, IsSome, IsTrue, ⊤}
+use Rattle.std.specs.Prelude.{ℕ, zero, suc, Bool, true, false, List, [], ◌∷◌, Option, Some, None, IsSome, IsTrue, ⊤}
 use Rattle.vrl_value.specs.Tree.{Tree}
 use Rattle.vrl_path.specs.Steps.{IsPlain, IsWritable}
 use Rattle.vrl_builtin.specs.Conditions.{IsThere}
 use Rattle.vrl_builtin.specs.Rows.{ParameterRow}
 use Rattle.vrl_table.specs.Table.{row_of}
-use Rattle.vrl_store.specs.declared.place.Base.{Base}
-use Rattle.vrl_store.specs.declared.place.Base.TheVariants as base
+use Rattle.vrl_store.specs.StoreView.{IsKnown}
 use Rattle.vrl_store.specs.declared.place.Place.{Place}
 use Rattle.vrl_store.specs.WellFormed.{IsWellFormed}
 use Rattle.vrl_resolve.specs.Linked.{Linked, literal, array, object, read, query, block, conditional, negation, binary, assign, merge, both, call, return_of, abort_with, Parts, no_parts, parts, Pairs, no_pairs, pair, Arms, no_arms, arm, Else, no_else, else_block, Message, no_message, message}
 use Rattle.vrl_resolve.specs.declared.node.Callee.{Callee}
 use Rattle.vrl_resolve.specs.declared.node.Callee.TheVariants as callee
-
--- a variable that there is
-abbrev pub IsKnown : ℕ → Base → Type 0
-IsKnown count base.Event = ⊤
-IsKnown count (base.Variable number) = number < count
 
 -- a path that may be written
 abbrev pub IsTarget : ℕ → Option Place → Type 0

@@ -17,12 +17,11 @@ use Rattle.vrl_syntax.specs.declared.root.Target.TheVariants as target
 use Rattle.vrl_builtin.specs.Rows.{ParameterRow}
 use Rattle.vrl_table.specs.declared.function.Fun.{Fun}
 use Rattle.vrl_store.specs.Asked.{is_last}
-use Rattle.vrl_store.specs.StoreView.{root_of, Names}
+use Rattle.vrl_store.specs.StoreView.{root_of, IsKnown, Names}
 use Rattle.vrl_store.specs.declared.place.Base.{Base}
 use Rattle.vrl_store.specs.declared.place.Place.{Place}
 use Rattle.vrl_resolve.specs.Calls as called
 use Rattle.vrl_resolve.specs.Calls.{callee_of}
-use Rattle.vrl_resolve.specs.Fits.{IsKnown}
 use Rattle.vrl_resolve.specs.Linked as linked
 use Rattle.vrl_resolve.specs.Linked.{Linked, Parts}
 use Rattle.vrl_resolve.specs.LinkedMeaning.{callee_in}

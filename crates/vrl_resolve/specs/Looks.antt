@@ -4,8 +4,7 @@ use Rattle.vrl_value.specs.Tree.{Tree, Items}
 use Rattle.vrl_value.specs.View.{items_of_trees, tree_of}
 use Rattle.vrl_value.specs.declared.value.Value.{Value}
 use Rattle.vrl_syntax.specs.Stores.{Store}
-use Rattle.vrl_store.specs.StoreView.{Names}
-use Rattle.vrl_resolve.specs.Fits.{IsKnown}
+use Rattle.vrl_store.specs.StoreView.{IsKnown, Names}
 use Rattle.vrl_resolve.specs.Linked.{Linked, literal, read, linked_of}
 use Rattle.vrl_resolve.specs.Plain.{plain_values}
 use Rattle.vrl_resolve.specs.declared.node.Node.{Node}

@@ -21,6 +21,10 @@ use Rattle.vrl_resolve.specs.Calls.{acts, callee_of, items_in}
 
 -- ---- forms, by how their parts end
 
+-- an operator that asks both its sides, of how these ended
+abbrev pub both_sides : Op → Ended → (Store → Ended) → Ended
+both_sides o left right = on_value left (λ v after. on_value (right after) (λ w end. ends (applied o v w) end))
+
 -- what an operator makes of how its left side ended and of its right side, which is run in the store that the left one left
 abbrev pub combined : Op → Ended → (Store → Ended) → Ended
 -- the right side where the left one ends with an error
@@ -29,7 +33,7 @@ combined op.Coalesce left right = on_error left (λ text after. right after)
 combined op.Or left right = on_value left (λ v after. if is_falsy v then right after else ends (value v) after)
 -- false where the left side is null or false, and the right one isn't run; else whether the right one is true
 combined op.And left right = on_value left (λ v after. if is_falsy v then ends (value (boolean false)) after else on_value (ends (truth_of v) after) (λ t same. on_value (right same) (λ w end. ends (truth_of w) end)))
-combined o left right = on_value left (λ v after. on_value (right after) (λ w end. ends (applied o v w) end))
+combined o left right = both_sides o left right
 
 -- a value is written, and is the value of the whole
 abbrev pub assigned : Target → Ended → Ended

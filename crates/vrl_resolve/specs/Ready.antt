@@ -11,12 +11,12 @@ use Rattle.vrl_path.specs.declared.path.Step.TheVariants.{Field, Place as Index}
 use Rattle.vrl_builtin.specs.Conditions.{IsThere}
 use Rattle.vrl_builtin.specs.Rows.{ParameterRow}
 use Rattle.vrl_table.specs.Table.{row_of}
-use Rattle.vrl_store.specs.StoreView.{is_among, AreDistinct, Names}
+use Rattle.vrl_store.specs.StoreView.{is_among, AreDistinct, IsKnown, Names}
 use Rattle.vrl_store.specs.WellFormed.{IsWellFormed}
 use Rattle.vrl_store.specs.declared.place.Base.{Base}
 use Rattle.vrl_store.specs.declared.place.Base.TheVariants as base
 use Rattle.vrl_store.specs.declared.place.Place.{Place}
-use Rattle.vrl_resolve.specs.Fits.{part_at, AllFit, AreGiven, ArmsFit, ElseFits, Fits, IsAllowed, IsAllowedIf, IsCallee, IsGiven, IsKnown, IsTarget, MessageFits, PairsFit}
+use Rattle.vrl_resolve.specs.Fits.{part_at, AllFit, AreGiven, ArmsFit, ElseFits, Fits, IsAllowed, IsAllowedIf, IsCallee, IsGiven, IsTarget, MessageFits, PairsFit}
 use Rattle.vrl_resolve.specs.Linked.{Linked, literal, array, object, read, query, block, conditional, negation, binary, assign, merge, both, call, return_of, abort_with, Parts, no_parts, parts, Pairs, no_pairs, pair, Arms, no_arms, arm, Else, no_else, else_block, Message, no_message, message}
 use Rattle.vrl_resolve.specs.declared.node.Callee.{Callee}
 use Rattle.vrl_resolve.specs.declared.node.Callee.TheVariants as callee

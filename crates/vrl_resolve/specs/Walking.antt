@@ -8,14 +8,13 @@ use Rattle.vrl_value.specs.View.{tree_of}
 use Rattle.vrl_value.specs.declared.value.Tag.{Tag}
 use Rattle.vrl_value.specs.declared.value.Value.{Value}
 use Rattle.vrl_syntax.specs.Stores.{Store}
-use Rattle.vrl_syntax.specs.declared.root.Op.{Op}
 use Rattle.vrl_syntax.specs.declared.root.Target.{Target}
 use Rattle.vrl_builtin.specs.Rows.{SettingTree}
 use Rattle.vrl_builtin.specs.View.{setting_of}
-use Rattle.vrl_store.specs.Operators.{applied, is_true}
-use Rattle.vrl_store.specs.Outcomes.{Ended, ends, on_value, value}
+use Rattle.vrl_store.specs.Operators.{is_true}
+use Rattle.vrl_store.specs.Outcomes.{Ended, ends, value}
 use Rattle.vrl_store.specs.Places.{writes_to}
-use Rattle.vrl_store.specs.StoreView.{count_of, present_of, store_in, AreNames, IsFront, IsKept, Names}
+use Rattle.vrl_store.specs.StoreView.{count_of, present_of, store_in, AreNames, IsFront, Names}
 use Rattle.vrl_store.specs.Results.{Ends, Stops}
 use Rattle.vrl_store.specs.WellFormed.{IsWellFormedStore}
 use Rattle.vrl_store.specs.declared.stop.Stop.{Stop}
@@ -41,7 +40,6 @@ store_at x s = store_in (names_in x) s
 -- ---- what is asked
 
 pub record IsReady (x : Context) (s : CodeStore) : Type 0 where
-  pub kept : IsKept s
   pub names : AreNames (names_in x) s
   -- what it has is in order, and each of its regexes is one of the script's
   pub formed : IsWellFormedStore (length (setting_in x).sources) (store_at x s)
@@ -66,9 +64,8 @@ MessageFitsIn x m = MessageFits (length (names_in x)) (length (setting_in x).sou
 
 -- ---- what is promised
 
--- what a run keeps of a store: its form, the variables that were there first, and how many variables there may be
+-- what a run keeps of a store: the variables that were there first, and how many variables there may be
 pub record Stays (before after : CodeStore) : Type 0 where
-  pub kept : IsKept after
   pub front : IsFront (present_of before) (present_of after)
   pub as_many : count_of after ≡ count_of before
 
@@ -89,10 +86,6 @@ AllEnd x ns before after (Err stop) = (more : List Linked) → Stops (all_mean (
 abbrev pub EndsTrue : Ended → Store → Result Bool Stop → Type 0
 EndsTrue ended store (Ok b) = (v : Tree) × ((ended ≡ ends (value v) store) × (b ≡ is_true v))
 EndsTrue ended store (Err stop) = Stops ended store stop
-
--- an operator that asks both its sides, of how these ended
-abbrev pub both_sides : Op → Ended → (Store → Ended) → Ended
-both_sides o left right = on_value left (λ v after. on_value (right after) (λ w end. ends (applied o v w) end))
 
 -- a value was written to a target, and what follows goes on from there
 abbrev pub WritesTo : Target → Tree → Store → Store → Result (Unit {0}) Stop → Type 0

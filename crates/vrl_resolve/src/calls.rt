@@ -4,7 +4,7 @@ ghost use Rattle.vrl_value.specs.View.{tree_of};
 ghost use Rattle.vrl_builtin.specs.Conditions.{arguments_below, AreArguments};
 ghost use Rattle.vrl_builtin.specs.View.{argument_tree, arguments_of, parameter_row, setting_of};
 ghost use Rattle.vrl_table.specs.Table.{row_of};
-ghost use Rattle.vrl_store.specs.StoreView.{count_of, present_of, store_in, AreNames, IsFront, IsKept, Names};
+ghost use Rattle.vrl_store.specs.StoreView.{count_of, present_of, store_in, AreNames, IsFront, Names};
 ghost use Rattle.vrl_store.specs.Results.{Ends, Gives};
 ghost use Rattle.vrl_store.specs.WellFormed.{AreWellFormed, IsWellFormedStore};
 ghost use Rattle.vrl_resolve.specs.Calls.{acts, argument_in, argument_text, called, first_unfit, unfit_tag, within_limit};
@@ -40,8 +40,8 @@ pub(crate) fn run_before(args: &[Node]) -> usize
     count
 }
 
-/// Whether a node is a literal or a path, whose value stands somewhere already.
-pub(crate) fn is_plain(node: &Node) -> bool
+// Whether a node is a literal or a path, whose value stands somewhere already.
+fn is_plain(node: &Node) -> bool
     ensures { result ≡ spec.is_plain (linked_of node.now) }
 {
     matches!(&node.form, Form::Literal(_) | Form::Read(_))
@@ -50,7 +50,6 @@ pub(crate) fn is_plain(node: &Node) -> bool
 /// The value of a literal or of a path, where it stands. `None`: the node is something else.
 pub(crate) fn peek<'a>(store: &'a Store, node: &'a Node) -> Option<&'a Value>
     requires readable { IsReadable (count_of store.now) (linked_of node.now) }
-    requires kept { IsKept store.now }
     ensures { (names : Names) → AreNames names store.now → option_map (λ value. tree_of value.now) result ≡ plain_value names (linked_of node.now) (store_in names store.now) }
 {
     match &node.form {
@@ -69,7 +68,6 @@ fn argument<'a>(
 ) -> Option<&'a Value>
     requires plain { AllPlain (map linked_of (drop (length run.now) args.now)) }
     requires readable { AreReadable (count_of store.now) (map linked_of args.now) }
-    requires kept { IsKept store.now }
     ensures { (names : Names) → AreNames names store.now → option_map (λ value. tree_of value.now) result ≡ item_at place (argument_values names (store_in names store.now) run.now args.now) }
 {
     match run.get(place) {
@@ -91,7 +89,6 @@ fn arguments<'a>(
 ) -> Result<Arguments<'a>, Memory>
     requires plain { AllPlain (map linked_of (drop (length run.now) args.now)) }
     requires readable { AreReadable (count_of store.now) (map linked_of args.now) }
-    requires kept { IsKept store.now }
     ensures { IfOk result (λ arguments. (names : Names) → AreNames names store.now → arguments_of arguments ≡ map (argument_in (argument_values names (store_in names store.now) run.now args.now)) places.now) }
 {
     let mut arguments = Vec::with_capacity(alloc, places.len())?;
@@ -114,7 +111,6 @@ pub(crate) fn act(
     args: &[Node],
 ) -> Result<Value, Stop>
     requires names { AreNames context.now.names.now store.old }
-    requires kept { IsKept store.old }
     requires callee { IsCallee (length context.now.names.now) (parts_view args.now) callee.now }
     requires fits { AllFit (length context.now.names.now) (length context.now.setting.patterns.now) (parts_view args.now) }
     requires plain { AllPlain (map linked_of (drop (length run.items) args.now)) }
@@ -122,7 +118,6 @@ pub(crate) fn act(
     requires run { AreWellFormed (length context.now.setting.patterns.now) (map tree_of run.items) }
     requires formed { IsWellFormedStore (length context.now.setting.patterns.now) (store_in context.now.names.now store.old) }
     ensures ends { let before = store_in context.now.names.now store.old in Ends (acts (setting_of context.now.setting) (callee_in context.now.names.now callee.now) (argument_values context.now.names.now before run.items args.now) before) (store_in context.now.names.now store.new) result }
-    ensures kept { IsKept store.new }
     ensures front { IsFront (present_of store.old) (present_of store.new) }
     ensures as_many { count_of store.new ≡ count_of store.old }
 {
@@ -146,7 +141,6 @@ fn call_function(
     args: &[Node],
 ) -> Result<Value, Stop>
     requires names { AreNames context.now.names.now store.now }
-    requires kept { IsKept store.now }
     requires given { AreGiven 0 (row_of function).parameters (row_of function).accepts (parts_view args.now) places.now }
     requires fits { AllFit (length context.now.names.now) (length context.now.setting.patterns.now) (parts_view args.now) }
     requires plain { AllPlain (map linked_of (drop (length run.now) args.now)) }

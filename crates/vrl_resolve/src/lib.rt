@@ -18,4 +18,3 @@ pub use laws::{empty_scripts_give_null, evaluations_stay_well_formed};
 pub use program::Program;
 pub use ran::{Ended, Ran};
 pub use runner::run;
-pub use vrl_store::equality_is_told;

@@ -1,4 +1,4 @@
-ghost use Rattle.std.specs.Prelude.{◌≡◌, ◌++◌, ◌∷◌, [], length, map, true, if◌then◌else◌, IfOk, OnOk};
+ghost use Rattle.std.specs.Prelude.{◌≡◌, ◌++◌, ◌∷◌, [], length, map, if◌then◌else◌, IfOk, IfSome};
 ghost use Rattle.vrl_value.specs.Tree.{null};
 ghost use Rattle.vrl_value.specs.View.{tree_of};
 ghost use Rattle.vrl_syntax.specs.Stores.{Store as StoreTree};
@@ -6,18 +6,17 @@ ghost use Rattle.vrl_syntax.specs.declared.root.Op.TheVariants as ops;
 ghost use Rattle.vrl_store.specs.Operators.{applied};
 ghost use Rattle.vrl_store.specs.Outcomes.{ends, on_value, Ended};
 ghost use Rattle.vrl_store.specs.Places as spec;
-ghost use Rattle.vrl_store.specs.StoreView.{store_in, AreNames, IsKept, Names};
+ghost use Rattle.vrl_store.specs.StoreView.{count_of, store_in, AreNames, Names};
 ghost use Rattle.vrl_store.specs.Results.{Ends, IsStop};
 ghost use Rattle.vrl_resolve.specs.Calls.{acts, items_in};
 ghost use Rattle.vrl_resolve.specs.Linked as linked;
 ghost use Rattle.vrl_resolve.specs.Linked.{arms_view, call_of, else_view, linked_of, message_view, pairs_view, parts_view};
 ghost use Rattle.vrl_resolve.specs.LinkedMeaning.{all_mean, callee_in, items_mean, means, target_of};
-ghost use Rattle.vrl_resolve.specs.Meaning.{aborted_with};
+ghost use Rattle.vrl_resolve.specs.Meaning.{aborted_with, both_sides};
 ghost use Rattle.vrl_resolve.specs.Fits.{IsCallee, IsTarget};
-ghost use Rattle.vrl_resolve.specs.Plain.{is_plain};
-ghost use Rattle.vrl_resolve.specs.Walking.{both_sides, meant, names_in, setting_in, store_at, AllEnd, AllFitIn, ArmsFitIn, ElseFitsIn, EndsIn, EndsTrue, FitsIn, GivesBoth, IsReady, MessageFitsIn, PairsFitIn, Stays, WritesTo};
+ghost use Rattle.vrl_resolve.specs.Walking.{meant, names_in, setting_in, store_at, AllEnd, AllFitIn, ArmsFitIn, ElseFitsIn, EndsIn, EndsTrue, FitsIn, GivesBoth, IsReady, MessageFitsIn, PairsFitIn, Stays, WritesTo};
 
-use crate::calls::{act, is_plain, peek, run_before};
+use crate::calls::{act, peek, run_before};
 use crate::laws::meanings_stay_well_formed;
 use crate::node::{Arm, Call, Callee, Form, Node};
 use std::alloc::Global;
@@ -93,10 +92,10 @@ fn values(store: &mut Store, context: &Context<'_>, nodes: &[Node]) -> Result<Ve
     ensures stays { Stays store.old store.new }
 {
     meanings_stay_well_formed();
-    let mut values = room(context.alloc, nodes.len())?;
+    let mut values = Vec::with_capacity(context.alloc, nodes.len())?;
     for node in nodes {
         let value = eval(store, context, node)?;
-        push(&mut values, value)?;
+        values.push(value)?;
     }
     Ok(values)
 }
@@ -135,6 +134,9 @@ fn query(store: &mut Store, context: &Context<'_>, part: &Node, path: &Path) -> 
     ensures ended { EndsIn context.now (meant context.now (linked.query (linked_of part.now) path.now) store.old) store.new result }
     ensures stays { Stays store.old store.new }
 {
+    if let Some(value) = peek(store, part) {
+        return Ok(part_of(context.alloc, value, path)?);
+    }
     let value = eval(store, context, part)?;
     Ok(part_of(context.alloc, &value, path)?)
 }
@@ -216,6 +218,9 @@ fn negation(store: &mut Store, context: &Context<'_>, part: &Node) -> Result<Val
     ensures ended { EndsIn context.now (meant context.now (linked.negation (linked_of part.now)) store.old) store.new result }
     ensures stays { Stays store.old store.new }
 {
+    if let Some(value) = peek(store, part) {
+        return negated(context.alloc, value);
+    }
     let value = eval(store, context, part)?;
     negated(context.alloc, &value)
 }
@@ -240,34 +245,31 @@ fn binary(
         Op::Or => disjunction(store, context, left, right),
         Op::And => conjunction(store, context, left, right),
         _ => {
-            if is_plain(left) && is_plain(right) {
-                look(store, context, op, left, right)
-            } else {
-                let left = eval(store, context, left)?;
-                beside(store, context, op, left, right)
+            if let Some(value) = look(store, context, op, left, right) {
+                return value;
             }
+            let left = eval(store, context, left)?;
+            beside(store, context, op, left, right)
         }
     }
 }
 
-// An operator between two sides that stand somewhere already.
+// An operator between two sides that stand somewhere already. `None`: one of them doesn't.
 fn look(
     store: &Store,
     context: &Context<'_>,
     op: Op,
     left: &Node,
     right: &Node,
-) -> Result<Value, Stop>
+) -> Option<Result<Value, Stop>>
     requires ready { IsReady context.now store.now }
     requires left { FitsIn context.now (linked_of left.now) }
     requires right { FitsIn context.now (linked_of right.now) }
-    requires plain_left { is_plain (linked_of left.now) ≡ true }
-    requires plain_right { is_plain (linked_of right.now) ≡ true }
-    ensures { EndsIn context.now (both_sides op (meant context.now (linked_of left.now) store.now) (λ after. means (names_in context.now) (setting_in context.now) (linked_of right.now) after)) store.now result }
+    ensures { IfSome result (EndsIn context.now (both_sides op (meant context.now (linked_of left.now) store.now) (λ after. means (names_in context.now) (setting_in context.now) (linked_of right.now) after)) store.now) }
 {
     match (peek(store, left), peek(store, right)) {
-        (Some(left), Some(right)) => apply_to_borrowed(context.alloc, op, left, right),
-        _ => unreachable!(),
+        (Some(left), Some(right)) => Some(apply_to_borrowed(context.alloc, op, left, right)),
+        _ => None,
     }
 }
 
@@ -376,8 +378,7 @@ fn write_to(
     target: &Option<Place>,
     value: Value,
 ) -> Result<(), Stop>
-    requires target { IsTarget (length store.old.variables.items) target.now }
-    requires kept { IsKept store.old }
+    requires target { IsTarget (count_of store.old) target.now }
     ensures written { (names : Names) → AreNames names store.old → WritesTo (target_of names target.now) (tree_of value) (store_in names store.old) (store_in names store.new) result }
     ensures stays { Stays store.old store.new }
 {
@@ -419,8 +420,7 @@ fn assign(
 
 // The value at a target; null where it takes nothing. `Memory`: want of memory.
 fn at_target(store: &Store, context: &Context<'_>, target: &Option<Place>) -> Result<Value, Memory>
-    requires target { IsTarget (length store.now.variables.items) target.now }
-    requires kept { IsKept store.now }
+    requires target { IsTarget (count_of store.now) target.now }
     ensures { IfOk result (λ value. (names : Names) → AreNames names store.now → tree_of value ≡ spec.target_value (target_of names target.now) (store_in names store.now)) }
 {
     match target {
@@ -554,21 +554,6 @@ fn abort(
         }
         None => Err(Stop::Aborted(None)),
     }
-}
-
-// A vector with room for so many values. `Memory`: want of memory.
-fn room(alloc: Global, count: usize) -> Result<Vec<Value>, Memory>
-    ensures { IfOk result (λ values. values.items ≡ []) }
-{
-    Ok(Vec::with_capacity(alloc, count)?)
-}
-
-// Puts a value behind others. `Memory`: want of memory.
-fn push(values: &mut Vec<Value>, value: Value) -> Result<(), Memory>
-    ensures { OnOk result (values.new.items ≡ values.old.items ++ value ∷ []) }
-{
-    values.push(value)?;
-    Ok(())
 }
 
 // What stands at a path of a value; null where nothing does. `Memory`: want of memory.

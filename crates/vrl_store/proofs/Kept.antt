@@ -7,8 +7,7 @@ use Rattle.std.specs.List.{list_any}
 use Rattle.vrl_value.specs.Tree.{Tree}
 use Rattle.vrl_value.specs.View.{tree_of}
 use Rattle.vrl_value.specs.declared.value.Value.{Value}
-use Rattle.vrl_store.specs.StoreView.{is_numbered, trees_of, ArePresent, AreCounted, AreShallow, IsKept, IsShallow}
-use Rattle.vrl_store.specs.declared.store.Store.{Store as CodeStore}
+use Rattle.vrl_store.specs.Kept.{is_numbered, trees_of, AreCounted, AreKept, ArePresent, AreShallow, IsShallow}
 use Rattle.vrl_store.proofs.StoreReads.{length_map, map_set}
 
 -- ---- which variables are there
@@ -34,11 +33,11 @@ before (w ∷ vs) (suc n) (suc i) v is = elim (before vs n i v is) [ inl one ↦
 
 -- ---- a variable that was there
 
-pub present_set : (vs : List (Option Tree)) (n : ℕ) (v : Tree) (ps : List ℕ) → ArePresent vs ps → ArePresent (set vs n (Some v)) ps
+present_set : (vs : List (Option Tree)) (n : ℕ) (v : Tree) (ps : List ℕ) → ArePresent vs ps → ArePresent (set vs n (Some v)) ps
 present_set vs n v [] are = tt
 present_set vs n v (p ∷ ps) are = (stays vs n p v are.0, (are.1.0, present_set vs n v ps are.1.1))
 
-pub counted_set : (vs : List (Option Tree)) (n : ℕ) (v : Tree) (ps : List ℕ) → is_numbered vs n ≡ true → AreCounted vs ps → AreCounted (set vs n (Some v)) ps
+counted_set : (vs : List (Option Tree)) (n : ℕ) (v : Tree) (ps : List ℕ) → is_numbered vs n ≡ true → AreCounted vs ps → AreCounted (set vs n (Some v)) ps
 counted_set vs n v ps was counted = λ i is. elim (before vs n i v is) [
   | inl one ↦ counted i (subst (λ k. is_numbered vs k ≡ true) one was)
   | inr old ↦ counted i old
@@ -74,24 +73,32 @@ present_more vs n v (p ∷ ps) within none are = (
 
 -- ---- depth
 
-pub shallow_set : (vs : List (Option Tree)) (n : ℕ) (v : Tree) → AreShallow vs → IsShallow v → AreShallow (set vs n (Some v))
+shallow_set : (vs : List (Option Tree)) (n : ℕ) (v : Tree) → AreShallow vs → IsShallow v → AreShallow (set vs n (Some v))
 shallow_set [] n v are is = tt
 shallow_set (w ∷ vs) zero v are is = (is, are.1)
 shallow_set (w ∷ vs) (suc n) v are is = (are.0, shallow_set vs n v are.1 is)
 
 -- ---- the whole
 
+-- a variable that was there gets another value
+pub kept_set : (items : List (Option Value)) (ps : List ℕ) (n : ℕ) (v : Value) → AreKept (trees_of items) ps → is_numbered (trees_of items) n ≡ true → IsShallow (tree_of v)
+    → AreKept (trees_of (set items n (Some v))) ps
+kept_set items ps n v kept there shallow =
+    let vs = trees_of items in
+    subst (λ ws. AreKept ws ps) (sym (map_set items n (Some v))) (record {
+      present = present_set vs n (tree_of v) ps kept.present;
+      counted = counted_set vs n (tree_of v) ps there kept.counted;
+      shallow = shallow_set vs n (tree_of v) kept.shallow shallow;
+    })
+
 -- a variable that wasn't there gets a value
-pub kept_more : (s t : CodeStore) (n : ℕ) (v : Value) → IsKept s → n < length s.variables.items → is_numbered (trees_of s.variables.items) n ≡ false → IsShallow (tree_of v)
-    → t.variables.items ≡ set s.variables.items n (Some v) → t.present.items ≡ s.present.items ++ n ∷ [] → t.event ≡ s.event → t.is_shallow ≡ s.is_shallow → t.null ≡ s.null → IsKept t
-kept_more s t n v kept within none shallow variables present event marked nothing =
-    let vs = trees_of s.variables.items in
-    let as_many = length_map s.variables.items in
-    let new : trees_of t.variables.items ≡ set vs n (Some (tree_of v)) = ap trees_of variables ∙ map_set s.variables.items n (Some v) in
-    record {
-      present = subst (λ ws. ArePresent ws t.present.items) (sym new) (subst (ArePresent (set vs n (Some (tree_of v)))) (sym present) (present_more vs n (tree_of v) s.present.items (omega arith) none kept.present));
-      counted = subst (λ ws. AreCounted ws t.present.items) (sym new) (subst (AreCounted (set vs n (Some (tree_of v)))) (sym present) (counted_more vs n (tree_of v) s.present.items kept.counted));
-      event = λ is. subst (λ e. IsShallow (tree_of e)) (sym event) (kept.event (sym marked ∙ is));
-      variables = subst AreShallow (sym new) (shallow_set vs n (tree_of v) kept.variables shallow);
-      nothing = ap tree_of nothing ∙ kept.nothing;
-    }
+pub kept_more : (items : List (Option Value)) (ps : List ℕ) (n : ℕ) (v : Value) → AreKept (trees_of items) ps → n < length items → is_numbered (trees_of items) n ≡ false → IsShallow (tree_of v)
+    → AreKept (trees_of (set items n (Some v))) (ps ++ n ∷ [])
+kept_more items ps n v kept within none shallow =
+    let vs = trees_of items in
+    let as_many = length_map items in
+    subst (λ ws. AreKept ws (ps ++ n ∷ [])) (sym (map_set items n (Some v))) (record {
+      present = present_more vs n (tree_of v) ps (omega arith) none kept.present;
+      counted = counted_more vs n (tree_of v) ps kept.counted;
+      shallow = shallow_set vs n (tree_of v) kept.shallow shallow;
+    })

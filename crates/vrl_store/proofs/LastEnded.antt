@@ -4,9 +4,9 @@ use Rattle.std.proofs.lemmas.Bool.{or_parts, or_right}
 use Rattle.std.proofs.lemmas.List.Folds.{list_any-append}
 use Rattle.std.specs.Cmp.{unsigned_Decides}
 use Rattle.vrl_value.specs.Tree.{Tree}
-use Rattle.vrl_value.specs.View.{tree_of}
-use Rattle.vrl_store.specs.StoreView.{is_numbered, trees_of, AreCounted, ArePresent, AreShallow, IsKept, IsShallow, Stay}
-use Rattle.vrl_store.specs.declared.store.Store.{Store as CodeStore}
+use Rattle.vrl_value.specs.declared.value.Value.{Value}
+use Rattle.vrl_store.specs.Kept.{is_numbered, trees_of, AreCounted, AreKept, ArePresent, AreShallow}
+use Rattle.vrl_store.specs.StoreView.{Stay}
 use Rattle.vrl_store.proofs.Kept.{itself}
 use Rattle.vrl_store.proofs.Left.{is_one_of, numbered_within, present_numbered}
 use Rattle.vrl_store.proofs.StoreReads.{map_set}
@@ -86,16 +86,11 @@ shallow_ended [] n are = tt
 shallow_ended (v ∷ vs) zero are = (tt, are.1)
 shallow_ended (v ∷ vs) (suc n) are = (are.0, shallow_ended vs n are.1)
 
-pub kept_ended : (s t : CodeStore) (n : ℕ) → IsKept s → s.present.items ≡ t.present.items ++ n ∷ [] → t.variables.items ≡ set s.variables.items n None → t.event ≡ s.event
-    → t.is_shallow ≡ s.is_shallow → t.null ≡ s.null → IsKept t
-kept_ended s t n kept present variables event marked nothing =
-    let vs = trees_of s.variables.items in
-    let ps = t.present.items in
-    let new : trees_of t.variables.items ≡ set vs n None = ap trees_of variables ∙ map_set s.variables.items n None in
-    record {
-      present = subst (λ ws. ArePresent ws ps) (sym new) (present_ended vs ps n (subst (ArePresent vs) present kept.present));
-      counted = subst (λ ws. AreCounted ws ps) (sym new) (counted_ended vs ps n (subst (AreCounted vs) present kept.counted));
-      event = λ is. subst (λ e. IsShallow (tree_of e)) (sym event) (kept.event (sym marked ∙ is));
-      variables = subst AreShallow (sym new) (shallow_ended vs n kept.variables);
-      nothing = ap tree_of nothing ∙ kept.nothing;
-    }
+pub kept_ended : (items : List (Option Value)) (ps : List ℕ) (n : ℕ) → AreKept (trees_of items) (ps ++ n ∷ []) → AreKept (trees_of (set items n None)) ps
+kept_ended items ps n kept =
+    let vs = trees_of items in
+    subst (λ ws. AreKept ws ps) (sym (map_set items n None)) (record {
+      present = present_ended vs ps n kept.present;
+      counted = counted_ended vs ps n kept.counted;
+      shallow = shallow_ended vs n kept.shallow;
+    })

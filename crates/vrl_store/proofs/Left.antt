@@ -6,7 +6,8 @@ use Rattle.std.specs.FinMap as finite
 use Rattle.std.specs.List.{list_any}
 use Rattle.vrl_value.specs.Tree.{Tree}
 use Rattle.vrl_syntax.specs.Stores.{store_kept}
-use Rattle.vrl_store.specs.StoreView.{is_among, is_numbered, left_with, name_at, store_in, trees_of, variables_of, AreCounted, AreDistinct, AreNames, ArePresent, IsFront, IsKept, Names, Stay, Variables}
+use Rattle.vrl_store.specs.Kept.{is_numbered, trees_of, AreCounted, ArePresent}
+use Rattle.vrl_store.specs.StoreView.{is_among, left_with, name_at, store_in, variables_of, AreDistinct, AreNames, IsFront, Names, Stay, Variables}
 use Rattle.vrl_store.specs.declared.store.Store.{Store as CodeStore}
 use Rattle.vrl_store.proofs.StoreReads.{length_map}
 use Rattle.vrl_store.proofs.Variables.{apart_at, found_at, itself, named_so, none_among, one_map, tied, variable_at}
@@ -119,9 +120,9 @@ left_names names vs ws ps distinct as_many left_many are counted stay = one_map 
 -- ---- a block
 
 -- behind a block only what was there before it
-pub front_left : (names : Names) (before after : CodeStore) → AreNames names before → IsKept before
+pub front_left : (names : Names) (before after : CodeStore) → AreNames names before
     → left_with names before.present.items (store_in names after) ≡ store_kept (store_in names before) (store_in names after)
-front_left names before after store kept = λ i. record { event = (store_in names after).event; variables = same i } where
+front_left names before after store = λ i. record { event = (store_in names after).event; variables = same i } where
   vs : List (Option Tree)
   vs = trees_of before.variables.items
 
@@ -138,8 +139,8 @@ front_left names before after store kept = λ i. record { event = (store_in name
   at_index i within =
       let as_many = store.as_many in
       let mapped = length_map before.variables.items in
-      among_names names vs i before.present.items store.distinct (omega arith) within kept.present
-      ∙ sym (numbered_present vs i before.present.items (is_numbered vs i) (is_one_of i before.present.items) kept.present kept.counted refl refl)
+      among_names names vs i before.present.items store.distinct (omega arith) within before.kept.present
+      ∙ sym (numbered_present vs i before.present.items (is_numbered vs i) (is_one_of i before.present.items) before.kept.present before.kept.counted refl refl)
       ∙ ap is_some (sym (variable_at names vs i store.distinct within (omega arith)))
 
   at : (x : List ℕ) (b : Bool) → is_among x names ≡ b → cond (left x) (finite.get ws x) None ≡ cond (there x) (finite.get ws x) None
@@ -158,7 +159,7 @@ take_front xs more ys is = ap (take (length xs)) is ∙ front xs where
   front (z ∷ zs) = ap (λ t. z ∷ t) (front zs)
 
 -- a block ends by leaving as many variables as there were before it
-pub block_ended : (names : Names) (before after : CodeStore) → AreNames names before → IsKept before → IsFront before.present.items after.present.items
+pub block_ended : (names : Names) (before after : CodeStore) → AreNames names before → IsFront before.present.items after.present.items
     → left_with names (take (length before.present.items) after.present.items) (store_in names after) ≡ store_kept (store_in names before) (store_in names after)
-block_ended names before after store kept front =
-    ap (λ ps. left_with names ps (store_in names after)) (take_front before.present.items front.0 after.present.items front.1) ∙ front_left names before after store kept
+block_ended names before after store front =
+    ap (λ ps. left_with names ps (store_in names after)) (take_front before.present.items front.0 after.present.items front.1) ∙ front_left names before after store

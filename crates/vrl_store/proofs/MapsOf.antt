@@ -10,7 +10,8 @@ use Rattle.vrl_value.specs.Tree.{Tree, object, Members, no_members, member, put}
 use Rattle.vrl_value.specs.View.{tree_of}
 use Rattle.vrl_value.specs.declared.value.Value.{Value}
 use Rattle.vrl_store.specs.WellFormed.{IsWellFormed}
-use Rattle.vrl_store.specs.StoreView.{is_among, map_of, trees_of, variables_of, with_variable, AreDistinct, Names, Variables}
+use Rattle.vrl_store.specs.Kept.{trees_of}
+use Rattle.vrl_store.specs.StoreView.{is_among, map_of, variables_of, with_variable, AreDistinct, Names, Variables}
 use Rattle.vrl_store.proofs.Variables.{inserted, itself, insert_swapped, insert_twice, named_so, tied}
 
 -- ---- a member more

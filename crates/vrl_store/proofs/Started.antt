@@ -1,5 +1,5 @@
 -- A store without variables.
-use Rattle.std.proofs.Common.{◌≡◌, ℕ, zero, suc, false, true, List, [], ◌∷◌, ◌++◌, Option, Some, None, IsTrue, refl, rules, sym, ap, ◌∙◌, subst}
+use Rattle.std.proofs.Common.{◌≡◌, ℕ, zero, suc, false, true, List, [], ◌∷◌, ◌++◌, Option, Some, None, refl, rules, sym, ◌∙◌}
 use Rattle.std.specs.FinMap as finite
 use Rattle.std.specs.Prelude.{⊤}
 use Rattle.vrl_value.specs.Tree.{null}
@@ -7,8 +7,8 @@ use Rattle.vrl_value.specs.View.{tree_of}
 use Rattle.vrl_value.specs.declared.value.Value.{Value, the_lemmas}
 use Rattle.vrl_value.specs.declared.value.Value.TheVariants as value
 use Rattle.vrl_syntax.specs.Stores.{store_of}
-use Rattle.vrl_store.specs.StoreView.{is_numbered, trees_of, variables_of, ArePresent, AreShallow, IsKept, IsShallow, Names}
-use Rattle.vrl_store.specs.declared.store.Store.{Store as CodeStore}
+use Rattle.vrl_store.specs.Kept.{is_numbered, trees_of, AreKept, AreShallow}
+use Rattle.vrl_store.specs.StoreView.{variables_of, Names}
 use Rattle.vrl_store.proofs.StoreReads.{seen}
 
 -- no variable is there
@@ -45,11 +45,9 @@ started names event first items are one = λ i. record { event = tree_of (one i)
 pub null_tree : tree_of value.Null ≡ null
 null_tree = search (rules, the_lemmas)
 
-pub kept_started : (s : CodeStore) → AreNone s.variables.items → s.present.items ≡ [] → (IsTrue s.is_shallow → IsShallow (tree_of s.event)) → s.null ≡ value.Null → IsKept s
-kept_started s are present shallow nothing = record {
-  present = subst (ArePresent (trees_of s.variables.items)) (sym present) tt;
-  counted = λ n is. let wrong : false ≡ true = sym (not_numbered s.variables.items n are) ∙ is in absurd (cc);
-  event = shallow;
-  variables = none_shallow s.variables.items are;
-  nothing = ap tree_of nothing ∙ null_tree;
+pub kept_started : (items : List (Option Value)) → AreNone items → AreKept (trees_of items) []
+kept_started items are = record {
+  present = tt;
+  counted = λ n is. let wrong : false ≡ true = sym (not_numbered items n are) ∙ is in absurd (cc);
+  shallow = none_shallow items are;
 }

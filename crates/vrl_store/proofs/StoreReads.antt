@@ -6,7 +6,8 @@ use Rattle.vrl_value.specs.View.{tree_of}
 use Rattle.vrl_value.specs.declared.value.Value.{Value}
 use Rattle.vrl_syntax.specs.Stores.{Store, value_of, with_value}
 use Rattle.vrl_store.specs.Places.{root_value}
-use Rattle.vrl_store.specs.StoreView.{name_at, root_of, store_in, trees_of, variables_of, AreNames, Names}
+use Rattle.vrl_store.specs.Kept.{trees_of}
+use Rattle.vrl_store.specs.StoreView.{name_at, root_of, store_in, variables_of, AreNames, Names}
 use Rattle.vrl_store.specs.declared.place.Base.TheVariants as base
 use Rattle.vrl_store.specs.declared.store.Store.{Store as CodeStore}
 use Rattle.vrl_store.proofs.Variables.{variable_at, variables_set}

@@ -11,7 +11,8 @@ use Rattle.vrl_path.specs.Write.{depth_limit}
 use Rattle.vrl_path.specs.declared.path.Step.{Step}
 use Rattle.vrl_syntax.specs.Stores.{with_value}
 use Rattle.vrl_store.specs.Places.{part_of, read_in, removed, root_without}
-use Rattle.vrl_store.specs.StoreView.{root_of, store_in, trees_of, AreCounted, AreNames, ArePresent, AreShallow, IsKept, IsShallow, Names}
+use Rattle.vrl_store.specs.Kept.{IsShallow}
+use Rattle.vrl_store.specs.StoreView.{root_of, store_in, AreNames, Names}
 use Rattle.vrl_store.specs.declared.place.Base.TheVariants as base
 use Rattle.vrl_store.specs.declared.store.Store.{Store as CodeStore}
 use Rattle.vrl_store.proofs.Removal.{removed_depth}
@@ -28,17 +29,6 @@ shallow_left w u path shallow rest =
 
 pub null_shallow : IsShallow (tree_of value.Null)
 null_shallow = subst IsShallow (sym null_tree) (let none : 0 ≤ depth_limit = omega arith in none)
-
--- the event is another one, no deeper
-pub kept_event : (s t : CodeStore) → IsKept s → depth_of (tree_of t.event) ≤ depth_of (tree_of s.event) → t.variables ≡ s.variables → t.present ≡ s.present → t.is_shallow ≡ s.is_shallow
-    → t.null ≡ s.null → IsKept t
-kept_event s t kept less variables present marked nothing = record {
-  present = subst (λ vs. ArePresent (trees_of vs.items) t.present.items) (sym variables) (subst (λ ps. ArePresent (trees_of s.variables.items) ps.items) (sym present) kept.present);
-  counted = subst (λ vs. AreCounted (trees_of vs.items) t.present.items) (sym variables) (subst (λ ps. AreCounted (trees_of s.variables.items) ps.items) (sym present) kept.counted);
-  event = λ is. let before : IsShallow (tree_of s.event) = kept.event (sym marked ∙ is) in omega arith;
-  variables = subst (λ vs. AreShallow (trees_of vs.items)) (sym variables) kept.variables;
-  nothing = ap tree_of nothing ∙ kept.nothing;
-}
 
 -- ---- a part
 

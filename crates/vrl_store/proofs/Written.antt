@@ -16,10 +16,11 @@ use Rattle.vrl_path.specs.declared.fault.SetFault.TheVariants as fault
 use Rattle.vrl_path.specs.declared.path.Step.{Step}
 use Rattle.vrl_syntax.specs.Stores.{with_value}
 use Rattle.vrl_store.specs.Places.{is_within, root_with}
-use Rattle.vrl_store.specs.StoreView.{is_numbered, root_of, store_in, trees_of, variables_of, AreCounted, AreNames, ArePresent, AreShallow, IsKept, IsShallow, IsWritten, Names}
+use Rattle.vrl_store.specs.Kept.{is_numbered, trees_of, AreKept, AreShallow, IsShallow}
+use Rattle.vrl_store.specs.StoreView.{root_of, store_in, variables_of, AreNames, IsWritten, Names}
 use Rattle.vrl_store.specs.declared.place.Base.TheVariants as base
 use Rattle.vrl_store.specs.declared.store.Store.{Store as CodeStore}
-use Rattle.vrl_store.proofs.Kept.{counted_set, present_set, shallow_set}
+use Rattle.vrl_store.proofs.Kept.{kept_set}
 use Rattle.vrl_store.proofs.StoreReads.{found_map, map_set, root_variable, seen, variable_given}
 
 -- what is put where it stands changes nothing
@@ -52,19 +53,9 @@ absent_at (Some v ∷ vs) zero within is = cc
 absent_at (v ∷ vs) (suc n) within is = absent_at vs n (omega arith) is
 
 -- a variable that was there has another value
-pub kept_set : (s t : CodeStore) (n : ℕ) (w v : Value) → IsKept s → n < length s.variables.items → Some w ≡ get_or s.variables.items n (Some w) → IsShallow (tree_of v)
-    → t.variables.items ≡ set s.variables.items n (Some v) → t.present.items ≡ s.present.items → t.event ≡ s.event → t.is_shallow ≡ s.is_shallow → t.null ≡ s.null → IsKept t
-kept_set s t n w v kept within is shallow variables present event marked nothing =
-    let vs = trees_of s.variables.items in
-    let there : is_numbered vs n ≡ true = numbered_at s.variables.items n (Some w) within is in
-    let new : trees_of t.variables.items ≡ set vs n (Some (tree_of v)) = ap trees_of variables ∙ map_set s.variables.items n (Some v) in
-    record {
-      present = subst (λ ws. ArePresent ws t.present.items) (sym new) (subst (ArePresent (set vs n (Some (tree_of v)))) (sym present) (present_set vs n (tree_of v) s.present.items kept.present));
-      counted = subst (λ ws. AreCounted ws t.present.items) (sym new) (subst (AreCounted (set vs n (Some (tree_of v)))) (sym present) (counted_set vs n (tree_of v) s.present.items there kept.counted));
-      event = λ is. subst (λ e. IsShallow (tree_of e)) (sym event) (kept.event (sym marked ∙ is));
-      variables = subst AreShallow (sym new) (shallow_set vs n (tree_of v) kept.variables shallow);
-      nothing = ap tree_of nothing ∙ kept.nothing;
-    }
+pub kept_there : (items : List (Option Value)) (ps : List ℕ) (n : ℕ) (w v : Value) → AreKept (trees_of items) ps → n < length items → Some w ≡ get_or items n (Some w) → IsShallow (tree_of v)
+    → AreKept (trees_of (set items n (Some v))) ps
+kept_there items ps n w v kept within is shallow = kept_set items ps n v kept (numbered_at items n (Some w) within is) shallow
 
 -- ---- what was written
 

@@ -1,4 +1,5 @@
 pub mod Asked
+pub mod Kept
 pub mod Laws
 pub mod Operators
 pub mod Outcomes

@@ -1,22 +1,20 @@
 -- The store of the code as that of the meaning: variables have numbers there, which stand for their names.
-use Rattle.std.specs.Prelude.{◌≡◌, ℕ, ◌<◌, ◌≤◌, Bool, true, false, ◌==◌, List, [], ◌∷◌, ◌++◌, length, map, Option, Some, None, option_map, slice_get, unwrap_or, IfSome, IsTrue, is_some, ⊤}
+use Rattle.std.specs.Prelude.{◌≡◌, ℕ, ◌<◌, Bool, true, false, ◌==◌, List, [], ◌∷◌, ◌++◌, length, map, Option, Some, None, slice_get, unwrap_or, IsTrue, ⊤}
 use Rattle.std.specs.Cmp.Lexicographic.{slice_cmp}
 use Rattle.std.specs.FinMap as finite
 use Rattle.std.specs.List.{list_any}
 use Rattle.std.specs.Ordering.{eq_by_cmp, nat_cmp}
 use Rattle.std.specs.declared.result.Result.{Result}
 use Rattle.std.specs.declared.result.Result.TheVariants.{Ok, Err}
-use Rattle.vrl_value.specs.Depth.{depth_of}
-use Rattle.vrl_value.specs.Tree.{Tree, null, Members, no_members, member}
+use Rattle.vrl_value.specs.Tree.{Tree, Members, no_members, member}
 use Rattle.vrl_value.specs.View.{tree_of}
-use Rattle.vrl_value.specs.declared.value.Value.{Value}
-use Rattle.vrl_path.specs.Write.{depth_limit}
 use Rattle.vrl_path.specs.declared.fault.SetFault.{SetFault}
 use Rattle.vrl_path.specs.declared.fault.SetFault.TheVariants as fault
 use Rattle.vrl_path.specs.declared.path.Step.{Step}
 use Rattle.vrl_syntax.specs.Stores.{Store, with_value}
 use Rattle.vrl_syntax.specs.declared.root.Root.{Root}
 use Rattle.vrl_syntax.specs.declared.root.Root.TheVariants.{Event, Name}
+use Rattle.vrl_store.specs.Kept.{trees_of}
 use Rattle.vrl_store.specs.Places.{is_within, root_with}
 use Rattle.vrl_store.specs.declared.place.Base.{Base}
 use Rattle.vrl_store.specs.declared.place.Base.TheVariants as base
@@ -46,9 +44,6 @@ variables_of [] vs = finite.empty
 variables_of (x ∷ names) [] = finite.empty
 variables_of (x ∷ names) (v ∷ vs) = with_variable x v (variables_of names vs)
 
-abbrev pub trees_of : List (Option Value) → List (Option Tree)
-trees_of vs = map (option_map tree_of) vs
-
 abbrev pub store_in : Names → CodeStore → Store
 store_in names s = record { event = tree_of s.event; variables = variables_of names (trees_of s.variables.items) }
 
@@ -66,7 +61,7 @@ present_of s = s.present.items
 abbrev pub count_of : CodeStore → ℕ
 count_of s = length s.variables.items
 
--- ---- what is kept
+-- ---- names
 
 abbrev pub is_among : List ℕ → Names → Bool
 is_among x names = list_any (eq_by_cmp (slice_cmp nat_cmp) x) names
@@ -76,35 +71,6 @@ abbrev pub AreDistinct : Names → Type 0
 AreDistinct [] = ⊤
 AreDistinct (x ∷ names) = (is_among x names ≡ false) × AreDistinct names
 
--- a value is within the limit of depth
-abbrev pub IsShallow : Tree → Type 0
-IsShallow v = depth_of v ≤ depth_limit
-
-abbrev pub AreShallow : List (Option Tree) → Type 0
-AreShallow [] = ⊤
-AreShallow (v ∷ vs) = IfSome v IsShallow × AreShallow vs
-
--- the number of a variable that is there
-abbrev pub is_numbered : List (Option Tree) → ℕ → Bool
-is_numbered vs number = is_some (unwrap_or (slice_get vs number) None)
-
--- each number stands once, and stands for a variable that is there
-abbrev pub ArePresent : List (Option Tree) → List ℕ → Type 0
-ArePresent vs [] = ⊤
-ArePresent vs (number ∷ numbers) = IsTrue (is_numbered vs number) × ((list_any (λ n. n == number) numbers ≡ false) × ArePresent vs numbers)
-
--- each variable that is there has its number among these
-abbrev pub AreCounted : List (Option Tree) → List ℕ → Type 0
-AreCounted vs numbers = (number : ℕ) → IsTrue (is_numbered vs number) → IsTrue (list_any (λ n. n == number) numbers)
-
-pub record IsKept (s : CodeStore) : Type 0 where
-  pub present : ArePresent (trees_of s.variables.items) s.present.items
-  pub counted : AreCounted (trees_of s.variables.items) s.present.items
-  -- where the event is marked so, it is within the limit of depth, and each variable is
-  pub event : IsTrue s.is_shallow → IsShallow (tree_of s.event)
-  pub variables : AreShallow (trees_of s.variables.items)
-  pub nothing : tree_of s.null ≡ null
-
 -- the names of the variables, of which no two are equal
 pub record AreNames (names : Names) (s : CodeStore) : Type 0 where
   pub as_many : count_of s ≡ length names
@@ -112,10 +78,10 @@ pub record AreNames (names : Names) (s : CodeStore) : Type 0 where
 
 -- ---- what the calls of a store say of it, whatever names the numbers stand for
 
--- a root that the store has
-abbrev pub IsBase : CodeStore → Base → Type 0
-IsBase s base.Event = ⊤
-IsBase s (base.Variable number) = number < count_of s
+-- a root that a store of so many variables has
+abbrev pub IsKnown : ℕ → Base → Type 0
+IsKnown count base.Event = ⊤
+IsKnown count (base.Variable number) = number < count
 
 -- the numbers that were there come first
 abbrev pub IsFront : List ℕ → List ℕ → Type 0

@@ -9,6 +9,7 @@ mod asked;
 mod empties;
 mod ends;
 mod laws;
+mod naming;
 mod operand;
 mod operators;
 mod place;

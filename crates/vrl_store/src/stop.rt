@@ -1,5 +1,6 @@
 ghost use Rattle.std.specs.Prelude.{◌≡◌};
 
+use std::alloc::{AllocError, AllocFailed};
 use vrl_path::SetFault;
 use vrl_value::{Chars, Memory, Value};
 
@@ -27,6 +28,28 @@ impl From<Memory> for Stop {
     ghost from_gives = { λ _ result. result ≡ stop.Memory };
 
     fn from(_refused: Memory) -> Stop {
+        Stop::Memory
+    }
+}
+
+impl From<AllocError> for Stop {
+    ghost use Rattle.std.specs.Prelude.{◌≡◌};
+    ghost use Rattle.vrl_store.specs.declared.stop.Stop.TheVariants as stop;
+
+    ghost from_gives = { λ _ result. result ≡ stop.Memory };
+
+    fn from(_refused: AllocError) -> Stop {
+        Stop::Memory
+    }
+}
+
+impl<T: Drop> From<AllocFailed<T>> for Stop {
+    ghost use Rattle.std.specs.Prelude.{◌≡◌};
+    ghost use Rattle.vrl_store.specs.declared.stop.Stop.TheVariants as stop;
+
+    ghost from_gives = { λ _ result. result ≡ stop.Memory };
+
+    fn from(_refused: AllocFailed<T>) -> Stop {
         Stop::Memory
     }
 }

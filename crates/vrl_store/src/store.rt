@@ -1,22 +1,24 @@
 ghost use Rattle.std.specs.Prelude.{◌≡◌, ◌+◌, ◌-◌, ◌<◌, ◌≤◌, ◌↔◌, [], false, length, map, option_map, slice_set as set, take, IfOk, IsTrue, OnErr, OnOk};
+ghost use Rattle.std.specs.Coded.{Coded-set};
 ghost use Rattle.vrl_value.specs.Depth.{depth_of};
 ghost use Rattle.vrl_value.specs.Tree.{null, IsOrdered};
 ghost use Rattle.vrl_value.specs.View.{members_of, tree_of};
+ghost use Rattle.vrl_value.specs.declared.value.Value.TheVariants as value;
 ghost use Rattle.vrl_path.specs.Steps.{plain, IsPlain, IsWritable};
 ghost use Rattle.vrl_path.specs.Trees.{remove_tree, set_tree};
 ghost use Rattle.vrl_path.specs.Write.{depth_limit};
 ghost use Rattle.vrl_syntax.specs.Stores.{store_of};
-ghost use Rattle.vrl_store.specs.Told.{AreToldByMap};
+ghost use Rattle.vrl_store.specs.Kept.{kept-prop, is_numbered, trees_of, AreKept, IsShallow};
 ghost use Rattle.vrl_store.specs.Places as spec;
-ghost use Rattle.vrl_store.specs.StoreView.{count_of, event_of, is_numbered, left_with, map_of, present_of, root_of, store_in, trees_of, variables_of, AreDistinct, IsBase, IsFront, IsShallow, IsKept, IsWritten, AreNames, Names, Stay};
 
+use crate::naming::named;
 use crate::place::{Base, Place};
 use std::alloc::Global;
 use std::collections::BTreeMap;
 use vrl_path::{
     Path, SetFault, exists, get, put, reads_are_look_ups, remove, set, set_trees_are_sets,
 };
-use vrl_value::{Chars, Fields, Memory, Names, Value, regexes_stay_below, trees_stay_in_order};
+use vrl_value::{Fields, Memory, Names, Value};
 
 // The greatest depth of a value that a write may leave.
 const LIMIT: u64 = 128;
@@ -32,12 +34,19 @@ pub struct Store {
     present: Vec<usize>,
     // Null, which is lent where nothing stands.
     null: Value,
+    // The variables that are there have these numbers, each once, and are within the limit of depth.
+    ghost kept: { AreKept (trees_of variables.items) present.items } by { kept-prop (trees_of variables.items) present.items },
+    // Where the event is marked so, it is within the limit.
+    ghost within: { IsTrue is_shallow → IsShallow (tree_of event) },
+    ghost nothing: { null ≡ value.Null } by { Coded-set null-code null value.Null },
 }
 
 impl Store {
+    ghost use Rattle.vrl_store.specs.StoreView.{count_of, event_of, left_with, map_of, present_of, root_of, store_in, AreDistinct, AreNames, IsFront, IsKnown, IsWritten, Names, Stay};
+    ghost use Rattle.vrl_store.specs.Told.{AreToldByMap};
+
     /// The store that a run of so many variables starts with: none is there yet. `Memory`: want of memory.
     pub fn start(alloc: Global, event: Value, count: usize) -> Result<Store, Memory>
-        ensures kept { IfOk result (λ store. IsKept store) }
         // What is in memory is in order.
         ensures ordered { OnOk result (IsOrdered (tree_of event)) }
         ensures started { IfOk result (λ store. (names : Names) → length names ≡ count → AreDistinct names → (store_in names store ≡ store_of (tree_of event)) × AreNames names store) }
@@ -58,8 +67,7 @@ impl Store {
 
     /// What stands in a root; null in a variable that isn't there.
     fn root(&self, base: Base) -> &Value
-        requires base { IsBase self.now base }
-        requires kept { IsKept self.now }
+        requires base { IsKnown (count_of self.now) base }
         ensures { (names : Names) → AreNames names self.now → tree_of result.now ≡ spec.root_value (root_of names base) (store_in names self.now) }
     {
         match base {
@@ -73,8 +81,7 @@ impl Store {
 
     /// What stands at a place; null where nothing does.
     pub fn read(&self, place: &Place) -> &Value
-        requires base { IsBase self.now place.now.base }
-        requires kept { IsKept self.now }
+        requires base { IsKnown (count_of self.now) place.now.base }
         ensures { (names : Names) → AreNames names self.now → tree_of result.now ≡ spec.read_in (root_of names place.now.base) place.now.path (store_in names self.now) }
     {
         match get(self.root(place.base), &place.path) {
@@ -85,8 +92,7 @@ impl Store {
 
     /// Whether something stands at a place, be it null; a root always does.
     pub fn is_there(&self, place: &Place) -> bool
-        requires base { IsBase self.now place.now.base }
-        requires kept { IsKept self.now }
+        requires base { IsKnown (count_of self.now) place.now.base }
         ensures { (names : Names) → AreNames names self.now → result ≡ spec.is_there (root_of names place.now.base) place.now.path (store_in names self.now) }
     {
         exists(self.root(place.base), &place.path)
@@ -95,11 +101,9 @@ impl Store {
     /// Writes a value at a place. `TooDeep`: the root would be nested too deeply; `Memory`: want of memory. At both the store stays as it
     /// was, and the value is gone.
     pub fn write(&mut self, alloc: Global, place: &Place, value: Value) -> Result<(), SetFault>
-        requires base { IsBase self.old place.now.base }
+        requires base { IsKnown (count_of self.old) place.now.base }
         requires writable { IsWritable place.now.path }
-        requires kept { IsKept self.old }
         ensures written { (names : Names) → AreNames names self.old → IsWritten (root_of names place.now.base) place.now.path (tree_of value) (store_in names self.old) (store_in names self.new) result }
-        ensures kept { IsKept self.new }
         ensures front { IsFront (present_of self.old) (present_of self.new) }
         ensures as_many { count_of self.new ≡ count_of self.old }
     {
@@ -123,9 +127,7 @@ impl Store {
     ) -> Result<(), SetFault>
         requires known { number < length self.old.variables.items }
         requires writable { IsWritable path.now }
-        requires kept { IsKept self.old }
         ensures written { (names : Names) → AreNames names self.old → IsWritten (root_of names (Base.Variable number)) path.now (tree_of value) (store_in names self.old) (store_in names self.new) result }
-        ensures kept { IsKept self.new }
         ensures front { IsFront self.old.present.items self.new.present.items }
         ensures as_many { length self.new.variables.items ≡ length self.old.variables.items }
     {
@@ -146,9 +148,7 @@ impl Store {
         requires known { number < length self.old.variables.items }
         requires absent { is_numbered (trees_of self.old.variables.items) number ≡ false }
         requires writable { IsWritable path.now }
-        requires kept { IsKept self.old }
         ensures written { (names : Names) → AreNames names self.old → IsWritten (root_of names (Base.Variable number)) path.now (tree_of value) (store_in names self.old) (store_in names self.new) result }
-        ensures kept { IsKept self.new }
         ensures front { IsFront self.old.present.items self.new.present.items }
         ensures as_many { length self.new.variables.items ≡ length self.old.variables.items }
     {
@@ -162,11 +162,9 @@ impl Store {
         requires known { number < length self.old.variables.items }
         requires absent { is_numbered (trees_of self.old.variables.items) number ≡ false }
         requires shallow { IsShallow (tree_of value) }
-        requires kept { IsKept self.old }
         ensures value { OnOk result (self.new.variables.items ≡ set self.old.variables.items number (Some value)) }
         ensures same { OnErr result (self.new.variables.items ≡ self.old.variables.items) }
         ensures event { self.new.event ≡ self.old.event }
-        ensures kept { IsKept self.new }
         ensures front { IsFront self.old.present.items self.new.present.items }
         ensures as_many { length self.new.variables.items ≡ length self.old.variables.items }
     {
@@ -178,13 +176,11 @@ impl Store {
     /// Takes out what stands at a place, and gives it; null where nothing does. Of the event's root an empty object is left, and of a
     /// variable's null. `Memory`: want of memory; the store stays as it was.
     pub fn take(&mut self, alloc: Global, place: &Place) -> Result<Value, Memory>
-        requires base { IsBase self.old place.now.base }
+        requires base { IsKnown (count_of self.old) place.now.base }
         requires plain { IsPlain place.now.path }
-        requires kept { IsKept self.old }
         ensures value { IfOk result (λ value. (names : Names) → AreNames names self.old → tree_of value ≡ spec.read_in (root_of names place.now.base) place.now.path (store_in names self.old)) }
         ensures removed { OnOk result ((names : Names) → AreNames names self.old → store_in names self.new ≡ spec.removed (root_of names place.now.base) place.now.path (store_in names self.old)) }
         ensures same { OnErr result ((names : Names) → AreNames names self.old → store_in names self.new ≡ store_in names self.old) }
-        ensures kept { IsKept self.new }
         ensures front { IsFront (present_of self.old) (present_of self.new) }
         ensures as_many { count_of self.new ≡ count_of self.old }
     {
@@ -196,12 +192,10 @@ impl Store {
 
     // Takes out a whole root.
     fn take_root(&mut self, alloc: Global, base: Base) -> Result<Value, Memory>
-        requires base { IsBase self.old base }
-        requires kept { IsKept self.old }
+        requires base { IsKnown (count_of self.old) base }
         ensures value { IfOk result (λ value. (names : Names) → AreNames names self.old → tree_of value ≡ spec.root_value (root_of names base) (store_in names self.old)) }
         ensures removed { OnOk result ((names : Names) → AreNames names self.old → store_in names self.new ≡ spec.removed (root_of names base) [] (store_in names self.old)) }
         ensures same { OnErr result ((names : Names) → AreNames names self.old → store_in names self.new ≡ store_in names self.old) }
-        ensures kept { IsKept self.new }
         ensures front { IsFront self.old.present.items self.new.present.items }
         ensures as_many { length self.new.variables.items ≡ length self.old.variables.items }
     {
@@ -222,13 +216,11 @@ impl Store {
 
     // Takes out what stands at a path of a root; null where nothing does.
     fn take_part(&mut self, base: Base, path: &Path) -> Value
-        requires base { IsBase self.old base }
+        requires base { IsKnown (count_of self.old) base }
         requires part { 0 < length path.now }
         requires plain { IsPlain path.now }
-        requires kept { IsKept self.old }
         ensures value { (names : Names) → AreNames names self.old → tree_of result ≡ spec.read_in (root_of names base) path.now (store_in names self.old) }
         ensures removed { (names : Names) → AreNames names self.old → store_in names self.new ≡ spec.removed (root_of names base) path.now (store_in names self.old) }
-        ensures kept { IsKept self.new }
         ensures front { IsFront self.old.present.items self.new.present.items }
         ensures as_many { length self.new.variables.items ≡ length self.old.variables.items }
     {
@@ -251,10 +243,8 @@ impl Store {
     /// Ends a block before which so many variables were there: those that came in it go.
     pub fn leave(&mut self, count: usize)
         requires within { count ≤ length (present_of self.old) }
-        requires kept { IsKept self.old }
         ensures left { (names : Names) → AreNames names self.old → store_in names self.new ≡ left_with names (take count (present_of self.old)) (store_in names self.old) }
         ensures present { present_of self.new ≡ take count (present_of self.old) }
-        ensures kept { IsKept self.new }
         ensures as_many { count_of self.new ≡ count_of self.old }
     {
         while self.present.len() > count {
@@ -265,11 +255,9 @@ impl Store {
     // Ends the variable that came last.
     fn end_last(&mut self)
         requires some { 0 < length self.old.present.items }
-        requires kept { IsKept self.old }
         ensures present { self.new.present.items ≡ take (length self.old.present.items - 1) self.old.present.items }
         ensures stay { Stay (trees_of self.old.variables.items) (trees_of self.new.variables.items) self.new.present.items }
         ensures event { self.new.event ≡ self.old.event }
-        ensures kept { IsKept self.new }
         ensures as_many { length self.new.variables.items ≡ length self.old.variables.items }
     {
         if let Some(number) = self.present.pop() {
@@ -362,26 +350,4 @@ fn is_too_deep(path: &Path, value: &Value) -> bool
     let depth = value.depth();
     let length = path.as_slice().len() as u64;
     depth > LIMIT || length > LIMIT - depth
-}
-
-// The variables that are there, with their names. `Memory`: want of memory.
-fn named(alloc: Global, variables: Vec<Option<Value>>, names: &Names) -> Result<Fields, Memory>
-    requires { AreDistinct names.now }
-    ensures variables { IfOk result (λ fields. map_of (members_of fields) ≡ variables_of names.now (trees_of variables.items)) }
-    ensures told { IfOk result (λ fields. AreToldByMap (members_of fields)) }
-{
-    trees_stay_in_order();
-    regexes_stay_below();
-    let mut fields = Fields::new(BTreeMap::new(alloc));
-    let mut left = names.as_slice();
-    for variable in variables {
-        let Some((name, others)) = left.split_first() else {
-            return Ok(fields);
-        };
-        left = others;
-        if let Some(value) = variable {
-            fields.insert(name.copy(alloc)?, value)?;
-        }
-    }
-    Ok(fields)
 }

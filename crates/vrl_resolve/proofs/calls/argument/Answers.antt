@@ -1,15 +1,15 @@
 use Rattle.std.proofs.Common.{length, sym, ◌∙◌}
-use Rattle.vrl_store.specs.StoreView.{store_in}
+use Rattle.vrl_store.specs.StoreView.{count_of, store_in}
 use Rattle.vrl_resolve.specs.Linked.{linked_of}
 use Rattle.vrl_resolve.specs.Plain.{plain_values}
 use Rattle.std.proofs.Common.{map, drop}
 use Rattle.vrl_resolve.proofs.Arguments.{behind_at, none_at, ran_at, readable_at}
 use Rattle.vrl_resolve.proofs.calls.argument.Goals as goal
 
-pub peek-requires-clause-readable : goal.peek-requires-clause-readable
-peek-requires-clause-readable c =
+pub peek-requires : goal.peek-requires
+peek-requires c =
     let found = c.in-Some-get.ensures.lookup in
-    readable_at (length c.args.store.now.variables.items) c.args.args.now c.args.place c.in-Some-get.node.now found.3.0 found.1 c.requires.readable
+    record { readable = readable_at (count_of c.args.store.now) c.args.args.now c.args.place c.in-Some-get.node.now found.3.0 found.1 c.requires.readable }
 
 pub returns-in-Some : goal.returns-in-Some
 returns-in-Some c = λ names are.

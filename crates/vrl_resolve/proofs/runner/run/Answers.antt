@@ -18,7 +18,6 @@ unfolding program_of
 items-end-requires-clause-ready c =
     let names = c.args.program.now.names in
     let started = c.in_ok-store.ensures.started names (ap length (sym c.as_slice.ensures)) c.args.program.now.ready.distinct in record {
-      kept = c.in_ok-store.ensures.kept;
       names = started.1;
       formed = start_is (length c.args.program.now.patterns) (tree_of c.args.event) (store_in names c.in_ok-store.store) started.0 c.in_ok-store.ensures.ordered c.requires.event;
     }

@@ -135,14 +135,14 @@ binary-returns-in_ok-left-in_default t c =
       stays = stays_then c.args.store.now c.eval.new.store c.beside.new.store c.in_ok-left-in_default.ensures.stays c.beside.ensures.stays;
     }
 
-pub binary-returns-then-is_plain-2 : goal.binary-returns-then-is_plain-2
-binary-returns-then-is_plain-2 t c =
+pub binary-returns-in-Some : goal.binary-returns-in-Some
+binary-returns-in-Some t c =
     let x = c.args.context.now in
     let right : Store → Ended = λ after. means (names_in x) (setting_in x) (linked_of c.args.right.now) after in
     let asks = asks_both c.args.op (meant x (linked_of c.args.left.now) c.args.store.now) right c.in_default.not-Coalesce c.in_default.not-Or c.in_default.not-And in
     record {
-      ended = subst (λ e. Ends e (store_at x c.args.store.now) c.look.result) (sym asks) c.look.ensures;
-      stays = stays_here c.args.store.now c.requires.ready.kept;
+      ended = subst (λ e. Ends e (store_at x c.args.store.now) c.in-Some.value) (sym asks) c.in-Some.ensures;
+      stays = stays_here c.args.store.now;
     }
 
 pub block-items-value-requires : goal.block-items-value-requires
@@ -435,10 +435,10 @@ eval-query-requires t c =
     let fits = subst (FitsIn c.args.context.now) is c.requires.fits in
     (omega (arith, c.decreases, ap linked_size is), (c.requires.ready, fits))
 
-pub eval-read-requires-clause-base : goal.eval-read-requires-clause-base
-eval-read-requires-clause-base t c =
+pub eval-read-requires : goal.eval-read-requires
+eval-read-requires t c =
     let is : linked_of c.args.node.now ≡ read c.in-Read.place = search (rules, the_lemmas) in
-    known_base c.args.context.now c.args.store.now c.in-Read.place.base c.requires.ready.names (subst (FitsIn c.args.context.now) is c.requires.fits)
+    record { base = known_base c.args.context.now c.args.store.now c.in-Read.place.base c.requires.ready.names (subst (FitsIn c.args.context.now) is c.requires.fits) }
 
 pub eval-returns-in-Abort-clause-ended : goal.eval-returns-in-Abort-clause-ended
 eval-returns-in-Abort-clause-ended t c =
@@ -643,9 +643,9 @@ values-eval-requires t c =
 pub values-loop-node-preserved : goal.values-loop-node-preserved
 values-loop-node-preserved t c =
     let l = c.loop-node in
-    let next = parts_next c.meanings_stay_well_formed.ensures c.args.context.now c.args.store.now l.store c.eval.new.store c.args.nodes.now l.node-index c.node-item.result l.values.items c.push.new.values.items c.in_ok-value.value (λ more. all_mean (names_in c.args.context.now) (setting_in c.args.context.now) (parts_of_list (map linked_of c.args.nodes.now ++ more)) [] (store_at c.args.context.now c.args.store.now)) c.loop-node-test.true c.node-item.is
-    l.invariant.fits l.invariant.so_far c.in_ok-value.ensures.ended c.in_ok-value.ensures.stays c.in_ok-push.ensures in
-    let longer = ap length c.in_ok-push.ensures ∙ length-append l.values.items (c.in_ok-value.value ∷ []) in
+    let next = parts_next c.meanings_stay_well_formed.ensures c.args.context.now c.args.store.now l.store c.eval.new.store c.args.nodes.now l.node-index c.node-item.result l.values.items c.push.new.self.items c.in_ok-value.value (λ more. all_mean (names_in c.args.context.now) (setting_in c.args.context.now) (parts_of_list (map linked_of c.args.nodes.now ++ more)) [] (store_at c.args.context.now c.args.store.now)) c.loop-node-test.true c.node-item.is
+    l.invariant.fits l.invariant.so_far c.in_ok-value.ensures.ended c.in_ok-value.ensures.stays c.in_ok-push.ensures.items in
+    let longer = ap length c.in_ok-push.ensures.items ∙ length-append l.values.items (c.in_ok-value.value ∷ []) in
     let counted = l.invariant.counted in
     let size = parts_fewer c.args.nodes.now l.node-index c.node-item.result c.loop-node-test.true c.node-item.is in
     record { so_far = next.0; counted = omega arith; fits = next.1; fewer = omega (arith, l.invariant.fewer, size) }

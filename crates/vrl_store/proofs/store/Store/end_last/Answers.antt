@@ -1,5 +1,6 @@
-use Rattle.std.proofs.Common.{◌≡◌, ◌<◌, [], ◌∷◌, ◌++◌, length, None, rules, refl, sym, subst, arith}
-use Rattle.vrl_store.specs.StoreView.{trees_of, ArePresent, Stay}
+use Rattle.std.proofs.Common.{◌≡◌, ◌<◌, [], ◌∷◌, ◌++◌, length, None, rules, sym, subst, arith}
+use Rattle.vrl_store.specs.Kept.{trees_of, AreKept, ArePresent}
+use Rattle.vrl_store.specs.StoreView.{Stay}
 use Rattle.vrl_store.proofs.LastEnded.{kept_ended, last_within, stay_ended}
 use Rattle.vrl_store.proofs.StoreReads.{length_map, map_set}
 use Rattle.vrl_store.proofs.store.Store.end_last.Goals as goal
@@ -8,7 +9,7 @@ pub index_mut-requires : goal.index_mut-requires
 index_mut-requires c =
     let s = c.args.self.now in
     let is : s.present.items ≡ c.pop.new.self.items ++ c.in-Some.number ∷ [] = search rules in
-    let within = last_within (trees_of s.variables.items) c.pop.new.self.items c.in-Some.number (subst (ArePresent (trees_of s.variables.items)) is c.requires.kept.present) in
+    let within = last_within (trees_of s.variables.items) c.pop.new.self.items c.in-Some.number (subst (ArePresent (trees_of s.variables.items)) is c.args.self.now.kept.present) in
     let mapped = length_map s.variables.items in
     let is_length : c.in-Some.number < length s.variables.items = omega arith in
     search rules
@@ -18,10 +19,12 @@ returns-in-Some-clause-stay c =
     let s = c.args.self.now in
     let vs = trees_of s.variables.items in
     let is : s.present.items ≡ c.pop.new.self.items ++ c.in-Some.number ∷ [] = search rules in
-    let stay = stay_ended vs c.pop.new.self.items c.in-Some.number (subst (ArePresent vs) is c.requires.kept.present) in
+    let stay = stay_ended vs c.pop.new.self.items c.in-Some.number (subst (ArePresent vs) is c.args.self.now.kept.present) in
     subst (λ ws. Stay vs ws c.pop.new.self.items) (sym (map_set s.variables.items c.in-Some.number None)) stay
 
-pub returns-in-Some-clause-kept : goal.returns-in-Some-clause-kept
-returns-in-Some-clause-kept c =
-    let is : c.args.self.now.present.items ≡ c.pop.new.self.items ++ c.in-Some.number ∷ [] = search rules in
-    kept_ended c.args.self.now _ c.in-Some.number c.requires.kept is refl refl refl refl
+pub invariant_of-self : goal.invariant_of-self
+invariant_of-self c =
+    let s = c.args.self.now in
+    let is : s.present.items ≡ c.pop.new.self.items ++ c.in-Some.number ∷ [] = search rules in
+    let kept = kept_ended s.variables.items c.pop.new.self.items c.in-Some.number (subst (AreKept (trees_of s.variables.items)) is s.kept) in
+    record { kept = kept; within = s.within; nothing = s.nothing }

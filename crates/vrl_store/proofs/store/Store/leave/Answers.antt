@@ -1,7 +1,8 @@
 use Rattle.std.proofs.Common.{◌≡◌, length, map, take, ap, ◌∙◌, arith}
 use Rattle.std.specs.FinMap as finite
 use Rattle.vrl_value.specs.View.{tree_of}
-use Rattle.vrl_store.specs.StoreView.{is_among, name_at, trees_of, variables_of}
+use Rattle.vrl_store.specs.Kept.{trees_of}
+use Rattle.vrl_store.specs.StoreView.{is_among, name_at, variables_of}
 use Rattle.vrl_store.proofs.Left.{left_names}
 use Rattle.vrl_store.proofs.StoreReads.{length_map}
 use Rattle.vrl_store.proofs.store.Store.leave.Goals as goal
@@ -10,7 +11,7 @@ pub returns-clause-left : goal.returns-clause-left
 returns-clause-left c = λ names are.
     let before = c.args.self.now in
     let after = c.loop-self.self in
-    let kept = c.loop-self.invariant.kept in
+    let kept = after.kept in
     let as_many = c.loop-self.invariant.as_many in
     let first = are.as_many in
     let mapped = length_map before.variables.items in

@@ -1,5 +1,6 @@
 use Rattle.std.proofs.Common.{◌≡◌, ◌≤◌, length, take}
-use Rattle.vrl_store.specs.StoreView.{trees_of, IsKept, Stay}
+use Rattle.vrl_store.specs.Kept.{trees_of}
+use Rattle.vrl_store.specs.StoreView.{Stay}
 use Rattle.vrl_store.proofs.store.Store.leave.Given as goal
 
 abbrev pub invariant-loop-self : goal.invariant-loop-self
@@ -8,7 +9,6 @@ invariant-loop-self l = record {
   present : l.self.present.items ≡ take (length l.self.present.items) l.fn.self.present.items;
   stay : Stay (trees_of l.fn.self.variables.items) (trees_of l.self.variables.items) l.self.present.items;
   event : l.self.event ≡ l.fn.self.event;
-  kept : IsKept l.self;
   as_many : length l.self.variables.items ≡ length l.fn.self.variables.items;
 }
 

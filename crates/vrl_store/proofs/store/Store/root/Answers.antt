@@ -1,4 +1,6 @@
-use Rattle.std.proofs.Common.{◌≡◌, ◌<◌, length, get_or, Some, None, rules, sym, ◌∙◌}
+use Rattle.std.proofs.Common.{◌≡◌, ◌<◌, length, get_or, Some, None, rules, sym, ap, ◌∙◌}
+use Rattle.vrl_value.specs.View.{tree_of}
+use Rattle.vrl_store.proofs.Started.{null_tree}
 use Rattle.vrl_store.proofs.StoreReads.{root_variable}
 use Rattle.vrl_store.proofs.store.Store.root.Goals as goal
 
@@ -16,4 +18,4 @@ returns-in-None c = λ names are.
     let n = c.in-Variable.number in
     let within : n < length s.variables.items = rw c.in-Variable.is at c.requires.base in
     let got : None ≡ get_or s.variables.items n None = search rules in
-    rw c.in-Variable.is (c.requires.kept.nothing ∙ sym (root_variable names s n None are within got))
+    rw c.in-Variable.is (ap tree_of s.nothing ∙ null_tree ∙ sym (root_variable names s n None are within got))

@@ -1,4 +1,5 @@
-use Rattle.std.proofs.Common.{arith, rules, sym, subst}
+use Rattle.std.proofs.Common.{◌≡◌, [], arith, refl, rules, sym, subst}
+use Rattle.vrl_store.specs.Kept.{trees_of, AreKept}
 use Rattle.vrl_store.proofs.Started.{AreNone, kept_started, none_more, started}
 use Rattle.vrl_store.proofs.store.Store.start.Goals as goal
 
@@ -9,9 +10,12 @@ loop-preserved c = record {
   event = c.loop.invariant.event;
 }
 
-pub returns-clause-kept : goal.returns-clause-kept
-returns-clause-kept c = kept_started _ c.loop.invariant.none (search rules) (search rules) (search rules)
-
 pub returns-clause-started : goal.returns-clause-started
 returns-clause-started c = λ names as_many distinct.
     (started names _ c.args.event c.loop.variables.items c.loop.invariant.none c.loop.invariant.event, record { as_many = omega arith; distinct = distinct })
+
+pub invariant_of-result : goal.invariant_of-result
+invariant_of-result c =
+    let items = c.loop.variables.items in
+    let none : c.new.result.items ≡ [] = search rules in
+    record { kept = subst (AreKept (trees_of items)) (sym none) (kept_started items c.loop.invariant.none); within = search rules; nothing = refl }

@@ -1,11 +1,11 @@
-use Rattle.std.proofs.Common.{◌≡◌, ◌<◌, length, get_or, set, Some, None, rules, refl, sym, ap, ◌∙◌, subst}
+use Rattle.std.proofs.Common.{◌≡◌, ◌<◌, length, get_or, set, Some, None, rules, sym, ap, ◌∙◌, subst}
 use Rattle.vrl_value.specs.View.{tree_of}
 use Rattle.vrl_value.specs.declared.value.Value.TheVariants as value
-use Rattle.vrl_store.specs.StoreView.{is_numbered, trees_of, IsShallow}
+use Rattle.vrl_store.specs.Kept.{is_numbered, trees_of, IsShallow}
 use Rattle.vrl_store.proofs.Started.{null_tree}
 use Rattle.vrl_store.proofs.StoreReads.{root_variable, seen}
 use Rattle.vrl_store.proofs.Taken.{null_shallow, null_there}
-use Rattle.vrl_store.proofs.Written.{kept_set, numbered_at, set_same}
+use Rattle.vrl_store.proofs.Written.{kept_there, numbered_at, set_same}
 use Rattle.vrl_store.proofs.store.Store.take_root.Goals as goal
 
 pub begin-requires-clause-absent : goal.begin-requires-clause-absent
@@ -31,15 +31,6 @@ returns-in-Some-clause-removed c = λ names are.
     let within : n < length s.variables.items = rw c.in-Variable.is at c.requires.base in
     rw c.in-Variable.is (null_there names s (set s.variables.items n (Some c.replace-in-Some.new.dest)) n are within (ap (λ v. set s.variables.items n (Some v)) c.replace-in-Some.ensures.after))
 
-pub returns-in-Some-clause-kept : goal.returns-in-Some-clause-kept
-returns-in-Some-clause-kept c =
-    let s = c.args.self.now in
-    let n = c.in-Variable.number in
-    let within : n < length s.variables.items = rw c.in-Variable.is at c.requires.base in
-    let is : Some c.in-Some.variable ≡ get_or s.variables.items n (Some c.in-Some.variable) = search rules in
-    let shallow : IsShallow (tree_of c.replace-in-Some.new.dest) = subst (λ v. IsShallow (tree_of v)) (sym c.replace-in-Some.ensures.after) null_shallow in
-    kept_set s _ n c.in-Some.variable c.replace-in-Some.new.dest c.requires.kept within is shallow refl refl refl refl refl
-
 pub returns-in_ok-begin-in-None-clause-value : goal.returns-in_ok-begin-in-None-clause-value
 returns-in_ok-begin-in-None-clause-value c = λ names are.
     let s = c.args.self.now in
@@ -58,3 +49,12 @@ returns-in_ok-begin-in-None-clause-removed c = λ names are.
     let old : set s.variables.items n c.index_mut.result.now ≡ s.variables.items = ap (set s.variables.items n) c.in-None.is ∙ set_same s.variables.items n None none in
     let got = c.in_ok-begin-in-None.ensures in
     rw c.in-Variable.is (ap (λ event. seen names event items) got.event ∙ null_there names s items n are within (got.value ∙ ap (λ vs. set vs n (Some value.Null)) old))
+
+pub invariant_of-self-in-Some : goal.invariant_of-self-in-Some
+invariant_of-self-in-Some c =
+    let s = c.args.self.now in
+    let n = c.in-Variable.number in
+    let within : n < length s.variables.items = rw c.in-Variable.is at c.requires.base in
+    let is : Some c.in-Some.variable ≡ get_or s.variables.items n (Some c.in-Some.variable) = search rules in
+    let shallow : IsShallow (tree_of c.replace-in-Some.new.dest) = subst (λ v. IsShallow (tree_of v)) (sym c.replace-in-Some.ensures.after) null_shallow in
+    record { kept = kept_there s.variables.items s.present.items n c.in-Some.variable c.replace-in-Some.new.dest s.kept within is shallow; within = s.within; nothing = s.nothing }

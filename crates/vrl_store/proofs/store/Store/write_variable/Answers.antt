@@ -1,14 +1,14 @@
-use Rattle.std.proofs.Common.{◌≡◌, get_or, set, Some, None, rules, refl, ap, ◌∙◌}
+use Rattle.std.proofs.Common.{◌≡◌, get_or, set, Some, None, rules, ap, ◌∙◌}
 use Rattle.vrl_value.specs.View.{tree_of}
-use Rattle.vrl_store.specs.StoreView.{is_numbered, trees_of, IsShallow}
-use Rattle.vrl_store.proofs.Written.{kept_set, numbered_at, set_same, shallow_at, shallow_written, written_in}
+use Rattle.vrl_store.specs.Kept.{is_numbered, trees_of, IsShallow}
+use Rattle.vrl_store.proofs.Written.{kept_there, numbered_at, set_same, shallow_at, shallow_written, written_in}
 use Rattle.vrl_store.proofs.store.Store.write_variable.Goals as goal
 
 pub set_in-requires-clause-shallow : goal.set_in-requires-clause-shallow
 set_in-requires-clause-shallow c = λ _.
     let items = c.args.self.now.variables.items in
     let is : Some c.in-Some.variable ≡ get_or items c.args.number (Some c.in-Some.variable) = search rules in
-    shallow_at items c.args.number c.in-Some.variable c.requires.known is c.requires.kept.variables
+    shallow_at items c.args.number c.in-Some.variable c.requires.known is c.args.self.now.kept.shallow
 
 pub write_new-requires-clause-absent : goal.write_new-requires-clause-absent
 write_new-requires-clause-absent c =
@@ -24,10 +24,10 @@ returns-in-Some-clause-written c = λ names are.
     written_in names s c.args.number c.args.path.now (tree_of c.args.value) c.in-Some.variable c.set_in.new.root c.set_in.result are c.requires.known is
     c.set_in.ensures.ok c.set_in.ensures.within c.set_in.ensures.deep c.set_in.ensures.err
 
-pub returns-in-Some-clause-kept : goal.returns-in-Some-clause-kept
-returns-in-Some-clause-kept c =
+pub invariant_of-self : goal.invariant_of-self
+invariant_of-self c =
     let s = c.args.self.now in
     let is : Some c.in-Some.variable ≡ get_or s.variables.items c.args.number (Some c.in-Some.variable) = search rules in
-    let before : IsShallow (tree_of c.in-Some.variable) = shallow_at s.variables.items c.args.number c.in-Some.variable c.requires.known is c.requires.kept.variables in
+    let before : IsShallow (tree_of c.in-Some.variable) = shallow_at s.variables.items c.args.number c.in-Some.variable c.requires.known is s.kept.shallow in
     let shallow = shallow_written (tree_of c.in-Some.variable) (tree_of c.set_in.new.root) c.set_in.result before c.set_in.ensures.within c.set_in.ensures.err in
-    kept_set s _ c.args.number c.in-Some.variable c.set_in.new.root c.requires.kept c.requires.known is shallow refl refl refl refl refl
+    record { kept = kept_there s.variables.items s.present.items c.args.number c.in-Some.variable c.set_in.new.root s.kept c.requires.known is shallow; within = s.within; nothing = s.nothing }

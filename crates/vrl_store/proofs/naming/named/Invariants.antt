@@ -4,10 +4,11 @@ use Rattle.std.specs.Prelude.{IfSome}
 use Rattle.std.specs.Vec.Iter.{into_iter_items, into_iter_len}
 use Rattle.vrl_value.specs.Tree.{object}
 use Rattle.vrl_value.specs.View.{members_of}
-use Rattle.vrl_store.specs.StoreView.{map_of, trees_of, variables_of, AreDistinct}
+use Rattle.vrl_store.specs.Kept.{trees_of}
+use Rattle.vrl_store.specs.StoreView.{map_of, variables_of, AreDistinct}
 use Rattle.vrl_store.specs.WellFormed.{IsWellFormed}
 use Rattle.vrl_store.proofs.MapsOf.{put_over}
-use Rattle.vrl_store.proofs.store.named.Given as goal
+use Rattle.vrl_store.proofs.naming.named.Given as goal
 
 -- to put what is left over what is told so far gives all
 abbrev pub invariant-loop-variable : goal.invariant-loop-variable

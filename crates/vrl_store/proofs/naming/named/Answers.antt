@@ -5,10 +5,11 @@ use Rattle.std.specs.Prelude.{IfSome}
 use Rattle.std.specs.Vec.Iter.{into_iter_items}
 use Rattle.vrl_value.specs.Tree.{object, no_members}
 use Rattle.vrl_value.specs.View.{members_of}
-use Rattle.vrl_store.specs.StoreView.{map_of, trees_of, variables_of, AreDistinct}
+use Rattle.vrl_store.specs.Kept.{trees_of}
+use Rattle.vrl_store.specs.StoreView.{map_of, variables_of, AreDistinct}
 use Rattle.vrl_store.specs.WellFormed.{IsWellFormed}
 use Rattle.vrl_store.proofs.MapsOf.{formed_next, told_first, told_next}
-use Rattle.vrl_store.proofs.store.named.Goals as goal
+use Rattle.vrl_store.proofs.naming.named.Goals as goal
 
 pub loop-variable-init : goal.loop-variable-init
 loop-variable-init c =
