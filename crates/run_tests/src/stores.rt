@@ -1,6 +1,6 @@
 ghost use Rattle.std.specs.Prelude.{◌≡◌, IfOk};
 ghost use Rattle.vrl_path.specs.Steps.{IsPlain, IsWritable};
-ghost use Rattle.vrl_store.specs.StoreView.{count_of, IsBase, IsKept};
+ghost use Rattle.vrl_store.specs.StoreView.{count_of, IsKnown};
 
 // The event and two variables of a run, step by step.
 use crate::running::json_of;
@@ -168,7 +168,7 @@ const STEPS: [Row; 14] = [
 
 // A root, or a field of it.
 fn place_of(alloc: Global, root: Root, field: &str) -> Result<Place, Memory>
-    ensures base { IfOk result (λ place. (store : Store) → count_of store ≡ 2 → IsBase store place.base) }
+    ensures base { IfOk result (λ place. IsKnown 2 place.base) }
     ensures writable { IfOk result (λ place. IsWritable place.path) }
     ensures plain { IfOk result (λ place. IsPlain place.path) }
 {
@@ -189,11 +189,9 @@ fn place_of(alloc: Global, root: Root, field: &str) -> Result<Place, Memory>
 
 // Writes a value, and gives null, or `deep` where it isn't written.
 fn write(alloc: Global, store: &mut Store, place: &Place, value: Value) -> Result<Value, Memory>
-    requires base { IsBase store.old place.now.base }
+    requires base { IsKnown (count_of store.old) place.now.base }
     requires writable { IsWritable place.now.path }
-    requires kept { IsKept store.old }
-    ensures kept { IsKept store.new }
-    ensures as_many { count_of store.new ≡ count_of store.old }
+    ensures { count_of store.new ≡ count_of store.old }
 {
     match store.write(alloc, place, value) {
         Ok(()) => Ok(Value::Null),
@@ -221,10 +219,8 @@ fn done(
     root: Root,
     field: &str,
 ) -> Result<Value, Memory>
-    requires two { count_of store.old ≡ 2 }
-    requires kept { IsKept store.old }
-    ensures two { count_of store.new ≡ 2 }
-    ensures kept { IsKept store.new }
+    requires { count_of store.old ≡ 2 }
+    ensures { count_of store.new ≡ 2 }
 {
     let place = place_of(alloc, root, field)?;
     match act {
@@ -242,8 +238,7 @@ fn done(
 
 // Whether a root, read whole, is this value.
 fn stands(alloc: Global, store: &Store, root: Root, wanted: &str) -> Result<bool, Memory>
-    requires two { count_of store.now ≡ 2 }
-    requires kept { IsKept store.now }
+    requires { count_of store.now ≡ 2 }
 {
     let place = place_of(alloc, root, "")?;
     Ok(store.read(&place).same(&json_of(alloc, wanted)?))
@@ -251,10 +246,8 @@ fn stands(alloc: Global, store: &Store, root: Root, wanted: &str) -> Result<bool
 
 // Does the step of a row. Whether all is as it says.
 fn goes(alloc: Global, store: &mut Store, row: &Row) -> Result<bool, Memory>
-    requires two { count_of store.old ≡ 2 }
-    requires kept { IsKept store.old }
-    ensures two { count_of store.new ≡ 2 }
-    ensures kept { IsKept store.new }
+    requires { count_of store.old ≡ 2 }
+    ensures { count_of store.new ≡ 2 }
 {
     let (act, root, field, given, event, x, y, count) = row;
     let found = done(alloc, store, *act, *root, field)?;
@@ -267,8 +260,7 @@ fn goes(alloc: Global, store: &mut Store, row: &Row) -> Result<bool, Memory>
 
 // A store of an empty event and two variables.
 fn started(alloc: Global) -> Result<Store, Memory>
-    ensures two { IfOk result (λ store. count_of store ≡ 2) }
-    ensures kept { IfOk result (λ store. IsKept store) }
+    ensures { IfOk result (λ store. count_of store ≡ 2) }
 {
     Store::start(alloc, json_of(alloc, "{}")?, 2)
 }
