@@ -10,7 +10,7 @@ use Rattle.vrl_syntax.specs.Tree.{Args, Arms, Closure, Else, Expr, Exprs, Form, 
 use Rattle.vrl_check.specs.Determined.{EmptiesAreCounted}
 use Rattle.vrl_judge.specs.Rules.{Argument, Judgement, banged}
 use Rattle.vrl_check.specs.Judgement.{nulls, pair_values}
-use Rattle.vrl_check.specs.Judgement.{Judges, unreached, reached, Gives, a_literal, an_array, an_object, a_known_root, an_unknown_root, a_query, a_group, a_block, a_conditional, a_negation, an_equality, of_table, a_merge, a_conjunction, a_disjunction, a_coalescing, an_assignment, a_merge_into_nothing, a_merge_assignment, an_error_assignment, a_call_of_nothing, a_call, a_deletion, an_existence, a_return, an_abort, an_abort_with, JudgesBoth, operands, JudgesAll, no_more, one_more, JudgesArguments, no_more_arguments, one_more_argument, JudgesBlock, unreached_block, reached_block, JudgesArms, an_arm, an_else, a_missing_else, JudgesItems, no_more_items, one_more_item, a_script}
+use Rattle.vrl_check.specs.Judgement.{Judges, unreached, reached, Gives, a_literal, an_array, an_object, a_known_root, an_unknown_root, a_query, a_group, a_block, a_conditional, a_negation, an_equality, of_table, a_merge, a_conjunction, a_disjunction, a_coalescing, an_assignment, a_merge_into_nothing, a_merge_assignment, an_error_assignment, a_call_of_nothing, a_call, a_deletion, an_existence, a_return, an_abort, an_abort_with, JudgesBoth, operands, JudgesAll, no_more, one_more, JudgesArguments, no_more_arguments, one_more_argument, JudgesBlock, unreached_block, reached_block, JudgesArms, an_arm, an_else, a_missing_else, JudgesItems, no_more_items, one_more_item, JudgesScript, a_script}
 
 -- nulls are as many as they are told to be
 nulls_counted : (n : ℕ) → length (nulls n) ≡ n
@@ -41,7 +41,7 @@ two_counted : (l r : Expr) (j k whole : Judgement) → length j.empties ≡ in_e
 two_counted l r j k whole left right is = joined j.empties k.empties whole.empties (in_expr l) (in_expr r) is left right
 
 mutual
-  pub judges_counted : {sources : List (List ℕ)} {known : Option RootMap} {e : Expr} {j : Judgement} → Judges sources known e j → length j.empties ≡ in_expr e
+  judges_counted : {sources : List (List ℕ)} {known : Option RootMap} {e : Expr} {j : Judgement} → Judges sources known e j → length j.empties ≡ in_expr e
   judges_counted (unreached {e = e}) = nulls_counted (in_expr e)
   judges_counted (reached gives) = gives_counted gives
 
@@ -94,7 +94,7 @@ mutual
       let others = arguments_counted rest in
       omega (arith, step, others)
 
-  pub block_counted : {sources : List (List ℕ)} {known : Option RootMap} {es : Exprs} {j : Judgement} → JudgesBlock sources known es j → length j.empties ≡ in_exprs es
+  block_counted : {sources : List (List ℕ)} {known : Option RootMap} {es : Exprs} {j : Judgement} → JudgesBlock sources known es j → length j.empties ≡ in_exprs es
   block_counted (unreached_block {es = es}) = nulls_counted (in_exprs es)
   block_counted (reached_block {es = es} {j = j} null all) = from_none (length j.empties) (in_exprs es) (all_counted all)
 
@@ -118,5 +118,12 @@ items_counted (one_more_item {before = before} {j = j} {middle = middle} {after 
     let others = items_counted rest in
     omega (arith, step, others)
 
-pub script_counted : EmptiesAreCounted
+script_counted : (sources : List (List ℕ)) (start : KindTree) (items : Exprs) (j : Judgement) → JudgesScript sources start items j → length j.empties ≡ in_exprs items
 script_counted sources start items k (a_script {j = j} starts null all) = from_none (length j.empties) (in_exprs items) (items_counted all)
+
+pub empties_are_counted : EmptiesAreCounted
+empties_are_counted = record {
+  expression = λ sources known e j judges. judges_counted judges;
+  block = λ sources known es j judges. block_counted judges;
+  script = script_counted;
+}

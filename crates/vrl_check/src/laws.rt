@@ -11,7 +11,7 @@ pub fn judgements_are_determined()
     functions_are_found();
 }
 
-/// A judgement has one empty value for each error assignment of the script. This takes no time: it is a law about the definitions.
+/// A judgement has one empty value for each error assignment of what is judged. This takes no time: it is a law about the definitions.
 pub fn empties_are_counted()
     ensures { EmptiesAreCounted }
 {}

@@ -9,7 +9,6 @@ use Rattle.vrl_state.specs.States.{RootMap}
 use Rattle.vrl_builtin.specs.Rows.{SettingTree}
 use Rattle.vrl_judge.specs.Rules.{Argument, Judgement, nothing, settle}
 use Rattle.vrl_check.specs.Judgement.{nulls, Judges, unreached, reached, Gives, a_literal, an_array, an_object, a_known_root, an_unknown_root, a_query, a_group, a_block, a_conditional, a_negation, an_equality, of_table, a_merge, a_conjunction, a_disjunction, a_coalescing, an_assignment, a_merge_into_nothing, a_merge_assignment, an_error_assignment, a_call_of_nothing, a_call, a_deletion, an_existence, a_return, an_abort, an_abort_with, operands, JudgesAll, no_more, one_more, JudgesArguments, no_more_arguments, one_more_argument, JudgesBlock, unreached_block, reached_block, JudgesArms, an_arm, an_else, a_missing_else}
-use Rattle.vrl_check.proofs.Emptied.{block_counted, judges_counted}
 use Rattle.vrl_compile.specs.Sound.{ExpressionsAreSound}
 use Rattle.vrl_compile.proofs.SoundBlocks.{block_is_sound, conditional_is_sound, reached_block_is_sound, sound_arm, sound_else, sound_missing_else, unreached_block_is_sound, AreSoundArms, IsSoundBlock}
 use Rattle.vrl_compile.proofs.SoundCalls.{call_is_sound, call_of_nothing_is_sound}
@@ -85,7 +84,7 @@ module _ (laws : Laws) (moment : ℤ) (sources : List (List ℕ)) where
 
     all_are_sound : {before after : Judgement} {es : Exprs} {Ks : List KindTree} → JudgesAll sources before es Ks after → AreSound setting before es Ks after
     all_are_sound no_more = no_more_sound
-    all_are_sound (one_more part in_order more) = one_more_sound (judges_counted part) (expression_sound part) in_order (all_are_sound more)
+    all_are_sound (one_more part in_order more) = one_more_sound (laws.counted.expression _ _ _ _ part) (expression_sound part) in_order (all_are_sound more)
 
     arguments_are_sound : {before after : Judgement} {gs : Args} {js : List Argument} → JudgesArguments sources before gs js after → AreSoundArguments setting before gs js after
     arguments_are_sound no_more_arguments = lists.no_more_arguments
@@ -97,7 +96,7 @@ module _ (laws : Laws) (moment : ℤ) (sources : List (List ℕ)) where
 
     arms_are_sound : {state : Option RootMap} {ways all : Judgement} {gs : Arms} {otherwise : Else} → JudgesArms sources state ways gs otherwise all → AreSoundArms setting state ways gs otherwise all
     arms_are_sound (an_arm {j = j} predicate beside branch besides more) =
-        sound_arm j (judges_counted predicate) (expression_sound predicate) beside (block_counted branch) (block_sound branch) besides (arms_are_sound more)
+        sound_arm j (laws.counted.expression _ _ _ _ predicate) (expression_sound predicate) beside (laws.counted.block _ _ _ _ branch) (block_sound branch) besides (arms_are_sound more)
     arms_are_sound (an_else branch beside) = sound_else (block_sound branch) beside
     arms_are_sound (a_missing_else null_kind beside) = sound_missing_else null_kind beside
 

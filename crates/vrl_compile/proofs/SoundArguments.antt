@@ -118,6 +118,6 @@ argument_values laws setting (one_more_sound {before = before} {j = j} {middle =
     (as_on_value (IsGivenFor count g) Q j after given (λ v end. eval_args setting (behind e (j.empties ++ own)) gs (run ++ v ∷ []) end) (ends_through (second_ends laws before j middle then) (arguments_end laws more))
     (argument_given count g given.outcome given.store (part.sound store stored fits) kept.0 kept.1 (literal_is_value setting (j.empties ++ own) e store))
     (λ v end is.
-    subst (λ tags. IsSoundAs Q after (eval_args setting tags gs (run ++ v ∷ []) end)) (sym (behind_is judges own))
+    subst (λ tags. IsSoundAs Q after (eval_args setting tags gs (run ++ v ∷ []) end)) (sym (behind_is laws.counted judges own))
     (as_weaker (AreAllValues count (run ++ v ∷ []) js after) Q after (eval_args setting own gs (run ++ v ∷ []) end) (λ w last are. one_more_value count run g js after v w last is.value_of are)
     (argument_values laws setting more none well.1 rest (run ++ v ∷ []) end is.stored (subst (FitsKnown end) (sym then.behind.ok) is.ok)))))

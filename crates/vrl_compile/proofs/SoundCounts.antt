@@ -8,15 +8,15 @@ use Rattle.vrl_state.specs.States.{RootMap}
 use Rattle.vrl_syntax.specs.ErrorAssignments.{in_expr, in_exprs, in_arms, behind, behind_all, behind_arms}
 use Rattle.vrl_syntax.specs.Tree.{Expr, Exprs, Arms, arm}
 use Rattle.vrl_judge.specs.Rules.{Judgement}
+use Rattle.vrl_check.specs.Determined.{EmptiesAreCounted}
 use Rattle.vrl_check.specs.Judgement.{Judges}
-use Rattle.vrl_check.proofs.Emptied.{judges_counted}
 
 -- the tags that are left behind a part are those behind its own
 pub behind_counted : (e : Expr) (mine rest : List Tag) → length mine ≡ in_expr e → behind e (mine ++ rest) ≡ rest
 behind_counted e mine rest counted = ap (λ n. drop n (mine ++ rest)) (sym counted) ∙ drop-append_seam mine rest
 
-pub behind_is : {sources : List (List ℕ)} {known : Option RootMap} {e : Expr} {j : Judgement} → Judges sources known e j → (rest : List Tag) → behind e (j.empties ++ rest) ≡ rest
-behind_is {e = e} {j = j} judges rest = behind_counted e j.empties rest (judges_counted judges)
+pub behind_is : EmptiesAreCounted → {sources : List (List ℕ)} {known : Option RootMap} {e : Expr} {j : Judgement} → Judges sources known e j → (rest : List Tag) → behind e (j.empties ++ rest) ≡ rest
+behind_is counted {sources} {known} {e} {j} judges rest = behind_counted e j.empties rest (counted.expression sources known e j judges)
 
 pub behind_block_counted : (es : Exprs) (mine rest : List Tag) → length mine ≡ in_exprs es → behind_all es (mine ++ rest) ≡ rest
 behind_block_counted es mine rest counted = ap (λ n. drop n (mine ++ rest)) (sym counted) ∙ drop-append_seam mine rest

@@ -65,7 +65,7 @@ pub binary_is_sound : Laws → (setting : SettingTree) (known : RootMap) (other 
 binary_is_sound laws setting known other o l r j k whole end judges is same codes left right sound well rest store stored fits =
     let tags : end.empties ++ rest ≡ j.empties ++ (k.empties ++ rest) = ap (λ ts. ts ++ rest) (same ∙ is.empties) ∙ append_assoc j.empties k.empties rest in
     subst (λ ts. IsSoundEnd end (combined o (eval setting ts l store) (λ after. eval setting (behind l ts) r after))) (sym tags)
-    (subst (λ ts. IsSoundEnd end (combined o (eval setting (j.empties ++ (k.empties ++ rest)) l store) (λ after. eval setting ts r after))) (sym (behind_is judges (k.empties ++ rest)))
+    (subst (λ ts. IsSoundEnd end (combined o (eval setting (j.empties ++ (k.empties ++ rest)) l store) (λ after. eval setting ts r after))) (sym (behind_is laws.counted judges (k.empties ++ rest)))
     (sound (eval setting (j.empties ++ (k.empties ++ rest)) l store) (eval setting (k.empties ++ rest) r)
     (left codes.0 well.0 (k.empties ++ rest) store stored fits) (laws.kept.expression setting (j.empties ++ (k.empties ++ rest)) l store well.0 stored)
     (as_run laws setting other r k rest well.1 (right codes.1 well.1))))

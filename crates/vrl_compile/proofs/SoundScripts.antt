@@ -21,7 +21,7 @@ use Rattle.vrl_check.specs.Judgement.{JudgesItems, no_more_items, one_more_item,
 use Rattle.vrl_resolve.specs.Meaning.{run_script}
 use Rattle.vrl_compile.specs.Sound.{ComesTo, ExpressionsAreSound, HasNoError, IsSoundOutcome, ScriptsAreSound, ends_of}
 use Rattle.vrl_compile.proofs.SoundCauses.{items_cause}
-use Rattle.vrl_check.proofs.Emptied.{judges_counted}
+use Rattle.vrl_check.specs.Determined.{EmptiesAreCounted}
 use Rattle.vrl_compile.proofs.SoundEnds.{no_error_behind, no_error_parts, sound_settled, sound_told, IsSoundPart}
 use Rattle.vrl_compile.specs.SoundLaws.{Laws}
 use Rattle.vrl_compile.proofs.SoundLists.{items_sound, no_more_sound, one_more_sound, AreSound}
@@ -34,11 +34,11 @@ part_with_codes : (setting : SettingTree) (known : Option RootMap) (e : Expr) (j
 part_with_codes setting known e j ds sound none well = sound (no_error_parts j.codes ds none).0 well
 
 -- items are judged in order
-items_in_order : ExpressionsAreSound → (setting : SettingTree) {before after : Judgement} {es : Exprs} → JudgesItems setting.sources before es after → (Ks : List KindTree) × AreSound setting before es Ks after
-items_in_order each setting no_more_items = ([], no_more_sound)
-items_in_order each setting (one_more_item {before = before} {j = j} {e = e} judges in_order more) =
-    let others = items_in_order each setting more in
-    (j.kind ∷ others.0, one_more_sound {j = with_codes (of_item (span_of e) j) j} (judges_counted judges) (part_with_codes setting before.ok e j (of_item (span_of e) j) (each setting before.ok e j judges)) in_order others.1)
+items_in_order : EmptiesAreCounted → ExpressionsAreSound → (setting : SettingTree) {before after : Judgement} {es : Exprs} → JudgesItems setting.sources before es after → (Ks : List KindTree) × AreSound setting before es Ks after
+items_in_order counted each setting no_more_items = ([], no_more_sound)
+items_in_order counted each setting (one_more_item {before = before} {j = j} {e = e} judges in_order more) =
+    let others = items_in_order counted each setting more in
+    (j.kind ∷ others.0, one_more_sound {j = with_codes (of_item (span_of e) j) j} (counted.expression _ _ _ _ judges) (part_with_codes setting before.ok e j (of_item (span_of e) j) (each setting before.ok e j judges)) in_order others.1)
 
 -- an item that may fail has a code
 can_not_fail : (fail : Option RootMap) (span : Span) → HasNoError (when (is_some fail) (at 100 span)) → fail ≡ None
@@ -82,7 +82,7 @@ pub script_is_sound : Laws → ExpressionsAreSound → ScriptsAreSound
 script_is_sound laws each setting declared items j (a_script {N = N} {state = state} {j = k} start null_kind judges) none well event of_kind well_event =
     run_outcome (settle k) ended.outcome ended.store (still_dead (not k.poisoned) k.fail (items_never_fail judges refl none))
     (sound_settled k ended (items_cause judges refl ∙ none)
-    ((sound_told k ended).1 (items_sound laws setting (items_in_order each setting judges).1 none well [] k.empties (sym (append-nil k.empties)) null (store_of event)
+    ((sound_told k ended).1 (items_sound laws setting (items_in_order laws.counted each setting judges).1 none well [] k.empties (sym (append-nil k.empties)) null (store_of event)
     (start_is_well_formed (length setting.sources) event well_event) (laws.starts declared state (store_of event) start of_kind) (scalar_is laws.cuts null N (λ s. refl) null_kind)))) where
       ended : Ended
       ended = run_script setting k.empties items event

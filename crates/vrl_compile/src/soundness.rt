@@ -2,6 +2,7 @@ ghost use Rattle.vrl_compile.specs.Answer.{AcceptedScriptsAreSound};
 ghost use Rattle.vrl_compile.specs.Sound.{ExpressionsAreSound, ScriptsAreSound};
 ghost use Rattle.vrl_compile.specs.SoundLaws.{Laws};
 
+use vrl_check::empties_are_counted;
 use vrl_path::{removed_trees_are_removals, set_trees_are_sets};
 use vrl_place::reads_are_of_their_cut;
 use vrl_resolve::evaluations_stay_well_formed;
@@ -28,6 +29,7 @@ fn lower_laws()
     joins_keep_fits();
     functions_are_found();
     functions_keep_law();
+    empties_are_counted();
     evaluations_stay_well_formed();
 }
 

@@ -1,5 +1,5 @@
-use Rattle.vrl_check.proofs.Emptied.{script_counted}
+use Rattle.vrl_check.proofs.Emptied.{empties_are_counted}
 use Rattle.vrl_check.proofs.laws.empties_are_counted.Goals as goal
 
 pub returns : goal.returns
-returns c = script_counted
+returns c = empties_are_counted
