@@ -1,9 +1,9 @@
 -- What a `del` takes out.
-use Rattle.std.proofs.Common.{◌≡◌, false, List, [], ◌∷◌, length, map, Option, None, refl, sym, ap, ◌∙◌, subst, arith}
+use Rattle.std.proofs.Common.{◌≡◌, false, List, [], ◌∷◌, length, map, Option, None, refl, sym, ap, ◌∙◌, subst}
 use Rattle.vrl_path.specs.declared.path.Step.{Step as CodeStep}
 use Rattle.vrl_diag.specs.declared.diagnostic.Span.{Span}
 use Rattle.vrl_syntax.specs.Tree.{Expr}
-use Rattle.vrl_syntax.specs.View.{args_view, expr_of}
+use Rattle.vrl_syntax.specs.View.{args_view}
 use Rattle.vrl_syntax.specs.declared.root.Root.{Root}
 use Rattle.vrl_syntax.specs.declared.tree.Arg.{Arg as CodeArg}
 use Rattle.vrl_state.specs.States.{RootMap}
@@ -11,7 +11,6 @@ use Rattle.vrl_check.specs.Calling.{written}
 use Rattle.vrl_syntax.specs.Calls.{path_of}
 use Rattle.vrl_judge.specs.Rules.{Argument}
 use Rattle.vrl_check.specs.Judgement.{deleted_path, IsDeletedAt}
-use Rattle.vrl_check.proofs.CallsFound.{value_seen}
 
 -- ---- the argument
 
@@ -36,10 +35,3 @@ more_deleted args a [] known is some js at = absurd (some refl)
 more_deleted args a (b ∷ others) known is some js at =
     let all : path_in (written (args_view args)) ≡ None = ap (λ xs. path_in (written (args_view xs))) is in
     subst (λ d. IsDeletedAt d known known) (sym all ∙ deleted_in args js at) refl
-
-pub one_deleted : (args : List CodeArg) (a : CodeArg) (others : List CodeArg) (found : Option (Root × List CodeStep)) (before after : Option RootMap) → args ≡ a ∷ others → length others ≡ 0 → found ≡ path_of (expr_of a.value) → IsDeletedAt found before after
-    → (js : List Argument) → written (args_view args) ≡ map place_of js → IsDeletedAt (deleted_path false js) before after
-one_deleted args a [] found before after is none found_is deleted js at =
-    let all : path_in (written (args_view args)) ≡ path_of (expr_of a.value) = ap (λ xs. path_in (written (args_view xs))) is ∙ ap path_of (value_seen a) in
-    subst (λ d. IsDeletedAt d before after) (found_is ∙ sym all ∙ deleted_in args js at) deleted
-one_deleted args a (b ∷ others) found before after is none found_is deleted js at = absurd (omega arith)

@@ -22,8 +22,8 @@ use Rattle.vrl_value.specs.declared.value.Tag.TheVariants as tag
 
 -- ---- what can be judged
 
--- By these functions on parts, a part calls no function that takes a closure, its paths keep their limits, and each of its regexes has a
--- source.
+-- A part can be judged where, as these functions tell, it calls no function that takes a closure, its paths keep their limits, and each of its
+-- regexes has a source.
 pub record IsJudgeable {A : Type 0} (holds_closure_call : A → Bool) (faults : A → List Diagnostic) (regexes_below : ℕ → A → Bool) (sources : List (List ℕ)) (part : A) : Type 0 where
   pub calls : holds_closure_call part ≡ false
   pub limits : faults part ≡ []

@@ -24,7 +24,7 @@ use Rattle.vrl_store.specs.WellFormed.{IsWellFormedEnded, IsWellFormedExpr, IsWe
 use Rattle.vrl_judge.specs.Rules.{Judgement, IsBehind, IsMerged, IsMergedIf, IsScalar, IsThen, at, chained, if_state, is_equality, is_other, no_objects, of_pairs, scalars_at, some_pair, table_tags, when, with_codes}
 use Rattle.vrl_check.specs.Judgement.{span_of, table_of}
 use Rattle.vrl_check.specs.Judgement.{Judges, JudgesBoth, operands}
-use Rattle.vrl_resolve.specs.Meaning.{combined, eval, eval_form}
+use Rattle.vrl_resolve.specs.Meaning.{both_sides, combined, eval, eval_form}
 use Rattle.vrl_compile.specs.Sound.{HasNoError, IsSoundEnd, IsSoundOutcome}
 use Rattle.vrl_compile.proofs.SoundCauses.{judges_cause}
 use Rattle.vrl_compile.proofs.SoundCounts.{behind_is}
@@ -72,10 +72,7 @@ binary_is_sound laws setting known other o l r j k whole end judges is same code
 
 -- ---- operators that ask both sides
 
-abbrev asked : Op → Ended → (Store → Ended) → Ended
-asked o left right = on_value left (λ v after. on_value (right after) (λ w end. ends (applied o v w) end))
-
-tables_ask_both : (o : Op) (table : Table) (left : Ended) (right : Store → Ended) → table_of o ≡ Some table → asked o left right ≡ combined o left right
+tables_ask_both : (o : Op) (table : Table) (left : Ended) (right : Store → Ended) → table_of o ≡ Some table → both_sides o left right ≡ combined o left right
 tables_ask_both op.Plus table left right is = refl
 tables_ask_both op.Minus table left right is = refl
 tables_ask_both op.Times table left right is = refl
@@ -85,7 +82,7 @@ tables_ask_both op.More table left right is = refl
 tables_ask_both op.AtLeast table left right is = refl
 tables_ask_both o table left right is = absurd (cc)
 
-equalities_ask_both : (o : Op) (left : Ended) (right : Store → Ended) → is_equality o ≡ true → asked o left right ≡ combined o left right
+equalities_ask_both : (o : Op) (left : Ended) (right : Store → Ended) → is_equality o ≡ true → both_sides o left right ≡ combined o left right
 equalities_ask_both op.Equal left right is = refl
 equalities_ask_both op.Unequal left right is = refl
 equalities_ask_both o left right is = absurd (true≢false (sym is))
@@ -95,13 +92,13 @@ module _ (laws : Laws) (count : ℕ) (o : Op) (j k whole end : Judgement) (then 
   abbrev SoundByValues : Type 0
   SoundByValues = (v w : Tree) (before after : Store) → IsGiven count j v before → IsGiven count k w after → IsSoundOutcome end (applied o v w) after
 
-  asked_is_sound : SoundByValues → (first : Ended) (second : Store → Ended) → IsSoundEnd j first → IsWellFormedEnded count first → IsRun count j.ok k second → IsSoundEnd end (asked o first second)
+  asked_is_sound : SoundByValues → (first : Ended) (second : Store → Ended) → IsSoundEnd j first → IsWellFormedEnded count first → IsRun count j.ok k second → IsSoundEnd end (both_sides o first second)
   asked_is_sound by_values first second sound well run =
       sound_on_value count j end first (λ v after. on_value (second after) (λ w last. ends (applied o v w) last)) (ends_through (first_ends laws j k whole then) as_end) sound well
       (λ v before given. sound_on_value count k end (second before) (λ w last. ends (applied o v w) last) (ends_through (second_ends laws j k whole then) as_end) (run.sound before given.stored given.ok) (run.kept before given.stored)
       (λ w after other. by_values v w before after given other))
 
-  both_asked : SoundByValues → ((first : Ended) (second : Store → Ended) → asked o first second ≡ combined o first second) → IsSoundOperator count o j.ok j k end
+  both_asked : SoundByValues → ((first : Ended) (second : Store → Ended) → both_sides o first second ≡ combined o first second) → IsSoundOperator count o j.ok j k end
   both_asked by_values same first second sound well run = subst (IsSoundEnd end) (same first second) (asked_is_sound by_values first second sound well run)
 
 -- ---- equality

@@ -24,8 +24,8 @@ use std::collections::BTreeMap;
 use vrl_builtin::Setting;
 use vrl_path::{Path, get};
 use vrl_store::{
-    Operand, Place, Stop, Store, apply, apply_to_borrowed, banged, is_falsy, is_true,
-    negated, truth, unless_error,
+    Operand, Place, Stop, Store, apply, apply_to_borrowed, banged, is_falsy, is_true, negated,
+    truth, unless_error,
 };
 use vrl_syntax::{Op, empty_value};
 use vrl_value::{Chars, Fields, Items, Memory, Names, Tag, Value};

@@ -20,4 +20,4 @@ returns-then-is_value c =
     let seen : args_of c.args.args.now ≡ args_view (arg ∷ others) = sym c.as_slice.ensures ∙ ap args_view c.in_ok-arg.ensures.cases.0 in
     let zero : (length others == 0) ≡ true = sym c.is_empty.ensures ∙ c.if-not-is_empty.false in
     let one : length others ≡ 0 = search rules in
-    c.path_in.ensures ∙ sym (ap path_argument seen ∙ path_of_one arg others one ∙ ap (λ b. if b then path_of (expr_of arg.value) else None) (sym c.is_value.ensures ∙ c.if-is_value.true))
+    c.as_path.ensures ∙ sym (ap path_argument seen ∙ path_of_one arg others one ∙ ap (λ b. if b then path_of (expr_of arg.value) else None) (sym c.is_value.ensures ∙ c.if-is_value.true))
