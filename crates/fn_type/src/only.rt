@@ -9,23 +9,6 @@ use std::alloc::Global;
 use vrl_builtin::Applied;
 use vrl_value::{Chars, Tag, Value};
 
-// The word that messages have for a tag.
-fn word_of(tag: Tag) -> &'static str
-    ensures { result.now ≡ tag_word tag }
-{
-    match tag {
-        Tag::Text => "string",
-        Tag::Int => "integer",
-        Tag::Bool => "boolean",
-        Tag::Null => "null",
-        Tag::Time => "timestamp",
-        Tag::Pattern => "regex",
-        Tag::List => "array",
-        Tag::Object => "object",
-        Tag::Absent => "absent",
-    }
-}
-
 // The value where it has the tag, else the function's error.
 pub(crate) fn only(alloc: Global, name: &str, tag: Tag, value: &Value) -> Applied
     ensures { Applies (only_answer name.now tag (tree_of value.now)) result }
@@ -41,7 +24,7 @@ pub(crate) fn only(alloc: Global, name: &str, tag: Tag, value: &Value) -> Applie
 fn fail_at_tag(alloc: Global, name: &str, tag: Tag) -> Applied
     ensures { Applies (failed name.now (codes "value is " ++ tag_word tag)) result }
 {
-    let word = word_of(tag);
+    let word = tag.word();
     match format!(in alloc; "{name}: value is {word}") {
         Ok(text) => Applied::Failed(Chars::new(text)),
         Err(_refused) => Applied::Memory,

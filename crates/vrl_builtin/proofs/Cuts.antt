@@ -8,9 +8,8 @@ use Rattle.vrl_value.specs.declared.value.Tag.{Tag}
 use Rattle.vrl_value.specs.declared.value.Tag.TheVariants as tag
 use Rattle.vrl_kind.specs.KindTree.{KindTree}
 use Rattle.vrl_kind.specs.Kinds.{tags_at, without_at}
-use Rattle.vrl_kind.specs.Tags.{all_tags, same_tag}
-use Rattle.vrl_builtin.specs.CutDown.{cut_to, outer_tag, stays, IsCutBy}
-use Rattle.vrl_builtin.specs.Law.{HasTags}
+use Rattle.vrl_kind.specs.Tags.{same_tag}
+use Rattle.vrl_builtin.specs.CutDown.{outer_tag, stays, IsCutBy}
 use Rattle.vrl_builtin.specs.TagSets.{allows}
 use Rattle.vrl_builtin.specs.declared.tags.Tags.{Tags}
 
@@ -61,18 +60,3 @@ cut_by-more T ts i d K L M below before one p u =
 or-false : (b : Bool) → (b || false) ≡ b
 or-false true = refl
 or-false false = refl
-
-all_stay : (T : Tags) (t : Tag) → stays T all_tags t ≡ allows T t
-all_stay T tag.Text = or-false T.string
-all_stay T tag.Int = or-false T.integer
-all_stay T tag.Bool = or-false T.boolean
-all_stay T tag.Null = or-false T.null
-all_stay T tag.Time = or-false T.timestamp
-all_stay T tag.Pattern = or-false T.regex
-all_stay T tag.List = or-false T.array
-all_stay T tag.Object = or-false T.object
-all_stay T tag.Absent = refl
-
--- after all tags
-pub cut_by-all : (T : Tags) (K L : KindTree) → IsCutBy T all_tags K L → HasTags L (cut_to T K)
-cut_by-all T K L cut p u = cut p u ∙ ap (λ b. tags_at K p u && b) (all_stay T (outer_tag p u))

@@ -1,8 +1,8 @@
 -- Descriptions of which any may hold, and words.
-use Rattle.std.proofs.Common.{◌≡◌, ℕ, suc, ◌+◌, Bool, true, false, ◌||◌, List, [], ◌∷◌, ◌++◌, length, is_some, refl, sym, ap, ◌∙◌, append_assoc, append-nil, arith}
+use Rattle.std.proofs.Common.{◌≡◌, ℕ, suc, ◌+◌, Bool, true, false, ◌||◌, List, [], ◌∷◌, ◌++◌, length, refl, sym, ap, ◌∙◌, append_assoc, append-nil, arith}
 use Rattle.std.proofs.lemmas.List.Folds.{list_any-append}
 use Rattle.vrl_value.specs.Look.{place}
-use Rattle.vrl_value.specs.Tree.{Tree, string, array, Items, no_items, item}
+use Rattle.vrl_value.specs.Tree.{Tree, array, Items, no_items, item}
 use Rattle.vrl_value.specs.View.{items_view, tree_of}
 use Rattle.vrl_value.specs.declared.value.Tag.{Tag}
 use Rattle.vrl_value.specs.declared.value.Value.{Value}
@@ -11,7 +11,7 @@ use Rattle.vrl_kind.specs.Kinds.{tags_at, IsJoin}
 use Rattle.vrl_kind.specs.Tags.{Tags}
 use Rattle.vrl_kindfile.specs.Descriptions.{alternative_at, alternatives, any_of, items_alternatives}
 use Rattle.vrl_kindfile.specs.Faults.{Role, as_description, faults, has_items, items_faults, under}
-use Rattle.vrl_kindfile.specs.Walk.{AreAlternatives, IsDescription, IsWordKind}
+use Rattle.vrl_kindfile.specs.Walk.{AreAlternatives, IsDescription}
 use Rattle.vrl_kindfile.proofs.Refusals.{faultless_inside, faultless_both}
 
 or_nothing : (b : Bool) → b ≡ (b || false)
@@ -21,12 +21,6 @@ or_nothing false = refl
 -- one alternative
 pub any_single : (f : Tree → Tags) (d : Tree) (u : Tag) → f d u ≡ any_of f (d ∷ []) u
 any_single f d u = or_nothing (f d u)
-
-pub word_described : (word : List ℕ) (K : KindTree) → IsWordKind word K → IsDescription (string word) K
-word_described word K is = record {
-  faultless = faultless_inside (is_some _) [] is.known refl;
-  tags = λ p u. is.tags p u ∙ any_single (alternative_at p) (string word) u;
-}
 
 pub list_described : (ts : Items) (K : KindTree) → has_items ts ≡ true → AreAlternatives 0 ts K → IsDescription (array ts) K
 list_described ts K some is = record { faultless = faultless_inside (has_items ts) _ some is.faultless; tags = is.tags }

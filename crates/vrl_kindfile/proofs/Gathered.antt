@@ -10,11 +10,11 @@ use Rattle.vrl_value.specs.View.{items_view, members_view, tree_of}
 use Rattle.vrl_value.specs.declared.value.Value.{Value}
 use Rattle.vrl_kind.specs.KindTree.{KindTree}
 use Rattle.vrl_kindfile.specs.Faults.{as_description, as_fields, as_part, faults, has_items, items_faults, members_faults, under}
-use Rattle.vrl_kindfile.specs.Walk.{AreAlternatives, HaveFields, HavePlaces, IsDescription, IsPart, IsRefusal, IsUnder, NamesAreOrdered}
+use Rattle.vrl_kindfile.specs.Walk.{AreAlternatives, HaveFields, HavePlaces, IsDescription, IsPart, IsRefusal, NamesAreOrdered}
 use Rattle.vrl_kindfile.specs.declared.refusal.Refusal.{Refusal}
 use Rattle.vrl_kindfile.proofs.Alternatives.{items_faults-append, list_described, single}
-use Rattle.vrl_kindfile.proofs.Refusals.{refused_before, refused_under}
-use Rattle.vrl_kindfile.proofs.Sizes.{items_size, size_of}
+use Rattle.vrl_kindfile.proofs.Refusals.{refused_before}
+use Rattle.vrl_kindfile.proofs.Sizes.{items_size}
 
 -- ---- lists of alternatives
 
@@ -36,13 +36,6 @@ only_item (w ∷ x ∷ vs) v one is = absurd (omega arith)
 
 pub only_kind : (vs : List Value) (v : Value) (from : ℕ) (K : KindTree) → length vs ≡ 1 → v ≡ get_or vs 0 v → IsDescription (tree_of v) K → AreAlternatives from (items_view vs) K
 only_kind vs v from K one is of = subst (λ ts. AreAlternatives from ts K) (sym (only_item vs v one is)) (single from (tree_of v) K of)
-
-pub only_refused : (vs : List Value) (v : Value) (from : ℕ) (r longer : Refusal) → length vs ≡ 1 → v ≡ get_or vs 0 v → IsRefusal (faults as_description (tree_of v)) r → IsUnder (place from) r longer → IsRefusal (items_faults as_description from (items_view vs)) longer
-only_refused vs v from r longer one is first under_is =
-    subst (λ ts. IsRefusal (items_faults as_description from ts) longer) (sym (only_item vs v one is)) (refused_under (place from) (faults as_description (tree_of v)) [] r longer first under_is)
-
-pub only_size : (vs : List Value) (v : Value) → length vs ≡ 1 → v ≡ get_or vs 0 v → items_size (items_view vs) ≡ size_of (tree_of v) + 1
-only_size vs v one is = ap items_size (only_item vs v one is) ∙ omega arith
 
 -- the halves of a list
 pub halves_of : (all front back : List Value) (n : ℕ) → front ≡ take n all → back ≡ drop n all → all ≡ front ++ back
@@ -81,11 +74,6 @@ next_place all i next v below is at =
 pub no_place_left : (all : List Value) (i : ℕ) → length all ≤ i → items_view (drop i all) ≡ no_items
 no_place_left all i end = at_drop_all items_view all i end
 
-pub place_refused : (i : ℕ) (left rest whole : Items) (t : Tree) (r longer : Refusal) → left ≡ item t rest → items_faults as_part i left ≡ items_faults as_part 0 whole
-    → IsRefusal (faults as_part t) r → IsUnder (place i) r longer → IsRefusal (items_faults as_part 0 whole) longer
-place_refused i left rest whole t r longer is same first under_is =
-    subst (λ paths. IsRefusal paths longer) (ap (items_faults as_part i) (sym is) ∙ same) (refused_under (place i) (faults as_part t) (items_faults as_part (suc i) rest) r longer first under_is)
-
 pub place_faultless : (i next : ℕ) (left rest whole : Items) (t : Tree) → left ≡ item t rest → next ≡ i + 1 → items_faults as_part i left ≡ items_faults as_part 0 whole → faults as_part t ≡ [] → items_faults as_part next rest ≡ items_faults as_part 0 whole
 place_faultless i next left rest whole t is at same none =
     ap (λ (n : ℕ). items_faults as_part n rest) (at ∙ add-one i) ∙ ap (λ paths. under (place i) paths ++ items_faults as_part (suc i) rest) (sym none) ∙ ap (items_faults as_part i) (sym is) ∙ same
@@ -118,11 +106,6 @@ names_ordered e es sorted rest = (is_before e.0 es sorted.0, rest)
 pub sorted_behind : (e : Entry) (es : List Entry) → IsStrictlySortedBy string_cmp (keys_of (e ∷ es)) → IsStrictlySortedBy string_cmp (keys_of es)
 unfolding IsStrictlySortedBy
 sorted_behind e es sorted = sorted.1
-
-pub field_refused : (name : List ℕ) (left rest whole : Members) (t : Tree) (r longer : Refusal) → left ≡ member name t rest → members_faults as_fields left ≡ members_faults as_fields whole
-    → IsRefusal (faults as_part t) r → IsUnder (field name) r longer → IsRefusal (members_faults as_fields whole) longer
-field_refused name left rest whole t r longer is same first under_is =
-    subst (λ paths. IsRefusal paths longer) (ap (members_faults as_fields) (sym is) ∙ same) (refused_under (field name) (faults as_part t) (members_faults as_fields rest) r longer first under_is)
 
 pub field_faultless : (name : List ℕ) (left rest whole : Members) (t : Tree) → left ≡ member name t rest → members_faults as_fields left ≡ members_faults as_fields whole → faults as_part t ≡ [] → members_faults as_fields rest ≡ members_faults as_fields whole
 field_faultless name left rest whole t is same none =

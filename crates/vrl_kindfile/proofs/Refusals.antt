@@ -1,9 +1,9 @@
 -- Refusals: the first of the faults, told from one value further out.
-use Rattle.std.proofs.Common.{◌≡◌, ℕ, Bool, true, false, List, [], ◌∷◌, ◌++◌, Some, option_map, sym, ap, ◌∙◌}
+use Rattle.std.proofs.Common.{◌≡◌, ℕ, Bool, true, List, [], ◌∷◌, ◌++◌, Some, option_map, sym, ap, ◌∙◌}
 use Rattle.vrl_value.specs.Look.{Step}
 use Rattle.vrl_kindfile.specs.Faults.{first_of, own_or, under}
 use Rattle.vrl_kindfile.specs.Pointer.{pointer_of, step_text}
-use Rattle.vrl_kindfile.specs.Walk.{IsHere, IsRefusal, IsUnder}
+use Rattle.vrl_kindfile.specs.Walk.{IsRefusal, IsUnder}
 use Rattle.vrl_kindfile.specs.declared.refusal.Refusal.{Refusal}
 use Rattle.vrl_kindfile.specs.declared.refusal.Refusal.TheVariants as refusal
 
@@ -31,10 +31,6 @@ refused_alone s paths (refusal.Bad pointer) refusal.Memory first is = tt
 refused_alone s paths refusal.Memory (refusal.Bad longer) first is = absurd is
 refused_alone s paths refusal.Memory refusal.Memory first is = tt
 
--- the part before has no fault
-pub refused_behind : (s : Step) (paths others : List (List Step)) (r : Refusal) → paths ≡ [] → IsRefusal others r → IsRefusal (under s paths ++ others) r
-refused_behind s paths others r none first = rw none first
-
 -- other faults behind change nothing
 pub refused_before : (paths others : List (List Step)) (r : Refusal) → IsRefusal paths r → IsRefusal (paths ++ others) r
 refused_before [] others (refusal.Bad pointer) first = cc
@@ -44,11 +40,6 @@ refused_before paths others refusal.Memory first = tt
 -- nothing is at fault
 pub faultless_both : (s : Step) (paths others : List (List Step)) → paths ≡ [] → others ≡ [] → under s paths ++ others ≡ []
 faultless_both s paths others first second = rw first second
-
--- the value itself is at fault
-pub refused_itself : (fits : Bool) (parts : List (List Step)) (r : Refusal) → fits ≡ false → IsHere r → IsRefusal (own_or fits parts) r
-refused_itself fits parts (refusal.Bad pointer) unfit here = rw unfit (ap Some (sym here))
-refused_itself fits parts refusal.Memory unfit here = tt
 
 -- it isn't
 pub refused_inside : (fits : Bool) (parts : List (List Step)) (r : Refusal) → fits ≡ true → IsRefusal parts r → IsRefusal (own_or fits parts) r

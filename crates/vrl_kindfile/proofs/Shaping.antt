@@ -9,10 +9,9 @@ use Rattle.vrl_kind.specs.Kinds.{tags_at}
 use Rattle.vrl_kindfile.specs.Shapes.{Shape, arrays, objects, shape_named, shape_of}
 use Rattle.vrl_kindfile.specs.Descriptions.{alternative_at, described_at, part_tags, shape_part, shape_tags}
 use Rattle.vrl_kindfile.specs.Faults.{as_description, as_rest, faults, member_role, members_faults, under}
-use Rattle.vrl_kindfile.specs.Walk.{IsDescription, IsRefusal, IsShape, rest_faults, shape_faults}
-use Rattle.vrl_kindfile.specs.declared.refusal.Refusal.{Refusal}
+use Rattle.vrl_kindfile.specs.Walk.{IsDescription, IsShape, rest_faults, shape_faults}
 use Rattle.vrl_kindfile.proofs.Alternatives.{any_single}
-use Rattle.vrl_kindfile.proofs.Refusals.{faultless_inside, refused_inside}
+use Rattle.vrl_kindfile.proofs.Refusals.{faultless_inside}
 
 -- which of two shapes a name gives
 data IsNamed (name : List ℕ) (parts : Tree) (rest : Option Tree) : Shape → Type 0 where
@@ -70,6 +69,3 @@ shape_described ms shape K e is = record {
   tags_of : (p : List Step) (u : Tag) → tags_at K p u ≡ alternative_at p (object ms) u
   tags_of [] u = is.root u ∙ ap (λ found. shape_tags found u) (sym e)
   tags_of (s ∷ p) u = is.parts s p u ∙ ap (λ found. part_tags (shape_part found s) p (described_at p) u) (sym e)
-
-pub shape_refused : (ms : Members) (shape : Shape) (r : Refusal) → shape_of ms ≡ Some shape → IsRefusal (shape_faults shape) r → IsRefusal (faults as_description (object ms)) r
-shape_refused ms shape r e first = refused_inside _ _ r (fitting ms shape e) (subst (λ paths. IsRefusal paths r) (sym (shape_has_faults ms shape e)) first)

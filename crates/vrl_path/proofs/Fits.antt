@@ -133,18 +133,10 @@ one_entry_at Greater l u limit fits = let h : depth_of u ≤ limit = fits (λ e.
 equal_keys : (k l : List ℕ) → k ≡ l → slice_cmp nat_cmp k l ≡ Equal
 equal_keys k l same = subst (λ q. slice_cmp nat_cmp k q ≡ Equal) same (tied_itself nat_list_cmp_total k)
 
--- an entry that is at the name, or within the limit
-pub one_entry : (k : List ℕ) (e : String Global × Value) (limit : ℕ) → (string_bytes e.0 ≢ k → depth_of (tree_of e.1) ≤ limit) → members_depth (without k (members_view (e ∷ []))) ≤ limit
-one_entry k e limit fits = one_entry_at (slice_cmp nat_cmp k (string_bytes e.0)) (string_bytes e.0) (tree_of e.1) limit (λ other. fits (λ same. other (equal_keys k (string_bytes e.0) (sym same))))
-
 deep_entry_at : (o : Ordering) (l : List ℕ) (u : Tree) (rest : Members) → o ≢ Equal → depth_of u ≤ members_depth (match_ordering o (member l u rest) rest (member l u rest))
 deep_entry_at Less l u rest other = omega arith
 deep_entry_at Equal l u rest other = absurd (other refl)
 deep_entry_at Greater l u rest other = omega arith
-
--- an entry at another name counts
-pub deep_entry : (k : List ℕ) (e : String Global × Value) (left : List (String Global × Value)) → string_bytes e.0 ≢ k → depth_of (tree_of e.1) ≤ members_depth (without k (members_view (e ∷ left)))
-deep_entry k e left other = deep_entry_at (slice_cmp nat_cmp k (string_bytes e.0)) (string_bytes e.0) (tree_of e.1) (without k (members_view left)) (λ is. other (sym (same_keys k (string_bytes e.0) is)))
 
 each_within : (vs : List Value) (limit : ℕ) → ((k : ℕ) (d : Value) → k < length vs → depth_of (tree_of (get_or vs k d)) ≤ limit) → items_depth (items_view vs) ≤ limit
 each_within [] limit each = omega arith
@@ -210,18 +202,9 @@ array_at : (o : Option Tree) (i : ℕ) (ts : Items) (p : List Step) (n : Tree)
 array_at None i ts p n = refl
 array_at (Some u) i ts p n = refl
 
--- a set in an object, and in what is none
-pub set_object : (v : Tree) (k : List ℕ) (ms : Members) (p : List Step) (n : Tree) → Some ms ≡ members_if_object v → depth_of (set_tree v (field k ∷ p) n) ≡ suc (members_depth (set_in_fields k ms p n))
-set_object (object ns) k ms p n is = let e : ns ≡ ms = cc in ap depth_of (object_at (find k ns) k ns p n) ∙ ap (λ x. suc (members_depth (set_in_fields k x p n))) e
-set_object v k ms p n is = absurd cc
-
 pub set_no_object : (v : Tree) (k : List ℕ) (p : List Step) (n : Tree) → None ≡ members_if_object v → depth_of (set_tree v (field k ∷ p) n) ≤ suc (length p + depth_of n)
 set_no_object (object ms) k p n none = absurd cc
 set_no_object v k p n none = let h = chain_shallow p n in omega arith
-
-pub set_array : (v : Tree) (i : ℕ) (ts : Items) (p : List Step) (n : Tree) → Some ts ≡ items_if_array v → depth_of (set_tree v (place i ∷ p) n) ≡ suc (items_depth (set_in_items i ts p n))
-set_array (array us) i ts p n is = let e : us ≡ ts = cc in ap depth_of (array_at (item_at i us) i us p n) ∙ ap (λ x. suc (items_depth (set_in_items i x p n))) e
-set_array v i ts p n is = absurd cc
 
 pub set_no_array : (v : Tree) (i : ℕ) (p : List Step) (n : Tree) → None ≡ items_if_array v → depth_of (set_tree v (place i ∷ p) n) ≤ suc (length p + depth_of n)
 set_no_array (array ts) i p n none = absurd cc

@@ -11,8 +11,8 @@ use crate::path::Step;
 use std::collections::BTreeMap;
 use vrl_value::{Fields, Items, Value, members_are_maps};
 
-// The greatest depth of a value that a set may leave.
-const LIMIT: u64 = 128;
+/// The greatest depth of a value that a write may leave.
+pub const DEPTH_LIMIT: u64 = 128;
 
 /// Whether the value with a new one at the end of the steps is within the limit of depth. Where the new one
 /// and the steps settle it, only the new one is looked at; else each part beside the steps, too.
@@ -23,13 +23,13 @@ pub fn is_within_limit(value: &Value, steps: &[Step], new: &Value) -> bool
 {
     let depth = new.depth();
     let length = steps.len() as u64;
-    if depth > LIMIT {
+    if depth > DEPTH_LIMIT {
         return false;
     }
-    if length > LIMIT - depth {
+    if length > DEPTH_LIMIT - depth {
         return false;
     }
-    fits_at(value, steps, LIMIT)
+    fits_at(value, steps, DEPTH_LIMIT)
 }
 
 // Whether the value is within a limit of depth with a new one at the end of the steps, which has room there.

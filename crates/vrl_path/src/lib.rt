@@ -12,6 +12,7 @@ mod read;
 mod removal;
 mod write;
 
+pub use depth::DEPTH_LIMIT;
 pub use fault::SetFault;
 pub use laws::{
     reads_are_look_ups, removals_are_one, removed_trees_are_removals, set_trees_are_sets,

@@ -102,9 +102,6 @@ pub stripped_none : (mark : ℕ) (s : List ℕ) → ((rest : List ℕ) → s ≢
 stripped_none mark [] other = refl
 stripped_none mark (c ∷ s) other = elim (eqb_tells c mark) [ inl same ↦ absurd (other s (ap (λ d. d ∷ s) same.1)) | inr apart ↦ rw apart.0 refl ]
 
-pub stripped_some : (mark : ℕ) (s rest : List ℕ) → s ≡ mark ∷ rest → rest ≡ without mark s
-stripped_some mark s rest is = rw is (elim (eqb_tells mark mark) [ inl same ↦ rw same.0 refl | inr apart ↦ absurd (apart.1 refl) ])
-
 -- a `(` without `?` behind it
 pub names_no_question : (s : List ℕ) → ((rest : List ℕ) → s ≢ 0x3F ∷ rest) → names_from parenthesis s ≡ [] ∷ names_from (at 0) s
 unfolding names_from

@@ -1,5 +1,5 @@
 -- The kind that a read makes has just the tags that a read may find.
-use Rattle.std.proofs.Common.{◌≡◌, ◌≢◌, inl, inr, ℕ, ℤ, pos, negsuc, Some, None, Bool, true, false, ◌||◌, ◌&&◌, not, IsTrue, List, [], ◌∷◌, refl, sym, ap, ◌∙◌, subst}
+use Rattle.std.proofs.Common.{◌≡◌, ◌≢◌, inl, inr, ℕ, pos, negsuc, Bool, true, false, ◌||◌, ◌&&◌, not, IsTrue, List, [], ◌∷◌, refl, sym, ap, ◌∙◌, subst}
 use Rattle.std.proofs.lemmas.Bool.{true≢false}
 use Rattle.vrl_value.specs.Look.{Step, field, place}
 use Rattle.vrl_value.specs.declared.value.Tag.{Tag}
@@ -10,7 +10,7 @@ use Rattle.vrl_kind.specs.KindTree.{KindTree}
 use Rattle.vrl_kind.specs.Change.{Sets, null_for_absent}
 use Rattle.vrl_kind.specs.Kinds.{IsParts, step_tag, tags_at, without_at}
 use Rattle.vrl_kind.specs.Tags.{Tags, same_tag}
-use Rattle.vrl_place.specs.Inner.{AreSomePlaces, from_start}
+use Rattle.vrl_place.specs.Inner.{AreSomePlaces}
 use Rattle.vrl_place.specs.Read.{Allowed, HasJust, allowed, read, read_part, read_some_place, read_step}
 use Rattle.vrl_place.specs.Sets.{SameSets, has_other, or_absent_if, part}
 use Rattle.vrl_place.proofs.Same.{one_sets}
@@ -128,18 +128,6 @@ not_true false h = refl
 
 pub read_present : (A K : Sets) (r : List CodeStep) → HasJust K (read (allowed A) r) → A [] tag.Absent ≡ false → K [] tag.Absent ≡ false
 read_present A K r has present = not_true (K [] tag.Absent) (λ h. no_absent_read r (allowed A) (λ a. true≢false (sym a ∙ present)) ((has [] tag.Absent).0 h))
-
-the_place : {j i : ℕ} → Some j ≡ Some i → j ≡ i
-the_place e = cc
-
--- what a place reads, where it counts from the start, and where it counts from the end
-pub read_from_start : (A K : Sets) (s : CodeStep) (z : ℤ) (i : ℕ) (r : List CodeStep) → s ≡ Place z → from_start z ≡ Some i → HasJust K (read (read_part (allowed A) (place i)) r) → HasJust K (read (read_step (allowed A) s) r)
-read_from_start A K s (pos j) i r is from has = subst (λ x. HasJust K (read (read_step (allowed A) x) r)) (sym is) (subst (λ n. HasJust K (read (read_part (allowed A) (place n)) r)) (sym (the_place from)) has)
-read_from_start A K s (negsuc j) i r is from has = cc
-
-pub read_from_end : (A K : Sets) (s : CodeStep) (z : ℤ) (r : List CodeStep) → s ≡ Place z → from_start z ≡ None → HasJust K (read (read_some_place (allowed A)) r) → HasJust K (read (read_step (allowed A) s) r)
-read_from_end A K s (pos j) r is from has = cc
-read_from_end A K s (negsuc j) r is from has = subst (λ x. HasJust K (read (read_step (allowed A) x) r)) (sym is) has
 
 -- the same of sets and a path that are the same
 pub read_same : (A B K : Sets) (s : CodeStep) (r p : List CodeStep) → SameSets A B → p ≡ s ∷ r → HasJust K (read (read_step (allowed A) s) r) → HasJust K (read (allowed B) p)

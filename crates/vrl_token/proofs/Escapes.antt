@@ -2,7 +2,7 @@
 use Rattle.std.proofs.Common.{◌≡◌, ◌≢◌, ℕ, ◌≤◌, List, [], ◌∷◌, ◌++◌, inl, inr, refl, sym, ap, ◌∙◌, subst, append_assoc, arith}
 use Rattle.std.proofs.lemmas.Bool.Decides.{eqb_tells}
 use Rattle.vrl_token.specs.Scan.{HasNoByte}
-use Rattle.vrl_token.specs.Quoted.{IsInner, RawPair}
+use Rattle.vrl_token.specs.Quoted.{RawPair}
 use Rattle.std.specs.List.{AllByRecursion}
 use Rattle.vrl_token.specs.Characters.{Character, IsEscape, IsInside, IsKnown, escape_of, escaped, plain, raw_of, spelling_of, text_of}
 
@@ -76,9 +76,6 @@ pub record IsReadSoFar (all : List Character) (out rest : List ℕ) : Type 0 whe
   pub value : text_of all ≡ out ++ text_of left
   pub known : AllByRecursion IsKnown left → AllByRecursion IsKnown all
   pub only : AllByRecursion IsKnown all → AllByRecursion IsKnown left
-
-pub read_none : (all : List Character) (rest : List ℕ) → IsInner 34 rest all → IsReadSoFar all [] rest
-read_none all rest inner = record { left = all; inside = inner.inside; parts = inner.spelled; value = refl; known = λ h. h; only = λ h. h }
 
 -- what stands behind the next backslash
 pub next_escape : {all : List Character} {out rest before behind : List ℕ} → IsReadSoFar all out rest → AllByRecursion (λ b. b ≢ 92) before → rest ≡ before ++ 92 ∷ behind → (next : List Character) × HasEscape 34 next before behind

@@ -5,7 +5,7 @@ ghost use Rattle.vrl_value.specs.Parts.{count_of, members_count, put_item, witho
 ghost use Rattle.std.specs.Prelude.{◌≡◌, ◌≤◌, ◌↔◌, min, IfOk, IsTrue, OnErr, OnOk, option_map};
 ghost use Rattle.vrl_value.specs.Depth.{depth_of, items_depth, members_depth};
 ghost use Rattle.vrl_value.specs.Order.{order_of};
-ghost use Rattle.vrl_value.specs.Tag.{tag_of};
+ghost use Rattle.vrl_value.specs.Tag.{tag_of, word_of};
 ghost use Rattle.vrl_value.specs.Tree.{find, is_json, members_are_json, put, IsOrdered, ItemsAreOrdered, MembersAreOrdered};
 ghost use Rattle.vrl_value.specs.View.{items_of, items_view, members_of, members_view, tree_of};
 
@@ -145,6 +145,25 @@ pub enum Tag {
     Object,
     /// Nothing is there, as at a field that an object lacks. No value has this tag.
     Absent,
+}
+
+impl Tag {
+    /// The word for the tag in messages and in kinds told as text.
+    pub fn word(self) -> &'static str
+        ensures { result.now ≡ word_of self }
+    {
+        match self {
+            Tag::Text => "string",
+            Tag::Int => "integer",
+            Tag::Bool => "boolean",
+            Tag::Null => "null",
+            Tag::Time => "timestamp",
+            Tag::Pattern => "regex",
+            Tag::List => "array",
+            Tag::Object => "object",
+            Tag::Absent => "absent",
+        }
+    }
 }
 
 /// The parts of an array, in order.
