@@ -8,12 +8,12 @@ use Rattle.vrl_value.specs.Tag.{tag_of}
 use Rattle.vrl_value.specs.Tree.{Tree, string, integer, boolean, null, timestamp, regex, array, object, IsOrdered}
 use Rattle.vrl_value.specs.declared.value.Tag.{Tag}
 use Rattle.vrl_value.specs.declared.value.Tag.TheVariants as tag
-use Rattle.vrl_kind.specs.Change.{Sets}
 use Rattle.vrl_kind.specs.KindTree.{KindTree}
 use Rattle.vrl_kind.specs.Kinds.{tags_at, Inhabits}
+use Rattle.vrl_kind.specs.Sets.{Sets, IsAllowed}
 use Rattle.vrl_kind.specs.Tags.{all_tags, same_tag}
 use Rattle.vrl_builtin.specs.CutDown.{allows_other, cut_to, given_cut_to}
-use Rattle.vrl_builtin.specs.Law.{IsLawful, IsOf, IsOfGiven}
+use Rattle.vrl_builtin.specs.Law.{IsLawful, IsOfGiven}
 use Rattle.vrl_builtin.specs.Rows.{Answer, value, allows_tag, argument_at}
 use Rattle.vrl_builtin.specs.TagSets.{allows, only_tag}
 use Rattle.vrl_builtin.specs.declared.tags.Tags.{Tags}
@@ -29,7 +29,7 @@ IsPlain (regex n) = ⊥
 IsPlain (array ts) = ⊥
 IsPlain (object ms) = ⊥
 
-plain_is_of : (v : Tree) (A : Sets) → IsPlain v → IsTrue (A [] (tag_of v)) → IsOf v A
+plain_is_of : (v : Tree) (A : Sets) → IsPlain v → IsTrue (A [] (tag_of v)) → IsAllowed v A
 plain_is_of v A plain allowed [] = allowed
 plain_is_of (string s) A plain allowed (step ∷ p) = tt
 plain_is_of (integer n) A plain allowed (step ∷ p) = tt
@@ -86,7 +86,7 @@ both_if : (o : Option Tag) (P : Tag → Bool) (b : Bool) → IfSome o (λ t. IsT
 both_if None P b holds is = tt
 both_if (Some t) P b holds is = both (P t) b holds is
 
-cut_is_of : (T : Tags) (K : KindTree) (v : Tree) → Inhabits v K → allows T (tag_of v) ≡ true → IsOf v (cut_to T K)
+cut_is_of : (T : Tags) (K : KindTree) (v : Tree) → Inhabits v K → allows T (tag_of v) ≡ true → IsAllowed v (cut_to T K)
 cut_is_of T K v inhabits allowed [] = both (tags_at K [] (tag_of v)) (allows T (tag_of v)) (inhabits []) allowed
 cut_is_of T K (array ts) inhabits allowed (place i ∷ p) = both_if (tag_found (raw_at (array ts) (place i ∷ p))) (tags_at K (place i ∷ p)) (allows T tag.List) (inhabits (place i ∷ p)) allowed
 cut_is_of T K (array ts) inhabits allowed (field k ∷ p) = tt
@@ -99,7 +99,7 @@ cut_is_of T K null inhabits allowed (step ∷ p) = tt
 cut_is_of T K (timestamp nanos) inhabits allowed (step ∷ p) = tt
 cut_is_of T K (regex n) inhabits allowed (step ∷ p) = tt
 
-given_cut_is_of : (T : Tags) (K : Option KindTree) (v : Tree) → IsOfGiven K (Some v) → allows T (tag_of v) ≡ true → IsOf v (given_cut_to T K)
+given_cut_is_of : (T : Tags) (K : Option KindTree) (v : Tree) → IsOfGiven K (Some v) → allows T (tag_of v) ≡ true → IsAllowed v (given_cut_to T K)
 given_cut_is_of T None v of allowed = absurd of
 given_cut_is_of T (Some K) v of allowed = cut_is_of T K v of allowed
 

@@ -3,9 +3,9 @@ use Rattle.std.specs.Prelude.{Bool, false, ◌&&◌, ◌||◌, ◌≡◌, not, L
 use Rattle.std.specs.List.{list_any}
 use Rattle.vrl_value.specs.Look.{Step}
 use Rattle.vrl_value.specs.declared.value.Tag.{Tag}
-use Rattle.vrl_kind.specs.Change.{Sets}
 use Rattle.vrl_kind.specs.KindTree.{KindTree}
 use Rattle.vrl_kind.specs.Kinds.{step_tag, tags_at}
+use Rattle.vrl_kind.specs.Sets.{Sets}
 use Rattle.vrl_kind.specs.Tags.{all_tags, same_tag}
 use Rattle.vrl_builtin.specs.TagSets.{allows}
 use Rattle.vrl_builtin.specs.declared.tags.Tags.{Tags}

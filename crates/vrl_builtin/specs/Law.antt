@@ -1,22 +1,13 @@
 -- The law that ties what a row says of kinds to what it says of values.
 use Rattle.std.specs.Prelude.{◌≡◌, ℕ, Bool, false, List, [], Option, Some, None, IsTrue, IfSome, IsSomeAnd, length, ⊤}
-use Rattle.vrl_value.specs.Look.{Step, raw_at, tag_found, there}
+use Rattle.vrl_value.specs.Look.{Step, raw_at, there}
 use Rattle.vrl_value.specs.Tree.{Tree, regex, IsOrdered}
-use Rattle.vrl_value.specs.declared.value.Tag.{Tag}
 use Rattle.vrl_value.specs.declared.value.Tag.TheVariants as tag
-use Rattle.vrl_kind.specs.Change.{Sets}
 use Rattle.vrl_kind.specs.KindTree.{KindTree}
-use Rattle.vrl_kind.specs.Kinds.{tags_at, Inhabits}
+use Rattle.vrl_kind.specs.Kinds.{Inhabits}
+use Rattle.vrl_kind.specs.Sets.{Sets, IsAllowed}
 use Rattle.vrl_builtin.specs.Conditions.{arguments_below, literals_below, AreArguments, AreGiven}
 use Rattle.vrl_builtin.specs.Rows.{GivenTree, SettingTree, Answer, value, failure, Row, argument_at, kind_at, literal_at}
-
--- the kind allows these tags at each path, and no others
-abbrev pub HasTags : KindTree → Sets → Type 0
-HasTags K A = (p : List Step) (t : Tag) → tags_at K p t ≡ A p t
-
--- the value is of each kind with these tags
-abbrev pub IsOf : Tree → Sets → Type 0
-IsOf v A = (p : List Step) → IfSome (tag_found (raw_at v p)) (λ t. IsTrue (A p t))
 
 -- the regex with this number stands somewhere in the value
 abbrev pub HoldsRegex : ℕ → Tree → Type 0
@@ -38,7 +29,7 @@ pub record AreInstances (givens : List GivenTree) (arguments : List (Option Tree
 -- what may be answered: a value in order of such a kind, whose regexes stand in the arguments, or an error where the call may fail
 abbrev pub IsLawful : Sets → Bool → List (Option Tree) → Answer → Type 0
 IsLawful A fails arguments (value v) =
-    IsOf v A × IsOrdered v × ((n : ℕ) → HoldsRegex n v → (place : ℕ) × IsSomeAnd (argument_at place arguments) (HoldsRegex n))
+    IsAllowed v A × IsOrdered v × ((n : ℕ) → HoldsRegex n v → (place : ℕ) × IsSomeAnd (argument_at place arguments) (HoldsRegex n))
 IsLawful A fails arguments (failure text) = IsTrue fails
 
 pub record KeepsLaw (r : Row) : Type 0 where

@@ -2,9 +2,9 @@
 use Rattle.std.specs.Prelude.{ℕ, ℤ, Bool, true, false, List, [], ◌++◌, Option, Some, None, codes, option_map, slice_get}
 use Rattle.vrl_value.specs.Tree.{Tree, string, integer, null}
 use Rattle.vrl_value.specs.declared.value.Tag.{Tag}
-use Rattle.vrl_kind.specs.Change.{Sets}
 use Rattle.vrl_kind.specs.KindTree.{KindTree}
 use Rattle.vrl_kind.specs.Kinds.{tags_at}
+use Rattle.vrl_kind.specs.Sets.{Sets}
 use Rattle.vrl_builtin.specs.declared.tags.Tags.{Tags}
 
 -- a parameter: its name, the tags that an argument may have, whether one must be given, and whether it must be written as a literal

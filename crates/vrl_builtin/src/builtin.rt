@@ -1,6 +1,8 @@
 ghost use Rattle.std.specs.Prelude.{◌≡◌, map, length, IfOk, IsTrue};
+ghost use Rattle.vrl_kind.specs.Kinds.{tags_at};
+ghost use Rattle.vrl_kind.specs.Sets.{SameSets};
 ghost use Rattle.vrl_builtin.specs.Conditions.{arguments_below, first_wrong, literals_below, AreArguments, AreGiven};
-ghost use Rattle.vrl_builtin.specs.Law.{HasTags, KeepsLaw};
+ghost use Rattle.vrl_builtin.specs.Law.{KeepsLaw};
 ghost use Rattle.vrl_builtin.specs.Rows.{Row};
 ghost use Rattle.vrl_builtin.specs.View.{arguments_of, givens_of, parameter_row, setting_of, Applies};
 
@@ -42,7 +44,7 @@ pub trait Builtin {
     ) -> Result<Kind, Memory>
         requires given { AreGiven (row self.now) (givens_of given.now) }
         requires regexes { IsTrue (literals_below (length patterns.now) (givens_of given.now)) }
-        ensures { IfOk result (λ kind. HasTags kind ((row self.now).kind (givens_of given.now) patterns.now)) };
+        ensures { IfOk result (λ kind. SameSets (tags_at kind) ((row self.now).kind (givens_of given.now) patterns.now)) };
 
     /// Whether a call with such arguments may fail though they are allowed. The conditions are those of `result_kind` on what is given.
     fn may_fail(&self, given: &Givens) -> bool

@@ -1,7 +1,8 @@
 ghost use Rattle.std.specs.Prelude.{◌≡◌, [], ◌∷◌, IfOk, Some, not};
+ghost use Rattle.vrl_kind.specs.Kinds.{tags_at};
+ghost use Rattle.vrl_kind.specs.Sets.{SameSets};
 ghost use Rattle.vrl_kind.specs.Tags.{same_tag};
 ghost use Rattle.vrl_builtin.specs.CutDown.{allows_other, cut_to, given_cut_to, IsCutBy};
-ghost use Rattle.vrl_builtin.specs.Law.{HasTags};
 ghost use Rattle.vrl_builtin.specs.Rows.{kind_at};
 ghost use Rattle.vrl_builtin.specs.View.{givens_of};
 
@@ -40,7 +41,7 @@ fn cut_at(alloc: Global, kind: Kind, tags: &Tags, tag: Tag) -> Result<Kind, Memo
 
 /// The kind without the tags at its root that aren't in the set. `Memory`: want of memory.
 pub fn cut_down(alloc: Global, kind: &Kind, tags: &Tags) -> Result<Kind, Memory>
-    ensures { IfOk result (λ lower. HasTags lower (cut_to tags.now kind.now)) }
+    ensures { IfOk result (λ lower. SameSets (tags_at lower) (cut_to tags.now kind.now)) }
 {
     let mut lower = kind.copy(alloc)?;
     for tag in &TAGS {
@@ -53,7 +54,7 @@ impl Givens {
     /// The kind of the argument at a place, without the tags at its root that aren't in the set; no value's where none is given. `Memory`:
     /// want of memory.
     pub fn cut_down(&self, alloc: Global, place: usize, tags: &Tags) -> Result<Kind, Memory>
-        ensures { IfOk result (λ lower. HasTags lower (given_cut_to tags.now (kind_at place (givens_of self.now)))) }
+        ensures { IfOk result (λ lower. SameSets (tags_at lower) (given_cut_to tags.now (kind_at place (givens_of self.now)))) }
     {
         match self.kind(place) {
             Some(kind) => cut_down(alloc, kind, tags),

@@ -18,13 +18,13 @@ use Rattle.vrl_syntax.specs.declared.root.Op.{Op}
 use Rattle.vrl_syntax.specs.declared.root.Root.{Root}
 use Rattle.vrl_syntax.specs.declared.root.Target.{Target}
 use Rattle.vrl_syntax.specs.declared.root.Target.TheVariants.{Nowhere, Place}
-use Rattle.vrl_kind.specs.Change.{Sets}
 use Rattle.vrl_kind.specs.Canonical.{any_kind, never_kind}
 use Rattle.vrl_kind.specs.Count.{nodes, levels}
 use Rattle.vrl_kind.specs.Cut.{IsCut, level_limit, node_limit}
 use Rattle.vrl_kind.specs.KindTree.{KindTree}
 use Rattle.vrl_kind.specs.Kinds.{found_at, root_tags, tags_at}
 use Rattle.vrl_kind.specs.Laws.{EqualTagsAreOneKind}
+use Rattle.vrl_kind.specs.Sets.{Sets}
 use Rattle.vrl_place.specs.Remove.{remove}
 use Rattle.vrl_place.specs.Sets.{is_alone}
 use Rattle.vrl_state.specs.States.{HasNow, IsCutOf, IsEither, IsEitherVariable, IsJoined, RootMap, Variables, kind_of, with_kind}

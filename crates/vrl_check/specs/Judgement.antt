@@ -22,11 +22,11 @@ use Rattle.vrl_syntax.specs.declared.root.Target.{Target}
 use Rattle.vrl_syntax.specs.declared.root.Target.TheVariants.{Nowhere, Place}
 use Rattle.vrl_kind.specs.Canonical.{IsCanonical, any_kind, never_kind}
 use Rattle.vrl_kind.specs.KindTree.{KindTree}
-use Rattle.vrl_kind.specs.Kinds.{found_at, root_tags}
+use Rattle.vrl_kind.specs.Kinds.{found_at, root_tags, tags_at}
+use Rattle.vrl_kind.specs.Sets.{SameSets}
 use Rattle.vrl_place.specs.Sets.{is_alone}
 use Rattle.vrl_state.specs.States.{RootMap, State, kind_of, IsCutOf, IsEither, IsJoined, IsStart}
 use Rattle.vrl_builtin.specs.CutDown.{cut_to}
-use Rattle.vrl_builtin.specs.Law.{HasTags}
 use Rattle.vrl_builtin.specs.Rows.{GivenTree, ParameterRow, Row}
 use Rattle.vrl_builtin.specs.declared.tags.Tags.{Tags as TagSet}
 use Rattle.vrl_table.specs.Binding.{binding, keywords_of, path_parameters}
@@ -154,7 +154,7 @@ places_in (Err f) = []
 -- the kind without the tags at its root that aren't among these
 pub record IsCutDown (T : TagSet) (K L : KindTree) : Type 0 where
   pub canonical : IsCanonical L
-  pub tags : HasTags L (cut_to T K)
+  pub tags : SameSets (tags_at L) (cut_to T K)
 
 -- what a function is asked about: the kind of each argument, cut down to the tags that its parameter allows, and its value where it is
 -- written as a literal

@@ -12,12 +12,12 @@ use Rattle.vrl_value.specs.Tag.{tag_of}
 use Rattle.vrl_value.specs.Tree.{Tree, string, object, Members, no_members, member, find, put, IsBefore, MembersAreOrdered}
 use Rattle.vrl_value.specs.declared.value.Tag.{Tag}
 use Rattle.vrl_value.specs.declared.value.Tag.TheVariants as tag
-use Rattle.vrl_kind.specs.Change.{Sets}
 use Rattle.vrl_kind.specs.KindTree.{KindTree}
 use Rattle.vrl_kind.specs.Kinds.{tags_at, Inhabits}
 use Rattle.vrl_kind.specs.Overlay.{over_at, overlaid_at}
+use Rattle.vrl_kind.specs.Sets.{Sets, IsAllowed}
 use Rattle.vrl_kind.specs.Tags.{same_tag}
-use Rattle.vrl_state.specs.Laws.{CutsHoldTheAllowed, IsAllowed}
+use Rattle.vrl_state.specs.Laws.{CutsHoldTheAllowed}
 use Rattle.vrl_state.specs.States.{IsCutOf}
 use Rattle.vrl_store.specs.Operators.{put_all}
 use Rattle.vrl_judge.specs.Rules.{last_or}

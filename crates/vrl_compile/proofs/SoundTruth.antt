@@ -12,9 +12,9 @@ use Rattle.vrl_syntax.specs.Tree.{Expr, binary}
 use Rattle.vrl_syntax.specs.declared.root.Op.TheVariants as op
 use Rattle.vrl_kind.specs.KindTree.{KindTree}
 use Rattle.vrl_kind.specs.Kinds.{root_tags, Inhabits}
+use Rattle.vrl_kind.specs.Sets.{IsAllowed}
 use Rattle.vrl_kind.specs.Tags.{same_tag}
 use Rattle.vrl_place.specs.Sets.{is_alone}
-use Rattle.vrl_state.specs.Laws.{IsAllowed}
 use Rattle.vrl_state.specs.States.{IsCutOf, IsEither, IsJoined, RootMap}
 use Rattle.vrl_state.specs.Stores.{FitsKnown, Store}
 use Rattle.vrl_builtin.specs.Rows.{SettingTree}

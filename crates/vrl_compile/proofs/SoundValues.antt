@@ -20,8 +20,9 @@ use Rattle.vrl_syntax.specs.declared.root.Root.TheVariants.{Event, Name}
 use Rattle.vrl_kind.specs.Canonical.{never_kind}
 use Rattle.vrl_kind.specs.KindTree.{KindTree}
 use Rattle.vrl_kind.specs.Kinds.{found_at, option_tags, Inhabits}
+use Rattle.vrl_kind.specs.Sets.{IsAllowed}
 use Rattle.vrl_kind.specs.Tags.{Tags, only, same_tag}
-use Rattle.vrl_state.specs.Laws.{CutsHoldTheAllowed, IsAllowed}
+use Rattle.vrl_state.specs.Laws.{CutsHoldTheAllowed}
 use Rattle.vrl_state.specs.States.{kind_of, IsCutOf, RootMap}
 use Rattle.vrl_state.specs.Stores.{FitsKind, FitsKnown, FitsMap, Store}
 use Rattle.vrl_builtin.specs.Rows.{SettingTree}

@@ -8,8 +8,8 @@ use Rattle.vrl_value.specs.Look.{Step, field, place}
 use Rattle.vrl_value.specs.declared.value.Tag.{Tag}
 use Rattle.vrl_kind.specs.KindTree.{KindTree}
 use Rattle.vrl_kind.specs.Kinds.{any_at, never_at, only_at, or_absent, root_tags, step_tag, tags_at, IsJoin}
+use Rattle.vrl_kind.specs.Sets.{SameSets}
 use Rattle.vrl_kind.specs.Tags.{Tags, all_tags, only, same_tag}
-use Rattle.vrl_place.specs.Sets.{SameSets}
 use Rattle.vrl_judge.specs.Rules.{is_tag, scalars_at, some_pair, some_tag, table_tags}
 use Rattle.vrl_judge.specs.Judging.{table_rule}
 use Rattle.vrl_judge.specs.Partners.{only_where}

@@ -20,9 +20,9 @@ use Rattle.vrl_kind.specs.Cut.{IsCut}
 use Rattle.vrl_kind.specs.KindTree.{KindTree}
 use Rattle.vrl_kind.specs.Kinds.{found_at, is_absence, root_tags, tags_at, without_at}
 use Rattle.vrl_kind.specs.Overlay.{overlaid_at}
+use Rattle.vrl_kind.specs.Sets.{Sets}
 use Rattle.vrl_kind.specs.Tags.{Tags, all_tags, never, only, same_tag}
 use Rattle.vrl_place.specs.Read.{allowed, HasJust}
-use Rattle.vrl_kind.specs.Change.{Sets}
 use Rattle.vrl_place.specs.Sets.{is_alone}
 use Rattle.vrl_state.specs.States.{RootMap, with_kind, IsCutOf, IsEither, IsJoined}
 use Rattle.vrl_builtin.specs.TagSets.{allows}

@@ -9,12 +9,12 @@ use Rattle.vrl_value.specs.Look.{Step}
 use Rattle.vrl_value.specs.declared.value.Tag.{Tag}
 use Rattle.vrl_kind.specs.KindTree.{KindTree, ObjectTree, no_object, object_part, RestTree, KnownFields, no_fields, known_field}
 use Rattle.vrl_kind.specs.Canonical.{rest_kind, field_or, IsBeforeFields, NoFieldIs, IsCanonical, FieldsAreCanonical}
-use Rattle.vrl_kind.specs.Change.{Sets}
 use Rattle.vrl_kind.specs.Count.{fields_nodes}
 use Rattle.vrl_kind.specs.Kinds.{tags_at, object_at, fields_at}
 use Rattle.vrl_kind.specs.Make.{IsObjectFor, IsKnownPushed, add_field}
 use Rattle.vrl_kind.specs.Merge.{FieldsAreSorted, with_field, IsTurn, IsEnd}
 use Rattle.vrl_kind.specs.Parts.{AreCombined, IsCombined}
+use Rattle.vrl_kind.specs.Sets.{Sets}
 use Rattle.vrl_kind.specs.Tags.{Tags}
 use Rattle.vrl_kind.proofs.Ahead.{here, not_here, unknown, turn_nodes, sorted_behind}
 use Rattle.vrl_kind.proofs.Known.{object_field, one_set, fields_or}

@@ -14,9 +14,10 @@ use Rattle.vrl_kind.specs.KindTree.{KindTree, KnownFields, no_fields, known_fiel
 use Rattle.vrl_kind.specs.Canonical.{never_kind, rest_kind, field_or, scalars_of, list_tree, IsBeforeFields, IsCanonical}
 use Rattle.vrl_kind.specs.Kinds.{tags_at, SameTags, has_object, object_at}
 use Rattle.vrl_kind.specs.Make.{entries_view, SameFields, AreKnown, IsKnownPushed, IsObjectFor, last_first, named_view}
-use Rattle.vrl_kind.specs.Change.{Sets, with_object}
+use Rattle.vrl_kind.specs.Change.{with_object}
 use Rattle.vrl_kind.specs.declared.scalars.Scalars.{Scalars}
 use Rattle.vrl_kind.specs.Merge.{FieldsAreSorted, IsTurn}
+use Rattle.vrl_kind.specs.Sets.{Sets}
 use Rattle.vrl_kind.proofs.Known.{object_field}
 use Rattle.vrl_kind.proofs.Merging.{one_name}
 use Rattle.vrl_kind.proofs.Namewise.{NamesSoFar, names_first, names_next, names_end}

@@ -1,14 +1,10 @@
 -- Kinds with other arrays, with other objects, or with a change of what may be absent.
-use Rattle.std.specs.Prelude.{false, ◌||◌, ◌&&◌, not, List, [], ◌∷◌}
-use Rattle.vrl_value.specs.Look.{Step}
+use Rattle.std.specs.Prelude.{false, ◌||◌, ◌&&◌, not, [], ◌∷◌}
 use Rattle.vrl_value.specs.declared.value.Tag.TheVariants as tag
 use Rattle.vrl_kind.specs.KindTree.{KindTree, kind, list_part, object_part, RestTree, Places, KnownFields}
-use Rattle.vrl_kind.specs.Tags.{Tags, same_tag}
+use Rattle.vrl_kind.specs.Sets.{Sets}
+use Rattle.vrl_kind.specs.Tags.{same_tag}
 use Rattle.vrl_kind.specs.declared.scalars.Scalars.{Scalars}
-
--- the tags at each path
-abbrev pub Sets : Type 0
-Sets = List Step → Tags
 
 -- null where absent was allowed at the root, and absent no more
 abbrev pub null_for_absent : Sets → Sets

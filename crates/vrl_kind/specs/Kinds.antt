@@ -1,5 +1,5 @@
 -- The tags that a kind allows at each path.
-use Rattle.std.specs.Prelude.{Bool, true, false, ◌||◌, ◌&&◌, not, ◌≡◌, ◌↔◌, ℕ, zero, suc, List, [], ◌∷◌, Option, Some, None, IsTrue, IfSome}
+use Rattle.std.specs.Prelude.{Bool, true, false, ◌||◌, ◌&&◌, not, ◌≡◌, ◌↔◌, ℕ, zero, suc, List, [], ◌∷◌, Option, Some, None, IsTrue}
 use Rattle.std.specs.Ordering.{nat_cmp, match_ordering}
 use Rattle.std.specs.Cmp.Lexicographic.{slice_cmp}
 use Rattle.vrl_value.specs.Look.{Step, field, place, raw_at, tag_found}
@@ -7,6 +7,7 @@ use Rattle.vrl_value.specs.Tree.{Tree}
 use Rattle.vrl_value.specs.declared.value.Tag.{Tag}
 use Rattle.vrl_value.specs.declared.value.Tag.TheVariants as tag
 use Rattle.vrl_kind.specs.KindTree.{KindTree, kind, ListTree, no_list, list_part, ObjectTree, no_object, object_part, RestTree, nothing, json_rest, any_rest, exact, Places, no_places, known_place, KnownFields, no_fields, known_field}
+use Rattle.vrl_kind.specs.Sets.{SameSets, IsAllowed}
 use Rattle.vrl_kind.specs.Tags.{Tags, never, any, json, only, union, without, same_tag}
 use Rattle.vrl_kind.specs.Tags as tags
 
@@ -81,9 +82,9 @@ abbrev mutual
   rest_at any_rest p = or_absent p (any_at p)
   rest_at (exact k) p = or_absent p (tags_at k p)
 
--- the value is of the kind: at each path where the value has something, or lacks a part that could be there, that tag is allowed
+-- the value is of the kind: the kind's sets allow it
 abbrev pub Inhabits : Tree → KindTree → Type 0
-Inhabits v K = (p : List Step) → IfSome (tag_found (raw_at v p)) (λ t. IsTrue (tags_at K p t))
+Inhabits v K = IsAllowed v (tags_at K)
 
 -- what the first kind allows at a path, the second allows there
 abbrev pub IsWithin : KindTree → KindTree → Type 0
@@ -95,7 +96,7 @@ IsDisjoint K L = tags.IsDisjoint (tags_at K []) (tags_at L [])
 
 -- both allow the same at every path
 abbrev pub SameTags : KindTree → KindTree → Type 0
-SameTags K L = (p : List Step) (t : Tag) → tags_at K p t ≡ tags_at L p t
+SameTags K L = SameSets (tags_at K) (tags_at L)
 
 -- at each path the third kind allows what either of the first two does, and nothing else
 abbrev pub IsJoin : KindTree → KindTree → KindTree → Type 0

@@ -16,5 +16,6 @@ pub mod Parts
 pub mod Print
 pub mod Scalars
 pub mod Seen
+pub mod Sets
 pub mod Tags
 pub mod View

@@ -2,9 +2,9 @@
 use Rattle.std.specs.Prelude.{◌||◌, ◌&&◌, not, [], ◌∷◌}
 use Rattle.vrl_value.specs.Look.{field, place}
 use Rattle.vrl_value.specs.declared.value.Tag.TheVariants as tag
-use Rattle.vrl_kind.specs.Change.{Sets}
 use Rattle.vrl_kind.specs.KindTree.{KindTree}
 use Rattle.vrl_kind.specs.Kinds.{is_absence, tags_at}
+use Rattle.vrl_kind.specs.Sets.{Sets}
 use Rattle.vrl_kind.specs.Tags.{only, never}
 
 -- the upper sets, or where these may be absent, the lower ones beside them

@@ -4,8 +4,8 @@ use Rattle.vrl_value.specs.Look.{Step}
 use Rattle.vrl_value.specs.declared.value.Tag.{Tag}
 use Rattle.vrl_kind.specs.KindTree.{KindTree, ListTree, ObjectTree, KnownFields}
 use Rattle.vrl_kind.specs.Canonical.{field_or, FieldsAreCanonical, NoFieldIs}
-use Rattle.vrl_kind.specs.Change.{Sets}
 use Rattle.vrl_kind.specs.Kinds.{tags_at, IsWithin, has_list, has_object, list_at, object_at}
+use Rattle.vrl_kind.specs.Sets.{Sets}
 use Rattle.vrl_kind.specs.Tags.{Tags}
 use Rattle.vrl_kind.specs.Tags as tags
 

@@ -5,11 +5,11 @@ use Rattle.std.specs.Ordering.{nat_cmp, match_ordering}
 use Rattle.vrl_value.specs.Look.{Step}
 use Rattle.vrl_value.specs.declared.value.Tag.{Tag}
 use Rattle.vrl_kind.specs.KindTree.{KindTree, RestTree}
-use Rattle.vrl_kind.specs.Change.{Sets}
 use Rattle.vrl_kind.specs.Kinds.{places_at, rest_at, tags_at}
+use Rattle.vrl_kind.specs.Sets.{Sets, SameSets}
 use Rattle.vrl_kind.specs.View.{places_view}
 use Rattle.vrl_place.specs.Inner.{ArePlaces, changed_place, lower_place, moved_place, null_if, places_sets, spot_sets}
-use Rattle.vrl_place.specs.Sets.{SameSets, or_absent_if}
+use Rattle.vrl_place.specs.Sets.{or_absent_if}
 use Rattle.vrl_place.specs.declared.places.Places.{Places}
 use Rattle.vrl_place.proofs.Orders.{above, below, itself}
 use Rattle.vrl_place.proofs.Same.{absent_already, not_absent, one_sets}

@@ -5,14 +5,14 @@ use Rattle.std.specs.Ordering.{nat_cmp, match_ordering}
 use Rattle.vrl_value.specs.Look.{Step}
 use Rattle.vrl_value.specs.declared.value.Tag.{Tag}
 use Rattle.vrl_kind.specs.KindTree.{KindTree, KnownFields, known_field}
-use Rattle.vrl_kind.specs.Change.{Sets}
 use Rattle.vrl_kind.specs.Kinds.{fields_at, tags_at}
 use Rattle.vrl_kind.specs.Make.{last_first, named_view}
+use Rattle.vrl_kind.specs.Sets.{Sets, SameSets}
 use Rattle.vrl_kind.specs.Tags.{Tags}
 use Rattle.vrl_kind.specs.View.{fields_view}
 use Rattle.vrl_kind.specs.declared.kind.KindField.{KindField}
 use Rattle.vrl_place.specs.Inner.{FieldsAre, OthersAre, fields_sets, spot_sets}
-use Rattle.vrl_place.specs.Sets.{SameSets, or_absent_if}
+use Rattle.vrl_place.specs.Sets.{or_absent_if}
 use Rattle.vrl_place.specs.declared.fields.Fields.{Fields}
 use Rattle.vrl_place.proofs.Orders.{is_one, is_other, one_name, tags_cases}
 

@@ -7,12 +7,13 @@ use Rattle.vrl_value.specs.declared.value.Tag.TheVariants as tag
 use Rattle.vrl_path.specs.declared.path.Step.{Step as CodeStep}
 use Rattle.vrl_path.specs.declared.path.Step.TheVariants.{Field, Place}
 use Rattle.vrl_kind.specs.KindTree.{KindTree}
-use Rattle.vrl_kind.specs.Change.{Sets, null_for_absent}
+use Rattle.vrl_kind.specs.Change.{null_for_absent}
 use Rattle.vrl_kind.specs.Kinds.{IsParts, step_tag, tags_at, without_at}
+use Rattle.vrl_kind.specs.Sets.{Sets, SameSets}
 use Rattle.vrl_kind.specs.Tags.{Tags, same_tag}
 use Rattle.vrl_place.specs.Inner.{AreSomePlaces}
 use Rattle.vrl_place.specs.Read.{Allowed, HasJust, allowed, read, read_part, read_some_place, read_step}
-use Rattle.vrl_place.specs.Sets.{SameSets, has_other, or_absent_if, part}
+use Rattle.vrl_place.specs.Sets.{has_other, or_absent_if, part}
 use Rattle.vrl_place.proofs.Same.{one_sets}
 use Rattle.vrl_place.proofs.Tags.{both, differ, first_of_both, left_of, not_same, one_of_both, one_tag, other_there, right_of, second_of_both, some_other}
 

@@ -12,11 +12,11 @@ use Rattle.vrl_value.specs.declared.value.Tag.TheVariants as tag
 use Rattle.vrl_path.specs.Read.{tree_found}
 use Rattle.vrl_path.specs.Remove.{IsRemoved, removable_at}
 use Rattle.vrl_path.specs.Write.{Holds}
-use Rattle.vrl_kind.specs.Change.{Sets}
 use Rattle.vrl_kind.specs.Kinds.{step_tag}
+use Rattle.vrl_kind.specs.Sets.{Sets, SameSets}
 use Rattle.vrl_place.specs.Read.{allowed}
 use Rattle.vrl_place.specs.Remove.{gone, moved, remove}
-use Rattle.vrl_place.specs.Sets.{SameSets, part}
+use Rattle.vrl_place.specs.Sets.{part}
 use Rattle.vrl_place.proofs.Orders.{equal, one_name, other_name, over, under}
 use Rattle.vrl_place.proofs.Same.{one_sets}
 use Rattle.vrl_place.proofs.Tags.{both, right_of}

@@ -9,14 +9,14 @@ use Rattle.vrl_value.specs.declared.value.Tag.TheVariants as tag
 use Rattle.vrl_path.specs.Steps.{plain}
 use Rattle.vrl_path.specs.declared.path.Step.{Step as CodeStep}
 use Rattle.vrl_kind.specs.KindTree.{KindTree, kind, no_list, list_part, no_object, object_part, RestTree}
-use Rattle.vrl_kind.specs.Change.{Sets}
 use Rattle.vrl_kind.specs.Kinds.{only_at, rest_at, tags_at, is_absence}
 use Rattle.vrl_kind.specs.Make.{named_view}
+use Rattle.vrl_kind.specs.Sets.{Sets, SameSets}
 use Rattle.vrl_kind.specs.Tags.{Tags, same_tag}
 use Rattle.vrl_kind.specs.View.{places_view}
 use Rattle.vrl_place.specs.Inner.{ArePlaces, FieldsAre, FieldsAreOf, PlacesAreOf, changed_place, moved_place, fields_sets, places_sets, sets_with_list, sets_with_object, spot_sets}
 use Rattle.vrl_place.specs.Remove.{gone, moved, remove}
-use Rattle.vrl_place.specs.Sets.{SameSets, by_step, or_absent_if, part}
+use Rattle.vrl_place.specs.Sets.{by_step, or_absent_if, part}
 use Rattle.vrl_place.specs.declared.fields.Fields.{Fields}
 use Rattle.vrl_place.specs.declared.places.Places.{Places}
 use Rattle.vrl_place.proofs.Changed.{behind_changed, behind_moved, places_all}

@@ -5,10 +5,10 @@ use Rattle.std.proofs.Math.Path.{fun_ext}
 use Rattle.vrl_value.specs.Look.{Step}
 use Rattle.vrl_value.specs.declared.value.Tag.{Tag}
 use Rattle.vrl_value.specs.declared.value.Tag.TheVariants as tag
-use Rattle.vrl_kind.specs.Change.{Sets}
+use Rattle.vrl_kind.specs.Sets.{Sets, SameSets}
 use Rattle.vrl_kind.specs.Tags.{same_tag}
 use Rattle.vrl_place.specs.Inner.{bare_sets, spot_sets}
-use Rattle.vrl_place.specs.Sets.{SameSets, or_absent_if}
+use Rattle.vrl_place.specs.Sets.{or_absent_if}
 use Rattle.vrl_place.specs.declared.spot.Spot.{Spot}
 
 pub one_sets : (A B : Sets) → SameSets A B → A ≡ B

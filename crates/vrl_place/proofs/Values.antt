@@ -11,8 +11,8 @@ use Rattle.vrl_value.specs.declared.value.Tag.TheVariants as tag
 use Rattle.vrl_path.specs.Read.{item_if, place_of, read_at, signed_part_at, signed_raw_at, tree_found}
 use Rattle.vrl_path.specs.declared.path.Step.{Step as CodeStep}
 use Rattle.vrl_path.specs.declared.path.Step.TheVariants.{Field, Place}
-use Rattle.vrl_kind.specs.Change.{Sets}
 use Rattle.vrl_kind.specs.Kinds.{step_tag}
+use Rattle.vrl_kind.specs.Sets.{Sets}
 use Rattle.vrl_kind.specs.Tags.{Tags}
 use Rattle.vrl_place.specs.Absence.{may_be_absent}
 use Rattle.vrl_place.specs.Read.{Allowed, AllowsOther, HasJust, allowed, read, read_part, read_some_place, read_step}

@@ -7,13 +7,14 @@ use Rattle.vrl_value.specs.declared.value.Tag.{Tag}
 use Rattle.vrl_value.specs.declared.value.Tag.TheVariants as tag
 use Rattle.vrl_kind.specs.KindTree.{KindTree, kind, ListTree, list_part, ObjectTree, object_part, RestTree, Places as KnownPlaces, KnownFields, no_fields, known_field}
 use Rattle.vrl_kind.specs.Canonical.{object_tree}
-use Rattle.vrl_kind.specs.Change.{Sets, with_list, with_object}
+use Rattle.vrl_kind.specs.Change.{with_list, with_object}
 use Rattle.vrl_kind.specs.Kinds.{SameTags, object_at, rest_at, tags_at, places_at, fields_at}
+use Rattle.vrl_kind.specs.Sets.{Sets, SameSets}
 use Rattle.vrl_kind.specs.Tags.{Tags, same_tag}
 use Rattle.vrl_kind.specs.View.{places_view, fields_view}
 use Rattle.vrl_kind.specs.declared.scalars.Scalars.{Scalars}
 use Rattle.vrl_place.specs.Inner.{ArePlaces, FieldsAreOf, sets_with_list, sets_with_object, spot_sets}
-use Rattle.vrl_place.specs.Sets.{SameSets, or_absent_if}
+use Rattle.vrl_place.specs.Sets.{or_absent_if}
 use Rattle.vrl_place.specs.declared.fields.Fields.{Fields}
 use Rattle.vrl_place.proofs.Orders.{tags_cases}
 use Rattle.vrl_place.proofs.Same.{or_false, or_true, turned}

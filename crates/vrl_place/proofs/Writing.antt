@@ -8,13 +8,14 @@ use Rattle.vrl_value.specs.declared.value.Tag.TheVariants as tag
 use Rattle.vrl_path.specs.Steps.{IsWritable, IsWritableStep}
 use Rattle.vrl_path.specs.declared.path.Step.{Step as CodeStep}
 use Rattle.vrl_kind.specs.KindTree.{KindTree, RestTree, Places as KnownPlaces, KnownFields}
-use Rattle.vrl_kind.specs.Change.{Sets, null_for_absent}
+use Rattle.vrl_kind.specs.Change.{null_for_absent}
 use Rattle.vrl_kind.specs.Kinds.{SameTags, rest_at, step_tag, tags_at}
 use Rattle.vrl_kind.specs.Make.{array_kind, object_kind, named_view}
+use Rattle.vrl_kind.specs.Sets.{Sets, SameSets}
 use Rattle.vrl_kind.specs.Tags.{Tags, only}
 use Rattle.vrl_kind.specs.View.{places_view}
 use Rattle.vrl_place.specs.Inner.{ArePlaces, FieldsAre, FieldsAreOf, PlacesAreOf, changed_place, fields_sets, places_sets, spot_sets}
-use Rattle.vrl_place.specs.Sets.{SameSets, has_other, is_alone, or_absent_if, part}
+use Rattle.vrl_place.specs.Sets.{has_other, is_alone, or_absent_if, part}
 use Rattle.vrl_place.specs.Write.{IsContainerFor, opened, write}
 use Rattle.vrl_place.specs.declared.fields.Fields.{Fields}
 use Rattle.vrl_place.specs.declared.places.Places.{Places}

@@ -11,11 +11,12 @@ use Rattle.vrl_value.specs.Tree.{Tree, string, integer, boolean, null, timestamp
 use Rattle.vrl_value.specs.declared.value.Tag.{Tag}
 use Rattle.vrl_value.specs.declared.value.Tag.TheVariants as tag
 use Rattle.vrl_path.specs.Write.{Holds, IsSet, items_in, members_in, or_null}
-use Rattle.vrl_kind.specs.Change.{Sets, null_for_absent}
+use Rattle.vrl_kind.specs.Change.{null_for_absent}
 use Rattle.vrl_kind.specs.Kinds.{step_tag}
+use Rattle.vrl_kind.specs.Sets.{Sets, SameSets}
 use Rattle.vrl_kind.specs.Tags.{never, only}
 use Rattle.vrl_place.specs.Read.{allowed}
-use Rattle.vrl_place.specs.Sets.{SameSets, is_alone, part}
+use Rattle.vrl_place.specs.Sets.{is_alone, part}
 use Rattle.vrl_place.specs.Write.{opened, write}
 use Rattle.vrl_place.proofs.Orders.{equal, one_name, other_name, over, under}
 use Rattle.vrl_place.proofs.Same.{one_sets}

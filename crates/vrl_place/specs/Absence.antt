@@ -2,8 +2,8 @@
 use Rattle.std.specs.Prelude.{Bool, ◌||◌, List, [], ◌∷◌}
 use Rattle.vrl_value.specs.Look.{Step}
 use Rattle.vrl_value.specs.declared.value.Tag.TheVariants as tag
-use Rattle.vrl_kind.specs.Change.{Sets}
 use Rattle.vrl_kind.specs.Kinds.{step_tag}
+use Rattle.vrl_kind.specs.Sets.{Sets}
 use Rattle.vrl_place.specs.Sets.{part, has_other}
 
 abbrev pub may_be_absent : Sets → List Step → Bool

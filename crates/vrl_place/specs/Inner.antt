@@ -7,9 +7,10 @@ use Rattle.vrl_value.specs.Look.{Step, field, place}
 use Rattle.vrl_value.specs.declared.value.Tag.{Tag}
 use Rattle.vrl_value.specs.declared.value.Tag.TheVariants as tag
 use Rattle.vrl_kind.specs.KindTree.{KindTree, Places as KnownPlaces, KnownFields, RestTree}
-use Rattle.vrl_kind.specs.Change.{Sets, null_for_absent}
+use Rattle.vrl_kind.specs.Change.{null_for_absent}
 use Rattle.vrl_kind.specs.Kinds.{any_at, json_at, never_at, rest_at, tags_at, places_at, fields_at, is_absence}
 use Rattle.vrl_kind.specs.Make.{named_view}
+use Rattle.vrl_kind.specs.Sets.{Sets}
 use Rattle.vrl_kind.specs.Tags.{same_tag}
 use Rattle.vrl_kind.specs.View.{places_view, fields_view}
 use Rattle.vrl_kind.specs.declared.kind.KindField.{KindField}

@@ -9,9 +9,9 @@ use Rattle.vrl_path.specs.declared.path.Step.{Step as CodeStep}
 use Rattle.vrl_kind.specs.Cut.{IsCut}
 use Rattle.vrl_kind.specs.KindTree.{KindTree}
 use Rattle.vrl_kind.specs.Kinds.{Inhabits, tags_at}
+use Rattle.vrl_kind.specs.Sets.{SameSets}
 use Rattle.vrl_place.specs.Read.{HasJust, allowed, read}
 use Rattle.vrl_place.specs.Remove.{remove}
-use Rattle.vrl_place.specs.Sets.{SameSets}
 use Rattle.vrl_place.specs.Write.{write}
 
 -- what a read finds in a value of the kind K, where it finds null if nothing stands there, is of the kind that the read has

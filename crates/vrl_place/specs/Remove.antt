@@ -2,8 +2,8 @@
 use Rattle.std.specs.Prelude.{ℕ, ◌&&◌, suc, List, [], ◌∷◌}
 use Rattle.vrl_value.specs.Look.{Step, field, place}
 use Rattle.vrl_value.specs.declared.value.Tag.TheVariants as tag
-use Rattle.vrl_kind.specs.Change.{Sets}
 use Rattle.vrl_kind.specs.Kinds.{is_absence}
+use Rattle.vrl_kind.specs.Sets.{Sets}
 use Rattle.vrl_kind.specs.Tags.{Tags}
 use Rattle.vrl_place.specs.Sets.{part, or_absent_if, by_step}
 

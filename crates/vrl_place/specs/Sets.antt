@@ -1,17 +1,13 @@
 -- Sets of tags at each path, as a kind allows them, and what is made of them at a step.
-use Rattle.std.specs.Prelude.{◌≡◌, Bool, ◌||◌, ◌&&◌, not, List, [], ◌∷◌}
+use Rattle.std.specs.Prelude.{Bool, ◌||◌, ◌&&◌, not, [], ◌∷◌}
 use Rattle.std.specs.Cmp.Lexicographic.{slice_cmp}
 use Rattle.std.specs.List.{list_any}
 use Rattle.std.specs.Ordering.{nat_cmp, match_ordering}
 use Rattle.vrl_value.specs.Look.{Step, field, place}
 use Rattle.vrl_value.specs.declared.value.Tag.{Tag}
 use Rattle.vrl_value.specs.declared.value.Tag.TheVariants as tag
-use Rattle.vrl_kind.specs.Change.{Sets}
+use Rattle.vrl_kind.specs.Sets.{Sets}
 use Rattle.vrl_kind.specs.Tags.{Tags, all_tags, same_tag}
-
--- both allow the same at every path
-abbrev pub SameSets : Sets → Sets → Type 0
-SameSets A B = (p : List Step) (t : Tag) → A p t ≡ B p t
 
 -- what is allowed behind a step
 abbrev pub part : Sets → Step → Sets

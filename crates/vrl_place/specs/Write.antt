@@ -1,8 +1,9 @@
 -- The kind of a value after a write at a path, as what it allows at each path.
 use Rattle.std.specs.Prelude.{◌≡◌, not, List, [], ◌∷◌, ⊤}
 use Rattle.vrl_value.specs.Look.{Step}
-use Rattle.vrl_kind.specs.Change.{Sets, null_for_absent}
+use Rattle.vrl_kind.specs.Change.{null_for_absent}
 use Rattle.vrl_kind.specs.Kinds.{step_tag}
+use Rattle.vrl_kind.specs.Sets.{Sets}
 use Rattle.vrl_kind.specs.Tags.{Tags, never, only}
 use Rattle.vrl_place.specs.Sets.{part, is_alone, or_absent_if, by_step}
 

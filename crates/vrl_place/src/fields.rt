@@ -2,8 +2,9 @@ ghost use Rattle.std.specs.Prelude.{◌≡◌, IfOk, true, false};
 ghost use Rattle.std.specs.Cmp.Lexicographic.{slice_cmp};
 ghost use Rattle.std.specs.Ordering.{nat_cmp, match_ordering};
 ghost use Rattle.vrl_kind.specs.Kinds.{tags_at};
+ghost use Rattle.vrl_kind.specs.Sets.{SameSets};
 ghost use Rattle.vrl_place.specs.Inner.{FieldsAre, FieldsAreOf, OthersAre, fields_sets, spot_sets};
-ghost use Rattle.vrl_place.specs.Sets.{SameSets, or_absent_if};
+ghost use Rattle.vrl_place.specs.Sets.{or_absent_if};
 
 use crate::spot::{Bare, Spot};
 use std::alloc::Global;

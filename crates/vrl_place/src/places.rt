@@ -1,7 +1,8 @@
 ghost use Rattle.std.specs.Prelude.{◌≡◌, ◌<◌, ◌≤◌, ◌+◌, IfOk, length};
 ghost use Rattle.vrl_kind.specs.Kinds.{tags_at};
+ghost use Rattle.vrl_kind.specs.Sets.{SameSets};
 ghost use Rattle.vrl_place.specs.Inner.{ArePlaces, PlacesAreOf, changed_place, lower_place, moved_place, null_if, places_sets, spot_sets};
-ghost use Rattle.vrl_place.specs.Sets.{SameSets, or_absent_if};
+ghost use Rattle.vrl_place.specs.Sets.{or_absent_if};
 
 use crate::spot::{Bare, Spot};
 use std::alloc::Global;

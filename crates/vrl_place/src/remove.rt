@@ -1,9 +1,9 @@
 ghost use Rattle.std.specs.Prelude.{◌≡◌, ◌≢◌, ◌<◌, IfOk, [], ◌∷◌, None, length, true};
 ghost use Rattle.vrl_kind.specs.Kinds.{Inhabits, tags_at};
+ghost use Rattle.vrl_kind.specs.Sets.{SameSets};
 ghost use Rattle.vrl_path.specs.Steps.{plain, IsPlain};
 ghost use Rattle.vrl_path.specs.Remove.{IsRemoved, removable_at};
 ghost use Rattle.vrl_place.specs.Inner.{spot_sets};
-ghost use Rattle.vrl_place.specs.Sets.{SameSets};
 ghost use Rattle.vrl_place.specs.Remove.{remove};
 ghost use Rattle.vrl_value.specs.Look.{field, place};
 ghost use Rattle.vrl_value.specs.Tree.{Tree};

@@ -1,11 +1,12 @@
 ghost use Rattle.std.specs.Prelude.{◌≡◌, ◌||◌, ◌&&◌, not, IfOk, [], true, false};
 ghost use Rattle.vrl_kind.specs.Kinds.{never_at, rest_at, tags_at};
 ghost use Rattle.vrl_kind.specs.Make.{named_view};
+ghost use Rattle.vrl_kind.specs.Sets.{SameSets};
 ghost use Rattle.vrl_kind.specs.Tags.{same_tag};
 ghost use Rattle.vrl_kind.specs.View.{places_view, rest_of};
 ghost use Rattle.vrl_path.specs.Steps.{plain_step, IsPlainStep};
 ghost use Rattle.vrl_place.specs.Inner.{bare_sets, spot_sets, sets_with_list, sets_with_object};
-ghost use Rattle.vrl_place.specs.Sets.{SameSets, has_other, is_alone, or_absent_if, part};
+ghost use Rattle.vrl_place.specs.Sets.{has_other, is_alone, or_absent_if, part};
 
 use std::alloc::Global;
 use vrl_kind::{Kind, Rest, TAGS, has};

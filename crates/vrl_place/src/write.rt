@@ -1,10 +1,10 @@
 ghost use Rattle.std.specs.Prelude.{◌≡◌, IfOk, [], ◌∷◌, false, pos, true};
 ghost use Rattle.vrl_kind.specs.Kinds.{Inhabits, tags_at};
+ghost use Rattle.vrl_kind.specs.Sets.{SameSets};
 ghost use Rattle.vrl_path.specs.Steps.{plain, plain_step, IsWritable, IsWritableStep};
 ghost use Rattle.vrl_path.specs.Write.{IsSet};
 ghost use Rattle.vrl_path.specs.declared.path.Step.TheVariants.{Place};
 ghost use Rattle.vrl_place.specs.Inner.{spot_sets};
-ghost use Rattle.vrl_place.specs.Sets.{SameSets};
 ghost use Rattle.vrl_place.specs.Write.{IsContainerFor, write};
 ghost use Rattle.vrl_value.specs.Look.{field, place};
 ghost use Rattle.vrl_value.specs.Tree.{Tree};

@@ -8,11 +8,11 @@ use Rattle.vrl_value.specs.declared.value.Tag.TheVariants as tag
 use Rattle.vrl_syntax.specs.declared.root.Root.{Root}
 use Rattle.vrl_syntax.specs.declared.root.Root.TheVariants.{Event, Name}
 use Rattle.vrl_kind.specs.Canonical.{IsCanonical, ListIsCanonical, ObjectIsCanonical}
-use Rattle.vrl_kind.specs.Change.{Sets}
 use Rattle.vrl_kind.specs.Count.{nodes, levels}
 use Rattle.vrl_kind.specs.Cut.{IsCut, flat, flat_list, flat_object, level_limit, node_limit}
 use Rattle.vrl_kind.specs.KindTree.{KindTree, kind, ListTree, no_list, list_part, ObjectTree, no_object, object_part}
 use Rattle.vrl_kind.specs.Kinds.{tags_at}
+use Rattle.vrl_kind.specs.Sets.{Sets}
 use Rattle.vrl_place.specs.Remove.{remove}
 use Rattle.vrl_place.specs.Write.{write}
 use Rattle.vrl_state.specs.States.{kept, kind_of, with_kind, HasRootKinds, IsCutOf, IsEither, IsEitherMap, IsEitherVariable, IsMapWithin, IsPresent, IsRootKind, IsRootKindIf, RootMap, Scope, Variables}

@@ -1,19 +1,15 @@
 -- Laws of states: what a store holds goes on fitting what is known of it.
-use Rattle.std.specs.Prelude.{◌≡◌, ◌⊎◌, false, [], IfSome, IsTrue, ℕ, List, Option, option_map}
+use Rattle.std.specs.Prelude.{◌≡◌, ◌⊎◌, false, [], ℕ, List, Option, option_map}
 use Rattle.std.specs.FinSet as set
-use Rattle.vrl_value.specs.Look.{Step, raw_at, tag_found}
+use Rattle.vrl_value.specs.Look.{Step}
 use Rattle.vrl_value.specs.Tree.{Tree}
 use Rattle.vrl_value.specs.declared.value.Tag.TheVariants as tag
 use Rattle.vrl_syntax.specs.declared.root.Root.{Root}
-use Rattle.vrl_kind.specs.Change.{Sets}
 use Rattle.vrl_kind.specs.KindTree.{KindTree}
 use Rattle.vrl_kind.specs.Kinds.{Inhabits}
+use Rattle.vrl_kind.specs.Sets.{Sets, IsAllowed}
 use Rattle.vrl_state.specs.States.{kept, knows, IsCutOf, IsEither, IsJoined, IsRootKind, IsStart, IsTakenOut, IsWritten, RootMap, Scope, State}
 use Rattle.vrl_state.specs.Stores.{store_kept, Fits, FitsKnown, HoldsNames, IsStoreTakenOut, IsStoreWritten, Store}
-
--- at each path where the value has something, or lacks a part that could be there, that tag is allowed
-abbrev pub IsAllowed : Tree → Sets → Type 0
-IsAllowed v A = (p : List Step) → IfSome (tag_found (raw_at v p)) (λ t. IsTrue (A p t))
 
 -- a value that the sets allow is of the kind that has them, cut
 abbrev pub CutsHoldTheAllowed : Type 0

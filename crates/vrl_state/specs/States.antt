@@ -11,14 +11,13 @@ use Rattle.vrl_value.specs.declared.value.Tag.TheVariants as tag
 use Rattle.vrl_syntax.specs.declared.root.Root.{Root}
 use Rattle.vrl_syntax.specs.declared.root.Root.TheVariants.{Event, Name}
 use Rattle.vrl_kind.specs.Canonical.{IsCanonical, any_kind}
-use Rattle.vrl_kind.specs.Change.{Sets}
 use Rattle.vrl_kind.specs.Count.{nodes, levels}
 use Rattle.vrl_kind.specs.Cut.{IsCut, level_limit, node_limit}
 use Rattle.vrl_kind.specs.KindTree.{KindTree}
 use Rattle.vrl_kind.specs.Kinds as kinds
 use Rattle.vrl_kind.specs.Kinds.{tags_at}
+use Rattle.vrl_kind.specs.Sets.{Sets, SameSets}
 use Rattle.vrl_place.specs.Remove.{remove}
-use Rattle.vrl_place.specs.Sets.{SameSets}
 use Rattle.vrl_place.specs.Write.{write}
 
 -- ---- what a state is

@@ -1,6 +1,7 @@
 ghost use Rattle.std.specs.Prelude.{◌≡◌, map, length, IfOk, IsTrue};
+ghost use Rattle.vrl_kind.specs.Kinds.{tags_at};
+ghost use Rattle.vrl_kind.specs.Sets.{SameSets};
 ghost use Rattle.vrl_builtin.specs.Conditions.{arguments_below, first_wrong, literals_below, AreArguments, AreGiven};
-ghost use Rattle.vrl_builtin.specs.Law.{HasTags};
 ghost use Rattle.vrl_builtin.specs.View.{arguments_of, givens_of, parameter_row, setting_of, Applies};
 ghost use Rattle.vrl_table.specs.Table.{row_of, FunctionsKeepLaw};
 
@@ -35,7 +36,7 @@ pub fn result_kind(
 ) -> Result<Kind, Memory>
     requires given { AreGiven (row_of function) (givens_of given.now) }
     requires regexes { IsTrue (literals_below (length patterns.now) (givens_of given.now)) }
-    ensures { IfOk result (λ kind. HasTags kind ((row_of function).kind (givens_of given.now) patterns.now)) }
+    ensures { IfOk result (λ kind. SameSets (tags_at kind) ((row_of function).kind (givens_of given.now) patterns.now)) }
 {
     function.result_kind(alloc, given, patterns)
 }

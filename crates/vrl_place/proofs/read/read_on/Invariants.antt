@@ -1,6 +1,6 @@
 use Rattle.std.proofs.Common.{drop}
-use Rattle.vrl_kind.specs.Change.{Sets}
 use Rattle.vrl_kind.specs.Kinds.{tags_at}
+use Rattle.vrl_kind.specs.Sets.{Sets}
 use Rattle.vrl_place.specs.Read.{HasJust, allowed, read}
 use Rattle.vrl_place.proofs.read.read_on.Given as goal
 

@@ -6,10 +6,10 @@ use Rattle.vrl_path.specs.Steps.{plain}
 use Rattle.vrl_path.specs.declared.path.Step.{Step as CodeStep}
 use Rattle.vrl_kind.specs.Kinds.{tags_at}
 use Rattle.vrl_kind.specs.Make.{named_view}
+use Rattle.vrl_kind.specs.Sets.{SameSets}
 use Rattle.vrl_kind.specs.View.{places_view, rest_of}
 use Rattle.vrl_place.specs.Inner.{sets_with_list, sets_with_object, spot_sets}
 use Rattle.vrl_place.specs.Remove.{remove}
-use Rattle.vrl_place.specs.Sets.{SameSets}
 use Rattle.vrl_place.proofs.Removing.{kept_field, kept_list, no_steps, removed_in_field, removed_in_list, some_steps}
 use Rattle.vrl_place.proofs.remove.+remove.Goals as goal
 

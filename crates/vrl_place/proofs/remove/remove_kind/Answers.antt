@@ -2,9 +2,9 @@ use Rattle.std.proofs.Common.{[], ap, ◌∙◌}
 use Rattle.std.proofs.lemmas.Result.{IfOk-weaker}
 use Rattle.vrl_path.specs.Steps.{plain}
 use Rattle.vrl_kind.specs.Kinds.{tags_at}
+use Rattle.vrl_kind.specs.Sets.{SameSets}
 use Rattle.vrl_place.specs.Inner.{spot_sets}
 use Rattle.vrl_place.specs.Remove.{remove}
-use Rattle.vrl_place.specs.Sets.{SameSets}
 use Rattle.vrl_place.proofs.Removed.{kept_inhabits, removed_inhabits}
 use Rattle.vrl_place.proofs.Removing.{remove_same, removed_root}
 use Rattle.vrl_place.proofs.remove.remove_kind.Goals as goal

@@ -1,9 +1,9 @@
 use Rattle.std.proofs.lemmas.Result.{IfOk-weaker}
 use Rattle.vrl_kind.specs.Kinds.{tags_at}
 use Rattle.vrl_kind.specs.Make.{named_view}
+use Rattle.vrl_kind.specs.Sets.{SameSets}
 use Rattle.vrl_kind.specs.View.{rest_of}
 use Rattle.vrl_place.specs.Inner.{sets_with_object, spot_sets}
-use Rattle.vrl_place.specs.Sets.{SameSets}
 use Rattle.vrl_place.proofs.Removing.{removed_last_field}
 use Rattle.vrl_place.proofs.remove.remove_last_field.Goals as goal
 

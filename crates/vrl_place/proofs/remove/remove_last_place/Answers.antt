@@ -1,8 +1,8 @@
 use Rattle.std.proofs.lemmas.Result.{IfOk-weaker}
 use Rattle.vrl_kind.specs.Kinds.{tags_at}
+use Rattle.vrl_kind.specs.Sets.{SameSets}
 use Rattle.vrl_kind.specs.View.{places_view, rest_of}
 use Rattle.vrl_place.specs.Inner.{sets_with_list, spot_sets}
-use Rattle.vrl_place.specs.Sets.{SameSets}
 use Rattle.vrl_place.proofs.Removing.{removed_last_place}
 use Rattle.vrl_place.proofs.remove.remove_last_place.Goals as goal
 

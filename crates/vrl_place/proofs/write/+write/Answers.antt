@@ -8,9 +8,9 @@ use Rattle.vrl_path.specs.Steps.{plain, plain_step, IsWritable, IsWritableStep}
 use Rattle.vrl_path.specs.declared.path.Step.TheVariants.{Place}
 use Rattle.vrl_kind.specs.Kinds.{SameTags, tags_at}
 use Rattle.vrl_kind.specs.Make.{array_kind, object_kind, named_view}
+use Rattle.vrl_kind.specs.Sets.{SameSets}
 use Rattle.vrl_kind.specs.View.{places_view, rest_of}
 use Rattle.vrl_place.specs.Inner.{spot_sets}
-use Rattle.vrl_place.specs.Sets.{SameSets}
 use Rattle.vrl_place.specs.Write.{write}
 use Rattle.vrl_place.proofs.Writing.{first_writable, rest_writable, written_field, written_place}
 use Rattle.vrl_place.proofs.write.+write.Goals as goal

@@ -3,8 +3,8 @@ use Rattle.std.proofs.lemmas.Result.{IfOk-weaker}
 use Rattle.vrl_value.specs.declared.value.Tag.TheVariants as tag
 use Rattle.vrl_path.specs.Steps.{plain}
 use Rattle.vrl_kind.specs.Kinds.{tags_at}
+use Rattle.vrl_kind.specs.Sets.{SameSets}
 use Rattle.vrl_place.specs.Inner.{spot_sets}
-use Rattle.vrl_place.specs.Sets.{SameSets}
 use Rattle.vrl_place.specs.Write.{write}
 use Rattle.vrl_place.proofs.Writing.{write_same, written_present, written_root}
 use Rattle.vrl_place.proofs.Written.{written_inhabits}
