@@ -6,7 +6,7 @@ use Rattle.vrl_value.specs.Depth.{depth_of, items_depth, members_depth}
 use Rattle.vrl_value.specs.Look.{Step, field, place, Found, there, found_if, item_at, part_at}
 use Rattle.vrl_value.specs.Parts.{put_item, replace}
 use Rattle.vrl_value.specs.Tree.{Tree, array, object, Items, no_items, item, Members, no_members, member, find, put}
-use Rattle.vrl_path.specs.Trees.{set_tree}
+use Rattle.vrl_path.specs.Trees.{plain_set_tree}
 use Rattle.vrl_path.specs.Write.{items_in, members_in}
 use Rattle.vrl_path.proofs.Placed.{tree_or_null, placed_member, member_if}
 use Rattle.vrl_path.proofs.Sets.{part_set, set_in_object, set_in_array}
@@ -110,7 +110,7 @@ items_below (array ts) = omega arith
 items_below v = omega arith
 
 -- at least as deep as the path is long and the new part deep
-pub set_deep : (v : Tree) (p : List Step) (n : Tree) → length p + depth_of n ≤ depth_of (set_tree v p n)
+pub set_deep : (v : Tree) (p : List Step) (n : Tree) → length p + depth_of n ≤ depth_of (plain_set_tree v p n)
 set_deep v [] n = omega arith
 set_deep v (field k ∷ p) n =
     let t = part_set v (field k) p n in
@@ -126,7 +126,7 @@ set_deep v (place i ∷ p) n =
     omega arith
 
 -- and no deeper than that or what it was
-pub set_shallow : (v : Tree) (p : List Step) (n : Tree) → depth_of (set_tree v p n) ≤ max (depth_of v) (length p + depth_of n)
+pub set_shallow : (v : Tree) (p : List Step) (n : Tree) → depth_of (plain_set_tree v p n) ≤ max (depth_of v) (length p + depth_of n)
 set_shallow v [] n = omega arith
 set_shallow v (field k ∷ p) n =
     let ms = members_in (there v) in

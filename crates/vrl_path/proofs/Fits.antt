@@ -19,7 +19,7 @@ use Rattle.vrl_value.specs.declared.value.Value.{Value}
 use Rattle.vrl_path.specs.Steps.{plain, plain_step, IsWritableStep}
 use Rattle.vrl_path.specs.declared.path.Step.{Step as CodeStep}
 use Rattle.vrl_path.specs.declared.path.Step.TheVariants.{Field, Place}
-use Rattle.vrl_path.specs.Trees.{chain, items_if_array, members_if_object, set_in_fields, set_in_items, set_tree, if_there, members_if, items_if}
+use Rattle.vrl_path.specs.Trees.{chain, items_if_array, members_if_object, set_in_fields, set_in_items, plain_set_tree, if_there, members_if, items_if}
 use Rattle.vrl_path.specs.Parts.{with_part, replace_part}
 use Rattle.vrl_path.proofs.Depths.{below_placed, put_item_within, put_within, set_shallow}
 use Rattle.vrl_path.proofs.Placed.{chain-null, member_if, replace_item-found}
@@ -169,17 +169,17 @@ item_over (suc i) t (v ∷ vs) zero d within other = omega arith
 item_over (suc i) t (v ∷ vs) (suc k) d within other = let h = item_over i t vs k d (omega arith) (λ e. other (ap suc e)) in omega arith
 
 -- the new part that a set leaves in a field
-pub set_in_fields-part : (k : List ℕ) (ms : Members) (p : List Step) (n u : Tree) → Some u ≡ find k ms → set_in_fields k ms p n ≡ set_in_fields k ms [] (set_tree u p n)
+pub set_in_fields-part : (k : List ℕ) (ms : Members) (p : List Step) (n u : Tree) → Some u ≡ find k ms → set_in_fields k ms p n ≡ set_in_fields k ms [] (plain_set_tree u p n)
 set_in_fields-part k ms p n u found = rw (← found) refl
 
 pub set_in_fields-new : (k : List ℕ) (ms : Members) (p : List Step) (n : Tree) → None ≡ find k ms → set_in_fields k ms p n ≡ set_in_fields k ms [] (chain p n)
 set_in_fields-new k ms p n none = rw (← none) refl
 
-items_part_at : (o : Option Tree) (i : ℕ) (ts : Items) (p : List Step) (n u : Tree) → item_at i ts ≡ o → Some u ≡ o → items_if o (λ u. replace_item i (set_tree u p n) ts) (put_item i (chain p n) ts) ≡ put_item i (set_tree u p n) ts
+items_part_at : (o : Option Tree) (i : ℕ) (ts : Items) (p : List Step) (n u : Tree) → item_at i ts ≡ o → Some u ≡ o → items_if o (λ u. replace_item i (plain_set_tree u p n) ts) (put_item i (chain p n) ts) ≡ put_item i (plain_set_tree u p n) ts
 items_part_at None i ts p n u is found = absurd cc
-items_part_at (Some w) i ts p n u is found = let e : w ≡ u = cc in ap (λ x. replace_item i (set_tree x p n) ts) e ∙ replace_item-found i (set_tree u p n) w ts is
+items_part_at (Some w) i ts p n u is found = let e : w ≡ u = cc in ap (λ x. replace_item i (plain_set_tree x p n) ts) e ∙ replace_item-found i (plain_set_tree u p n) w ts is
 
-pub set_in_items-part : (i : ℕ) (ts : Items) (p : List Step) (n u : Tree) → Some u ≡ item_at i ts → set_in_items i ts p n ≡ put_item i (set_tree u p n) ts
+pub set_in_items-part : (i : ℕ) (ts : Items) (p : List Step) (n u : Tree) → Some u ≡ item_at i ts → set_in_items i ts p n ≡ put_item i (plain_set_tree u p n) ts
 set_in_items-part i ts p n u found = items_part_at (item_at i ts) i ts p n u refl found
 
 pub set_in_items-new : (i : ℕ) (ts : Items) (p : List Step) (n : Tree) → None ≡ item_at i ts → set_in_items i ts p n ≡ put_item i (chain p n) ts
@@ -193,20 +193,20 @@ chain_shallow p n =
     omega arith
 
 object_at : (o : Option Tree) (k : List ℕ) (ms : Members) (p : List Step) (n : Tree)
-    → if_there (found_if o) (λ u. replace_part (field k) (set_tree u p n) (object ms)) (with_part (field k) (chain p n) (object ms)) ≡ object (members_if o (λ u. replace k (set_tree u p n) ms) (put k (chain p n) ms))
+    → if_there (found_if o) (λ u. replace_part (field k) (plain_set_tree u p n) (object ms)) (with_part (field k) (chain p n) (object ms)) ≡ object (members_if o (λ u. replace k (plain_set_tree u p n) ms) (put k (chain p n) ms))
 object_at None k ms p n = refl
 object_at (Some u) k ms p n = refl
 
 array_at : (o : Option Tree) (i : ℕ) (ts : Items) (p : List Step) (n : Tree)
-    → if_there (found_if o) (λ u. replace_part (place i) (set_tree u p n) (array ts)) (with_part (place i) (chain p n) (array ts)) ≡ array (items_if o (λ u. replace_item i (set_tree u p n) ts) (put_item i (chain p n) ts))
+    → if_there (found_if o) (λ u. replace_part (place i) (plain_set_tree u p n) (array ts)) (with_part (place i) (chain p n) (array ts)) ≡ array (items_if o (λ u. replace_item i (plain_set_tree u p n) ts) (put_item i (chain p n) ts))
 array_at None i ts p n = refl
 array_at (Some u) i ts p n = refl
 
-pub set_no_object : (v : Tree) (k : List ℕ) (p : List Step) (n : Tree) → None ≡ members_if_object v → depth_of (set_tree v (field k ∷ p) n) ≤ suc (length p + depth_of n)
+pub set_no_object : (v : Tree) (k : List ℕ) (p : List Step) (n : Tree) → None ≡ members_if_object v → depth_of (plain_set_tree v (field k ∷ p) n) ≤ suc (length p + depth_of n)
 set_no_object (object ms) k p n none = absurd cc
 set_no_object v k p n none = let h = chain_shallow p n in omega arith
 
-pub set_no_array : (v : Tree) (i : ℕ) (p : List Step) (n : Tree) → None ≡ items_if_array v → depth_of (set_tree v (place i ∷ p) n) ≤ suc (length p + depth_of n)
+pub set_no_array : (v : Tree) (i : ℕ) (p : List Step) (n : Tree) → None ≡ items_if_array v → depth_of (plain_set_tree v (place i ∷ p) n) ≤ suc (length p + depth_of n)
 set_no_array (array ts) i p n none = absurd cc
 set_no_array v i p n none =
     let h = chain_shallow p n in
@@ -227,20 +227,20 @@ length_plain (s ∷ steps) = ap suc (length_plain steps)
 
 -- a set at a path of the code, in what isn't the container that the first step fits: the limit has room for the path and the new part
 pub no_object_fits : (v : Tree) (steps : List CodeStep) (s : CodeStep) (name : List ℕ) (n : Tree) (limit : ℕ) → s ≡ get_or steps 0 s → s ≡ Field name → 1 ≤ length steps → None ≡ members_if_object v
-    → length steps + depth_of n ≤ limit → depth_of (set_tree v (plain steps) n) ≤ limit
+    → length steps + depth_of n ≤ limit → depth_of (plain_set_tree v (plain steps) n) ≤ limit
 no_object_fits v [] s name n limit is field_is some none room = absurd (omega arith)
 no_object_fits v (q ∷ rest) s name n limit is field_is some none room =
     let h = set_no_object v name (plain rest) n none in
-    let e = ap (λ x. depth_of (set_tree v (plain_step x ∷ plain rest) n)) (sym is ∙ field_is) in
+    let e = ap (λ x. depth_of (plain_set_tree v (plain_step x ∷ plain rest) n)) (sym is ∙ field_is) in
     let m = length_plain rest in
     omega arith
 
 pub no_array_fits : (v : Tree) (steps : List CodeStep) (s : CodeStep) (i : ℤ) (n : Tree) (limit : ℕ) → s ≡ get_or steps 0 s → s ≡ Place i → IsWritableStep s → 1 ≤ length steps → None ≡ items_if_array v
-    → length steps + depth_of n ≤ limit → depth_of (set_tree v (plain steps) n) ≤ limit
+    → length steps + depth_of n ≤ limit → depth_of (plain_set_tree v (plain steps) n) ≤ limit
 no_array_fits v [] s i n limit is place_is plain_s some none room = absurd (omega arith)
 no_array_fits v (q ∷ rest) s (pos i) n limit is place_is plain_s some none room =
     let h = set_no_array v i (plain rest) n none in
-    let e = ap (λ x. depth_of (set_tree v (plain_step x ∷ plain rest) n)) (sym is ∙ place_is) in
+    let e = ap (λ x. depth_of (plain_set_tree v (plain_step x ∷ plain rest) n)) (sym is ∙ place_is) in
     let m = length_plain rest in
     omega arith
 no_array_fits v (q ∷ rest) s (negsuc i) n limit is place_is plain_s some none room = absurd (subst IsWritableStep place_is plain_s)

@@ -6,8 +6,9 @@ use Rattle.vrl_value.specs.Laws.{TreesAreTold}
 use Rattle.vrl_value.specs.Look.{Step, field, place, Found, raw_at, outline}
 use Rattle.vrl_value.specs.Tree.{Tree}
 use Rattle.vrl_path.specs.Laws.{SetsAreOne, RemovalsAreOne}
-use Rattle.vrl_path.specs.Remove.{IsRemoved}
-use Rattle.vrl_path.specs.Write.{Holds, IsSet}
+use Rattle.vrl_path.specs.Remove.{IsPlainRemoval}
+use Rattle.vrl_path.specs.Steps.{plain, plain_step}
+use Rattle.vrl_path.specs.Write.{Holds, IsPlainSet}
 
 -- how a path q stands to a path p
 data Stand (p q : List Step) : Type 0 where
@@ -57,7 +58,7 @@ holds_outline : (s : Step) (f g : Found) → Holds s f → Holds s g → outline
 holds_outline (field k) f g first second = ap outline first ∙ sym (ap outline second)
 holds_outline (place i) f g first second = ap outline first ∙ sym (ap outline second)
 
-module _ (v : Tree) (p : List Step) (n w u : Tree) (first : IsSet v p n w) (second : IsSet v p n u) where
+module _ (v : Tree) (p : List Step) (n w u : Tree) (first : IsPlainSet v p n w) (second : IsPlainSet v p n u) where
   places_set : (a : List Step) (i j : ℕ) (r b : List Step) → p ≡ a ++ place i ∷ r → place j ≢ place i → (j ≡ i) ⊎ ((j < i) ⊎ (i < j)) → raw_at w (a ++ place j ∷ b) ≡ raw_at u (a ++ place j ∷ b)
   places_set a i j r b e other (inl same) = absurd (other (ap place same))
   places_set a i j r b e other (inr (inl lower)) = first.before_place a i j r b e lower ∙ sym (second.before_place a i j r b e lower)
@@ -75,14 +76,14 @@ module _ (v : Tree) (p : List Step) (n w u : Tree) (first : IsSet v p n w) (seco
   set_told q (apart a s t r b e f other) = ap outline (ap (raw_at w) f ∙ set_apart a s t r b e other ∙ sym (ap (raw_at u) f))
 
 pub one_set : TreesAreTold → SetsAreOne
-one_set told v p n w u first second ordered sorted = told w u ordered sorted (λ q. set_told v p n w u first second q (stand p q))
+one_set told v p n w u first second ordered sorted = told w u ordered sorted (λ q. set_told v (plain p) n w u first second q (stand (plain p) q))
 
 -- the last step of a path
 last_of : (s : Step) (p : List Step) → (a : List Step) × (l : Step) × (s ∷ p ≡ a ++ l ∷ [])
 last_of s [] = ([], s, refl)
 last_of s (t ∷ p) = let h = last_of t p in (s ∷ h.0, h.1, ap (λ x. s ∷ x) h.2)
 
-module _ (v : Tree) (p : List Step) (w u : Tree) (first : IsRemoved v p w) (second : IsRemoved v p u) where
+module _ (v : Tree) (p : List Step) (w u : Tree) (first : IsPlainRemoval v p w) (second : IsPlainRemoval v p u) where
   places_left : (a : List Step) (i j : ℕ) (b : List Step) → p ≡ a ++ place i ∷ [] → place j ≢ place i → (j ≡ i) ⊎ ((j < i) ⊎ (i < j)) → raw_at w (a ++ place j ∷ b) ≡ raw_at u (a ++ place j ∷ b)
   places_left a i j b e other (inl same) = absurd (other (ap place same))
   places_left a i j b e other (inr (inl lower)) = first.before_place a i j b e lower ∙ sym (second.before_place a i j b e lower)
@@ -111,5 +112,5 @@ module _ (v : Tree) (p : List Step) (w u : Tree) (first : IsRemoved v p w) (seco
 pub one_removal : TreesAreTold → RemovalsAreOne
 one_removal told v [] w u some first second ordered sorted = absurd (some refl)
 one_removal told v (s ∷ p) w u some first second ordered sorted =
-    let end = last_of s p in
-    told w u ordered sorted (λ q. left_told v (s ∷ p) w u first second end.0 end.1 end.2 q (stand (s ∷ p) q))
+    let end = last_of (plain_step s) (plain p) in
+    told w u ordered sorted (λ q. left_told v (plain (s ∷ p)) w u first second end.0 end.1 end.2 q (stand (plain (s ∷ p)) q))

@@ -4,7 +4,7 @@ use Rattle.vrl_value.specs.Laws.{TreesStayInOrder}
 use Rattle.vrl_value.specs.Look.{Step, field, place, Found, there, missing, no_place, found_if, item_at, part_at}
 use Rattle.vrl_value.specs.Tree.{Tree, array, object, Members, find, IsOrdered, ItemsAreOrdered, MembersAreOrdered}
 use Rattle.vrl_path.specs.Parts.{replace_part, without_part}
-use Rattle.vrl_path.specs.Trees.{if_there, set_tree, remove_tree}
+use Rattle.vrl_path.specs.Trees.{if_there, plain_set_tree, plain_remove_tree}
 use Rattle.vrl_path.specs.Write.{items_in, members_in}
 use Rattle.vrl_path.proofs.Placed.{tree_or_null, member_if}
 use Rattle.vrl_path.proofs.Sets.{part_set, set_in_object, set_in_array}
@@ -35,7 +35,7 @@ member_if_ordered stay None k t ms new old = stay.ordered_put k t ms new old
 member_if_ordered stay (Some u) k t ms new old = stay.ordered_replace k t ms new old
 
 -- a tree in order set in another is in order
-pub set_ordered : (stay : TreesStayInOrder) (v : Tree) (p : List Step) (n : Tree) → IsOrdered v → IsOrdered n → IsOrdered (set_tree v p n)
+pub set_ordered : (stay : TreesStayInOrder) (v : Tree) (p : List Step) (n : Tree) → IsOrdered v → IsOrdered n → IsOrdered (plain_set_tree v p n)
 set_ordered stay v [] n old new = new
 set_ordered stay v (field k ∷ p) n old new =
     subst IsOrdered (sym (set_in_object v k p n))
@@ -60,7 +60,7 @@ removed_at stay missing s v each part old later = old
 removed_at stay no_place s v each part old later = old
 
 -- so is one of which a part was taken out
-pub removed_ordered : (stay : TreesStayInOrder) (v : Tree) (p : List Step) → IsOrdered v → IsOrdered (remove_tree v p)
+pub removed_ordered : (stay : TreesStayInOrder) (v : Tree) (p : List Step) → IsOrdered v → IsOrdered (plain_remove_tree v p)
 removed_ordered stay v [] old = old
 removed_ordered stay v (s ∷ []) old = without_part_ordered stay s v old
-removed_ordered stay v (s ∷ r ∷ p) old = removed_at stay (part_at v s) s v (λ u. remove_tree u (r ∷ p)) (part_ordered stay v s old) old (λ u part. removed_ordered stay u (r ∷ p) part)
+removed_ordered stay v (s ∷ r ∷ p) old = removed_at stay (part_at v s) s v (λ u. plain_remove_tree u (r ∷ p)) (part_ordered stay v s old) old (λ u part. removed_ordered stay u (r ∷ p) part)

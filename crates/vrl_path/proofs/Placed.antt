@@ -5,7 +5,7 @@ use Rattle.vrl_value.specs.Look.{Step, field, place, Found, there, missing, no_p
 use Rattle.vrl_value.specs.Parts.{put_item, replace, replace_item}
 use Rattle.vrl_value.specs.Tree.{Tree, null, array, object, Items, no_items, item, Members, find, put}
 use Rattle.vrl_path.specs.Parts.{with_part, replace_part}
-use Rattle.vrl_path.specs.Trees.{chain, if_there, set_tree}
+use Rattle.vrl_path.specs.Trees.{chain, if_there, plain_set_tree}
 use Rattle.vrl_path.specs.Write.{items_in, members_in}
 
 -- what was found, or null
@@ -29,18 +29,18 @@ abbrev pub placed_member : List ℕ → Tree → Members → Members
 placed_member k t ms = member_if (find k ms) k t ms
 
 -- a new chain is a set in null
-pub chain-null : (p : List Step) (n : Tree) → chain p n ≡ set_tree null p n
+pub chain-null : (p : List Step) (n : Tree) → chain p n ≡ plain_set_tree null p n
 chain-null [] n = refl
 chain-null (field k ∷ p) n = refl
 chain-null (place i ∷ p) n = refl
 
-step_at : (f : Found) (v : Tree) (s : Step) (p : List Step) (n : Tree) → if_there f (λ u. replace_part s (set_tree u p n) v) (with_part s (chain p n) v) ≡ placed f s (set_tree (tree_or_null f) p n) v
+step_at : (f : Found) (v : Tree) (s : Step) (p : List Step) (n : Tree) → if_there f (λ u. replace_part s (plain_set_tree u p n) v) (with_part s (chain p n) v) ≡ placed f s (plain_set_tree (tree_or_null f) p n) v
 step_at (there u) v s p n = refl
 step_at missing v s p n = ap (λ t. with_part s t v) (chain-null p n)
 step_at no_place v s p n = ap (λ t. with_part s t v) (chain-null p n)
 
 -- a set is one step with a set in the part
-pub set_step : (v : Tree) (s : Step) (p : List Step) (n : Tree) → set_tree v (s ∷ p) n ≡ placed (part_at v s) s (set_tree (tree_or_null (part_at v s)) p n) v
+pub set_step : (v : Tree) (s : Step) (p : List Step) (n : Tree) → plain_set_tree v (s ∷ p) n ≡ placed (part_at v s) s (plain_set_tree (tree_or_null (part_at v s)) p n) v
 set_step v s p n = step_at (part_at v s) v s p n
 
 object_at : (o : Option Tree) (k : List ℕ) (t : Tree) (ms : Members) → placed (found_if o) (field k) t (object ms) ≡ object (member_if o k t ms)

@@ -5,8 +5,8 @@ use Rattle.vrl_value.specs.Look.{Step, field, place, Found, there, missing, no_p
 use Rattle.vrl_value.specs.Tree.{Tree, array, object, Items, Members, find}
 use Rattle.vrl_path.specs.Parts.{replace_part, without_part}
 use Rattle.vrl_path.specs.Read.{tree_found}
-use Rattle.vrl_path.specs.Remove.{removable_at, IsRemoved}
-use Rattle.vrl_path.specs.Trees.{if_there, remove_tree}
+use Rattle.vrl_path.specs.Remove.{plain_removable_at, IsPlainRemoval}
+use Rattle.vrl_path.specs.Trees.{if_there, plain_remove_tree}
 use Rattle.vrl_path.specs.Write.{Holds}
 use Rattle.vrl_path.proofs.Changes.{same_item, same_member}
 use Rattle.vrl_path.proofs.Sets.{behind}
@@ -67,10 +67,10 @@ record Opened (v : Tree) (c : Step) (p : List Step) (x : Tree) : Type 0 where
   part : Tree
   is : part_at v c ≡ there part
   found : raw_at part p ≡ there x
-  removed : remove_tree v (c ∷ p) ≡ replace_part c (remove_tree part p) v
+  removed : plain_remove_tree v (c ∷ p) ≡ replace_part c (plain_remove_tree part p) v
 
 opened_at : (f : Found) (v : Tree) (c s : Step) (r : List Step) (x : Tree) → part_at v c ≡ f → behind (s ∷ r) f ≡ there x → Opened v c (s ∷ r) x
-opened_at (there u) v c s r x is found = record { part = u; is = is; found = found; removed = ap (λ f. if_there f (λ t. replace_part c (remove_tree t (s ∷ r)) v) v) is }
+opened_at (there u) v c s r x is found = record { part = u; is = is; found = found; removed = ap (λ f. if_there f (λ t. replace_part c (plain_remove_tree t (s ∷ r)) v) v) is }
 opened_at missing v c s r x is found = absurd cc
 opened_at no_place v c s r x is found = absurd cc
 
@@ -88,58 +88,58 @@ last v s x found = last_at (part_at v s) x found
 
 module _ (maps : MembersAreMaps) (lists : ItemsAreLists) (v : Tree) (c : Step) (p : List Step) (x : Tree) (o : Opened v c p x) where
   -- behind the first step look-up goes on in the part, before and after
-  after : (q : List Step) → raw_at (remove_tree v (c ∷ p)) (c ∷ q) ≡ raw_at (remove_tree o.part p) q
-  after q = ap (λ w. raw_at w (c ∷ q)) o.removed ∙ ap (behind q) (part_at-replace maps lists c v o.part (remove_tree o.part p) o.is)
+  after : (q : List Step) → raw_at (plain_remove_tree v (c ∷ p)) (c ∷ q) ≡ raw_at (plain_remove_tree o.part p) q
+  after q = ap (λ w. raw_at w (c ∷ q)) o.removed ∙ ap (behind q) (part_at-replace maps lists c v o.part (plain_remove_tree o.part p) o.is)
 
   before : (q : List Step) → raw_at o.part q ≡ raw_at v (c ∷ q)
   before q = sym (ap (behind q) o.is)
 
-removed_above : (maps : MembersAreMaps) (lists : ItemsAreLists) (a : List Step) (v : Tree) (s : Step) (r : List Step) (x : Tree) → raw_at v (a ++ s ∷ r) ≡ there x → Holds s (raw_at (remove_tree v (a ++ s ∷ r)) a)
+removed_above : (maps : MembersAreMaps) (lists : ItemsAreLists) (a : List Step) (v : Tree) (s : Step) (r : List Step) (x : Tree) → raw_at v (a ++ s ∷ r) ≡ there x → Holds s (raw_at (plain_remove_tree v (a ++ s ∷ r)) a)
 removed_above maps lists [] v s [] x found = holds_without s v x (last v s x found)
 removed_above maps lists [] v s (b ∷ r) x found =
     let o = opened v s [] b r x found in
-    subst (λ w. Holds s (there w)) (sym o.removed) (holds_replace s v o.part (remove_tree o.part (b ∷ r)) o.is)
+    subst (λ w. Holds s (there w)) (sym o.removed) (holds_replace s v o.part (plain_remove_tree o.part (b ∷ r)) o.is)
 removed_above maps lists (c ∷ a) v s r x found =
     let o = opened v c a s r x found in
     subst (Holds s) (sym (after maps lists v c (a ++ s ∷ r) x o a)) (removed_above maps lists a o.part s r x o.found)
 
-removed_beside : (maps : MembersAreMaps) (lists : ItemsAreLists) (a : List Step) (v : Tree) (s t u : Step) (r b : List Step) (x : Tree) → raw_at v (a ++ s ∷ u ∷ r) ≡ there x → t ≢ s → raw_at (remove_tree v (a ++ s ∷ u ∷ r)) (a ++ t ∷ b) ≡ raw_at v (a ++ t ∷ b)
+removed_beside : (maps : MembersAreMaps) (lists : ItemsAreLists) (a : List Step) (v : Tree) (s t u : Step) (r b : List Step) (x : Tree) → raw_at v (a ++ s ∷ u ∷ r) ≡ there x → t ≢ s → raw_at (plain_remove_tree v (a ++ s ∷ u ∷ r)) (a ++ t ∷ b) ≡ raw_at v (a ++ t ∷ b)
 removed_beside maps lists [] v s t u r b x found other =
     let o = opened v s [] u r x found in
-    ap (λ w. raw_at w (t ∷ b)) o.removed ∙ ap (behind b) (part_at-replace_other maps lists s t v o.part (remove_tree o.part (u ∷ r)) o.is other)
+    ap (λ w. raw_at w (t ∷ b)) o.removed ∙ ap (behind b) (part_at-replace_other maps lists s t v o.part (plain_remove_tree o.part (u ∷ r)) o.is other)
 removed_beside maps lists (c ∷ a) v s t u r b x found other =
     let o = opened v c a s (u ∷ r) x found in
     after maps lists v c (a ++ s ∷ u ∷ r) x o (a ++ t ∷ b) ∙ removed_beside maps lists a o.part s t u r b x o.found other ∙ before maps lists v c (a ++ s ∷ u ∷ r) x o (a ++ t ∷ b)
 
-removed_field_gone : (maps : MembersAreMaps) (lists : ItemsAreLists) (a : List Step) (v : Tree) (k : List ℕ) (b : List Step) (x : Tree) → raw_at v (a ++ field k ∷ []) ≡ there x → raw_at (remove_tree v (a ++ field k ∷ [])) (a ++ field k ∷ b) ≡ behind b missing
+removed_field_gone : (maps : MembersAreMaps) (lists : ItemsAreLists) (a : List Step) (v : Tree) (k : List ℕ) (b : List Step) (x : Tree) → raw_at v (a ++ field k ∷ []) ≡ there x → raw_at (plain_remove_tree v (a ++ field k ∷ [])) (a ++ field k ∷ b) ≡ behind b missing
 removed_field_gone maps lists [] v k b x found = ap (behind b) (field_gone_at maps lists k v x (last v (field k) x found))
 removed_field_gone maps lists (c ∷ a) v k b x found =
     let o = opened v c a (field k) [] x found in
     after maps lists v c (a ++ field k ∷ []) x o (a ++ field k ∷ b) ∙ removed_field_gone maps lists a o.part k b x o.found
 
 removed_beside_field : (maps : MembersAreMaps) (lists : ItemsAreLists) (a : List Step) (v : Tree) (k : List ℕ) (t : Step) (b : List Step) (x : Tree) → raw_at v (a ++ field k ∷ []) ≡ there x → t ≢ field k
-    → raw_at (remove_tree v (a ++ field k ∷ [])) (a ++ t ∷ b) ≡ raw_at v (a ++ t ∷ b)
+    → raw_at (plain_remove_tree v (a ++ field k ∷ [])) (a ++ t ∷ b) ≡ raw_at v (a ++ t ∷ b)
 removed_beside_field maps lists [] v k t b x found other = ap (behind b) (beside_field_at maps lists k t v x (last v (field k) x found) other)
 removed_beside_field maps lists (c ∷ a) v k t b x found other =
     let o = opened v c a (field k) [] x found in
     after maps lists v c (a ++ field k ∷ []) x o (a ++ t ∷ b) ∙ removed_beside_field maps lists a o.part k t b x o.found other ∙ before maps lists v c (a ++ field k ∷ []) x o (a ++ t ∷ b)
 
 removed_before_place : (maps : MembersAreMaps) (lists : ItemsAreLists) (a : List Step) (v : Tree) (i j : ℕ) (b : List Step) (x : Tree) → raw_at v (a ++ place i ∷ []) ≡ there x → j < i
-    → raw_at (remove_tree v (a ++ place i ∷ [])) (a ++ place j ∷ b) ≡ raw_at v (a ++ place j ∷ b)
+    → raw_at (plain_remove_tree v (a ++ place i ∷ [])) (a ++ place j ∷ b) ≡ raw_at v (a ++ place j ∷ b)
 removed_before_place maps lists [] v i j b x found lower = ap (behind b) (before_place_at maps lists i j v x (last v (place i) x found) lower)
 removed_before_place maps lists (c ∷ a) v i j b x found lower =
     let o = opened v c a (place i) [] x found in
     after maps lists v c (a ++ place i ∷ []) x o (a ++ place j ∷ b) ∙ removed_before_place maps lists a o.part i j b x o.found lower ∙ before maps lists v c (a ++ place i ∷ []) x o (a ++ place j ∷ b)
 
 removed_behind_place : (maps : MembersAreMaps) (lists : ItemsAreLists) (a : List Step) (v : Tree) (i j : ℕ) (b : List Step) (x : Tree) → raw_at v (a ++ place i ∷ []) ≡ there x → i ≤ j
-    → raw_at (remove_tree v (a ++ place i ∷ [])) (a ++ place j ∷ b) ≡ raw_at v (a ++ place (suc j) ∷ b)
+    → raw_at (plain_remove_tree v (a ++ place i ∷ [])) (a ++ place j ∷ b) ≡ raw_at v (a ++ place (suc j) ∷ b)
 removed_behind_place maps lists [] v i j b x found higher = ap (behind b) (behind_place_at maps lists i j v x (last v (place i) x found) higher)
 removed_behind_place maps lists (c ∷ a) v i j b x found higher =
     let o = opened v c a (place i) [] x found in
     after maps lists v c (a ++ place i ∷ []) x o (a ++ place j ∷ b) ∙ removed_behind_place maps lists a o.part i j b x o.found higher ∙ before maps lists v c (a ++ place i ∷ []) x o (a ++ place (suc j) ∷ b)
 
 removed_field_at_place : (maps : MembersAreMaps) (lists : ItemsAreLists) (a : List Step) (v : Tree) (i : ℕ) (l : List ℕ) (b : List Step) (x : Tree) → raw_at v (a ++ place i ∷ []) ≡ there x
-    → raw_at (remove_tree v (a ++ place i ∷ [])) (a ++ field l ∷ b) ≡ raw_at v (a ++ field l ∷ b)
+    → raw_at (plain_remove_tree v (a ++ place i ∷ [])) (a ++ field l ∷ b) ≡ raw_at v (a ++ field l ∷ b)
 removed_field_at_place maps lists [] v i l b x found = ap (behind b) (field_at_place_at i l v x (last v (place i) x found))
 removed_field_at_place maps lists (c ∷ a) v i l b x found =
     let o = opened v c a (place i) [] x found in
@@ -150,18 +150,18 @@ found_there (there u) x is = cc
 found_there missing x is = absurd cc
 found_there no_place x is = absurd cc
 
-stands : (v : Tree) (p : List Step) (x : Tree) → removable_at v p ≡ Some x → raw_at v p ≡ there x
+stands : (v : Tree) (p : List Step) (x : Tree) → plain_removable_at v p ≡ Some x → raw_at v p ≡ there x
 stands v [] x is = absurd cc
 stands v (s ∷ p) x is = found_there (raw_at v (s ∷ p)) x is
 
 -- the walk removes
-pub is_removed : (maps : MembersAreMaps) (lists : ItemsAreLists) (v : Tree) (p : List Step) (x : Tree) → removable_at v p ≡ Some x → IsRemoved v p (remove_tree v p)
+pub is_removed : (maps : MembersAreMaps) (lists : ItemsAreLists) (v : Tree) (p : List Step) (x : Tree) → plain_removable_at v p ≡ Some x → IsPlainRemoval v p (plain_remove_tree v p)
 is_removed maps lists v p x is =
     let found = stands v p x is in
     let at_path = λ (q : List Step) (e : p ≡ q). ap (raw_at v) (sym e) ∙ found in
-    let moved = λ (q b : List Step) (e : p ≡ q). ap (λ q. raw_at (remove_tree v q) b) e in
+    let moved = λ (q b : List Step) (e : p ≡ q). ap (λ q. raw_at (plain_remove_tree v q) b) e in
     record {
-      above = λ a s r e. subst (λ q. Holds s (raw_at (remove_tree v q) a)) (sym e) (removed_above maps lists a v s r x (at_path (a ++ s ∷ r) e));
+      above = λ a s r e. subst (λ q. Holds s (raw_at (plain_remove_tree v q) a)) (sym e) (removed_above maps lists a v s r x (at_path (a ++ s ∷ r) e));
       beside = λ a s t u r b e other. moved (a ++ s ∷ u ∷ r) (a ++ t ∷ b) e ∙ removed_beside maps lists a v s t u r b x (at_path (a ++ s ∷ u ∷ r) e) other;
       field_gone = λ a k b e. moved (a ++ field k ∷ []) (a ++ field k ∷ b) e ∙ removed_field_gone maps lists a v k b x (at_path (a ++ field k ∷ []) e);
       beside_field = λ a k t b e other. moved (a ++ field k ∷ []) (a ++ t ∷ b) e ∙ removed_beside_field maps lists a v k t b x (at_path (a ++ field k ∷ []) e) other;
@@ -184,14 +184,14 @@ nothing_last maps lists (array ts) (place i) none = ap array (lists.item_without
 nothing_last maps lists v (field k) none = refl
 nothing_last maps lists v (place i) none = refl
 
-nothing_at : (f : Found) (v : Tree) (s r : Step) (p : List Step) → part_at v s ≡ f → tree_found (behind (r ∷ p) f) ≡ None → ((u : Tree) → removable_at u (r ∷ p) ≡ None → remove_tree u (r ∷ p) ≡ u)
-    → if_there f (λ u. replace_part s (remove_tree u (r ∷ p)) v) v ≡ v
+nothing_at : (f : Found) (v : Tree) (s r : Step) (p : List Step) → part_at v s ≡ f → tree_found (behind (r ∷ p) f) ≡ None → ((u : Tree) → plain_removable_at u (r ∷ p) ≡ None → plain_remove_tree u (r ∷ p) ≡ u)
+    → if_there f (λ u. replace_part s (plain_remove_tree u (r ∷ p)) v) v ≡ v
 nothing_at (there u) v s r p is none later = ap (λ t. replace_part s t v) (later u none) ∙ replaced_same s v u is
 nothing_at missing v s r p is none later = refl
 nothing_at no_place v s r p is none later = refl
 
 -- where there is nothing to remove, the walk changes nothing
-pub nothing_removed : (maps : MembersAreMaps) (lists : ItemsAreLists) (v : Tree) (p : List Step) → removable_at v p ≡ None → remove_tree v p ≡ v
+pub nothing_removed : (maps : MembersAreMaps) (lists : ItemsAreLists) (v : Tree) (p : List Step) → plain_removable_at v p ≡ None → plain_remove_tree v p ≡ v
 nothing_removed maps lists v [] none = refl
 nothing_removed maps lists v (s ∷ []) none = nothing_last maps lists v s none
 nothing_removed maps lists v (s ∷ r ∷ p) none = nothing_at (part_at v s) v s r p refl none (λ u e. nothing_removed maps lists u (r ∷ p) e)

@@ -1,17 +1,17 @@
 -- Laws of reading, setting and removing at paths.
 use Rattle.std.specs.Prelude.{◌≡◌, ◌≢◌, List, [], IfNone, OnSome}
-use Rattle.vrl_value.specs.Look.{Step, raw_at}
+use Rattle.vrl_value.specs.Look.{raw_at}
 use Rattle.vrl_value.specs.Tree.{Tree, IsOrdered}
 use Rattle.vrl_path.specs.Read.{signed_raw_at}
 use Rattle.vrl_path.specs.Remove.{removable_at, IsRemoved}
 use Rattle.vrl_path.specs.Steps.{plain, IsPlain}
 use Rattle.vrl_path.specs.Trees.{remove_tree, set_tree}
 use Rattle.vrl_path.specs.Write.{IsAsDeep, IsSet}
-use Rattle.vrl_path.specs.declared.path.Step.{Step as CodeStep}
+use Rattle.vrl_path.specs.declared.path.Step.{Step}
 
 -- where no place is negative, a read finds what look-up finds
 abbrev pub ReadsByLookUp : Type 0
-ReadsByLookUp = (t : Tree) (p : List CodeStep) → IsPlain p → signed_raw_at t p ≡ raw_at t (plain p)
+ReadsByLookUp = (t : Tree) (p : List Step) → IsPlain p → signed_raw_at t p ≡ raw_at t (plain p)
 
 -- among the trees in order a set has one result
 abbrev pub SetsAreOne : Type 0

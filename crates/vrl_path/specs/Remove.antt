@@ -3,15 +3,17 @@ use Rattle.std.specs.Prelude.{◌≡◌, ◌≢◌, ℕ, suc, ◌<◌, ◌≤◌
 use Rattle.vrl_value.specs.Look.{Step, field, place, missing, raw_at, found_behind}
 use Rattle.vrl_value.specs.Tree.{Tree}
 use Rattle.vrl_path.specs.Read.{tree_found}
+use Rattle.vrl_path.specs.Steps.{plain}
 use Rattle.vrl_path.specs.Write.{Holds}
+use Rattle.vrl_path.specs.declared.path.Step.{Step as CodeStep}
 
--- the sub-tree that a removal takes out: the one at the path, but not the whole
-abbrev pub removable_at : Tree → List Step → Option Tree
-removable_at t [] = None
-removable_at t (s ∷ p) = tree_found (raw_at t (s ∷ p))
+-- the sub-tree that a removal at a plain path takes out: the one at the path, but not the whole
+abbrev pub plain_removable_at : Tree → List Step → Option Tree
+plain_removable_at t [] = None
+plain_removable_at t (s ∷ p) = tree_found (raw_at t (s ∷ p))
 
--- w is v without its sub-tree at the path p: what stands at the path q, by how q stands to p
-pub record IsRemoved (v : Tree) (p : List Step) (w : Tree) : Type 0 where
+-- w is v without its sub-tree at the plain path p: what stands at the path q, by how q stands to p
+pub record IsPlainRemoval (v : Tree) (p : List Step) (w : Tree) : Type 0 where
   -- q leads to p: a container that the next step of p fits
   pub above : (a : List Step) (s : Step) (r : List Step) → p ≡ a ++ s ∷ r → Holds s (raw_at w a)
   -- q parts from p before its last step: as it was
@@ -23,3 +25,10 @@ pub record IsRemoved (v : Tree) (p : List Step) (w : Tree) : Type 0 where
   pub before_place : (a : List Step) (i j : ℕ) (b : List Step) → p ≡ a ++ place i ∷ [] → j < i → raw_at w (a ++ place j ∷ b) ≡ raw_at v (a ++ place j ∷ b)
   pub behind_place : (a : List Step) (i j : ℕ) (b : List Step) → p ≡ a ++ place i ∷ [] → i ≤ j → raw_at w (a ++ place j ∷ b) ≡ raw_at v (a ++ place (suc j) ∷ b)
   pub field_at_place : (a : List Step) (i : ℕ) (l : List ℕ) (b : List Step) → p ≡ a ++ place i ∷ [] → raw_at w (a ++ field l ∷ b) ≡ raw_at v (a ++ field l ∷ b)
+
+-- the same at a path; a place counts from the start, and what a negative one means where something is removed is left open
+abbrev pub removable_at : Tree → List CodeStep → Option Tree
+removable_at v p = plain_removable_at v (plain p)
+
+abbrev pub IsRemoved : Tree → List CodeStep → Tree → Type 0
+IsRemoved v p w = IsPlainRemoval v (plain p) w

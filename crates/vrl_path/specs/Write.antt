@@ -3,6 +3,8 @@ use Rattle.std.specs.Prelude.{◌≡◌, ◌≢◌, ℕ, ◌+◌, ◌<◌, ◌�
 use Rattle.vrl_value.specs.Depth.{depth_of}
 use Rattle.vrl_value.specs.Look.{Step, field, place, Found, there, missing, no_place, raw_at, found_behind}
 use Rattle.vrl_value.specs.Tree.{Tree, null, array, object, Items, no_items, Members, no_members, IsOrdered}
+use Rattle.vrl_path.specs.Steps.{plain}
+use Rattle.vrl_path.specs.declared.path.Step.{Step as CodeStep}
 
 -- the members of an object; of what is no object those of the empty one
 abbrev pub members_in : Found → Members
@@ -29,8 +31,8 @@ or_null (there t) = there t
 or_null missing = there null
 or_null no_place = there null
 
--- w is v with n set at the path p: what stands at the path q, by how q stands to p
-pub record IsSet (v : Tree) (p : List Step) (n w : Tree) : Type 0 where
+-- w is v with n set at the plain path p: what stands at the path q, by how q stands to p
+pub record IsPlainSet (v : Tree) (p : List Step) (n w : Tree) : Type 0 where
   -- q is p, or leads on from it
   pub within : (r : List Step) → raw_at w (p ++ r) ≡ raw_at n r
   -- q leads to p: a container that the next step of p fits
@@ -48,18 +50,22 @@ pub record IsSet (v : Tree) (p : List Step) (n w : Tree) : Type 0 where
   pub place_at_field : (a : List Step) (k : List ℕ) (j : ℕ) (r b : List Step) → p ≡ a ++ field k ∷ r → raw_at w (a ++ place j ∷ b) ≡ no_place
   pub field_at_place : (a : List Step) (i : ℕ) (l : List ℕ) (r b : List Step) → p ≡ a ++ place i ∷ r → raw_at w (a ++ field l ∷ b) ≡ no_place
 
+-- w is v with n set at the path p; a place counts from the start, and what a negative one means where something is written is left open
+abbrev pub IsSet : Tree → List CodeStep → Tree → Tree → Type 0
+IsSet v p n w = IsPlainSet v (plain p) n w
+
 -- the greatest depth that a set may leave
 abbrev pub depth_limit : ℕ
 depth_limit = 128
 
 -- v with n set at the path p would be deeper than that
-pub record IsTooDeep (v : Tree) (p : List Step) (n : Tree) : Type 0 where
+pub record IsTooDeep (v : Tree) (p : List CodeStep) (n : Tree) : Type 0 where
   pub result : Tree
   pub is_set : IsSet v p n result
   pub ordered : IsOrdered v → IsOrdered n → IsOrdered result
   pub deeper : depth_limit < depth_of result
 
 -- how deep v with n set at the path p is: as deep as the path is long and n is deep, or, by what stands beside the path, as v at most
-pub record IsAsDeep (v : Tree) (p : List Step) (n w : Tree) : Type 0 where
+pub record IsAsDeep (v : Tree) (p : List CodeStep) (n w : Tree) : Type 0 where
   pub least : length p + depth_of n ≤ depth_of w
   pub greatest : depth_of w ≤ max (depth_of v) (length p + depth_of n)

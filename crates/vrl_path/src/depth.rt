@@ -1,6 +1,6 @@
 ghost use Rattle.std.specs.Prelude.{◌↔◌, ◌≤◌, ◌≡◌, ◌+◌, [], length, option_map, IsTrue};
 ghost use Rattle.vrl_path.specs.Steps.{plain, IsWritable};
-ghost use Rattle.vrl_path.specs.Trees.{items_if_array, members_if_object, set_in_fields, set_in_items, set_tree};
+ghost use Rattle.vrl_path.specs.Trees.{items_if_array, members_if_object, plain_set_tree, set_in_fields, set_in_items, set_tree};
 ghost use Rattle.vrl_path.specs.Write.{depth_limit};
 ghost use Rattle.vrl_value.specs.Depth.{depth_of, items_depth, members_depth};
 ghost use Rattle.vrl_value.specs.Parts.{put_item, without};
@@ -19,7 +19,7 @@ pub const DEPTH_LIMIT: u64 = 128;
 pub fn is_within_limit(value: &Value, steps: &[Step], new: &Value) -> bool
     requires { IsWritable steps.now }
     ensures { IsTrue result
-        ↔ (depth_of (set_tree (tree_of value.now) (plain steps.now) (tree_of new.now)) ≤ depth_limit) }
+        ↔ (depth_of (set_tree (tree_of value.now) steps.now (tree_of new.now)) ≤ depth_limit) }
 {
     let depth = new.depth();
     let length = steps.len() as u64;
@@ -39,7 +39,7 @@ fn fits_at(value: &Value, steps: &[Step], limit: u64) -> bool
     requires room { length steps.now ≤ limit }
     requires small { limit ≤ depth_limit }
     ensures { (n : Tree) → length steps.now + depth_of n ≤ limit
-        → (IsTrue result ↔ (depth_of (set_tree (tree_of value.now) (plain steps.now) n) ≤ limit)) }
+        → (IsTrue result ↔ (depth_of (plain_set_tree (tree_of value.now) (plain steps.now) n) ≤ limit)) }
 {
     let [step, rest @ ..] = steps else {
         return true;

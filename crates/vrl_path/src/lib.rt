@@ -18,7 +18,7 @@ pub use laws::{
     reads_are_look_ups, removals_are_one, removed_trees_are_removals, set_trees_are_sets,
     sets_are_one, sets_deepen,
 };
-pub use path::{Path, Step};
+pub use path::{PLACE_LIMIT, Path, Step};
 pub use read::{exists, get};
 pub use removal::remove;
 pub use write::{put, set};

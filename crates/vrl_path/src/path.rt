@@ -4,6 +4,9 @@ use std::alloc::Global;
 use std::marker::Model;
 use vrl_value::{Chars, Memory};
 
+/// The greatest place that can be written.
+pub const PLACE_LIMIT: i64 = 65_535;
+
 /// One step of a path, from an array or an object to a part of it.
 #[derive(Drop)]
 pub enum Step {

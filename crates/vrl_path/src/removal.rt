@@ -1,7 +1,7 @@
 ghost use Rattle.std.specs.Prelude.{◌≡◌, option_map, IfNone, OnSome};
-ghost use Rattle.vrl_path.specs.Remove.{removable_at, IsRemoved};
+ghost use Rattle.vrl_path.specs.Remove.{plain_removable_at, removable_at, IsRemoved};
 ghost use Rattle.vrl_path.specs.Steps.{plain, IsPlain};
-ghost use Rattle.vrl_path.specs.Trees.{remove_in_fields, remove_in_items, remove_tree, removable_in};
+ghost use Rattle.vrl_path.specs.Trees.{plain_remove_tree, remove_in_fields, remove_in_items, remove_tree, removable_in};
 ghost use Rattle.vrl_value.specs.Look.{item_at};
 ghost use Rattle.vrl_value.specs.Tree.{find, IsOrdered};
 ghost use Rattle.vrl_value.specs.View.{items_of, members_of, tree_of};
@@ -16,9 +16,9 @@ use vrl_value::{Fields, Items, Value, items_are_lists, members_are_maps, trees_s
 /// It is one walk down the path, takes no memory, and moves the places behind of one array at most.
 pub fn remove(value: &mut Value, path: &Path) -> Option<Value>
     requires { IsPlain path.now }
-    ensures value { option_map tree_of result ≡ removable_at (tree_of value.old) (plain path.now) }
-    ensures removed { OnSome result (IsRemoved (tree_of value.old) (plain path.now) (tree_of value.new)) }
-    ensures tree { tree_of value.new ≡ remove_tree (tree_of value.old) (plain path.now) }
+    ensures value { option_map tree_of result ≡ removable_at (tree_of value.old) path.now }
+    ensures removed { OnSome result (IsRemoved (tree_of value.old) path.now (tree_of value.new)) }
+    ensures tree { tree_of value.new ≡ remove_tree (tree_of value.old) path.now }
     ensures ordered { IsOrdered (tree_of value.old) → IsOrdered (tree_of value.new) }
     ensures none { IfNone result (tree_of value.new ≡ tree_of value.old) }
 {
@@ -32,8 +32,8 @@ pub fn remove(value: &mut Value, path: &Path) -> Option<Value>
 #[cycle(removal)]
 fn remove_at(value: &mut Value, steps: &[Step]) -> Option<Value>
     requires { IsPlain steps.now }
-    ensures value { option_map tree_of result ≡ removable_at (tree_of value.old) (plain steps.now) }
-    ensures rest { tree_of value.new ≡ remove_tree (tree_of value.old) (plain steps.now) }
+    ensures value { option_map tree_of result ≡ plain_removable_at (tree_of value.old) (plain steps.now) }
+    ensures rest { tree_of value.new ≡ plain_remove_tree (tree_of value.old) (plain steps.now) }
 {
     let [step, rest @ ..] = steps else {
         return None;

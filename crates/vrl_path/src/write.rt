@@ -1,6 +1,6 @@
 ghost use Rattle.std.specs.Prelude.{◌<◌, ◌≡◌, ◌≤◌, OnErr, OnOk};
 ghost use Rattle.vrl_path.specs.Steps.{plain, IsWritable};
-ghost use Rattle.vrl_path.specs.Trees.{set_in_fields, set_in_items, set_tree};
+ghost use Rattle.vrl_path.specs.Trees.{plain_set_tree, set_in_fields, set_in_items, set_tree};
 ghost use Rattle.vrl_path.specs.Write.{depth_limit, IsAsDeep, IsSet, IsTooDeep};
 ghost use Rattle.vrl_value.specs.Depth.{depth_of};
 ghost use Rattle.vrl_value.specs.Tree.{IsOrdered};
@@ -24,12 +24,12 @@ use vrl_value::{
 /// the value is known to be within the limit, [`put`] spares that walk.
 pub fn set(alloc: Global, value: &mut Value, path: &Path, new: Value) -> Result<(), SetFault>
     requires { IsWritable path.now }
-    ensures set { OnOk result (IsSet (tree_of value.old) (plain path.now) (tree_of new) (tree_of value.new)) }
-    ensures tree { OnOk result (tree_of value.new ≡ set_tree (tree_of value.old) (plain path.now) (tree_of new)) }
+    ensures set { OnOk result (IsSet (tree_of value.old) path.now (tree_of new) (tree_of value.new)) }
+    ensures tree { OnOk result (tree_of value.new ≡ set_tree (tree_of value.old) path.now (tree_of new)) }
     ensures within { OnOk result (depth_of (tree_of value.new) ≤ depth_limit) }
     ensures ordered { IsOrdered (tree_of value.old) → IsOrdered (tree_of new) → IsOrdered (tree_of value.new) }
-    ensures deeper { result ≡ Err SetFault.TooDeep → depth_limit < depth_of (set_tree (tree_of value.old) (plain path.now) (tree_of new)) }
-    ensures too_deep { result ≡ Err SetFault.TooDeep → IsTooDeep (tree_of value.old) (plain path.now) (tree_of new) }
+    ensures deeper { result ≡ Err SetFault.TooDeep → depth_limit < depth_of (set_tree (tree_of value.old) path.now (tree_of new)) }
+    ensures too_deep { result ≡ Err SetFault.TooDeep → IsTooDeep (tree_of value.old) path.now (tree_of new) }
     ensures err { OnErr result (tree_of value.new ≡ tree_of value.old) }
 {
     members_are_maps();
@@ -46,9 +46,9 @@ pub fn set(alloc: Global, value: &mut Value, path: &Path, new: Value) -> Result<
 /// it was, and the new one is gone. It is one walk down the path with one change at its end.
 pub fn put(alloc: Global, value: &mut Value, path: &Path, new: Value) -> Result<(), Memory>
     requires { IsWritable path.now }
-    ensures set { OnOk result (IsSet (tree_of value.old) (plain path.now) (tree_of new) (tree_of value.new)) }
-    ensures tree { OnOk result (tree_of value.new ≡ set_tree (tree_of value.old) (plain path.now) (tree_of new)) }
-    ensures depth { OnOk result (IsAsDeep (tree_of value.old) (plain path.now) (tree_of new) (tree_of value.new)) }
+    ensures set { OnOk result (IsSet (tree_of value.old) path.now (tree_of new) (tree_of value.new)) }
+    ensures tree { OnOk result (tree_of value.new ≡ set_tree (tree_of value.old) path.now (tree_of new)) }
+    ensures depth { OnOk result (IsAsDeep (tree_of value.old) path.now (tree_of new) (tree_of value.new)) }
     ensures ordered { IsOrdered (tree_of value.old) → IsOrdered (tree_of new) → IsOrdered (tree_of value.new) }
     ensures err { OnErr result (tree_of value.new ≡ tree_of value.old) }
 {
@@ -62,7 +62,7 @@ pub fn put(alloc: Global, value: &mut Value, path: &Path, new: Value) -> Result<
 #[cycle(put)]
 fn put_at(alloc: Global, value: &mut Value, steps: &[Step], new: Value) -> Result<(), Memory>
     requires { IsWritable steps.now }
-    ensures ok { OnOk result (tree_of value.new ≡ set_tree (tree_of value.old) (plain steps.now) (tree_of new)) }
+    ensures ok { OnOk result (tree_of value.new ≡ plain_set_tree (tree_of value.old) (plain steps.now) (tree_of new)) }
     ensures err { OnErr result (tree_of value.new ≡ tree_of value.old) }
 {
     let [step, rest @ ..] = steps else {

@@ -2,7 +2,7 @@ use Rattle.std.proofs.Common.{◌≤◌, sym, ap, subst, arith, refl}
 use Rattle.vrl_value.specs.Depth.{depth_of, items_depth, members_depth}
 use Rattle.vrl_value.specs.View.{items_of, members_of, tree_of}
 use Rattle.vrl_path.specs.Steps.{plain, IsWritableStep}
-use Rattle.vrl_path.specs.Trees.{chain, set_in_fields, set_in_items, set_tree}
+use Rattle.vrl_path.specs.Trees.{chain, set_in_fields, set_in_items, plain_set_tree}
 use Rattle.vrl_path.proofs.Depths.{below_put_item}
 use Rattle.vrl_path.proofs.Fits.{chain_shallow, over_whole, part_of_fields, set_in_fields-new, set_in_fields-part, set_in_items-new, set_in_items-part, length_plain, no_array_fits, no_object_fits}
 use Rattle.vrl_path.proofs.depth.+fits.Goals as goal
@@ -11,7 +11,7 @@ pub field_fits-returns-else-fits_at : goal.field_fits-returns-else-fits_at
 field_fits-returns-else-fits_at t c = λ n room.
     let p = plain c.args.steps.now in
     let ms = members_of c.args.fields.now in
-    let part = set_tree (tree_of c.in-Some.part.now) p n in
+    let part = plain_set_tree (tree_of c.in-Some.part.now) p n in
     let e = ap members_depth (set_in_fields-part c.args.name.now ms p n (tree_of c.in-Some.part.now) c.in-Some.ensures) in
     let below = subst (λ d. depth_of part ≤ d) (sym e) (part_of_fields c.args.name.now part ms) in
     over_whole c.fits_at.result (depth_of part) (members_depth (set_in_fields c.args.name.now ms p n)) c.args.limit (c.fits_at.ensures n room) c.if-fits_at.false below
@@ -28,7 +28,7 @@ pub item_fits-returns-then-fits_at : goal.item_fits-returns-then-fits_at
 item_fits-returns-then-fits_at t c = λ n room.
     let p = plain c.args.steps.now in
     let ts = items_of c.args.items.now in
-    let part = set_tree (tree_of c.in-Some.part.now) p n in
+    let part = plain_set_tree (tree_of c.in-Some.part.now) p n in
     let e = ap items_depth (set_in_items-part c.args.place ts p n (tree_of c.in-Some.part.now) c.in-Some.ensures) in
     rw e (c.items_fit.ensures part ((c.fits_at.ensures n room).0 c.if-fits_at.true))
 
@@ -36,7 +36,7 @@ pub item_fits-returns-else-fits_at : goal.item_fits-returns-else-fits_at
 item_fits-returns-else-fits_at t c = λ n room.
     let p = plain c.args.steps.now in
     let ts = items_of c.args.items.now in
-    let part = set_tree (tree_of c.in-Some.part.now) p n in
+    let part = plain_set_tree (tree_of c.in-Some.part.now) p n in
     let e = ap items_depth (set_in_items-part c.args.place ts p n (tree_of c.in-Some.part.now) c.in-Some.ensures) in
     let below = subst (λ d. depth_of part ≤ d) (sym e) (below_put_item c.args.place part ts) in
     over_whole c.fits_at.result (depth_of part) (items_depth (set_in_items c.args.place ts p n)) c.args.limit (c.fits_at.ensures n room) c.if-fits_at.false below
