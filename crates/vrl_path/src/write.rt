@@ -29,6 +29,7 @@ pub fn set(alloc: Global, value: &mut Value, path: &Path, new: Value) -> Result<
     ensures within { OnOk result (depth_of (tree_of value.new) ≤ depth_limit) }
     ensures ordered { IsOrdered (tree_of value.old) → IsOrdered (tree_of new) → IsOrdered (tree_of value.new) }
     ensures deeper { result ≡ Err SetFault.TooDeep → depth_limit < depth_of (set_tree (tree_of value.old) path.now (tree_of new)) }
+    ensures deep { depth_limit < depth_of (set_tree (tree_of value.old) path.now (tree_of new)) → result ≡ Err SetFault.TooDeep }
     ensures too_deep { result ≡ Err SetFault.TooDeep → IsTooDeep (tree_of value.old) path.now (tree_of new) }
     ensures err { OnErr result (tree_of value.new ≡ tree_of value.old) }
 {
