@@ -10,12 +10,14 @@ use Rattle.vrl_value.specs.Tree.{Tree, string, integer, boolean, null, timestamp
 use Rattle.vrl_value.specs.declared.value.Tag.{Tag}
 use Rattle.vrl_value.specs.declared.value.Tag.TheVariants as tag
 use Rattle.vrl_path.specs.Read.{tree_found}
-use Rattle.vrl_path.specs.Remove.{IsRemoved, removable_at}
+use Rattle.vrl_path.specs.Remove.{removable_at, IsPlainRemoval, IsRemoved}
+use Rattle.vrl_path.specs.Steps.{plain, plain_step}
 use Rattle.vrl_path.specs.Write.{Holds}
+use Rattle.vrl_path.specs.declared.path.Step.{Step as CodeStep}
 use Rattle.vrl_kind.specs.Kinds.{step_tag}
 use Rattle.vrl_kind.specs.Sets.{Sets, SameSets}
 use Rattle.vrl_place.specs.Read.{allowed}
-use Rattle.vrl_place.specs.Remove.{gone, moved, remove}
+use Rattle.vrl_place.specs.Remove.{gone, moved, plain_remove, remove}
 use Rattle.vrl_place.specs.Sets.{part}
 use Rattle.vrl_place.proofs.Orders.{equal, one_name, other_name, over, under}
 use Rattle.vrl_place.proofs.Same.{one_sets}
@@ -70,7 +72,7 @@ stood : (v w : Tree) (a : List Step) (s t x : Step) → Holds s (raw_at w a) →
 stood v w a s t x holds again same fits =
     container_of (raw_at v a) x (subst (λ f. f ≢ no_place) (sym (raw_append a w t []) ∙ same ∙ raw_append a v x []) (holds_some t (raw_at w a) again)) ∙ ap Some fits
 
-was_container : (v w : Tree) (a p : List Step) (s : Step) (r : List Step) → p ≡ a ++ s ∷ r → IsRemoved v p w → tag_found (raw_at v a) ≡ Some (step_tag s)
+was_container : (v w : Tree) (a p : List Step) (s : Step) (r : List Step) → p ≡ a ++ s ∷ r → IsPlainRemoval v p w → tag_found (raw_at v a) ≡ Some (step_tag s)
 was_container v w a p (field k) [] e is = stood v w a (field k) (field (0 ∷ k)) (field (0 ∷ k)) (is.above a (field k) [] e) (is.above a (field k) [] e) (is.beside_field a k (field (0 ∷ k)) [] e (is_other_step (field k))) refl
 was_container v w a p (place i) [] e is = stood v w a (place i) (place i) (place (suc i)) (is.above a (place i) [] e) (is.above a (place i) [] e) (is.behind_place a i i [] e (omega arith)) refl
 was_container v w a p s (u ∷ r) e is = stood v w a s (other_step s) (other_step s) (is.above a s (u ∷ r) e) (holds_again s (raw_at w a) (is.above a s (u ∷ r) e)) (is.beside a s (other_step s) u r [] e (is_other_step s)) (same_container s)
@@ -91,8 +93,8 @@ gone_there A [] h = both _ _ h refl
 gone_there A (x ∷ q) h = tt
 
 -- at each path behind a, where the rest of p is removed
-removed_behind : (r : List Step) (s : Step) (v w : Tree) (a p : List Step) (A : Sets) → p ≡ a ++ s ∷ r → IsRemoved v p w → ((q : List Step) → IfSome (tag_found (raw_at v (a ++ q))) (λ t. IsTrue (A q t)))
-    → (q : List Step) → IfSome (tag_found (raw_at w (a ++ q))) (λ t. IsTrue (remove A (s ∷ r) q t))
+removed_behind : (r : List Step) (s : Step) (v w : Tree) (a p : List Step) (A : Sets) → p ≡ a ++ s ∷ r → IsPlainRemoval v p w → ((q : List Step) → IfSome (tag_found (raw_at v (a ++ q))) (λ t. IsTrue (A q t)))
+    → (q : List Step) → IfSome (tag_found (raw_at w (a ++ q))) (λ t. IsTrue (plain_remove A (s ∷ r) q t))
 removed_behind r s v w a p A e is h [] =
     subst (λ x. IfSome (tag_found (raw_at w x)) (λ t. IsTrue (A [] t))) (sym (append-nil a))
     (same_root (raw_at v a) (raw_at w a) (step_tag s) A (was_container v w a p s r e is) (is_holder s (raw_at w a) (is.above a s r e))
@@ -122,32 +124,32 @@ removed_behind (u ∷ r) (field k) v w a p A e is h (place j ∷ q) =
 removed_behind (u ∷ r) (place i) v w a p A e is h (field l ∷ q) =
     subst (λ f. IfSome (tag_found f) (λ t. IsTrue (A (field l ∷ q) t))) (sym (is.beside a (place i) (field l) u r q e (λ x. cc))) (h (field l ∷ q))
 removed_behind (u ∷ r) (field k) v w a p A e is h (field l ∷ q) =
-    let same : IfSome (tag_found (raw_at w ((a ++ field k ∷ []) ++ q))) (λ t. IsTrue (remove (part A (field k)) (u ∷ r) q t)) =
+    let same : IfSome (tag_found (raw_at w ((a ++ field k ∷ []) ++ q))) (λ t. IsTrue (plain_remove (part A (field k)) (u ∷ r) q t)) =
     removed_behind r u v w (a ++ field k ∷ []) p (part A (field k)) (e ∙ sym (append_assoc a (field k ∷ []) (u ∷ r))) is
     (λ x. subst (λ y. IfSome (tag_found (raw_at v y)) (λ t. IsTrue (A (field k ∷ x) t))) (sym (append_assoc a (field k ∷ []) x)) (h (field k ∷ x))) q in
     let beside : l ≢ k → IfSome (tag_found (raw_at w (a ++ field l ∷ q))) (λ t. IsTrue (A (field l ∷ q) t)) =
     λ ne. subst (λ f. IfSome (tag_found f) (λ t. IsTrue (A (field l ∷ q) t))) (sym (is.beside a (field k) (field l) u r q e (λ x. ne (ap name_in x)))) (h (field l ∷ q)) in
     by_order (slice_cmp nat_cmp l k) _ _ _ _
     (λ o. beside (other_name Less l k o (λ x. cc)))
-    (λ o. subst (λ x. IfSome (tag_found (raw_at w x)) (λ t. IsTrue (remove (part A (field k)) (u ∷ r) q t))) (append_assoc a (field k ∷ []) q ∙ ap (λ m. a ++ field m ∷ q) (sym (one_name l k o))) same)
+    (λ o. subst (λ x. IfSome (tag_found (raw_at w x)) (λ t. IsTrue (plain_remove (part A (field k)) (u ∷ r) q t))) (append_assoc a (field k ∷ []) q ∙ ap (λ m. a ++ field m ∷ q) (sym (one_name l k o))) same)
     (λ o. beside (other_name Greater l k o (λ x. cc)))
 removed_behind (u ∷ r) (place i) v w a p A e is h (place j ∷ q) =
-    let same : IfSome (tag_found (raw_at w ((a ++ place i ∷ []) ++ q))) (λ t. IsTrue (remove (part A (place i)) (u ∷ r) q t)) =
+    let same : IfSome (tag_found (raw_at w ((a ++ place i ∷ []) ++ q))) (λ t. IsTrue (plain_remove (part A (place i)) (u ∷ r) q t)) =
     removed_behind r u v w (a ++ place i ∷ []) p (part A (place i)) (e ∙ sym (append_assoc a (place i ∷ []) (u ∷ r))) is
     (λ x. subst (λ y. IfSome (tag_found (raw_at v y)) (λ t. IsTrue (A (place i ∷ x) t))) (sym (append_assoc a (place i ∷ []) x)) (h (place i ∷ x))) q in
     let beside : j ≢ i → IfSome (tag_found (raw_at w (a ++ place j ∷ q))) (λ t. IsTrue (A (place j ∷ q) t)) =
     λ ne. subst (λ f. IfSome (tag_found f) (λ t. IsTrue (A (place j ∷ q) t))) (sym (is.beside a (place i) (place j) u r q e (λ x. ne (ap place_in x)))) (h (place j ∷ q)) in
     by_order (nat_cmp j i) _ _ _ _
     (λ o. let less : j < i = under j i o in beside (λ x. omega arith))
-    (λ o. subst (λ x. IfSome (tag_found (raw_at w x)) (λ t. IsTrue (remove (part A (place i)) (u ∷ r) q t))) (append_assoc a (place i ∷ []) q ∙ ap (λ m. a ++ place m ∷ q) (sym (equal j i o))) same)
+    (λ o. subst (λ x. IfSome (tag_found (raw_at w x)) (λ t. IsTrue (plain_remove (part A (place i)) (u ∷ r) q t))) (append_assoc a (place i ∷ []) q ∙ ap (λ m. a ++ place m ∷ q) (sym (equal j i o))) same)
     (λ o. let more : i < j = over j i o in beside (λ x. omega arith))
 
 in_kind : (w : Tree) (K B : Sets) → SameSets K B → IsIn w (allowed B) → IsIn w (allowed K)
 in_kind w K B same h q = subst (λ C. IfSome (tag_found (raw_at w q)) (λ t. IsTrue (C q t))) (sym (one_sets K B same)) (h q)
 
-pub removed_inhabits : (v w : Tree) (p : List Step) (A K : Sets) → SameSets K (remove A p) → IsIn v (allowed A) → p ≢ [] → IsRemoved v p w → IsIn w (allowed K)
+pub removed_inhabits : (v w : Tree) (p : List CodeStep) (A K : Sets) → SameSets K (remove A p) → IsIn v (allowed A) → p ≢ [] → IsRemoved v p w → IsIn w (allowed K)
 removed_inhabits v w [] A K same old some is = absurd (some refl)
-removed_inhabits v w (s ∷ r) A K same old some is = in_kind w K (remove A (s ∷ r)) same (removed_behind r s v w [] (s ∷ r) A refl is old)
+removed_inhabits v w (s ∷ r) A K same old some is = in_kind w K (remove A (s ∷ r)) same (removed_behind (plain r) (plain_step s) v w [] (plain (s ∷ r)) A refl is old)
 
 -- a value in which nothing can be removed
 none_behind : (ts : Items) (i j : ℕ) → item_at i ts ≡ None → i ≤ j → item_at j ts ≡ None
@@ -158,7 +160,7 @@ none_behind (item t ts) (suc i) (suc j) none over = none_behind ts i j none (ome
 
 -- nothing stands there, so nothing can be removed behind it
 kept_part : (f : Found) (B : Sets) (s : Step) (r : List Step) → IfSome (tag_found (found_behind {S = Step} f [] (λ u. raw_at u []))) (λ t. IsTrue (B [] t)) → (q : List Step)
-    → ((u : Tree) → f ≡ there u → IfSome (tag_found (raw_at u q)) (λ t. IsTrue (remove B (s ∷ r) q t))) → IfSome (tag_found (found_behind f q (λ u. raw_at u q))) (λ t. IsTrue (remove B (s ∷ r) q t))
+    → ((u : Tree) → f ≡ there u → IfSome (tag_found (raw_at u q)) (λ t. IsTrue (plain_remove B (s ∷ r) q t))) → IfSome (tag_found (found_behind f q (λ u. raw_at u q))) (λ t. IsTrue (plain_remove B (s ∷ r) q t))
 kept_part (there u) B s r h q later = later u refl
 kept_part missing B s r h [] later = h
 kept_part missing B s r h (x ∷ q) later = tt
@@ -228,7 +230,7 @@ nothing_behind_part no_place r u is none = cc
 in_part : (f : Found) (u : Tree) (A : Sets) (s : Step) → f ≡ there u → ((q : List Step) → IfSome (tag_found (found_behind f q (λ x. raw_at x q))) (λ t. IsTrue (A (s ∷ q) t))) → IsIn u (allowed (part A s))
 in_part f u A s is h q = subst (λ g. IfSome (tag_found (found_behind g q (λ x. raw_at x q))) (λ t. IsTrue (A (s ∷ q) t))) is (h q)
 
-kept_in : (r : List Step) (s : Step) (v : Tree) (A : Sets) → IsIn v (allowed A) → tree_found (raw_at v (s ∷ r)) ≡ None → IsIn v (allowed (remove A (s ∷ r)))
+kept_in : (r : List Step) (s : Step) (v : Tree) (A : Sets) → IsIn v (allowed A) → tree_found (raw_at v (s ∷ r)) ≡ None → IsIn v (allowed (plain_remove A (s ∷ r)))
 kept_in r s v A h none [] = h []
 kept_in [] (field k) v A h none (place j ∷ q) = h (place j ∷ q)
 kept_in [] (field k) v A h none (field l ∷ q) =
@@ -249,17 +251,17 @@ kept_in (u ∷ r) (field k) v A h none (place j ∷ q) = h (place j ∷ q)
 kept_in (u ∷ r) (place i) v A h none (field l ∷ q) = h (field l ∷ q)
 kept_in (u ∷ r) (field k) v A h none (field l ∷ q) =
     by_order (slice_cmp nat_cmp l k) _ _ _ _ (λ o. h (field l ∷ q))
-    (λ o. subst (λ m. IfSome (tag_found (raw_at v (field m ∷ q))) (λ t. IsTrue (remove (part A (field k)) (u ∷ r) q t))) (sym (one_name l k o))
+    (λ o. subst (λ m. IfSome (tag_found (raw_at v (field m ∷ q))) (λ t. IsTrue (plain_remove (part A (field k)) (u ∷ r) q t))) (sym (one_name l k o))
     (kept_part (part_at v (field k)) (part A (field k)) u r (h (field k ∷ [])) q
     (λ x is. kept_in r u x (part A (field k)) (in_part (part_at v (field k)) x A (field k) is (λ y. h (field k ∷ y))) (nothing_behind_part (part_at v (field k)) (u ∷ r) x is none) q)))
     (λ o. h (field l ∷ q))
 kept_in (u ∷ r) (place i) v A h none (place j ∷ q) =
     by_order (nat_cmp j i) _ _ _ _ (λ o. h (place j ∷ q))
-    (λ o. subst (λ m. IfSome (tag_found (raw_at v (place m ∷ q))) (λ t. IsTrue (remove (part A (place i)) (u ∷ r) q t))) (sym (equal j i o))
+    (λ o. subst (λ m. IfSome (tag_found (raw_at v (place m ∷ q))) (λ t. IsTrue (plain_remove (part A (place i)) (u ∷ r) q t))) (sym (equal j i o))
     (kept_part (part_at v (place i)) (part A (place i)) u r (h (place i ∷ [])) q
     (λ x is. kept_in r u x (part A (place i)) (in_part (part_at v (place i)) x A (place i) is (λ y. h (place i ∷ y))) (nothing_behind_part (part_at v (place i)) (u ∷ r) x is none) q)))
     (λ o. h (place j ∷ q))
 
-pub kept_inhabits : (v : Tree) (p : List Step) (A K : Sets) → SameSets K (remove A p) → IsIn v (allowed A) → removable_at v p ≡ None → IsIn v (allowed K)
+pub kept_inhabits : (v : Tree) (p : List CodeStep) (A K : Sets) → SameSets K (remove A p) → IsIn v (allowed A) → removable_at v p ≡ None → IsIn v (allowed K)
 kept_inhabits v [] A K same old none = in_kind v K A same old
-kept_inhabits v (s ∷ r) A K same old none = in_kind v K (remove A (s ∷ r)) same (kept_in r s v A old none)
+kept_inhabits v (s ∷ r) A K same old none = in_kind v K (remove A (s ∷ r)) same (kept_in (plain r) (plain_step s) v A old none)

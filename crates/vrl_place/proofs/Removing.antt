@@ -15,7 +15,7 @@ use Rattle.vrl_kind.specs.Sets.{Sets, SameSets}
 use Rattle.vrl_kind.specs.Tags.{Tags, same_tag}
 use Rattle.vrl_kind.specs.View.{places_view}
 use Rattle.vrl_place.specs.Inner.{ArePlaces, FieldsAre, FieldsAreOf, PlacesAreOf, changed_place, moved_place, fields_sets, places_sets, sets_with_list, sets_with_object, spot_sets}
-use Rattle.vrl_place.specs.Remove.{gone, moved, remove}
+use Rattle.vrl_place.specs.Remove.{gone, moved, plain_remove}
 use Rattle.vrl_place.specs.Sets.{by_step, or_absent_if, part}
 use Rattle.vrl_place.specs.declared.fields.Fields.{Fields}
 use Rattle.vrl_place.specs.declared.places.Places.{Places}
@@ -103,50 +103,50 @@ changed_as : (A I J : Sets) (s : Step) → SameSets I J → SameSets (changed_se
 changed_as A I J s same p t = ap (λ X. changed_sets A s X p t) (one_sets I J same)
 
 -- a removal behind a step changes that part alone
-inner_removed : (A : Sets) (s u : Step) (r : List Step) → SameSets (changed_sets A s (remove (part A s) (u ∷ r))) (remove A (s ∷ u ∷ r))
+inner_removed : (A : Sets) (s u : Step) (r : List Step) → SameSets (changed_sets A s (plain_remove (part A s) (u ∷ r))) (plain_remove A (s ∷ u ∷ r))
 inner_removed A s u r [] t = refl
 inner_removed A s u r (x ∷ q) t = refl
 
-field_gone : (A : Sets) (k : List ℕ) → SameSets (changed_sets A (field k) (gone (A []))) (remove A (field k ∷ []))
+field_gone : (A : Sets) (k : List ℕ) → SameSets (changed_sets A (field k) (gone (A []))) (plain_remove A (field k ∷ []))
 field_gone A k [] t = refl
 field_gone A k (x ∷ q) t = refl
 
 pub removed_last_field : (A : Sets) (k : List ℕ) (fs : Fields) (inner : KindTree) (named : List (List ℕ × KindTree)) (rest : RestTree) (K : KindTree)
     → A [] tag.Object ≡ true → FieldsAreOf A fs → ((p : List Step) → tags_at inner p ≡ only_at tag.Absent p) → FieldsAre fs k (tags_at inner) false named
     → SameSets (rest_at rest) (or_absent_if true (spot_sets fs.behind)) → SameSets (tags_at K) (sets_with_object A (named_view named) rest)
-    → SameSets (tags_at K) (remove A (field k ∷ []))
+    → SameSets (tags_at K) (plain_remove A (field k ∷ []))
 removed_last_field A k fs inner named rest K is of inners are rests made p t =
     changed_field A k fs inner named rest K is of are rests made p t
     ∙ changed_as A (tags_at inner) (gone (A [])) (field k) (λ q u. ap (λ T. T u) (inners q) ∙ is_gone (A []) is q u) p t
     ∙ field_gone A k p t
 
 pub removed_in_field : (A : Sets) (k : List ℕ) (r : List Step) (fs : Fields) (z : Sets) (inner : KindTree) (named : List (List ℕ × KindTree)) (rest : RestTree) (K : KindTree)
-    → 0 < length r → A [] tag.Object ≡ true → FieldsAreOf A fs → SameSets z (fields_sets fs k) → SameSets (tags_at inner) (remove z r) → FieldsAre fs k (tags_at inner) false named
+    → 0 < length r → A [] tag.Object ≡ true → FieldsAreOf A fs → SameSets z (fields_sets fs k) → SameSets (tags_at inner) (plain_remove z r) → FieldsAre fs k (tags_at inner) false named
     → SameSets (rest_at rest) (or_absent_if true (spot_sets fs.behind)) → SameSets (tags_at K) (sets_with_object A (named_view named) rest)
-    → SameSets (tags_at K) (remove A (field k ∷ r))
+    → SameSets (tags_at K) (plain_remove A (field k ∷ r))
 removed_in_field A k [] fs z inner named rest K some is of zs inners are rests made p t = absurd (omega arith)
 removed_in_field A k (s ∷ r) fs z inner named rest K some is of zs inners are rests made p t =
     changed_field A k fs inner named rest K is of are rests made p t
-    ∙ changed_as A (tags_at inner) (remove (part A (field k)) (s ∷ r)) (field k)
-    (λ q u. inners q u ∙ ap (λ B. remove B (s ∷ r) q u) (one_sets z (part A (field k)) (λ x w. zs x w ∙ sym (of.at k x w)))) p t
+    ∙ changed_as A (tags_at inner) (plain_remove (part A (field k)) (s ∷ r)) (field k)
+    (λ q u. inners q u ∙ ap (λ B. plain_remove B (s ∷ r) q u) (one_sets z (part A (field k)) (λ x w. zs x w ∙ sym (of.at k x w)))) p t
     ∙ inner_removed A (field k) s r p t
 
 pub removed_in_list : (A : Sets) (k : ℕ) (r : List Step) (ps : Places) (z : Sets) (inner : KindTree) (ks : List KindTree) (rest : RestTree) (K : KindTree)
-    → 0 < length r → A [] tag.List ≡ true → PlacesAreOf A ps → SameSets z (places_sets ps k) → SameSets (tags_at inner) (remove z r)
+    → 0 < length r → A [] tag.List ≡ true → PlacesAreOf A ps → SameSets z (places_sets ps k) → SameSets (tags_at inner) (plain_remove z r)
     → ArePlaces ks (changed_place ps k (tags_at inner) false false) → k < length ks → length {A = KindTree} ps.known.now ≤ length ks
     → SameSets (rest_at rest) (or_absent_if true (spot_sets ps.behind)) → SameSets (tags_at K) (sets_with_list A (places_view ks) rest)
-    → SameSets (tags_at K) (remove A (place k ∷ r))
+    → SameSets (tags_at K) (plain_remove A (place k ∷ r))
 removed_in_list A k [] ps z inner ks rest K some is of zs inners are at known rests made p t = absurd (omega arith)
 removed_in_list A k (s ∷ r) ps z inner ks rest K some is of zs inners are at known rests made p t =
     changed_list A k ps inner ks rest K is of are at known rests made p t
-    ∙ changed_as A (tags_at inner) (remove (part A (place k)) (s ∷ r)) (place k)
-    (λ q u. inners q u ∙ ap (λ B. remove B (s ∷ r) q u) (one_sets z (part A (place k)) (λ x w. zs x w ∙ sym (of.at k x w)))) p t
+    ∙ changed_as A (tags_at inner) (plain_remove (part A (place k)) (s ∷ r)) (place k)
+    (λ q u. inners q u ∙ ap (λ B. plain_remove B (s ∷ r) q u) (one_sets z (part A (place k)) (λ x w. zs x w ∙ sym (of.at k x w)))) p t
     ∙ inner_removed A (place k) s r p t
 
 pub removed_last_place : (A : Sets) (k : ℕ) (b : Bool) (ps : Places) (z : Sets) (ks : List KindTree) (rest : RestTree) (K : KindTree)
     → A [] tag.List ≡ true → PlacesAreOf A ps → SameSets z (places_sets ps k) → b ≡ z [] tag.Absent → ArePlaces ks (moved_place ps k b) → length ks ≡ length {A = KindTree} ps.known.now
     → SameSets (rest_at rest) (or_absent_if true (spot_sets ps.behind)) → SameSets (tags_at K) (sets_with_list A (places_view ks) rest)
-    → SameSets (tags_at K) (remove A (place k ∷ []))
+    → SameSets (tags_at K) (plain_remove A (place k ∷ []))
 removed_last_place A k b ps z ks rest K is of zs absent are known rests made [] t = made [] t ∙ list_already (A []) t is
 removed_last_place A k b ps z ks rest K is of zs absent are known rests made (field n ∷ q) t = made (field n ∷ q) t
 removed_last_place A k b ps z ks rest K is of zs absent are known rests made (place j ∷ q) t =
@@ -181,7 +181,7 @@ still_none : (A : Sets) (i j : ℕ) → ((p : List Step) (t : Tag) → A p t ≡
 still_none A i j none q t = absent_none (A (place i ∷ []) tag.Absent) (part A (place (suc j))) (none (place i ∷ []) tag.Absent) (λ p u. none (place (suc j) ∷ p) u) q t
 
 -- nothing is left where nothing was
-nothing_left : (r : List Step) (A : Sets) → ((p : List Step) (t : Tag) → A p t ≡ false) → (q : List Step) (t : Tag) → remove A r q t ≡ false
+nothing_left : (r : List Step) (A : Sets) → ((p : List Step) (t : Tag) → A p t ≡ false) → (q : List Step) (t : Tag) → plain_remove A r q t ≡ false
 nothing_left [] A none q t = none q t
 nothing_left (field k ∷ []) A none [] t = none [] t
 nothing_left (place i ∷ []) A none [] t = none [] t
@@ -195,7 +195,7 @@ nothing_left (field k ∷ u ∷ r) A none (place j ∷ q) t = none _ t
 nothing_left (place i ∷ u ∷ r) A none (field n ∷ q) t = none _ t
 nothing_left (place i ∷ u ∷ r) A none (place j ∷ q) t = cases_none (nat_cmp j i) _ _ _ false t (none _ t) (nothing_left (u ∷ r) (part A (place i)) (λ p w. none _ w) q t) (none _ t)
 
-one_field : (A : Sets) (k : List ℕ) (r : List Step) → A [] tag.Object ≡ false → ((n : List ℕ) (p : List Step) (t : Tag) → A (field n ∷ p) t ≡ false) → SameSets A (remove A (field k ∷ r))
+one_field : (A : Sets) (k : List ℕ) (r : List Step) → A [] tag.Object ≡ false → ((n : List ℕ) (p : List Step) (t : Tag) → A (field n ∷ p) t ≡ false) → SameSets A (plain_remove A (field k ∷ r))
 one_field A k [] not none [] t = refl
 one_field A k [] not none (place j ∷ q) t = refl
 one_field A k [] not none (field n ∷ q) t = none n q t ∙ sym (cases_none (slice_cmp nat_cmp n k) _ _ _ false t (none n q t) (ap (λ b. b && is_absence q t) not) (none n q t))
@@ -203,7 +203,7 @@ one_field A k (u ∷ r) not none [] t = refl
 one_field A k (u ∷ r) not none (place j ∷ q) t = refl
 one_field A k (u ∷ r) not none (field n ∷ q) t = none n q t ∙ sym (cases_none (slice_cmp nat_cmp n k) _ _ _ false t (none n q t) (nothing_left (u ∷ r) (part A (field k)) (none k) q t) (none n q t))
 
-one_list : (A : Sets) (k : ℕ) (r : List Step) → ((i : ℕ) (p : List Step) (t : Tag) → A (place i ∷ p) t ≡ false) → SameSets A (remove A (place k ∷ r))
+one_list : (A : Sets) (k : ℕ) (r : List Step) → ((i : ℕ) (p : List Step) (t : Tag) → A (place i ∷ p) t ≡ false) → SameSets A (plain_remove A (place k ∷ r))
 one_list A k [] none [] t = refl
 one_list A k [] none (field n ∷ q) t = refl
 one_list A k [] none (place j ∷ q) t = none j q t ∙ sym (cases_none (nat_cmp j k) _ _ _ false t (none j q t) (absent_none (A (place k ∷ []) tag.Absent) (part A (place (suc j))) (none k [] tag.Absent) (none (suc j)) q t) (absent_none (A (place k ∷ []) tag.Absent) (part A (place (suc j))) (none k [] tag.Absent) (none (suc j)) q t))
@@ -211,17 +211,17 @@ one_list A k (u ∷ r) none [] t = refl
 one_list A k (u ∷ r) none (field n ∷ q) t = refl
 one_list A k (u ∷ r) none (place j ∷ q) t = none j q t ∙ sym (cases_none (nat_cmp j k) _ _ _ false t (none j q t) (nothing_left (u ∷ r) (part A (place k)) (none k) q t) (none j q t))
 
-pub kept_field : (A : Sets) (k : List ℕ) (r : List Step) (K : KindTree) → A [] tag.Object ≡ false → SameSets (tags_at K) A → SameSets (tags_at K) (remove A (field k ∷ r))
+pub kept_field : (A : Sets) (k : List ℕ) (r : List Step) (K : KindTree) → A [] tag.Object ≡ false → SameSets (tags_at K) A → SameSets (tags_at K) (plain_remove A (field k ∷ r))
 kept_field A k r K not same p t =
     let none : (n : List ℕ) (q : List Step) (u : Tag) → A (field n ∷ q) u ≡ false = λ n q u. sym (same (field n ∷ q) u) ∙ no_object_at K (same [] tag.Object ∙ not) n q u in
     same p t ∙ one_field A k r not none p t
 
-pub kept_list : (A : Sets) (k : ℕ) (r : List Step) (K : KindTree) → A [] tag.List ≡ false → SameSets (tags_at K) A → SameSets (tags_at K) (remove A (place k ∷ r))
+pub kept_list : (A : Sets) (k : ℕ) (r : List Step) (K : KindTree) → A [] tag.List ≡ false → SameSets (tags_at K) A → SameSets (tags_at K) (plain_remove A (place k ∷ r))
 kept_list A k r K not same p t =
     let none : (i : ℕ) (q : List Step) (u : Tag) → A (place i ∷ q) u ≡ false = λ i q u. sym (same (place i ∷ q) u) ∙ no_list_at K (same [] tag.List ∙ not) i q u in
     same p t ∙ one_list A k r none p t
 
-pub removed_root : (A : Sets) (r : List Step) (t : Tag) → remove A r [] t ≡ A [] t
+pub removed_root : (A : Sets) (r : List Step) (t : Tag) → plain_remove A r [] t ≡ A [] t
 removed_root A [] t = refl
 removed_root A (s ∷ r) t = refl
 
@@ -235,5 +235,5 @@ some_steps [] some = absurd (omega arith)
 some_steps (s ∷ r) some = omega arith
 
 -- the same of sets and a path that are the same
-pub remove_same : (A B K : Sets) (p q : List Step) → SameSets A B → p ≡ q → SameSets K (remove A p) → SameSets K (remove B q)
-remove_same A B K p q same e is x t = is x t ∙ ap (λ C. remove C p x t) (one_sets A B same) ∙ ap (λ r. remove B r x t) e
+pub remove_same : (A B K : Sets) (p q : List Step) → SameSets A B → p ≡ q → SameSets K (plain_remove A p) → SameSets K (plain_remove B q)
+remove_same A B K p q same e is x t = is x t ∙ ap (λ C. plain_remove C p x t) (one_sets A B same) ∙ ap (λ r. plain_remove B r x t) e

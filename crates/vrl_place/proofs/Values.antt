@@ -14,7 +14,7 @@ use Rattle.vrl_path.specs.declared.path.Step.TheVariants.{Field, Place}
 use Rattle.vrl_kind.specs.Kinds.{step_tag}
 use Rattle.vrl_kind.specs.Sets.{Sets}
 use Rattle.vrl_kind.specs.Tags.{Tags}
-use Rattle.vrl_place.specs.Absence.{may_be_absent}
+use Rattle.vrl_place.specs.Absence.{plain_may_be_absent}
 use Rattle.vrl_place.specs.Read.{Allowed, AllowsOther, HasJust, allowed, read, read_part, read_some_place, read_step}
 use Rattle.vrl_place.specs.Sets.{has_other, or_absent_if, part}
 use Rattle.vrl_place.proofs.Tags.{left_of, other_there, right_of, step_present, value_present}
@@ -156,14 +156,14 @@ pub read_inhabits : (r : List CodeStep) (v : Tree) (A K : Sets) → HasJust K (r
 read_inhabits r v A K has h p = IfSome_then (tag_found (raw_at (unwrap_or (read_at v r) null) p)) (read_in r v (allowed A) h p) (λ t a. (has p t).1 a)
 
 absent_found : (A : Sets) (s : Step) (r : List Step) (f : Found) → ((p : List Step) → IfSome (tag_found (found_behind f p (λ u. raw_at u p))) (λ t. IsTrue (A (s ∷ p) t))) → (f ≡ no_place → has_other (A []) (step_tag s) ≡ true)
-    → tree_found (found_behind f r (λ u. raw_at u r)) ≡ None → ((u : Tree) → IsIn u (allowed (part A s)) → tree_found (raw_at u r) ≡ None → IsTrue (may_be_absent (part A s) r)) → IsTrue (may_be_absent A (s ∷ r))
+    → tree_found (found_behind f r (λ u. raw_at u r)) ≡ None → ((u : Tree) → IsIn u (allowed (part A s)) → tree_found (raw_at u r) ≡ None → IsTrue (plain_may_be_absent (part A s) r)) → IsTrue (plain_may_be_absent A (s ∷ r))
 absent_found A s r (there u) h other none later = right_of _ _ (later u h none)
 absent_found A s [] missing h other none later = right_of _ _ (h [])
 absent_found A s (t ∷ r) missing h other none later = right_of _ _ (left_of _ _ (other_there (A (s ∷ [])) (step_tag t) tag.Absent (h []) (step_present t)))
 absent_found A s r no_place h other none later = left_of _ _ (other refl)
 
 -- where nothing is found, that may be absent
-pub absent_in : (r : List Step) (v : Tree) (A : Sets) → IsIn v (allowed A) → tree_found (raw_at v r) ≡ None → IsTrue (may_be_absent A r)
+pub absent_in : (r : List Step) (v : Tree) (A : Sets) → IsIn v (allowed A) → tree_found (raw_at v r) ≡ None → IsTrue (plain_may_be_absent A r)
 absent_in [] v A h none = cc
 absent_in (s ∷ r) v A h none = absent_found A s r (part_at v s) (λ p. h (s ∷ p)) (λ no. other_there (A []) (step_tag s) (tag_of v) (h []) (other_tag v s no)) none (λ u. absent_in r u (part A s))
 

@@ -16,7 +16,7 @@ use Rattle.vrl_kind.specs.Tags.{Tags, only}
 use Rattle.vrl_kind.specs.View.{places_view}
 use Rattle.vrl_place.specs.Inner.{ArePlaces, FieldsAre, FieldsAreOf, PlacesAreOf, changed_place, fields_sets, places_sets, spot_sets}
 use Rattle.vrl_place.specs.Sets.{has_other, is_alone, or_absent_if, part}
-use Rattle.vrl_place.specs.Write.{IsContainerFor, opened, write}
+use Rattle.vrl_place.specs.Write.{IsContainerFor, opened, plain_write, write}
 use Rattle.vrl_place.specs.declared.fields.Fields.{Fields}
 use Rattle.vrl_place.specs.declared.places.Places.{Places}
 use Rattle.vrl_place.proofs.Changed.{behind_changed, places_all}
@@ -57,9 +57,9 @@ may_be : (T : Tags) (t : Tag) (b : Bool) (a : Bool) → b ≡ not (is_alone T t)
 may_be T t b a alone may is = may (alone_first (T t) (not (has_other T t)) (sym alone ∙ is))
 
 pub written_field : (A N : Sets) (r : List Step) (k : List ℕ) (b : Bool) (fs : Fields) (z g : Sets) (inner : KindTree) (named : List (List ℕ × KindTree)) (rest : RestTree) (K : KindTree)
-    → b ≡ not (is_alone (A []) tag.Object) → FieldsAreOf A fs → SameSets z (fields_sets fs k) → SameSets g (or_absent_if b z) → SameSets (tags_at inner) (write g r N)
+    → b ≡ not (is_alone (A []) tag.Object) → FieldsAreOf A fs → SameSets z (fields_sets fs k) → SameSets g (or_absent_if b z) → SameSets (tags_at inner) (plain_write g r N)
     → FieldsAre fs k (tags_at inner) b named → SameSets (rest_at rest) (or_absent_if true (spot_sets fs.behind)) → SameTags K (object_kind (named_view named) rest)
-    → SameSets (tags_at K) (write A (field k ∷ r) N)
+    → SameSets (tags_at K) (plain_write A (field k ∷ r) N)
 written_field A N r k b fs z g inner named rest K alone of zs gs inners are rests made [] t = made [] t ∙ object_root (named_view named) rest t
 written_field A N r k b fs z g inner named rest K alone of zs gs inners are rests made (place i ∷ q) t = made (place i ∷ q) t
 written_field A N r k b fs z g inner named rest K alone of zs gs inners are rests made (field n ∷ q) t =
@@ -68,14 +68,14 @@ written_field A N r k b fs z g inner named rest K alone of zs gs inners are rest
     ∙ are.at n q t
     ∙ cases_at (slice_cmp nat_cmp n k) _ _ _ _ _ _ q t
     (opened_is A (field n) b (fields_sets fs n) alone (λ p u. sym (of.at n p u)) q t)
-    (inners q t ∙ ap (λ B. write B r N q t) (is_opened A (field k) b z g alone (λ p u. zs p u ∙ sym (of.at k p u)) gs))
+    (inners q t ∙ ap (λ B. plain_write B r N q t) (is_opened A (field k) b z g alone (λ p u. zs p u ∙ sym (of.at k p u)) gs))
     (opened_is A (field n) b (fields_sets fs n) alone (λ p u. sym (of.at n p u)) q t)
 
 pub written_place : (A N : Sets) (r : List Step) (k : ℕ) (b : Bool) (ps : Places) (z g : Sets) (inner : KindTree) (ks : List KindTree) (rest : RestTree) (K : KindTree)
-    → b ≡ not (is_alone (A []) tag.List) → PlacesAreOf A ps → SameSets z (places_sets ps k) → SameSets g (or_absent_if b z) → SameSets (tags_at inner) (write g r N)
+    → b ≡ not (is_alone (A []) tag.List) → PlacesAreOf A ps → SameSets z (places_sets ps k) → SameSets g (or_absent_if b z) → SameSets (tags_at inner) (plain_write g r N)
     → ArePlaces ks (changed_place ps k (tags_at inner) b true) → k < length ks → length {A = KindTree} ps.known.now ≤ length ks
     → SameSets (rest_at rest) (or_absent_if true (spot_sets ps.behind)) → SameTags K (array_kind (places_view ks) rest)
-    → SameSets (tags_at K) (write A (place k ∷ r) N)
+    → SameSets (tags_at K) (plain_write A (place k ∷ r) N)
 written_place A N r k b ps z g inner ks rest K alone of zs gs inners are at known rests made [] t = made [] t ∙ array_root (places_view ks) rest t
 written_place A N r k b ps z g inner ks rest K alone of zs gs inners are at known rests made (field n ∷ q) t = made (field n ∷ q) t
 written_place A N r k b ps z g inner ks rest K alone of zs gs inners are at known rests made (place j ∷ q) t =
@@ -84,11 +84,11 @@ written_place A N r k b ps z g inner ks rest K alone of zs gs inners are at know
     (behind_changed ps k (length ks) (tags_at inner) b true rest (may_be (A []) tag.List b ps.behind.absent alone of.absent) rests at known) j q t
     ∙ cases_at (nat_cmp j k) _ _ _ _ _ _ q t
     (ap (λ B. null_for_absent B q t) (one_sets (or_absent_if b (places_sets ps j)) (opened A (place j)) (opened_is A (place j) b (places_sets ps j) alone (λ p u. sym (of.at j p u)))))
-    (inners q t ∙ ap (λ B. write B r N q t) (is_opened A (place k) b z g alone (λ p u. zs p u ∙ sym (of.at k p u)) gs))
+    (inners q t ∙ ap (λ B. plain_write B r N q t) (is_opened A (place k) b z g alone (λ p u. zs p u ∙ sym (of.at k p u)) gs))
     (opened_is A (place j) b (places_sets ps j) alone (λ p u. sym (of.at j p u)) q t)
 
 -- the root of what is written
-pub written_root : (A N : Sets) (p : List Step) (K : KindTree) → SameSets (tags_at K) (write A p N) → IsContainerFor p (tags_at K [])
+pub written_root : (A N : Sets) (p : List CodeStep) (K : KindTree) → SameSets (tags_at K) (write A p N) → IsContainerFor p (tags_at K [])
 written_root A N [] K same = tt
 written_root A N (s ∷ r) K same = ap (λ B. B []) (one_sets (tags_at K) (write A (s ∷ r) N) same)
 
@@ -96,13 +96,13 @@ step_not_absent : (s : Step) → only (step_tag s) tag.Absent ≡ false
 step_not_absent (field k) = refl
 step_not_absent (place i) = refl
 
-pub written_present : (A N : Sets) (p : List Step) → N [] tag.Absent ≡ false → write A p N [] tag.Absent ≡ false
+pub written_present : (A N : Sets) (p : List Step) → N [] tag.Absent ≡ false → plain_write A p N [] tag.Absent ≡ false
 written_present A N [] present = present
 written_present A N (s ∷ r) present = step_not_absent s
 
 -- the same of sets and a path that are the same
-pub write_same : (A B N K : Sets) (p q : List Step) → SameSets A B → p ≡ q → SameSets K (write A p N) → SameSets K (write B q N)
-write_same A B N K p q same e is x t = is x t ∙ ap (λ C. write C p N x t) (one_sets A B same) ∙ ap (λ r. write B r N x t) e
+pub write_same : (A B N K : Sets) (p q : List Step) → SameSets A B → p ≡ q → SameSets K (plain_write A p N) → SameSets K (plain_write B q N)
+write_same A B N K p q same e is x t = is x t ∙ ap (λ C. plain_write C p N x t) (one_sets A B same) ∙ ap (λ r. plain_write B r N x t) e
 
 -- a path that may be written
 pub first_writable : (s : CodeStep) (r : List CodeStep) → IsWritable (s ∷ r) → IsWritableStep s

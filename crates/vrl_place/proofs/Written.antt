@@ -10,14 +10,16 @@ use Rattle.vrl_value.specs.Tag.{tag_of}
 use Rattle.vrl_value.specs.Tree.{Tree, string, integer, boolean, null, timestamp, regex, array, object}
 use Rattle.vrl_value.specs.declared.value.Tag.{Tag}
 use Rattle.vrl_value.specs.declared.value.Tag.TheVariants as tag
-use Rattle.vrl_path.specs.Write.{Holds, IsSet, items_in, members_in, or_null}
+use Rattle.vrl_path.specs.Steps.{plain}
+use Rattle.vrl_path.specs.Write.{Holds, IsPlainSet, IsSet, items_in, members_in, or_null}
+use Rattle.vrl_path.specs.declared.path.Step.{Step as CodeStep}
 use Rattle.vrl_kind.specs.Change.{null_for_absent}
 use Rattle.vrl_kind.specs.Kinds.{step_tag}
 use Rattle.vrl_kind.specs.Sets.{Sets, SameSets}
 use Rattle.vrl_kind.specs.Tags.{never, only}
 use Rattle.vrl_place.specs.Read.{allowed}
 use Rattle.vrl_place.specs.Sets.{is_alone, part}
-use Rattle.vrl_place.specs.Write.{opened, write}
+use Rattle.vrl_place.specs.Write.{opened, plain_write, write}
 use Rattle.vrl_place.proofs.Orders.{equal, one_name, other_name, over, under}
 use Rattle.vrl_place.proofs.Same.{one_sets}
 use Rattle.vrl_place.proofs.Tags.{both, left_of, not_alone, not_same, right_of, step_present, value_present}
@@ -98,7 +100,7 @@ lower_place missing A j b st = filled_place A j b (right_of _ _ (both _ _ (not_a
 lower_place no_place A j b st = filled_place A j b (right_of _ _ (both _ _ (not_alone (A []) tag.List tag.Absent st.here (λ e. cc)) refl))
 
 -- at each path behind a, where the rest of p is written
-written_behind : (r : List Step) (v n w : Tree) (a p : List Step) (A N : Sets) → p ≡ a ++ r → IsSet v p n w → StandsIn (raw_at v a) A → IsIn n (allowed N) → (q : List Step) → IfSome (tag_found (raw_at w (a ++ q))) (λ t. IsTrue (write A r N q t))
+written_behind : (r : List Step) (v n w : Tree) (a p : List Step) (A N : Sets) → p ≡ a ++ r → IsPlainSet v p n w → StandsIn (raw_at v a) A → IsIn n (allowed N) → (q : List Step) → IfSome (tag_found (raw_at w (a ++ q))) (λ t. IsTrue (plain_write A r N q t))
 written_behind [] v n w a p A N e is st new q =
     subst (λ f. IfSome (tag_found f) (λ t. IsTrue (N q t))) (sym (sym (ap (λ x. raw_at w (x ++ q)) e ∙ ap (raw_at w) (append_assoc a [] q)) ∙ is.within q)) (new q)
 written_behind (s ∷ r) v n w a p A N e is st new [] =
@@ -108,27 +110,27 @@ written_behind (field k ∷ r) v n w a p A N e is st new (place j ∷ q) =
 written_behind (place i ∷ r) v n w a p A N e is st new (field l ∷ q) =
     subst (λ f. IfSome (tag_found f) (λ t. IsTrue (never t))) (sym (is.field_at_place a i l r q e)) tt
 written_behind (field k ∷ r) v n w a p A N e is st new (field l ∷ q) =
-    let same : IfSome (tag_found (raw_at w ((a ++ field k ∷ []) ++ q))) (λ t. IsTrue (write (opened A (field k)) r N q t)) =
+    let same : IfSome (tag_found (raw_at w ((a ++ field k ∷ []) ++ q))) (λ t. IsTrue (plain_write (opened A (field k)) r N q t)) =
     written_behind r v n w (a ++ field k ∷ []) p (opened A (field k)) N (e ∙ sym (append_assoc a (field k ∷ []) r)) is
     (subst (λ f. StandsIn f (opened A (field k))) (sym (raw_append a v (field k) [])) (next_stands (raw_at v a) A (field k) st)) new q in
     let beside : l ≢ k → IfSome (tag_found (raw_at w (a ++ field l ∷ q))) (λ t. IsTrue (opened A (field l) q t)) =
     λ ne. subst (λ f. IfSome (tag_found f) (λ t. IsTrue (opened A (field l) q t))) (sym (is.beside_field a k l r q e ne)) (beside_object (raw_at v a) A l q st) in
     by_order (slice_cmp nat_cmp l k) _ _ _ _
     (λ o. beside (other_name Less l k o (λ x. cc)))
-    (λ o. subst (λ x. IfSome (tag_found (raw_at w x)) (λ t. IsTrue (write (opened A (field k)) r N q t))) (append_assoc a (field k ∷ []) q ∙ ap (λ m. a ++ field m ∷ q) (sym (one_name l k o))) same)
+    (λ o. subst (λ x. IfSome (tag_found (raw_at w x)) (λ t. IsTrue (plain_write (opened A (field k)) r N q t))) (append_assoc a (field k ∷ []) q ∙ ap (λ m. a ++ field m ∷ q) (sym (one_name l k o))) same)
     (λ o. beside (other_name Greater l k o (λ x. cc)))
 written_behind (place i ∷ r) v n w a p A N e is st new (place j ∷ q) =
-    let same : IfSome (tag_found (raw_at w ((a ++ place i ∷ []) ++ q))) (λ t. IsTrue (write (opened A (place i)) r N q t)) =
+    let same : IfSome (tag_found (raw_at w ((a ++ place i ∷ []) ++ q))) (λ t. IsTrue (plain_write (opened A (place i)) r N q t)) =
     written_behind r v n w (a ++ place i ∷ []) p (opened A (place i)) N (e ∙ sym (append_assoc a (place i ∷ []) r)) is
     (subst (λ f. StandsIn f (opened A (place i))) (sym (raw_append a v (place i) [])) (next_stands (raw_at v a) A (place i) st)) new q in
     by_order (nat_cmp j i) _ _ _ _
     (λ o. subst (λ f. IfSome (tag_found f) (λ t. IsTrue (null_for_absent (opened A (place j)) q t)))
     (sym (is.before_place a i j r q e (under j i o) ∙ ap (λ f. found_behind (or_null f) q (λ u. raw_at u q)) (raw_append a v (place j) [])))
     (lower_place (raw_at v a) A j q st))
-    (λ o. subst (λ x. IfSome (tag_found (raw_at w x)) (λ t. IsTrue (write (opened A (place i)) r N q t))) (append_assoc a (place i ∷ []) q ∙ ap (λ m. a ++ place m ∷ q) (sym (equal j i o))) same)
+    (λ o. subst (λ x. IfSome (tag_found (raw_at w x)) (λ t. IsTrue (plain_write (opened A (place i)) r N q t))) (append_assoc a (place i ∷ []) q ∙ ap (λ m. a ++ place m ∷ q) (sym (equal j i o))) same)
     (λ o. subst (λ f. IfSome (tag_found f) (λ t. IsTrue (opened A (place j) q t))) (sym (is.behind_place a i j r q e (over j i o))) (behind_list (raw_at v a) A j q st))
 
-pub written_inhabits : (v n w : Tree) (p : List Step) (A N K : Sets) → SameSets K (write A p N) → IsIn v (allowed A) → IsIn n (allowed N) → IsSet v p n w → IsIn w (allowed K)
+pub written_inhabits : (v n w : Tree) (p : List CodeStep) (A N K : Sets) → SameSets K (write A p N) → IsIn v (allowed A) → IsIn n (allowed N) → IsSet v p n w → IsIn w (allowed K)
 written_inhabits v n w p A N K same old new is q =
     subst (λ B. IfSome (tag_found (raw_at w q)) (λ t. IsTrue (B q t))) (sym (one_sets K (write A p N) same))
-    (written_behind p v n w [] p A N refl is record { here = old []; behind = λ s r. old (s ∷ r) } new q)
+    (written_behind (plain p) v n w [] (plain p) A N refl is record { here = old []; behind = λ s r. old (s ∷ r) } new q)

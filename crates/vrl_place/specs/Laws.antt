@@ -1,11 +1,10 @@
 -- Laws of what stands at the places of a value of a kind.
 use Rattle.std.specs.Prelude.{◌≡◌, ◌≢◌, List, [], None, unwrap_or}
-use Rattle.vrl_value.specs.Look.{Step}
 use Rattle.vrl_value.specs.Tree.{Tree, null}
 use Rattle.vrl_path.specs.Read.{read_at}
 use Rattle.vrl_path.specs.Remove.{IsRemoved, removable_at}
 use Rattle.vrl_path.specs.Write.{IsSet}
-use Rattle.vrl_path.specs.declared.path.Step.{Step as CodeStep}
+use Rattle.vrl_path.specs.declared.path.Step.{Step}
 use Rattle.vrl_kind.specs.Cut.{IsCut}
 use Rattle.vrl_kind.specs.KindTree.{KindTree}
 use Rattle.vrl_kind.specs.Kinds.{Inhabits, tags_at}
@@ -16,11 +15,11 @@ use Rattle.vrl_place.specs.Write.{write}
 
 -- what a read finds in a value of the kind K, where it finds null if nothing stands there, is of the kind that the read has
 abbrev pub ReadsAreOfTheirKind : Type 0
-ReadsAreOfTheirKind = (value : Tree) (path : List CodeStep) (K M : KindTree) → HasJust (tags_at M) (read (allowed (tags_at K)) path) → Inhabits value K → Inhabits (unwrap_or (read_at value path) null) M
+ReadsAreOfTheirKind = (value : Tree) (path : List Step) (K M : KindTree) → HasJust (tags_at M) (read (allowed (tags_at K)) path) → Inhabits value K → Inhabits (unwrap_or (read_at value path) null) M
 
 -- and of what that kind is cut to
 abbrev pub ReadsAreOfTheirCut : Type 0
-ReadsAreOfTheirCut = (value : Tree) (path : List CodeStep) (K M C : KindTree) → HasJust (tags_at M) (read (allowed (tags_at K)) path) → IsCut M C → Inhabits value K → Inhabits (unwrap_or (read_at value path) null) C
+ReadsAreOfTheirCut = (value : Tree) (path : List Step) (K M C : KindTree) → HasJust (tags_at M) (read (allowed (tags_at K)) path) → IsCut M C → Inhabits value K → Inhabits (unwrap_or (read_at value path) null) C
 
 -- a value of the kind K, once a value of the kind N is set at a path, is of the kind that the write has
 abbrev pub WritesAreOfTheirKind : Type 0

@@ -2,6 +2,8 @@
 use Rattle.std.specs.Prelude.{ℕ, ◌&&◌, suc, List, [], ◌∷◌}
 use Rattle.vrl_value.specs.Look.{Step, field, place}
 use Rattle.vrl_value.specs.declared.value.Tag.TheVariants as tag
+use Rattle.vrl_path.specs.Steps.{plain}
+use Rattle.vrl_path.specs.declared.path.Step.{Step as CodeStep}
 use Rattle.vrl_kind.specs.Kinds.{is_absence}
 use Rattle.vrl_kind.specs.Sets.{Sets}
 use Rattle.vrl_kind.specs.Tags.{Tags}
@@ -19,10 +21,14 @@ next_step (field k) = field k
 abbrev pub moved : Sets → ℕ → Step → Sets
 moved A i s = or_absent_if (A (place i ∷ []) tag.Absent) (part A (next_step s))
 
--- all but what the path leads to stays
-abbrev pub remove : Sets → List Step → Sets
-remove A [] q = A q
-remove A (s ∷ r) [] = A []
-remove A (field k ∷ []) (t ∷ q) = by_step t (field k) (A (t ∷ q)) (gone (A []) q) (A (t ∷ q)) (A (t ∷ q))
-remove A (place i ∷ []) (t ∷ q) = by_step t (place i) (A (t ∷ q)) (moved A i t q) (moved A i t q) (A (t ∷ q))
-remove A (s ∷ u ∷ r) (t ∷ q) = by_step t s (A (t ∷ q)) (remove (part A s) (u ∷ r) q) (A (t ∷ q)) (A (t ∷ q))
+-- at a plain path: all but what the path leads to stays
+abbrev pub plain_remove : Sets → List Step → Sets
+plain_remove A [] q = A q
+plain_remove A (s ∷ r) [] = A []
+plain_remove A (field k ∷ []) (t ∷ q) = by_step t (field k) (A (t ∷ q)) (gone (A []) q) (A (t ∷ q)) (A (t ∷ q))
+plain_remove A (place i ∷ []) (t ∷ q) = by_step t (place i) (A (t ∷ q)) (moved A i t q) (moved A i t q) (A (t ∷ q))
+plain_remove A (s ∷ u ∷ r) (t ∷ q) = by_step t s (A (t ∷ q)) (plain_remove (part A s) (u ∷ r) q) (A (t ∷ q)) (A (t ∷ q))
+
+-- at a path; a place counts from the start, and what a negative one means where something is removed is left open
+abbrev pub remove : Sets → List CodeStep → Sets
+remove A p = plain_remove A (plain p)

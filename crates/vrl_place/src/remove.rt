@@ -4,7 +4,7 @@ ghost use Rattle.vrl_kind.specs.Sets.{SameSets};
 ghost use Rattle.vrl_path.specs.Steps.{plain, IsPlain};
 ghost use Rattle.vrl_path.specs.Remove.{IsRemoved, removable_at};
 ghost use Rattle.vrl_place.specs.Inner.{spot_sets};
-ghost use Rattle.vrl_place.specs.Remove.{remove};
+ghost use Rattle.vrl_place.specs.Remove.{plain_remove, remove};
 ghost use Rattle.vrl_value.specs.Look.{field, place};
 ghost use Rattle.vrl_value.specs.Tree.{Tree};
 ghost use Rattle.vrl_value.specs.declared.value.Tag.{Tag};
@@ -23,11 +23,11 @@ use vrl_value::{Chars, Memory, Tag};
 /// It copies what stands beside the path once.
 pub fn remove_kind(alloc: Global, kind: &Kind, path: &Path) -> Result<Kind, Memory>
     requires { IsPlain path.now }
-    ensures tags { IfOk result (λ left. SameSets (tags_at left) (remove (tags_at kind.now) (plain path.now))) }
+    ensures tags { IfOk result (λ left. SameSets (tags_at left) (remove (tags_at kind.now) path.now)) }
     ensures inhabited { IfOk result (λ left. (value without : Tree) → Inhabits value kind.now
-        → plain path.now ≢ [] → IsRemoved value (plain path.now) without → Inhabits without left) }
+        → path.now ≢ [] → IsRemoved value path.now without → Inhabits without left) }
     ensures unchanged { IfOk result (λ left. (value : Tree) → Inhabits value kind.now
-        → removable_at value (plain path.now) ≡ None → Inhabits value left) }
+        → removable_at value path.now ≡ None → Inhabits value left) }
     ensures root { IfOk result (λ left. (t : Tag) → tags_at left [] t ≡ tags_at kind.now [] t) }
 {
     remove_at(alloc, Spot::of(kind), path.as_slice())
@@ -37,7 +37,7 @@ pub fn remove_kind(alloc: Global, kind: &Kind, path: &Path) -> Result<Kind, Memo
 #[cycle(remove)]
 fn remove_at(alloc: Global, spot: Spot<'_>, steps: &[Step]) -> Result<Kind, Memory>
     requires { IsPlain steps.now }
-    ensures { IfOk result (λ kind. SameSets (tags_at kind) (remove (spot_sets spot.entry) (plain steps.now))) }
+    ensures { IfOk result (λ kind. SameSets (tags_at kind) (plain_remove (spot_sets spot.entry) (plain steps.now))) }
 {
     match steps.split_first() {
         None => spot.kind(alloc),
@@ -57,7 +57,7 @@ fn remove_field(
 ) -> Result<Kind, Memory>
     requires { IsPlain behind.now }
     ensures { IfOk result (λ kind. SameSets (tags_at kind)
-        (remove (spot_sets spot.entry) (field name.now ∷ plain behind.now))) }
+        (plain_remove (spot_sets spot.entry) (field name.now ∷ plain behind.now))) }
 {
     if !spot.has(Tag::Object) {
         return spot.kind(alloc);
@@ -70,7 +70,7 @@ fn remove_field(
 
 fn remove_last_field(alloc: Global, spot: Spot<'_>, name: &Chars) -> Result<Kind, Memory>
     requires { spot_sets spot [] tag.Object ≡ true }
-    ensures { IfOk result (λ kind. SameSets (tags_at kind) (remove (spot_sets spot.entry) (field name.now ∷ []))) }
+    ensures { IfOk result (λ kind. SameSets (tags_at kind) (plain_remove (spot_sets spot.entry) (field name.now ∷ []))) }
 {
     let fields = spot.fields();
     let part = Kind::of(alloc, Tag::Absent)?;
@@ -89,7 +89,7 @@ fn remove_in_field(
     requires some { 0 < length behind.now }
     requires object { spot_sets spot [] tag.Object ≡ true }
     ensures { IfOk result (λ kind. SameSets (tags_at kind)
-        (remove (spot_sets spot.entry) (field name.now ∷ plain behind.now))) }
+        (plain_remove (spot_sets spot.entry) (field name.now ∷ plain behind.now))) }
 {
     let fields = spot.fields();
     let part = remove_at(alloc, fields.field(name), behind)?;
@@ -101,7 +101,7 @@ fn remove_in_field(
 fn remove_place(alloc: Global, spot: Spot<'_>, at: usize, behind: &[Step]) -> Result<Kind, Memory>
     requires { IsPlain behind.now }
     ensures { IfOk result (λ kind. SameSets (tags_at kind)
-        (remove (spot_sets spot.entry) (place at ∷ plain behind.now))) }
+        (plain_remove (spot_sets spot.entry) (place at ∷ plain behind.now))) }
 {
     if !spot.has(Tag::List) {
         return spot.kind(alloc);
@@ -114,7 +114,7 @@ fn remove_place(alloc: Global, spot: Spot<'_>, at: usize, behind: &[Step]) -> Re
 
 fn remove_last_place(alloc: Global, spot: Spot<'_>, at: usize) -> Result<Kind, Memory>
     requires { spot_sets spot [] tag.List ≡ true }
-    ensures { IfOk result (λ kind. SameSets (tags_at kind) (remove (spot_sets spot.entry) (place at ∷ []))) }
+    ensures { IfOk result (λ kind. SameSets (tags_at kind) (plain_remove (spot_sets spot.entry) (place at ∷ []))) }
 {
     let places = spot.places();
     let absent = places.place(at).has(Tag::Absent);
@@ -133,7 +133,7 @@ fn remove_in_place(
     requires some { 0 < length behind.now }
     requires list { spot_sets spot [] tag.List ≡ true }
     ensures { IfOk result (λ kind. SameSets (tags_at kind)
-        (remove (spot_sets spot.entry) (place at ∷ plain behind.now))) }
+        (plain_remove (spot_sets spot.entry) (place at ∷ plain behind.now))) }
 {
     let places = spot.places();
     let part = remove_at(alloc, places.place(at), behind)?;

@@ -5,7 +5,7 @@ ghost use Rattle.vrl_path.specs.Steps.{plain, plain_step, IsWritable, IsWritable
 ghost use Rattle.vrl_path.specs.Write.{IsSet};
 ghost use Rattle.vrl_path.specs.declared.path.Step.TheVariants.{Place};
 ghost use Rattle.vrl_place.specs.Inner.{spot_sets};
-ghost use Rattle.vrl_place.specs.Write.{IsContainerFor, write};
+ghost use Rattle.vrl_place.specs.Write.{IsContainerFor, plain_write, write};
 ghost use Rattle.vrl_value.specs.Look.{field, place};
 ghost use Rattle.vrl_value.specs.Tree.{Tree};
 ghost use Rattle.vrl_value.specs.declared.value.Tag.TheVariants as tag;
@@ -24,10 +24,10 @@ use vrl_value::{Chars, Memory, Tag};
 pub fn write_kind(alloc: Global, kind: &Kind, path: &Path, new: &Kind) -> Result<Kind, Memory>
     requires { IsWritable path.now }
     ensures tags { IfOk result (λ written. SameSets (tags_at written)
-        (write (tags_at kind.now) (plain path.now) (tags_at new.now))) }
+        (write (tags_at kind.now) path.now (tags_at new.now))) }
     ensures inhabited { IfOk result (λ written. (value part set : Tree) → Inhabits value kind.now
-        → Inhabits part new.now → IsSet value (plain path.now) part set → Inhabits set written) }
-    ensures container { IfOk result (λ written. IsContainerFor (plain path.now) (tags_at written [])) }
+        → Inhabits part new.now → IsSet value path.now part set → Inhabits set written) }
+    ensures container { IfOk result (λ written. IsContainerFor path.now (tags_at written [])) }
     ensures present { IfOk result (λ written. tags_at new.now [] tag.Absent ≡ false
         → tags_at written [] tag.Absent ≡ false) }
 {
@@ -39,7 +39,7 @@ pub fn write_kind(alloc: Global, kind: &Kind, path: &Path, new: &Kind) -> Result
 fn write_at(alloc: Global, spot: Spot<'_>, steps: &[Step], new: &Kind) -> Result<Kind, Memory>
     requires { IsWritable steps.now }
     ensures { IfOk result (λ kind. SameSets (tags_at kind)
-        (write (spot_sets spot.entry) (plain steps.now) (tags_at new.now))) }
+        (plain_write (spot_sets spot.entry) (plain steps.now) (tags_at new.now))) }
 {
     match steps.split_first() {
         None => new.copy(alloc),
@@ -58,7 +58,7 @@ fn write_behind(
     requires step { IsWritableStep step.now }
     requires behind { IsWritable behind.now }
     ensures { IfOk result (λ kind. SameSets (tags_at kind)
-        (write (spot_sets spot.entry) (plain_step step.now ∷ plain behind.now) (tags_at new.now))) }
+        (plain_write (spot_sets spot.entry) (plain_step step.now ∷ plain behind.now) (tags_at new.now))) }
 {
     match step {
         Step::Field(name) => write_field(alloc, spot, name, behind, new),
@@ -84,7 +84,7 @@ fn write_field(
 ) -> Result<Kind, Memory>
     requires { IsWritable behind.now }
     ensures { IfOk result (λ kind. SameSets (tags_at kind)
-        (write (spot_sets spot.entry) (field name.now ∷ plain behind.now) (tags_at new.now))) }
+        (plain_write (spot_sets spot.entry) (field name.now ∷ plain behind.now) (tags_at new.now))) }
 {
     let absent = !spot.is_alone(Tag::Object);
     let fields = spot.fields();
@@ -103,7 +103,7 @@ fn write_place(
 ) -> Result<Kind, Memory>
     requires { IsWritable behind.now }
     ensures { IfOk result (λ kind. SameSets (tags_at kind)
-        (write (spot_sets spot.entry) (place at ∷ plain behind.now) (tags_at new.now))) }
+        (plain_write (spot_sets spot.entry) (place at ∷ plain behind.now) (tags_at new.now))) }
 {
     let absent = !spot.is_alone(Tag::List);
     let places = spot.places();

@@ -9,7 +9,7 @@ use Rattle.vrl_kind.specs.Make.{named_view}
 use Rattle.vrl_kind.specs.Sets.{SameSets}
 use Rattle.vrl_kind.specs.View.{places_view, rest_of}
 use Rattle.vrl_place.specs.Inner.{sets_with_list, sets_with_object, spot_sets}
-use Rattle.vrl_place.specs.Remove.{remove}
+use Rattle.vrl_place.specs.Remove.{plain_remove}
 use Rattle.vrl_place.proofs.Removing.{kept_field, kept_list, no_steps, removed_in_field, removed_in_list, some_steps}
 use Rattle.vrl_place.proofs.remove.+remove.Goals as goal
 
@@ -20,8 +20,8 @@ remove_field-returns-then-not-has t c = IfOk-weaker c.kind.result (λ kind. Same
 pub remove_field-returns-then-is_empty : goal.remove_field-returns-then-is_empty
 remove_field-returns-then-is_empty t c =
     let none : length {A = CodeStep} c.args.behind.now ≡ 0 = grind (arith, nat_tests, c.is_empty.ensures, c.if-is_empty.true) in
-    IfOk-weaker c.remove_last_field.result (λ kind. SameSets (tags_at kind) (remove (spot_sets c.args.spot) (field c.args.name.now ∷ []))) _
-    (λ kind same. subst (λ r. SameSets (tags_at kind) (remove (spot_sets c.args.spot) (field c.args.name.now ∷ r))) (sym (no_steps c.args.behind.now none)) same) c.remove_last_field.ensures
+    IfOk-weaker c.remove_last_field.result (λ kind. SameSets (tags_at kind) (plain_remove (spot_sets c.args.spot) (field c.args.name.now ∷ []))) _
+    (λ kind same. subst (λ r. SameSets (tags_at kind) (plain_remove (spot_sets c.args.spot) (field c.args.name.now ∷ r))) (sym (no_steps c.args.behind.now none)) same) c.remove_last_field.ensures
 
 pub remove_in_field-returns : goal.remove_in_field-returns
 remove_in_field-returns t c = IfOk-weaker c.with_object.result (λ kind. SameSets (tags_at kind) (sets_with_object (spot_sets c.args.spot) (named_view c.in_ok-known.known.items) (rest_of c.in_ok-rest.field-0))) _
@@ -36,8 +36,8 @@ remove_place-returns-then-not-has t c = IfOk-weaker c.kind.result (λ kind. Same
 pub remove_place-returns-then-is_empty : goal.remove_place-returns-then-is_empty
 remove_place-returns-then-is_empty t c =
     let none : length {A = CodeStep} c.args.behind.now ≡ 0 = grind (arith, nat_tests, c.is_empty.ensures, c.if-is_empty.true) in
-    IfOk-weaker c.remove_last_place.result (λ kind. SameSets (tags_at kind) (remove (spot_sets c.args.spot) (place c.args.at ∷ []))) _
-    (λ kind same. subst (λ r. SameSets (tags_at kind) (remove (spot_sets c.args.spot) (place c.args.at ∷ r))) (sym (no_steps c.args.behind.now none)) same) c.remove_last_place.ensures
+    IfOk-weaker c.remove_last_place.result (λ kind. SameSets (tags_at kind) (plain_remove (spot_sets c.args.spot) (place c.args.at ∷ []))) _
+    (λ kind same. subst (λ r. SameSets (tags_at kind) (plain_remove (spot_sets c.args.spot) (place c.args.at ∷ r))) (sym (no_steps c.args.behind.now none)) same) c.remove_last_place.ensures
 
 pub remove_in_place-returns : goal.remove_in_place-returns
 remove_in_place-returns t c = IfOk-weaker c.with_list.result (λ kind. SameSets (tags_at kind) (sets_with_list (spot_sets c.args.spot) (places_view c.in_ok-known.known.items) (rest_of c.in_ok-rest.field-0))) _

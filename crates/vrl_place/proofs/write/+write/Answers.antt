@@ -11,7 +11,7 @@ use Rattle.vrl_kind.specs.Make.{array_kind, object_kind, named_view}
 use Rattle.vrl_kind.specs.Sets.{SameSets}
 use Rattle.vrl_kind.specs.View.{places_view, rest_of}
 use Rattle.vrl_place.specs.Inner.{spot_sets}
-use Rattle.vrl_place.specs.Write.{write}
+use Rattle.vrl_place.specs.Write.{plain_write}
 use Rattle.vrl_place.proofs.Writing.{first_writable, rest_writable, written_field, written_place}
 use Rattle.vrl_place.proofs.write.+write.Goals as goal
 
@@ -33,8 +33,8 @@ write_at-write_behind-requires t c =
     (omega (arith, c.decreases, c.in-Some.ensures.cases.1), (first_writable _ _ all, rest_writable _ _ all))
 
 pub write_behind-returns-in-Field : goal.write_behind-returns-in-Field
-write_behind-returns-in-Field t c = IfOk-weaker c.write_field.result (λ kind. SameSets (tags_at kind) (write (spot_sets c.args.spot) (field c.in-Field.name ∷ plain c.args.behind.now) (tags_at c.args.new.now))) _
-    (λ kind same. subst (λ s. SameSets (tags_at kind) (write (spot_sets c.args.spot) (plain_step s ∷ plain c.args.behind.now) (tags_at c.args.new.now))) (sym c.in-Field.is) same)
+write_behind-returns-in-Field t c = IfOk-weaker c.write_field.result (λ kind. SameSets (tags_at kind) (plain_write (spot_sets c.args.spot) (field c.in-Field.name ∷ plain c.args.behind.now) (tags_at c.args.new.now))) _
+    (λ kind same. subst (λ s. SameSets (tags_at kind) (plain_write (spot_sets c.args.spot) (plain_step s ∷ plain c.args.behind.now) (tags_at c.args.new.now))) (sym c.in-Field.is) same)
     c.write_field.ensures
 
 pub write_behind-index-requires : goal.write_behind-index-requires
@@ -45,7 +45,7 @@ write_behind-index-requires t c =
 pub write_behind-returns-in-Place : goal.write_behind-returns-in-Place
 write_behind-returns-in-Place t c =
     let fits : SFits w64 c.in-Place.at = search rules in
-    IfOk-weaker c.write_place.result (λ kind. SameSets (tags_at kind) (write (spot_sets c.args.spot) (place c.index.result ∷ plain c.args.behind.now) (tags_at c.args.new.now))) _
-    (λ kind same. subst (λ s. SameSets (tags_at kind) (write (spot_sets c.args.spot) (plain_step s ∷ plain c.args.behind.now) (tags_at c.args.new.now)))
+    IfOk-weaker c.write_place.result (λ kind. SameSets (tags_at kind) (plain_write (spot_sets c.args.spot) (place c.index.result ∷ plain c.args.behind.now) (tags_at c.args.new.now))) _
+    (λ kind same. subst (λ s. SameSets (tags_at kind) (plain_write (spot_sets c.args.spot) (plain_step s ∷ plain c.args.behind.now) (tags_at c.args.new.now)))
     (sym (c.in-Place.is ∙ ap Place (sym (to_z-of_z w64 c.in-Place.at fits) ∙ c.index.ensures))) same)
     c.write_place.ensures
