@@ -1,14 +1,19 @@
 -- How a diagnostic is told.
 use Rattle.std.specs.Prelude.{ℕ, ◌+◌, List, [], ◌∷◌, ◌++◌, ◌==◌, ◌&&◌, nat_le, nat_lt, not, Bool, take, count_by, codes, decimal}
 use Rattle.std.specs.List.{after_last, flat_map}
-use Rattle.vrl_diag.specs.Codes.{severity_of, title_of}
+use Rattle.vrl_diag.specs.Codes.{title_of}
+use Rattle.vrl_diag.specs.Refusal.{severity_of}
 use Rattle.vrl_diag.specs.declared.diagnostic.Diagnostic.{Diagnostic}
 use Rattle.vrl_diag.specs.declared.diagnostic.Severity.{Severity}
 use Rattle.vrl_diag.specs.declared.diagnostic.Severity.TheVariants.{Warning, Error}
 
--- the byte begins a character, in UTF-8
+-- the byte goes on with a character of several bytes, in UTF-8 (RFC 3629)
+abbrev pub is_continuation : ℕ → Bool
+is_continuation b = nat_le 128 b && nat_lt b 192
+
+-- the byte begins a character
 abbrev pub begins_character : ℕ → Bool
-begins_character b = not (nat_le 128 b && nat_lt b 192)
+begins_character b = not (is_continuation b)
 
 -- the number, from 1, of the line at the end of this text
 abbrev pub line_number : List ℕ → ℕ

@@ -3,4 +3,4 @@ use Rattle.vrl_diag.specs.Codes.{Row}
 use Rattle.vrl_diag.specs.declared.titles.Row.{Row as CodeRow}
 
 abbrev pub row_in : CodeRow → Row
-row_in r = record { code = r.code; severity = r.severity; title = r.title.now }
+row_in r = record { code = r.code; title = r.title.now }

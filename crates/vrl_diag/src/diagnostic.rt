@@ -2,7 +2,7 @@ ghost use Rattle.std.specs.Prelude.{◌≡◌};
 ghost use Rattle.std.specs.List.{list_any};
 ghost use Rattle.vrl_diag.specs.Refusal.{is_error};
 
-use crate::code;
+use crate::titles::severity;
 use std::fmt;
 use std::marker::Model;
 
@@ -50,6 +50,15 @@ pub struct Diagnostic {
     pub span: Span,
 }
 
+impl Diagnostic {
+    /// Whether it refuses the script: each but a 651 does. It takes no memory.
+    pub fn is_error(&self) -> bool
+        ensures { result ≡ is_error self.now }
+    {
+        severity(self.code) == Severity::Error
+    }
+}
+
 /// Diagnostics in order, as they are told. A contract sees their list.
 #[derive(Drop)]
 pub struct Diagnostics {
@@ -84,9 +93,7 @@ impl Diagnostics {
     pub fn has_error(&self) -> bool
         ensures { result ≡ list_any is_error self.now }
     {
-        self.diagnostics
-            .iter()
-            .any(|d| d.code != code::UNNECESSARY_ERROR_COALESCING)
+        self.diagnostics.iter().any(|d| d.is_error())
     }
 
     /// The diagnostics, given back. It takes no memory.
