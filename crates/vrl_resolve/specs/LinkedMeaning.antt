@@ -2,7 +2,7 @@
 use Rattle.std.specs.Prelude.{Bool, true, false, List, [], ◌∷◌, ◌++◌, Option, Some, None, if◌then◌else◌}
 use Rattle.vrl_value.specs.Tree.{Tree, null, array as items, object as members, Members, no_members, put}
 use Rattle.vrl_value.specs.View.{items_of_trees}
-use Rattle.vrl_syntax.specs.Spans.{no_span}
+use Rattle.vrl_syntax.specs.Tree.{no_span}
 use Rattle.vrl_syntax.specs.Stores.{Store}
 use Rattle.vrl_syntax.specs.declared.root.Op.TheVariants as op
 use Rattle.vrl_syntax.specs.declared.root.Target.{Target}

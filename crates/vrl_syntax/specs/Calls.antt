@@ -1,9 +1,15 @@
--- What the text of a call says by itself: the functions of paths, and what an argument is as it is written.
-use Rattle.std.specs.Prelude.{ℕ, Bool, ◌||◌, List, Option, Some, None, codes, bytes_eq}
+-- What the text of a call says by itself: the functions that are forms of the language, and what an argument is as it is written.
+use Rattle.std.specs.Prelude.{ℕ, Bool, true, false, ◌||◌, List, Option, Some, None, codes, bytes_eq, if◌then◌else◌}
 use Rattle.vrl_value.specs.Tree.{Tree}
 use Rattle.vrl_path.specs.declared.path.Step.{Step}
 use Rattle.vrl_syntax.specs.Tree.{Expr, expr, literal, read}
+use Rattle.vrl_syntax.specs.declared.call_form.CallForm.{CallForm}
+use Rattle.vrl_syntax.specs.declared.call_form.CallForm.TheVariants as form
 use Rattle.vrl_syntax.specs.declared.root.Root.{Root}
+
+-- the function that deletes what stands at a path
+abbrev pub is_del : List ℕ → Bool
+is_del name = bytes_eq name (codes "del")
 
 -- the function that tells a present null from what is missing
 abbrev pub is_exists : List ℕ → Bool
@@ -12,6 +18,34 @@ is_exists name = bytes_eq name (codes "exists")
 -- the functions that run a closure for each part of an array or an object
 abbrev pub takes_closure : List ℕ → Bool
 takes_closure name = bytes_eq name (codes "for_each") || (bytes_eq name (codes "filter") || (bytes_eq name (codes "map_values") || bytes_eq name (codes "map_keys")))
+
+-- the form of a name
+abbrev pub form_named : List ℕ → Option CallForm
+form_named name =
+    if is_del name then Some form.Del else
+    (if is_exists name then Some form.Exists else
+    (if bytes_eq name (codes "for_each") then Some form.ForEach else
+    (if bytes_eq name (codes "filter") then Some form.Filter else
+    (if bytes_eq name (codes "map_values") then Some form.MapValues else
+    (if bytes_eq name (codes "map_keys") then Some form.MapKeys else None)))))
+
+-- the form is `del`
+abbrev pub is_del_form : Option CallForm → Bool
+is_del_form (Some form.Del) = true
+is_del_form _ = false
+
+-- the form is `exists`
+abbrev pub is_exists_form : Option CallForm → Bool
+is_exists_form (Some form.Exists) = true
+is_exists_form _ = false
+
+-- the form runs a closure
+abbrev pub is_closure_form : Option CallForm → Bool
+is_closure_form (Some form.ForEach) = true
+is_closure_form (Some form.Filter) = true
+is_closure_form (Some form.MapValues) = true
+is_closure_form (Some form.MapKeys) = true
+is_closure_form _ = false
 
 -- the value of a literal that isn't in parentheses
 abbrev pub literal_of : Expr → Option Tree

@@ -2,7 +2,6 @@ pub mod Calls
 pub mod ErrorAssignments
 pub mod Limits
 pub mod Regexes
-pub mod Spans
 pub mod Stores
 pub mod Tree
 pub mod View

@@ -1,12 +1,14 @@
 -- The paths that a part of a script writes or deletes, and the limits that they keep.
 use Rattle.std.specs.Prelude.{◌≡◌, ◌||◌, Bool, true, false, List, [], ◌++◌, length, Option, Some, None, option_to_list, nat_lt, pos, negsuc, if◌then◌else◌}
 use Rattle.std.specs.List.{list_any}
+use Rattle.vrl_path.specs.Steps.{last_place}
+use Rattle.vrl_path.specs.Write.{depth_limit}
 use Rattle.vrl_path.specs.declared.path.Step.{Step}
 use Rattle.vrl_path.specs.declared.path.Step.TheVariants.{Field, Place}
 use Rattle.vrl_diag.specs.declared.diagnostic.Diagnostic.{Diagnostic}
 use Rattle.vrl_diag.specs.declared.diagnostic.Span.{Span}
 use Rattle.vrl_syntax.specs.Tree.{Expr, expr, Form, literal, array, object, read, query, group, block, conditional, negation, binary, assign, merge, both, call, return_of, abort_with, Exprs, no_exprs, exprs, Pairs, no_pairs, pair, Arms, no_arms, arm, Else, no_else, else_block, Args, no_args, arg, Closure, no_closure, closure, Message, no_message, message}
-use Rattle.vrl_syntax.specs.Written.{is_del}
+use Rattle.vrl_syntax.specs.Calls.{is_del}
 use Rattle.vrl_syntax.specs.declared.root.Target.{Target}
 use Rattle.vrl_syntax.specs.declared.root.Target.TheVariants as target
 
@@ -17,14 +19,14 @@ is_negative (Place (negsuc i)) = true
 
 abbrev pub is_too_large : Step → Bool
 is_too_large (Field name) = false
-is_too_large (Place (pos i)) = nat_lt 65535 i
+is_too_large (Place (pos i)) = nat_lt last_place i
 is_too_large (Place (negsuc i)) = false
 
--- what is wrong with the path that stands there: a negative index, else a too large one or too many steps
+-- what is wrong with the path that stands there: a negative index, else one above the greatest place or more steps than a value is deep
 abbrev pub fault_at : Span → List Step → Option Diagnostic
 fault_at span path =
     if list_any is_negative path then Some (record { code = 1007; span = span }) else
-    (if nat_lt 128 (length path) || list_any is_too_large path then Some (record { code = 1012; span = span }) else None)
+    (if nat_lt depth_limit (length path) || list_any is_too_large path then Some (record { code = 1012; span = span }) else None)
 
 abbrev pub faults_at : Span → List Step → List Diagnostic
 faults_at span path = option_to_list (fault_at span path)

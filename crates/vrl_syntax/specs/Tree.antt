@@ -64,6 +64,14 @@ mutual
     no_message : Message
     message : Expr → Message
 
+-- where an expression stands
+abbrev pub span_of : Expr → Span
+span_of (expr span f) = span
+
+-- stands for the place of what has none
+abbrev pub no_span : Span
+no_span = record { start = 0; «end» = 0 }
+
 -- the items, and the sources of the regex literals in order
 pub record Script : Type 0 where
   pub items : Exprs

@@ -1,14 +1,11 @@
 -- The roots that a part of a script writes: those of its assignments' targets, and those of the paths and names that it deletes
 -- with `del`. What stands in a block, an argument or a closure inside counts too.
-use Rattle.std.specs.Prelude.{ℕ, Bool, List, [], ◌∷◌, ◌++◌, codes, bytes_eq, if◌then◌else◌}
+use Rattle.std.specs.Prelude.{List, [], ◌∷◌, ◌++◌, if◌then◌else◌}
 use Rattle.vrl_syntax.specs.Tree.{Expr, expr, Form, literal, array, object, read, query, group, block, conditional, negation, binary, assign, merge, both, call, return_of, abort_with, Exprs, no_exprs, exprs, Pairs, no_pairs, pair, Arms, no_arms, arm, Else, no_else, else_block, Args, no_args, arg, Closure, no_closure, closure, Message, no_message, message}
+pub use Rattle.vrl_syntax.specs.Calls.{is_del}
 use Rattle.vrl_syntax.specs.declared.root.Root.{Root}
 use Rattle.vrl_syntax.specs.declared.root.Target.{Target}
 use Rattle.vrl_syntax.specs.declared.root.Target.TheVariants.{Nowhere, Place}
-
--- the function that deletes what stands at a path
-abbrev pub is_del : List ℕ → Bool
-is_del name = bytes_eq name (codes "del")
 
 abbrev pub target_roots : Target → List Root
 target_roots Nowhere = []

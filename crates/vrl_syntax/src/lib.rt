@@ -1,10 +1,10 @@
 //! The tree of a script: expressions with the places where they stand, and the roots that a part of a script
 //! writes.
 //!
-//! A contract sees an [`Expr`] as plain data, by the one function `expr_of`, and what it says without the
-//! places by `without_spans`.
+//! A contract sees an [`Expr`] as plain data, by the one function `expr_of`.
 #![tactic(auto)]
 
+mod call_form;
 mod empty;
 mod limits;
 mod lists;
@@ -13,6 +13,7 @@ mod root;
 mod tree;
 mod written;
 
+pub use call_form::{CallForm, takes_closure};
 pub use empty::empty_value;
 pub use limits::limit_faults;
 pub use lists::{Empties, Roots};

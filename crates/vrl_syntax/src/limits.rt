@@ -3,18 +3,16 @@ ghost use Rattle.std.specs.List.{list_any};
 ghost use Rattle.vrl_syntax.specs.View.{args_of, arms_of, call_of, expr_of, exprs_of, pairs_of};
 ghost use Rattle.vrl_syntax.specs.Limits.{args_faults, arms_faults, expr_faults, exprs_faults, fault_at as fault_at_place, faults_at, form_faults, is_negative as negative_step, is_too_large as too_large_step, pairs_faults, path_faults, target_faults};
 
+use crate::call_form::is_del;
 use crate::root::Target;
 use crate::tree::{Args, Arms, Call, Expr, Exprs, Form, Pairs};
 use std::alloc::Global;
-use vrl_diag::{Diagnostic, Diagnostics, Span};
-use vrl_path::{Path, Step};
+use vrl_diag::{Diagnostic, Diagnostics, Span, code};
+use vrl_path::{DEPTH_LIMIT, Path, Step};
 use vrl_value::Memory;
 
 // The greatest index of a path that is written or deleted.
 const INDEX_LIMIT: i64 = 65_535;
-
-// The most steps of one.
-const STEP_LIMIT: usize = 128;
 
 /// What is wrong with the paths that these items write or delete, in the order of the script: 1007 for one with a
 /// negative index, else 1012 for one with an index above 65,535 or more than 128 steps. An assignment writes its
@@ -74,7 +72,7 @@ fn add_expr(expr: &Expr, faults: &mut Vec<Diagnostic>) -> Result<(), Memory>
 fn add_call(call: &Call, faults: &mut Vec<Diagnostic>) -> Result<(), Memory>
     ensures { OnOk result (faults.new.items ≡ faults.old.items ++ form_faults (call_of call.now)) }
 {
-    let deleted = call.name.as_str() == "del";
+    let deleted = is_del(call.name.as_str());
     add_args(&call.args, deleted, faults)?;
     match &call.closure {
         Some(closure) => add_exprs(&closure.body, faults),
@@ -167,13 +165,16 @@ fn fault_at(span: Span, path: &Path) -> Option<Diagnostic>
 {
     let steps = path.as_slice();
     if has_negative(steps) {
-        return Some(Diagnostic { code: 1007, span });
+        return Some(Diagnostic {
+            code: code::NEGATIVE_INDEX_WRITTEN,
+            span,
+        });
     }
-    if steps.len() > STEP_LIMIT {
-        return Some(Diagnostic { code: 1012, span });
-    }
-    if has_too_large(steps) {
-        return Some(Diagnostic { code: 1012, span });
+    if steps.len() as u64 > DEPTH_LIMIT || has_too_large(steps) {
+        return Some(Diagnostic {
+            code: code::WRITTEN_PATH_TOO_LARGE,
+            span,
+        });
     }
     None
 }

@@ -2,6 +2,7 @@ ghost use Rattle.std.specs.Prelude.{◌≡◌, ◌++◌, IfOk, OnOk};
 ghost use Rattle.vrl_syntax.specs.View.{args_of, arms_of, call_of, expr_of, exprs_of, pairs_of};
 ghost use Rattle.vrl_syntax.specs.Written.{args_write, argument_roots, arms_write, expr_writes, exprs_write, form_writes, pairs_write, path_roots, target_roots};
 
+use crate::call_form::is_del;
 use crate::lists::Roots;
 use crate::root::{Root, Target};
 use crate::tree::{Args, Arms, Call, Expr, Exprs, Form, Pairs};
@@ -67,7 +68,7 @@ fn add_expr(alloc: Global, expr: &Expr, roots: &mut Vec<Root>) -> Result<(), Mem
 fn add_call(alloc: Global, call: &Call, roots: &mut Vec<Root>) -> Result<(), Memory>
     ensures { OnOk result (roots.new.items ≡ roots.old.items ++ form_writes (call_of call.now)) }
 {
-    if call.name.as_str() == "del" {
+    if is_del(call.name.as_str()) {
         add_deleted(alloc, &call.args, roots)?;
     }
     add_args(alloc, &call.args, roots)?;
