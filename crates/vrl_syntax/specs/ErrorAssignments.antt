@@ -59,7 +59,8 @@ abbrev mutual
   in_message no_message = 0
   in_message (message e) = in_expr e
 
--- the tags that are left behind an expression, behind a list of them, and behind the predicates and blocks of an `if`
+-- the tags that are left behind an expression, behind a list of them, behind the predicates and blocks of an `if`, and behind the arguments
+-- of a call
 abbrev pub behind : Expr → List Tag → List Tag
 behind e tags = drop (in_expr e) tags
 
@@ -68,6 +69,9 @@ behind_all es tags = drop (in_exprs es) tags
 
 abbrev pub behind_arms : Arms → List Tag → List Tag
 behind_arms gs tags = drop (in_arms gs) tags
+
+abbrev pub behind_args : Args → List Tag → List Tag
+behind_args gs tags = drop (in_args gs) tags
 
 -- the tag of an error assignment, and those of the ones in it; null where there is none
 abbrev pub first_tag : List Tag → Tag
