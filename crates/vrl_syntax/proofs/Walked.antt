@@ -1,5 +1,5 @@
 -- A walk over a list that adds what each part has.
-use Rattle.std.proofs.Common.{◌≡◌, ℕ, zero, suc, ◌<◌, List, [], ◌∷◌, ◌++◌, length, drop, drop-cons, get_or, refl, sym, ap, ◌∙◌, append_assoc, arith}
+use Rattle.std.proofs.Common.{◌≡◌, ℕ, zero, suc, ◌<◌, List, [], ◌∷◌, ◌++◌, length, drop, drop-cons, get_or, refl, sym, ap, ◌∙◌, append_assoc, arith, subst}
 
 -- what is left from a place on is the part there, and then what is left behind it
 pub drop_one : {A : Type 0} (xs : List A) (i next : ℕ) (x : A) → next ≡ suc i → i < length xs → x ≡ get_or xs i x → drop i xs ≡ x ∷ drop next xs
@@ -20,3 +20,10 @@ pub walked_twice : {A R : Type 0} (whole : List A → List R) (first second : A 
 walked_twice whole first second step items i next x before between after all this that n below is has also adds more so_far =
     walked_on whole (λ y. first y ++ second y) (λ y ys. step y ys ∙ sym (append_assoc (first y) (second y) (whole ys))) items i next x before after all (this ++ that) n below is
     (rw (has, also) refl) (more ∙ ap (λ t. t ++ that) adds ∙ append_assoc before this that) so_far
+
+-- what holds of the whole where it holds of what is left does so behind one more part, of which it holds
+pub walked_all : {A : Type 0} (whole : List A → Type 0) (part : A → Type 0) → ((x : A) (xs : List A) → part x → whole xs → whole (x ∷ xs))
+    → (items : List A) (i next : ℕ) (x : A) → next ≡ suc i → i < length items → x ≡ get_or items i x
+    → part x → (whole (drop i items) → whole items) → whole (drop next items) → whole items
+walked_all whole part step items i next x n below is has so_far rest =
+    so_far (subst whole (sym (drop_one items i next x n below is)) (step x (drop next items) has rest))

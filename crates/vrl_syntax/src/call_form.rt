@@ -44,7 +44,8 @@ pub fn takes_closure(name: &str) -> bool
 {
     match CallForm::named(name) {
         Some(CallForm::Del | CallForm::Exists) | None => false,
-        Some(CallForm::ForEach | CallForm::Filter | CallForm::MapValues | CallForm::MapKeys) => true,
+        Some(CallForm::ForEach | CallForm::Filter | CallForm::MapValues | CallForm::MapKeys) =>
+            true,
     }
 }
 

@@ -8,11 +8,8 @@ use crate::root::Target;
 use crate::tree::{Args, Arms, Call, Expr, Exprs, Form, Pairs};
 use std::alloc::Global;
 use vrl_diag::{Diagnostic, Diagnostics, Span, code};
-use vrl_path::{DEPTH_LIMIT, Path, Step};
+use vrl_path::{DEPTH_LIMIT, PLACE_LIMIT, Path, Step};
 use vrl_value::Memory;
-
-// The greatest index of a path that is written or deleted.
-const INDEX_LIMIT: i64 = 65_535;
 
 /// What is wrong with the paths that these items write or delete, in the order of the script: 1007 for one with a
 /// negative index, else 1012 for one with an index above 65,535 or more than 128 steps. An assignment writes its
@@ -205,6 +202,6 @@ fn is_too_large(step: &Step) -> bool
 {
     match step {
         Step::Field(_) => false,
-        Step::Place(place) => *place > INDEX_LIMIT,
+        Step::Place(place) => *place > PLACE_LIMIT,
     }
 }
