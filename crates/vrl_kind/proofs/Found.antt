@@ -70,7 +70,7 @@ allowed (Some t) T e = ap (λ U. U t) e ∙ tag_itself t
 pub found_inhabits : (k : KindTree) (v : Tree) → IsKindOf k v → Inhabits v k
 found_inhabits k v is p = allowed (tag_found (raw_at v p)) (tags_at k p) (is.tags p)
 
-there_at : (v : Tree) → only (tag_of v) tag.Absent ≡ false
+pub there_at : (v : Tree) → only (tag_of v) tag.Absent ≡ false
 there_at (string s) = refl
 there_at (integer n) = refl
 there_at (boolean b) = refl

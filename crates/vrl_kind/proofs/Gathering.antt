@@ -137,7 +137,7 @@ known_at Greater m q k K R fs is (inl has) = inl (inr has)
 known_at Greater m q k K R fs is (inr other) = inr other
 known_at Equal m q k K R fs is rest = inl (inl (sym (one_name q m is)))
 
-known_name : (fs : KnownFields) (R : KindTree) (q : List ℕ) → HasName fs q ⊎ (field_or fs R q ≡ R)
+pub known_name : (fs : KnownFields) (R : KindTree) (q : List ℕ) → HasName fs q ⊎ (field_or fs R q ≡ R)
 known_name no_fields R q = inr refl
 known_name (known_field m k fs) R q = known_at (slice_cmp nat_cmp q m) m q k (field_or fs R q) R fs refl (known_name fs R q)
 
@@ -168,11 +168,11 @@ absent_taken k [] t = absent_taken_at k t
 absent_taken (kind s l o) (place i ∷ p) t = and_yes _
 absent_taken (kind s l o) (field n ∷ p) t = and_yes _
 
-and_from : (a b : Bool) → IsTrue (a && b) → IsTrue a × IsTrue b
+pub and_from : (a b : Bool) → IsTrue (a && b) → IsTrue a × IsTrue b
 and_from true b is = (refl, is)
 and_from false b is = none _ is
 
-and_both : (a b : Bool) → IsTrue a → IsTrue b → IsTrue (a && b)
+pub and_both : (a b : Bool) → IsTrue a → IsTrue b → IsTrue (a && b)
 and_both true b x y = y
 and_both false b x y = none _ x
 

@@ -153,11 +153,11 @@ passed Less a b e = refl
 passed Equal a b e = absurd (true≢false e)
 passed Greater a b e = refl
 
-found_elsewhere : (n m : List ℕ) (o : Option Tree) (ms : Members) → is_eq (slice_cmp nat_cmp m n) ≡ false → find m (with_member n o ms) ≡ find m ms
+pub found_elsewhere : (n m : List ℕ) (o : Option Tree) (ms : Members) → is_eq (slice_cmp nat_cmp m n) ≡ false → find m (with_member n o ms) ≡ find m ms
 found_elsewhere n m None ms e = refl
 found_elsewhere n m (Some t) ms e = passed (slice_cmp nat_cmp m n) (find m ms) (Some t) e
 
-equal_order : (o : Ordering) → is_eq o ≡ true → o ≡ Equal
+pub equal_order : (o : Ordering) → is_eq o ≡ true → o ≡ Equal
 equal_order Less e = absurd (true≢false (sym e))
 equal_order Equal e = refl
 equal_order Greater e = absurd (true≢false (sym e))

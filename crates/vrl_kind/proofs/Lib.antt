@@ -17,5 +17,7 @@ pub mod Sameness
 pub mod Shapes
 pub mod Sizes
 pub mod Slices
+pub mod SomePart
 pub mod TagTests
 pub mod Texts
+pub mod TreeTests

@@ -12,10 +12,12 @@ pub mod Make
 pub mod Membership
 pub mod Merge
 pub mod Overlay
+pub mod PartSets
 pub mod Parts
 pub mod Print
 pub mod Scalars
 pub mod Seen
 pub mod Sets
 pub mod Tags
+pub mod TreeTest
 pub mod View

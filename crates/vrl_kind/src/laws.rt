@@ -1,4 +1,6 @@
 ghost use Rattle.vrl_kind.specs.Laws.{AnyHoldsAll, CutsAreWider, EqualTagsAreOneKind, WiderKindsHoldMore};
+ghost use Rattle.vrl_kind.specs.PartSets.{PartsAreAllowed, PartsAreComputed, PartsAreTold};
+ghost use Rattle.vrl_kind.specs.TreeTest.{InhabitsIsComputed};
 
 /// Two kinds of the one form that allow the same at every path are one tree. This takes no time: it is a
 /// law about the definitions.
@@ -20,4 +22,28 @@ pub fn wider_kinds_hold_more()
 /// Every value is of the kind of all. This takes no time: it is a law about the definitions.
 pub fn any_holds_all()
     ensures { AnyHoldsAll }
+{}
+
+/// What the parts of a kind allow, computed from its tree, is what stands behind some step of the kind. This
+/// takes no time: it is a law about the definitions.
+pub fn parts_are_told()
+    ensures { PartsAreTold }
+{}
+
+/// A kind is that of another's parts where it has the tags that are computed from that one's tree. This
+/// takes no time: it is a law about the definitions.
+pub fn parts_are_computed()
+    ensures { PartsAreComputed }
+{}
+
+/// A part of a value of a kind is allowed by what the kind's parts allow. This takes no time: it is a law
+/// about the definitions.
+pub fn parts_are_allowed()
+    ensures { PartsAreAllowed }
+{}
+
+/// Whether a tree is of a kind is computed by cases on the tree. This takes no time: it is a law about the
+/// definitions.
+pub fn inhabits_is_computed()
+    ensures { InhabitsIsComputed }
 {}

@@ -28,7 +28,10 @@ pub use joining::{join, parts};
 pub use kind::{
     Kind, KindField, KindFields, Kinds, Rest, has, kind_is_canonical, list_part, object_part,
 };
-pub use laws::{any_holds_all, cuts_are_wider, equal_tags_are_one_kind, wider_kinds_hold_more};
+pub use laws::{
+    any_holds_all, cuts_are_wider, equal_tags_are_one_kind, inhabits_is_computed,
+    parts_are_allowed, parts_are_computed, parts_are_told, wider_kinds_hold_more,
+};
 pub use limits::{LEVEL_LIMIT, NODE_LIMIT, cut, flatten};
 pub use make::without;
 pub use membership::inhabits;
