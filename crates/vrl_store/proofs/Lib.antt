@@ -1,4 +1,3 @@
-pub mod Deep
 pub mod Equality
 pub mod Kept
 pub mod LastEnded

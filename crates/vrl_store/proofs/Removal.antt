@@ -7,7 +7,9 @@ use Rattle.vrl_value.specs.Look.{Step, field, place, found_if, item_at, part_at}
 use Rattle.vrl_value.specs.Parts.{replace, replace_item, without, without_item}
 use Rattle.vrl_value.specs.Tree.{Tree, array, object, Items, no_items, item, Members, no_members, member, find}
 use Rattle.vrl_path.specs.Parts.{replace_part, without_part}
+use Rattle.vrl_path.specs.Steps.{plain_step}
 use Rattle.vrl_path.specs.Trees.{if_there, remove_tree}
+use Rattle.vrl_path.specs.declared.path.Step.{Step as CodeStep}
 
 -- ---- what is found is below what it is found in
 
@@ -84,7 +86,7 @@ kept_part (field k) (object ms) f less = kept_member k (find k ms) ms f refl les
 kept_part (place i) (array ts) f less = kept_item i (item_at i ts) ts f refl less (found_item i ts)
 kept_part s v f less = omega arith
 
-pub removed_depth : (v : Tree) (p : List Step) → depth_of (remove_tree v p) ≤ depth_of v
+pub removed_depth : (v : Tree) (p : List CodeStep) → depth_of (remove_tree v p) ≤ depth_of v
 removed_depth v [] = omega arith
-removed_depth v (s ∷ []) = left_part s v
-removed_depth v (s ∷ r ∷ p) = kept_part s v (λ u. remove_tree u (r ∷ p)) (λ u. removed_depth u (r ∷ p))
+removed_depth v (s ∷ []) = left_part (plain_step s) v
+removed_depth v (s ∷ r ∷ p) = kept_part (plain_step s) v (λ u. remove_tree u (r ∷ p)) (λ u. removed_depth u (r ∷ p))

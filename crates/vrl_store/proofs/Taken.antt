@@ -5,7 +5,6 @@ use Rattle.vrl_value.specs.Tree.{null}
 use Rattle.vrl_value.specs.View.{tree_of}
 use Rattle.vrl_value.specs.declared.value.Value.{Value}
 use Rattle.vrl_value.specs.declared.value.Value.TheVariants as value
-use Rattle.vrl_path.specs.Steps.{plain}
 use Rattle.vrl_path.specs.Trees.{remove_tree}
 use Rattle.vrl_path.specs.Write.{depth_limit}
 use Rattle.vrl_path.specs.declared.path.Step.{Step}
@@ -22,9 +21,9 @@ use Rattle.vrl_store.proofs.Written.{set_same}
 
 -- ---- depth
 
-pub shallow_left : (w u : Value) (path : List Step) → IsShallow (tree_of w) → tree_of u ≡ remove_tree (tree_of w) (plain path) → IsShallow (tree_of u)
+pub shallow_left : (w u : Value) (path : List Step) → IsShallow (tree_of w) → tree_of u ≡ remove_tree (tree_of w) path → IsShallow (tree_of u)
 shallow_left w u path shallow rest =
-    let less : depth_of (tree_of u) ≤ depth_of (tree_of w) = subst (λ v. depth_of v ≤ depth_of (tree_of w)) (sym rest) (removed_depth (tree_of w) (plain path)) in
+    let less : depth_of (tree_of u) ≤ depth_of (tree_of w) = subst (λ v. depth_of v ≤ depth_of (tree_of w)) (sym rest) (removed_depth (tree_of w) path) in
     omega arith
 
 pub null_shallow : IsShallow (tree_of value.Null)
@@ -37,7 +36,7 @@ pub part_there : (names : Names) (s : CodeStore) (n : ℕ) (path : List Step) (w
 part_there names s n path w are within is = ap (λ v. part_of v path) (sym (root_variable names s n (Some w) are within is))
 
 pub left_there : (names : Names) (s : CodeStore) (n : ℕ) (path : List Step) (w u : Value) → AreNames names s → 0 < length path → n < length s.variables.items
-    → Some w ≡ get_or s.variables.items n (Some w) → tree_of u ≡ remove_tree (tree_of w) (plain path)
+    → Some w ≡ get_or s.variables.items n (Some w) → tree_of u ≡ remove_tree (tree_of w) path
     → seen names s.event (set s.variables.items n (Some u)) ≡ removed (root_of names (base.Variable n)) path (store_in names s)
 left_there names s n [] w u are part within is rest = absurd (omega arith)
 left_there names s n (step ∷ path) w u are part within is rest =

@@ -8,7 +8,6 @@ use Rattle.vrl_value.specs.Depth.{depth_of}
 use Rattle.vrl_value.specs.Tree.{Tree, null}
 use Rattle.vrl_value.specs.View.{tree_of}
 use Rattle.vrl_value.specs.declared.value.Value.{Value}
-use Rattle.vrl_path.specs.Steps.{plain}
 use Rattle.vrl_path.specs.Trees.{set_tree}
 use Rattle.vrl_path.specs.Write.{depth_limit}
 use Rattle.vrl_path.specs.declared.fault.SetFault.{SetFault}
@@ -65,22 +64,22 @@ held_in x = unwrap_or (option_map tree_of x) null
 
 pub written_there : (names : Names) (s : CodeStore) (items : List (Option Value)) (n : ℕ) (path : List Step) (v : Tree) (x : Option Value) (u : Value) → AreNames names s
     → n < length s.variables.items → x ≡ get_or s.variables.items n x → items ≡ set s.variables.items n (Some u)
-    → tree_of u ≡ set_tree (held_in x) (plain path) v → IsShallow (tree_of u)
+    → tree_of u ≡ set_tree (held_in x) path v → IsShallow (tree_of u)
     → (is_within (root_with (root_of names (base.Variable n)) path v (store_in names s)) ≡ true)
     × (seen names s.event items ≡ with_value (root_of names (base.Variable n)) (root_with (root_of names (base.Variable n)) path v (store_in names s)) (store_in names s))
 written_there names s items n path v x u are within is variables one shallow =
     let root = root_of names (base.Variable n) in
-    let made : tree_of u ≡ root_with root path v (store_in names s) = one ∙ ap (λ w. set_tree w (plain path) v) (sym (root_variable names s n x are within is)) in (
+    let made : tree_of u ≡ root_with root path v (store_in names s) = one ∙ ap (λ w. set_tree w path v) (sym (root_variable names s n x are within is)) in (
       subst (λ w. is_within w ≡ true) made (is_within-true (tree_of u) shallow),
       variable_given names s items n u are within variables ∙ ap (λ w. with_value root w (store_in names s)) made,
     )
 
 too_deep_there : (names : Names) (s : CodeStore) (n : ℕ) (path : List Step) (v : Tree) (x : Option Value) → AreNames names s → n < length s.variables.items
-    → x ≡ get_or s.variables.items n x → depth_limit < depth_of (set_tree (held_in x) (plain path) v)
+    → x ≡ get_or s.variables.items n x → depth_limit < depth_of (set_tree (held_in x) path v)
     → is_within (root_with (root_of names (base.Variable n)) path v (store_in names s)) ≡ false
 too_deep_there names s n path v x are within is deep =
-    let made = ap (λ w. set_tree w (plain path) v) (sym (root_variable names s n x are within is)) in
-    subst (λ w. is_within w ≡ false) made (is_within-false (set_tree (held_in x) (plain path) v) deep)
+    let made = ap (λ w. set_tree w path v) (sym (root_variable names s n x are within is)) in
+    subst (λ w. is_within w ≡ false) made (is_within-false (set_tree (held_in x) path v) deep)
 
 -- a variable that looks as it did
 same_there : (items : List (Option Value)) (n : ℕ) (w u : Value) → n < length items → Some w ≡ get_or items n (Some w) → tree_of u ≡ tree_of w
@@ -95,8 +94,8 @@ unchanged_there names s n w u within is one = ap (λ vs. record { event = tree_o
 -- in place
 pub written_in : (names : Names) (s : CodeStore) (n : ℕ) (path : List Step) (v : Tree) (w u : Value) (result : Result (Unit {0}) SetFault) → AreNames names s
     → n < length s.variables.items → Some w ≡ get_or s.variables.items n (Some w)
-    → OnOk result (tree_of u ≡ set_tree (tree_of w) (plain path) v) → OnOk result (IsShallow (tree_of u))
-    → (result ≡ Err fault.TooDeep → depth_limit < depth_of (set_tree (tree_of w) (plain path) v)) → OnErr result (tree_of u ≡ tree_of w)
+    → OnOk result (tree_of u ≡ set_tree (tree_of w) path v) → OnOk result (IsShallow (tree_of u))
+    → (result ≡ Err fault.TooDeep → depth_limit < depth_of (set_tree (tree_of w) path v)) → OnErr result (tree_of u ≡ tree_of w)
     → IsWritten (root_of names (base.Variable n)) path v (store_in names s) (seen names s.event (set s.variables.items n (Some u))) result
 written_in names s n path v w u (Ok done) are within is ok shallow deep err = written_there names s (set s.variables.items n (Some u)) n path v (Some w) u are within is refl ok shallow
 written_in names s n path v w u (Err fault.TooDeep) are within is ok shallow deep err =
@@ -109,7 +108,15 @@ shallow_written w u (Err f) shallow ok err = subst IsShallow (sym err) shallow
 
 -- in a variable that isn't there, and isn't then either
 pub unwritten_in : (names : Names) (s : CodeStore) (n : ℕ) (path : List Step) (v : Tree) (f : SetFault) → AreNames names s → n < length s.variables.items
-    → is_numbered (trees_of s.variables.items) n ≡ false → (f ≡ fault.TooDeep → depth_limit < depth_of (set_tree null (plain path) v))
+    → is_numbered (trees_of s.variables.items) n ≡ false → (f ≡ fault.TooDeep → depth_limit < depth_of (set_tree null path v))
     → IsWritten (root_of names (base.Variable n)) path v (store_in names s) (store_in names s) (Err f)
 unwritten_in names s n path v fault.TooDeep are within absent deep = (too_deep_there names s n path v None are within (absent_at s.variables.items n within absent) (deep refl), refl)
 unwritten_in names s n path v fault.Memory are within absent deep = refl
+
+-- want of memory is told of a write that could be done
+pub within_there : (names : Names) (s : CodeStore) (n : ℕ) (path : List Step) (v : Tree) (x : Option Value) → AreNames names s → n < length s.variables.items
+    → x ≡ get_or s.variables.items n x → IsShallow (set_tree (held_in x) path v)
+    → is_within (root_with (root_of names (base.Variable n)) path v (store_in names s)) ≡ true
+within_there names s n path v x are within is shallow =
+    let made = ap (λ w. set_tree w path v) (sym (root_variable names s n x are within is)) in
+    subst (λ w. is_within w ≡ true) made (is_within-true (set_tree (held_in x) path v) shallow)

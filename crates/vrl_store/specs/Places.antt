@@ -1,12 +1,10 @@
 -- Reading, writing and removing at the paths of a store.
 --
--- A write is `set_tree`, which the laws of paths tie to what look-up finds at every path, and a removal is `remove_tree`. No place that is
--- written or removed is negative.
+-- A write is `set_tree`, which the laws of paths tie to what look-up finds at every path, and a removal is `remove_tree`.
 use Rattle.std.specs.Prelude.{Bool, List, [], ◌∷◌, Option, Some, None, is_some, unwrap_or, nat_le, if◌then◌else◌}
 use Rattle.vrl_value.specs.Depth.{depth_of}
 use Rattle.vrl_value.specs.Tree.{Tree, null}
 use Rattle.vrl_path.specs.Read.{read_at}
-use Rattle.vrl_path.specs.Steps.{plain}
 use Rattle.vrl_path.specs.Trees.{remove_tree, set_tree}
 use Rattle.vrl_path.specs.Write.{depth_limit}
 use Rattle.vrl_path.specs.declared.path.Step.{Step}
@@ -37,7 +35,7 @@ is_within v = nat_le (depth_of v) depth_limit
 
 -- a root with a value at a path
 abbrev pub root_with : Root → List Step → Tree → Store → Tree
-root_with root path v store = set_tree (root_value root store) (plain path) v
+root_with root path v store = set_tree (root_value root store) path v
 
 -- What follows once the value stands at the path. A write by which a root would be too deep isn't done, and ends all.
 abbrev pub writes : Root → List Step → Tree → Store → (Store → Ended) → Ended
@@ -56,7 +54,7 @@ target_value (Place span root path) store = read_in root path store
 -- a root without what stands at a path; a variable that isn't there stays so
 abbrev pub root_without : Root → List Step → Option Tree → Store → Store
 root_without root path None store = store
-root_without root path (Some v) store = with_value root (remove_tree v (plain path)) store
+root_without root path (Some v) store = with_value root (remove_tree v path) store
 
 -- the store without what stands at a path
 abbrev pub removed : Root → List Step → Store → Store

@@ -1,5 +1,5 @@
 -- What the results of the code say: its words for those of the meaning. Want of memory says nothing.
-use Rattle.std.specs.Prelude.{◌≡◌, ℕ, Bool, List, Option, Some, None, ⊤}
+use Rattle.std.specs.Prelude.{◌≡◌, ℕ, Bool, true, false, List, Option, Some, None, ⊤}
 use Rattle.std.specs.declared.result.Result.{Result}
 use Rattle.std.specs.declared.result.Result.TheVariants.{Ok, Err}
 use Rattle.vrl_path.specs.declared.fault.SetFault.{SetFault}
@@ -42,6 +42,12 @@ abbrev pub Gives : Outcome → Result Value Stop → Type 0
 Gives outcome (Ok v) = outcome ≡ value (tree_of v)
 Gives outcome (Err stop) = IsStop outcome stop
 
+-- the outcome is a whole number or a boolean, which take no memory
+abbrev pub is_small : Outcome → Bool
+is_small (value (integer n)) = true
+is_small (value (boolean b)) = true
+is_small outcome = false
+
 -- the same where the value is a boolean
 abbrev pub GivesTruth : Outcome → Result Bool Stop → Type 0
 GivesTruth outcome (Ok b) = outcome ≡ value (boolean b)
@@ -61,12 +67,12 @@ abbrev pub Ends : Ended → Store → Result Value Stop → Type 0
 Ends ended store (Ok v) = ended ≡ ends (value (tree_of v)) store
 Ends ended store (Err stop) = Stops ended store stop
 
--- how two values are added
+-- how two values are added; a sum that is one of them is a text
 abbrev pub IsAdding : Tree → Tree → Addition → Type 0
 IsAdding v w (added.Number n) = sum_of v w ≡ value (integer n)
 IsAdding v w added.Joined = (s : List ℕ) × (t : List ℕ) × (v ≡ string s) × (w ≡ string t)
-IsAdding v w added.First = sum_of v w ≡ value v
-IsAdding v w added.Second = sum_of v w ≡ value w
+IsAdding v w added.First = (sum_of v w ≡ value v) × (is_small (value v) ≡ false)
+IsAdding v w added.Second = (sum_of v w ≡ value w) × (is_small (value w) ≡ false)
 IsAdding v w added.None = sum_of v w ≡ cannot_apply op.Plus v w
 
 -- it ended with a value, or with an error, which is forgotten; whatever else it ended with stays

@@ -21,7 +21,7 @@ pub use empties::EmptyTags;
 pub use ends::{banged, unless_error};
 pub use laws::equality_is_told;
 pub use operand::Operand;
-pub use operators::{apply, apply_to_borrowed, is_falsy, is_true, negated, truth, word};
+pub use operators::{apply, apply_to_borrowed, is_falsy, is_true, negated, truth};
 pub use place::{Base, Place};
 pub use stop::Stop;
 pub use store::Store;

@@ -1,9 +1,8 @@
-ghost use Rattle.std.specs.Prelude.{◌≡◌, ◌++◌, ℕ, List, IfOk, OnOk};
-ghost use Rattle.vrl_value.specs.Tag.{word_of};
+ghost use Rattle.std.specs.Prelude.{◌≡◌, ◌≢◌, ◌++◌, ℕ, List, IfOk, IsOk, IsTrue, OnOk};
 ghost use Rattle.vrl_value.specs.Tree.{object, string, Members};
 ghost use Rattle.vrl_value.specs.View.{members_of, tree_of};
 ghost use Rattle.vrl_store.specs.Operators as spec;
-ghost use Rattle.vrl_store.specs.Results.{operand_tree, Gives, GivesTruth, IsStop, IsAdding};
+ghost use Rattle.vrl_store.specs.Results.{is_small, operand_tree, Gives, GivesTruth, IsStop, IsAdding};
 
 use crate::operand::Operand;
 use crate::stop::Stop;
@@ -16,7 +15,8 @@ use vrl_value::{Chars, Fields, Memory, Tag, Value};
 /// What an operator that asks both its sides gives for two values; `??`, `||` and `&&` have rules of their own. A value that may be kept is
 /// built on, and no other is changed. `Error`: the operator doesn't take these two.
 pub fn apply(alloc: Global, op: Op, left: Operand<'_>, right: Operand<'_>) -> Result<Value, Stop>
-    ensures { Gives (spec.applied op (operand_tree left.entry) (operand_tree right.entry)) result }
+    ensures gives { Gives (spec.applied op (operand_tree left.entry) (operand_tree right.entry)) result }
+    ensures small { IsTrue (is_small (spec.applied op (operand_tree left.entry) (operand_tree right.entry))) → IsOk result }
 {
     match op {
         Op::Merge => merge(alloc, left, right),
@@ -27,7 +27,8 @@ pub fn apply(alloc: Global, op: Op, left: Operand<'_>, right: Operand<'_>) -> Re
 
 /// The same of two values that stand elsewhere.
 pub fn apply_to_borrowed(alloc: Global, op: Op, left: &Value, right: &Value) -> Result<Value, Stop>
-    ensures { Gives (spec.applied op (tree_of left.now) (tree_of right.now)) result }
+    ensures gives { Gives (spec.applied op (tree_of left.now) (tree_of right.now)) result }
+    ensures small { IsTrue (is_small (spec.applied op (tree_of left.now) (tree_of right.now))) → IsOk result }
 {
     match op {
         Op::Equal => Ok(Value::Bool(is_same(left, right))),
@@ -74,30 +75,13 @@ fn symbol(op: Op) -> &'static str
     }
 }
 
-/// The word for a tag in messages.
-pub fn word(tag: Tag) -> &'static str
-    ensures { result.now ≡ word_of tag }
-{
-    match tag {
-        Tag::Text => "string",
-        Tag::Int => "integer",
-        Tag::Bool => "boolean",
-        Tag::Null => "null",
-        Tag::Time => "timestamp",
-        Tag::Pattern => "regex",
-        Tag::List => "array",
-        Tag::Object => "object",
-        Tag::Absent => "absent",
-    }
-}
-
 // The text of the error that an operator doesn't take values of two tags. `Memory`: want of memory.
 fn pair_text(alloc: Global, op: Op, left: Tag, right: Tag) -> Result<Chars, Memory>
     ensures { IfOk result (λ text. text ≡ spec.pair_text op left right) }
 {
     let op = symbol(op);
-    let left = word(left);
-    let right = word(right);
+    let left = left.word();
+    let right = right.word();
     let text = format!(in alloc; "cannot apply {op} to {left} and {right}")?;
     Ok(Chars::new(text))
 }
@@ -141,7 +125,8 @@ fn adding(left: &Value, right: &Value) -> Addition
 
 // The sum of two values.
 fn sum(alloc: Global, left: Operand<'_>, right: Operand<'_>) -> Result<Value, Stop>
-    ensures { Gives (spec.sum_of (operand_tree left.entry) (operand_tree right.entry)) result }
+    ensures gives { Gives (spec.sum_of (operand_tree left.entry) (operand_tree right.entry)) result }
+    ensures small { IsTrue (is_small (spec.sum_of (operand_tree left.entry) (operand_tree right.entry))) → IsOk result }
 {
     match adding(left.value(), right.value()) {
         Addition::Number(number) => Ok(Value::Int(number)),
@@ -176,7 +161,8 @@ fn joined(alloc: Global, left: Operand<'_>, right: &Value) -> Result<Value, Memo
 
 // The difference of two whole numbers, which wraps at 64 bits.
 fn difference(alloc: Global, left: &Value, right: &Value) -> Result<Value, Stop>
-    ensures { Gives (spec.difference_of (tree_of left.now) (tree_of right.now)) result }
+    ensures gives { Gives (spec.difference_of (tree_of left.now) (tree_of right.now)) result }
+    ensures small { IsTrue (is_small (spec.difference_of (tree_of left.now) (tree_of right.now))) → IsOk result }
 {
     match (left, right) {
         (Value::Int(first), Value::Int(second)) => Ok(Value::Int(first.wrapping_sub(*second))),
@@ -186,7 +172,8 @@ fn difference(alloc: Global, left: &Value, right: &Value) -> Result<Value, Stop>
 
 // The product of two whole numbers, which wraps at 64 bits.
 fn product(alloc: Global, left: &Value, right: &Value) -> Result<Value, Stop>
-    ensures { Gives (spec.product_of (tree_of left.now) (tree_of right.now)) result }
+    ensures gives { Gives (spec.product_of (tree_of left.now) (tree_of right.now)) result }
+    ensures small { IsTrue (is_small (spec.product_of (tree_of left.now) (tree_of right.now))) → IsOk result }
 {
     match (left, right) {
         (Value::Int(first), Value::Int(second)) => Ok(Value::Int(first.wrapping_mul(*second))),
@@ -196,7 +183,8 @@ fn product(alloc: Global, left: &Value, right: &Value) -> Result<Value, Stop>
 
 // What `<` and its like say of two whole numbers, two texts or two timestamps.
 fn compare(alloc: Global, op: Op, left: &Value, right: &Value) -> Result<Value, Stop>
-    ensures { Gives (spec.comparison_of op (tree_of left.now) (tree_of right.now)) result }
+    ensures gives { Gives (spec.comparison_of op (tree_of left.now) (tree_of right.now)) result }
+    ensures small { IsTrue (is_small (spec.comparison_of op (tree_of left.now) (tree_of right.now))) → IsOk result }
 {
     match left.compare(right) {
         Some(ordering) => Ok(Value::Bool(holds(op, ordering))),
@@ -219,7 +207,8 @@ fn holds(op: Op, ordering: Ordering) -> bool
 
 // The fields of two objects; of a name that both have, the right one's value.
 fn merge(alloc: Global, left: Operand<'_>, right: Operand<'_>) -> Result<Value, Stop>
-    ensures { Gives (spec.merged (operand_tree left.entry) (operand_tree right.entry)) result }
+    ensures gives { Gives (spec.merged (operand_tree left.entry) (operand_tree right.entry)) result }
+    ensures small { IsTrue (is_small (spec.merged (operand_tree left.entry) (operand_tree right.entry))) → IsOk result }
 {
     match (left.value(), right.value()) {
         (Value::Object(_), Value::Object(_)) => {
@@ -301,14 +290,15 @@ pub fn is_true(value: &Value) -> bool
 fn truth_text(alloc: Global, tag: Tag) -> Result<Chars, Memory>
     ensures { IfOk result (λ text. text ≡ spec.truth_text tag) }
 {
-    let word = word(tag);
+    let word = tag.word();
     let text = format!(in alloc; "cannot apply && to {word}")?;
     Ok(Chars::new(text))
 }
 
 /// Whether a side of `&&` is true. `Error`: it is neither a boolean nor null.
 pub fn truth(alloc: Global, value: &Value) -> Result<bool, Stop>
-    ensures { GivesTruth (spec.truth_of (tree_of value.now)) result }
+    ensures gives { GivesTruth (spec.truth_of (tree_of value.now)) result }
+    ensures small { IsTrue (is_small (spec.truth_of (tree_of value.now))) → IsOk result }
 {
     match value {
         Value::Null => Ok(false),
@@ -319,7 +309,8 @@ pub fn truth(alloc: Global, value: &Value) -> Result<bool, Stop>
 
 /// The other boolean. `Error`: the value is no boolean.
 pub fn negated(alloc: Global, value: &Value) -> Result<Value, Stop>
-    ensures { Gives (spec.negated (tree_of value.now)) result }
+    ensures gives { Gives (spec.negated (tree_of value.now)) result }
+    ensures no_want { result ≢ Err Stop.Memory }
 {
     match value {
         Value::Bool(truth) => Ok(Value::Bool(!*truth)),

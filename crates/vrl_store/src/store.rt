@@ -4,7 +4,7 @@ ghost use Rattle.vrl_value.specs.Depth.{depth_of};
 ghost use Rattle.vrl_value.specs.Tree.{null, IsOrdered};
 ghost use Rattle.vrl_value.specs.View.{members_of, tree_of};
 ghost use Rattle.vrl_value.specs.declared.value.Value.TheVariants as value;
-ghost use Rattle.vrl_path.specs.Steps.{plain, IsPlain, IsWritable};
+ghost use Rattle.vrl_path.specs.Steps.{IsPlain, IsWritable};
 ghost use Rattle.vrl_path.specs.Trees.{remove_tree, set_tree};
 ghost use Rattle.vrl_path.specs.Write.{depth_limit};
 ghost use Rattle.vrl_syntax.specs.Stores.{store_of};
@@ -16,12 +16,10 @@ use crate::place::{Base, Place};
 use std::alloc::Global;
 use std::collections::BTreeMap;
 use vrl_path::{
-    Path, SetFault, exists, get, put, reads_are_look_ups, remove, set, set_trees_are_sets,
+    DEPTH_LIMIT, Path, SetFault, exists, get, put, reads_are_look_ups, remove, set,
+    set_trees_are_sets,
 };
 use vrl_value::{Fields, Memory, Names, Value};
-
-// The greatest depth of a value that a write may leave.
-const LIMIT: u64 = 128;
 
 /// The event and the variables of a run. A variable that isn't there has no value.
 #[derive(Drop)]
@@ -55,7 +53,7 @@ impl Store {
         for _ in 0..count {
             variables.push(None)?;
         }
-        let is_shallow = event.depth() <= LIMIT;
+        let is_shallow = event.depth() <= DEPTH_LIMIT;
         Ok(Store {
             event,
             is_shallow,
@@ -104,6 +102,7 @@ impl Store {
         requires base { IsKnown (count_of self.old) place.now.base }
         requires writable { IsWritable place.now.path }
         ensures written { (names : Names) → AreNames names self.old → IsWritten (root_of names place.now.base) place.now.path (tree_of value) (store_in names self.old) (store_in names self.new) result }
+        ensures want { result ≡ Err SetFault.Memory → (names : Names) → AreNames names self.old → IsTrue (spec.is_within (spec.root_with (root_of names place.now.base) place.now.path (tree_of value) (store_in names self.old))) }
         ensures front { IsFront (present_of self.old) (present_of self.new) }
         ensures as_many { count_of self.new ≡ count_of self.old }
     {
@@ -128,6 +127,7 @@ impl Store {
         requires known { number < length self.old.variables.items }
         requires writable { IsWritable path.now }
         ensures written { (names : Names) → AreNames names self.old → IsWritten (root_of names (Base.Variable number)) path.now (tree_of value) (store_in names self.old) (store_in names self.new) result }
+        ensures want { result ≡ Err SetFault.Memory → (names : Names) → AreNames names self.old → IsTrue (spec.is_within (spec.root_with (root_of names (Base.Variable number)) path.now (tree_of value) (store_in names self.old))) }
         ensures front { IsFront self.old.present.items self.new.present.items }
         ensures as_many { length self.new.variables.items ≡ length self.old.variables.items }
     {
@@ -149,6 +149,7 @@ impl Store {
         requires absent { is_numbered (trees_of self.old.variables.items) number ≡ false }
         requires writable { IsWritable path.now }
         ensures written { (names : Names) → AreNames names self.old → IsWritten (root_of names (Base.Variable number)) path.now (tree_of value) (store_in names self.old) (store_in names self.new) result }
+        ensures want { result ≡ Err SetFault.Memory → (names : Names) → AreNames names self.old → IsTrue (spec.is_within (spec.root_with (root_of names (Base.Variable number)) path.now (tree_of value) (store_in names self.old))) }
         ensures front { IsFront self.old.present.items self.new.present.items }
         ensures as_many { length self.new.variables.items ≡ length self.old.variables.items }
     {
@@ -301,9 +302,10 @@ fn set_in(
 ) -> Result<(), SetFault>
     requires writable { IsWritable path.now }
     requires shallow { IsTrue is_shallow → IsShallow (tree_of root.old) }
-    ensures ok { OnOk result (tree_of root.new ≡ set_tree (tree_of root.old) (plain path.now) (tree_of value)) }
+    ensures ok { OnOk result (tree_of root.new ≡ set_tree (tree_of root.old) path.now (tree_of value)) }
     ensures within { OnOk result (IsShallow (tree_of root.new)) }
-    ensures deep { result ≡ Err SetFault.TooDeep → depth_limit < depth_of (set_tree (tree_of root.old) (plain path.now) (tree_of value)) }
+    ensures deep { result ≡ Err SetFault.TooDeep → depth_limit < depth_of (set_tree (tree_of root.old) path.now (tree_of value)) }
+    ensures want { result ≡ Err SetFault.Memory → IsShallow (set_tree (tree_of root.old) path.now (tree_of value)) }
     ensures err { OnErr result (tree_of root.new ≡ tree_of root.old) }
 {
     set_trees_are_sets();
@@ -322,7 +324,7 @@ fn take_from(value: &mut Value, path: &Path) -> Value
     requires part { 0 < length path.now }
     requires plain { IsPlain path.now }
     ensures value { tree_of result ≡ spec.part_of (tree_of value.old) path.now }
-    ensures rest { tree_of value.new ≡ remove_tree (tree_of value.old) (plain path.now) }
+    ensures rest { tree_of value.new ≡ remove_tree (tree_of value.old) path.now }
 {
     reads_are_look_ups();
     match remove(value, path) {
@@ -334,9 +336,10 @@ fn take_from(value: &mut Value, path: &Path) -> Value
 // Null with a value at a path.
 fn set_null(alloc: Global, path: &Path, value: Value) -> Result<Value, SetFault>
     requires { IsWritable path.now }
-    ensures ok { IfOk result (λ root. tree_of root ≡ set_tree null (plain path.now) (tree_of value)) }
+    ensures ok { IfOk result (λ root. tree_of root ≡ set_tree null path.now (tree_of value)) }
     ensures within { IfOk result (λ root. IsShallow (tree_of root)) }
-    ensures deep { result ≡ Err SetFault.TooDeep → depth_limit < depth_of (set_tree null (plain path.now) (tree_of value)) }
+    ensures deep { result ≡ Err SetFault.TooDeep → depth_limit < depth_of (set_tree null path.now (tree_of value)) }
+    ensures want { result ≡ Err SetFault.Memory → IsShallow (set_tree null path.now (tree_of value)) }
 {
     let mut root = Value::Null;
     set_in(alloc, &mut root, true, path, value)?;
@@ -349,5 +352,5 @@ fn is_too_deep(path: &Path, value: &Value) -> bool
 {
     let depth = value.depth();
     let length = path.as_slice().len() as u64;
-    depth > LIMIT || length > LIMIT - depth
+    depth > DEPTH_LIMIT || length > DEPTH_LIMIT - depth
 }

@@ -1,7 +1,7 @@
 use Rattle.std.proofs.Common.{◌≡◌, get_or, set, Some, None, rules, ap, ◌∙◌}
 use Rattle.vrl_value.specs.View.{tree_of}
 use Rattle.vrl_store.specs.Kept.{is_numbered, trees_of, IsShallow}
-use Rattle.vrl_store.proofs.Written.{kept_there, numbered_at, set_same, shallow_at, shallow_written, written_in}
+use Rattle.vrl_store.proofs.Written.{kept_there, numbered_at, set_same, shallow_at, shallow_written, within_there, written_in}
 use Rattle.vrl_store.proofs.store.Store.write_variable.Goals as goal
 
 pub set_in-requires-clause-shallow : goal.set_in-requires-clause-shallow
@@ -23,6 +23,12 @@ returns-in-Some-clause-written c = λ names are.
     let is : Some c.in-Some.variable ≡ get_or s.variables.items c.args.number (Some c.in-Some.variable) = search rules in
     written_in names s c.args.number c.args.path.now (tree_of c.args.value) c.in-Some.variable c.set_in.new.root c.set_in.result are c.requires.known is
     c.set_in.ensures.ok c.set_in.ensures.within c.set_in.ensures.deep c.set_in.ensures.err
+
+pub returns-in-Some-clause-want : goal.returns-in-Some-clause-want
+returns-in-Some-clause-want c = λ want names are.
+    let s = c.args.self.now in
+    let is : Some c.in-Some.variable ≡ get_or s.variables.items c.args.number (Some c.in-Some.variable) = search rules in
+    within_there names s c.args.number c.args.path.now (tree_of c.args.value) (Some c.in-Some.variable) are c.requires.known is (c.set_in.ensures.want want)
 
 pub invariant_of-self : goal.invariant_of-self
 invariant_of-self c =
