@@ -8,7 +8,8 @@ use Rattle.vrl_token.specs.declared.token.Token.{Token}
 use Rattle.vrl_token.specs.declared.nesting.Stretches.{Stretches}
 use Rattle.vrl_token.specs.declared.nesting.Tally.{Tally}
 use Rattle.vrl_token.specs.Depths.{AreCounts, IsTally, held, levels_of, numbers_of}
-use Rattle.vrl_token.specs.Nesting.{closes, count_in, is_counted, is_innermost, opens, parts, stretches_behind, stretches_from, with_innermost, without_innermost}
+use Rattle.vrl_token.specs.Brackets.{closes}
+use Rattle.vrl_token.specs.Nesting.{count_in, is_counted, is_innermost, opens, parts, stretches_behind, stretches_from, with_innermost, without_innermost}
 
 -- no stretch begins behind the place
 abbrev BeginBy : ℕ → List ℕ → Type 0

@@ -5,11 +5,11 @@ use Rattle.vrl_value.specs.Laws.{MomentsReadBack}
 use Rattle.vrl_token.specs.declared.piece.Piece.{Piece}
 use Rattle.vrl_token.specs.declared.piece.Lexeme.{Lexeme}
 use Rattle.vrl_token.specs.declared.token.Spanned.{Spanned}
-use Rattle.vrl_token.specs.Brackets.{told}
+use Rattle.vrl_token.specs.Brackets.{tokens_from}
 use Rattle.vrl_token.specs.Division.{IsDivision, IsFirstFault, Leads, kept, pieces_behind, span_between}
 use Rattle.vrl_token.specs.Laws.{TokensAreDetermined}
 use Rattle.vrl_token.specs.Nesting.{IsTooDeep}
-use Rattle.vrl_token.specs.Reading.{HasTokens, IsTokenized, IsWrong, backwards}
+use Rattle.vrl_token.specs.Reading.{HasTokens, IsTokenized, IsTextFault, backwards}
 use Rattle.vrl_token.proofs.Only.{Outcome, fault, finish, piece}
 use Rattle.vrl_token.proofs.Begun.{Reads, one_start}
 
@@ -100,17 +100,17 @@ one_first_fault law text d e one two =
 -- ---- tokens
 
 one_list : MomentsReadBack → (text : List ℕ) (a b : List Spanned) → HasTokens text a → HasTokens text b → a ≡ b
-one_list law text a b one two = one.tells ∙ ap (λ ps. told [] (kept ps)) (one_division law text one.pieces two.pieces one.division two.division) ∙ sym two.tells
+one_list law text a b one two = one.tells ∙ ap (λ ps. tokens_from [] (kept ps)) (one_division law text one.pieces two.pieces one.division two.division) ∙ sym two.tells
 
-not_both : MomentsReadBack → (text : List ℕ) (tokens : List Spanned) (d : Diagnostic) → IsTokenized text tokens → ¬ IsWrong text d
+not_both : MomentsReadBack → (text : List ℕ) (tokens : List Spanned) (d : Diagnostic) → IsTokenized text tokens → ¬ IsTextFault text d
 not_both law text tokens d is (inl fault_is) = no_fault law text is.has.pieces d is.has.division fault_is
 not_both law text tokens d is (inr nested) = is.limits (subst (λ ts. IsTooDeep (backwards ts)) (one_list law text nested.tokens tokens nested.has is.has) nested.deep)
 
-one_fault : MomentsReadBack → (text : List ℕ) (a b : Diagnostic) → IsWrong text a → IsWrong text b → a ≡ b
+one_fault : MomentsReadBack → (text : List ℕ) (a b : Diagnostic) → IsTextFault text a → IsTextFault text b → a ≡ b
 one_fault law text a b (inl one) (inl two) = one_first_fault law text a b one two
 one_fault law text a b (inl one) (inr two) = absurd (no_fault law text two.has.pieces a two.has.division one)
 one_fault law text a b (inr one) (inl two) = absurd (no_fault law text one.has.pieces b one.has.division two)
-one_fault law text a b (inr one) (inr two) = one.told ∙ sym two.told
+one_fault law text a b (inr one) (inr two) = one.fault_is ∙ sym two.fault_is
 
 pub tokens_determined : MomentsReadBack → TokensAreDetermined
 tokens_determined law = record { one_list = λ text a b one two. one_list law text a b one.has two.has; not_both = not_both law; one_fault = one_fault law }

@@ -13,7 +13,7 @@ use Rattle.vrl_token.specs.Paths.{HasFlaw, Segment}
 use Rattle.vrl_token.specs.Placing.{IsWithin}
 use Rattle.vrl_token.proofs.Ends.{is_no_longer}
 use Rattle.vrl_token.proofs.Taking.{fault_end}
-use Rattle.vrl_token.specs.Reading.{IsTokenized, IsWrong, lexical_codes}
+use Rattle.vrl_token.specs.Reading.{IsTokenized, IsTextFault, lexical_codes}
 
 is_203 : {code : ℕ} → code ≡ 203 → Contains spelling_codes code
 is_203 is = (0, omega arith, sym is)
@@ -58,20 +58,20 @@ spelling_is_lexical : {code : ℕ} → Contains spelling_codes code → Contains
 spelling_is_lexical is = (suc is.0, let below = is.1 in omega arith, is.2)
 
 -- what is wrong with a text has a code of the lexical rules
-pub wrong_code : (text : List ℕ) (d : Diagnostic) → IsWrong text d → Contains lexical_codes d.code
+pub wrong_code : (text : List ℕ) (d : Diagnostic) → IsTextFault text d → Contains lexical_codes d.code
 wrong_code text d (inl first) = spelling_is_lexical (fault_code first.is_fault)
-wrong_code text d (inr nested) = (0, omega arith, sym (ap (λ x. x.code) nested.told))
+wrong_code text d (inr nested) = (0, omega arith, sym (ap (λ x. x.code) nested.fault_is))
 
 -- and stands in the text
-pub wrong_within : (text : List ℕ) (d : Diagnostic) → IsWrong text d → IsWithin (length text) d.span
+pub wrong_within : (text : List ℕ) (d : Diagnostic) → IsTextFault text d → IsWithin (length text) d.span
 wrong_within text d (inl first) =
     let shorter : length first.rest ≤ length first.place = is_no_longer (fault_end first.is_fault) in
     let start : d.span.start ≡ length text - length first.place = ap (λ s. s.start) first.span in
     let stop : d.span.«end» ≡ length text - length first.rest = ap (λ s. s.«end») first.span in
     (omega arith, omega arith)
 wrong_within text d (inr nested) =
-    let start : d.span.start ≡ 0 = ap (λ x. x.span.start) nested.told in
-    let stop : d.span.«end» ≡ 0 = ap (λ x. x.span.«end») nested.told in
+    let start : d.span.start ≡ 0 = ap (λ x. x.span.start) nested.fault_is in
+    let stop : d.span.«end» ≡ 0 = ap (λ x. x.span.«end») nested.fault_is in
     (omega arith, omega arith)
 
 -- the first fault of a text, which has then no tokens

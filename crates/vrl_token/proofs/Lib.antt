@@ -13,6 +13,7 @@ mod Nestings
 mod Only
 mod OpenBrackets
 mod Outcomes
+mod PathCuts
 mod Placed
 mod Quotes
 mod Readied

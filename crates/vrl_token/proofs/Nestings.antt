@@ -8,7 +8,8 @@ use Rattle.vrl_token.specs.declared.nesting.Place.{Place}
 use Rattle.vrl_token.specs.declared.token.Spanned.{Spanned}
 use Rattle.vrl_token.specs.declared.token.Token.{Token}
 use Rattle.vrl_token.specs.Depths.{AreCounts, IsPlace, behind_first, first_of, held, nesting_behind, nesting_inside, nestings_of}
-use Rattle.vrl_token.specs.Nesting.{IsDeepAt, IsTooDeep, closes, count_in, nesting_in, opens, parts, stretches_behind, stretches_from, with_innermost, without_innermost}
+use Rattle.vrl_token.specs.Brackets.{closes}
+use Rattle.vrl_token.specs.Nesting.{IsDeepAt, IsTooDeep, count_in, nesting_in, opens, parts, stretches_behind, stretches_from, with_innermost, without_innermost}
 use Rattle.vrl_token.specs.Reading.{backwards}
 
 held_nesting : (m c n : ℕ) → min (c + (1 + n)) m ≡ min (min (min n m + 1) m + min c m) m

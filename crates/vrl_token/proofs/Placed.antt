@@ -8,7 +8,7 @@ use Rattle.vrl_token.specs.declared.piece.Piece.{Piece}
 use Rattle.vrl_token.specs.declared.piece.Lexeme.{Lexeme}
 use Rattle.vrl_token.specs.declared.token.Spanned.{Spanned}
 use Rattle.vrl_token.specs.declared.token.Token.{Token}
-use Rattle.vrl_token.specs.Brackets.{told, token_of, with_spanned, with_token}
+use Rattle.vrl_token.specs.Brackets.{tokens_from, token_of, with_spanned, with_token}
 use Rattle.vrl_token.specs.Division.{Leads, is_kept, kept, span_between}
 use Rattle.vrl_token.specs.Placing.{InOrderFrom, IsOnCharacters, spans_of}
 use Rattle.vrl_token.specs.Reading.{HasTokens}
@@ -49,11 +49,11 @@ with_in_order : (o : Option Token) (s : Span) (start stop : ℕ) (ts : List Span
 with_in_order None s start stop ts first some more = from_before start s.«end» stop (spans_of ts) (omega arith) more
 with_in_order (Some t) s start stop ts first some more = (first, some, more)
 
-told_in_order : (start stop : ℕ) (before : List Token) (ps : List Lexeme) → InOrderFrom start stop (pieces_at ps) → InOrderFrom start stop (spans_of (told before ps))
+told_in_order : (start stop : ℕ) (before : List Token) (ps : List Lexeme) → InOrderFrom start stop (pieces_at ps) → InOrderFrom start stop (spans_of (tokens_from before ps))
 told_in_order start stop before [] is = is
 told_in_order start stop before (p ∷ ps) is =
     let token = token_of before p.piece ps in
-    with_in_order token p.span start stop (told (with_token token before) ps) is.0 is.1 (told_in_order p.span.«end» stop (with_token token before) ps is.2)
+    with_in_order token p.span start stop (tokens_from (with_token token before) ps) is.0 is.1 (told_in_order p.span.«end» stop (with_token token before) ps is.2)
 
 -- the tokens of a text stand in it in order
 pub tokens_in_order : (text : List ℕ) (tokens : List Spanned) → HasTokens text tokens → InOrderFrom 0 (length text) (spans_of tokens)
@@ -85,12 +85,12 @@ with_on_characters : (text : List ℕ) (o : Option Token) (s : Span) (ts : List 
 with_on_characters text None s ts on more = more
 with_on_characters text (Some t) s ts on more = (on, more)
 
-told_on_characters : (text : List ℕ) (before : List Token) (ps : List Lexeme) → AreOnCharacters text ps → AllByRecursion (λ t. IsOnCharacters text t.span) (told before ps)
+told_on_characters : (text : List ℕ) (before : List Token) (ps : List Lexeme) → AreOnCharacters text ps → AllByRecursion (λ t. IsOnCharacters text t.span) (tokens_from before ps)
 told_on_characters text before [] on = tt
 told_on_characters text before (p ∷ ps) on =
     let token = token_of before p.piece ps in
-    with_on_characters text token p.span (told (with_token token before) ps) on.0 (told_on_characters text (with_token token before) ps on.1)
+    with_on_characters text token p.span (tokens_from (with_token token before) ps) on.0 (told_on_characters text (with_token token before) ps on.1)
 
 -- tokens stand on characters where their pieces do
-pub tokens_on_characters : (text : List ℕ) (tokens : List Spanned) (ps : List Lexeme) → tokens ≡ told [] ps → AreOnCharacters text ps → All (λ t. IsOnCharacters text t.span) tokens
+pub tokens_on_characters : (text : List ℕ) (tokens : List Spanned) (ps : List Lexeme) → tokens ≡ tokens_from [] ps → AreOnCharacters text ps → All (λ t. IsOnCharacters text t.span) tokens
 tokens_on_characters text tokens ps tells on = All-from_recursion (λ t. IsOnCharacters text t.span) tokens (subst (AllByRecursion (λ t. IsOnCharacters text t.span)) (sym tells) (told_on_characters text [] ps on))

@@ -10,7 +10,7 @@ use Rattle.vrl_token.specs.declared.piece.Lexeme.{Lexeme}
 use Rattle.vrl_token.specs.declared.token.Spanned.{Spanned}
 use Rattle.vrl_token.specs.declared.token.Token.{Token}
 use Rattle.vrl_token.specs.declared.token.Token.TheVariants as token
-use Rattle.vrl_token.specs.Brackets.{begins_object, arrow_before, block_follows, is_bars, newline_parts, open_behind, told, token_of, with_spanned, with_token}
+use Rattle.vrl_token.specs.Brackets.{begins_object, arrow_before, block_follows, is_bars, newline_parts, open_behind, tokens_from, token_of, with_spanned, with_token}
 use Rattle.vrl_token.specs.Division.{Leads, is_kept, kept}
 use Rattle.vrl_token.specs.Paths.{HasSteps, Segment}
 use Rattle.vrl_token.specs.Pieces.{Begins}
@@ -80,11 +80,11 @@ with_steps : (o : Option Token) (s : Span) (ts : List Spanned) → OnToken o →
 with_steps None s ts is more = more
 with_steps (Some t) s ts is more = (is, more)
 
-told_have_steps : (before : List Token) (ps : List Lexeme) → HaveSteps ps → AllByRecursion (λ t. HasStep t.token) (told before ps)
+told_have_steps : (before : List Token) (ps : List Lexeme) → HaveSteps ps → AllByRecursion (λ t. HasStep t.token) (tokens_from before ps)
 told_have_steps before [] is = tt
 told_have_steps before (p ∷ ps) is =
     let token = token_of before p.piece ps in
-    with_steps token p.span (told (with_token token before) ps) (told_token_has_step before p.piece ps is.0) (told_have_steps (with_token token before) ps is.1)
+    with_steps token p.span (tokens_from (with_token token before) ps) (told_token_has_step before p.piece ps is.0) (told_have_steps (with_token token before) ps is.1)
 
 -- each path of the tokens of a text behind a name or an operand has a step
 pub tokens_have_steps : (text : List ℕ) (tokens : List Spanned) → HasTokens text tokens → All (λ t. HasStep t.token) tokens

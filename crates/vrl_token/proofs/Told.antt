@@ -5,7 +5,7 @@ use Rattle.vrl_token.specs.declared.before.Before.{Before}
 use Rattle.vrl_token.specs.declared.piece.Lexeme.{Lexeme}
 use Rattle.vrl_token.specs.declared.token.Spanned.{Spanned}
 use Rattle.vrl_token.specs.declared.token.Token.{Token}
-use Rattle.vrl_token.specs.Brackets.{told, token_of, with_spanned, with_token}
+use Rattle.vrl_token.specs.Brackets.{tokens_from, token_of, with_spanned, with_token}
 use Rattle.vrl_token.specs.Telling.{AreReady, IsAhead, IsBefore}
 use Rattle.vrl_token.proofs.Readied.{reverse-snoc}
 
@@ -15,7 +15,7 @@ pub record IsToldSoFar (all : List Lexeme) (left : List Ready) (tokens : List Sp
   pub rest : List Lexeme
   pub are_ready : AreReady (reverse left) rest
   pub is_before : IsBefore names before
-  pub tells : told [] all ≡ tokens ++ told names rest
+  pub tells : tokens_from [] all ≡ tokens ++ tokens_from names rest
 
 pub told_none : {all : List Lexeme} {left : List Ready} {before : Before} → AreReady (reverse left) all → IsBefore [] before → IsToldSoFar all left [] before
 told_none {all} ready is = record { names = []; rest = all; are_ready = ready; is_before = is; tells = refl }
@@ -44,7 +44,7 @@ told_skip {all} {left} {front} {tokens} {before} r so_far popped says =
       rest = n.behind;
       are_ready = n.are_ready;
       is_before = so_far.is_before;
-      tells = so_far.tells ∙ ap (λ ps. tokens ++ told so_far.names ps) n.is ∙ ap (λ o. tokens ++ with_spanned o r.lexeme.span (told (with_token o so_far.names) n.behind)) (sym none);
+      tells = so_far.tells ∙ ap (λ ps. tokens ++ tokens_from so_far.names ps) n.is ∙ ap (λ o. tokens ++ with_spanned o r.lexeme.span (tokens_from (with_token o so_far.names) n.behind)) (sym none);
     }
 
 pub told_more : {all : List Lexeme} {left front : List Ready} {tokens more : List Spanned} {before new : Before} (r : Ready) (t : Token) (so_far : IsToldSoFar all left tokens before) → left ≡ front ++ r ∷ []
@@ -58,6 +58,6 @@ told_more {all} {left} {front} {tokens} {more} {before} {new} r t so_far popped 
       rest = n.behind;
       are_ready = n.are_ready;
       is_before = adds so_far.names so_far.is_before;
-      tells = so_far.tells ∙ ap (λ ps. tokens ++ told so_far.names ps) n.is ∙ ap (λ o. tokens ++ with_spanned o r.lexeme.span (told (with_token o so_far.names) n.behind)) (sym some)
-          ∙ sym (ap (λ ts. ts ++ told (t ∷ so_far.names) n.behind) pushed ∙ append_assoc tokens (record { token = t; span = r.lexeme.span } ∷ []) (told (t ∷ so_far.names) n.behind));
+      tells = so_far.tells ∙ ap (λ ps. tokens ++ tokens_from so_far.names ps) n.is ∙ ap (λ o. tokens ++ with_spanned o r.lexeme.span (tokens_from (with_token o so_far.names) n.behind)) (sym some)
+          ∙ sym (ap (λ ts. ts ++ tokens_from (t ∷ so_far.names) n.behind) pushed ∙ append_assoc tokens (record { token = t; span = r.lexeme.span } ∷ []) (tokens_from (t ∷ so_far.names) n.behind));
     }

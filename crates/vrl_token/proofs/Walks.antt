@@ -1,14 +1,14 @@
 -- Segments read one behind another.
-use Rattle.std.proofs.Common.{◌≡◌, ◌≢◌, ℕ, Option, Some, None, MatchOption, List, [], ◌∷◌, ◌++◌, length, inl, inr, refl, sym, ap, ◌∙◌, subst, append_assoc, arith}
+use Rattle.std.proofs.Common.{◌≡◌, ◌≢◌, ℕ, Option, Some, None, MatchOption, option_map, List, [], ◌∷◌, ◌++◌, length, inl, inr, refl, sym, ap, ◌∙◌, subst, append_assoc, arith}
 use Rattle.std.proofs.lemmas.List.{append-nil}
 use Rattle.std.specs.List.{AllByRecursion}
 use Rattle.vrl_path.specs.declared.path.Step.{Step}
 use Rattle.vrl_token.specs.declared.path.Gathering.{Gathering}
 use Rattle.vrl_token.specs.declared.segment.Flaw.{Flaw}
 use Rattle.vrl_token.specs.declared.segment.Flaw.TheVariants.{Escape, Range}
-use Rattle.vrl_token.specs.Gathering.{IsFlawOfAll, IsGathered, Keeps}
+use Rattle.vrl_token.specs.Gathering.{code_of, IsFlawOfAll, IsGathered, Keeps}
 use Rattle.vrl_token.specs.Segments.{IsFlawOf}
-use Rattle.vrl_token.specs.Paths.{BeginsDotted, HasSteps, IsInRange, IsReadable, IsSegment, Segment, Segments, dotted, field, index, minus_text, quoted, step_of, steps_of, undotted}
+use Rattle.vrl_token.specs.Paths.{BeginsDotted, HasFlaw, HasSteps, IsInRange, IsReadable, IsSegment, Segment, Segments, dotted, field, index, minus_text, quoted, step_of, steps_of, undotted}
 use Rattle.vrl_token.specs.Characters.{spelling_of}
 use Rattle.vrl_token.specs.Words.{IsNonempty, NoSegment}
 use Rattle.vrl_token.proofs.Ends.{EndsWith, Takes, ends_on, is_end, is_no_longer, is_shorter, first_byte, front_of, same_end, takes_on}
@@ -49,6 +49,12 @@ more_steps {ss} {steps} {step} s has is = record {
   in_range = all-append IsInRange ss (s ∷ []) has.in_range (is.1, tt);
   gives = ap (λ t. t ++ step ∷ []) has.gives ∙ ap (λ t. steps_of ss ++ t ∷ []) is.2 ∙ sym (steps_of-append ss s);
 }
+
+-- what is wrong with segments, told by its code
+pub coded : (segments : List Segment) (steps : List Step) (flaw : Option Flaw) → MatchOption flaw (HasSteps segments steps) (IsFlawOfAll segments) → MatchOption (option_map code_of flaw) (HasSteps segments steps) (HasFlaw segments)
+coded segments steps None is = is
+coded segments steps (Some Escape) is = is
+coded segments steps (Some Range) is = is
 
 -- what was wrong stays wrong, a segment with an unknown escape apart
 pub flaw_stays : (ss : List Segment) (s : Segment) (flaw : Flaw) → IsFlawOfAll ss flaw → IsReadable s → IsFlawOfAll (ss ++ s ∷ []) flaw

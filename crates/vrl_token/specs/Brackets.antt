@@ -25,18 +25,32 @@ abbrev pub block_behind : List Token → Bracket
 block_behind (token.CloseBars ∷ ts) = bracket.Body
 block_behind _ = bracket.Block
 
+-- the bracket that a token opens, from the tokens before it
+abbrev pub opened : Token → List Token → Option Bracket
+opened token.OpenParenthesis before = Some bracket.Parenthesis
+opened token.OpenBracket before = Some bracket.Square
+opened token.OpenObject before = Some bracket.Object
+opened token.OpenBars before = Some bracket.Bars
+opened token.OpenBlock before = Some (block_behind before)
+opened _ before = None
+
+-- the token closes the innermost open bracket
+abbrev pub closes : Token → Bool
+closes token.CloseParenthesis = true
+closes token.CloseBracket = true
+closes token.CloseBrace = true
+closes token.CloseBars = true
+closes _ = false
+
+-- the open brackets behind a token that opens this one, or else may close one
+abbrev pub with_bracket : Option Bracket → Bool → List Bracket → List Bracket
+with_bracket (Some b) ends around = b ∷ around
+with_bracket None true around = closed around
+with_bracket None false around = around
+
 -- the open brackets behind a token, from those before it
 abbrev pub brackets_behind : Token → List Token → List Bracket → List Bracket
-brackets_behind token.OpenParenthesis before around = bracket.Parenthesis ∷ around
-brackets_behind token.OpenBracket before around = bracket.Square ∷ around
-brackets_behind token.OpenObject before around = bracket.Object ∷ around
-brackets_behind token.OpenBars before around = bracket.Bars ∷ around
-brackets_behind token.OpenBlock before around = block_behind before ∷ around
-brackets_behind token.CloseParenthesis before around = closed around
-brackets_behind token.CloseBracket before around = closed around
-brackets_behind token.CloseBrace before around = closed around
-brackets_behind token.CloseBars before around = closed around
-brackets_behind _ before around = around
+brackets_behind t before around = with_bracket (opened t before) (closes t) around
 
 -- the brackets that are open behind these tokens, the innermost first
 abbrev pub open_behind : List Token → List Bracket
@@ -182,6 +196,6 @@ with_spanned None span ts = ts
 with_spanned (Some t) span ts = record { token = t; span = span } ∷ ts
 
 -- the tokens that pieces are behind these tokens
-abbrev pub told : List Token → List Lexeme → List Spanned
-told before [] = []
-told before (p ∷ ps) = with_spanned (token_of before p.piece ps) p.span (told (with_token (token_of before p.piece ps) before) ps)
+abbrev pub tokens_from : List Token → List Lexeme → List Spanned
+tokens_from before [] = []
+tokens_from before (p ∷ ps) = with_spanned (token_of before p.piece ps) p.span (tokens_from (with_token (token_of before p.piece ps) before) ps)

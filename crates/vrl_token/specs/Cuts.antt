@@ -1,5 +1,6 @@
 -- Words of the code for cutting off one piece; the pieces are those of `Pieces`, and the faults those of `Faults`.
-use Rattle.std.specs.Prelude.{◌≡◌, ◌≢◌, ℕ, ◌-◌, ◌<◌, ◌⊎◌, true, List, ◌∷◌, length, codes}
+use Rattle.std.specs.Prelude.{◌≡◌, ◌≢◌, ℕ, ◌-◌, ◌<◌, ◌⊎◌, true, List, ◌∷◌, length, codes, Option, MatchOption}
+use denote.Ref.{Bor}
 use Rattle.vrl_token.specs.declared.context.Context.{Context}
 use Rattle.vrl_token.specs.declared.cut.Cut.{Cut}
 use Rattle.vrl_token.specs.declared.cut.Cut.TheVariants as cut
@@ -23,6 +24,10 @@ pub record FaultsBefore (before : List Piece) (text : List ℕ) (code left : ℕ
 abbrev pub IsCutOf : List Piece → List ℕ → Cut → Type 0
 IsCutOf before text (cut.Piece piece rest) = Begins before piece text rest.now
 IsCutOf before text (cut.Fault code left) = FaultsBefore before text code left
+
+-- the cut is the token before a rest, or where something is wrong with its path the fault
+abbrev pub IsPathCut : Token → Option ℕ → Bor (List ℕ) → Cut → Type 0
+IsPathCut t fault rest c = MatchOption fault (c ≡ cut.Piece (Word t) rest) (λ code. c ≡ cut.Fault code (length rest.now))
 
 -- what the pieces before a place say
 pub record IsContext (before : List Piece) (context : Context) : Type 0 where

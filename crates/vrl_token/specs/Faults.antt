@@ -1,6 +1,7 @@
 -- What can be wrong with the text at a place, and how far the spelling at fault goes.
-use Rattle.std.specs.Prelude.{◌≡◌, ℕ, ◌≤◌, ◌⊎◌, ℤ, Bool, true, List, [], ◌∷◌}
+use Rattle.std.specs.Prelude.{◌≡◌, ℕ, ◌≤◌, ◌⊎◌, ℤ, Bool, true, IsTrue, List, [], ◌∷◌}
 use Rattle.std.specs.List.{AllByRecursion}
+use Rattle.vrl_diag.specs.Rendering.{is_continuation}
 use Rattle.vrl_value.specs.Rfc3339.{IsReading}
 use Rattle.vrl_token.specs.declared.piece.Piece.{Piece}
 use Rattle.vrl_token.specs.Lexical.{BeginsInside, BeginsOutside, IsBlank, IsDigit, IsLongestRun, IsNameStart}
@@ -24,9 +25,9 @@ abbrev pub IsStray : List ℕ → Type 0
 IsStray [] = ⊥
 IsStray (b ∷ bs) = (¬ IsStart b) ⊎ ((b ≡ 63) × BeginsWithout 63 bs) ⊎ ((b ≡ 38) × BeginsWithout 38 bs)
 
--- a byte that goes on with a character of several bytes (RFC 3629)
+-- a byte that goes on with a character of several bytes
 abbrev pub IsContinuation : ℕ → Type 0
-IsContinuation b = (128 ≤ b) × (b ≤ 191)
+IsContinuation b = IsTrue (is_continuation b)
 
 -- the rest behind the first character of a text
 pub record IsBehindCharacter (text rest : List ℕ) : Type 0 where

@@ -1,9 +1,14 @@
 -- Words of the code for gathering the steps of a path; its segments are those of `Paths`.
-use Rattle.std.specs.Prelude.{◌≡◌, List, Option, Some, None, MatchOption}
+use Rattle.std.specs.Prelude.{◌≡◌, ℕ, List, Option, Some, None, MatchOption}
 use Rattle.vrl_token.specs.declared.path.Gathering.{Gathering}
 use Rattle.vrl_token.specs.declared.segment.Flaw.{Flaw}
 use Rattle.vrl_token.specs.declared.segment.Flaw.TheVariants.{Escape, Range}
 use Rattle.vrl_token.specs.Paths.{HasFlaw, HasSteps, Segment}
+
+-- the code that tells a flaw
+abbrev pub code_of : Flaw → ℕ
+code_of Escape = 203
+code_of Range = 1002
 
 -- what is wrong with segments
 abbrev pub IsFlawOfAll : List Segment → Flaw → Type 0

@@ -2,7 +2,8 @@
 use Rattle.std.specs.Prelude.{◌≡◌, ℕ, ◌+◌, ◌<◌, ◌==◌, ◌⊎◌, Bool, true, false, ◌&&◌, if◌then◌else◌, List, [], ◌∷◌, ◌++◌, length}
 use Rattle.vrl_token.specs.declared.token.Token.{Token}
 use Rattle.vrl_token.specs.declared.token.Token.TheVariants as token
-use Rattle.vrl_token.specs.Brackets.{bodies_in, open_behind}
+use Rattle.std.specs.Option.{is_some}
+use Rattle.vrl_token.specs.Brackets.{bodies_in, closes, open_behind, opened}
 
 -- the token takes a level of the syntax tree
 abbrev pub is_counted : Token → Bool
@@ -38,22 +39,9 @@ abbrev pub with_innermost : ℕ → List ℕ → List ℕ
 with_innermost n [] = []
 with_innermost n (s ∷ rs) = n ∷ rs
 
--- the token opens a bracket
+-- the token opens a bracket, whichever
 abbrev pub opens : Token → Bool
-opens token.OpenParenthesis = true
-opens token.OpenBracket = true
-opens token.OpenObject = true
-opens token.OpenBlock = true
-opens token.OpenBars = true
-opens _ = false
-
--- the token closes the innermost open bracket
-abbrev pub closes : Token → Bool
-closes token.CloseParenthesis = true
-closes token.CloseBracket = true
-closes token.CloseBrace = true
-closes token.CloseBars = true
-closes _ = false
+opens t = is_some (opened t [])
 
 -- the token stands between two stretches of one level
 abbrev pub parts : Token → Bool

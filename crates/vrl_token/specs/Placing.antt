@@ -5,6 +5,10 @@ use Rattle.vrl_token.specs.declared.token.Spanned.{Spanned}
 use Rattle.vrl_token.specs.declared.token.Token.{Token}
 use Rattle.vrl_token.specs.declared.token.Token.TheVariants as token
 
+-- how many bytes a script may have
+abbrev pub script_limit : ℕ
+script_limit = 65536
+
 -- the spans lie between two places one behind another, none over another, and each has a byte
 abbrev pub InOrderFrom : ℕ → ℕ → List Span → Type 0
 InOrderFrom start stop [] = start ≤ stop

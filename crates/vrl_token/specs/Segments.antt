@@ -1,7 +1,8 @@
 -- Words of the code for cutting a path into segments; the segments are those of `Paths`.
-use Rattle.std.specs.Prelude.{◌≡◌, ◌≢◌, ℕ, Bool, true, false, List, ◌∷◌, Option, MatchOption, Result, MatchResult}
+use Rattle.std.specs.Prelude.{◌≡◌, ◌≢◌, ℕ, ℤ, Bool, true, false, List, ◌∷◌, Option, Some, None, MatchOption, Result, Ok, Err, MatchResult}
 use denote.Ref.{Bor}
 use Rattle.vrl_path.specs.declared.path.Step.{Step}
+use Rattle.vrl_path.specs.declared.path.Step.TheVariants.{Field, Place}
 use Rattle.vrl_token.specs.declared.segment.Segment.{Segment as Cut}
 use Rattle.vrl_token.specs.declared.segment.Segment.TheVariants as cut
 use Rattle.vrl_token.specs.declared.segment.Flaw.{Flaw}
@@ -50,6 +51,15 @@ IsFlawOf segment Range = IsReadable segment × ¬ IsInRange segment
 -- the step that a segment stands for, or what is wrong with it
 abbrev pub StepOf : Segment → Result Step Flaw → Type 0
 StepOf segment found = MatchResult found (λ step. IsReadable segment × IsInRange segment × (step ≡ step_of segment)) (IsFlawOf segment)
+
+-- the step of what was read of a quoted name, and of an index; None where it can't be read
+abbrev pub field_step : Option (List ℕ) → Result Step Flaw
+field_step None = Err Escape
+field_step (Some name) = Ok (Field name)
+
+abbrev pub place_step : Option ℤ → Result Step Flaw
+place_step None = Err Range
+place_step (Some place) = Ok (Place place)
 
 -- what follows an optional minus: the flag says whether it is there
 abbrev pub IsUnsigned : Bool → List ℕ → List ℕ → Type 0

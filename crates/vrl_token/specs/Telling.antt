@@ -67,6 +67,11 @@ last_goes_on last.Arrow = true
 last_goes_on last.Operator = true
 last_goes_on _ = false
 
+-- the bracket of a block that begins behind such a token
+abbrev pub block_of : Last → Bracket
+block_of last.CloseBars = bracket.Body
+block_of _ = bracket.Block
+
 abbrev pub is_arrow : Last → Bool
 is_arrow last.Arrow = true
 is_arrow _ = false

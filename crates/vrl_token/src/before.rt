@@ -1,6 +1,7 @@
 ghost use Rattle.std.specs.Prelude.{◌≡◌, ◌<◌, ◌+◌, ◌-◌, ◌^◌, if◌then◌else◌, [], ◌∷◌, List, OnOk, Some};
-ghost use Rattle.vrl_token.specs.Brackets.{bar_token, closed, encloses, goes_on, is_bars, open_behind, token_of};
-ghost use Rattle.vrl_token.specs.Telling.{IsAhead, IsBefore, IsOpen, is_arrow, is_body, last_goes_on, last_of, wants_block};
+ghost use Rattle.vrl_token.specs.Brackets.{bar_token, closed, closes, encloses, goes_on, is_bars, open_behind, opened as opens_bracket, token_of, with_bracket};
+ghost use Rattle.vrl_token.specs.Nesting.{opens};
+ghost use Rattle.vrl_token.specs.Telling.{IsAhead, IsBefore, IsOpen, block_of, is_arrow, is_body, last_before, last_goes_on, last_of, wants_block};
 ghost use Rattle.vrl_token.specs.declared.bracket.Bracket.{Bracket as SpecBracket};
 ghost use Rattle.vrl_token.specs.declared.piece.Lexeme.{Lexeme as SpecLexeme};
 ghost use Rattle.vrl_token.specs.declared.token.Token.{Token as SpecToken};
@@ -67,6 +68,37 @@ fn item_goes_on(token: &Token) -> bool
     )
 }
 
+// The bracket that a token opens, given what the token before it says.
+fn opened(token: &Token, last: Last) -> Option<Bracket>
+    ensures { (before : List SpecToken) → last ≡ last_before before → result ≡ opens_bracket token.now before }
+{
+    match token {
+        Token::OpenParenthesis => Some(Bracket::Parenthesis),
+        Token::OpenBracket => Some(Bracket::Square),
+        Token::OpenObject => Some(Bracket::Object),
+        Token::OpenBars => Some(Bracket::Bars),
+        Token::OpenBlock => Some(last.block()),
+        _ => None,
+    }
+}
+
+/// Whether a token opens a bracket.
+pub(crate) fn is_opening(token: &Token) -> bool
+    ensures { result ≡ opens token.now }
+{
+    opened(token, Last::Other).is_some()
+}
+
+/// Whether a token closes a bracket.
+pub(crate) fn is_closing(token: &Token) -> bool
+    ensures { result ≡ closes token.now }
+{
+    matches!(
+        token,
+        Token::CloseParenthesis | Token::CloseBracket | Token::CloseBrace | Token::CloseBars
+    )
+}
+
 // Whether a bracket is that of a closure's names.
 fn is_closure_bars(bracket: Bracket) -> bool
     ensures { result ≡ is_bars bracket }
@@ -122,6 +154,16 @@ impl Last {
             _ if ends_with_operand(token) => Last::Operand,
             _ if item_goes_on(token) => Last::Operator,
             _ => Last::Other,
+        }
+    }
+
+    // The bracket of a block that begins behind it.
+    fn block(self) -> Bracket
+        ensures { result ≡ block_of self }
+    {
+        match self {
+            Last::CloseBars => Bracket::Body,
+            _ => Bracket::Block,
         }
     }
 
@@ -220,23 +262,26 @@ impl Before {
         }
     }
 
+    // Opens this bracket, or else closes one where a token does.
+    fn add_bracket(&mut self, opened: Option<Bracket>, closes: bool) -> Result<(), Memory>
+        ensures last { self.new.last ≡ self.old.last }
+        ensures brackets { OnOk result ((brackets : List SpecBracket) → IsOpen brackets self.old → IsOpen (with_bracket opened closes brackets) self.new) }
+    {
+        match opened {
+            Some(bracket) => self.open(bracket),
+            None if closes => {
+                self.close();
+                Ok(())
+            }
+            None => Ok(()),
+        }
+    }
+
     /// Behind one more token.
     pub(crate) fn add(&mut self, token: &Token) -> Result<(), Memory>
         ensures { OnOk result ((before : List SpecToken) → IsBefore before self.old → IsBefore (token.now ∷ before) self.new) }
     {
-        match token {
-            Token::OpenParenthesis => self.open(Bracket::Parenthesis)?,
-            Token::OpenBracket => self.open(Bracket::Square)?,
-            Token::OpenObject => self.open(Bracket::Object)?,
-            Token::OpenBars => self.open(Bracket::Bars)?,
-            Token::OpenBlock => match self.last {
-                Last::CloseBars => self.open(Bracket::Body)?,
-                _ => self.open(Bracket::Block)?,
-            },
-            Token::CloseParenthesis | Token::CloseBracket | Token::CloseBrace | Token::CloseBars =>
-                self.close(),
-            _ => {}
-        }
+        self.add_bracket(opened(token, self.last), is_closing(token))?;
         self.last = Last::of(token);
         Ok(())
     }

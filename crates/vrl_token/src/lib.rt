@@ -26,5 +26,5 @@ mod token;
 
 pub use fault::SyntaxFault;
 pub use laws::tokens_are_determined;
-pub use reading::{script_text, tokens};
+pub use reading::{SCRIPT_LIMIT, script_text, tokens};
 pub use token::{Spanned, Token, Tokens};

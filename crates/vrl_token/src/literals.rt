@@ -1,4 +1,4 @@
-ghost use Rattle.std.specs.Prelude.{◌≡◌, ◌-◌, ◌↔◌, ◌∷◌, ℕ, List, IfOk, IsTrue};
+ghost use Rattle.std.specs.Prelude.{◌≡◌, ◌-◌, ◌↔◌, ◌∷◌, ℕ, List, IfOk, IsTrue, MatchOption};
 ghost use Rattle.vrl_token.specs.Characters.{Character, HasTemplate, IsKnown, raw_of, text_of};
 ghost use Rattle.std.specs.List.{AllByRecursion};
 ghost use Rattle.vrl_token.specs.Context.{regexes_before};
@@ -46,6 +46,17 @@ fn cut_escaped(text: Chars, rest: &str) -> Cut<'_>
     token(Token::Text(text), rest)
 }
 
+// The same where the text was read, or that it has an escape that isn't known.
+fn cut_read(text: Option<Chars>, rest: &str) -> Cut<'_>
+    ensures { (before : List SpecPiece) (opening : List ℕ) (characters : List Character) → IsTextSpelling opening characters rest.now
+        → MatchOption text (¬ AllByRecursion IsKnown characters) (λ t. AllByRecursion IsKnown characters × (t ≡ text_of characters)) → IsCutOf before opening result }
+{
+    match text {
+        None => Cut::Fault(code::UNRECOGNIZED_TOKEN, rest.len()),
+        Some(text) => cut_escaped(text, rest),
+    }
+}
+
 /// The text whose opening quote stands before the text given.
 pub(crate) fn cut_text(alloc: Global, behind: &str) -> Result<Cut<'_>, Memory>
     ensures { IfOk result (λ cut. (before : List SpecPiece) → IsCutOf before (34 ∷ behind.now) cut) }
@@ -53,10 +64,7 @@ pub(crate) fn cut_text(alloc: Global, behind: &str) -> Result<Cut<'_>, Memory>
     let Some((inner, rest)) = split_quoted(behind, b'"') else {
         return Ok(Cut::Fault(code::UNRECOGNIZED_TOKEN, 0));
     };
-    match unescaped(alloc, inner)? {
-        None => Ok(Cut::Fault(code::UNRECOGNIZED_TOKEN, rest.len())),
-        Some(text) => Ok(cut_escaped(text, rest)),
-    }
+    Ok(cut_read(unescaped(alloc, inner)?, rest))
 }
 
 // The token of what stands between the quotes of a raw text, a regex or a timestamp, which begins with this letter.

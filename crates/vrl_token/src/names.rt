@@ -1,5 +1,5 @@
 ghost use Rattle.std.specs.Prelude.{◌≡◌, ◌∷◌, true, Contains, List, IfOk, MatchOption, ℕ};
-ghost use Rattle.vrl_token.specs.Cuts.{IsContext, IsCutOf, IsKeyword};
+ghost use Rattle.vrl_token.specs.Cuts.{IsContext, IsCutOf, IsKeyword, IsPathCut};
 ghost use Rattle.vrl_token.specs.Context.{closes_before};
 ghost use Rattle.vrl_token.specs.Lexical.{BeginsInside, IsNameStart, keywords};
 ghost use Rattle.vrl_token.specs.Words.{BeginsRaw, IsCallRest, IsFreeName, NoSegment, NoSuffix};
@@ -47,6 +47,16 @@ fn cut_function<'a>(alloc: Global, name: &str, behind: &'a str) -> Result<Option
     }
 }
 
+// The token of a path before a text, or the code of what is wrong with it.
+fn path_cut(token: Token, fault: Option<u16>, rest: &str) -> Cut<'_>
+    ensures { IsPathCut token fault rest.entry result }
+{
+    match fault {
+        None => Cut::Piece(Piece::Word(token), rest),
+        Some(code) => Cut::Fault(code, rest.len()),
+    }
+}
+
 // The name or the path behind a name, that stands before a text with which no call goes on.
 fn cut_name<'a>(alloc: Global, name: &str, behind: &'a str) -> Result<Cut<'a>, Memory>
     requires { ¬ IsCallRest behind.now }
@@ -58,10 +68,8 @@ fn cut_name<'a>(alloc: Global, name: &str, behind: &'a str) -> Result<Cut<'a>, M
     if rest.len() == behind.len() {
         return Ok(Cut::Piece(Piece::Word(Token::Name(name)), behind));
     }
-    match found.into_path() {
-        Ok(path) => Ok(Cut::Piece(Piece::Word(Token::NamePath(name, path)), rest)),
-        Err(code) => Ok(Cut::Fault(code, rest.len())),
-    }
+    let (path, fault) = found.into_path();
+    Ok(path_cut(Token::NamePath(name, path), fault, rest))
 }
 
 /// The name, keyword, function or path that a text begins with.
@@ -89,10 +97,8 @@ fn cut_suffix(alloc: Global, text: &str) -> Result<Option<Cut<'_>>, Memory>
     if rest.len() == text.len() {
         return Ok(None);
     }
-    match found.into_path() {
-        Ok(path) => Ok(Some(Cut::Piece(Piece::Word(Token::Suffix(path)), rest))),
-        Err(code) => Ok(Some(Cut::Fault(code, rest.len()))),
-    }
+    let (path, fault) = found.into_path();
+    Ok(Some(path_cut(Token::Suffix(path), fault, rest)))
 }
 
 // The path of the event whose dot stands before a text.
@@ -101,10 +107,8 @@ fn cut_event<'a>(alloc: Global, behind: &'a str) -> Result<Cut<'a>, Memory>
 {
     let mut found = Gathering::new(alloc);
     let rest = found.gather_event(alloc, behind)?;
-    match found.into_path() {
-        Ok(path) => Ok(Cut::Piece(Piece::Word(Token::EventPath(path)), rest)),
-        Err(code) => Ok(Cut::Fault(code, rest.len())),
-    }
+    let (path, fault) = found.into_path();
+    Ok(path_cut(Token::EventPath(path), fault, rest))
 }
 
 // The suffix that a text begins with at this place. `None` where none begins here.

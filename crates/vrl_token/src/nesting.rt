@@ -1,10 +1,10 @@
 ghost use Rattle.std.specs.Prelude.{◌≡◌, ◌↔◌, ◌+◌, ◌∷◌, [], IfOk, IsTrue, List, OnOk, get_or, length, reverse, set, suc};
 ghost use Rattle.vrl_token.specs.Depths.{AreCounts, IsPlace, IsTally, first_of, held, levels_of, nesting_behind, nesting_inside, numbers_of};
-ghost use Rattle.vrl_token.specs.Nesting.{IsDeepAt, IsTooDeep, closes, count_in, is_counted, opens, parts, stretches_from, without_innermost};
+ghost use Rattle.vrl_token.specs.Nesting.{IsDeepAt, IsTooDeep, count_in, is_counted, parts, stretches_from, without_innermost};
 ghost use Rattle.vrl_token.specs.Reading.{backwards};
 ghost use Rattle.vrl_token.specs.declared.token.Token.{Token as SpecToken};
 
-use crate::before::Before;
+use crate::before::{Before, is_closing, is_opening};
 use crate::token::{Spanned, Token};
 use std::alloc::Global;
 use vrl_value::Memory;
@@ -49,30 +49,6 @@ fn levels(token: &Token) -> usize
     ensures { result ≡ levels_of token.now }
 {
     if is_level(token) { 1 } else { 0 }
-}
-
-// Whether a token opens a bracket.
-fn is_opening(token: &Token) -> bool
-    ensures { result ≡ opens token.now }
-{
-    matches!(
-        token,
-        Token::OpenParenthesis
-            | Token::OpenBracket
-            | Token::OpenObject
-            | Token::OpenBlock
-            | Token::OpenBars
-    )
-}
-
-// Whether a token closes a bracket.
-fn is_closing(token: &Token) -> bool
-    ensures { result ≡ closes token.now }
-{
-    matches!(
-        token,
-        Token::CloseParenthesis | Token::CloseBracket | Token::CloseBrace | Token::CloseBars
-    )
 }
 
 // Whether a token stands between two stretches of one level.

@@ -1,5 +1,5 @@
-ghost use Rattle.std.specs.Prelude.{◌≡◌, [], ◌∷◌, ◌++◌, List, IfOk, MatchResult, OnOk};
-ghost use Rattle.vrl_token.specs.Gathering.{IsGathered, Keeps};
+ghost use Rattle.std.specs.Prelude.{◌≡◌, [], ◌∷◌, ◌++◌, List, IfOk, MatchOption, OnOk, option_map};
+ghost use Rattle.vrl_token.specs.Gathering.{code_of as flaw_code, IsGathered, Keeps};
 ghost use Rattle.vrl_token.specs.Paths.{EventSegments, HasFlaw, HasSteps, Segment as Spelled, Segments};
 ghost use Rattle.vrl_token.specs.Segments.{IsSaid};
 
@@ -80,14 +80,21 @@ impl Gathering {
         }
     }
 
-    /// The path of the steps, or the code of what is wrong.
-    pub(crate) fn into_path(self) -> Result<Path, u16>
-        ensures { (segments : List Spelled) → IsGathered segments self → MatchResult result (HasSteps segments) (HasFlaw segments) }
+    /// The path of the steps, and the code of what is wrong with the segments.
+    pub(crate) fn into_path(self) -> (Path, Option<u16>)
+        ensures { (segments : List Spelled) → IsGathered segments self → MatchOption result.1 (HasSteps segments result.0) (HasFlaw segments) }
     {
-        match self.flaw {
-            None => Ok(Path::new(self.steps)),
-            Some(Flaw::Escape) => Err(code::UNRECOGNIZED_TOKEN),
-            Some(Flaw::Range) => Err(code::NUMBER_OUT_OF_RANGE),
-        }
+        (Path::new(self.steps), code_of(self.flaw))
+    }
+}
+
+// The code that tells a flaw, where there is one.
+fn code_of(flaw: Option<Flaw>) -> Option<u16>
+    ensures { result ≡ option_map flaw_code flaw }
+{
+    match flaw {
+        None => None,
+        Some(Flaw::Escape) => Some(code::UNRECOGNIZED_TOKEN),
+        Some(Flaw::Range) => Some(code::NUMBER_OUT_OF_RANGE),
     }
 }

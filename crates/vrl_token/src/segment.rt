@@ -1,6 +1,6 @@
-ghost use Rattle.std.specs.Prelude.{IfOk};
+ghost use Rattle.std.specs.Prelude.{◌≡◌, IfOk};
 ghost use Rattle.vrl_token.specs.Paths.{Segment as Spelled};
-ghost use Rattle.vrl_token.specs.Segments.{CutsDotted, CutsIndex, CutsUndotted, IsCutField, IsSaid, IsUnsigned, StepOf};
+ghost use Rattle.vrl_token.specs.Segments.{CutsDotted, CutsIndex, CutsUndotted, IsCutField, IsSaid, IsUnsigned, StepOf, field_step, place_step};
 
 use crate::number::{number_of, split_digit_run};
 use crate::quoted::{split_quoted, unescaped};
@@ -89,14 +89,28 @@ impl Segment<'_> {
     {
         match self {
             Segment::Field(name) => Ok(Ok(Step::Field(Chars::copy_of(alloc, name)?))),
-            Segment::Quoted(inner) => match unescaped(alloc, inner)? {
-                Some(name) => Ok(Ok(Step::Field(name))),
-                None => Ok(Err(Flaw::Escape)),
-            },
-            Segment::Index(negative, digits) => match number_of(negative, digits) {
-                Some(place) => Ok(Ok(Step::Place(place))),
-                None => Ok(Err(Flaw::Range)),
-            },
+            Segment::Quoted(inner) => Ok(field_step(unescaped(alloc, inner)?)),
+            Segment::Index(negative, digits) => Ok(place_step(number_of(negative, digits))),
         }
+    }
+}
+
+// The step of a field whose quoted name is read, or that it isn't.
+fn field_step(name: Option<Chars>) -> Result<Step, Flaw>
+    ensures { result ≡ field_step name }
+{
+    match name {
+        Some(name) => Ok(Step::Field(name)),
+        None => Err(Flaw::Escape),
+    }
+}
+
+// The step of an index that is read, or that it isn't.
+fn place_step(place: Option<i64>) -> Result<Step, Flaw>
+    ensures { result ≡ place_step place }
+{
+    match place {
+        Some(place) => Ok(Step::Place(place)),
+        None => Err(Flaw::Range),
     }
 }

@@ -1,5 +1,5 @@
 ghost use Rattle.std.specs.Prelude.{◌≡◌, [], IfOk};
-ghost use Rattle.vrl_token.specs.Brackets.{told};
+ghost use Rattle.vrl_token.specs.Brackets.{tokens_from};
 
 use crate::ahead::{Ready, with_ahead};
 use crate::before::Before;
@@ -10,7 +10,7 @@ use vrl_value::Memory;
 
 /// The tokens of a text's pieces: what each `{`, `|` and newline is among them.
 pub(crate) fn tell(alloc: Global, lexemes: Vec<Lexeme>) -> Result<Vec<Spanned>, Memory>
-    ensures { IfOk result (λ tokens. tokens.items ≡ told [] lexemes.items) }
+    ensures { IfOk result (λ tokens. tokens.items ≡ tokens_from [] lexemes.items) }
 {
     let mut left = with_ahead(alloc, lexemes)?;
     let mut tokens = Vec::new(alloc);

@@ -1,11 +1,8 @@
-use Rattle.std.proofs.Common.{refl}
 use Rattle.vrl_token.specs.Faults.{event_path}
+use Rattle.vrl_token.proofs.PathCuts.{path_is}
 use Rattle.vrl_token.proofs.names.cut_event.Goals as goal
 
-pub returns-in-Ok : goal.returns-in-Ok
-returns-in-Ok c = λ before apart. let walk = c.in_ok-rest.ensures c.new-found.ensures in (walk.0, walk.1, c.in-Ok.ensures walk.0 walk.2, apart)
-
-pub returns-in-Err : goal.returns-in-Err
-returns-in-Err c = λ before apart.
+pub returns : goal.returns
+returns c = λ before apart.
     let walk = c.in_ok-rest.ensures c.new-found.ensures in
-    record { rest = c.in_ok-rest.rest.now; is_fault = event_path walk.0 walk.1 apart (c.in-Err.ensures walk.0 walk.2); length_is = refl }
+    path_is _ _ _ _ (c.into_path-path.ensures walk.0 walk.2) c.path_cut.ensures (λ steps. (walk.0, walk.1, steps, apart)) (λ code flaw. event_path walk.0 walk.1 apart flaw)

@@ -1,6 +1,6 @@
 use Rattle.std.proofs.Common.{rules, ◌≡◌, []}
-use Rattle.vrl_token.specs.Brackets.{told}
-use Rattle.vrl_token.specs.Reading.{IsTokenized, IsWrong}
+use Rattle.vrl_token.specs.Brackets.{tokens_from}
+use Rattle.vrl_token.specs.Reading.{IsTextFault, IsTokenized, deep_nesting}
 use Rattle.vrl_token.proofs.FaultCodes.{first_codes, first_excludes, first_within, passed_on}
 use Rattle.vrl_token.proofs.Placed.{tokens_in_order, tokens_on_characters}
 use Rattle.vrl_token.proofs.Stepped.{tokens_have_steps}
@@ -18,8 +18,8 @@ returns-in_err-lexemes-clause-no_tokens c =
 
 pub returns-then-branch-clause-no_tokens : goal.returns-then-branch-clause-no_tokens
 returns-then-branch-clause-no_tokens c =
-    let wrong : IsWrong c.args.text.now c.of_all.result = search rules in
-    λ tokens is. c.tokens_are_determined.ensures.not_both c.args.text.now tokens c.of_all.result is wrong
+    let wrong : IsTextFault c.args.text.now deep_nesting = search rules in
+    rw c.too_deep.ensures (λ tokens is. c.tokens_are_determined.ensures.not_both c.args.text.now tokens deep_nesting is wrong)
 
 pub returns-clause-spans : goal.returns-clause-spans
 returns-clause-spans c =
@@ -33,5 +33,5 @@ returns-clause-steps c =
 
 pub returns-clause-characters : goal.returns-clause-characters
 returns-clause-characters c =
-    let tells : c.new.result.tokens ≡ told [] c.in_ok-lexemes.field-0.items = search rules in
+    let tells : c.new.result.tokens ≡ tokens_from [] c.in_ok-lexemes.field-0.items = search rules in
     tokens_on_characters c.args.text.now c.new.result.tokens c.in_ok-lexemes.field-0.items tells c.in_ok-lexemes.ensures.characters
