@@ -3,7 +3,6 @@ use Rattle.std.specs.Prelude.{ℕ, ◌+◌, ◌-◌, Bool, true, false, List, []
 use Rattle.vrl_value.specs.Tree.{Tree, string, integer, boolean, null, timestamp, regex}
 use Rattle.vrl_path.specs.declared.path.Step.{Step}
 use Rattle.vrl_diag.specs.declared.diagnostic.Span.{Span}
-use Rattle.vrl_syntax.specs.Tree.{Expr, expr}
 use Rattle.vrl_syntax.specs.declared.root.Op.{Op}
 use Rattle.vrl_syntax.specs.declared.root.Op.TheVariants as op
 use Rattle.vrl_syntax.specs.declared.root.Root.{Root}
@@ -13,10 +12,6 @@ use Rattle.vrl_syntax.specs.declared.root.Target.TheVariants as target
 use Rattle.vrl_token.specs.declared.token.Spanned.{Spanned}
 use Rattle.vrl_token.specs.declared.token.Token.{Token}
 use Rattle.vrl_token.specs.declared.token.Token.TheVariants as token
-
--- where an expression stands
-abbrev pub span_of : Expr → Span
-span_of (expr span f) = span
 
 -- from the first place to the end of the last one
 abbrev pub over : Span → Span → Span
@@ -49,6 +44,12 @@ literal_at token.True n = Some (boolean true)
 literal_at token.False n = Some (boolean false)
 literal_at token.Null n = Some null
 literal_at t n = None
+
+-- the literal is a text, which is copied
+abbrev pub is_copied : Token → Bool
+is_copied (token.Text s) = true
+is_copied (token.RawText s) = true
+is_copied t = false
 
 abbrev pub literal_of : Word → Option Tree
 literal_of w = literal_at w.token w.number

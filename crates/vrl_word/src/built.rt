@@ -1,8 +1,8 @@
 ghost use Rattle.std.specs.Prelude.{◌≡◌, bytes_eq, map};
 ghost use Rattle.std.specs.List.{list_any};
-ghost use Rattle.vrl_syntax.specs.Calls.{takes_closure};
 ghost use Rattle.vrl_word.specs.Built.{are_built, is_built_token, is_unbuilt, unbuilt_functions};
 
+use vrl_syntax::takes_closure;
 use vrl_token::{Spanned, Token};
 
 // The functions of the language that are still to come.
@@ -85,13 +85,6 @@ fn is_unbuilt(name: &str) -> bool
     ensures { result ≡ is_unbuilt name.now }
 {
     takes_closure(name) || is_to_come(name)
-}
-
-// Whether a function takes a closure.
-fn takes_closure(name: &str) -> bool
-    ensures { result ≡ takes_closure name.now }
-{
-    name == "for_each" || name == "filter" || name == "map_values" || name == "map_keys"
 }
 
 // Whether a function is one of those that are still to come.

@@ -1,6 +1,6 @@
-ghost use Rattle.std.specs.Prelude.{◌≡◌, ◌↔◌, IfOk, IsSome, IsTrue, option_map};
+ghost use Rattle.std.specs.Prelude.{◌≡◌, ◌↔◌, IfOk, IsErr, IsSome, IsTrue, option_map};
 ghost use Rattle.vrl_value.specs.View.{tree_of};
-ghost use Rattle.vrl_word.specs.Words.{literal_at, function_of as function_in, name_span as name_place, operator_of as operator_in, over as place_over, path_of as path_in, target_at};
+ghost use Rattle.vrl_word.specs.Words.{is_copied, literal_at, function_of as function_in, name_span as name_place, operator_of as operator_in, over as place_over, path_of as path_in, target_at};
 
 use std::alloc::Global;
 use vrl_diag::Span;
@@ -29,9 +29,10 @@ pub fn is_path(token: &Token) -> bool
     )
 }
 
-/// What a path or a name leads from, and its steps. `None` where the token is neither.
+/// What a path or a name leads from, and its steps. `None` where the token is neither, which takes no memory.
 pub fn path_of(alloc: Global, token: &Token) -> Result<Option<(Root, Path)>, Memory>
-    ensures { IfOk result (λ found. found ≡ path_in token.now) }
+    ensures found { IfOk result (λ found. found ≡ path_in token.now) }
+    ensures memory { IsErr result → IsSome (path_in token.now) }
 {
     match token {
         Token::Name(name) => {
@@ -47,9 +48,10 @@ pub fn path_of(alloc: Global, token: &Token) -> Result<Option<(Root, Path)>, Mem
     }
 }
 
-/// Where an assignment to what stands there writes. `None` where it is neither a path nor a name.
+/// Where an assignment to what stands there writes. `None` where it is neither a path nor a name, which takes no memory.
 pub fn target_of(alloc: Global, word: &Spanned) -> Result<Option<Target>, Memory>
-    ensures { IfOk result (λ found. found ≡ target_at word.now.token word.now.span) }
+    ensures found { IfOk result (λ found. found ≡ target_at word.now.token word.now.span) }
+    ensures memory { IsErr result → IsSome (target_at word.now.token word.now.span) }
 {
     if let Token::Name(name) = &word.token {
         if name.as_str() == "_" {
@@ -62,9 +64,10 @@ pub fn target_of(alloc: Global, word: &Spanned) -> Result<Option<Target>, Memory
     }
 }
 
-/// The name of a function, and whether it has a bang. `None` where the token is none.
+/// The name of a function, and whether it has a bang. `None` where the token is none, which takes no memory.
 pub fn function_of(alloc: Global, token: &Token) -> Result<Option<(Chars, bool)>, Memory>
-    ensures { IfOk result (λ found. found ≡ function_in token.now) }
+    ensures found { IfOk result (λ found. found ≡ function_in token.now) }
+    ensures memory { IsErr result → IsSome (function_in token.now) }
 {
     match token {
         Token::Function(name) => Ok(Some((name.copy(alloc)?, false))),
@@ -87,9 +90,10 @@ pub fn name_span(span: Span, bang: bool) -> Span
     }
 }
 
-/// The value of a literal, given how many regex literals stand before it. `None` where the token is no literal.
+/// The value of a literal, given how many regex literals stand before it. `None` where the token is no literal. Only a text takes memory.
 pub fn literal_of(alloc: Global, token: &Token, number: u32) -> Result<Option<Value>, Memory>
-    ensures { IfOk result (λ found. option_map tree_of found ≡ literal_at token.now number) }
+    ensures found { IfOk result (λ found. option_map tree_of found ≡ literal_at token.now number) }
+    ensures memory { IsErr result → IsTrue (is_copied token.now) }
 {
     match token {
         Token::Text(text) => Ok(Some(Value::Text(text.copy(alloc)?))),
