@@ -1,5 +1,5 @@
 -- What the crate's answers say of a source.
-use Rattle.std.proofs.Common.{Result, Ok, Err, IfOk, IfErr, ◌≡◌, ◌≢◌, ℕ, ◌<◌, ◌≤◌, true, false, List, Option, Some, None, refl, subst, arith, inl, inr, chars}
+use Rattle.std.proofs.Common.{Result, Ok, Err, IfOk, IfErr, ◌≡◌, ◌≢◌, ℕ, ◌<◌, ◌≤◌, Bool, true, false, List, Option, Some, None, refl, sym, subst, arith, inl, inr, chars}
 use Rattle.std.proofs.lemmas.Bool.Decides.{nat_tests}
 use Rattle.std.specs.Option.{IsSomeAnd, IfSome}
 use Rattle.regex.specs.Sources.{IsRefusal}
@@ -17,6 +17,8 @@ use Rattle.regex_syntax.specs.declared.Config.{Config}
 use Rattle.regex_syntax.specs.declared.error.ErrorKind.{ErrorKind}
 use Rattle.regex_syntax.specs.declared.error.ErrorKind.TheVariants.{OutOfMemory}
 use Rattle.vrl_pattern.specs.Malformed.{is_no_pattern, is_malformed}
+use Rattle.vrl_pattern.specs.Verdict.{IsVerdict}
+use Rattle.vrl_value.specs.declared.memory.Memory.{Memory}
 
 shallow : (found : Option (Nested Re × Names)) (Q : Nested Re × Names → Type 0) → ((x : Nested Re × Names) → Q x → x.0.depth ≤ default_config.nest_limit) → IsSomeAnd found Q → is_no_pattern found ≡ false
 shallow None Q within h = absurd h
@@ -52,3 +54,11 @@ says source (Err (error.Syntax e)) same config read refusal kind = refused sourc
 says source (Err error.CompiledTooBig) same config read refusal kind = tt
 says source (Err error.Internal) same config read refusal kind = tt
 says source (Err error.OutOfMemory) same config read refusal kind = tt
+
+-- and so does what is told of it
+pub told : (source : List ℕ) (r : Result Regex Error) (verdict : Result Bool Memory) → Says source r → IsVerdict r verdict → IfOk verdict (λ malformed. malformed ≡ is_malformed source)
+told source (Ok regex) verdict says is = subst (λ v. IfOk v (λ malformed. malformed ≡ is_malformed source)) (sym is) (sym says)
+told source (Err (error.Syntax e)) verdict says is = subst (λ v. IfOk v (λ malformed. malformed ≡ is_malformed source)) (sym is) (sym says)
+told source (Err error.CompiledTooBig) verdict says is = subst (λ v. IfOk v (λ malformed. malformed ≡ is_malformed source)) (sym is) tt
+told source (Err error.Internal) verdict says is = subst (λ v. IfOk v (λ malformed. malformed ≡ is_malformed source)) (sym is) tt
+told source (Err error.OutOfMemory) verdict says is = subst (λ v. IfOk v (λ malformed. malformed ≡ is_malformed source)) (sym is) tt

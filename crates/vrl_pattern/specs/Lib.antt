@@ -1,3 +1,4 @@
 pub mod Groups
 pub mod Malformed
 pub mod Marks
+pub mod Verdict

@@ -1,5 +1,6 @@
-ghost use Rattle.std.specs.Prelude.{◌≡◌, IfOk};
+ghost use Rattle.std.specs.Prelude.{◌≡◌, ◌≢◌, ◌≤◌, ◌^◌, Err, IfOk, IsErr};
 ghost use Rattle.vrl_pattern.specs.Malformed as spec;
+ghost use Rattle.vrl_pattern.specs.Verdict.{IsVerdict};
 
 use regex::{Error, Regex};
 use std::alloc::Global;
@@ -9,11 +10,30 @@ use vrl_value::{Chars, Memory};
 fn is_malformed(alloc: Global, source: &str) -> Result<bool, Memory>
     ensures { IfOk result (λ malformed. malformed ≡ spec.is_malformed source.now) }
 {
-    match Regex::new(alloc, source) {
+    verdict(Regex::new(alloc, source))
+}
+
+// What is told of a source that the crate `regex` read so. `Memory`: it wanted memory, or the pattern is over its budget.
+fn verdict(reading: Result<Regex, Error>) -> Result<bool, Memory>
+    requires { reading ≢ Err Error.Internal }
+    ensures { IsVerdict reading result }
+{
+    match reading {
         Ok(_) => Ok(false),
         Err(Error::Syntax(_)) => Ok(true),
         Err(Error::CompiledTooBig | Error::OutOfMemory) => Err(Memory),
         Err(Error::Internal) => unreachable!(),
+    }
+}
+
+// A place as a number. `Memory`: it is past those of a `u32`.
+fn number_at(place: usize) -> Result<u32, Memory>
+    ensures number { IfOk result (λ number. number ≡ place) }
+    ensures memory { IsErr result → 2 ^ 32 ≤ place }
+{
+    match u32::try_from(place) {
+        Ok(number) => Ok(number),
+        Err(_) => Err(Memory),
     }
 }
 
@@ -25,10 +45,7 @@ pub(crate) fn malformed_numbers(alloc: Global, sources: &[Chars]) -> Result<Vec<
     let mut numbers = Vec::new(alloc);
     for (number, source) in sources.iter().enumerate() {
         if is_malformed(alloc, source.as_str())? {
-            match u32::try_from(number) {
-                Ok(number) => numbers.push(number)?,
-                Err(_) => return Err(Memory),
-            }
+            numbers.push(number_at(number)?)?;
         }
     }
     Ok(numbers)

@@ -1,4 +1,4 @@
-ghost use Rattle.std.specs.Prelude.{◌≡◌, ◌<◌, [], IfOk, IfErr, length, slice_index_or};
+ghost use Rattle.std.specs.Prelude.{◌≡◌, ◌≢◌, ◌<◌, [], IfOk, IfErr, OnOk, length, slice_index_or};
 ghost use Rattle.vrl_pattern.specs.Groups.{groups_of};
 ghost use Rattle.vrl_pattern.specs.Malformed.{malformed_from, IsFaultOf};
 
@@ -36,6 +36,17 @@ fn copy_of(alloc: Global, texts: &[Chars]) -> Result<Vec<Chars>, Memory>
     Ok(copy)
 }
 
+// That there are none of the numbers of malformed sources. `Malformed`: there are these.
+fn none_malformed(numbers: Vec<u32>) -> Result<(), BuildFault>
+    ensures none { OnOk result (numbers.items ≡ []) }
+    ensures some { IfErr result (λ fault. (fault ≡ BuildFault.Malformed numbers.items) × (numbers.items ≢ [])) }
+{
+    if numbers.is_empty() {
+        return Ok(());
+    }
+    Err(BuildFault::Malformed(Numbers::new(numbers)))
+}
+
 impl Patterns {
     /// Builds the regexes of these sources. `Malformed`: the numbers of all that the grammar of the crate `regex` doesn't read, or that
     /// nest deeper than it allows, at least one. `Memory`: want of memory, also where a pattern would take more than that crate's budget.
@@ -44,10 +55,7 @@ impl Patterns {
         ensures formed { IfOk result (λ _. malformed_from 0 sources.now ≡ []) }
         ensures refused { IfErr result (IsFaultOf sources.now) }
     {
-        let malformed = malformed_numbers(alloc, sources.as_slice())?;
-        if !malformed.is_empty() {
-            return Err(BuildFault::Malformed(Numbers::new(malformed)));
-        }
+        none_malformed(malformed_numbers(alloc, sources.as_slice())?)?;
         Ok(Patterns {
             sources: copy_of(alloc, sources.as_slice())?,
         })
