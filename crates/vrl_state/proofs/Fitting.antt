@@ -1,11 +1,13 @@
 -- That stores go on fitting what is known of them.
-use Rattle.std.proofs.Common.{◌≡◌, ◌⊎◌, inl, inr, Bool, true, false, ◌||◌, cond, List, [], ◌∷◌, Option, Some, None, IfSome, IsTrue, is_some, MatchOption, ◌≢◌, unwrap_or, refl, sym, ap, ◌∙◌, subst}
+use Rattle.std.proofs.Common.{◌≡◌, ◌⊎◌, inl, inr, ℕ, bytes_eq, Bool, true, false, ◌||◌, cond, List, [], ◌∷◌, Option, Some, None, IfSome, IsTrue, is_some, MatchOption, ◌≢◌, unwrap_or, refl, sym, ap, ◌∙◌, subst}
 use Rattle.std.proofs.lemmas.Bool.{true≢false}
 use Rattle.std.specs.FinMap as map
 use Rattle.std.specs.FinSet as set
-use Rattle.vrl_value.specs.Look.{Step, raw_at, tag_found}
+use Rattle.std.specs.List.{list_any}
+use Rattle.vrl_value.specs.Look.{raw_at, tag_found}
 use Rattle.vrl_value.specs.Tree.{Tree, null}
 use Rattle.vrl_value.specs.declared.value.Tag.{Tag}
+use Rattle.vrl_path.specs.declared.path.Step.{Step}
 use Rattle.vrl_syntax.specs.declared.root.Root.{Root}
 use Rattle.vrl_syntax.specs.declared.root.Root.TheVariants.{Event, Name}
 use Rattle.vrl_kind.specs.Canonical.{any_kind}
@@ -17,12 +19,13 @@ use Rattle.vrl_kind.specs.Tags.{Tags}
 use Rattle.vrl_place.specs.Laws.{NothingRemovedIsOfTheKind, RemovalsAreOfTheirKind, WritesAreOfTheirKind}
 use Rattle.vrl_place.specs.Remove.{remove}
 use Rattle.vrl_place.specs.Write.{write}
-use Rattle.vrl_state.specs.Laws.{BlocksKeepFits, BlocksKeepHeldNames, CutsHoldTheAllowed, EitherHoldsBoth, JoinsKeepFits, RemovalsKeepFits, StartsFit, WritesKeepFits}
-use Rattle.vrl_state.specs.States.{either, kept, kind_of, with_kind, written_from, HasNow, IsCutOf, IsEitherMap, IsEitherVariable, RootMap, Scope}
+use Rattle.vrl_state.specs.Laws.{BlocksKeepFits, BlocksKeepHeldNames, CutsHoldTheAllowed, EitherHoldsBoth, JoinsKeepFits, JoinsKeepHeldNames, RemovalsKeepFits, StartsFit, WithinKeepsFits, WritesKeepFits}
+use Rattle.vrl_state.specs.States.{either, kept, kind_of, with_kind, written_from, HasNow, IsCutOf, IsEitherMap, IsEitherVariable, IsVariableWithin, RootMap, Scope}
 use Rattle.vrl_path.specs.Remove.{removable_at, IsRemoved}
 use Rattle.vrl_path.specs.Write.{IsSet}
-use Rattle.vrl_state.specs.Stores.{store_kept, value_of, with_value, FitsKind, FitsKnown, FitsMap, HoldsNames, IsStoreTakenOut, IsWithout, Store}
+use Rattle.vrl_state.specs.Stores.{store_back, value_of, with_value, FitsKind, FitsKnown, FitsMap, HidesOf, HoldsNames, IsStoreTakenOut, IsWithout, Store}
 use Rattle.vrl_state.proofs.Finite.{at_kept, at_name, at_other, by_name}
+use Rattle.vrl_state.proofs.Behind.{at_behind, fits_behind, value_behind}
 
 cut_holds : CutsAreWider → WiderKindsHoldMore → (v : Tree) (K M : KindTree) → IsCut K M → Inhabits v K → Inhabits v M
 cut_holds wider more v K M c = more v K M (wider K M c)
@@ -166,36 +169,65 @@ removals_fit wider more removals nothing root p (Some roots) known' before after
       (λ u t old some removed. cut_holds wider more t c.whole M c.cut (removals u t p K c.whole c.tags old some removed))
       fits taken)
 
--- ---- blocks
+-- ---- order
 
-kept_fits : (b c : Bool) (v : Option Tree) (K : Option KindTree) → (b ≡ true → c ≡ true) → FitsKind v K → FitsKind (cond c v None) (cond b K None)
-kept_fits false c v K holds h = tt
-kept_fits true true v K holds h = h
-kept_fits true false v K holds h = absurd_false (holds refl) where
-  absurd_false : {A : Type 0} → false ≡ true → A
-  absurd_false e = cc
+variable_fits : WiderKindsHoldMore → (v : Option Tree) (K L : Option KindTree) → IsVariableWithin K L → FitsKind v K → FitsKind v L
+variable_fits more v K None is fits = tt
+variable_fits more v None (Some L) is fits = absurd is
+variable_fits more None (Some K) (Some L) is fits = absurd fits
+variable_fits more (Some v) (Some K) (Some L) is fits = more v K L is fits
 
-fits_kept : (scope : Scope) (before after : Store) (roots : RootMap) → HoldsNames before scope → FitsMap after roots → FitsMap (store_kept before after) (kept scope roots)
-fits_kept scope before after roots holds fits = record {
-  event = fits.event;
-  variables = λ x. rw (at_kept after.variables (λ y. map.contains_key before.variables y) x, at_kept roots.variables (λ y. set.contains scope.known y) x)
-      (kept_fits (set.contains scope.known x) (map.contains_key before.variables x) (map.get after.variables x) (map.get roots.variables x) (holds x) (fits.variables x));
+-- what fits the narrower fits the wider
+pub within_fits : WiderKindsHoldMore → WithinKeepsFits
+within_fits more None b store fits is = absurd fits
+within_fits more (Some a) None store fits is = absurd is
+within_fits more (Some a) (Some b) store fits is = record {
+  event = more store.event a.event b.event is.event fits.event;
+  variables = λ x. variable_fits more (map.get store.variables x) (map.get a.variables x) (map.get b.variables x) (is.variables x) (fits.variables x);
 }
 
--- behind a block only its scope's names are held and known
+-- ---- scopes
+
+fits_kept : (scope : Scope) (names : List (List ℕ)) (before after : Store) (roots : RootMap) → HidesOf scope names → HoldsNames before scope → FitsMap after roots → FitsMap (store_back names before after) (kept scope roots)
+fits_kept scope names before after roots hides holds fits = record {
+  event = fits.event;
+  variables = λ x. rw (value_behind names before.variables (map.retain_keys after.variables (λ y. map.contains_key before.variables y)) x, at_kept after.variables (λ y. map.contains_key before.variables y) x, at_behind scope roots.variables x)
+      (fits_behind (map.get scope.hidden x) (list_any (bytes_eq x) names) (set.contains scope.known x) (map.get before.variables x) (map.get after.variables x) (map.get roots.variables x)
+      (hides x) (holds.known x) (holds.hidden x) (fits.variables x));
+}
+
+-- behind a scope only its names are held and known, and hidden ones have what they had
 pub blocks_fit : BlocksKeepFits
-blocks_fit scope None before after holds fits = fits
-blocks_fit scope (Some roots) before after holds fits = fits_kept scope before after roots holds fits
+blocks_fit scope names None before after hides holds fits = fits
+blocks_fit scope names (Some roots) before after hides holds fits = fits_kept scope names before after roots hides holds fits
 
 is_held : (v : Option Tree) (K : Option KindTree) → FitsKind v K → is_some K ≡ true → is_some v ≡ true
 is_held v None fits known = absurd (true≢false (sym known))
 is_held None (Some K) fits known = absurd fits
 is_held (Some v) (Some K) fits known = refl
 
+hidden_held : (v : Option Tree) (hidden K : Option KindTree) → IfSome hidden (λ L. K ≡ Some L) → FitsKind v K → FitsKind v hidden
+hidden_held v None K is fits = tt
+hidden_held v (Some L) K is fits = subst (FitsKind v) is fits
+
 -- what is known is held
 pub names_held : BlocksKeepHeldNames
-names_held scope None store names fits = absurd fits
-names_held scope (Some roots) store names fits = λ x keeps. is_held (map.get store.variables x) (map.get roots.variables x) (fits.variables x) (sym (names x) ∙ keeps)
+names_held scope None store begins fits = absurd fits
+names_held scope (Some roots) store begins fits = record {
+  known = λ x keeps. is_held (map.get store.variables x) (map.get roots.variables x) (fits.variables x) (sym (begins.names x) ∙ keeps);
+  hidden = λ x. hidden_held (map.get store.variables x) (map.get scope.hidden x) (map.get roots.variables x) (begins.hidden x) (fits.variables x);
+}
+
+-- what is held in either scope is held in their join
+pub joins_held : EitherHoldsBoth → JoinsKeepHeldNames
+joins_held holds s t u store same is (inl h) = record {
+  known = λ x knows. h.known x (subst (λ names. IsTrue (set.contains names x)) is.known knows);
+  hidden = λ x. side_fits holds (map.get store.variables x) (map.get s.hidden x) (map.get t.hidden x) (map.get u.hidden x) (is.hidden x) (inl (h.hidden x));
+}
+joins_held holds s t u store same is (inr h) = record {
+  known = λ x knows. h.known x (subst (λ names. IsTrue (set.contains names x)) (is.known ∙ sym same) knows);
+  hidden = λ x. side_fits holds (map.get store.variables x) (map.get s.hidden x) (map.get t.hidden x) (map.get u.hidden x) (is.hidden x) (inr (h.hidden x));
+}
 
 pub starts_fit : CutsAreWider → WiderKindsHoldMore → StartsFit
 starts_fit wider more K state store start h =

@@ -1,8 +1,10 @@
 pub mod Along
+pub mod Behind
 pub mod Finite
 pub mod Fitting
 pub mod Limits
 pub mod Listed
 pub mod Named
+pub mod Scopes
 pub mod Stack
 pub mod Steps

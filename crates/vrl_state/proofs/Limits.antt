@@ -3,19 +3,22 @@ use Rattle.std.proofs.Common.{◌≡◌, ◌≤◌, ℕ, Bool, true, false, ◌|
 use Rattle.std.proofs.lemmas.Bool.{cases_lt}
 use Rattle.std.specs.FinMap as map
 use Rattle.std.specs.FinSet as set
-use Rattle.vrl_value.specs.Look.{Step, field, place}
+use Rattle.vrl_value.specs.Look as Look
 use Rattle.vrl_value.specs.declared.value.Tag.TheVariants as tag
+use Rattle.vrl_path.specs.Steps.{plain_step}
+use Rattle.vrl_path.specs.declared.path.Step.{Step}
 use Rattle.vrl_syntax.specs.declared.root.Root.{Root}
 use Rattle.vrl_syntax.specs.declared.root.Root.TheVariants.{Event, Name}
 use Rattle.vrl_kind.specs.Canonical.{IsCanonical, ListIsCanonical, ObjectIsCanonical}
 use Rattle.vrl_kind.specs.Count.{nodes, levels}
 use Rattle.vrl_kind.specs.Cut.{IsCut, flat, flat_list, flat_object, level_limit, node_limit}
 use Rattle.vrl_kind.specs.KindTree.{KindTree, kind, ListTree, no_list, list_part, ObjectTree, no_object, object_part}
-use Rattle.vrl_kind.specs.Kinds.{tags_at}
+use Rattle.vrl_kind.specs.Kinds.{step_tag, tags_at}
 use Rattle.vrl_kind.specs.Sets.{Sets}
+use Rattle.vrl_kind.specs.Tags.{only}
 use Rattle.vrl_place.specs.Remove.{remove}
 use Rattle.vrl_place.specs.Write.{write}
-use Rattle.vrl_state.specs.States.{kept, kind_of, with_kind, HasRootKinds, IsCutOf, IsEither, IsEitherMap, IsEitherVariable, IsMapWithin, IsPresent, IsRootKind, IsRootKindIf, RootMap, Scope, Variables}
+use Rattle.vrl_state.specs.States.{kind_of, with_kind, HasRootKinds, IsCutOf, IsEither, IsEitherMap, IsEitherVariable, IsMapWithin, IsPresent, IsRootKind, IsRootKindIf, Names, RootMap, Variables}
 use Rattle.vrl_state.proofs.Finite.{at_kept, at_name, at_other, by_name}
 
 list_is_canonical : (l : ListTree) → ListIsCanonical (flat_list l)
@@ -60,10 +63,13 @@ cut_root K M canonical present c =
 pub sets_root : (A : Sets) (M : KindTree) → IsCutOf A M → A [] tag.Absent ≡ false → IsRootKind M
 sets_root A M c present = cut_root c.whole M c.canonical (c.tags [] tag.Absent ∙ present) c.cut
 
+never_absent : (s : Look.Step) → only (step_tag s) tag.Absent ≡ false
+never_absent (Look.field k) = refl
+never_absent (Look.place i) = refl
+
 written_present : (A N : Sets) (p : List Step) → N [] tag.Absent ≡ false → write A p N [] tag.Absent ≡ false
 written_present A N [] h = h
-written_present A N (field k ∷ r) h = refl
-written_present A N (place i ∷ r) h = refl
+written_present A N (s ∷ r) h = never_absent (plain_step s)
 
 pub written_root : (A : Sets) (K M : KindTree) (p : List Step) → IsPresent K → IsCutOf (write A p (tags_at K)) M → IsRootKind M
 written_root A K M p present c = sets_root _ M c (written_present A (tags_at K) p present)
@@ -119,14 +125,11 @@ either_seen a a' b b' c e f is = subst (λ m. IsEitherMap m b' c) e (subst (λ m
 pub within_seen : (a a' b b' : RootMap) → a ≡ a' → b ≡ b' → IsMapWithin a b → IsMapWithin a' b'
 within_seen a a' b b' e f is = subst (λ m. IsMapWithin m b') e (subst (λ m. IsMapWithin a m) f is)
 
-pub kept_roots : (scope : Scope) (roots : RootMap) → HasRootKinds roots → HasRootKinds (kept scope roots)
-kept_roots scope roots all = record {
+pub kept_as : (names : Names) (event : KindTree) (m n : Variables) → n ≡ map.retain_keys m (λ x. set.contains names x) → HasRootKinds (record { event = event; variables = m }) → HasRootKinds (record { event = event; variables = n })
+kept_as names event m n e all = record {
   event = all.event;
-  variables = λ x. subst IsRootKindIf (sym (at_kept roots.variables (λ y. set.contains scope.known y) x)) (kept_variable (set.contains scope.known x) (map.get roots.variables x) (all.variables x));
+  variables = λ x. subst IsRootKindIf (sym (ap (λ v. map.get v x) e ∙ at_kept m (λ y. set.contains names y) x)) (kept_variable (set.contains names x) (map.get m x) (all.variables x));
 }
-
-pub kept_as : (scope : Scope) (event : KindTree) (m n : Variables) → n ≡ map.retain_keys m (λ x. set.contains scope.known x) → HasRootKinds (record { event = event; variables = m }) → HasRootKinds (record { event = event; variables = n })
-kept_as scope event m n e all = subst (λ v. HasRootKinds (record { event = event; variables = v })) (sym e) (kept_roots scope (record { event = event; variables = m }) all)
 
 pub start_roots : (K M : KindTree) (roots : RootMap) → IsCanonical K → IsPresent K → IsCut K M → roots.event ≡ M → roots.variables ≡ map.empty → HasRootKinds roots
 start_roots K M roots canonical present c e none = record {

@@ -16,9 +16,9 @@ use Rattle.std.specs.Map.{keys_of, lookup}
 use Rattle.std.specs.Ordering.{eq_by_cmp}
 use Rattle.vrl_kind.specs.KindTree.{KindTree}
 use Rattle.vrl_state.specs.Known.{variable_kind, variable_kinds}
-use Rattle.vrl_state.specs.States.{Scope, Variables}
+use Rattle.vrl_state.specs.States.{Names, Variables}
 use Rattle.vrl_state.specs.declared.known.RootKind.{RootKind}
-use Rattle.vrl_state.specs.View.{named, scope_of, variables_of}
+use Rattle.vrl_state.specs.View.{named, names_of, variables_of}
 use Rattle.vrl_state.proofs.Finite.{same_map, one_name}
 
 abbrev pub Entry : Type 0
@@ -54,7 +54,7 @@ any_named test [] = refl
 any_named test (k ∷ ks) = ap (λ b. test (string_bytes k) || b) (any_named test ks)
 
 -- what std's set contains by bytes
-pub contains_name : (q : List ℕ) (ks : List (String Global)) → set.contains (scope_of ks).known q ≡ list_any (is_at (λ k. slice_cmp nat_cmp q (string_bytes k))) ks
+pub contains_name : (q : List ℕ) (ks : List (String Global)) → set.contains (names_of ks) q ≡ list_any (is_at (λ k. slice_cmp nat_cmp q (string_bytes k))) ks
 contains_name q ks = set.contains-from_list nat_list_cmp_total (map string_bytes ks) q ∙ any_named (eq_by_cmp (slice_cmp nat_cmp) q) ks
 
 true_or : (b c : Bool) → cond b true c ≡ (b || c)
@@ -62,7 +62,7 @@ true_or true c = refl
 true_or false c = refl
 
 pub name_inserted : (s n : BTreeSet (String Global)) (key : String Global) (name : List ℕ) → tree.Updates string_cmp s n key true → string_bytes key ≡ name
-    → (scope_of n.keys).known ≡ set.insert (scope_of s.keys).known name
+    → names_of n.keys ≡ set.insert (names_of s.keys) name
 name_inserted s n key name updates e =
     set.same_set nat_list_cmp_total one_name _ _ (λ q.
     contains_name q n.keys
@@ -70,32 +70,32 @@ name_inserted s n key name updates e =
     ∙ ap (λ b. cond b true (contains_text s q)) (turned (string_bytes key) q)
     ∙ true_or (eq_by_cmp (slice_cmp nat_cmp) q (string_bytes key)) (contains_text s q)
     ∙ ap (λ b. eq_by_cmp (slice_cmp nat_cmp) q (string_bytes key) || b) (sym (contains_name q s.keys))
-    ∙ sym (set.contains-insert nat_list_cmp_total (scope_of s.keys).known (string_bytes key) q))
-    ∙ ap (set.insert (scope_of s.keys).known) e
+    ∙ sym (set.contains-insert nat_list_cmp_total (names_of s.keys) (string_bytes key) q))
+    ∙ ap (set.insert (names_of s.keys)) e
 
 map-append : (ds ks : List (String Global)) → map string_bytes (ds ++ ks) ≡ map string_bytes ds ++ map string_bytes ks
 map-append [] ks = refl
 map-append (d ∷ ds) ks = ap (λ xs. string_bytes d ∷ xs) (map-append ds ks)
 
 -- a walk over all names of a set: those that were passed are copied, and those that are left
-pub record AreCopied (whole : Scope) (left : List (String Global)) (copy : Scope) : Type 0 where
+pub record AreCopied (whole : Names) (left : List (String Global)) (copy : Names) : Type 0 where
   pub done : List (String Global)
-  pub is_whole : scope_of (done ++ left) ≡ whole
-  pub copied : copy ≡ scope_of done
+  pub is_whole : names_of (done ++ left) ≡ whole
+  pub copied : copy ≡ names_of done
 
-pub copied_first : (whole : Scope) (all left : List (String Global)) (copy : Scope) → left ≡ all → scope_of all ≡ whole → copy.known ≡ set.empty → AreCopied whole left copy
-copied_first whole all left copy is seen none = record { done = []; is_whole = ap scope_of is ∙ seen; copied = ap (λ s. record { known = s }) none }
+pub copied_first : (whole : Names) (all left : List (String Global)) (copy : Names) → left ≡ all → names_of all ≡ whole → copy ≡ set.empty → AreCopied whole left copy
+copied_first whole all left copy is seen none = record { done = []; is_whole = ap names_of is ∙ seen; copied = none }
 
-pub copied_next : (whole : Scope) (left : List (String Global)) (copy copy' : Scope) (k : String Global) (left' : List (String Global)) → AreCopied whole left copy → left ≡ k ∷ left' → copy'.known ≡ set.insert copy.known (string_bytes k) → AreCopied whole left' copy'
+pub copied_next : (whole : Names) (left : List (String Global)) (copy copy' : Names) (k : String Global) (left' : List (String Global)) → AreCopied whole left copy → left ≡ k ∷ left' → copy' ≡ set.insert copy (string_bytes k) → AreCopied whole left' copy'
 copied_next whole left copy copy' k left' far is adds = record {
   done = far.done ++ k ∷ [];
-  is_whole = ap scope_of (append_assoc far.done (k ∷ []) left' ∙ ap (λ ks. far.done ++ ks) (sym is)) ∙ far.is_whole;
-  copied = ap (λ s. record { known = s })
-      (adds ∙ ap (λ c. set.insert c.known (string_bytes k)) far.copied ∙ sym (ap set.from_list (map-append far.done (k ∷ [])) ∙ set.from_list_push nat_list_cmp_total one_name (map string_bytes far.done) (string_bytes k)));
+  is_whole = ap names_of (append_assoc far.done (k ∷ []) left' ∙ ap (λ ks. far.done ++ ks) (sym is)) ∙ far.is_whole;
+  copied =
+      adds ∙ ap (λ c. set.insert c (string_bytes k)) far.copied ∙ sym (ap set.from_list (map-append far.done (k ∷ [])) ∙ set.from_list_push nat_list_cmp_total one_name (map string_bytes far.done) (string_bytes k));
 }
 
-pub copied_end : (whole : Scope) (left : List (String Global)) (copy : Scope) → AreCopied whole left copy → left ≡ [] → copy ≡ whole
-copied_end whole left copy far none = far.copied ∙ ap scope_of (sym (ap (λ ks. far.done ++ ks) none ∙ append-nil far.done)) ∙ far.is_whole
+pub copied_end : (whole : Names) (left : List (String Global)) (copy : Names) → AreCopied whole left copy → left ≡ [] → copy ≡ whole
+copied_end whole left copy far none = far.copied ∙ ap names_of (sym (ap (λ ks. far.done ++ ks) none ∙ append-nil far.done)) ∙ far.is_whole
 
 -- ---- variables in order
 

@@ -7,7 +7,7 @@ use Rattle.std.specs.FinSet as set
 use Rattle.std.specs.Ordering.{eq_by_cmp}
 use Rattle.vrl_kind.specs.KindTree.{KindTree}
 use Rattle.vrl_state.specs.Merging.{AddsEither, AddsIf}
-use Rattle.vrl_state.specs.States.{IsEitherVariable, IsVariableWithin, Scope, Variables}
+use Rattle.vrl_state.specs.States.{IsEitherVariable, IsVariableWithin, Names, Variables}
 use Rattle.vrl_state.proofs.Finite.{at_kept, at_name, at_other, by_name, same_map}
 
 -- ---- joins
@@ -56,20 +56,20 @@ within_back mine name name' found K e n h = subst (λ o. IsVariableWithin o (Som
 
 -- ---- blocks
 
-abbrev pub HasNames : Scope → Variables → Type 0
-HasNames scope v = (x : List ℕ) → set.contains scope.known x ≡ map.contains_key v x
+abbrev pub HasNames : Names → Variables → Type 0
+HasNames names v = (x : List ℕ) → set.contains names x ≡ map.contains_key v x
 
-pub names_first : (scope : Scope) → scope.known ≡ set.empty → HasNames scope map.empty
-names_first scope none x = ap (λ s. set.contains s x) none ∙ set.contains-empty (slice_cmp nat_cmp) x ∙ sym (ap is_some (map.get-empty {X = KindTree} (slice_cmp nat_cmp) x))
+pub names_first : (names : Names) → names ≡ set.empty → HasNames names map.empty
+names_first names none x = ap (λ s. set.contains s x) none ∙ set.contains-empty (slice_cmp nat_cmp) x ∙ sym (ap is_some (map.get-empty {X = KindTree} (slice_cmp nat_cmp) x))
 
 some_or : (b : Bool) (K : KindTree) (o : Option KindTree) → (b || is_some o) ≡ is_some (cond b (Some K) o)
 some_or true K o = refl
 some_or false K o = refl
 
-pub names_next : (scope scope' : Scope) (v : Variables) (name : List ℕ) (K : KindTree) → scope'.known ≡ set.insert scope.known name → HasNames scope v → HasNames scope' (map.insert v name K)
-names_next scope scope' v name K adds far x =
+pub names_next : (names names' : Names) (v : Variables) (name : List ℕ) (K : KindTree) → names' ≡ set.insert names name → HasNames names v → HasNames names' (map.insert v name K)
+names_next names names' v name K adds far x =
     ap (λ s. set.contains s x) adds
-    ∙ set.contains-insert nat_list_cmp_total scope.known name x
+    ∙ set.contains-insert nat_list_cmp_total names name x
     ∙ ap (λ b. eq_by_cmp (slice_cmp nat_cmp) x name || b) (far x)
     ∙ some_or (eq_by_cmp (slice_cmp nat_cmp) x name) K (map.get v x)
     ∙ sym (ap is_some (map.get-insert nat_list_cmp_total v name K x))

@@ -1,15 +1,16 @@
 -- Laws of states: what a store holds goes on fitting what is known of it.
-use Rattle.std.specs.Prelude.{◌≡◌, ◌⊎◌, false, [], ℕ, List, Option, option_map}
+use Rattle.std.specs.Prelude.{◌≡◌, ◌⊎◌, false, [], ◌∷◌, ℕ, List, Option, option_map, ⊤}
+use Rattle.std.specs.FinMap as map
 use Rattle.std.specs.FinSet as set
-use Rattle.vrl_value.specs.Look.{Step}
 use Rattle.vrl_value.specs.Tree.{Tree}
 use Rattle.vrl_value.specs.declared.value.Tag.TheVariants as tag
+use Rattle.vrl_path.specs.declared.path.Step.{Step}
 use Rattle.vrl_syntax.specs.declared.root.Root.{Root}
 use Rattle.vrl_kind.specs.KindTree.{KindTree}
 use Rattle.vrl_kind.specs.Kinds.{Inhabits}
 use Rattle.vrl_kind.specs.Sets.{Sets, IsAllowed}
-use Rattle.vrl_state.specs.States.{kept, knows, IsCutOf, IsEither, IsJoined, IsRootKind, IsStart, IsTakenOut, IsWritten, RootMap, Scope, State}
-use Rattle.vrl_state.specs.Stores.{store_kept, Fits, FitsKnown, HoldsNames, IsStoreTakenOut, IsStoreWritten, Store}
+use Rattle.vrl_state.specs.States.{kept, AreScopesJoined, BeginsAt, IsCutOf, IsEither, IsJoined, IsKnownWithin, IsRootKind, IsRootKindIf, IsScopeJoined, IsStart, IsTakenOut, IsWritten, RootMap, Scope, State}
+use Rattle.vrl_state.specs.Stores.{store_back, Fits, FitsKnown, HidesOf, HoldsNames, IsStoreTakenOut, IsStoreWritten, Store}
 
 -- a value that the sets allow is of the kind that has them, cut
 abbrev pub CutsHoldTheAllowed : Type 0
@@ -39,10 +40,33 @@ RemovalsKeepFits = (root : Root) (p : List Step) (known known' : Option RootMap)
 abbrev pub JoinsKeepFits : Type 0
 JoinsKeepFits = (a b c : Option RootMap) (store : Store) → IsJoined a b c → FitsKnown store a ⊎ FitsKnown store b → FitsKnown store c
 
--- a store that fits what is known where a block begins holds the names that its scope keeps
-abbrev pub BlocksKeepHeldNames : Type 0
-BlocksKeepHeldNames = (scope : Scope) (known : Option RootMap) (store : Store) → ((x : List ℕ) → set.contains scope.known x ≡ knows known x) → FitsKnown store known → HoldsNames store scope
+-- a store that fits what is known fits what that is within
+abbrev pub WithinKeepsFits : Type 0
+WithinKeepsFits = (a b : Option RootMap) (store : Store) → FitsKnown store a → IsKnownWithin a b → FitsKnown store b
 
--- a store that holds only what it held where a block began fits what is known behind the block
+-- ---- scopes
+
+-- the hidden kinds of each scope are those of roots
+abbrev pub HideRootKinds : List Scope → Type 0
+HideRootKinds [] = ⊤
+HideRootKinds (s ∷ ss) = ((x : List ℕ) → IsRootKindIf (map.get s.hidden x)) × HideRootKinds ss
+
+-- a join of states with the same scopes, hidden kinds too, has these scopes
+abbrev pub JoinsKeepScopes : Type 0
+JoinsKeepScopes = (a b : Option RootMap) (ss ts us : List Scope) → HideRootKinds ss → ss ≡ ts → AreScopesJoined a b ss ts us → us ≡ ss
+
+-- a scope that hides no name gives none back
+abbrev pub BlocksGiveNothingBack : Type 0
+BlocksGiveNothingBack = (scope : Scope) (roots : RootMap) → scope.hidden ≡ map.empty → kept scope roots ≡ record roots { variables = map.retain_keys roots.variables (λ x. set.contains scope.known x) }
+
+-- a store that fits what is known where a scope begins holds its names
+abbrev pub BlocksKeepHeldNames : Type 0
+BlocksKeepHeldNames = (scope : Scope) (known : Option RootMap) (store : Store) → BeginsAt known scope → FitsKnown store known → HoldsNames store scope
+
+-- one that holds the names of either scope holds those of the join
+abbrev pub JoinsKeepHeldNames : Type 0
+JoinsKeepHeldNames = (s t u : Scope) (store : Store) → t.known ≡ s.known → IsScopeJoined s t u → HoldsNames store s ⊎ HoldsNames store t → HoldsNames store u
+
+-- a store that holds only what it held where a scope began, and in hidden names what these held there, fits what is known behind the scope
 abbrev pub BlocksKeepFits : Type 0
-BlocksKeepFits = (scope : Scope) (known : Option RootMap) (before after : Store) → HoldsNames before scope → FitsKnown after known → FitsKnown (store_kept before after) (option_map (kept scope) known)
+BlocksKeepFits = (scope : Scope) (names : List (List ℕ)) (known : Option RootMap) (before after : Store) → HidesOf scope names → HoldsNames before scope → FitsKnown after known → FitsKnown (store_back names before after) (option_map (kept scope) known)

@@ -1,13 +1,13 @@
 -- What is known at a place of a script, before any event is there: the kinds of the event and of the variables, and the scopes that
 -- are open. The rules are those by which the Vector Remap Language types a script: a write changes what is known from there on, and
 -- behind branches only what each of them leaves is known.
-use Rattle.std.specs.Prelude.{◌≡◌, ◌≤◌, Bool, ◌||◌, false, ℕ, List, [], ◌∷◌, Option, Some, None, option_map, is_some, IsSomeAnd, MatchOption, ⊤}
+use Rattle.std.specs.Prelude.{◌≡◌, ◌≤◌, Bool, ◌||◌, false, ℕ, List, [], ◌∷◌, Option, Some, None, map as each, option_map, is_some, IfSome, IsSomeAnd, MatchOption, ⊤}
 use Rattle.std.specs.Cmp.Lexicographic.{slice_cmp}
 use Rattle.std.specs.FinMap as map
 use Rattle.std.specs.FinSet as set
 use Rattle.std.specs.Ordering.{nat_cmp}
-use Rattle.vrl_value.specs.Look.{Step}
 use Rattle.vrl_value.specs.declared.value.Tag.TheVariants as tag
+use Rattle.vrl_path.specs.declared.path.Step.{Step}
 use Rattle.vrl_syntax.specs.declared.root.Root.{Root}
 use Rattle.vrl_syntax.specs.declared.root.Root.TheVariants.{Event, Name}
 use Rattle.vrl_kind.specs.Canonical.{IsCanonical, any_kind}
@@ -31,9 +31,20 @@ pub record RootMap : Type 0 where
   pub event : KindTree
   pub variables : Variables
 
--- a block that is open: the names of the variables that were known where it began
+-- names of variables, by their bytes
+abbrev pub Names : Type 0
+Names = set.FinSet (slice_cmp nat_cmp)
+
+-- a block, or the body of a closure, that is open
 pub record Scope : Type 0 where
-  pub known : set.FinSet (slice_cmp nat_cmp)
+  -- the names of the variables that were known where it began
+  pub known : Names
+  -- those of them that it hides, with the kinds that they get back where it ends
+  pub hidden : Variables
+
+-- a block hides no name
+abbrev pub block_scope : Names → Scope
+block_scope names = record { known = names; hidden = map.empty }
 
 pub record State : Type 0 where
   -- none where no way leads: the state is dead
@@ -140,9 +151,29 @@ IsJoined None b c = c ≡ b
 IsJoined (Some a) None c = c ≡ Some a
 IsJoined (Some a) (Some b) c = IsSomeAnd c (IsEitherMap a b)
 
--- both stand in the same blocks
+-- a hidden name has either kind
+pub record IsScopeJoined (a b c : Scope) : Type 0 where
+  pub known : c.known ≡ a.known
+  pub hidden : (x : List ℕ) → IsEitherVariable (map.get a.hidden x) (map.get b.hidden x) (map.get c.hidden x)
+
+abbrev pub IsEachScopeJoined : List Scope → List Scope → List Scope → Type 0
+IsEachScopeJoined [] [] [] = ⊤
+IsEachScopeJoined (s ∷ ss) (t ∷ ts) (u ∷ us) = IsScopeJoined s t u × IsEachScopeJoined ss ts us
+IsEachScopeJoined ss ts us = ⊥
+
+-- what is known on either way has these scopes: a dead side gives the other's, and where both are alive the hidden kinds are joined name by name
+abbrev pub AreScopesJoined : Option RootMap → Option RootMap → List Scope → List Scope → List Scope → Type 0
+AreScopesJoined None b ss ts us = us ≡ ts
+AreScopesJoined (Some a) None ss ts us = us ≡ ss
+AreScopesJoined (Some a) (Some b) ss ts us = IsEachScopeJoined ss ts us
+
+-- the names that a scope knows, and those that it hides
+abbrev pub scope_names : Scope → Names × List (List ℕ)
+scope_names scope = (scope.known, map.keys scope.hidden)
+
+-- both stand in the same scopes: these know the same names and hide the same names. The hidden kinds may differ
 abbrev pub HaveSameScopes : State → State → Type 0
-HaveSameScopes a b = a.scopes ≡ b.scopes
+HaveSameScopes a b = each scope_names a.scopes ≡ each scope_names b.scopes
 
 -- ---- order
 
@@ -162,24 +193,35 @@ IsKnownWithin None b = ⊤
 IsKnownWithin (Some a) None = ⊥
 IsKnownWithin (Some a) (Some b) = IsMapWithin a b
 
--- ---- blocks
+-- ---- scopes
 
 -- whether a variable is known
 abbrev pub knows : Option RootMap → List ℕ → Bool
 knows known x = is_some (kind_in (Name x) known)
 
--- a block begins: what is known stays, and its names are kept
+-- a scope that begins where this is known: it knows the names that are known, and a name that it hides had the hidden kind
+pub record BeginsAt (known : Option RootMap) (scope : Scope) : Type 0 where
+  pub names : (x : List ℕ) → set.contains scope.known x ≡ knows known x
+  pub hidden : (x : List ℕ) → IfSome (map.get scope.hidden x) (λ K. kind_in (Name x) known ≡ Some K)
+
+-- a block begins: what is known stays, its names are kept, and none is hidden
 pub record IsEntered (before after : State) : Type 0 where
   pub scope : Scope
   pub names : (x : List ℕ) → set.contains scope.known x ≡ knows before.known x
+  pub hidden : scope.hidden ≡ map.empty
   pub scopes : after.scopes ≡ scope ∷ before.scopes
   pub known : after.known ≡ before.known
 
--- the block's own variables, which weren't known where it began, end with it
-abbrev pub kept : Scope → RootMap → RootMap
-kept scope roots = record roots { variables = map.retain_keys roots.variables (λ x. set.contains scope.known x) }
+-- each of these variables with its kind, whatever was known of it
+abbrev pub kinds_back : List (List ℕ × KindTree) → Variables → Variables
+kinds_back [] variables = variables
+kinds_back (e ∷ es) variables = map.insert (kinds_back es variables) e.0 e.1
 
--- the innermost block ends
+-- behind a scope: its own variables, which weren't known where it began, end with it, and hidden names have their kinds back
+abbrev pub kept : Scope → RootMap → RootMap
+kept scope roots = record roots { variables = kinds_back (map.entries scope.hidden) (map.retain_keys roots.variables (λ x. set.contains scope.known x)) }
+
+-- the innermost scope ends
 pub record IsLeft (before after : State) : Type 0 where
   pub scope : Scope
   pub scopes : before.scopes ≡ scope ∷ after.scopes

@@ -1,12 +1,13 @@
 -- What stands in the event and the variables while a script runs, and how that goes with what is known of them.
-use Rattle.std.specs.Prelude.{◌≡◌, ℕ, List, Option, Some, None, MatchOption, unwrap_or, ⊤, IsTrue}
+use Rattle.std.specs.Prelude.{◌≡◌, ◌&&◌, ℕ, List, Option, Some, None, MatchOption, bytes_eq, unwrap_or, ⊤, IsTrue}
 use Rattle.std.specs.FinMap as map
 use Rattle.std.specs.FinSet as set
-use Rattle.vrl_value.specs.Look.{Step}
+use Rattle.std.specs.List.{list_any}
 use Rattle.vrl_value.specs.Tree.{Tree, null}
 use Rattle.vrl_path.specs.Remove.{removable_at, IsRemoved}
 use Rattle.vrl_path.specs.Write.{IsSet}
-pub use Rattle.vrl_syntax.specs.Stores.{Store, value_of, with_value, store_kept}
+use Rattle.vrl_path.specs.declared.path.Step.{Step}
+pub use Rattle.vrl_syntax.specs.Stores.{Store, value_of, with_value, store_back}
 use Rattle.vrl_syntax.specs.declared.root.Root.{Root}
 use Rattle.vrl_kind.specs.KindTree.{KindTree}
 use Rattle.vrl_kind.specs.Kinds.{Inhabits}
@@ -48,6 +49,13 @@ IsWithout v p w = MatchOption (removable_at v p) (w ≡ v) (λ t. IsRemoved v p 
 abbrev pub IsStoreTakenOut : Root → List Step → Store → Store → Type 0
 IsStoreTakenOut root p before after = MatchOption (value_of root before) (after ≡ before) (λ v. (w : Tree) × IsWithout v p w × (after ≡ with_value root w before))
 
--- the store held each name that the scope keeps
-abbrev pub HoldsNames : Store → Scope → Type 0
-HoldsNames store scope = (x : List ℕ) → IsTrue (set.contains scope.known x) → IsTrue (map.contains_key store.variables x)
+-- ---- a store where a scope begins
+
+-- it holds each name that the scope knows, and in each hidden name a value of its kind
+pub record HoldsNames (store : Store) (scope : Scope) : Type 0 where
+  pub known : (x : List ℕ) → IsTrue (set.contains scope.known x) → IsTrue (map.contains_key store.variables x)
+  pub hidden : (x : List ℕ) → FitsKind (map.get store.variables x) (map.get scope.hidden x)
+
+-- of these names the scope hides those that it knows, and it hides no other name
+abbrev pub HidesOf : Scope → List (List ℕ) → Type 0
+HidesOf scope names = (x : List ℕ) → map.contains_key scope.hidden x ≡ (list_any (bytes_eq x) names && set.contains scope.known x)

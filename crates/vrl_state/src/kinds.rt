@@ -1,5 +1,5 @@
 ghost use Rattle.std.specs.Prelude.{IfOk};
-ghost use Rattle.vrl_path.specs.Steps.{plain, IsPlain, IsWritable};
+ghost use Rattle.vrl_path.specs.Steps.{IsPlain, IsWritable};
 ghost use Rattle.vrl_kind.specs.Kinds.{tags_at};
 ghost use Rattle.vrl_place.specs.Remove.{remove};
 ghost use Rattle.vrl_place.specs.Write.{write};
@@ -23,7 +23,7 @@ pub(crate) fn either(alloc: Global, a: &Kind, b: &Kind) -> Result<Kind, Memory>
 // The kind with another written at a path, cut. `Memory`: want of memory.
 pub(crate) fn written(alloc: Global, kind: &Kind, path: &Path, new: &Kind) -> Result<Kind, Memory>
     requires { IsWritable path.now }
-    ensures { IfOk result (λ after. IsCutOf (write (tags_at kind.now) (plain path.now) (tags_at new.now)) after) }
+    ensures { IfOk result (λ after. IsCutOf (write (tags_at kind.now) path.now (tags_at new.now)) after) }
 {
     let written = write_kind(alloc, kind, path, new)?;
     kind_is_canonical(&written);
@@ -33,7 +33,7 @@ pub(crate) fn written(alloc: Global, kind: &Kind, path: &Path, new: &Kind) -> Re
 // The kind without what stands at a path, cut. `Memory`: want of memory.
 pub(crate) fn taken_out(alloc: Global, kind: &Kind, path: &Path) -> Result<Kind, Memory>
     requires { IsPlain path.now }
-    ensures { IfOk result (λ after. IsCutOf (remove (tags_at kind.now) (plain path.now)) after) }
+    ensures { IfOk result (λ after. IsCutOf (remove (tags_at kind.now) path.now) after) }
 {
     let left = remove_kind(alloc, kind, path)?;
     kind_is_canonical(&left);

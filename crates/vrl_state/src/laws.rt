@@ -1,6 +1,8 @@
-ghost use Rattle.vrl_state.specs.Laws.{BlocksKeepFits, BlocksKeepHeldNames, CutsAreRootKinds, CutsHoldTheAllowed, EitherHoldsBoth, JoinsKeepFits, RemovalsKeepFits, StartsFit, WritesKeepFits};
+ghost use Rattle.vrl_state.specs.Laws.{BlocksGiveNothingBack, BlocksKeepFits, BlocksKeepHeldNames, CutsAreRootKinds, CutsHoldTheAllowed, EitherHoldsBoth, JoinsKeepFits, JoinsKeepHeldNames, JoinsKeepScopes, RemovalsKeepFits, StartsFit, WithinKeepsFits, WritesKeepFits};
 
-use vrl_kind::{any_holds_all, cuts_are_wider, wider_kinds_hold_more};
+use vrl_kind::{
+    any_holds_all, cuts_are_wider, equal_tags_are_one_kind, wider_kinds_hold_more,
+};
 use vrl_place::{
     nothing_removed_is_of_the_kind, removals_are_of_their_kind, writes_are_of_their_kind,
 };
@@ -67,14 +69,44 @@ pub fn joins_keep_fits()
     either_holds_both();
 }
 
-/// A store that fits what is known where a block begins holds the names that the block's scope keeps. This takes
-/// no time: it is a law about the definitions.
+/// A store that fits what is known fits each state's knowledge that this is within. This takes no time: it is a
+/// law about the definitions.
+pub fn within_keeps_fits()
+    ensures { WithinKeepsFits }
+{
+    wider_kinds_hold_more();
+}
+
+/// A join of states with the same scopes, hidden kinds too, has these scopes. This takes no time: it is a law
+/// about the definitions.
+pub fn joins_keep_scopes()
+    ensures { JoinsKeepScopes }
+{
+    equal_tags_are_one_kind();
+}
+
+/// A scope that hides no name gives none back. This takes no time: it is a law about the definitions.
+pub fn blocks_give_nothing_back()
+    ensures { BlocksGiveNothingBack }
+{}
+
+/// A store that holds the names of either of two scopes holds those of their join. This takes no time: it is a
+/// law about the definitions.
+pub fn joins_keep_held_names()
+    ensures { JoinsKeepHeldNames }
+{
+    either_holds_both();
+}
+
+/// A store that fits what is known where a scope begins holds the names of the scope, and in each hidden name a
+/// value of its kind. This takes no time: it is a law about the definitions.
 pub fn blocks_keep_held_names()
     ensures { BlocksKeepHeldNames }
 {}
 
-/// A store that fits what is known in a block, cut back to the names that it held where the block began, fits
-/// what is known behind the block. This takes no time: it is a law about the definitions.
+/// A store that fits what is known in a scope, cut back to the names that it held where the scope began, and with
+/// the values of hidden names given back, fits what is known behind the scope. This takes no time: it is a law
+/// about the definitions.
 pub fn blocks_keep_fits()
     ensures { BlocksKeepFits }
 {}

@@ -16,7 +16,8 @@ mod variables;
 pub use branch::{Branch, Mark};
 pub use known::{Known, Knowns, RootKind, RootKinds};
 pub use laws::{
-    blocks_keep_fits, blocks_keep_held_names, cuts_are_root_kinds, cuts_hold_the_allowed,
-    either_holds_both, joins_keep_fits, removals_keep_fits, starts_fit, writes_keep_fits,
+    blocks_give_nothing_back, blocks_keep_fits, blocks_keep_held_names, cuts_are_root_kinds,
+    cuts_hold_the_allowed, either_holds_both, joins_keep_fits, joins_keep_held_names,
+    joins_keep_scopes, removals_keep_fits, starts_fit, within_keeps_fits, writes_keep_fits,
 };
 pub use state::State;

@@ -1,12 +1,12 @@
 ghost use Rattle.std.specs.Prelude.{◌≡◌, ◌↔◌, IfOk, IfSome, IsTrue, OnErr, OnOk, Some, option_map, List, ℕ};
 ghost use Rattle.std.specs.FinMap as map;
 ghost use Rattle.std.specs.FinSet as set;
-ghost use Rattle.vrl_path.specs.Steps.{plain, IsPlain, IsWritable};
+ghost use Rattle.vrl_path.specs.Steps.{IsPlain, IsWritable};
 ghost use Rattle.vrl_kind.specs.Cut.{IsCut};
 ghost use Rattle.vrl_kind.specs.Kinds.{tags_at};
 ghost use Rattle.vrl_place.specs.Write.{write};
 ghost use Rattle.vrl_state.specs.Known.{root_kinds};
-ghost use Rattle.vrl_state.specs.States.{kept, kind_of, with_kind, written_from, HasRootKinds, IsCutOf, IsEitherMap, IsMapWithin, IsPresent, IsRootKind, IsTakenOut, IsWritten};
+ghost use Rattle.vrl_state.specs.States.{block_scope, kept, kind_of, with_kind, written_from, HasRootKinds, IsCutOf, IsEitherMap, IsMapWithin, IsPresent, IsRootKind, IsTakenOut, IsWritten};
 
 use crate::block::Block;
 use crate::kinds::{either, taken_out, written};
@@ -86,7 +86,7 @@ impl KnownRoots {
     // The kind of a root with another written at a path. `Memory`: want of memory.
     fn written(&self, alloc: Global, root: &Root, path: &Path, new: &Kind) -> Result<Kind, Memory>
         requires { IsWritable path.now }
-        ensures { IfOk result (λ after. IsCutOf (write (tags_at (written_from (kind_of root.now self.now))) (plain path.now) (tags_at new.now)) after) }
+        ensures { IfOk result (λ after. IsCutOf (write (tags_at (written_from (kind_of root.now self.now))) path.now (tags_at new.now)) after) }
     {
         match self.kind(root) {
             Some(kind) => written(alloc, kind, path, new),
@@ -104,7 +104,7 @@ impl KnownRoots {
     ) -> Result<(), Memory>
         requires writable { IsWritable path.now }
         requires present { IsPresent new.now }
-        ensures ok { OnOk result (IsWritten root.now (plain path.now) new.now (Some self.old) (Some self.new)) }
+        ensures ok { OnOk result (IsWritten root.now path.now new.now (Some self.old) (Some self.new)) }
         ensures err { OnErr result (self.new ≡ self.old) }
     {
         let kind = self.written(alloc, root, path, new)?;
@@ -116,7 +116,7 @@ impl KnownRoots {
     // kinds stay as they were.
     pub(crate) fn remove(&mut self, alloc: Global, root: &Root, path: &Path) -> Result<(), Memory>
         requires { IsPlain path.now }
-        ensures ok { OnOk result (IsTakenOut root.now (plain path.now) (Some self.old) (Some self.new)) }
+        ensures ok { OnOk result (IsTakenOut root.now path.now (Some self.old) (Some self.new)) }
         ensures err { OnErr result (self.new ≡ self.old) }
     {
         match self.kind(root) {
@@ -161,7 +161,7 @@ impl KnownRoots {
     // Drops the variables that were not known where a block began. `Memory`: want of memory; the kinds stay
     // as they were.
     pub(crate) fn leave(&mut self, alloc: Global, block: &Block) -> Result<(), Memory>
-        ensures ok { OnOk result (self.new ≡ kept block.now self.old) }
+        ensures ok { OnOk result (self.new ≡ kept (block_scope block.now) self.old) }
         ensures err { OnErr result (self.new ≡ self.old) }
     {
         let variables = self.variables.kept(alloc, block)?;
@@ -171,7 +171,7 @@ impl KnownRoots {
 
     // A block that begins where these are known. `Memory`: want of memory.
     pub(crate) fn block(&self, alloc: Global) -> Result<Block, Memory>
-        ensures { IfOk result (λ block. (x : List ℕ) → set.contains block.known x ≡ map.contains_key self.now.variables x) }
+        ensures { IfOk result (λ block. (x : List ℕ) → set.contains block x ≡ map.contains_key self.now.variables x) }
     {
         self.variables.block(alloc)
     }

@@ -1,11 +1,12 @@
-ghost use Rattle.std.specs.Prelude.{◌≡◌, ◌≢◌, ◌↔◌, ◌∷◌, [], ℕ, IfOk, reverse, IfSome, IsTrue, List, None, OnErr, OnOk, Some, option_map};
+ghost use Rattle.std.specs.Prelude.{◌≡◌, ◌≢◌, ◌↔◌, ◌∷◌, [], ℕ, IfOk, IfSome, IsTrue, List, None, OnErr, OnOk, Some, option_map};
 ghost use Rattle.std.specs.FinSet as set;
 ghost use Rattle.vrl_value.specs.Tree.{Tree};
-ghost use Rattle.vrl_path.specs.Steps.{plain, IsPlain, IsWritable};
+ghost use Rattle.vrl_path.specs.Steps.{IsPlain, IsWritable};
 ghost use Rattle.vrl_kind.specs.Kinds.{Inhabits};
 ghost use Rattle.vrl_state.specs.Known.{known_as, HaveRootKinds};
-ghost use Rattle.vrl_state.specs.States.{kept, kind_in, knows, HaveSameScopes, IsEntered, IsJoined, IsKnownWithin, IsLeft, IsPresent, IsRootKind, IsStart, IsTakenOut, IsWritten, Scope};
-ghost use Rattle.vrl_state.specs.Stores.{store_kept, Fits, HoldsNames, IsStoreTakenOut, IsStoreWritten, Store};
+ghost use Rattle.vrl_state.specs.States.{block_scope, kept, kind_in, knows, AreScopesJoined, HaveSameScopes, IsEntered, IsJoined, IsKnownWithin, IsLeft, IsPresent, IsRootKind, IsStart, IsTakenOut, IsWritten, Scope};
+ghost use Rattle.vrl_state.specs.Stores.{store_back, Fits, HidesOf, HoldsNames, IsStoreTakenOut, IsStoreWritten, Store};
+ghost use Rattle.vrl_state.specs.View.{scopes_of};
 
 use crate::block::Block;
 use crate::branch::{Branch, Mark};
@@ -41,7 +42,6 @@ impl Drop for State {
 }
 
 impl Model for State {
-    ghost use Rattle.std.specs.Prelude.{reverse};
     ghost use Rattle.vrl_state.specs.States as states;
     ghost use Rattle.vrl_state.specs.Codes.{state_code};
 
@@ -49,7 +49,9 @@ impl Model for State {
 
     ghost coded = { state_code };
 
-    ghost view = { λ s. record { known = s.known; scopes = reverse s.blocks.items } };
+    ghost use Rattle.vrl_state.specs.View.{scopes_of};
+
+    ghost view = { λ s. record { known = s.known; scopes = scopes_of s.blocks.items } };
 }
 
 impl State {
@@ -105,10 +107,10 @@ impl State {
     ) -> Result<(), Memory>
         requires writable { IsWritable path.now }
         requires present { IsPresent new.now }
-        ensures written { OnOk result (IsWritten root.now (plain path.now) new.now self.old.known self.new.known) }
+        ensures written { OnOk result (IsWritten root.now path.now new.now self.old.known self.new.known) }
         ensures scopes { self.new.scopes ≡ self.old.scopes }
         ensures fits { OnOk result ((value : Tree) (before after : Store) → Fits before self.old → Inhabits value new.now
-            → IsStoreWritten root.now (plain path.now) value before after → Fits after self.new) }
+            → IsStoreWritten root.now path.now value before after → Fits after self.new) }
         ensures err { OnErr result (self.new ≡ self.old) }
     {
         writes_keep_fits();
@@ -120,10 +122,10 @@ impl State {
     /// over. `Memory`: want of memory; the state stays as it was.
     pub fn remove(&mut self, alloc: Global, root: &Root, path: &Path) -> Result<(), Memory>
         requires { IsPlain path.now }
-        ensures removed { OnOk result (IsTakenOut root.now (plain path.now) self.old.known self.new.known) }
+        ensures removed { OnOk result (IsTakenOut root.now path.now self.old.known self.new.known) }
         ensures scopes { self.new.scopes ≡ self.old.scopes }
         ensures fits { OnOk result ((before after : Store) → Fits before self.old
-            → IsStoreTakenOut root.now (plain path.now) before after → Fits after self.new) }
+            → IsStoreTakenOut root.now path.now before after → Fits after self.new) }
         ensures err { OnErr result (self.new ≡ self.old) }
     {
         removals_keep_fits();
@@ -131,13 +133,14 @@ impl State {
         Ok(())
     }
 
-    /// Joins a branch to the state: what is known on either way. Kinds are joined and cut, a variable that
-    /// only one of them knows is dropped, and a dead side gives the other. `Memory`: want of memory; the
-    /// state stays as it was.
+    /// Joins a branch to the state: what is known on either way. Kinds are joined and cut, those of hidden
+    /// names too, a variable that only one of them knows is dropped, and a dead side gives the other.
+    /// `Memory`: want of memory; the state stays as it was.
     pub fn join(&mut self, alloc: Global, other: &Branch) -> Result<(), Memory>
         requires { HaveSameScopes self.old other.now }
         ensures known { OnOk result (IsJoined self.old.known other.now.known self.new.known) }
-        ensures scopes { self.new.scopes ≡ self.old.scopes }
+        ensures hidden { OnOk result (AreScopesJoined self.old.known other.now.known self.old.scopes other.now.scopes self.new.scopes) }
+        ensures scopes { self.old.scopes ≡ other.now.scopes → self.new.scopes ≡ self.old.scopes }
         ensures first { OnOk result ((store : Store) → Fits store self.old → Fits store self.new) }
         ensures second { OnOk result ((store : Store) → Fits store other.now → Fits store self.new) }
         ensures err { OnErr result (self.new ≡ self.old) }
@@ -157,13 +160,13 @@ impl State {
         enter(alloc, &self.known, &mut self.blocks)
     }
 
-    /// Ends the innermost block: the variables that were not known where it began are dropped. `Memory`: want
-    /// of memory; the state stays as it was.
+    /// Ends the innermost scope: the variables that were not known where it began are dropped, and hidden
+    /// names have their kinds back. `Memory`: want of memory; the state stays as it was.
     pub fn leave(&mut self, alloc: Global) -> Result<(), Memory>
         requires { self.old.scopes ≢ [] }
         ensures left { OnOk result (IsLeft self.old self.new) }
-        ensures fits { OnOk result ((scope : Scope) (before after : Store) → self.old.scopes ≡ scope ∷ self.new.scopes
-            → HoldsNames before scope → Fits after self.old → Fits (store_kept before after) self.new) }
+        ensures fits { OnOk result ((scope : Scope) (names : List (List ℕ)) (before after : Store) → self.old.scopes ≡ scope ∷ self.new.scopes
+            → HidesOf scope names → HoldsNames before scope → Fits after self.old → Fits (store_back names before after) self.new) }
         ensures err { OnErr result (self.new ≡ self.old) }
     {
         blocks_keep_fits();
@@ -236,7 +239,7 @@ fn assign(
 ) -> Result<(), Memory>
     requires writable { IsWritable path.now }
     requires present { IsPresent new.now }
-    ensures written { OnOk result (IsWritten root.now (plain path.now) new.now known.old known.new) }
+    ensures written { OnOk result (IsWritten root.now path.now new.now known.old known.new) }
     ensures err { OnErr result (known.new ≡ known.old) }
 {
     let Some(known) = known else {
@@ -254,7 +257,7 @@ fn remove(
     path: &Path,
 ) -> Result<(), Memory>
     requires { IsPlain path.now }
-    ensures removed { OnOk result (IsTakenOut root.now (plain path.now) known.old known.new) }
+    ensures removed { OnOk result (IsTakenOut root.now path.now known.old known.new) }
     ensures err { OnErr result (known.new ≡ known.old) }
 {
     let Some(known) = known else {
@@ -310,7 +313,7 @@ fn copy_blocks(alloc: Global, blocks: &[Block]) -> Result<Vec<Block>, Memory>
 
 // A block that begins here. `Memory`: want of memory.
 fn block(alloc: Global, known: &Option<KnownRoots>) -> Result<Block, Memory>
-    ensures { IfOk result (λ block. (x : List ℕ) → set.contains block.known x ≡ knows known.now x) }
+    ensures { IfOk result (λ block. (x : List ℕ) → set.contains block x ≡ knows known.now x) }
 {
     match known {
         None => Ok(Block::new(alloc)),
@@ -320,8 +323,8 @@ fn block(alloc: Global, known: &Option<KnownRoots>) -> Result<Block, Memory>
 
 // Opens a block. `Memory`: want of memory; the blocks stay as they were.
 fn enter(alloc: Global, known: &Option<KnownRoots>, blocks: &mut Vec<Block>) -> Result<(), Memory>
-    ensures entered { OnOk result (IsEntered (record { known = known.now; scopes = reverse blocks.old.items })
-        (record { known = known.now; scopes = reverse blocks.new.items })) }
+    ensures entered { OnOk result (IsEntered (record { known = known.now; scopes = scopes_of blocks.old.items })
+        (record { known = known.now; scopes = scopes_of blocks.new.items })) }
     ensures err { OnErr result (blocks.new.items ≡ blocks.old.items) }
 {
     let block = block(alloc, known)?;
@@ -335,9 +338,9 @@ fn leave(
     known: &mut Option<KnownRoots>,
     blocks: &mut Vec<Block>,
 ) -> Result<(), Memory>
-    requires { reverse blocks.old.items ≢ [] }
-    ensures left { OnOk result (IsLeft (record { known = known.old; scopes = reverse blocks.old.items })
-        (record { known = known.new; scopes = reverse blocks.new.items })) }
+    requires { scopes_of blocks.old.items ≢ [] }
+    ensures left { OnOk result (IsLeft (record { known = known.old; scopes = scopes_of blocks.old.items })
+        (record { known = known.new; scopes = scopes_of blocks.new.items })) }
     ensures known_err { OnErr result (known.new ≡ known.old) }
     ensures blocks_err { OnErr result (blocks.new.items ≡ blocks.old.items) }
 {
@@ -352,7 +355,7 @@ fn leave(
 // Drops the variables that were not known where a block began. `Memory`: want of memory; what is known stays
 // as it was.
 fn leave_block(alloc: Global, known: &mut Option<KnownRoots>, block: &Block) -> Result<(), Memory>
-    ensures ok { OnOk result (known.new ≡ option_map (kept block.now) known.old) }
+    ensures ok { OnOk result (known.new ≡ option_map (kept (block_scope block.now)) known.old) }
     ensures err { OnErr result (known.new ≡ known.old) }
 {
     match known {

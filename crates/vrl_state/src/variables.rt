@@ -121,7 +121,7 @@ impl VariableKinds {
 
     // A block that begins where these are known. `Memory`: want of memory.
     pub(crate) fn block(&self, alloc: Global) -> Result<Block, Memory>
-        ensures { IfOk result (λ block. (x : List ℕ) → set.contains block.known x ≡ map.contains_key self.now x) }
+        ensures { IfOk result (λ block. (x : List ℕ) → set.contains block x ≡ map.contains_key self.now x) }
     {
         let mut block = Block::new(alloc);
         for (name, _kind) in self.kinds.iter() {
@@ -132,7 +132,7 @@ impl VariableKinds {
 
     // The variables that were known where a block began. `Memory`: want of memory.
     pub(crate) fn kept(&self, alloc: Global, block: &Block) -> Result<VariableKinds, Memory>
-        ensures { IfOk result (λ kept. kept ≡ map.retain_keys self.now (λ x. set.contains block.now.known x)) }
+        ensures { IfOk result (λ kept. kept ≡ map.retain_keys self.now (λ x. set.contains block.now x)) }
     {
         let mut kept = VariableKinds::new(alloc);
         for (name, kind) in self.kinds.iter() {
@@ -149,7 +149,7 @@ impl VariableKinds {
         kind: &Kind,
         block: &Block,
     ) -> Result<(), Memory>
-        ensures { OnOk result (AddsIf (set.contains block.now.known name.now) name.now kind.now self.old self.new) }
+        ensures { OnOk result (AddsIf (set.contains block.now name.now) name.now kind.now self.old self.new) }
     {
         if block.contains(name) {
             self.insert(alloc, name, kind.copy(alloc)?)

@@ -4,4 +4,4 @@ use Rattle.vrl_state.proofs.Named.{contains_name}
 use Rattle.vrl_state.proofs.block.Block.contains.Goals as goal
 
 pub returns : goal.returns
-returns c = c.contains.ensures ∙ sym (contains_name c.args.name.now c.self.inside.names.keys) ∙ ap (λ s. set.contains s.known c.args.name.now) c.self.view_is
+returns c = c.contains.ensures ∙ sym (contains_name c.args.name.now c.self.inside.names.keys) ∙ ap (λ s. set.contains s c.args.name.now) c.self.view_is

@@ -6,4 +6,4 @@ use Rattle.vrl_state.proofs.block.Block.insert.Goals as goal
 pub returns-clause-ok : goal.returns-clause-ok
 returns-clause-ok c =
     name_inserted c.self.inside.names c.insert.new.self c.in_ok-name.name c.args.name.now c.in_ok-insert.ensures.updates c.in_ok-name.ensures.ok
-    ∙ ap (λ s. set.insert s.known c.args.name.now) c.self.view_is
+    ∙ ap (λ s. set.insert s c.args.name.now) c.self.view_is

@@ -4,4 +4,4 @@ use Rattle.std.specs.FinSet as set
 use Rattle.vrl_state.proofs.roots.KnownRoots.block.Goals as goal
 
 pub returns : goal.returns
-returns c = subst (λ m. IfOk c.block.result (λ block. (x : List ℕ) → set.contains block.known x ≡ map.contains_key m.variables x)) c.self.view_is c.block.ensures
+returns c = subst (λ m. IfOk c.block.result (λ block. (x : List ℕ) → set.contains block x ≡ map.contains_key m.variables x)) c.self.view_is c.block.ensures

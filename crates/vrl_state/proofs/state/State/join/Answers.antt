@@ -8,3 +8,6 @@ returns-clause-first c = λ store fits. c.joins_keep_fits.ensures _ _ _ store c.
 pub returns-clause-second : goal.returns-clause-second
 returns-clause-second c = λ store fits.
     c.joins_keep_fits.ensures _ _ _ store c.in_ok-known.ensures (inr (subst (λ m. Fits store m.state) (sym c.other-inside.view_is) (subst (Fits store) (sym c.other.view_is) fits)))
+
+pub returns-clause-hidden : goal.returns-clause-hidden
+returns-clause-hidden c = scopes_stay _ _ _ _ _ _ _ c.self.view_is (c.other-inside.view_is ∙ ap (λ m. m.state) c.other.view_is) c.requires

@@ -1,8 +1,9 @@
-use Rattle.std.proofs.Common.{reverse, ap, refl}
+use Rattle.std.proofs.Common.{ap, refl}
+use Rattle.vrl_state.specs.View.{scopes_of}
 use Rattle.vrl_state.proofs.state.State.start.Goals as goal
 
 pub returns-clause-state : goal.returns-clause-state
-returns-clause-state c = record { roots = c.in_ok-known.known; known = refl; event = c.in_ok-known.ensures.event; variables = c.in_ok-known.ensures.variables; scopes = ap reverse c.new.ensures.items }
+returns-clause-state c = record { roots = c.in_ok-known.known; known = refl; event = c.in_ok-known.ensures.event; variables = c.in_ok-known.ensures.variables; scopes = ap scopes_of c.new.ensures.items }
 
 pub returns-clause-fits : goal.returns-clause-fits
 returns-clause-fits c = λ store h. c.starts_fit.ensures c.args.event.now _ store (returns-clause-state c) h
