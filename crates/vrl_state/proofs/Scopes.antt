@@ -36,9 +36,9 @@ blocks_joined (Some a) None xs ys same = refl
 blocks_joined (Some a) (Some b) xs ys same = subst (λ ss. IsEachScopeJoined (map block_scope xs) ss (map block_scope xs)) same (each_joined xs)
 
 -- where only blocks are open, a join leaves the scopes as they are
-pub scopes_stay : (s t : State) (known other now : Option RootMap) (blocks others : List Names) → record { known = known; scopes = scopes_of blocks } ≡ s → record { known = other; scopes = scopes_of others } ≡ t → HaveSameScopes s t
+pub scopes_stay : (s t : State) (known other : Option RootMap) (blocks others : List Names) → record { known = known; scopes = scopes_of blocks } ≡ s → record { known = other; scopes = scopes_of others } ≡ t → HaveSameScopes s t
     → AreScopesJoined s.known t.known s.scopes t.scopes (scopes_of blocks)
-scopes_stay s t known other now blocks others first second same =
+scopes_stay s t known other blocks others first second same =
     subst (λ r. AreScopesJoined r.known t.known r.scopes t.scopes (scopes_of blocks)) first
     (subst (λ r. AreScopesJoined known r.known (scopes_of blocks) r.scopes (scopes_of blocks)) second
     (blocks_joined known other (reverse blocks) (reverse others)

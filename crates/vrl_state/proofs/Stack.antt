@@ -2,7 +2,7 @@
 use Rattle.std.proofs.Common.{◌≡◌, ◌<◌, length, length-append, arith, Option, Some, None, IsSome, option_to_list, List, [], ◌∷◌, ◌++◌, map, reverse, sym, ap, ◌∙◌}
 use Rattle.std.proofs.lemmas.Bool.{true≢false}
 use Rattle.std.proofs.lemmas.List.{reverse-append}
-use Rattle.vrl_state.specs.States.{block_scope, Names, Scope}
+use Rattle.vrl_state.specs.States.{block_scope, Names}
 use Rattle.vrl_state.specs.View.{scopes_of}
 
 turned : (blocks more : List Names) (block : Names) → more ≡ blocks ++ block ∷ [] → reverse more ≡ block ∷ reverse blocks

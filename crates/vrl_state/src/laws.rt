@@ -1,8 +1,6 @@
 ghost use Rattle.vrl_state.specs.Laws.{BlocksGiveNothingBack, BlocksKeepFits, BlocksKeepHeldNames, CutsAreRootKinds, CutsHoldTheAllowed, EitherHoldsBoth, JoinsKeepFits, JoinsKeepHeldNames, JoinsKeepScopes, RemovalsKeepFits, StartsFit, WithinKeepsFits, WritesKeepFits};
 
-use vrl_kind::{
-    any_holds_all, cuts_are_wider, equal_tags_are_one_kind, wider_kinds_hold_more,
-};
+use vrl_kind::{any_holds_all, cuts_are_wider, equal_tags_are_one_kind, wider_kinds_hold_more};
 use vrl_place::{
     nothing_removed_is_of_the_kind, removals_are_of_their_kind, writes_are_of_their_kind,
 };
