@@ -1,77 +1,23 @@
 -- By what the answers of a row keep the law.
-use Rattle.std.specs.Prelude.{◌≡◌, ℕ, Bool, true, false, ◌&&◌, not, List, [], ◌∷◌, Option, Some, None, IsTrue, IfSome, ⊤, refl, if◌then◌else◌}
+use Rattle.std.specs.Prelude.{◌≡◌, ℕ, Bool, true, false, ◌&&◌, not, List, [], ◌∷◌, Option, Some, None, IsTrue, IfSome, refl, if◌then◌else◌}
 use Rattle.std.proofs.Common.{ap, arith}
 use Rattle.std.proofs.lemmas.Grind.{common_steps}
 use Rattle.std.specs.List.{list_any}
-use Rattle.vrl_value.specs.Look.{Step, field, place, raw_at, there, tag_found}
+use Rattle.vrl_value.specs.Look.{field, place, raw_at, tag_found}
 use Rattle.vrl_value.specs.Tag.{tag_of}
 use Rattle.vrl_value.specs.Tree.{Tree, string, integer, boolean, null, timestamp, regex, array, object, IsOrdered}
 use Rattle.vrl_value.specs.declared.value.Tag.{Tag}
 use Rattle.vrl_value.specs.declared.value.Tag.TheVariants as tag
 use Rattle.vrl_kind.specs.KindTree.{KindTree}
 use Rattle.vrl_kind.specs.Kinds.{tags_at, Inhabits}
-use Rattle.vrl_kind.specs.Sets.{Sets, IsAllowed}
+use Rattle.vrl_kind.specs.Sets.{IsAllowed}
 use Rattle.vrl_kind.specs.Tags.{all_tags, same_tag}
 use Rattle.vrl_builtin.specs.CutDown.{allows_other, cut_to, given_cut_to}
 use Rattle.vrl_builtin.specs.Law.{IsLawful, IsOfGiven}
-use Rattle.vrl_builtin.specs.Rows.{Answer, value, allows_tag, argument_at}
+use Rattle.vrl_builtin.specs.OneTag.{IsOneTag, IsPlain}
+use Rattle.vrl_builtin.specs.Rows.{Answer, value, told, allows_tag, argument_at}
 use Rattle.vrl_builtin.specs.TagSets.{allows, only_tag}
 use Rattle.vrl_builtin.specs.declared.tags.Tags.{Tags}
-
--- a value without parts that is no regex
-abbrev pub IsPlain : Tree → Type 0
-IsPlain (string s) = ⊤
-IsPlain (integer n) = ⊤
-IsPlain (boolean b) = ⊤
-IsPlain null = ⊤
-IsPlain (timestamp nanos) = ⊤
-IsPlain (regex n) = ⊥
-IsPlain (array ts) = ⊥
-IsPlain (object ms) = ⊥
-
-plain_is_of : (v : Tree) (A : Sets) → IsPlain v → IsTrue (A [] (tag_of v)) → IsAllowed v A
-plain_is_of v A plain allowed [] = allowed
-plain_is_of (string s) A plain allowed (step ∷ p) = tt
-plain_is_of (integer n) A plain allowed (step ∷ p) = tt
-plain_is_of (boolean b) A plain allowed (step ∷ p) = tt
-plain_is_of null A plain allowed (step ∷ p) = tt
-plain_is_of (timestamp nanos) A plain allowed (step ∷ p) = tt
-plain_is_of (regex n) A plain allowed (step ∷ p) = absurd plain
-plain_is_of (array ts) A plain allowed (step ∷ p) = absurd plain
-plain_is_of (object ms) A plain allowed (step ∷ p) = absurd plain
-
-no_regex : (v : Tree) → IsPlain v → (n : ℕ) (p : List Step) → raw_at v p ≡ there (regex n) → ⊥
-no_regex (string s) plain n [] e = cc
-no_regex (integer m) plain n [] e = cc
-no_regex (boolean b) plain n [] e = cc
-no_regex null plain n [] e = cc
-no_regex (timestamp nanos) plain n [] e = cc
-no_regex (string s) plain n (step ∷ p) e = cc
-no_regex (integer m) plain n (step ∷ p) e = cc
-no_regex (boolean b) plain n (step ∷ p) e = cc
-no_regex null plain n (step ∷ p) e = cc
-no_regex (timestamp nanos) plain n (step ∷ p) e = cc
-no_regex (regex m) plain n p e = plain
-no_regex (array ts) plain n p e = plain
-no_regex (object ms) plain n p e = plain
-
-plain_is_ordered : (v : Tree) → IsPlain v → IsOrdered v
-plain_is_ordered (string s) plain = tt
-plain_is_ordered (integer n) plain = tt
-plain_is_ordered (boolean b) plain = tt
-plain_is_ordered null plain = tt
-plain_is_ordered (timestamp nanos) plain = tt
-plain_is_ordered (regex n) plain = absurd plain
-plain_is_ordered (array ts) plain = absurd plain
-plain_is_ordered (object ms) plain = absurd plain
-
--- a value without parts whose tag is allowed
-pub plain_is_lawful : (v : Tree) (A : Sets) (fails : Bool) (arguments : List (Option Tree)) → IsPlain v → IsTrue (A [] (tag_of v)) → IsLawful A fails arguments (value v)
-plain_is_lawful v A fails arguments plain allowed = (
-  plain_is_of v A plain allowed,
-  plain_is_ordered v plain,
-  λ n holds. absurd (no_regex v plain n holds.0 holds.1),
-)
 
 -- the tag of an argument is allowed by the kind that was given
 pub tag_is_given : (K : Option KindTree) (v : Tree) → IsOfGiven K (Some v) → allows_tag (tag_of v) K ≡ true
@@ -141,7 +87,12 @@ own_tag (array ts) t same = same
 own_tag (object ms) t same = same
 
 -- a choice of two answers
-pub choice_is_lawful : (A : Sets) (fails : Bool) (arguments : List (Option Tree)) (b : Bool) (x y : Answer) →
-    (b ≡ true → IsLawful A fails arguments x) → (b ≡ false → IsLawful A fails arguments y) → IsLawful A fails arguments (if b then x else y)
-choice_is_lawful A fails arguments true x y first second = first refl
-choice_is_lawful A fails arguments false x y first second = second refl
+pub choice_is : (P : Answer → Type 0) (b : Bool) (x y : Answer) → (b ≡ true → P x) → (b ≡ false → P y) → P (if b then x else y)
+choice_is P true x y first second = first refl
+choice_is P false x y first second = second refl
+
+-- a value of one tag, where there is one
+pub told_is_one_tag : {A : Type 0} (make : A → Tree) (t : Tag) (words : List ℕ) (o : Option A) (fails : Bool) →
+    ((a : A) → IsPlain (make a) × (tag_of (make a) ≡ t)) → (o ≡ None → IsTrue fails) → IsOneTag t fails (told make words o)
+told_is_one_tag make t words None fails plain fail = fail refl
+told_is_one_tag make t words (Some a) fails plain fail = plain a

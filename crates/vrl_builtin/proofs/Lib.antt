@@ -1,3 +1,4 @@
+pub mod Containers
 pub mod Cuts
 pub mod Lawful
 pub mod Places

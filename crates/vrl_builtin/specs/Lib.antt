@@ -1,7 +1,11 @@
 pub mod Conditions
+pub mod Containers
 pub mod CutDown
 pub mod Law
 pub mod Numeral
+pub mod OneTag
+pub mod OneTagLaw
 pub mod Rows
 pub mod TagSets
 pub mod View
+pub mod Words

@@ -1,6 +1,6 @@
 -- The row of a function: what it takes, what is known of its result before it is called, and what it answers.
 use Rattle.std.specs.Prelude.{ℕ, ℤ, Bool, true, false, List, [], ◌++◌, Option, Some, None, codes, option_map, slice_get}
-use Rattle.vrl_value.specs.Tree.{Tree, string, integer, null}
+use Rattle.vrl_value.specs.Tree.{Tree, string, integer, boolean, null, timestamp, regex, array, object, Items, Members}
 use Rattle.vrl_value.specs.declared.value.Tag.{Tag}
 use Rattle.vrl_kind.specs.KindTree.{KindTree}
 use Rattle.vrl_kind.specs.Kinds.{tags_at}
@@ -60,6 +60,16 @@ error_text name words = name ++ (codes ": " ++ words)
 abbrev pub failed : List ℕ → List ℕ → Answer
 failed name words = failure (error_text name words)
 
+-- an answer whose error has these words alone, with the function's name before them
+abbrev pub named : List ℕ → Answer → Answer
+named name (value v) = value v
+named name (failure words) = failed name words
+
+-- a value, or the words of an error where there is none
+abbrev pub told : {A : Type 0} → (A → Tree) → List ℕ → Option A → Answer
+told make words None = failure words
+told make words (Some a) = value (make a)
+
 abbrev pub held : {A : Type 0} → Option (Option A) → Option A
 held None = None
 held (Some a) = a
@@ -112,3 +122,55 @@ text_at place s arguments = text_or s (argument_at place arguments)
 
 abbrev pub value_at : ℕ → List (Option Tree) → Tree
 value_at place arguments = value_or null (argument_at place arguments)
+
+-- what is given, where it has the tag: a text, a boolean, a moment, a regex's number, the parts of an array, and the members of an object
+abbrev pub text_given : Option Tree → Option (List ℕ)
+text_given (Some (string s)) = Some s
+text_given argument = None
+
+abbrev pub boolean_given : Option Tree → Option Bool
+boolean_given (Some (boolean b)) = Some b
+boolean_given argument = None
+
+abbrev pub moment_given : Option Tree → Option ℤ
+moment_given (Some (timestamp nanos)) = Some nanos
+moment_given argument = None
+
+abbrev pub regex_given : Option Tree → Option ℕ
+regex_given (Some (regex n)) = Some n
+regex_given argument = None
+
+abbrev pub items_given : Option Tree → Option Items
+items_given (Some (array ts)) = Some ts
+items_given argument = None
+
+abbrev pub members_given : Option Tree → Option Members
+members_given (Some (object ms)) = Some ms
+members_given argument = None
+
+-- the same at a place
+abbrev pub optional_text : ℕ → List (Option Tree) → Option (List ℕ)
+optional_text place arguments = text_given (argument_at place arguments)
+
+abbrev pub optional_boolean : ℕ → List (Option Tree) → Option Bool
+optional_boolean place arguments = boolean_given (argument_at place arguments)
+
+abbrev pub optional_moment : ℕ → List (Option Tree) → Option ℤ
+optional_moment place arguments = moment_given (argument_at place arguments)
+
+abbrev pub optional_regex : ℕ → List (Option Tree) → Option ℕ
+optional_regex place arguments = regex_given (argument_at place arguments)
+
+abbrev pub optional_items : ℕ → List (Option Tree) → Option Items
+optional_items place arguments = items_given (argument_at place arguments)
+
+abbrev pub optional_members : ℕ → List (Option Tree) → Option Members
+optional_members place arguments = members_given (argument_at place arguments)
+
+-- the boolean at a place, and what stands for it where none is given
+abbrev pub boolean_or : Bool → Option Tree → Bool
+boolean_or b (Some (boolean c)) = c
+boolean_or b argument = b
+
+abbrev pub boolean_at : ℕ → Bool → List (Option Tree) → Bool
+boolean_at place b arguments = boolean_or b (argument_at place arguments)

@@ -29,6 +29,24 @@ strings = record no_tags { string = true }
 abbrev pub integers : Tags
 integers = record no_tags { integer = true }
 
+abbrev pub booleans : Tags
+booleans = record no_tags { boolean = true }
+
+abbrev pub timestamps : Tags
+timestamps = record no_tags { timestamp = true }
+
+abbrev pub regexes : Tags
+regexes = record no_tags { regex = true }
+
+abbrev pub arrays : Tags
+arrays = record no_tags { array = true }
+
+abbrev pub objects : Tags
+objects = record no_tags { object = true }
+
+abbrev pub containers : Tags
+containers = record no_tags { array = true; object = true }
+
 -- one tag alone; none at absent
 abbrev pub only_tag : Tag → Tags
 only_tag t = record { string = same_tag tag.Text t; integer = same_tag tag.Int t; boolean = same_tag tag.Bool t; null = same_tag tag.Null t; timestamp = same_tag tag.Time t; regex = same_tag tag.Pattern t; array = same_tag tag.List t; object = same_tag tag.Object t }

@@ -1,9 +1,9 @@
 ghost use Rattle.std.specs.Prelude.{◌≡◌, map, option_map, IsSome};
-ghost use Rattle.vrl_value.specs.View.{tree_of};
-ghost use Rattle.vrl_builtin.specs.Rows.{argument_at, integer_at, optional_integer, text_at, value_at};
+ghost use Rattle.vrl_value.specs.View.{items_of, members_of, tree_of};
+ghost use Rattle.vrl_builtin.specs.Rows.{argument_at, boolean_at, integer_at, optional_boolean, optional_integer, optional_items, optional_members, optional_moment, optional_regex, optional_text, text_at, value_at};
 ghost use Rattle.vrl_builtin.specs.View.{argument_tree, arguments_of};
 
-use vrl_value::Value;
+use vrl_value::{Fields, Items, Moment, Value};
 
 /// The arguments of a call, borrowed, by the places of their parameters; `None` where no argument is given. A contract sees `arguments_of`
 /// them.
@@ -75,6 +75,76 @@ impl<'a> Arguments<'a> {
         match self.get(place) {
             Some(value) => value,
             None => unreachable!(),
+        }
+    }
+
+    /// The text at a place. `None`: none is given.
+    pub fn optional_text(&self, place: usize) -> Option<&str>
+        ensures { option_map (λ text. text.now) result ≡ optional_text place (arguments_of self.now) }
+    {
+        match self.get(place) {
+            Some(Value::Text(text)) => Some(text.as_str()),
+            _ => None,
+        }
+    }
+
+    /// The boolean at a place, and the default where none is given.
+    pub fn boolean(&self, place: usize, default: bool) -> bool
+        ensures { result ≡ boolean_at place default (arguments_of self.now) }
+    {
+        match self.get(place) {
+            Some(Value::Bool(truth)) => *truth,
+            _ => default,
+        }
+    }
+
+    /// The boolean at a place. `None`: none is given.
+    pub fn optional_boolean(&self, place: usize) -> Option<bool>
+        ensures { result ≡ optional_boolean place (arguments_of self.now) }
+    {
+        match self.get(place) {
+            Some(Value::Bool(truth)) => Some(*truth),
+            _ => None,
+        }
+    }
+
+    /// The moment at a place. `None`: none is given.
+    pub fn optional_moment(&self, place: usize) -> Option<Moment>
+        ensures { result ≡ optional_moment place (arguments_of self.now) }
+    {
+        match self.get(place) {
+            Some(Value::Time(moment)) => Some(*moment),
+            _ => None,
+        }
+    }
+
+    /// The number of the regex at a place. `None`: none is given.
+    pub fn optional_regex(&self, place: usize) -> Option<u32>
+        ensures { result ≡ optional_regex place (arguments_of self.now) }
+    {
+        match self.get(place) {
+            Some(Value::Pattern(number)) => Some(*number),
+            _ => None,
+        }
+    }
+
+    /// The parts of the array at a place, borrowed. `None`: none is given.
+    pub fn optional_items(&self, place: usize) -> Option<&Items>
+        ensures { option_map (λ items. items_of items.now) result ≡ optional_items place (arguments_of self.now) }
+    {
+        match self.get(place) {
+            Some(Value::List(items)) => Some(items),
+            _ => None,
+        }
+    }
+
+    /// The members of the object at a place, borrowed. `None`: none is given.
+    pub fn optional_fields(&self, place: usize) -> Option<&Fields>
+        ensures { option_map (λ fields. members_of fields.now) result ≡ optional_members place (arguments_of self.now) }
+    {
+        match self.get(place) {
+            Some(Value::Object(fields)) => Some(fields),
+            _ => None,
         }
     }
 }

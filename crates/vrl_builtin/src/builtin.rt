@@ -1,4 +1,5 @@
 ghost use Rattle.std.specs.Prelude.{◌≡◌, map, length, IfOk, IsTrue};
+ghost use Rattle.vrl_value.specs.View.{tree_of};
 ghost use Rattle.vrl_kind.specs.Kinds.{tags_at};
 ghost use Rattle.vrl_kind.specs.Sets.{SameSets};
 ghost use Rattle.vrl_builtin.specs.Conditions.{arguments_below, first_wrong, literals_below, AreArguments, AreGiven};
@@ -14,7 +15,7 @@ use crate::setting::Setting;
 use std::alloc::Global;
 use vrl_kind::Kind;
 use vrl_pattern::Patterns;
-use vrl_value::Memory;
+use vrl_value::{Memory, Value};
 
 /// A function of the language.
 pub trait Builtin {
@@ -29,10 +30,31 @@ pub trait Builtin {
     fn parameters(&self) -> &'static [Parameter]
         ensures { map parameter_row result.now ≡ (row self.now).parameters };
 
+    /// Whether the literal is one that the function allows at the place of a parameter which wants one. Where no parameter wants one, nothing
+    /// asks.
+    fn accepts(&self, place: usize, literal: &Value) -> bool
+        ensures { result ≡ (row self.now).accepts place (tree_of literal.now) };
+
     /// The place of the first parameter that wants a literal and was given one that the function doesn't allow. `None`: there is no such
     /// parameter.
     fn wrong_literal(&self, given: &Givens) -> Option<usize>
-        ensures { result ≡ first_wrong (row self.now) (givens_of given.now) };
+        ensures { result ≡ first_wrong (row self.now) (givens_of given.now) }
+    {
+        let mut place = 0;
+        let mut left = self.parameters();
+        while let Some((parameter, others)) = left.split_first() {
+            if parameter.literal {
+                if let Some(literal) = given.literal(place) {
+                    if !self.accepts(place, literal) {
+                        return Some(place);
+                    }
+                }
+            }
+            place += 1;
+            left = others;
+        }
+        None
+    }
 
     /// The kind of the result of a call with such arguments. Each required parameter has an argument, each argument for a parameter that
     /// wants a literal is one that is allowed, and each regex among the literals is one of the patterns. `Memory`: want of memory.

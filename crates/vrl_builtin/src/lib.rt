@@ -11,6 +11,8 @@ mod failing;
 mod given;
 mod law;
 mod numeral;
+mod of_parts;
+mod one_tag;
 mod parameter;
 mod setting;
 mod tags;
@@ -18,10 +20,14 @@ mod tags;
 pub use arguments::Arguments;
 pub use builtin::Builtin;
 pub use cutting::cut_down;
-pub use failing::{Applied, fail};
+pub use failing::{
+    Applied, fail, fail_at_element, fail_at_path_element, fail_at_value, first_other,
+};
 pub use given::{Given, Givens};
 pub use law::keeps_law;
 pub use numeral::read_integer;
+pub use of_parts::{array_of, object_of};
+pub use one_tag::OneTag;
 pub use parameter::Parameter;
 pub use setting::Setting;
 pub use tags::Tags;

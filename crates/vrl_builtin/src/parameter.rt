@@ -12,3 +12,29 @@ pub struct Parameter {
     /// Its argument must be written as a literal.
     pub literal: bool,
 }
+
+/// A parameter whose argument must be given: its name, and the tags that are allowed.
+#[macro_export]
+macro_rules! required {
+    ($name:expr, $allowed:expr) => {
+        $crate::Parameter {
+            name: $name,
+            allowed: $allowed,
+            required: true,
+            literal: false,
+        }
+    };
+}
+
+/// A parameter whose argument may be left out: its name, and the tags that are allowed.
+#[macro_export]
+macro_rules! optional {
+    ($name:expr, $allowed:expr) => {
+        $crate::Parameter {
+            name: $name,
+            allowed: $allowed,
+            required: false,
+            literal: false,
+        }
+    };
+}

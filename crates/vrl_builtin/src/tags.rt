@@ -61,6 +61,43 @@ impl Tags {
         ..Tags::NONE
     };
 
+    /// Booleans alone.
+    pub const BOOLEAN: Tags = Tags {
+        boolean: true,
+        ..Tags::NONE
+    };
+
+    /// Timestamps alone.
+    pub const TIMESTAMP: Tags = Tags {
+        timestamp: true,
+        ..Tags::NONE
+    };
+
+    /// Regexes alone.
+    pub const REGEX: Tags = Tags {
+        regex: true,
+        ..Tags::NONE
+    };
+
+    /// Arrays alone.
+    pub const ARRAY: Tags = Tags {
+        array: true,
+        ..Tags::NONE
+    };
+
+    /// Objects alone.
+    pub const OBJECT: Tags = Tags {
+        object: true,
+        ..Tags::NONE
+    };
+
+    /// Arrays and objects.
+    pub const CONTAINERS: Tags = Tags {
+        array: true,
+        object: true,
+        ..Tags::NONE
+    };
+
     /// The tag alone; none at [`Tag::Absent`].
     pub fn only(tag: Tag) -> Tags
         ensures { result ≡ only_tag tag }
