@@ -11,7 +11,7 @@ use Rattle.vrl_syntax.specs.Written.{is_del}
 use Rattle.vrl_syntax.specs.declared.root.Target.{Target}
 use Rattle.vrl_syntax.specs.declared.root.Target.TheVariants as target
 use Rattle.vrl_token.specs.declared.token.Spanned.{Spanned}
-use Rattle.vrl_parse.specs.Reading.{IsWrong, no_script, path_fault, parse_codes}
+use Rattle.vrl_parse.specs.Reading.{IsScriptFault, no_script, path_fault, parse_codes}
 
 abbrev is_limit : Diagnostic → Bool
 is_limit d = (d.code == 1007) || (d.code == 1012)
@@ -104,6 +104,6 @@ first_code ds d es all is =
     let each : (is_limit d && list_all is_limit es) ≡ true = subst AreLimits is all in
     limit_code d.code (which_limit d.code (or_cases (d.code == 1007) (d.code == 1012) (and_parts (is_limit d) (list_all is_limit es) each).0))
 
-pub wrong_code : (ts : List Spanned) (d : Diagnostic) → IsWrong ts d → Contains parse_codes d.code
+pub wrong_code : (ts : List Spanned) (d : Diagnostic) → IsScriptFault ts d → Contains parse_codes d.code
 wrong_code ts d (no_script is none) = (0, omega arith, sym is)
 wrong_code ts d (path_fault {s = s} {ds = ds} reads faults) = first_code (exprs_faults s.items) d ds (exprs_limits s.items) faults

@@ -11,6 +11,7 @@ use Rattle.vrl_token.specs.declared.token.Token.TheVariants as token
 use Rattle.vrl_word.specs.declared.sign.Sign.{Sign}
 use Rattle.vrl_word.specs.declared.sign.Sign.TheVariants as sign
 use Rattle.vrl_parse.specs.Descent.{Piece, Said, Says, Takes, takes}
+use Rattle.vrl_parse.specs.FirstWords.{Holds}
 use Rattle.vrl_word.specs.Signs.{token_of}
 use Rattle.vrl_word.specs.Words.{Word, function_of, operator_of, path_of, regex_of, target_at, words_from}
 
@@ -34,6 +35,10 @@ pub takes_counted : {all ts : List Spanned} {t : Spanned} (n : ℕ) {m : ℕ} (k
 takes_counted {all} {ts} {t} n {m} k v split count says =
     subst (λ l. Takes k (words_from n l) v t.span (words_from m ts)) (sym split)
     (subst (λ i. Takes k (words_from n (t ∷ ts)) v t.span (words_from i ts)) (sym count) (takes v says))
+
+-- the first token says so
+pub holds_first : {all ts : List Spanned} {t : Spanned} (n : ℕ) (k : Piece) (v : Said k) → all ≡ t ∷ ts → Says k (word_of t n) v → Holds k (words_from n all)
+holds_first n k v split says = subst (λ l. Holds k (words_from n l)) (sym split) (v, says)
 
 -- ---- words that are no regex literals
 

@@ -1,10 +1,10 @@
 -- What the parser's functions promise of the words before it.
-use Rattle.std.specs.Prelude.{◌≡◌, Bool, true, false, List}
+use Rattle.std.specs.Prelude.{◌≡◌, Bool, true, false, List, [], ◌∷◌}
 use Rattle.vrl_diag.specs.declared.diagnostic.Diagnostic.{Diagnostic}
 use Rattle.vrl_parse.specs.declared.parser.Operand.{Operand as CodeOperand}
 use Rattle.vrl_parse.specs.declared.parser.Operand.TheVariants as code
 use Rattle.vrl_parse.specs.declared.parser.Parser.{Parser}
-use Rattle.vrl_parse.specs.Descent.{a_block, a_call, a_group, a_literal, a_negation, a_path, an_array, an_if, an_object, Lacks, Look, Meaning, Operand, Piece, Program, Rule, Runs, Sees, refused}
+use Rattle.vrl_parse.specs.Descent.{a_block, a_call, a_group, a_literal, a_negation, a_path, an_array, an_if, an_object, Lacks, Look, Meaning, Operand, Piece, Program, Rule, Runs, Said, Says, Sees, refused}
 use Rattle.vrl_word.specs.Words.{Word, words_from}
 
 -- the words that a parser has before it
@@ -19,6 +19,11 @@ pub record Tells (b : Bool) (l : Look) (ws : List Word) : Type 0 where
 -- there is no first word that can be taken so
 pub record Without (k : Piece) (ws : List Word) : Type 0 where
   pub lacks : Lacks k ws
+
+-- there is a first word that can be taken so
+abbrev pub Holds : Piece → List Word → Type 0
+Holds k [] = ⊥
+Holds k (w ∷ ws) = (v : Said k) × Says k w v
 
 -- the fault is that there is none
 pub record Missing (k : Piece) (ws : List Word) (d : Diagnostic) : Type 0 where

@@ -18,9 +18,9 @@ pub record Reads (ts : List Spanned) (s : Script) : Type 0 where
   pub patterns : s.patterns ≡ sources_of ts
 
 -- what is wrong with tokens: that no script is read from them, or the first path that breaks a limit
-pub data IsWrong (ts : List Spanned) (d : Diagnostic) : Type 0 where
-  no_script : d.code ≡ 203 → ((s : Script) → ¬ Reads ts s) → IsWrong ts d
-  path_fault : {s : Script} {ds : List Diagnostic} → Reads ts s → exprs_faults s.items ≡ d ∷ ds → IsWrong ts d
+pub data IsScriptFault (ts : List Spanned) (d : Diagnostic) : Type 0 where
+  no_script : d.code ≡ 203 → ((s : Script) → ¬ Reads ts s) → IsScriptFault ts d
+  path_fault : {s : Script} {ds : List Diagnostic} → Reads ts s → exprs_faults s.items ≡ d ∷ ds → IsScriptFault ts d
 
 -- the codes of what can be wrong with tokens
 abbrev pub parse_codes : List ℕ

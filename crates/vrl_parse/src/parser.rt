@@ -1,4 +1,4 @@
-ghost use Rattle.std.specs.Prelude.{◌≡◌, ◌↔◌, ℕ, IsTrue};
+ghost use Rattle.std.specs.Prelude.{◌≡◌, ◌≢◌, ◌↔◌, ℕ, IsTrue};
 ghost use Rattle.vrl_parse.specs.Descent.{at_end, before, Begins, expression_end, name_word, next, operand_at, path_word};
 ghost use Rattle.vrl_parse.specs.FirstWords.{Tells, told_operand, words_left};
 ghost use Rattle.vrl_token.specs.OnFault.{OnFault};
@@ -45,7 +45,8 @@ impl<'a> Parser<'a> {
 
     // That no script goes on with the next token, or that none ends there.
     pub(crate) fn fault(&self) -> SyntaxFault
-        ensures { OnFault (λ d. d.code ≡ 203) result }
+        ensures code { OnFault (λ d. d.code ≡ 203) result }
+        ensures memory { result ≢ SyntaxFault.Memory }
     {
         let span = match self.rest.first() {
             Some(word) => word.span,

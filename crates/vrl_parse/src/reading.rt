@@ -5,7 +5,7 @@ ghost use Rattle.vrl_syntax.specs.Limits.{exprs_faults, KeepsLimits};
 ghost use Rattle.vrl_syntax.specs.Regexes.{IsNumbered};
 ghost use Rattle.vrl_syntax.specs.View.{exprs_of, script_of};
 ghost use Rattle.vrl_token.specs.OnFault.{OnFault};
-ghost use Rattle.vrl_parse.specs.Reading.{parse_codes, IsWrong, Reads, sources_of};
+ghost use Rattle.vrl_parse.specs.Reading.{parse_codes, IsScriptFault, Reads, sources_of};
 ghost use Rattle.vrl_word.specs.Words.{regex_of};
 
 use crate::parser::Parser;
@@ -26,7 +26,7 @@ pub fn parse(alloc: Global, tokens: &Tokens) -> Result<Script, SyntaxFault>
     ensures script { IfOk result (λ script. Reads tokens.now.tokens (script_of script)) }
     ensures limits { IfOk result (λ script. KeepsLimits (exprs_of script.items)) }
     ensures regexes { IfOk result (λ script. IsNumbered (script_of script)) }
-    ensures fault { IfErr result (OnFault (IsWrong tokens.now.tokens)) }
+    ensures fault { IfErr result (OnFault (IsScriptFault tokens.now.tokens)) }
     ensures codes { IfErr result (OnFault (λ fault. Contains parse_codes fault.code)) }
 {
     let words = tokens.as_slice();

@@ -1,7 +1,7 @@
-ghost use Rattle.std.specs.Prelude.{◌≡◌, ◌+◌, ◌<◌, ◌≤◌, IfErr, IfNone, IfOk, IfSome, OnOk, OnSome, length};
+ghost use Rattle.std.specs.Prelude.{◌≡◌, ◌≢◌, ◌+◌, ◌-◌, ◌^◌, ◌<◌, ◌≤◌, Err, IfErr, IfNone, IfOk, IfSome, IsErr, OnOk, OnSome, length};
 ghost use Rattle.vrl_value.specs.View.{tree_of};
 ghost use Rattle.vrl_parse.specs.Descent.{function_word, key_word, literal_word, name_word, operator_word, path_word, sign_word, suffix_word, Takes, target_word};
-ghost use Rattle.vrl_parse.specs.FirstWords.{Missing, Without, words_left};
+ghost use Rattle.vrl_parse.specs.FirstWords.{Holds, Missing, Without, words_left};
 ghost use Rattle.vrl_token.specs.OnFault.{OnFault};
 ghost use Rattle.vrl_word.specs.Signs.{token_of};
 ghost use Rattle.vrl_word.specs.Words.{regex_of};
@@ -35,6 +35,7 @@ impl<'a> Parser<'a> {
     pub(crate) fn expect(&mut self, sign: Sign) -> Result<Span, SyntaxFault>
         ensures takes { IfOk result (λ span. Takes (sign_word (token_of sign)) (words_left self.old) tt span (words_left self.new)) }
         ensures refuses { IfErr result (OnFault (Missing (sign_word (token_of sign)) (words_left self.old))) }
+        ensures memory { result ≢ Err SyntaxFault.Memory }
         ensures shorter { OnOk result (length self.new.rest.now < length self.old.rest.now) }
     {
         match self.take(sign) {
@@ -64,6 +65,7 @@ impl<'a> Parser<'a> {
     pub(crate) fn target(&mut self) -> Result<(Target, Span), SyntaxFault>
         ensures takes { IfOk result (λ found. Takes target_word (words_left self.old) found.0 found.1 (words_left self.new)) }
         ensures refuses { IfErr result (OnFault (Missing target_word (words_left self.old))) }
+        ensures memory { result ≡ Err SyntaxFault.Memory → Holds target_word (words_left self.old) }
         ensures shorter { OnOk result (length self.new.rest.now < length self.old.rest.now) }
     {
         let Some((first, rest)) = self.rest.split_first() else {
@@ -82,6 +84,7 @@ impl<'a> Parser<'a> {
     pub(crate) fn name(&mut self) -> Result<(Chars, Span), SyntaxFault>
         ensures takes { IfOk result (λ found. Takes name_word (words_left self.old) found.0 found.1 (words_left self.new)) }
         ensures refuses { IfErr result (OnFault (Missing name_word (words_left self.old))) }
+        ensures memory { result ≡ Err SyntaxFault.Memory → Holds name_word (words_left self.old) }
         ensures shorter { OnOk result (length self.new.rest.now < length self.old.rest.now) }
     {
         let Some((first, rest)) = self.rest.split_first() else {
@@ -100,6 +103,7 @@ impl<'a> Parser<'a> {
     pub(crate) fn key(&mut self) -> Result<(Chars, Span), SyntaxFault>
         ensures takes { IfOk result (λ found. Takes key_word (words_left self.old) found.0 found.1 (words_left self.new)) }
         ensures refuses { IfErr result (OnFault (Missing key_word (words_left self.old))) }
+        ensures memory { result ≡ Err SyntaxFault.Memory → Holds key_word (words_left self.old) }
         ensures shorter { OnOk result (length self.new.rest.now < length self.old.rest.now) }
     {
         let Some((first, rest)) = self.rest.split_first() else {
@@ -118,6 +122,7 @@ impl<'a> Parser<'a> {
     pub(crate) fn function(&mut self) -> Result<((Chars, bool), Span), SyntaxFault>
         ensures takes { IfOk result (λ found. Takes function_word (words_left self.old) found.0 found.1 (words_left self.new)) }
         ensures refuses { IfErr result (OnFault (Missing function_word (words_left self.old))) }
+        ensures memory { result ≡ Err SyntaxFault.Memory → Holds function_word (words_left self.old) }
         ensures shorter { OnOk result (length self.new.rest.now < length self.old.rest.now) }
     {
         let Some((first, rest)) = self.rest.split_first() else {
@@ -136,6 +141,7 @@ impl<'a> Parser<'a> {
     pub(crate) fn path(&mut self) -> Result<((Root, Path), Span), SyntaxFault>
         ensures takes { IfOk result (λ found. Takes path_word (words_left self.old) found.0 found.1 (words_left self.new)) }
         ensures refuses { IfErr result (OnFault (Missing path_word (words_left self.old))) }
+        ensures memory { result ≡ Err SyntaxFault.Memory → Holds path_word (words_left self.old) }
         ensures shorter { OnOk result (length self.new.rest.now < length self.old.rest.now) }
     {
         let Some((first, rest)) = self.rest.split_first() else {
@@ -154,6 +160,7 @@ impl<'a> Parser<'a> {
     pub(crate) fn literal(&mut self) -> Result<(Value, Span), SyntaxFault>
         ensures takes { IfOk result (λ found. Takes literal_word (words_left self.old) (tree_of found.0) found.1 (words_left self.new)) }
         ensures refuses { IfErr result (OnFault (Missing literal_word (words_left self.old))) }
+        ensures memory { result ≡ Err SyntaxFault.Memory → Holds literal_word (words_left self.old) }
         ensures shorter { OnOk result (length self.new.rest.now < length self.old.rest.now) }
     {
         let Some((first, rest)) = self.rest.split_first() else {
@@ -189,7 +196,8 @@ impl<'a> Parser<'a> {
 
 // How many regex literals there are with this token, given how many there are before it.
 fn count_pattern(token: &Token, number: u32) -> Result<u32, Memory>
-    ensures { IfOk result (λ count. count ≡ length (regex_of token.now) + number) }
+    ensures count { IfOk result (λ count. count ≡ length (regex_of token.now) + number) }
+    ensures memory { IsErr result → number ≡ 2 ^ 32 - 1 }
 {
     match token {
         Token::Regex(_) => number.checked_add(1).ok_or(Memory),

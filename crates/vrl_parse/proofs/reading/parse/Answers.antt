@@ -3,7 +3,7 @@ use Rattle.vrl_syntax.specs.Tree.{Script}
 use Rattle.vrl_syntax.specs.View.{exprs_of}
 use Rattle.vrl_parse.specs.Descent.{program_of, refused, Runs, script, took}
 use Rattle.vrl_parse.specs.FirstWords.{words_left}
-use Rattle.vrl_parse.specs.Reading.{no_script, sources_of, IsWrong}
+use Rattle.vrl_parse.specs.Reading.{no_script, sources_of, IsScriptFault}
 use Rattle.vrl_word.specs.Words.{words_from}
 use Rattle.vrl_parse.proofs.Ends.{read_all, unread, wrong_path}
 use Rattle.vrl_parse.proofs.LimitCodes.{wrong_code}
@@ -23,7 +23,7 @@ returns-then-not-is_done-clause-fault c =
     let ts = c.args.tokens.now.tokens in
     let start : words_left c.new-parser.result ≡ words_from 0 ts = c.new-parser.ensures ∙ ap (words_from 0) c.as_slice-words.ensures in
     let run = subst (λ ws. Runs script (program_of script) ws (took (exprs_of c.in_ok-items.items) (words_left c.script.new.self))) start c.in_ok-items.ensures.takes in
-    weaker _ _ _ (λ d h. no_script h (unread ts _ _ (c.is_done.ensures.no (search rules)) run)) c.fault.ensures
+    weaker _ _ _ (λ d h. no_script h (unread ts _ _ (c.is_done.ensures.no (search rules)) run)) c.fault.ensures.code
 
 pub returns-in-Some-clause-fault : goal.returns-in-Some-clause-fault
 returns-in-Some-clause-fault c =

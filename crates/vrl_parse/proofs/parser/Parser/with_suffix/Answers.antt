@@ -1,7 +1,8 @@
 use Rattle.std.proofs.Common.{ap, ◌∙◌}
 use Rattle.vrl_syntax.specs.Tree.{expr, query}
 use Rattle.vrl_syntax.specs.View.{expr_of}
-use Rattle.vrl_word.specs.Words.{over, span_of}
+use Rattle.vrl_syntax.specs.Tree.{span_of}
+use Rattle.vrl_word.specs.Words.{over}
 use Rattle.vrl_parse.specs.Descent.{ran, taken}
 use Rattle.vrl_parse.proofs.Walks.{answered, passed}
 use Rattle.vrl_parse.proofs.parser.Parser.with_suffix.Goals as goal
