@@ -1,5 +1,6 @@
 -- From tokens to what single words say.
-use Rattle.std.proofs.Common.{◌≡◌, ◌+◌, ℕ, Bool, List, [], ◌∷◌, Some, length, refl, sym, subst, ap, ◌∙◌, zero-add}
+use Rattle.std.proofs.Common.{◌≡◌, ◌+◌, ℕ, Bool, IsTrue, List, [], ◌∷◌, Some, length, refl, sym, subst, ap, ◌∙◌, zero-add}
+use Rattle.vrl_value.specs.Tree.{Tree, string}
 use Rattle.vrl_diag.specs.declared.diagnostic.Span.{Span}
 use Rattle.vrl_path.specs.declared.path.Step.{Step}
 use Rattle.vrl_syntax.specs.declared.root.Op.{Op}
@@ -13,7 +14,7 @@ use Rattle.vrl_word.specs.declared.sign.Sign.TheVariants as sign
 use Rattle.vrl_parse.specs.Descent.{Piece, Said, Says, Takes, takes}
 use Rattle.vrl_parse.specs.FirstWords.{Holds}
 use Rattle.vrl_word.specs.Signs.{token_of}
-use Rattle.vrl_word.specs.Words.{Word, function_of, operator_of, path_of, regex_of, target_at, words_from}
+use Rattle.vrl_word.specs.Words.{Word, function_of, is_copied, literal_at, operator_of, path_of, regex_of, target_at, words_from}
 
 -- the word of a token that has so many regex literals before it
 abbrev pub word_of : Spanned → ℕ → Word
@@ -39,6 +40,12 @@ takes_counted {all} {ts} {t} n {m} k v split count says =
 -- the first token says so
 pub holds_first : {all ts : List Spanned} {t : Spanned} (n : ℕ) (k : Piece) (v : Said k) → all ≡ t ∷ ts → Says k (word_of t n) v → Holds k (words_from n all)
 holds_first n k v split says = subst (λ l. Holds k (words_from n l)) (sym split) (v, says)
+
+-- a literal that is copied says its text
+pub copied_says : (t : Token) (n : ℕ) → IsTrue (is_copied t) → (v : Tree) × (literal_at t n ≡ Some v)
+copied_says (token.Text s) n copied = (string s, refl)
+copied_says (token.RawText s) n copied = (string s, refl)
+copied_says t n copied = let wrong : ⊥ = cc in absurd wrong
 
 -- ---- words that are no regex literals
 

@@ -6,5 +6,5 @@ use Rattle.vrl_parse.proofs.parser.Parser.function.Goals as goal
 
 pub returns-in-Some-2-clause-takes : goal.returns-in-Some-2-clause-takes
 returns-in-Some-2-clause-takes c =
-    let says : function_of c.in-Some.first.now.token ≡ Some c.in-Some-2.function = sym c.in_ok-function.ensures ∙ c.in-Some-2.is in
+    let says : function_of c.in-Some.first.now.token ≡ Some c.in-Some-2.function = sym c.in_ok-function.ensures.found ∙ c.in-Some-2.is in
     takes_first c.args.self.now.patterns function_word _ c.in-Some.ensures.cases.0 (regex_of-function _ says) says

@@ -6,5 +6,5 @@ use Rattle.vrl_parse.proofs.parser.Parser.path.Goals as goal
 
 pub returns-in-Some-2-clause-takes : goal.returns-in-Some-2-clause-takes
 returns-in-Some-2-clause-takes c =
-    let says : path_of c.in-Some.first.now.token ≡ Some c.in-Some-2.path = sym c.in_ok-path.ensures ∙ c.in-Some-2.is in
+    let says : path_of c.in-Some.first.now.token ≡ Some c.in-Some-2.path = sym c.in_ok-path.ensures.found ∙ c.in-Some-2.is in
     takes_first c.args.self.now.patterns path_word _ c.in-Some.ensures.cases.0 (regex_of-path _ says) says
