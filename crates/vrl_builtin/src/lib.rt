@@ -2,6 +2,11 @@
 //!
 //! A function is a type that implements [`Builtin`]. A contract sees it as its `Row`, and the law of [`Builtin`] ties what a row says
 //! of kinds to what it says of values, so that neither the judgement nor the runner needs to know a function.
+//!
+//! Files: `builtin.rt` has the trait and `law.rt` its law, and `one_tag.rt` the trait of functions whose results have one tag. `parameter.rt`,
+//! `tags.rt`, `given.rt`, `arguments.rt`, `setting.rt` and `failing.rt` have what the methods take and give, `of_parts.rt` arrays and objects made of
+//! parts, `cutting.rt` kinds cut down to tags, and `numeral.rt` the numbers that functions read in texts. Of the definitions `Rows` says what a row
+//! is, `Conditions` what is asked of a call, and `Law` the law.
 #![tactic(auto)]
 
 mod arguments;

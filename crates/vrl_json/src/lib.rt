@@ -1,6 +1,8 @@
 //! Lines of JSON: a line's bytes to its value, and a value to its line.
 //!
 //! What a text stands for, and which text a value has, is `serde_json`'s own definition.
+//!
+//! Files: `read.rt` reads a line, `write.rt` writes one, and `fault.rt` says why no value was read.
 #![tactic(auto)]
 
 mod fault;

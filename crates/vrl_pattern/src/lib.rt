@@ -2,6 +2,9 @@
 //!
 //! What a source means is told by the grammar of the crate `regex` under its own options. A contract sees
 //! [`Patterns`] as the list of their sources.
+//!
+//! Files: `patterns.rt` has the regexes of a script, `malformed.rt` which sources are malformed, `groups.rt` the names of groups, and `fault.rt` why regexes
+//! weren't built.
 #![tactic(auto)]
 
 mod fault;

@@ -2,6 +2,9 @@
 //! that are open.
 //!
 //! A contract sees a [`State`] as dead, or as a map from roots to kinds, with the list of its scopes.
+//!
+//! Files: `state.rt` has the calls and `branch.rt` what marks and branches are; they stand on `roots.rt` (what is known of each root), `variables.rt`,
+//! `block.rt` and `kinds.rt` (kinds that are cut). `known.rt` tells what is known as a list, and `laws.rt` that stores go on fitting what is known.
 #![tactic(auto)]
 
 mod block;
