@@ -2,27 +2,25 @@
 use Rattle.std.specs.Prelude.{ℕ, ℤ, true, List, [], ◌∷◌, Option, Some, None, codes, unsigned_abs, if◌then◌else◌}
 use Rattle.vrl_value.specs.Tree.{integer}
 use Rattle.vrl_value.specs.declared.value.Tag.TheVariants.{Int}
-use Rattle.vrl_kind.specs.Kinds.{only_at}
-use Rattle.vrl_builtin.specs.Rows.{Row, Answer, value, failed, parameter, optional_parameter, any_literal, text_at, optional_integer}
+use Rattle.vrl_builtin.specs.OneTag.{OneTagRow}
+use Rattle.vrl_builtin.specs.Rows.{Answer, failure, told, parameter, optional_parameter, text_at, optional_integer}
 use Rattle.vrl_builtin.specs.TagSets.{integers, strings}
 use Rattle.vrl_builtin.specs.Numeral.{read_in}
 use Rattle.fn_number.specs.Numeral.{is_base, read_by_prefix}
 
-abbrev pub told : Option ℤ → Answer
-told None = failed (codes "parse_int") (codes "not a whole number")
-told (Some n) = value (integer n)
+abbrev pub read : Option ℤ → Answer
+read number = told integer (codes "not a whole number") number
 
 -- in the base, or in that of the prefix where none is given
 abbrev pub parsed : List ℕ → Option ℤ → Answer
-parsed text None = told (read_by_prefix text)
-parsed text (Some base) = if is_base base then told (read_in (unsigned_abs base) text) else failed (codes "parse_int") (codes "bad base")
+parsed text None = read (read_by_prefix text)
+parsed text (Some base) = if is_base base then read (read_in (unsigned_abs base) text) else failure (codes "bad base")
 
-abbrev pub parse_int_row : Row
+abbrev pub parse_int_row : OneTagRow
 parse_int_row = record {
   name = codes "parse_int";
   parameters = parameter (codes "value") strings ∷ optional_parameter (codes "base") integers ∷ [];
-  accepts = any_literal;
-  kind = λ givens sources. only_at Int;
+  tag = Int;
   may_fail = λ givens. true;
   means = λ arguments setting. parsed (text_at 0 [] arguments) (optional_integer 1 arguments);
 }

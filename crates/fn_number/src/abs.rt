@@ -2,25 +2,18 @@ ghost use Rattle.fn_number.specs.Abs.{abs_row};
 ghost use Rattle.fn_number.specs.Laws.{abs-law};
 
 use std::alloc::Global;
-use vrl_builtin::{Applied, Arguments, Builtin, Givens, Parameter, Setting, Tags};
-use vrl_kind::Kind;
-use vrl_pattern::Patterns;
-use vrl_value::{Memory, Tag, Value};
+use vrl_builtin::{Applied, Arguments, Givens, OneTag, Parameter, Setting, Tags, required};
+use vrl_value::{Tag, Value};
 
 /// `abs(value: integer)`: integer. The number without its sign; the least number stays as it is, since 64 bits hold no counterpart of it. It
 /// never fails. `abs(-3)` is 3.
 #[derive(Clone, Copy)]
 pub struct Abs;
 
-static PARAMETERS: [Parameter; 1] = [Parameter {
-    name: "value",
-    allowed: Tags::INTEGER,
-    required: true,
-    literal: false,
-}];
+static PARAMETERS: [Parameter; 1] = [required!("value", Tags::INTEGER)];
 
-impl Builtin for Abs {
-    ghost row = { λ _. abs_row };
+impl OneTag for Abs {
+    ghost one_tag_row = { λ _. abs_row };
 
     fn name(&self) -> &'static str {
         "abs"
@@ -30,17 +23,8 @@ impl Builtin for Abs {
         &PARAMETERS
     }
 
-    fn wrong_literal(&self, _given: &Givens) -> Option<usize> {
-        None
-    }
-
-    fn result_kind(
-        &self,
-        alloc: Global,
-        _given: &Givens,
-        _patterns: &Patterns,
-    ) -> Result<Kind, Memory> {
-        Kind::of(alloc, Tag::Int)
+    fn tag(&self) -> Tag {
+        Tag::Int
     }
 
     fn may_fail(&self, _given: &Givens) -> bool {
@@ -51,5 +35,5 @@ impl Builtin for Abs {
         Applied::Value(Value::Int(arguments.integer(0, 0).wrapping_abs()))
     }
 
-    ghost law = { λ _. abs-law };
+    ghost one_tag = { λ _. abs-law };
 }

@@ -3,10 +3,10 @@ ghost use Rattle.fn_number.specs.Laws.{format_int-law};
 
 use crate::numeral;
 use std::alloc::Global;
-use vrl_builtin::{Applied, Arguments, Builtin, Givens, Parameter, Setting, Tags, fail};
-use vrl_kind::Kind;
-use vrl_pattern::Patterns;
-use vrl_value::{Chars, Memory, Tag, Value};
+use vrl_builtin::{
+    Applied, Arguments, Givens, OneTag, Parameter, Setting, Tags, fail, optional, required,
+};
+use vrl_value::{Chars, Tag, Value};
 
 /// `format_int(value: integer, base: integer = 10)`: string. The digits of the number in the base, in lower case, with `-` first where it is
 /// negative. It may fail unless the base isn't given or is a literal of 2 to 36. A base outside 2 to 36: `bad base`. `format_int(255, 16)` is
@@ -15,22 +15,12 @@ use vrl_value::{Chars, Memory, Tag, Value};
 pub struct FormatInt;
 
 static PARAMETERS: [Parameter; 2] = [
-    Parameter {
-        name: "value",
-        allowed: Tags::INTEGER,
-        required: true,
-        literal: false,
-    },
-    Parameter {
-        name: "base",
-        allowed: Tags::INTEGER,
-        required: false,
-        literal: false,
-    },
+    required!("value", Tags::INTEGER),
+    optional!("base", Tags::INTEGER),
 ];
 
-impl Builtin for FormatInt {
-    ghost row = { λ _. format_int_row };
+impl OneTag for FormatInt {
+    ghost one_tag_row = { λ _. format_int_row };
 
     fn name(&self) -> &'static str {
         "format_int"
@@ -40,17 +30,8 @@ impl Builtin for FormatInt {
         &PARAMETERS
     }
 
-    fn wrong_literal(&self, _given: &Givens) -> Option<usize> {
-        None
-    }
-
-    fn result_kind(
-        &self,
-        alloc: Global,
-        _given: &Givens,
-        _patterns: &Patterns,
-    ) -> Result<Kind, Memory> {
-        Kind::of(alloc, Tag::Text)
+    fn tag(&self) -> Tag {
+        Tag::Text
     }
 
     fn may_fail(&self, given: &Givens) -> bool {
@@ -64,7 +45,7 @@ impl Builtin for FormatInt {
     fn apply(&self, alloc: Global, arguments: &Arguments<'_>, _setting: &Setting<'_>) -> Applied {
         let base = arguments.integer(1, 10);
         if !(2..=36).contains(&base) {
-            return fail(alloc, "format_int", "bad base");
+            return fail(alloc, self.name(), "bad base");
         }
         match numeral::write(alloc, arguments.integer(0, 0), base as u32) {
             Ok(text) => Applied::Value(Value::Text(Chars::new(text))),
@@ -72,5 +53,5 @@ impl Builtin for FormatInt {
         }
     }
 
-    ghost law = { λ _. format_int-law };
+    ghost one_tag = { λ _. format_int-law };
 }

@@ -2,10 +2,8 @@ ghost use Rattle.fn_number.specs.Mod.{mod_row};
 ghost use Rattle.fn_number.specs.Laws.{mod-law};
 
 use std::alloc::Global;
-use vrl_builtin::{Applied, Arguments, Builtin, Givens, Parameter, Setting, Tags, fail};
-use vrl_kind::Kind;
-use vrl_pattern::Patterns;
-use vrl_value::{Memory, Tag, Value};
+use vrl_builtin::{Applied, Arguments, Givens, OneTag, Parameter, Setting, Tags, fail, required};
+use vrl_value::{Tag, Value};
 
 /// `mod(value: integer, modulus: integer)`: integer. The remainder, with the sign of the value; 0 for the least number by -1. It may fail
 /// unless the modulus is a literal other than 0: `modulus is 0`. `mod(-7, 3)` is -1.
@@ -13,22 +11,12 @@ use vrl_value::{Memory, Tag, Value};
 pub struct Mod;
 
 static PARAMETERS: [Parameter; 2] = [
-    Parameter {
-        name: "value",
-        allowed: Tags::INTEGER,
-        required: true,
-        literal: false,
-    },
-    Parameter {
-        name: "modulus",
-        allowed: Tags::INTEGER,
-        required: true,
-        literal: false,
-    },
+    required!("value", Tags::INTEGER),
+    required!("modulus", Tags::INTEGER),
 ];
 
-impl Builtin for Mod {
-    ghost row = { λ _. mod_row };
+impl OneTag for Mod {
+    ghost one_tag_row = { λ _. mod_row };
 
     fn name(&self) -> &'static str {
         "mod"
@@ -38,17 +26,8 @@ impl Builtin for Mod {
         &PARAMETERS
     }
 
-    fn wrong_literal(&self, _given: &Givens) -> Option<usize> {
-        None
-    }
-
-    fn result_kind(
-        &self,
-        alloc: Global,
-        _given: &Givens,
-        _patterns: &Patterns,
-    ) -> Result<Kind, Memory> {
-        Kind::of(alloc, Tag::Int)
+    fn tag(&self) -> Tag {
+        Tag::Int
     }
 
     fn may_fail(&self, given: &Givens) -> bool {
@@ -61,11 +40,11 @@ impl Builtin for Mod {
     fn apply(&self, alloc: Global, arguments: &Arguments<'_>, _setting: &Setting<'_>) -> Applied {
         let modulus = arguments.integer(1, 0);
         if modulus == 0 {
-            fail(alloc, "mod", "modulus is 0")
+            fail(alloc, self.name(), "modulus is 0")
         } else {
             Applied::Value(Value::Int(arguments.integer(0, 0).wrapping_rem(modulus)))
         }
     }
 
-    ghost law = { λ _. mod-law };
+    ghost one_tag = { λ _. mod-law };
 }

@@ -4,11 +4,10 @@ ghost use Rattle.fn_number.specs.Laws.{parse_int-law};
 use crate::numeral::read_by_prefix;
 use std::alloc::Global;
 use vrl_builtin::{
-    Applied, Arguments, Builtin, Givens, Parameter, Setting, Tags, fail, read_integer,
+    Applied, Arguments, Givens, OneTag, Parameter, Setting, Tags, fail, optional, read_integer,
+    required,
 };
-use vrl_kind::Kind;
-use vrl_pattern::Patterns;
-use vrl_value::{Memory, Tag, Value};
+use vrl_value::{Tag, Value};
 
 /// `parse_int(value: string, base: integer)`: integer. The whole number that an optional sign and digits of the base in either case write. It
 /// always may fail. A base outside 2 to 36: `bad base`. Another text, or more than 64 bits: `not a whole number`. Without a base, what stands
@@ -18,22 +17,12 @@ use vrl_value::{Memory, Tag, Value};
 pub struct ParseInt;
 
 static PARAMETERS: [Parameter; 2] = [
-    Parameter {
-        name: "value",
-        allowed: Tags::STRING,
-        required: true,
-        literal: false,
-    },
-    Parameter {
-        name: "base",
-        allowed: Tags::INTEGER,
-        required: false,
-        literal: false,
-    },
+    required!("value", Tags::STRING),
+    optional!("base", Tags::INTEGER),
 ];
 
-impl Builtin for ParseInt {
-    ghost row = { λ _. parse_int_row };
+impl OneTag for ParseInt {
+    ghost one_tag_row = { λ _. parse_int_row };
 
     fn name(&self) -> &'static str {
         "parse_int"
@@ -43,17 +32,8 @@ impl Builtin for ParseInt {
         &PARAMETERS
     }
 
-    fn wrong_literal(&self, _given: &Givens) -> Option<usize> {
-        None
-    }
-
-    fn result_kind(
-        &self,
-        alloc: Global,
-        _given: &Givens,
-        _patterns: &Patterns,
-    ) -> Result<Kind, Memory> {
-        Kind::of(alloc, Tag::Int)
+    fn tag(&self) -> Tag {
+        Tag::Int
     }
 
     fn may_fail(&self, _given: &Givens) -> bool {
@@ -65,13 +45,13 @@ impl Builtin for ParseInt {
         let number = match arguments.optional_integer(1) {
             None => read_by_prefix(text),
             Some(base) if (2..=36).contains(&base) => read_integer(text, base as u32),
-            Some(_) => return fail(alloc, "parse_int", "bad base"),
+            Some(_) => return fail(alloc, self.name(), "bad base"),
         };
         match number {
             Some(number) => Applied::Value(Value::Int(number)),
-            None => fail(alloc, "parse_int", "not a whole number"),
+            None => fail(alloc, self.name(), "not a whole number"),
         }
     }
 
-    ghost law = { λ _. parse_int-law };
+    ghost one_tag = { λ _. parse_int-law };
 }

@@ -3,8 +3,8 @@ use Rattle.std.specs.Prelude.{Bool, true, false, ◌==◌, [], ◌∷◌, codes,
 use Rattle.vrl_value.specs.Parts.{count_of, members_count}
 use Rattle.vrl_value.specs.Tree.{Tree, string, integer, boolean, null, timestamp, regex, array, object}
 use Rattle.vrl_value.specs.declared.value.Tag.TheVariants as tag
-use Rattle.vrl_kind.specs.Kinds.{only_at}
-use Rattle.vrl_builtin.specs.Rows.{Row, value, parameter, any_literal, value_at}
+use Rattle.vrl_builtin.specs.OneTag.{OneTagRow}
+use Rattle.vrl_builtin.specs.Rows.{value, parameter, value_at}
 use Rattle.vrl_builtin.specs.TagSets.{no_tags}
 
 abbrev pub is_empty : Tree → Bool
@@ -17,12 +17,11 @@ is_empty null = false
 is_empty (timestamp nanos) = false
 is_empty (regex n) = false
 
-abbrev pub is_empty_row : Row
+abbrev pub is_empty_row : OneTagRow
 is_empty_row = record {
   name = codes "is_empty";
   parameters = parameter (codes "value") (record no_tags { string = true; array = true; object = true }) ∷ [];
-  accepts = any_literal;
-  kind = λ givens sources. only_at tag.Bool;
+  tag = tag.Bool;
   may_fail = λ givens. false;
   means = λ arguments setting. value (boolean (is_empty (value_at 0 arguments)));
 }

@@ -4,8 +4,8 @@ use Rattle.std.specs.Char.{is_whitespace}
 use Rattle.std.specs.List.{list_all}
 use Rattle.vrl_value.specs.Tree.{Tree, string, integer, boolean, null, timestamp, regex, array, object}
 use Rattle.vrl_value.specs.declared.value.Tag.TheVariants as tag
-use Rattle.vrl_kind.specs.Kinds.{only_at}
-use Rattle.vrl_builtin.specs.Rows.{Row, value, parameter, any_literal, value_at}
+use Rattle.vrl_builtin.specs.OneTag.{OneTagRow}
+use Rattle.vrl_builtin.specs.Rows.{value, parameter, value_at}
 use Rattle.vrl_builtin.specs.TagSets.{any_tags}
 
 -- null, `-`, and a string of which each character is white space, as the empty one
@@ -19,12 +19,11 @@ is_nullish (regex n) = false
 is_nullish (array ts) = false
 is_nullish (object ms) = false
 
-abbrev pub is_nullish_row : Row
+abbrev pub is_nullish_row : OneTagRow
 is_nullish_row = record {
   name = codes "is_nullish";
   parameters = parameter (codes "value") any_tags ∷ [];
-  accepts = any_literal;
-  kind = λ givens sources. only_at tag.Bool;
+  tag = tag.Bool;
   may_fail = λ givens. false;
   means = λ arguments setting. value (boolean (is_nullish (value_at 0 arguments)));
 }

@@ -5,8 +5,8 @@ use Rattle.std.specs.List.{list_any}
 use Rattle.std.specs.Ordering.{int_eq}
 use Rattle.vrl_value.specs.Tree.{Tree, string, integer, boolean, null, timestamp, regex, array, object}
 use Rattle.vrl_value.specs.declared.value.Tag.TheVariants as tag
-use Rattle.vrl_kind.specs.Kinds.{only_at}
-use Rattle.vrl_builtin.specs.Rows.{Row, Answer, value, failed, parameter, any_literal, allowed_at, value_at}
+use Rattle.vrl_builtin.specs.OneTag.{OneTagRow}
+use Rattle.vrl_builtin.specs.Rows.{told, parameter, allowed_at, value_at}
 use Rattle.vrl_builtin.specs.TagSets.{no_tags}
 
 -- the same word, the case of ASCII letters ignored
@@ -36,16 +36,11 @@ truth_of (regex n) = Some false
 truth_of (array ts) = Some false
 truth_of (object ms) = Some false
 
-abbrev pub boolean_answer : Option Bool → Answer
-boolean_answer (Some b) = value (boolean b)
-boolean_answer None = failed (codes "to_bool") (codes "not a boolean word")
-
-abbrev pub to_bool_row : Row
+abbrev pub to_bool_row : OneTagRow
 to_bool_row = record {
   name = codes "to_bool";
   parameters = parameter (codes "value") (record no_tags { string = true; integer = true; boolean = true; null = true }) ∷ [];
-  accepts = any_literal;
-  kind = λ givens sources. only_at tag.Bool;
+  tag = tag.Bool;
   may_fail = λ givens. allowed_at 0 tag.Text givens;
-  means = λ arguments setting. boolean_answer (truth_of (value_at 0 arguments));
+  means = λ arguments setting. told boolean (codes "not a boolean word") (truth_of (value_at 0 arguments));
 }

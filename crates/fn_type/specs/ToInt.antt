@@ -1,11 +1,11 @@
 -- `to_int`: the whole number that a value without parts stands for.
-use Rattle.std.specs.Prelude.{if◌then◌else◌, ℤ, pos, false, [], ◌∷◌, Option, Some, None, codes}
+use Rattle.std.specs.Prelude.{if◌then◌else◌, ℤ, pos, false, [], ◌∷◌, Option, Some, codes}
 use Rattle.std.specs.Int.{int_div_euclid}
 use Rattle.vrl_value.specs.Tree.{Tree, string, integer, boolean, null, timestamp, regex, array, object}
 use Rattle.vrl_value.specs.declared.value.Tag.TheVariants as tag
-use Rattle.vrl_kind.specs.Kinds.{only_at}
 use Rattle.vrl_builtin.specs.Numeral.{read_in}
-use Rattle.vrl_builtin.specs.Rows.{Row, Answer, value, failed, parameter, any_literal, allowed_at, value_at}
+use Rattle.vrl_builtin.specs.OneTag.{OneTagRow}
+use Rattle.vrl_builtin.specs.Rows.{told, parameter, allowed_at, value_at}
 use Rattle.vrl_builtin.specs.TagSets.{any_tags}
 
 -- 0 for false and 1 for true, the whole seconds of a timestamp rounded down, the decimal number of a string; none where it writes none
@@ -19,16 +19,11 @@ whole_number (regex n) = Some (pos 0)
 whole_number (array ts) = Some (pos 0)
 whole_number (object ms) = Some (pos 0)
 
-abbrev pub integer_answer : Option ℤ → Answer
-integer_answer (Some n) = value (integer n)
-integer_answer None = failed (codes "to_int") (codes "not a whole number")
-
-abbrev pub to_int_row : Row
+abbrev pub to_int_row : OneTagRow
 to_int_row = record {
   name = codes "to_int";
   parameters = parameter (codes "value") (record any_tags { regex = false; array = false; object = false }) ∷ [];
-  accepts = any_literal;
-  kind = λ givens sources. only_at tag.Int;
+  tag = tag.Int;
   may_fail = λ givens. allowed_at 0 tag.Text givens;
-  means = λ arguments setting. integer_answer (whole_number (value_at 0 arguments));
+  means = λ arguments setting. told integer (codes "not a whole number") (whole_number (value_at 0 arguments));
 }

@@ -4,8 +4,8 @@ use Rattle.std.specs.Fmt.{signed_decimal}
 use Rattle.vrl_value.specs.MomentText.{moment_text}
 use Rattle.vrl_value.specs.Tree.{Tree, string, integer, boolean, null, timestamp, regex, array, object}
 use Rattle.vrl_value.specs.declared.value.Tag.TheVariants as tag
-use Rattle.vrl_kind.specs.Kinds.{only_at}
-use Rattle.vrl_builtin.specs.Rows.{Row, Answer, value, parameter, any_literal, value_at}
+use Rattle.vrl_builtin.specs.OneTag.{OneTagRow}
+use Rattle.vrl_builtin.specs.Rows.{value, parameter, value_at}
 use Rattle.vrl_builtin.specs.TagSets.{any_tags}
 
 -- other values aren't allowed
@@ -20,15 +20,11 @@ text_of (regex n) = []
 text_of (array ts) = []
 text_of (object ms) = []
 
-abbrev pub text_answer : Tree → Answer
-text_answer v = value (string (text_of v))
-
-abbrev pub to_string_row : Row
+abbrev pub to_string_row : OneTagRow
 to_string_row = record {
   name = codes "to_string";
   parameters = parameter (codes "value") (record any_tags { regex = false; array = false; object = false }) ∷ [];
-  accepts = any_literal;
-  kind = λ givens sources. only_at tag.Text;
+  tag = tag.Text;
   may_fail = λ givens. false;
-  means = λ arguments setting. text_answer (value_at 0 arguments);
+  means = λ arguments setting. value (string (text_of (value_at 0 arguments)));
 }

@@ -4,26 +4,22 @@ ghost use Rattle.fn_type.specs.IsEmpty.{is_empty, is_empty_row};
 ghost use Rattle.fn_type.specs.Laws.{is_empty-law};
 
 use std::alloc::Global;
-use vrl_builtin::{Applied, Arguments, Builtin, Givens, Parameter, Setting, Tags};
-use vrl_kind::Kind;
-use vrl_pattern::Patterns;
-use vrl_value::{Memory, Tag, Value};
+use vrl_builtin::{Applied, Arguments, Givens, OneTag, Parameter, Setting, Tags, required};
+use vrl_value::{Tag, Value};
 
 /// `is_empty(value: string, array or object)`: boolean. Whether the value has no byte or part. It never fails. `is_empty("")` is true.
 #[derive(Clone, Copy)]
 pub struct IsEmpty;
 
-static PARAMETERS: [Parameter; 1] = [Parameter {
-    name: "value",
-    allowed: Tags {
+static PARAMETERS: [Parameter; 1] = [required!(
+    "value",
+    Tags {
         string: true,
         array: true,
         object: true,
         ..Tags::NONE
-    },
-    required: true,
-    literal: false,
-}];
+    }
+)];
 
 fn is_empty(value: &Value) -> bool
     ensures { result ≡ is_empty (tree_of value.now) }
@@ -36,8 +32,8 @@ fn is_empty(value: &Value) -> bool
     }
 }
 
-impl Builtin for IsEmpty {
-    ghost row = { λ _. is_empty_row };
+impl OneTag for IsEmpty {
+    ghost one_tag_row = { λ _. is_empty_row };
 
     fn name(&self) -> &'static str {
         "is_empty"
@@ -47,17 +43,8 @@ impl Builtin for IsEmpty {
         &PARAMETERS
     }
 
-    fn wrong_literal(&self, _given: &Givens) -> Option<usize> {
-        None
-    }
-
-    fn result_kind(
-        &self,
-        alloc: Global,
-        _given: &Givens,
-        _patterns: &Patterns,
-    ) -> Result<Kind, Memory> {
-        Kind::of(alloc, Tag::Bool)
+    fn tag(&self) -> Tag {
+        Tag::Bool
     }
 
     fn may_fail(&self, _given: &Givens) -> bool {
@@ -68,5 +55,5 @@ impl Builtin for IsEmpty {
         Applied::Value(Value::Bool(is_empty(arguments.value(0))))
     }
 
-    ghost law = { λ _. is_empty-law };
+    ghost one_tag = { λ _. is_empty-law };
 }

@@ -6,22 +6,15 @@ ghost use Rattle.fn_type.specs.IsNullish.{is_nullish, is_nullish_row};
 ghost use Rattle.fn_type.specs.Laws.{is_nullish-law};
 
 use std::alloc::Global;
-use vrl_builtin::{Applied, Arguments, Builtin, Givens, Parameter, Setting, Tags};
-use vrl_kind::Kind;
-use vrl_pattern::Patterns;
-use vrl_value::{Memory, Tag, Value};
+use vrl_builtin::{Applied, Arguments, Givens, OneTag, Parameter, Setting, Tags, required};
+use vrl_value::{Tag, Value};
 
 /// `is_nullish(value: any)`: boolean. Whether the value is null, or a string that is empty, white space of Unicode alone, or `-`. It never
 /// fails. `is_nullish("-")` is true.
 #[derive(Clone, Copy)]
 pub struct IsNullish;
 
-static PARAMETERS: [Parameter; 1] = [Parameter {
-    name: "value",
-    allowed: Tags::ALL,
-    required: true,
-    literal: false,
-}];
+static PARAMETERS: [Parameter; 1] = [required!("value", Tags::ALL)];
 
 // Whether each character is white space.
 fn is_blank(text: &str) -> bool
@@ -40,8 +33,8 @@ fn is_nullish(value: &Value) -> bool
     }
 }
 
-impl Builtin for IsNullish {
-    ghost row = { λ _. is_nullish_row };
+impl OneTag for IsNullish {
+    ghost one_tag_row = { λ _. is_nullish_row };
 
     fn name(&self) -> &'static str {
         "is_nullish"
@@ -51,17 +44,8 @@ impl Builtin for IsNullish {
         &PARAMETERS
     }
 
-    fn wrong_literal(&self, _given: &Givens) -> Option<usize> {
-        None
-    }
-
-    fn result_kind(
-        &self,
-        alloc: Global,
-        _given: &Givens,
-        _patterns: &Patterns,
-    ) -> Result<Kind, Memory> {
-        Kind::of(alloc, Tag::Bool)
+    fn tag(&self) -> Tag {
+        Tag::Bool
     }
 
     fn may_fail(&self, _given: &Givens) -> bool {
@@ -72,5 +56,5 @@ impl Builtin for IsNullish {
         Applied::Value(Value::Bool(is_nullish(arguments.value(0))))
     }
 
-    ghost law = { λ _. is_nullish-law };
+    ghost one_tag = { λ _. is_nullish-law };
 }

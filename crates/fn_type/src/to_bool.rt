@@ -5,10 +5,8 @@ ghost use Rattle.fn_type.specs.ToBool.{is_word, truth_of, truth_of_word, to_bool
 ghost use Rattle.fn_type.specs.Laws.{to_bool-law};
 
 use std::alloc::Global;
-use vrl_builtin::{Applied, Arguments, Builtin, Givens, Parameter, Setting, Tags, fail};
-use vrl_kind::Kind;
-use vrl_pattern::Patterns;
-use vrl_value::{Memory, Tag, Value};
+use vrl_builtin::{Applied, Arguments, Givens, OneTag, Parameter, Setting, Tags, fail, required};
+use vrl_value::{Tag, Value};
 
 /// `to_bool(value: string, integer, boolean or null)`: boolean. The boolean itself; false for 0 and null, true for each other number; true
 /// for the strings `true`, `t`, `yes`, `y` and `1`, and false for `false`, `f`, `no`, `n` and `0`, in any case of their letters. It may
@@ -16,18 +14,16 @@ use vrl_value::{Memory, Tag, Value};
 #[derive(Clone, Copy)]
 pub struct ToBool;
 
-static PARAMETERS: [Parameter; 1] = [Parameter {
-    name: "value",
-    allowed: Tags {
+static PARAMETERS: [Parameter; 1] = [required!(
+    "value",
+    Tags {
         string: true,
         integer: true,
         boolean: true,
         null: true,
         ..Tags::NONE
-    },
-    required: true,
-    literal: false,
-}];
+    }
+)];
 
 // Whether the text is the word, in any case of their letters.
 fn is_word(text: &str, word: &str) -> bool
@@ -68,8 +64,8 @@ fn truth_of(value: &Value) -> Option<bool>
     }
 }
 
-impl Builtin for ToBool {
-    ghost row = { λ _. to_bool_row };
+impl OneTag for ToBool {
+    ghost one_tag_row = { λ _. to_bool_row };
 
     fn name(&self) -> &'static str {
         "to_bool"
@@ -79,17 +75,8 @@ impl Builtin for ToBool {
         &PARAMETERS
     }
 
-    fn wrong_literal(&self, _given: &Givens) -> Option<usize> {
-        None
-    }
-
-    fn result_kind(
-        &self,
-        alloc: Global,
-        _given: &Givens,
-        _patterns: &Patterns,
-    ) -> Result<Kind, Memory> {
-        Kind::of(alloc, Tag::Bool)
+    fn tag(&self) -> Tag {
+        Tag::Bool
     }
 
     fn may_fail(&self, given: &Givens) -> bool {
@@ -99,9 +86,9 @@ impl Builtin for ToBool {
     fn apply(&self, alloc: Global, arguments: &Arguments<'_>, _setting: &Setting<'_>) -> Applied {
         match truth_of(arguments.value(0)) {
             Some(truth) => Applied::Value(Value::Bool(truth)),
-            None => fail(alloc, "to_bool", "not a boolean word"),
+            None => fail(alloc, self.name(), "not a boolean word"),
         }
     }
 
-    ghost law = { λ _. to_bool-law };
+    ghost one_tag = { λ _. to_bool-law };
 }

@@ -6,11 +6,9 @@ ghost use Rattle.fn_type.specs.Laws.{to_int-law};
 
 use std::alloc::Global;
 use vrl_builtin::{
-    Applied, Arguments, Builtin, Givens, Parameter, Setting, Tags, fail, read_integer,
+    Applied, Arguments, Givens, OneTag, Parameter, Setting, Tags, fail, read_integer, required,
 };
-use vrl_kind::Kind;
-use vrl_pattern::Patterns;
-use vrl_value::{Memory, Moment, Tag, Value};
+use vrl_value::{Moment, Tag, Value};
 
 /// `to_int(value: string, integer, boolean, null or timestamp)`: integer. The number itself; 0 for false and 1 for true; 0 for null; the
 /// whole seconds of the timestamp since 1970, rounded down; the number that an optional `+` or `-` and decimal digits of the string write.
@@ -19,17 +17,15 @@ use vrl_value::{Memory, Moment, Tag, Value};
 #[derive(Clone, Copy)]
 pub struct ToInt;
 
-static PARAMETERS: [Parameter; 1] = [Parameter {
-    name: "value",
-    allowed: Tags {
+static PARAMETERS: [Parameter; 1] = [required!(
+    "value",
+    Tags {
         array: false,
         object: false,
         regex: false,
         ..Tags::ALL
-    },
-    required: true,
-    literal: false,
-}];
+    }
+)];
 
 // The whole seconds since 1970-01-01T00:00:00Z, rounded down.
 fn seconds_of(moment: Moment) -> i64
@@ -51,8 +47,8 @@ fn whole_number(value: &Value) -> Option<i64>
     }
 }
 
-impl Builtin for ToInt {
-    ghost row = { λ _. to_int_row };
+impl OneTag for ToInt {
+    ghost one_tag_row = { λ _. to_int_row };
 
     fn name(&self) -> &'static str {
         "to_int"
@@ -62,17 +58,8 @@ impl Builtin for ToInt {
         &PARAMETERS
     }
 
-    fn wrong_literal(&self, _given: &Givens) -> Option<usize> {
-        None
-    }
-
-    fn result_kind(
-        &self,
-        alloc: Global,
-        _given: &Givens,
-        _patterns: &Patterns,
-    ) -> Result<Kind, Memory> {
-        Kind::of(alloc, Tag::Int)
+    fn tag(&self) -> Tag {
+        Tag::Int
     }
 
     fn may_fail(&self, given: &Givens) -> bool {
@@ -82,9 +69,9 @@ impl Builtin for ToInt {
     fn apply(&self, alloc: Global, arguments: &Arguments<'_>, _setting: &Setting<'_>) -> Applied {
         match whole_number(arguments.value(0)) {
             Some(number) => Applied::Value(Value::Int(number)),
-            None => fail(alloc, "to_int", "not a whole number"),
+            None => fail(alloc, self.name(), "not a whole number"),
         }
     }
 
-    ghost law = { λ _. to_int-law };
+    ghost one_tag = { λ _. to_int-law };
 }

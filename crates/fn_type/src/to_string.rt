@@ -5,9 +5,7 @@ ghost use Rattle.fn_type.specs.ToString.{text_of, to_string_row};
 ghost use Rattle.fn_type.specs.Laws.{to_string-law};
 
 use std::alloc::Global;
-use vrl_builtin::{Applied, Arguments, Builtin, Givens, Parameter, Setting, Tags};
-use vrl_kind::Kind;
-use vrl_pattern::Patterns;
+use vrl_builtin::{Applied, Arguments, Givens, OneTag, Parameter, Setting, Tags, required};
 use vrl_value::{Chars, Memory, Tag, Value};
 
 /// `to_string(value: string, integer, boolean, null or timestamp)`: string. The string itself; the decimal digits of the number, with `-`
@@ -16,17 +14,15 @@ use vrl_value::{Chars, Memory, Tag, Value};
 #[derive(Clone, Copy)]
 pub struct ToString;
 
-static PARAMETERS: [Parameter; 1] = [Parameter {
-    name: "value",
-    allowed: Tags {
+static PARAMETERS: [Parameter; 1] = [required!(
+    "value",
+    Tags {
         array: false,
         object: false,
         regex: false,
         ..Tags::ALL
-    },
-    required: true,
-    literal: false,
-}];
+    }
+)];
 
 // The text of a value without parts. `Memory`: want of memory.
 fn text_of(alloc: Global, value: &Value) -> Result<Chars, Memory>
@@ -48,8 +44,8 @@ fn decimal(alloc: Global, number: i64) -> Result<Chars, Memory>
     Ok(Chars::new(format!(in alloc; "{number}")?))
 }
 
-impl Builtin for ToString {
-    ghost row = { λ _. to_string_row };
+impl OneTag for ToString {
+    ghost one_tag_row = { λ _. to_string_row };
 
     fn name(&self) -> &'static str {
         "to_string"
@@ -59,17 +55,8 @@ impl Builtin for ToString {
         &PARAMETERS
     }
 
-    fn wrong_literal(&self, _given: &Givens) -> Option<usize> {
-        None
-    }
-
-    fn result_kind(
-        &self,
-        alloc: Global,
-        _given: &Givens,
-        _patterns: &Patterns,
-    ) -> Result<Kind, Memory> {
-        Kind::of(alloc, Tag::Text)
+    fn tag(&self) -> Tag {
+        Tag::Text
     }
 
     fn may_fail(&self, _given: &Givens) -> bool {
@@ -77,11 +64,8 @@ impl Builtin for ToString {
     }
 
     fn apply(&self, alloc: Global, arguments: &Arguments<'_>, _setting: &Setting<'_>) -> Applied {
-        match text_of(alloc, arguments.value(0)) {
-            Ok(text) => Applied::Value(Value::Text(text)),
-            Err(_memory) => Applied::Memory,
-        }
+        Applied::text(text_of(alloc, arguments.value(0)))
     }
 
-    ghost law = { λ _. to_string-law };
+    ghost one_tag = { λ _. to_string-law };
 }
