@@ -1,18 +1,18 @@
-ghost use Rattle.std.specs.Prelude.{◌≡◌, ◌≢◌, MatchOption};
+ghost use Rattle.std.specs.Prelude.{◌≡◌, ◌≢◌, find, bytes_eq, MatchOption};
 ghost use Rattle.vrl_table.specs.Laws.{row-law};
-ghost use Rattle.vrl_table.specs.Table.{row_of, FunctionsAreFound};
+ghost use Rattle.vrl_table.specs.Table.{all_functions, function_named, row_of, FormsAreNoFunctions, FunctionsAreFound, ParametersAreToldApart};
 ghost use Rattle.vrl_table.specs.declared.function.Fun.{Fun};
 
 use fn_number::{Abs, FormatInt, Mod, ParseInt};
 use fn_type::{
-    Array, Bool, Int, IsArray, IsBoolean, IsEmpty, IsInteger, IsNull, IsNullish, IsObject, IsRegex,
-    IsString, IsTimestamp, Object, StringValue, Timestamp, ToBool, ToInt, ToString,
+    Array, Bool, Int, Is, IsArray, IsBoolean, IsEmpty, IsInteger, IsNull, IsNullish, IsObject,
+    IsRegex, IsString, IsTimestamp, Object, Only, StringValue, Timestamp, ToBool, ToInt, ToString,
 };
 use std::alloc::Global;
 use vrl_builtin::{Applied, Arguments, Builtin, Givens, Parameter, Setting};
 use vrl_kind::Kind;
 use vrl_pattern::Patterns;
-use vrl_value::Memory;
+use vrl_value::{Memory, Value};
 
 /// A function of the language, by its name.
 #[derive(Clone, Copy)]
@@ -65,34 +65,42 @@ pub enum Fun {
     ToString,
 }
 
-// Calls a method of the function.
-macro_rules! dispatch {
-    ($fun:expr, $method:ident($($argument:expr),*)) => {
+// All functions, each with its variant and what has its row: a call of a method of one of them, or a list of all.
+macro_rules! functions {
+    (@call $fun:expr, $method:ident $arguments:tt; $($name:ident => $function:expr,)*) => {
         match $fun {
-            Fun::Abs => Abs.$method($($argument),*),
-            Fun::Array => Array.$method($($argument),*),
-            Fun::Bool => Bool.$method($($argument),*),
-            Fun::FormatInt => FormatInt.$method($($argument),*),
-            Fun::Int => Int.$method($($argument),*),
-            Fun::IsArray => IsArray.$method($($argument),*),
-            Fun::IsBoolean => IsBoolean.$method($($argument),*),
-            Fun::IsEmpty => IsEmpty.$method($($argument),*),
-            Fun::IsInteger => IsInteger.$method($($argument),*),
-            Fun::IsNull => IsNull.$method($($argument),*),
-            Fun::IsNullish => IsNullish.$method($($argument),*),
-            Fun::IsObject => IsObject.$method($($argument),*),
-            Fun::IsRegex => IsRegex.$method($($argument),*),
-            Fun::IsString => IsString.$method($($argument),*),
-            Fun::IsTimestamp => IsTimestamp.$method($($argument),*),
-            Fun::Mod => Mod.$method($($argument),*),
-            Fun::Object => Object.$method($($argument),*),
-            Fun::ParseInt => ParseInt.$method($($argument),*),
-            Fun::StringValue => StringValue.$method($($argument),*),
-            Fun::Timestamp => Timestamp.$method($($argument),*),
-            Fun::ToBool => ToBool.$method($($argument),*),
-            Fun::ToInt => ToInt.$method($($argument),*),
-            Fun::ToString => ToString.$method($($argument),*),
+            $(Fun::$name => $function.$method $arguments,)*
         }
+    };
+    (@all; $($name:ident => $function:expr,)*) => {
+        [$(Fun::$name),*]
+    };
+    ($($what:tt)*) => {
+        functions!(@$($what)*;
+            Abs => Abs,
+            Array => Only(Array),
+            Bool => Only(Bool),
+            FormatInt => FormatInt,
+            Int => Only(Int),
+            IsArray => Is(IsArray),
+            IsBoolean => Is(IsBoolean),
+            IsEmpty => IsEmpty,
+            IsInteger => Is(IsInteger),
+            IsNull => Is(IsNull),
+            IsNullish => IsNullish,
+            IsObject => Is(IsObject),
+            IsRegex => Is(IsRegex),
+            IsString => Is(IsString),
+            IsTimestamp => Is(IsTimestamp),
+            Mod => Mod,
+            Object => Only(Object),
+            ParseInt => ParseInt,
+            StringValue => Only(StringValue),
+            Timestamp => Only(Timestamp),
+            ToBool => ToBool,
+            ToInt => ToInt,
+            ToString => ToString,
+        )
     };
 }
 
@@ -100,15 +108,15 @@ impl Builtin for Fun {
     ghost row = { row_of };
 
     fn name(&self) -> &'static str {
-        dispatch!(self, name())
+        functions!(call self, name())
     }
 
     fn parameters(&self) -> &'static [Parameter] {
-        dispatch!(self, parameters())
+        functions!(call self, parameters())
     }
 
-    fn wrong_literal(&self, given: &Givens) -> Option<usize> {
-        dispatch!(self, wrong_literal(given))
+    fn accepts(&self, place: usize, literal: &Value) -> bool {
+        functions!(call self, accepts(place, literal))
     }
 
     fn result_kind(
@@ -117,53 +125,69 @@ impl Builtin for Fun {
         given: &Givens,
         patterns: &Patterns,
     ) -> Result<Kind, Memory> {
-        dispatch!(self, result_kind(alloc, given, patterns))
+        functions!(call self, result_kind(alloc, given, patterns))
     }
 
     fn may_fail(&self, given: &Givens) -> bool {
-        dispatch!(self, may_fail(given))
+        functions!(call self, may_fail(given))
     }
 
     fn apply(&self, alloc: Global, arguments: &Arguments<'_>, setting: &Setting<'_>) -> Applied {
-        dispatch!(self, apply(alloc, arguments, setting))
+        functions!(call self, apply(alloc, arguments, setting))
     }
 
     ghost law = { row-law };
+}
+
+// All functions.
+fn all() -> &'static [Fun]
+    ensures { result.now ≡ all_functions }
+{
+    &functions!(all)
+}
+
+// Whether it is the function's name.
+fn has_name(function: Fun, name: &str) -> bool
+    ensures { result ≡ bytes_eq (row_of function).name name.now }
+{
+    function.name() == name
+}
+
+// The first of these functions that has a name.
+fn first_named(functions: &[Fun], name: &str) -> Option<Fun>
+    ensures { result ≡ find (λ function. bytes_eq (row_of function).name name.now) functions.now }
+{
+    functions
+        .iter()
+        .copied()
+        .find(|function| has_name(*function, name))
+}
+
+// The function of a name, as the table has it.
+fn named(name: &str) -> Option<Fun>
+    ensures { result ≡ function_named name.now }
+{
+    first_named(all(), name)
 }
 
 /// The function of a name. `None`: no function has it. It takes no memory.
 pub fn lookup(name: &str) -> Option<Fun>
     ensures { MatchOption result ((function : Fun) → (row_of function).name ≢ name.now) (λ function. (row_of function).name ≡ name.now) }
 {
-    match name {
-        "abs" => Some(Fun::Abs),
-        "array" => Some(Fun::Array),
-        "bool" => Some(Fun::Bool),
-        "format_int" => Some(Fun::FormatInt),
-        "int" => Some(Fun::Int),
-        "is_array" => Some(Fun::IsArray),
-        "is_boolean" => Some(Fun::IsBoolean),
-        "is_empty" => Some(Fun::IsEmpty),
-        "is_integer" => Some(Fun::IsInteger),
-        "is_null" => Some(Fun::IsNull),
-        "is_nullish" => Some(Fun::IsNullish),
-        "is_object" => Some(Fun::IsObject),
-        "is_regex" => Some(Fun::IsRegex),
-        "is_string" => Some(Fun::IsString),
-        "is_timestamp" => Some(Fun::IsTimestamp),
-        "mod" => Some(Fun::Mod),
-        "object" => Some(Fun::Object),
-        "parse_int" => Some(Fun::ParseInt),
-        "string" => Some(Fun::StringValue),
-        "timestamp" => Some(Fun::Timestamp),
-        "to_bool" => Some(Fun::ToBool),
-        "to_int" => Some(Fun::ToInt),
-        "to_string" => Some(Fun::ToString),
-        _ => None,
-    }
+    named(name)
 }
 
 /// Each function is the one that is found by its name, so no two have one name. This takes no time: it is a law about the definitions.
 pub fn functions_are_found()
     ensures { FunctionsAreFound }
+{}
+
+/// No function has the name of a form of the language, as `del`. This takes no time: it is a law about the definitions.
+pub fn forms_are_no_functions()
+    ensures { FormsAreNoFunctions }
+{}
+
+/// No function has two parameters of one name. This takes no time: it is a law about the definitions.
+pub fn parameters_are_told_apart()
+    ensures { ParametersAreToldApart }
 {}
