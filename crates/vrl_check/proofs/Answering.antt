@@ -18,6 +18,8 @@ use Rattle.vrl_check.specs.declared.judged.Judged.{Judged}
 use Rattle.vrl_judge.specs.declared.outcome.Outcome.{Outcome}
 use Rattle.vrl_state.proofs.Limits.{either_root}
 use Rattle.vrl_judge.proofs.Joining.{way_known}
+use Rattle.vrl_check.specs.Loops.{closures_in_exprs, deads}
+use Rattle.vrl_check.specs.OpenRules.{language_rules}
 
 -- the ends of a script as they are answered: without an error a dead state stands for it
 pub record AreAnswered (after : State) (outcome : Outcome) (judged : Judged) : Type 0 where
@@ -34,7 +36,7 @@ state_outside : (s : State) (known : Option RootMap) → s.known ≡ known → s
 state_outside s known is none = λ i. record { known = is i; scopes = none i }
 
 pub script_judged : (start : KindTree) (es : Exprs) (before after : Checker) (outcome : Outcome) (judged : Judged) → IsStart start before.state → before.diagnostics.items ≡ [] → before.empties.items ≡ [] → IsScriptAs es before after outcome
-    → AreAnswered after.state outcome judged → judged.empties ≡ after.empties.items → judged.loops ≡ [] → AreOrdered after.diagnostics.items judged.diagnostics → (j : Judgement) × JudgesScript before.patterns.now start es j × IsJudged j judged
+    → AreAnswered after.state outcome judged → judged.empties ≡ after.empties.items → judged.loops ≡ deads (closures_in_exprs es) → AreOrdered after.diagnostics.items judged.diagnostics → (j : Judgement) × JudgesScript (language_rules before.patterns.now) start es j × IsJudged es j judged
 script_judged start es before after outcome judged starts no_codes no_tags is answered empties loops ordered =
     let j = settle is.1 in
     let has = is.4 in
@@ -58,9 +60,9 @@ script_judged start es before after outcome judged starts no_codes no_tags is an
     )
 
 -- to a dead state the script's end is joined, and then its return
-pub ended : (judged : Judged) (start first known : Option RootMap) (r : Option Returned) (K : KindTree) (j : Judgement) → IsJudged j judged → start ≡ None → IsJoined start judged.ok.known first → judged.ret ≡ r → IsJoined first (return_state r) known → IsEither judged.kind (return_kind r) K
+pub ended : (judged : Judged) (start first known : Option RootMap) (r : Option Returned) (K : KindTree) (items : Exprs) (j : Judgement) → IsJudged items j judged → start ≡ None → IsJoined start judged.ok.known first → judged.ret ≡ r → IsJoined first (return_state r) known → IsEither judged.kind (return_kind r) K
     → (end : Ending) → end ≡ record { kind = K; state = known_as known } → HaveRootKinds end.state → IsEnding judged end
-ended judged start first known r K j told dead one ret two either end is roots =
+ended judged start first known r K items j told dead one ret two either end is roots =
     let first_is : first ≡ judged.ok.known = subst (λ s. IsJoined s judged.ok.known first) dead one in
     let kind = subst (λ x. IsEither judged.kind (return_kind x) end.kind) (sym ret) (subst (IsEither judged.kind (return_kind r)) (sym (ap (λ e. e.kind) is)) either) in
     record {

@@ -7,12 +7,12 @@ use Rattle.vrl_syntax.specs.View.{arg_of, args_view}
 use Rattle.vrl_syntax.specs.declared.tree.Arg.{Arg as CodeArg}
 use Rattle.vrl_kind.specs.Canonical.{never_kind}
 use Rattle.vrl_state.specs.States.{IsRootKind}
-use Rattle.vrl_judge.specs.Calling.{told}
+use Rattle.vrl_judge.specs.Calling.{part_of}
 use Rattle.vrl_check.specs.Calling.{written, AreArgumentsAs, AreRootKinds, IsCalledAs, IsTold}
 use Rattle.vrl_judge.specs.Rules.{Argument, Judgement, gives}
 use Rattle.vrl_check.specs.Judgement.{Judges, JudgesArguments, no_more_arguments, one_more_argument}
 use Rattle.vrl_judge.specs.Judging.{no_ends, AreEnds, AreJoinedEnds, HasEnds, HasGathered, HasJudged, HaveCommonScopes}
-use Rattle.vrl_check.specs.Walking.{ArgumentsCanBeJudged, CanBeJudged, IsGivenAs, IsJudgedAs}
+use Rattle.vrl_check.specs.Walking.{ArgumentsCanBeJudged, ExprCanBeJudged, IsGivenAs, IsJudgedAs}
 use Rattle.vrl_judge.specs.declared.calls.Argument.{Argument as CodeArgument}
 use Rattle.vrl_check.specs.declared.calls.Arguments.{Arguments}
 use Rattle.vrl_judge.specs.declared.checker.Checker.{Checker}
@@ -24,6 +24,7 @@ use Rattle.vrl_check.proofs.Partway.{can_at, part_common}
 use Rattle.vrl_judge.proofs.Gathering.{part_are, part_then, value_ends, value_gathered}
 use Rattle.vrl_syntax.proofs.PartSizes.{args_size, expr_size}
 use Rattle.vrl_check.proofs.Told.{judges_at}
+use Rattle.vrl_check.specs.OpenRules.{language_rules}
 
 abbrev pub place_of : Argument → Span × Expr
 place_of g = (g.span, g.value)
@@ -42,12 +43,12 @@ no_arg_left all i end = at_drop_all args_view all i end
 pub record IsArgumentsPartway (before now : Checker) (whole left : Args) (parts : List CodeArgument) (ends : Ends) : Type 0 where
   pub js : List Argument
   pub j : Judgement
-  pub leads : (more : List Argument) (k : Judgement) → JudgesArguments before.patterns.now j left more k → JudgesArguments before.patterns.now (gives never_kind before.state.known) whole (js ++ more) k
+  pub leads : (more : List Argument) (k : Judgement) → JudgesArguments (language_rules before.patterns.now) j left more k → JudgesArguments (language_rules before.patterns.now) (gives never_kind before.state.known) whole (js ++ more) k
   pub has_ends : HasEnds before.state.scopes ends j
   pub gathered : HasGathered before now j
   pub can : ArgumentsCanBeJudged before.patterns.now left
   pub fewer : args_size left ≤ args_size whole
-  pub parts_are : parts ≡ map told js
+  pub parts_are : parts ≡ map part_of js
   pub written_are : written whole ≡ map place_of js ++ written left
   pub roots : AreRootKinds js
 
@@ -72,7 +73,7 @@ arguments_first before whole left parts ends all empty none can =
     (subst (λ e. IsArgumentsPartway before before whole whole [] e) (sym none) (arguments_none before whole can)))
 
 -- what the next argument requires
-pub argument_can_next : (before now : Checker) (whole left rest : Args) (name : Option (List ℕ)) (span : Span) (e : Expr) (parts : List CodeArgument) (ends : Ends) → left ≡ arg name span e rest → IsArgumentsPartway before now whole left parts ends → CanBeJudged now.patterns.now e
+pub argument_can_next : (before now : Checker) (whole left rest : Args) (name : Option (List ℕ)) (span : Span) (e : Expr) (parts : List CodeArgument) (ends : Ends) → left ≡ arg name span e rest → IsArgumentsPartway before now whole left parts ends → ExprCanBeJudged now.patterns.now e
 argument_can_next before now whole left rest name span e parts ends is so_far =
     can_at before now e so_far.gathered.patterns (first_argument_can name span e rest (subst (ArgumentsCanBeJudged before.patterns.now) is so_far.can))
 
@@ -88,7 +89,7 @@ argument_common before now after whole left e parts ends part so_far judged = pa
 abbrev pub kept_of : Outcome → Checker → CodeArgument
 kept_of part after = record { kind = part.kind; fallible = is_some part.ends.fail; known = is_some after.state.known && not part.ends.poisoned }
 
-argument_told : (now after : Checker) (part : Outcome) (span : Span) (e : Expr) (p : Judgement) → HasJudged now after part p → kept_of part after ≡ told (record { span = span; value = e; judged = p })
+argument_told : (now after : Checker) (part : Outcome) (span : Span) (e : Expr) (p : Judgement) → HasJudged now after part p → kept_of part after ≡ part_of (record { span = span; value = e; judged = p })
 argument_told now after part span e p has =
     let kind = has.kind in
     let fallible = fails_as now.state.scopes part.ends p has.ends in
@@ -111,20 +112,20 @@ arguments_next before now after whole left rest name span e parts more_parts arg
     let g : Argument = record { span = span; value = e; judged = p } in
     let both = are so_far.has_ends.are (part_are before now after part so_far.j p so_far.gathered judged.2) in
     let all = part_then before now after ends next part so_far.j p so_far.has_ends so_far.gathered judged.2 joined both in
-    let from : Judges before.patterns.now so_far.j.ok e p = judges_at before now so_far.j.ok e p so_far.gathered.patterns so_far.gathered.ok judged.1 in
+    let from : Judges (language_rules before.patterns.now) so_far.j.ok e p = judges_at before now so_far.j.ok e p so_far.gathered.patterns so_far.gathered.ok judged.1 in
     let fewer : args_size (arg name span e rest) ≤ args_size whole = subst (λ l. args_size l ≤ args_size whole) is so_far.fewer in
-    let last : argument ≡ told g = argument_is ∙ argument_told now after part span e p judged.2 in
+    let last : argument ≡ part_of g = argument_is ∙ argument_told now after part span e p judged.2 in
     record {
       js = so_far.js ++ (g ∷ []);
       j = behind_with next so_far.j p;
       leads = λ ks k others.
-          subst (λ gs. JudgesArguments before.patterns.now (gives never_kind before.state.known) whole gs k) (sym (append_assoc so_far.js (g ∷ []) ks))
-          (so_far.leads (g ∷ ks) k (subst (λ l. JudgesArguments before.patterns.now so_far.j l (g ∷ ks) k) (sym is) (one_more_argument from all.in_order others)));
+          subst (λ gs. JudgesArguments (language_rules before.patterns.now) (gives never_kind before.state.known) whole gs k) (sym (append_assoc so_far.js (g ∷ []) ks))
+          (so_far.leads (g ∷ ks) k (subst (λ l. JudgesArguments (language_rules before.patterns.now) so_far.j l (g ∷ ks) k) (sym is) (one_more_argument from all.in_order others)));
       has_ends = all.ends;
       gathered = all.gathered;
       can = other_arguments_can name span e rest (subst (ArgumentsCanBeJudged before.patterns.now) is so_far.can);
       fewer = omega (arith, fewer);
-      parts_are = more ∙ ap₂ (λ xs x. xs ++ (x ∷ [])) so_far.parts_are last ∙ sym (map-append told so_far.js (g ∷ []));
+      parts_are = more ∙ ap₂ (λ xs x. xs ++ (x ∷ [])) so_far.parts_are last ∙ sym (map-append part_of so_far.js (g ∷ []));
       written_are = so_far.written_are ∙ ap (λ l. map place_of so_far.js ++ written l) is ∙ sym (append_assoc (map place_of so_far.js) ((span, e) ∷ []) (written rest)) ∙ ap (λ xs. xs ++ written rest) (sym (map-append place_of so_far.js (g ∷ [])));
       roots = one_more_root so_far.js g so_far.roots judged.2.root;
     }
@@ -134,8 +135,8 @@ pub arguments_given : (before now : Checker) (whole left : Args) (arguments : Ar
 arguments_given before now whole left arguments is so_far = (
   so_far.js,
   so_far.j,
-  subst (λ gs. JudgesArguments before.patterns.now (gives never_kind before.state.known) whole gs so_far.j) (append-nil so_far.js)
-      (so_far.leads [] so_far.j (subst (λ l. JudgesArguments before.patterns.now so_far.j l [] so_far.j) (sym is) no_more_arguments)),
+  subst (λ gs. JudgesArguments (language_rules before.patterns.now) (gives never_kind before.state.known) whole gs so_far.j) (append-nil so_far.js)
+      (so_far.leads [] so_far.j (subst (λ l. JudgesArguments (language_rules before.patterns.now) so_far.j l [] so_far.j) (sym is) no_more_arguments)),
   record {
     told = record { parts_are = so_far.parts_are; written_are = so_far.written_are ∙ ap (λ l. map place_of so_far.js ++ written l) is ∙ append-nil (map place_of so_far.js) };
     roots = so_far.roots;
@@ -156,4 +157,4 @@ arguments_told gs before now arguments are = (are.0, are.3.told)
 
 pub call_given : (span : Span) (f : Form) (gs : Args) (before now after : Checker) (arguments : Arguments) (outcome : Outcome) → AreArgumentsAs gs before now arguments → IsCalledAs span f gs arguments now after outcome → IsGivenAs span f before after outcome
 call_given span f gs before now after arguments outcome are called known alive =
-    called before known are.0 are.1 alive (subst (λ s. JudgesArguments before.patterns.now (gives never_kind s) gs are.0 are.1) alive are.2) are.3
+    called before known are.0 are.1 alive (subst (λ s. JudgesArguments (language_rules before.patterns.now) (gives never_kind s) gs are.0 are.1) alive are.2) are.3

@@ -21,7 +21,7 @@ use Rattle.vrl_check.specs.Judgement.{predicate_of, span_of, IsBeside}
 use Rattle.vrl_check.specs.Judgement.{JudgesArms, JudgesBlock, a_conditional, a_missing_else, an_arm, an_else, Judges}
 use Rattle.vrl_judge.specs.Judging.{known_on, AreEnds, AreJoinedEnds, HasJudged, IsReported}
 use Rattle.vrl_check.specs.Walking.{HasWays}
-use Rattle.vrl_check.specs.Walking.{ArmsCanBeJudged, CanBeJudged, IsAnywhereAs, IsArmAs, IsArmBehind, IsBlockAs, IsElseAs, IsJudgedAs, ItemsCanBeJudged}
+use Rattle.vrl_check.specs.Walking.{ArmsCanBeJudged, ExprCanBeJudged, IsAnywhereAs, IsArmAs, IsArmBehind, IsBlockAs, IsElseAs, IsJudgedAs, ItemsCanBeJudged}
 use Rattle.vrl_judge.specs.Seen.{seen}
 use Rattle.vrl_judge.specs.declared.branches.Ways.{Ways}
 use Rattle.vrl_judge.specs.declared.checker.Checker.{Checker}
@@ -34,6 +34,7 @@ use Rattle.vrl_syntax.proofs.PartSizes.{arms_size}
 use Rattle.vrl_judge.proofs.Told.{as_seen, gathers_both, gathers_moved, gathers_reported, told, told_of, Gathers, IsTold}
 use Rattle.vrl_check.proofs.Told.{block_at, told_block, told_expr, IsToldBlock, IsToldExpr}
 use Rattle.vrl_judge.proofs.Joining.{join_none, no_ends_are}
+use Rattle.vrl_check.specs.OpenRules.{language_rules}
 
 -- ---- ways as they were told
 
@@ -177,7 +178,7 @@ middle_here p es span a b c e s ways middle part block predicate same second =
 
 -- ---- what can be judged
 
-pub predicate_can : {sources : List (List ℕ)} (p : Expr) (es : Exprs) (gs : Arms) → ArmsCanBeJudged sources (arm p es gs) → CanBeJudged sources p
+pub predicate_can : {sources : List (List ℕ)} (p : Expr) (es : Exprs) (gs : Arms) → ArmsCanBeJudged sources (arm p es gs) → ExprCanBeJudged sources p
 predicate_can p es gs can = record {
   calls = (neither (expr_holds_closure_call p) (exprs_hold_closure_call es || arms_hold_closure_call gs) can.calls).0;
   limits = (none_of_both (expr_faults p) (exprs_faults es ++ arms_faults gs) can.limits).0;
@@ -208,7 +209,7 @@ pub record AreJudged (whole : Arms) (otherwise : Else) (rest : Arms) (start now 
   pub told : HasWays start now ways w
   pub can : ArmsCanBeJudged start.patterns.now rest
   pub size : arms_size rest ≤ arms_size whole
-  pub judges : (all : Judgement) → JudgesArms start.patterns.now now.state.known w rest otherwise all → JudgesArms start.patterns.now start.state.known (nothing []) whole otherwise all
+  pub judges : (all : Judgement) → JudgesArms (language_rules start.patterns.now) now.state.known w rest otherwise all → JudgesArms (language_rules start.patterns.now) start.state.known (nothing []) whole otherwise all
 
 pub none_judged : (whole : Arms) (otherwise : Else) (start : Checker) (ways : Ways) → ways ≡ no_ways → ArmsCanBeJudged start.patterns.now whole → AreJudged whole otherwise whole start start ways
 none_judged whole otherwise start ways none can = subst (AreJudged whole otherwise whole start start) (sym none) (record {
@@ -238,8 +239,8 @@ one_judged whole otherwise t rest start now after ways all so_far next =
       told = is.told;
       can = arms_can t.0 t.1 rest so_far.can;
       size = omega (arith, so_far.size);
-      judges = λ end more. so_far.judges end (an_arm (subst (λ ps. Judges ps.now now.state.known t.0 is.j) so_far.told.patterns is.predicate) is.first (subst (λ ps. JudgesBlock ps.now is.j.ok t.1 is.k) so_far.told.patterns is.block) is.second
-          (subst (λ known. JudgesArms start.patterns.now known is.all rest otherwise end) is.known more));
+      judges = λ end more. so_far.judges end (an_arm (subst (λ ps. Judges (language_rules ps.now) now.state.known t.0 is.j) so_far.told.patterns is.predicate) is.first (subst (λ ps. JudgesBlock (language_rules ps.now) is.j.ok t.1 is.k) so_far.told.patterns is.block) is.second
+          (subst (λ known. JudgesArms (language_rules start.patterns.now) known is.all rest otherwise end) is.known more));
     }
 
 -- ---- a list of arms
@@ -260,7 +261,7 @@ pub more_arms : (whole rest : Arms) (otherwise : Else) (t : ArmTree) (left : Arm
 more_arms whole rest otherwise t left start now after ways all is so_far next = one_judged whole otherwise t rest start now after ways all (subst (λ gs. AreJudged whole otherwise gs start now ways) is so_far) next
 
 -- what the next arm requires
-pub next_can : (whole rest : Arms) (otherwise : Else) (t : ArmTree) (left : Arms) (start now : Checker) (ways : Ways) → left ≡ arm t.0 t.1 rest → AreJudged whole otherwise left start now ways → CanBeJudged now.patterns.now t.0 × ItemsCanBeJudged now.patterns.now t.1
+pub next_can : (whole rest : Arms) (otherwise : Else) (t : ArmTree) (left : Arms) (start now : Checker) (ways : Ways) → left ≡ arm t.0 t.1 rest → AreJudged whole otherwise left start now ways → ExprCanBeJudged now.patterns.now t.0 × ItemsCanBeJudged now.patterns.now t.1
 next_can whole rest otherwise t left start now ways is so_far =
     let can = subst (λ ps. ArmsCanBeJudged ps.now (arm t.0 t.1 rest)) (sym so_far.told.patterns) (subst (ArmsCanBeJudged start.patterns.now) is so_far.can) in
     (predicate_can t.0 t.1 rest can, items_can t.0 t.1 rest can)
@@ -271,7 +272,7 @@ next_can whole rest otherwise t left start now ways is so_far =
 record IsLast (w : Judgement) (otherwise : Else) (now after : Checker) (last : Outcome) : Type 0 where
   pub k : Judgement
   pub judged : HasJudged now after last k
-  pub judges : (all : Judgement) → IsBeside w k all → JudgesArms now.patterns.now now.state.known w no_arms otherwise all
+  pub judges : (all : Judgement) → IsBeside w k all → JudgesArms (language_rules now.patterns.now) now.state.known w no_arms otherwise all
 
 is_last : (w : Judgement) (otherwise : Else) (now after : Checker) (last : Outcome) → IsElseAs otherwise now after last → IsLast w otherwise now after last
 is_last w (else_block es) now after last is = record { k = is.0; judged = is.2; judges = λ all beside. an_else is.1 beside }
@@ -302,7 +303,7 @@ beside_last ways last outcome after end ds es ts us is = record {
 }
 
 last_told : (otherwise : Else) (start now after end : Checker) (ways : Ways) (last outcome : Outcome) (ds : List Diagnostic) (ts : List Tag) → AreTold start now ways ds ts → IsLast (seen_ways ways ds ts) otherwise now after last → IsLastBeside ways last after end outcome
-    → (j : Judgement) × JudgesArms now.patterns.now now.state.known (seen_ways ways ds ts) no_arms otherwise j × HasJudged start end outcome j
+    → (j : Judgement) × JudgesArms (language_rules now.patterns.now) now.state.known (seen_ways ways ds ts) no_arms otherwise j × HasJudged start end outcome j
 last_told otherwise start now after end ways last outcome ds ts w is behind =
     let es = is.k.codes in
     let us = is.k.empties in
@@ -323,7 +324,7 @@ conditional_judged whole otherwise start now after end ways last outcome so_far 
     let v = seen_ways ways so_far.w.codes so_far.w.empties in
     let ended = last_told otherwise start now after end ways last outcome so_far.w.codes so_far.w.empties (ways_told_of start now ways so_far.w so_far.told) (is_last v otherwise now after last is) behind in (
       ended.0,
-      a_conditional (subst (λ s. JudgesArms start.patterns.now s (nothing []) whole otherwise ended.0) alive
-          (so_far.judges ended.0 (subst (λ ps. JudgesArms ps.now now.state.known so_far.w no_arms otherwise ended.0) so_far.told.patterns (subst (λ u. JudgesArms now.patterns.now now.state.known u no_arms otherwise ended.0) (sym same) ended.1)))),
+      a_conditional (subst (λ s. JudgesArms (language_rules start.patterns.now) s (nothing []) whole otherwise ended.0) alive
+          (so_far.judges ended.0 (subst (λ ps. JudgesArms (language_rules ps.now) now.state.known so_far.w no_arms otherwise ended.0) so_far.told.patterns (subst (λ u. JudgesArms (language_rules now.patterns.now) now.state.known u no_arms otherwise ended.0) (sym same) ended.1)))),
       ended.2,
     )

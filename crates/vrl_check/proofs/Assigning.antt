@@ -1,5 +1,5 @@
 -- Assignments behind their expressions.
-use Rattle.std.proofs.Common.{◌≡◌, ◌<◌, ◌+◌, ℕ, false, List, [], ◌∷◌, ◌++◌, length, slice_set, Some, None, refl, sym, ap, ap₂, ◌∙◌, subst, append_assoc, arith}
+use Rattle.std.proofs.Common.{◌≡◌, ◌<◌, ◌+◌, ℕ, true, false, List, [], ◌∷◌, ◌++◌, length, slice_set, Some, None, refl, sym, ap, ap₂, ◌∙◌, subst, append_assoc, arith}
 use Rattle.std.proofs.Math.Seq.{set-append_seam}
 use Rattle.std.proofs.lemmas.List.{length-append}
 use Rattle.vrl_value.specs.declared.value.Tag.{Tag}
@@ -14,6 +14,7 @@ use Rattle.vrl_state.specs.States.{IsRootKind}
 use Rattle.vrl_judge.specs.Returns.{return_kind, return_state}
 use Rattle.vrl_judge.specs.Assigning.{AreAssigned}
 use Rattle.vrl_syntax.specs.ErrorAssignments.{empty_value}
+use Rattle.vrl_kind.specs.Tags.{same_tag}
 use Rattle.vrl_judge.specs.Rules.{Judgement, at, empty_tag, of_assignment, of_error_assignment, settle, with_codes}
 use Rattle.vrl_check.specs.Judgement.{Judges, a_merge_assignment, a_merge_into_nothing, an_assignment, an_error_assignment, reached}
 use Rattle.vrl_judge.specs.Judging.{known_on, HasJudged, IsAssignedAs, IsReported, IsReturnIn, IsSettledAs, IsWay}
@@ -29,13 +30,14 @@ use Rattle.vrl_check.proofs.Told.{judges_at, told_expr, IsToldExpr}
 use Rattle.vrl_judge.proofs.Assigning.{not_absent}
 use Rattle.vrl_value.specs.declared.value.Tag.TheVariants as tag
 use Rattle.vrl_syntax.specs.declared.root.Op.TheVariants as op
+use Rattle.vrl_check.specs.OpenRules.{language_rules}
 
 -- ---- one target
 
 pub assignment_judged : (span : Span) (target : Target) (e : Expr) (a b c : Checker) (part outcome : Outcome) → IsJudgedAs e a b part → IsAssignedAs span target part b c outcome → IsGivenAs span (assign target e) a c outcome
 assignment_judged span target e a b c part outcome first assigned = λ known alive.
     let is = assigned a first.0 first.2 in
-    (with_codes (of_assignment span target first.0) (record first.0 { ok = is.0 }), an_assignment (subst (λ s. Judges a.patterns.now s e first.0) alive first.1) is.1, is.2)
+    (with_codes (of_assignment span target first.0) (record first.0 { ok = is.0 }), an_assignment (subst (λ s. Judges (language_rules a.patterns.now) s e first.0) alive first.1) is.1, is.2)
 
 -- ---- merges
 
@@ -43,7 +45,7 @@ pub nowhere_judged : (span : Span) (target : Target) (e : Expr) (a b c : Checker
     → IsGivenAs span (merge target e) a c (record { kind = part.kind; ends = ends })
 nowhere_judged span target e a b c part ends is first reported = subst (λ t. IsGivenAs span (merge t e) a c (record { kind = part.kind; ends = ends })) (sym is) (λ known alive. (
   with_codes (at 640 span) first.0,
-  a_merge_into_nothing (subst (λ s. Judges a.patterns.now s e first.0) alive first.1),
+  a_merge_into_nothing (subst (λ s. Judges (language_rules a.patterns.now) s e first.0) alive first.1),
   reported_judged (at 640 span) a b c part (record { kind = part.kind; ends = ends }) first.0 reported refl first.2,
 ))
 
@@ -81,6 +83,18 @@ place_stands place front first before ts at_place kept behind =
     let two : length first ≡ length front + 1 = ap length kept ∙ length-append front (tag.Null ∷ []) in
     omega arith
 
+-- a tag is itself
+same_tag-itself : (t : Tag) → same_tag t t ≡ true
+same_tag-itself tag.Text = refl
+same_tag-itself tag.Int = refl
+same_tag-itself tag.Bool = refl
+same_tag-itself tag.Null = refl
+same_tag-itself tag.Time = refl
+same_tag-itself tag.Pattern = refl
+same_tag-itself tag.List = refl
+same_tag-itself tag.Object = refl
+same_tag-itself tag.Absent = refl
+
 error_told : (span : Span) (t u : Target) (e : Expr) (a kept b c : Checker) (place : ℕ) (part outcome : Outcome) → kept.state ≡ a.state → kept.diagnostics ≡ a.diagnostics → kept.patterns ≡ a.patterns → kept.empties.items ≡ a.empties.items ++ (tag.Null ∷ [])
     → place ≡ length a.empties.items → IsToldExpr e kept b part → AreAssigned span t u place part b c outcome → IsGivenAs span (both t u e) a c outcome
 error_told span t u e a kept b c place part outcome state diagnostics patterns empties at_place x last = λ known alive.
@@ -88,8 +102,8 @@ error_told span t u e a kept b c place part outcome state diagnostics patterns e
     let ds = of_error_assignment span t u j outcome.kind in
     let w = last.written in (
       with_codes ds (record j { kind = outcome.kind; ok = c.state.known; fail = None; empties = empty_tag part.kind ∷ x.tags }),
-      an_error_assignment w.behind_value.between w.given w.behind_error.written.between w.behind_error.failed
-          (judges_at a kept (Some known) e j patterns (ap (λ s. s.known) state ∙ alive) x.judges) last.empty last.kind w.null w.text
+      an_error_assignment (empty_tag part.kind) w.behind_value.between w.given w.behind_error.written.between w.behind_error.failed
+          (judges_at a kept (Some known) e j patterns (ap (λ s. s.known) state ∙ alive) x.judges) (same_tag-itself (empty_tag part.kind)) last.empty last.kind w.null w.text
           w.behind_value.first w.behind_value.second w.behind_error.written.first w.behind_error.written.second w.behind_error.joined,
       record {
         kind = refl;

@@ -28,6 +28,7 @@ use Rattle.vrl_check.proofs.Told.{judges_at, told_expr, IsToldExpr}
 use Rattle.vrl_judge.proofs.Joining.{branch_alive, no_ends_are}
 use Rattle.vrl_value.specs.declared.value.Tag.TheVariants as tag
 use Rattle.vrl_syntax.specs.declared.root.Op.TheVariants as op
+use Rattle.vrl_check.specs.OpenRules.{language_rules}
 
 -- ---- two sides
 
@@ -50,7 +51,7 @@ conjunction_told l r a b c d e part other outcome side x step or_fail y last = �
     let behind : IsBehind j k (behind_with last.both j k) = is_behind side.part.ends other.ends last.both j k (returns_but_fail part.ends side.part.ends j or_fail.others (refl, refl, refl)) (refl, refl, refl) last.ends in (
       record (behind_with last.both j k) { kind = outcome.kind; ok = e.state.known; fail = known_on outcome.ends.fail },
       a_conjunction (known_on side.part.ends.fail) (known_on last.both.fail)
-          (subst (λ s. Judges a.patterns.now s l j) alive x.judges) (judges_at a c _ r k (step.moved.patterns ∙ x.ended.gathers.patterns) step.known y.judges) behind last.kind
+          (subst (λ s. Judges (language_rules a.patterns.now) s l j) alive x.judges) (judges_at a c _ r k (step.moved.patterns ∙ x.ended.gathers.patterns) step.known y.judges) behind last.kind
           (subst (λ s. IsJoined s (if_state (may_be_truth other.kind) d.state.known) e.state.known) step.beside last.known)
           or_fail.fail last.ends.fail last.or_fail.fail,
       record {
@@ -84,7 +85,7 @@ disjunction_told l r a b c d e part other outcome side x step y kind joined last
     let k = seen other d y.codes y.tags in
     let both : IsThen j k (behind_with outcome.ends j k) = record { behind = is_behind part.ends other.ends outcome.ends j k (refl, refl, refl) (refl, refl, refl) joined; fail = joined.fail } in (
       record (behind_with outcome.ends j k) { kind = outcome.kind; ok = e.state.known },
-      a_disjunction (subst (λ s. Judges a.patterns.now s l j) alive x.judges) (judges_at a c _ r k (step.moved.patterns ∙ x.ended.gathers.patterns) step.known y.judges) both kind
+      a_disjunction (subst (λ s. Judges (language_rules a.patterns.now) s l j) alive x.judges) (judges_at a c _ r k (step.moved.patterns ∙ x.ended.gathers.patterns) step.known y.judges) both kind
           (subst (λ s. IsJoined s d.state.known e.state.known) step.beside last.known),
       record {
         kind = refl;
@@ -121,7 +122,7 @@ coalescing_told span l r a b c d e f part other middle side ends x step y kind j
     let ds = when (not (part.ends.poisoned || is_alive (known_on part.ends.fail))) (at 651 span) in
     let whole : Judgement = record (behind_with middle.ends j k) { kind = middle.kind; ok = e.state.known; fail = known_on other.ends.fail } in (
       with_codes ds whole,
-      a_coalescing (subst (λ s. Judges a.patterns.now s l j) alive x.judges) (judges_at a c _ r k (step.moved.patterns ∙ x.ended.gathers.patterns) step.known y.judges)
+      a_coalescing (subst (λ s. Judges (language_rules a.patterns.now) s l j) alive x.judges) (judges_at a c _ r k (step.moved.patterns ∙ x.ended.gathers.patterns) step.known y.judges)
           (is_behind (record part.ends { fail = None }) other.ends middle.ends j k (refl, refl, refl) (refl, refl, refl) joined) kind
           (subst (λ s. IsJoined s d.state.known e.state.known) step.beside last.known),
       reported_judged ds a e f middle (record { kind = middle.kind; ends = ends }) whole reported refl (record {
@@ -158,7 +159,7 @@ return_told : (v : Expr) (a b c : Checker) (part outcome : Outcome) → IsToldEx
 return_told v a b c part outcome x last = λ span known alive.
     let j = seen part b x.codes x.tags in (
       record j { kind = never_kind; ok = None; ret = return_state outcome.ends.ret; returned = return_kind outcome.ends.ret },
-      a_return (subst (λ s. Judges a.patterns.now s v j) alive x.judges) last.ret last.returned,
+      a_return (subst (λ s. Judges (language_rules a.patterns.now) s v j) alive x.judges) last.ret last.returned,
       record {
         kind = last.kind;
         root = never_root;
@@ -200,7 +201,7 @@ abort_told m a b c part outcome x last = λ span known alive.
     let j = seen part b x.codes x.tags in
     let ds = of_message (span_of m) j in (
       with_codes ds (record j { kind = never_kind; ok = None }),
-      an_abort_with (subst (λ s. Judges a.patterns.now s m j) alive x.judges),
+      an_abort_with (subst (λ s. Judges (language_rules a.patterns.now) s m j) alive x.judges),
       record {
         kind = last.kind;
         root = never_root;

@@ -11,7 +11,7 @@ use Rattle.vrl_value.specs.Tree.{Tree}
 use Rattle.vrl_diag.specs.declared.diagnostic.Span.{Span}
 use Rattle.vrl_syntax.specs.Tree.{Args, no_args, arg, Closure}
 use Rattle.vrl_kind.specs.KindTree.{KindTree}
-use Rattle.vrl_builtin.specs.Conditions.{AreGiven as AreAllowed, AreGivenFrom, IsGiven as IsAllowed, IsLiteral, IsThere}
+use Rattle.vrl_builtin.specs.Conditions.{AreGiven, AreGivenFrom, IsGiven, IsLiteral, IsThere}
 use Rattle.vrl_builtin.specs.Rows.{GivenTree, ParameterRow, Row, held}
 use Rattle.vrl_builtin.specs.declared.tags.Tags.{Tags as TagSet}
 use Rattle.vrl_table.specs.Binding.{binding, bound_from, bound_or_missing, bound_or_unknown, first_missing, first_unknown, is_keyword, is_unknown, is_wrong_number, keyword_at, keywords_of, positional_at, Keywords}
@@ -23,7 +23,7 @@ use Rattle.vrl_syntax.specs.Calls.{literal_of}
 use Rattle.vrl_diag.specs.Refusal.{is_error}
 use Rattle.vrl_judge.specs.Rules.{Argument, argument_at, at, is_disjoint, is_fallible, is_known, when}
 use Rattle.vrl_check.specs.Judgement.{span_of}
-use Rattle.vrl_check.specs.Judgement.{bound, of_argument, of_arguments, of_call, of_closure, of_found, of_unknown, places_in, wants_literal, AreGiven, IsGiven}
+use Rattle.vrl_check.specs.Judgement.{bound, of_argument, of_arguments, of_call, of_closure, of_found, of_unknown, places_in, wants_literal, AreAskedAbout, IsAskedAbout}
 use Rattle.vrl_check.specs.declared.calls.Arguments.{Arguments}
 use Rattle.vrl_table.specs.declared.binding.BindFault.TheVariants as fault
 use Rattle.vrl_check.specs.declared.calls.Callee.TheVariants as callee
@@ -99,12 +99,12 @@ no_error false false false span none = refl
 argument_written : (T : TagSet) (unwritten : Bool) (g : Argument) → list_any is_error (of_argument T unwritten g) ≡ false → unwritten ≡ false
 argument_written T unwritten g none = no_error (is_fallible g.judged) (is_known g.judged && is_disjoint T g.judged.kind) unwritten (span_of g.value) none
 
-one_allowed : (r : Row) (place : ℕ) (p : ParameterRow) (g : Option Argument) (given : GivenTree) → (p.required && is_none g) ≡ false → list_any is_error (of_found (wants_literal r) place p g) ≡ false → IsGiven p g given
-    → IsAllowed p (r.accepts place) given.kind given.literal
+one_allowed : (r : Row) (place : ℕ) (p : ParameterRow) (g : Option Argument) (given : GivenTree) → (p.required && is_none g) ≡ false → list_any is_error (of_found (wants_literal r) place p g) ≡ false → IsAskedAbout p g given
+    → IsGiven p (r.accepts place) given.kind given.literal
 one_allowed r place p None given present none is =
-    subst (λ (x : GivenTree). IsAllowed p (r.accepts place) x.kind x.literal) (sym is) (record { there = not_required p.required present; allowed = tt })
+    subst (λ (x : GivenTree). IsGiven p (r.accepts place) x.kind x.literal) (sym is) (record { there = not_required p.required present; allowed = tt })
 one_allowed r place p (Some g) given present none is =
-    subst (λ (x : GivenTree). IsAllowed p (r.accepts place) x.kind x.literal) (sym is.2) (record {
+    subst (λ (x : GivenTree). IsGiven p (r.accepts place) x.kind x.literal) (sym is.2) (record {
       there = is_there p.required is.0;
       allowed = literal_allowed p.literal (r.accepts place) (literal_of g.value) (argument_written p.allowed (wants_literal r place p g.value) g none);
     })
@@ -124,7 +124,7 @@ not_missing false (Some i) is = absurd cc
 
 -- of the parameters from a place on
 allowed_from : (r : Row) (place : ℕ) (ps : List ParameterRow) (places : List (Option ℕ)) (js : List Argument) (all givens : List GivenTree) → length places ≡ length ps → AreWithin (length js) places → first_missing ps places ≡ None
-    → list_any is_error (of_arguments (wants_literal r) place ps (bound places js)) ≡ false → ((i : ℕ) → slice_get all (place + i) ≡ slice_get givens i) → AreGiven ps (bound places js) givens → AreGivenFrom place ps r.accepts all
+    → list_any is_error (of_arguments (wants_literal r) place ps (bound places js)) ≡ false → ((i : ℕ) → slice_get all (place + i) ≡ slice_get givens i) → AreAskedAbout ps (bound places js) givens → AreGivenFrom place ps r.accepts all
 allowed_from r place [] places js all givens same within present none behind is = tt
 allowed_from r place (p ∷ ps) [] js all givens same within present none behind is = absurd (omega arith)
 allowed_from r place (p ∷ ps) (q ∷ places) js all [] same within present none behind is = absurd is
@@ -137,7 +137,7 @@ allowed_from r place (p ∷ ps) (q ∷ places) js all (given ∷ givens) same wi
     ∙ none)
     in
     let fewer : length places ≡ length ps = omega arith in (
-      subst (λ (x : Option GivenTree). IsAllowed p (r.accepts place) (held (option_map (λ g. g.kind) x)) (held (option_map (λ g. g.literal) x))) (sym here) (one_allowed r place p (argument_at js q) given there codes.0 is.0),
+      subst (λ (x : Option GivenTree). IsGiven p (r.accepts place) (held (option_map (λ g. g.kind) x)) (held (option_map (λ g. g.literal) x))) (sym here) (one_allowed r place p (argument_at js q) given there codes.0 is.0),
       allowed_from r (suc place) ps places js all givens fewer within.1 missing.1 codes.1
           (λ i. let same : suc place + i ≡ place + suc i = omega arith in ap (slice_get all) same ∙ behind (suc i)) is.1,
     )
@@ -180,7 +180,7 @@ unknown_told (g ∷ js) (suc i) is = unknown_told js i (omega arith)
 
 -- what is known of the arguments of a call on which no code stands is allowed
 call_allowed : (r : Row) (ks : Keywords) (span : Span) (c : Closure) (js : List Argument) (b : Result (List (Option ℕ)) BindFault) → binding r.parameters ks ≡ b → length ks ≡ length js
-    → list_any is_error (of_call (wants_literal r) r.parameters span c js b) ≡ false → (givens : List GivenTree) → AreGiven r.parameters (bound (places_in b) js) givens → AreAllowed r givens
+    → list_any is_error (of_call (wants_literal r) r.parameters span c js b) ≡ false → (givens : List GivenTree) → AreAskedAbout r.parameters (bound (places_in b) js) givens → AreGiven r givens
 call_allowed r ks span c js (Ok found) is same none givens given =
     let ps = r.parameters in
     let places = places_found (is_wrong_number ps ks) (first_unknown ps ks) (first_missing ps (bound_from 0 ps ks)) (bound_from 0 ps ks) found is in
@@ -209,5 +209,5 @@ may_be_asked function gs c arguments places has clean = record {
   told = has.told;
   allowed = λ givens given.
       call_allowed (row_of function) (keywords_of gs) has.span c has.js (binding (row_of function).parameters (keywords_of gs)) refl (keywords_told gs has.js has.told.written_are) (has.codes clean) givens
-      (subst (λ qs. AreGiven (row_of function).parameters (bound qs has.js) givens) has.places_are given);
+      (subst (λ qs. AreAskedAbout (row_of function).parameters (bound qs has.js) givens) has.places_are given);
 }

@@ -11,7 +11,7 @@ use Rattle.vrl_syntax.specs.declared.tree.Call.{Call as CodeCall, out-Call}
 use Rattle.vrl_syntax.specs.declared.tree.Closure.{Closure as CodeClosure}
 use Rattle.vrl_syntax.specs.declared.tree.Form.{the_lemmas}
 use Rattle.vrl_check.specs.Calling.{call_args, call_bang, call_closure, call_name, written, AreTold, IsFound}
-use Rattle.vrl_judge.specs.Calling.{told}
+use Rattle.vrl_judge.specs.Calling.{part_of}
 use Rattle.vrl_judge.specs.Rules.{Argument, argument_at, at, when}
 use Rattle.vrl_check.specs.Judgement.{of_closure, of_unknown}
 use Rattle.vrl_judge.specs.declared.calls.Argument.{Argument as CodeArgument}
@@ -55,8 +55,8 @@ written_at (a ∷ args) (suc i) = written_at args i
 places_are : (args : List CodeArg) (js : List Argument) (i : ℕ) → written (args_view args) ≡ map place_of js → option_map place_of (slice_get js i) ≡ option_map written_as (slice_get args i)
 places_are args js i is = sym (slice_get-map place_of js i) ∙ ap (λ xs. slice_get xs i) (sym is) ∙ written_at args i
 
-parts_are : (parts : List CodeArgument) (js : List Argument) (i : ℕ) → parts ≡ map told js → option_map told (slice_get js i) ≡ slice_get parts i
-parts_are parts js i is = sym (slice_get-map told js i) ∙ ap (λ xs. slice_get xs i) (sym is)
+parts_are : (parts : List CodeArgument) (js : List Argument) (i : ℕ) → parts ≡ map part_of js → option_map told (slice_get js i) ≡ slice_get parts i
+parts_are parts js i is = sym (slice_get-map part_of js i) ∙ ap (λ xs. slice_get xs i) (sym is)
 
 none_there : (g : Option Argument) (f : Argument → Span × Expr) → option_map f g ≡ None → g ≡ None
 none_there None f is = refl
@@ -71,15 +71,15 @@ pub unwritten_at : (args : List CodeArg) (js : List Argument) (i : ℕ) → writ
 unwritten_at args js i is none = none_there (slice_get js i) place_of (places_are args js i is ∙ ap (option_map written_as) none)
 
 -- none was judged there
-pub unjudged_at : (parts : List CodeArgument) (js : List Argument) (i : ℕ) → parts ≡ map told js → slice_get parts i ≡ None → slice_get js i ≡ None
-unjudged_at parts js i is none = none_kept (slice_get js i) told (parts_are parts js i is ∙ none)
+pub unjudged_at : (parts : List CodeArgument) (js : List Argument) (i : ℕ) → parts ≡ map part_of js → slice_get parts i ≡ None → slice_get js i ≡ None
+unjudged_at parts js i is none = none_kept (slice_get js i) part_of (parts_are parts js i is ∙ none)
 
-found_as : (g : Option Argument) (a : CodeArg) (p : CodeArgument) → option_map place_of g ≡ Some (written_as a) → option_map told g ≡ Some p → IsFound g (Some (a, p))
+found_as : (g : Option Argument) (a : CodeArg) (p : CodeArgument) → option_map place_of g ≡ Some (written_as a) → option_map part_of g ≡ Some p → IsFound g (Some (a, p))
 found_as None a p is kept = absurd cc
 found_as (Some g) a p is kept =
     let value : Some (g.value) ≡ Some (expr_of a.value) = ap (option_map (λ (x : Span × Expr). x.1)) is in
     let same : g.value ≡ expr_of a.value = cc in
-    let part : told g ≡ p = cc in
+    let part : part_of g ≡ p = cc in
     (sym same, sym part)
 
 pub found_at : (args : List CodeArg) (parts : List CodeArgument) (js : List Argument) (i : ℕ) (a : CodeArg) (p : CodeArgument) → AreTold (args_view args) parts js → slice_get args i ≡ Some a → slice_get parts i ≡ Some p

@@ -33,6 +33,7 @@ use Rattle.vrl_judge.proofs.RootKinds.{any_root, scalar_root}
 use Rattle.vrl_judge.proofs.Joining.{join_of}
 use Rattle.vrl_value.specs.declared.value.Tag.TheVariants as tag
 use Rattle.vrl_check.specs.declared.calls.Callee.TheVariants as callee
+use Rattle.vrl_check.specs.OpenRules.{language_rules}
 
 -- ---- behind the closure
 
@@ -65,8 +66,8 @@ takes_none f name s bang gs c is can =
     parts.0
 
 pub nothing_judged : (name : List ℕ) (s span : Span) (bang : Bool) (gs : Args) (c : Closure) (before now after : Checker) (known : RootMap) (js : List Argument) (j : Judgement) (arguments : Arguments) (outcome : Outcome)
-    → IsUnknown name → takes_closure name ≡ false → JudgesArguments before.patterns.now (gives never_kind (Some known)) gs js j → IsPassed before now gs c arguments js j → outcome.kind ≡ any_kind → IsReported (at 105 s) now after arguments.ends outcome.ends
-    → (k : Judgement) × Gives before.patterns.now known span (call name s bang gs c) k × HasJudged before after outcome k
+    → IsUnknown name → takes_closure name ≡ false → JudgesArguments (language_rules before.patterns.now) (gives never_kind (Some known)) gs js j → IsPassed before now gs c arguments js j → outcome.kind ≡ any_kind → IsReported (at 105 s) now after arguments.ends outcome.ends
+    → (k : Judgement) × Gives (language_rules before.patterns.now) known span (call name s bang gs c) k × HasJudged before after outcome k
 nothing_judged name s span bang gs c before now after known js j arguments outcome unknown none judged passed any reported =
     let whole : Judgement = record j { kind = any_kind; empties = j.empties ++ nulls (in_closure c) } in (
       with_codes (at 105 s) whole,

@@ -11,7 +11,7 @@ use Rattle.vrl_syntax.specs.declared.root.Op.{Op}
 use Rattle.vrl_syntax.specs.declared.root.Target.{Target}
 use Rattle.vrl_check.specs.Calls.{expr_holds_closure_call, exprs_hold_closure_call, pairs_hold_closure_call}
 use Rattle.vrl_check.specs.Judgement.{pair_values}
-use Rattle.vrl_check.specs.Walking.{ArgumentsCanBeJudged, ArmsCanBeJudged, CanBeJudged, ElseCanBeJudged, FormCanBeJudged, ItemsCanBeJudged, PairsCanBeJudged}
+use Rattle.vrl_check.specs.Walking.{ArgumentsCanBeJudged, ArmsCanBeJudged, ExprCanBeJudged, ElseCanBeJudged, FormCanBeJudged, ItemsCanBeJudged, PairsCanBeJudged}
 use Rattle.vrl_syntax.proofs.PartSizes.{expr_size, exprs_size, pairs_size}
 
 -- ---- neither of two
@@ -33,7 +33,7 @@ kept_faults deleted (arg name span e gs) none =
     let parts = none_of_both _ _ (none_of_both _ _ none).1 in
     ap₂ (λ xs ys. xs ++ ys) parts.0 (kept_faults deleted gs parts.1)
 
-pub form_can : {sources : List (List ℕ)} (span : Span) (f : Form) → CanBeJudged sources (expr span f) → FormCanBeJudged sources f
+pub form_can : {sources : List (List ℕ)} (span : Span) (f : Form) → ExprCanBeJudged sources (expr span f) → FormCanBeJudged sources f
 form_can span f can = record { calls = can.calls; limits = can.limits; regexes = can.regexes }
 
 pub array_can : {sources : List (List ℕ)} (es : Exprs) → FormCanBeJudged sources (array es) → ItemsCanBeJudged sources es
@@ -42,22 +42,22 @@ array_can es can = record { calls = can.calls; limits = can.limits; regexes = ca
 pub object_can : {sources : List (List ℕ)} (ps : Pairs) → FormCanBeJudged sources (object ps) → PairsCanBeJudged sources ps
 object_can ps can = record { calls = can.calls; limits = can.limits; regexes = can.regexes }
 
-pub query_can : {sources : List (List ℕ)} (e : Expr) (path : List Step) → FormCanBeJudged sources (query e path) → CanBeJudged sources e
+pub query_can : {sources : List (List ℕ)} (e : Expr) (path : List Step) → FormCanBeJudged sources (query e path) → ExprCanBeJudged sources e
 query_can e path can = record { calls = can.calls; limits = can.limits; regexes = can.regexes }
 
-pub group_can : {sources : List (List ℕ)} (e : Expr) → FormCanBeJudged sources (group e) → CanBeJudged sources e
+pub group_can : {sources : List (List ℕ)} (e : Expr) → FormCanBeJudged sources (group e) → ExprCanBeJudged sources e
 group_can e can = record { calls = can.calls; limits = can.limits; regexes = can.regexes }
 
 pub block_can : {sources : List (List ℕ)} (es : Exprs) → FormCanBeJudged sources (block es) → ItemsCanBeJudged sources es
 block_can es can = record { calls = can.calls; limits = can.limits; regexes = can.regexes }
 
-pub negation_can : {sources : List (List ℕ)} (e : Expr) → FormCanBeJudged sources (negation e) → CanBeJudged sources e
+pub negation_can : {sources : List (List ℕ)} (e : Expr) → FormCanBeJudged sources (negation e) → ExprCanBeJudged sources e
 negation_can e can = record { calls = can.calls; limits = can.limits; regexes = can.regexes }
 
-pub return_can : {sources : List (List ℕ)} (e : Expr) → FormCanBeJudged sources (return_of e) → CanBeJudged sources e
+pub return_can : {sources : List (List ℕ)} (e : Expr) → FormCanBeJudged sources (return_of e) → ExprCanBeJudged sources e
 return_can e can = record { calls = can.calls; limits = can.limits; regexes = can.regexes }
 
-pub abort_can : {sources : List (List ℕ)} (e : Expr) → FormCanBeJudged sources (abort_with (message e)) → CanBeJudged sources e
+pub abort_can : {sources : List (List ℕ)} (e : Expr) → FormCanBeJudged sources (abort_with (message e)) → ExprCanBeJudged sources e
 abort_can e can = record { calls = can.calls; limits = can.limits; regexes = can.regexes }
 
 pub conditional_can : {sources : List (List ℕ)} (gs : Arms) (es : Else) → FormCanBeJudged sources (conditional gs es) → ArmsCanBeJudged sources gs × ElseCanBeJudged sources es
@@ -67,24 +67,24 @@ conditional_can gs es can =
     let regexes = and_parts _ _ can.regexes in
     (record { calls = calls.0; limits = limits.0; regexes = regexes.0 }, record { calls = calls.1; limits = limits.1; regexes = regexes.1 })
 
-pub binary_can : {sources : List (List ℕ)} (o : Op) (l r : Expr) → FormCanBeJudged sources (binary o l r) → CanBeJudged sources l × CanBeJudged sources r
+pub binary_can : {sources : List (List ℕ)} (o : Op) (l r : Expr) → FormCanBeJudged sources (binary o l r) → ExprCanBeJudged sources l × ExprCanBeJudged sources r
 binary_can o l r can =
     let calls = neither (expr_holds_closure_call l) (expr_holds_closure_call r) can.calls in
     let limits = none_of_both (expr_faults l) (expr_faults r) can.limits in
     let regexes = and_parts _ _ can.regexes in
     (record { calls = calls.0; limits = limits.0; regexes = regexes.0 }, record { calls = calls.1; limits = limits.1; regexes = regexes.1 })
 
-pub assign_can : {sources : List (List ℕ)} (t : Target) (e : Expr) → FormCanBeJudged sources (assign t e) → (target_faults t ≡ []) × CanBeJudged sources e
+pub assign_can : {sources : List (List ℕ)} (t : Target) (e : Expr) → FormCanBeJudged sources (assign t e) → (target_faults t ≡ []) × ExprCanBeJudged sources e
 assign_can t e can =
     let limits = none_of_both (target_faults t) (expr_faults e) can.limits in
     (limits.0, record { calls = can.calls; limits = limits.1; regexes = can.regexes })
 
-pub merge_can : {sources : List (List ℕ)} (t : Target) (e : Expr) → FormCanBeJudged sources (merge t e) → (target_faults t ≡ []) × CanBeJudged sources e
+pub merge_can : {sources : List (List ℕ)} (t : Target) (e : Expr) → FormCanBeJudged sources (merge t e) → (target_faults t ≡ []) × ExprCanBeJudged sources e
 merge_can t e can =
     let limits = none_of_both (target_faults t) (expr_faults e) can.limits in
     (limits.0, record { calls = can.calls; limits = limits.1; regexes = can.regexes })
 
-pub both_can : {sources : List (List ℕ)} (t u : Target) (e : Expr) → FormCanBeJudged sources (both t u e) → (target_faults t ≡ []) × (target_faults u ≡ []) × CanBeJudged sources e
+pub both_can : {sources : List (List ℕ)} (t u : Target) (e : Expr) → FormCanBeJudged sources (both t u e) → (target_faults t ≡ []) × (target_faults u ≡ []) × ExprCanBeJudged sources e
 both_can t u e can =
     let first = none_of_both (target_faults t) (target_faults u ++ expr_faults e) can.limits in
     let second = none_of_both (target_faults u) (expr_faults e) first.1 in
@@ -100,7 +100,7 @@ arguments_can name span bang gs c can = record {
 
 -- ---- lists
 
-pub first_can : {sources : List (List ℕ)} (e : Expr) (es : Exprs) → ItemsCanBeJudged sources (exprs e es) → CanBeJudged sources e
+pub first_can : {sources : List (List ℕ)} (e : Expr) (es : Exprs) → ItemsCanBeJudged sources (exprs e es) → ExprCanBeJudged sources e
 first_can e es can =
     record { calls = (neither (expr_holds_closure_call e) (exprs_hold_closure_call es) can.calls).0; limits = (none_of_both (expr_faults e) (exprs_faults es) can.limits).0; regexes = (and_parts _ _ can.regexes).0 }
 
@@ -108,7 +108,7 @@ pub rest_can : {sources : List (List ℕ)} (e : Expr) (es : Exprs) → ItemsCanB
 rest_can e es can =
     record { calls = (neither (expr_holds_closure_call e) (exprs_hold_closure_call es) can.calls).1; limits = (none_of_both (expr_faults e) (exprs_faults es) can.limits).1; regexes = (and_parts _ _ can.regexes).1 }
 
-pub first_argument_can : {sources : List (List ℕ)} (name : Option (List ℕ)) (span : Span) (e : Expr) (gs : Args) → ArgumentsCanBeJudged sources (arg name span e gs) → CanBeJudged sources e
+pub first_argument_can : {sources : List (List ℕ)} (name : Option (List ℕ)) (span : Span) (e : Expr) (gs : Args) → ArgumentsCanBeJudged sources (arg name span e gs) → ExprCanBeJudged sources e
 first_argument_can name span e gs can =
     record { calls = (neither _ _ can.calls).0; limits = (none_of_both (expr_faults e) (args_faults false gs) can.limits).0; regexes = (and_parts _ _ can.regexes).0 }
 

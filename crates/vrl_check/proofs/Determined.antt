@@ -22,6 +22,7 @@ use Rattle.vrl_kind.specs.Canonical.{any_kind, never_kind}
 use Rattle.vrl_kind.specs.Count.{nodes, levels}
 use Rattle.vrl_kind.specs.Cut.{IsCut, level_limit, node_limit}
 use Rattle.vrl_kind.specs.KindTree.{KindTree}
+use Rattle.vrl_kind.specs.Tags.{same_tag}
 use Rattle.vrl_kind.specs.Kinds.{found_at, root_tags, tags_at}
 use Rattle.vrl_kind.specs.Laws.{EqualTagsAreOneKind}
 use Rattle.vrl_kind.specs.Sets.{Sets}
@@ -36,10 +37,11 @@ use Rattle.vrl_table.specs.declared.function.Fun.{Fun}
 use Rattle.vrl_syntax.specs.Calls.{is_exists, literal_of}
 use Rattle.vrl_syntax.specs.ErrorAssignments.{empty_value, in_closure}
 use Rattle.vrl_syntax.specs.Calls.{takes_closure}
-use Rattle.vrl_judge.specs.Rules.{Argument, Judgement, IsBehind, IsDeleted, IsMerged, IsMergedIf, IsReadAt, IsThen, IsWritten, banged, gives, settle, with_codes, if_state, is_alive}
+use Rattle.vrl_judge.specs.Rules.{Argument, Judgement, IsBehind, IsDeleted, IsMerged, IsMergedIf, IsReadAt, IsThen, IsTargetWritten, banged, gives, settle, with_codes, if_state, is_alive}
 use Rattle.vrl_check.specs.Judgement.{IsBeside, span_of}
-use Rattle.vrl_check.specs.Judgement.{Judges, Gives, JudgesBoth, JudgesAll, JudgesArguments, JudgesBlock, JudgesArms, JudgesItems, AreGiven, IsAnsweredUnless, IsCutDown, IsDeletedAt, IsGiven, behind_arguments, bound, deleted_kind, deleted_path, nulls, places_in, unreached, reached, wants_literal}
+use Rattle.vrl_check.specs.Judgement.{Judges, Gives, JudgesBoth, JudgesAll, JudgesArguments, JudgesBlock, JudgesArms, JudgesItems, JudgesScript, AreAskedAbout, IsAnsweredUnless, IsCutDown, IsDeletedAt, IsAskedAbout, behind_arguments, bound, deleted_kind, deleted_path, nulls, places_in, unreached, reached, wants_literal}
 use Rattle.vrl_check.specs.Determined.{JudgementsAreDetermined}
+use Rattle.vrl_check.specs.OpenRules.{OpenRules, HaveOneTag, language_rules}
 use Rattle.std.specs.FinMap as map
 use Rattle.vrl_value.specs.declared.value.Tag.TheVariants as tag
 use Rattle.vrl_syntax.specs.Tree as syntax
@@ -120,15 +122,15 @@ one_join : EqualTagsAreOneKind → {a b c a' b' c' : Option RootMap} → a ≡ a
 one_join kinds {b = b} {c = c} {a' = a'} {b' = b'} {c' = c'} left right one two =
     one_join_of kinds a' b' c c' (subst (λ y. IsJoined a' y c) right (subst (λ x. IsJoined x b c) left one)) two
 
-one_written_of : EqualTagsAreOneKind → (t : Target) (K : KindTree) (before c d : Option RootMap) → IsWritten t K before c → IsWritten t K before d → c ≡ d
+one_written_of : EqualTagsAreOneKind → (t : Target) (K : KindTree) (before c d : Option RootMap) → IsTargetWritten t K before c → IsTargetWritten t K before d → c ≡ d
 one_written_of kinds Nowhere K before c d one two = one ∙ sym two
 one_written_of kinds (Place span root path) K None c d one two = one ∙ sym two
 one_written_of kinds (Place span root path) K (Some roots) c d one two =
     one.2 ∙ ap (λ M. Some (with_kind root M roots)) (one_cut kinds refl one.1 two.1) ∙ sym two.2
 
-one_written : EqualTagsAreOneKind → (t : Target) {K L : KindTree} {a b c d : Option RootMap} → K ≡ L → a ≡ b → IsWritten t K a c → IsWritten t L b d → c ≡ d
+one_written : EqualTagsAreOneKind → (t : Target) {K L : KindTree} {a b c d : Option RootMap} → K ≡ L → a ≡ b → IsTargetWritten t K a c → IsTargetWritten t L b d → c ≡ d
 one_written kinds t {L = L} {a = a} {b = b} {c = c} {d = d} kind known one two =
-    one_written_of kinds t L b c d (subst (λ x. IsWritten t L x c) known (subst (λ K. IsWritten t K a c) kind one)) two
+    one_written_of kinds t L b c d (subst (λ x. IsTargetWritten t L x c) known (subst (λ K. IsTargetWritten t K a c) kind one)) two
 
 abbrev IsTakenOutOf : Option KindTree → Root → List PlainStep → RootMap → Option RootMap → Type 0
 IsTakenOutOf found root path roots after = MatchOption found (after ≡ Some roots) (λ K. HasNow root (remove (tags_at K) path) roots after)
@@ -182,51 +184,47 @@ one_beside kinds {k = k} {l = l} {j' = j'} {k' = k'} {l' = l'} ways way one two 
 
 -- ---- what is shown of each part
 
--- the sources of a script's regexes
-abbrev Sources : Type 0
-Sources = List (List ℕ)
-
 abbrev HasOne : Expr → Type 0
-HasOne e = (sources : Sources) (known : Option RootMap) (j k : Judgement) → Judges sources known e j → Judges sources known e k → j ≡ k
+HasOne e = (rules : OpenRules) → HaveOneTag rules → (known : Option RootMap) (j k : Judgement) → Judges rules known e j → Judges rules known e k → j ≡ k
 
 abbrev GivesOne : Span → Form → Type 0
-GivesOne span f = (sources : Sources) (known : RootMap) (j k : Judgement) → Gives sources known span f j → Gives sources known span f k → j ≡ k
+GivesOne span f = (rules : OpenRules) → HaveOneTag rules → (known : RootMap) (j k : Judgement) → Gives rules known span f j → Gives rules known span f k → j ≡ k
 
 abbrev HaveOne : Exprs → Type 0
-HaveOne es = (sources : Sources) (before : Judgement) (Ks Ls : List KindTree) (j k : Judgement) → JudgesAll sources before es Ks j → JudgesAll sources before es Ls k → (Ks ≡ Ls) × (j ≡ k)
+HaveOne es = (rules : OpenRules) → HaveOneTag rules → (before : Judgement) (Ks Ls : List KindTree) (j k : Judgement) → JudgesAll rules before es Ks j → JudgesAll rules before es Ls k → (Ks ≡ Ls) × (j ≡ k)
 
 abbrev ArgumentsHaveOne : Args → Type 0
-ArgumentsHaveOne gs = (sources : Sources) (before : Judgement) (js ks : List Argument) (j k : Judgement) → JudgesArguments sources before gs js j → JudgesArguments sources before gs ks k → (js ≡ ks) × (j ≡ k)
+ArgumentsHaveOne gs = (rules : OpenRules) → HaveOneTag rules → (before : Judgement) (js ks : List Argument) (j k : Judgement) → JudgesArguments rules before gs js j → JudgesArguments rules before gs ks k → (js ≡ ks) × (j ≡ k)
 
 abbrev BlockHasOne : Exprs → Type 0
-BlockHasOne es = (sources : Sources) (known : Option RootMap) (j k : Judgement) → JudgesBlock sources known es j → JudgesBlock sources known es k → j ≡ k
+BlockHasOne es = (rules : OpenRules) → HaveOneTag rules → (known : Option RootMap) (j k : Judgement) → JudgesBlock rules known es j → JudgesBlock rules known es k → j ≡ k
 
 abbrev ArmsHaveOne : Arms → Else → Type 0
-ArmsHaveOne gs otherwise = (sources : Sources) (known : Option RootMap) (ways j k : Judgement) → JudgesArms sources known ways gs otherwise j → JudgesArms sources known ways gs otherwise k → j ≡ k
+ArmsHaveOne gs otherwise = (rules : OpenRules) → HaveOneTag rules → (known : Option RootMap) (ways j k : Judgement) → JudgesArms rules known ways gs otherwise j → JudgesArms rules known ways gs otherwise k → j ≡ k
 
 -- an expression is judged where it is reached, and gives nothing where it isn't
 settled_once : (span : Span) (f : Form) → GivesOne span f → HasOne (expr span f)
-settled_once span f given sources None j k unreached unreached = refl
-settled_once span f given sources (Some known) j k (reached {j = a} one) (reached {j = b} two) = ap settle (given sources known a b one two)
+settled_once span f given rules decided None j k unreached unreached = refl
+settled_once span f given rules decided (Some known) j k (reached {j = a} one) (reached {j = b} two) = ap settle (given rules decided known a b one two)
 
 -- the same behind what is known to be the same
-judged_once : {sources : Sources} {e : Expr} {known known' : Option RootMap} {j k : Judgement} → HasOne e → known ≡ known' → Judges sources known e j → Judges sources known' e k → j ≡ k
-judged_once {sources = sources} {e = e} {known' = known'} {j = j} {k = k} has known one two = has sources known' j k (subst (λ s. Judges sources s e j) known one) two
+judged_once : {rules : OpenRules} {e : Expr} {known known' : Option RootMap} {j k : Judgement} → HaveOneTag rules → HasOne e → known ≡ known' → Judges rules known e j → Judges rules known' e k → j ≡ k
+judged_once {rules = rules} {e = e} {known' = known'} {j = j} {k = k} decided has known one two = has rules decided known' j k (subst (λ s. Judges rules s e j) known one) two
 
 -- ---- values and reads
 
 one_literal : EqualTagsAreOneKind → (span : Span) (v : Tree) → GivesOne span (syntax.literal v)
-one_literal kinds span v sources known j k (judging.a_literal one) (judging.a_literal two) = ap (λ M. gives M (Some known)) (one_cut kinds refl one two)
+one_literal kinds span v rules decided known j k (judging.a_literal one) (judging.a_literal two) = ap (λ M. gives M (Some known)) (one_cut kinds refl one two)
 
 one_array : EqualTagsAreOneKind → (span : Span) (es : Exprs) → HaveOne es → GivesOne span (syntax.array es)
-one_array kinds span es all sources known j k (judging.an_array {j = a} {Ks = Ks} {K = K} one is) (judging.an_array {j = b} {Ks = Ls} {K = L} two is') =
-    let parts : (Ks ≡ Ls) × (a ≡ b) = all sources _ Ks Ls a b one two in
+one_array kinds span es all rules decided known j k (judging.an_array {j = a} {Ks = Ks} {K = K} one is) (judging.an_array {j = b} {Ks = Ls} {K = L} two is') =
+    let parts : (Ks ≡ Ls) × (a ≡ b) = all rules decided _ Ks Ls a b one two in
     let kind : K ≡ L = one_cut kinds (ap words.array_at parts.0) is is' in
     λ i. record (parts.1 i) { kind = kind i }
 
 one_object : EqualTagsAreOneKind → (span : Span) (ps : Pairs) → HaveOne (judging.pair_values ps) → GivesOne span (syntax.object ps)
-one_object kinds span ps all sources known j k (judging.an_object {j = a} {Ks = Ks} {K = K} one is) (judging.an_object {j = b} {Ks = Ls} {K = L} two is') =
-    let parts : (Ks ≡ Ls) × (a ≡ b) = all sources _ Ks Ls a b one two in
+one_object kinds span ps all rules decided known j k (judging.an_object {j = a} {Ks = Ks} {K = K} one is) (judging.an_object {j = b} {Ks = Ls} {K = L} two is') =
+    let parts : (Ks ≡ Ls) × (a ≡ b) = all rules decided _ Ks Ls a b one two in
     let kind : K ≡ L = one_cut kinds (ap (words.object_at (judging.pair_names ps)) parts.0) is is' in
     λ i. record (parts.1 i) { kind = kind i }
 
@@ -234,78 +232,78 @@ some_is : {A : Type 0} (x y : A) → Some x ≡ Some y → x ≡ y
 some_is x y same = cc
 
 one_root : EqualTagsAreOneKind → (span : Span) (root : Root) (path : List Step) → GivesOne span (syntax.read root path)
-one_root kinds span root path sources known j k (judging.a_known_root {K = K} is one) (judging.a_known_root {K = L} too two) =
+one_root kinds span root path rules decided known j k (judging.a_known_root {K = K} is one) (judging.a_known_root {K = L} too two) =
     ap (λ M. gives M (Some known)) (one_read kinds (some_is K L (sym is ∙ too)) one two)
-one_root kinds span root path sources known j k (judging.a_known_root {K = K} is one) (judging.an_unknown_root none) = let wrong : Some K ≡ None = sym is ∙ none in cc
-one_root kinds span root path sources known j k (judging.an_unknown_root none) (judging.a_known_root {K = K} is one) = let wrong : Some K ≡ None = sym is ∙ none in cc
-one_root kinds span root path sources known j k (judging.an_unknown_root none) (judging.an_unknown_root too) = refl
+one_root kinds span root path rules decided known j k (judging.a_known_root {K = K} is one) (judging.an_unknown_root none) = let wrong : Some K ≡ None = sym is ∙ none in cc
+one_root kinds span root path rules decided known j k (judging.an_unknown_root none) (judging.a_known_root {K = K} is one) = let wrong : Some K ≡ None = sym is ∙ none in cc
+one_root kinds span root path rules decided known j k (judging.an_unknown_root none) (judging.an_unknown_root too) = refl
 
 one_query : EqualTagsAreOneKind → (span : Span) (e : Expr) (path : List Step) → HasOne e → GivesOne span (syntax.query e path)
-one_query kinds span e path has sources known j k (judging.a_query {j = a} {K = K} one is) (judging.a_query {j = b} {K = L} two is') =
-    let same : a ≡ b = has sources (Some known) a b one two in
+one_query kinds span e path has rules decided known j k (judging.a_query {j = a} {K = K} one is) (judging.a_query {j = b} {K = L} two is') =
+    let same : a ≡ b = has rules decided (Some known) a b one two in
     let kind : K ≡ L = one_read kinds (λ i. (same i).kind) is is' in
     λ i. record (same i) { kind = kind i }
 
 -- ---- what holds items
 
 one_group : (span : Span) (e : Expr) → HasOne e → GivesOne span (syntax.group e)
-one_group span e has sources known j k (judging.a_group one) (judging.a_group two) = has sources (Some known) j k one two
+one_group span e has rules decided known j k (judging.a_group one) (judging.a_group two) = has rules decided (Some known) j k one two
 
 nothing_once : HaveOne no_exprs
-nothing_once sources before Ks Ls j k judging.no_more judging.no_more = (refl, refl)
+nothing_once rules decided before Ks Ls j k judging.no_more judging.no_more = (refl, refl)
 
 one_more_of : EqualTagsAreOneKind → (e : Expr) (es : Exprs) → HasOne e → HaveOne es → HaveOne (exprs e es)
-one_more_of kinds e es has all sources before Ks Ls a b (judging.one_more {j = j} {middle = m} {Ks = Ms} one then more) (judging.one_more {j = k} {middle = n} {Ks = Ns} one' then' more') =
-    let same : j ≡ k = has sources before.ok j k one one' in
+one_more_of kinds e es has all rules decided before Ks Ls a b (judging.one_more {j = j} {middle = m} {Ks = Ms} one then more) (judging.one_more {j = k} {middle = n} {Ks = Ns} one' then' more') =
+    let same : j ≡ k = has rules decided before.ok j k one one' in
     let next : m ≡ n = one_then kinds refl same then then' in
-    let rest : (Ms ≡ Ns) × (a ≡ b) = all sources n Ms Ns a b (subst (λ x. JudgesAll sources x es Ms a) next more) more' in
+    let rest : (Ms ≡ Ns) × (a ≡ b) = all rules decided n Ms Ns a b (subst (λ x. JudgesAll rules x es Ms a) next more) more' in
     ((λ i. (same i).kind ∷ rest.0 i), rest.1)
 
 one_block : EqualTagsAreOneKind → (es : Exprs) → HaveOne es → BlockHasOne es
-one_block kinds es all sources None j k judging.unreached_block judging.unreached_block = refl
-one_block kinds es all sources (Some known) j k (judging.reached_block {Ks = Ks} {N = M} {j = a} null one) (judging.reached_block {Ks = Ls} {N = N} {j = b} null' two) =
+one_block kinds es all rules decided None j k judging.unreached_block judging.unreached_block = refl
+one_block kinds es all rules decided (Some known) j k (judging.reached_block {Ks = Ks} {N = M} {j = a} null one) (judging.reached_block {Ks = Ls} {N = N} {j = b} null' two) =
     let kind : M ≡ N = one_cut kinds refl null null' in
-    ap (λ x. settle (words.left known x)) (all sources (gives N (Some known)) Ks Ls a b (subst (λ K. JudgesAll sources (gives K (Some known)) es Ks a) kind one) two).1
+    ap (λ x. settle (words.left known x)) (all rules decided (gives N (Some known)) Ks Ls a b (subst (λ K. JudgesAll rules (gives K (Some known)) es Ks a) kind one) two).1
 
-block_once : {sources : Sources} {es : Exprs} {known known' : Option RootMap} {j k : Judgement} → BlockHasOne es → known ≡ known' → JudgesBlock sources known es j → JudgesBlock sources known' es k → j ≡ k
-block_once {sources = sources} {es = es} {known' = known'} {j = j} {k = k} has known one two = has sources known' j k (subst (λ s. JudgesBlock sources s es j) known one) two
+block_once : {rules : OpenRules} {es : Exprs} {known known' : Option RootMap} {j k : Judgement} → HaveOneTag rules → BlockHasOne es → known ≡ known' → JudgesBlock rules known es j → JudgesBlock rules known' es k → j ≡ k
+block_once {rules = rules} {es = es} {known' = known'} {j = j} {k = k} decided has known one two = has rules decided known' j k (subst (λ s. JudgesBlock rules s es j) known one) two
 
 one_block_form : (span : Span) (es : Exprs) → BlockHasOne es → GivesOne span (syntax.block es)
-one_block_form span es has sources known j k (judging.a_block one) (judging.a_block two) = has sources (Some known) j k one two
+one_block_form span es has rules decided known j k (judging.a_block one) (judging.a_block two) = has rules decided (Some known) j k one two
 
 one_arm : EqualTagsAreOneKind → (p : Expr) (es : Exprs) (gs : Arms) (otherwise : Else) → HasOne p → BlockHasOne es → ArmsHaveOne gs otherwise → ArmsHaveOne (arm p es gs) otherwise
-one_arm kinds p es gs otherwise has block_has rest sources known ways a b
+one_arm kinds p es gs otherwise has block_has rest rules decided known ways a b
     (judging.an_arm {j = j} {with_predicate = m} {k = x} {with_branch = n} predicate tested branch joined more)
     (judging.an_arm {j = j'} {with_predicate = m'} {k = x'} {with_branch = n'} predicate' tested' branch' joined' more') =
-    let same : j ≡ j' = has sources known j j' predicate predicate' in
+    let same : j ≡ j' = has rules decided known j j' predicate predicate' in
     let test : m ≡ m' = one_beside kinds refl (λ i. record (with_codes (words.of_predicate (span_of p) (same i)) (same i)) { kind = never_kind; ok = None }) tested tested' in
-    let taken : x ≡ x' = block_once block_has (λ i. (same i).ok) branch branch' in
+    let taken : x ≡ x' = block_once decided block_has (λ i. (same i).ok) branch branch' in
     let next : n ≡ n' = one_beside kinds test taken joined joined' in
-    rest sources j'.ok n' a b (subst (λ y. JudgesArms sources y.ok n' gs otherwise a) same (subst (λ y. JudgesArms sources j.ok y gs otherwise a) next more)) more'
+    rest rules decided j'.ok n' a b (subst (λ y. JudgesArms rules y.ok n' gs otherwise a) same (subst (λ y. JudgesArms rules j.ok y gs otherwise a) next more)) more'
 
 one_else : EqualTagsAreOneKind → (es : Exprs) → BlockHasOne es → ArmsHaveOne no_arms (else_block es)
-one_else kinds es has sources known ways a b (judging.an_else {k = j} one joined) (judging.an_else {k = k} two joined') =
-    one_beside kinds refl (has sources known j k one two) joined joined'
+one_else kinds es has rules decided known ways a b (judging.an_else {k = j} one joined) (judging.an_else {k = k} two joined') =
+    one_beside kinds refl (has rules decided known j k one two) joined joined'
 
 one_missing_else : EqualTagsAreOneKind → ArmsHaveOne no_arms no_else
-one_missing_else kinds sources known ways a b (judging.a_missing_else null joined) (judging.a_missing_else null' joined') =
+one_missing_else kinds rules decided known ways a b (judging.a_missing_else null joined) (judging.a_missing_else null' joined') =
     one_beside kinds refl (ap (λ M. settle (gives M known)) (one_cut kinds refl null null')) joined joined'
 
 one_conditional : (span : Span) (gs : Arms) (otherwise : Else) → ArmsHaveOne gs otherwise → GivesOne span (syntax.conditional gs otherwise)
-one_conditional span gs otherwise has sources known j k (judging.a_conditional one) (judging.a_conditional two) = has sources (Some known) _ j k one two
+one_conditional span gs otherwise has rules decided known j k (judging.a_conditional one) (judging.a_conditional two) = has rules decided (Some known) _ j k one two
 
 -- ---- operators
 
 one_negation : EqualTagsAreOneKind → (span : Span) (e : Expr) → HasOne e → GivesOne span (syntax.negation e)
-one_negation kinds span e has sources known j k (judging.a_negation {j = a} {K = K} one is) (judging.a_negation {j = b} {K = L} two is') =
-    let same : a ≡ b = has sources (Some known) a b one two in
+one_negation kinds span e has rules decided known j k (judging.a_negation {j = a} {K = K} one is) (judging.a_negation {j = b} {K = L} two is') =
+    let same : a ≡ b = has rules decided (Some known) a b one two in
     let kind : K ≡ L = one_cut kinds refl is is' in
     λ i. with_codes (words.when (words.is_other tag.Bool (same i)) (words.at 660 span)) (record (same i) { kind = kind i })
 
-one_operands : EqualTagsAreOneKind → {sources : Sources} {known : RootMap} {l r : Expr} {j k whole j' k' whole' : Judgement} → HasOne l → HasOne r → JudgesBoth sources known l r j k whole → JudgesBoth sources known l r j' k' whole' → (j ≡ j') × (k ≡ k') × (whole ≡ whole')
-one_operands kinds {sources = sources} {known = known} {j = j} {k = k} {j' = j'} {k' = k'} left right (judging.operands first second then) (judging.operands first' second' then') =
-    let one : j ≡ j' = left sources (Some known) j j' first first' in
-    let two : k ≡ k' = judged_once right (λ i. (one i).ok) second second' in
+one_operands : EqualTagsAreOneKind → {rules : OpenRules} {known : RootMap} {l r : Expr} {j k whole j' k' whole' : Judgement} → HaveOneTag rules → HasOne l → HasOne r → JudgesBoth rules known l r j k whole → JudgesBoth rules known l r j' k' whole' → (j ≡ j') × (k ≡ k') × (whole ≡ whole')
+one_operands kinds {rules = rules} {known = known} {j = j} {k = k} {j' = j'} {k' = k'} decided left right (judging.operands first second then) (judging.operands first' second' then') =
+    let one : j ≡ j' = left rules decided (Some known) j j' first first' in
+    let two : k ≡ k' = judged_once decided right (λ i. (one i).ok) second second' in
     (one, two, one_then kinds one two then then')
 
 -- an operator with a table is no comparison for equality
@@ -315,28 +313,28 @@ no_table op.Unequal table is too = let wrong : None ≡ Some table = too in cc
 no_table o table is too = false≢true is
 
 one_binary : EqualTagsAreOneKind → (span : Span) (o : Op) (l r : Expr) → HasOne l → HasOne r → GivesOne span (syntax.binary o l r)
-one_binary kinds span o l r left right sources known g h (judging.an_equality {whole = w} {K = K} is both cut) (judging.an_equality {whole = w'} {K = K'} is' both' cut') =
-    let same : w ≡ w' = (one_operands kinds left right both both').2 in
+one_binary kinds span o l r left right rules decided known g h (judging.an_equality {whole = w} {K = K} is both cut) (judging.an_equality {whole = w'} {K = K'} is' both' cut') =
+    let same : w ≡ w' = (one_operands kinds decided left right both both').2 in
     let kind : K ≡ K' = one_cut kinds refl cut cut' in
     λ i. with_codes (words.chained span o l r) (record (same i) { kind = kind i })
-one_binary kinds span o l r left right sources known g h (judging.of_table {table = t} {j = j} {k = k} {whole = w} {K = K} {fail = F} is both cut fails) (judging.of_table {table = t'} {j = j'} {k = k'} {whole = w'} {K = K'} {fail = F'} is' both' cut' fails') =
+one_binary kinds span o l r left right rules decided known g h (judging.of_table {table = t} {j = j} {k = k} {whole = w} {K = K} {fail = F} is both cut fails) (judging.of_table {table = t'} {j = j'} {k = k'} {whole = w'} {K = K'} {fail = F'} is' both' cut' fails') =
     let table : t ≡ t' = some_is t t' (sym is ∙ is') in
-    let same : (j ≡ j') × (k ≡ k') × (w ≡ w') = one_operands kinds left right both both' in
+    let same : (j ≡ j') × (k ≡ k') × (w ≡ w') = one_operands kinds decided left right both both' in
     let kind : K ≡ K' = one_cut kinds (λ i. words.scalars_at (words.table_tags (table i) (same.0 i).kind (same.1 i).kind)) cut cut' in
     let fail : F ≡ F' = one_join kinds (λ i. (same.2 i).fail) (λ i. if_state (words.some_pair (λ a b. not (is_some (table i a b))) (same.0 i).kind (same.1 i).kind) (same.2 i).ok) fails fails' in
     λ i. words.of_pairs (table i) (same.0 i) (same.1 i) (with_codes (words.chained span o l r) (same.2 i)) (kind i) (fail i)
-one_binary kinds span o l r left right sources known g h (judging.a_merge {j = j} {k = k} {whole = w} {K = K} both is) (judging.a_merge {j = j'} {k = k'} {whole = w'} {K = K'} both' is') =
-    let same : (j ≡ j') × (k ≡ k') × (w ≡ w') = one_operands kinds left right both both' in
+one_binary kinds span o l r left right rules decided known g h (judging.a_merge {j = j} {k = k} {whole = w} {K = K} both is) (judging.a_merge {j = j'} {k = k'} {whole = w'} {K = K'} both' is') =
+    let same : (j ≡ j') × (k ≡ k') × (w ≡ w') = one_operands kinds decided left right both both' in
     let kind : K ≡ K' = one_merged kinds (λ i. (same.0 i).kind) (λ i. (same.1 i).kind) is is' in
     λ i. with_codes (words.no_objects (span_of l) (span_of r) (same.0 i) (same.1 i)) (record (same.2 i) { kind = kind i })
-one_binary kinds span o l r left right sources known g h
+one_binary kinds span o l r left right rules decided known g h
     (judging.a_conjunction {j = j} {k = k} {whole = w} {K = K} A B {ok = T} {fail = F} first second behind is ends left_fails part_fails fails)
     (judging.a_conjunction {j = j'} {k = k'} {whole = w'} {K = K'} A' B' {ok = T'} {fail = F'} first' second' behind' is' ends' left_fails' part_fails' fails') =
     let truth : Judgement → Option RootMap = λ x. if_state (words.may_be_truth x.kind) x.ok in
     let no_truth : Judgement → Option RootMap = λ x. if_state (words.may_be_no_truth x.kind) x.ok in
     let failing : Judgement → Option RootMap = λ x. x.fail in
-    let one : j ≡ j' = left sources (Some known) j j' first first' in
-    let two : k ≡ k' = judged_once right (λ i. if_state (root_tags (one i).kind tag.Bool) (one i).ok) second second' in
+    let one : j ≡ j' = left rules decided (Some known) j j' first first' in
+    let two : k ≡ k' = judged_once decided right (λ i. if_state (root_tags (one i).kind tag.Bool) (one i).ok) second second' in
     let whole : record w { fail = None } ≡ record w' { fail = None } = one_behind kinds one two behind behind' in
     let kind : K ≡ K' = one_cut kinds refl is is' in
     let ok : T ≡ T' = one_join kinds (ap truth one) (ap truth two) ends ends' in
@@ -344,61 +342,62 @@ one_binary kinds span o l r left right sources known g h
     let part_fail : B ≡ B' = one_join kinds left_fail (ap failing two) part_fails part_fails' in
     let fail : F ≡ F' = one_join kinds part_fail (ap no_truth two) fails fails' in
     λ i. record (whole i) { kind = kind i; ok = ok i; fail = fail i }
-one_binary kinds span o l r left right sources known g h
+one_binary kinds span o l r left right rules decided known g h
     (judging.a_disjunction {j = j} {k = k} {whole = w} {K = K} {ok = T} first second then is ends)
     (judging.a_disjunction {j = j'} {k = k'} {whole = w'} {K = K'} {ok = T'} first' second' then' is' ends') =
-    let one : j ≡ j' = left sources (Some known) j j' first first' in
-    let two : k ≡ k' = judged_once right (λ i. if_state (words.may_be_truth (one i).kind) (one i).ok) second second' in
+    let one : j ≡ j' = left rules decided (Some known) j j' first first' in
+    let two : k ≡ k' = judged_once decided right (λ i. if_state (words.may_be_truth (one i).kind) (one i).ok) second second' in
     let whole : w ≡ w' = one_then kinds one two then then' in
     let kind : K ≡ K' = one_cut kinds (λ i. words.or_else_at (one i).kind (two i).kind) is is' in
     let ok : T ≡ T' = one_join kinds (λ i. if_state (not (is_alone (root_tags (one i).kind) tag.Null)) (one i).ok) (λ i. (two i).ok) ends ends' in
     λ i. record (whole i) { kind = kind i; ok = ok i }
-one_binary kinds span o l r left right sources known g h
+one_binary kinds span o l r left right rules decided known g h
     (judging.a_coalescing {j = j} {k = k} {whole = w} {K = K} {ok = T} first second behind is ends)
     (judging.a_coalescing {j = j'} {k = k'} {whole = w'} {K = K'} {ok = T'} first' second' behind' is' ends') =
-    let one : j ≡ j' = left sources (Some known) j j' first first' in
-    let two : k ≡ k' = judged_once right (λ i. (one i).fail) second second' in
+    let one : j ≡ j' = left rules decided (Some known) j j' first first' in
+    let two : k ≡ k' = judged_once decided right (λ i. (one i).fail) second second' in
     let whole : record w { fail = None } ≡ record w' { fail = None } = one_behind kinds one two behind behind' in
     let kind : K ≡ K' = one_either kinds (λ i. (one i).kind) (λ i. (two i).kind) is is' in
     let ok : T ≡ T' = one_join kinds (λ i. (one i).ok) (λ i. (two i).ok) ends ends' in
     λ i. with_codes (words.when (not ((one i).poisoned || words.is_fallible (one i))) (words.at 651 span)) (record (whole i) { kind = kind i; ok = ok i; fail = (two i).fail })
-one_binary kinds span o l r left right sources known g h (judging.an_equality is both cut) (judging.of_table {table = t} too parts tags fails) = absurd (no_table o t is too)
-one_binary kinds span o l r left right sources known g h (judging.of_table {table = t} too parts tags fails) (judging.an_equality is both cut) = absurd (no_table o t is too)
-one_binary kinds span o l r left right sources known g h (judging.an_equality is both cut) two = absurd (false≢true is)
-one_binary kinds span o l r left right sources known g h one (judging.an_equality is both cut) = absurd (false≢true is)
-one_binary kinds span o l r left right sources known g h (judging.of_table {table = t} is both cut fails) two = let wrong : None ≡ Some t = is in cc
-one_binary kinds span o l r left right sources known g h one (judging.of_table {table = t} is both cut fails) = let wrong : None ≡ Some t = is in cc
+one_binary kinds span o l r left right rules decided known g h (judging.an_equality is both cut) (judging.of_table {table = t} too parts tags fails) = absurd (no_table o t is too)
+one_binary kinds span o l r left right rules decided known g h (judging.of_table {table = t} too parts tags fails) (judging.an_equality is both cut) = absurd (no_table o t is too)
+one_binary kinds span o l r left right rules decided known g h (judging.an_equality is both cut) two = absurd (false≢true is)
+one_binary kinds span o l r left right rules decided known g h one (judging.an_equality is both cut) = absurd (false≢true is)
+one_binary kinds span o l r left right rules decided known g h (judging.of_table {table = t} is both cut fails) two = let wrong : None ≡ Some t = is in cc
+one_binary kinds span o l r left right rules decided known g h one (judging.of_table {table = t} is both cut fails) = let wrong : None ≡ Some t = is in cc
 
 -- ---- assignments
 
-one_written_end : EqualTagsAreOneKind → (span : Span) (t : Target) {j k : Judgement} {a b : Option RootMap} → j ≡ k → IsWritten t j.kind j.ok a → IsWritten t k.kind k.ok b
+one_written_end : EqualTagsAreOneKind → (span : Span) (t : Target) {j k : Judgement} {a b : Option RootMap} → j ≡ k → IsTargetWritten t j.kind j.ok a → IsTargetWritten t k.kind k.ok b
     → with_codes (words.of_assignment span t j) (record j { ok = a }) ≡ with_codes (words.of_assignment span t k) (record k { ok = b })
 one_written_end kinds span t {a = a} {b = b} same one two =
     let ok : a ≡ b = one_written kinds t (λ i. (same i).kind) (λ i. (same i).ok) one two in
     λ i. with_codes (words.of_assignment span t (same i)) (record (same i) { ok = ok i })
 
 one_assignment : EqualTagsAreOneKind → (span : Span) (t : Target) (e : Expr) → HasOne e → GivesOne span (syntax.assign t e)
-one_assignment kinds span t e has sources known g h (judging.an_assignment {j = j} one written) (judging.an_assignment {j = k} two written') =
-    one_written_end kinds span t (has sources (Some known) j k one two) written written'
+one_assignment kinds span t e has rules decided known g h (judging.an_assignment {j = j} one written) (judging.an_assignment {j = k} two written') =
+    one_written_end kinds span t (has rules decided (Some known) j k one two) written written'
 
 one_merge_into_nothing : (span : Span) (e : Expr) → HasOne e → GivesOne span (syntax.merge Nowhere e)
-one_merge_into_nothing span e has sources known g h (judging.a_merge_into_nothing {j = j} one) (judging.a_merge_into_nothing {j = k} two) =
-    ap (with_codes (words.at 640 span)) (has sources (Some known) j k one two)
+one_merge_into_nothing span e has rules decided known g h (judging.a_merge_into_nothing {j = j} one) (judging.a_merge_into_nothing {j = k} two) =
+    ap (with_codes (words.at 640 span)) (has rules decided (Some known) j k one two)
 
 -- `t |= e` is judged as `t = t | e`
 one_merge_assignment : EqualTagsAreOneKind → (span place : Span) (root : Root) (path : List Step) (e : Expr) → HasOne e → GivesOne span (syntax.merge (Place place root path) e)
-one_merge_assignment kinds span place root path e has sources known g h (judging.a_merge_assignment {j = j} one written) (judging.a_merge_assignment {j = k} two written') =
+one_merge_assignment kinds span place root path e has rules decided known g h (judging.a_merge_assignment {j = j} one written) (judging.a_merge_assignment {j = k} two written') =
     let target : HasOne (expr place (syntax.read root path)) = settled_once place (syntax.read root path) (one_root kinds place root path) in
     let merged : HasOne (expr span (syntax.binary op.Merge (expr place (syntax.read root path)) e)) = settled_once span _ (one_binary kinds span op.Merge _ e target has) in
-    one_written_end kinds span (Place place root path) (merged sources (Some known) j k one two) written written'
+    one_written_end kinds span (Place place root path) (merged rules decided (Some known) j k one two) written written'
 
 one_error_assignment : EqualTagsAreOneKind → (span : Span) (t u : Target) (e : Expr) → HasOne e → GivesOne span (syntax.both t u e)
-one_error_assignment kinds span t u e has sources known g h
-    (judging.an_error_assignment {j = j} {E = E} {K = K} {N = N} {T = T} A B C D {ok = O} one is either is_null is_text given_t given_u failed_t failed_u ends)
-    (judging.an_error_assignment {j = k} {E = E'} {K = K'} {N = N'} {T = T'} A' B' C' D' {ok = O'} two is' either' is_null' is_text' given_t' given_u' failed_t' failed_u' ends') =
-    let same : j ≡ k = has sources (Some known) j k one two in
+one_error_assignment kinds span t u e has rules decided known g h
+    (judging.an_error_assignment {j = j} a {E = E} {K = K} {N = N} {T = T} A B C D {ok = O} one may is either is_null is_text given_t given_u failed_t failed_u ends)
+    (judging.an_error_assignment {j = k} b {E = E'} {K = K'} {N = N'} {T = T'} A' B' C' D' {ok = O'} two may' is' either' is_null' is_text' given_t' given_u' failed_t' failed_u' ends') =
+    let same : j ≡ k = has rules decided (Some known) j k one two in
     let kind : j.kind ≡ k.kind = λ i. (same i).kind in
-    let empty : E ≡ E' = one_cut kinds (ap (λ M. found_at (empty_value (words.empty_tag M))) kind) is is' in
+    let one_tag : a ≡ b = decided k.kind a b (subst (λ M. rules.empty M a ≡ true) kind may) may' in
+    let empty : E ≡ E' = one_cut kinds (ap (λ x. found_at (empty_value x)) one_tag) is is' in
     let value : K ≡ K' = one_either kinds kind empty either either' in
     let null : N ≡ N' = one_cut kinds refl is_null is_null' in
     let text : T ≡ T' = one_cut kinds refl is_text is_text' in
@@ -407,46 +406,46 @@ one_error_assignment kinds span t u e has sources known g h
     let failed : C ≡ C' = one_written kinds t empty (λ i. (same i).fail) failed_t failed_t' in
     let failed_both : D ≡ D' = one_written kinds u text failed failed_u failed_u' in
     let ok : O ≡ O' = one_join kinds given_both failed_both ends ends' in
-    λ i. with_codes (words.of_error_assignment span t u (same i) (value i)) (record (same i) { kind = value i; ok = ok i; fail = None; empties = words.empty_tag (same i).kind ∷ (same i).empties })
+    λ i. with_codes (words.of_error_assignment span t u (same i) (value i)) (record (same i) { kind = value i; ok = ok i; fail = None; empties = one_tag i ∷ (same i).empties })
 
 -- ---- ends
 
 one_return : EqualTagsAreOneKind → (span : Span) (e : Expr) → HasOne e → GivesOne span (syntax.return_of e)
-one_return kinds span e has sources known g h (judging.a_return {j = j} {ret = A} {R = R} one ends is) (judging.a_return {j = k} {ret = B} {R = S} two ends' is') =
-    let same : j ≡ k = has sources (Some known) j k one two in
+one_return kinds span e has rules decided known g h (judging.a_return {j = j} {ret = A} {R = R} one ends is) (judging.a_return {j = k} {ret = B} {R = S} two ends' is') =
+    let same : j ≡ k = has rules decided (Some known) j k one two in
     let ret : A ≡ B = one_join kinds (λ i. (same i).ret) (λ i. (same i).ok) ends ends' in
     let returned : R ≡ S = one_either kinds (λ i. (same i).returned) (λ i. words.settled_kind false (is_alive (same i).ok) (same i).kind) is is' in
     λ i. record (same i) { kind = never_kind; ok = None; ret = ret i; returned = returned i }
 
 one_abort : (span : Span) → GivesOne span (syntax.abort_with no_message)
-one_abort span sources known g h judging.an_abort judging.an_abort = refl
+one_abort span rules decided known g h judging.an_abort judging.an_abort = refl
 
 one_abort_with : (span : Span) (e : Expr) → HasOne e → GivesOne span (syntax.abort_with (message e))
-one_abort_with span e has sources known g h (judging.an_abort_with {j = j} one) (judging.an_abort_with {j = k} two) =
-    ap (λ (x : Judgement). with_codes (words.when (words.is_fallible x || words.is_other tag.Text x) (words.at 1011 (span_of e))) (record x { kind = never_kind; ok = None })) (has sources (Some known) j k one two)
+one_abort_with span e has rules decided known g h (judging.an_abort_with {j = j} one) (judging.an_abort_with {j = k} two) =
+    ap (λ (x : Judgement). with_codes (words.when (words.is_fallible x || words.is_other tag.Text x) (words.at 1011 (span_of e))) (record x { kind = never_kind; ok = None })) (has rules decided (Some known) j k one two)
 
 -- ---- calls
 
 no_arguments_once : ArgumentsHaveOne no_args
-no_arguments_once sources before js ks j k judging.no_more_arguments judging.no_more_arguments = (refl, refl)
+no_arguments_once rules decided before js ks j k judging.no_more_arguments judging.no_more_arguments = (refl, refl)
 
 one_more_argument_of : EqualTagsAreOneKind → (name : Option (List ℕ)) (span : Span) (e : Expr) (gs : Args) → HasOne e → ArgumentsHaveOne gs → ArgumentsHaveOne (arg name span e gs)
-one_more_argument_of kinds name span e gs has all sources before js ks a b
+one_more_argument_of kinds name span e gs has all rules decided before js ks a b
     (judging.one_more_argument {j = j} {middle = m} {js = js'} one then more)
     (judging.one_more_argument {j = k} {middle = n} {js = ks'} one' then' more') =
-    let same : j ≡ k = has sources before.ok j k one one' in
+    let same : j ≡ k = has rules decided before.ok j k one one' in
     let next : m ≡ n = one_then kinds refl same then then' in
-    let rest : (js' ≡ ks') × (a ≡ b) = all sources n js' ks' a b (subst (λ x. JudgesArguments sources x gs js' a) next more) more' in
+    let rest : (js' ≡ ks') × (a ≡ b) = all rules decided n js' ks' a b (subst (λ x. JudgesArguments rules x gs js' a) next more) more' in
     ((λ i. record { span = span; value = e; judged = same i } ∷ rest.0 i), rest.1)
 
 -- what a function is asked about, and what it answers
-one_given_of : EqualTagsAreOneKind → (p : ParameterRow) (g : Option Argument) (x y : GivenTree) → IsGiven p g x → IsGiven p g y → x ≡ y
+one_given_of : EqualTagsAreOneKind → (p : ParameterRow) (g : Option Argument) (x y : GivenTree) → IsAskedAbout p g x → IsAskedAbout p g y → x ≡ y
 one_given_of kinds p None x y one two = one ∙ sym two
 one_given_of kinds p (Some g) x y one two =
     let made : KindTree → GivenTree = λ K. record { kind = Some K; literal = literal_of g.value } in
     one.2 ∙ ap made (one_cut_down kinds one.1 two.1) ∙ sym two.2
 
-one_list_of : EqualTagsAreOneKind → (ps : List ParameterRow) (js : List (Option Argument)) (xs ys : List GivenTree) → AreGiven ps js xs → AreGiven ps js ys → xs ≡ ys
+one_list_of : EqualTagsAreOneKind → (ps : List ParameterRow) (js : List (Option Argument)) (xs ys : List GivenTree) → AreAskedAbout ps js xs → AreAskedAbout ps js ys → xs ≡ ys
 one_list_of kinds [] js xs ys one two = one ∙ sym two
 one_list_of kinds (p ∷ ps) [] xs ys one two = one ∙ sym two
 one_list_of kinds (p ∷ ps) (g ∷ js) [] ys one two = absurd one
@@ -456,7 +455,7 @@ one_list_of kinds (p ∷ ps) (g ∷ js) (x ∷ xs) (y ∷ ys) one two =
     let rest : xs ≡ ys = one_list_of kinds ps js xs ys one.1 two.1 in
     λ i. first i ∷ rest i
 
-one_answer_of : EqualTagsAreOneKind → (poisoned : Bool) (sources : Sources) (r : Row) (js : List (Option Argument)) (K L : KindTree) (may might : Bool) → IsAnsweredUnless poisoned sources r js K may → IsAnsweredUnless poisoned sources r js L might → (K ≡ L) × (may ≡ might)
+one_answer_of : EqualTagsAreOneKind → (poisoned : Bool) (sources : List (List ℕ)) (r : Row) (js : List (Option Argument)) (K L : KindTree) (may might : Bool) → IsAnsweredUnless poisoned sources r js K may → IsAnsweredUnless poisoned sources r js L might → (K ≡ L) × (may ≡ might)
 one_answer_of kinds true sources r js K L may might one two = (one.0 ∙ sym two.0, one.1 ∙ sym two.1)
 one_answer_of kinds false sources r js K L may might one two =
     let givens : one.givens ≡ two.givens = one_list_of kinds r.parameters js one.givens two.givens one.given two.given in
@@ -490,51 +489,51 @@ neither name other =
     (parts.0, (or_parts (is_exists name) (takes_closure name) parts.1).0)
 
 one_call : EqualTagsAreOneKind → FunctionsAreFound → (span : Span) (name : List ℕ) (place : Span) (bang : Bool) (gs : Args) (block : Closure) → ArgumentsHaveOne gs → GivesOne span (syntax.call name place bang gs block)
-one_call kinds names span name place bang gs block all sources known g h
+one_call kinds names span name place bang gs block all rules decided known g h
     (judging.a_call_of_nothing {js = js} {j = j} none other one) (judging.a_call_of_nothing {js = ks} {j = k} none' other' two) =
-    let same : j ≡ k = (all sources _ js ks j k one two).1 in
+    let same : j ≡ k = (all rules decided _ js ks j k one two).1 in
     λ i. with_codes (words.at 105 place) (record (same i) { kind = any_kind; empties = (same i).empties ++ nulls (in_closure block) })
-one_call kinds names span name place bang gs block all sources known g h
+one_call kinds names span name place bang gs block all rules decided known g h
     (judging.a_call f {js = js} {j = j} {whole = w} K may fail is one behind answered ends)
     (judging.a_call f' {js = ks} {j = k} {whole = v} L might fail' is' two behind' answered' ends') =
     let function : f ≡ f' = one_function names f f' name is is' in
-    let parts : (js ≡ ks) × (j ≡ k) = all sources _ js ks j k one two in
+    let parts : (js ≡ ks) × (j ≡ k) = all rules decided _ js ks j k one two in
     let whole : w ≡ v = behind ∙ (λ i. behind_arguments (wants_literal (row_of (function i))) (row_of (function i)).parameters span gs block (parts.0 i) (parts.1 i)) ∙ sym behind' in
     let bound_in : Fun → List Argument → List (Option Argument) = λ x xs. bound (places_in (binding (row_of x).parameters (keywords_of gs))) xs in
-    let by_function : IsAnsweredUnless w.poisoned sources (row_of f') (bound_in f' js) K may = subst (λ x. IsAnsweredUnless w.poisoned sources (row_of x) (bound_in x js) K may) function answered in
-    let by_arguments : IsAnsweredUnless w.poisoned sources (row_of f') (bound_in f' ks) K may = subst (λ xs. IsAnsweredUnless w.poisoned sources (row_of f') (bound_in f' xs) K may) parts.0 by_function in
-    let by_whole : IsAnsweredUnless v.poisoned sources (row_of f') (bound_in f' ks) K may = subst (λ x. IsAnsweredUnless x.poisoned sources (row_of f') (bound_in f' ks) K may) whole by_arguments in
-    let answer : (K ≡ L) × (may ≡ might) = one_answer_of kinds v.poisoned sources (row_of f') (bound_in f' ks) K L may might by_whole answered' in
+    let by_function : IsAnsweredUnless w.poisoned rules.sources (row_of f') (bound_in f' js) K may = subst (λ x. IsAnsweredUnless w.poisoned rules.sources (row_of x) (bound_in x js) K may) function answered in
+    let by_arguments : IsAnsweredUnless w.poisoned rules.sources (row_of f') (bound_in f' ks) K may = subst (λ xs. IsAnsweredUnless w.poisoned rules.sources (row_of f') (bound_in f' xs) K may) parts.0 by_function in
+    let by_whole : IsAnsweredUnless v.poisoned rules.sources (row_of f') (bound_in f' ks) K may = subst (λ x. IsAnsweredUnless x.poisoned rules.sources (row_of f') (bound_in f' ks) K may) whole by_arguments in
+    let answer : (K ≡ L) × (may ≡ might) = one_answer_of kinds v.poisoned rules.sources (row_of f') (bound_in f' ks) K L may might by_whole answered' in
     let fails : fail ≡ fail' = one_join kinds (λ i. (whole i).fail) (λ i. if_state (answer.1 i) (whole i).ok) ends ends' in
     λ i. banged span bang (record (whole i) { kind = answer.0 i; fail = fails i })
-one_call kinds names span name place bang gs block all sources known g h
+one_call kinds names span name place bang gs block all rules decided known g h
     (judging.a_deletion {js = js} {j = j} {whole = w} ok is one behind deleted)
     (judging.a_deletion {js = ks} {j = k} {whole = v} ok' is' two behind' deleted') =
-    let parts : (js ≡ ks) × (j ≡ k) = all sources _ js ks j k one two in
+    let parts : (js ≡ ks) × (j ≡ k) = all rules decided _ js ks j k one two in
     let whole : w ≡ v = behind ∙ (λ i. behind_arguments judging.wants_path path_parameters span gs block (parts.0 i) (parts.1 i)) ∙ sym behind' in
     let by_arguments : IsDeletedAt (deleted_path w.poisoned ks) w.ok ok = subst (λ xs. IsDeletedAt (deleted_path w.poisoned xs) w.ok ok) parts.0 deleted in
     let by_whole : IsDeletedAt (deleted_path v.poisoned ks) v.ok ok = subst (λ x. IsDeletedAt (deleted_path x.poisoned ks) x.ok ok) whole by_arguments in
     let left : ok ≡ ok' = one_deleted kinds (deleted_path v.poisoned ks) v.ok ok ok' by_whole deleted' in
     λ i. banged span bang (record (whole i) { kind = deleted_kind (whole i).poisoned (parts.0 i); ok = left i })
-one_call kinds names span name place bang gs block all sources known g h
+one_call kinds names span name place bang gs block all rules decided known g h
     (judging.an_existence {js = js} {j = j} {whole = w} K is one behind cut)
     (judging.an_existence {js = ks} {j = k} {whole = v} L is' two behind' cut') =
-    let parts : (js ≡ ks) × (j ≡ k) = all sources _ js ks j k one two in
+    let parts : (js ≡ ks) × (j ≡ k) = all rules decided _ js ks j k one two in
     let whole : w ≡ v = behind ∙ (λ i. behind_arguments judging.wants_path path_parameters span gs block (parts.0 i) (parts.1 i)) ∙ sym behind' in
     let kind : K ≡ L = one_cut kinds refl cut cut' in
     λ i. banged span bang (record (whole i) { kind = kind i })
-one_call kinds names span name place bang gs block all sources known g h (judging.a_call_of_nothing none other one) (judging.a_call f K may fail is two behind answered ends) = absurd (none f is)
-one_call kinds names span name place bang gs block all sources known g h (judging.a_call f K may fail is two behind answered ends) (judging.a_call_of_nothing none other one) = absurd (none f is)
-one_call kinds names span name place bang gs block all sources known g h (judging.a_call_of_nothing none other one) (judging.a_deletion ok is two behind deleted) = absurd (false≢true (sym (neither name other).0 ∙ is))
-one_call kinds names span name place bang gs block all sources known g h (judging.a_deletion ok is two behind deleted) (judging.a_call_of_nothing none other one) = absurd (false≢true (sym (neither name other).0 ∙ is))
-one_call kinds names span name place bang gs block all sources known g h (judging.a_call_of_nothing none other one) (judging.an_existence K is two behind cut) = absurd (false≢true (sym (neither name other).1 ∙ is))
-one_call kinds names span name place bang gs block all sources known g h (judging.an_existence K is two behind cut) (judging.a_call_of_nothing none other one) = absurd (false≢true (sym (neither name other).1 ∙ is))
-one_call kinds names span name place bang gs block all sources known g h (judging.a_call f K may fail named one behind answered ends) (judging.a_deletion ok is two behind' deleted) = absurd (no_function names f name (bytes_of "del") named is no_deleting_function)
-one_call kinds names span name place bang gs block all sources known g h (judging.a_deletion ok is two behind' deleted) (judging.a_call f K may fail named one behind answered ends) = absurd (no_function names f name (bytes_of "del") named is no_deleting_function)
-one_call kinds names span name place bang gs block all sources known g h (judging.a_call f K may fail named one behind answered ends) (judging.an_existence L is two behind' cut) = absurd (no_function names f name (bytes_of "exists") named is no_existence_function)
-one_call kinds names span name place bang gs block all sources known g h (judging.an_existence L is two behind' cut) (judging.a_call f K may fail named one behind answered ends) = absurd (no_function names f name (bytes_of "exists") named is no_existence_function)
-one_call kinds names span name place bang gs block all sources known g h (judging.a_deletion ok is one behind deleted) (judging.an_existence K too two behind' cut) = absurd (one_of_two name is too)
-one_call kinds names span name place bang gs block all sources known g h (judging.an_existence K too two behind' cut) (judging.a_deletion ok is one behind deleted) = absurd (one_of_two name is too)
+one_call kinds names span name place bang gs block all rules decided known g h (judging.a_call_of_nothing none other one) (judging.a_call f K may fail is two behind answered ends) = absurd (none f is)
+one_call kinds names span name place bang gs block all rules decided known g h (judging.a_call f K may fail is two behind answered ends) (judging.a_call_of_nothing none other one) = absurd (none f is)
+one_call kinds names span name place bang gs block all rules decided known g h (judging.a_call_of_nothing none other one) (judging.a_deletion ok is two behind deleted) = absurd (false≢true (sym (neither name other).0 ∙ is))
+one_call kinds names span name place bang gs block all rules decided known g h (judging.a_deletion ok is two behind deleted) (judging.a_call_of_nothing none other one) = absurd (false≢true (sym (neither name other).0 ∙ is))
+one_call kinds names span name place bang gs block all rules decided known g h (judging.a_call_of_nothing none other one) (judging.an_existence K is two behind cut) = absurd (false≢true (sym (neither name other).1 ∙ is))
+one_call kinds names span name place bang gs block all rules decided known g h (judging.an_existence K is two behind cut) (judging.a_call_of_nothing none other one) = absurd (false≢true (sym (neither name other).1 ∙ is))
+one_call kinds names span name place bang gs block all rules decided known g h (judging.a_call f K may fail named one behind answered ends) (judging.a_deletion ok is two behind' deleted) = absurd (no_function names f name (bytes_of "del") named is no_deleting_function)
+one_call kinds names span name place bang gs block all rules decided known g h (judging.a_deletion ok is two behind' deleted) (judging.a_call f K may fail named one behind answered ends) = absurd (no_function names f name (bytes_of "del") named is no_deleting_function)
+one_call kinds names span name place bang gs block all rules decided known g h (judging.a_call f K may fail named one behind answered ends) (judging.an_existence L is two behind' cut) = absurd (no_function names f name (bytes_of "exists") named is no_existence_function)
+one_call kinds names span name place bang gs block all rules decided known g h (judging.an_existence L is two behind' cut) (judging.a_call f K may fail named one behind answered ends) = absurd (no_function names f name (bytes_of "exists") named is no_existence_function)
+one_call kinds names span name place bang gs block all rules decided known g h (judging.a_deletion ok is one behind deleted) (judging.an_existence K too two behind' cut) = absurd (one_of_two name is too)
+one_call kinds names span name place bang gs block all rules decided known g h (judging.an_existence K too two behind' cut) (judging.a_deletion ok is one behind deleted) = absurd (one_of_two name is too)
 
 -- ---- every form
 
@@ -584,16 +583,35 @@ mutual
 
 -- ---- scripts
 
-items_once : EqualTagsAreOneKind → FunctionsAreFound → (sources : Sources) (es : Exprs) (before j k : Judgement) → JudgesItems sources before es j → JudgesItems sources before es k → j ≡ k
-items_once kinds names sources no_exprs before j k judging.no_more_items judging.no_more_items = refl
-items_once kinds names sources (exprs e es) before a b (judging.one_more_item {j = j} {middle = m} one then more) (judging.one_more_item {j = k} {middle = n} two then' more') =
-    let same : j ≡ k = one_judgement kinds names e sources before.ok j k one two in
+items_once : EqualTagsAreOneKind → FunctionsAreFound → (rules : OpenRules) → HaveOneTag rules → (es : Exprs) (before j k : Judgement) → JudgesItems rules before es j → JudgesItems rules before es k → j ≡ k
+items_once kinds names rules decided no_exprs before j k judging.no_more_items judging.no_more_items = refl
+items_once kinds names rules decided (exprs e es) before a b (judging.one_more_item {j = j} {middle = m} one then more) (judging.one_more_item {j = k} {middle = n} two then' more') =
+    let same : j ≡ k = one_judgement kinds names e rules decided before.ok j k one two in
     let next : m ≡ n = one_then kinds refl (λ i. with_codes (judging.of_item (span_of e) (same i)) (same i)) then then' in
-    items_once kinds names sources es n a b (subst (λ x. JudgesItems sources x es a) next more) more'
+    items_once kinds names rules decided es n a b (subst (λ x. JudgesItems rules x es a) next more) more'
 
-pub one_script : EqualTagsAreOneKind → FunctionsAreFound → JudgementsAreDetermined
-one_script kinds names sources start items j k (judging.a_script {N = M} {state = s} {j = a} is null one) (judging.a_script {N = N} {state = t} {j = b} too null' two) =
+one_script : EqualTagsAreOneKind → FunctionsAreFound → (rules : OpenRules) → HaveOneTag rules → (start : KindTree) (items : Exprs) (j k : Judgement) → JudgesScript rules start items j → JudgesScript rules start items k → j ≡ k
+one_script kinds names rules decided start items j k (judging.a_script {N = M} {state = s} {j = a} is null one) (judging.a_script {N = N} {state = t} {j = b} too null' two) =
     let kind : M ≡ N = one_cut kinds refl null null' in
     let roots : is.roots ≡ too.roots = same_roots is.roots too.roots (one_cut_by start is.roots.event too.roots.event is.event too.event) (λ x. ap (λ v. map.get v x) (is.variables ∙ sym too.variables)) in
     let known : s.known ≡ t.known = is.known ∙ ap Some roots ∙ sym too.known in
-    ap settle (items_once kinds names sources items (gives N t.known) a b (subst (λ K. JudgesItems sources (gives K t.known) items a) kind (subst (λ x. JudgesItems sources (gives M x) items a) known one)) two)
+    ap settle (items_once kinds names rules decided items (gives N t.known) a b (subst (λ K. JudgesItems rules (gives K t.known) items a) kind (subst (λ x. JudgesItems rules (gives M x) items a) known one)) two)
+
+-- two tags that are the same
+one_tag_alone : (t u : Tag) → same_tag t u ≡ true → t ≡ u
+one_tag_alone tag.Text tag.Text same = refl
+one_tag_alone tag.Int tag.Int same = refl
+one_tag_alone tag.Bool tag.Bool same = refl
+one_tag_alone tag.Null tag.Null same = refl
+one_tag_alone tag.Time tag.Time same = refl
+one_tag_alone tag.Pattern tag.Pattern same = refl
+one_tag_alone tag.List tag.List same = refl
+one_tag_alone tag.Object tag.Object same = refl
+one_tag_alone tag.Absent tag.Absent same = refl
+one_tag_alone t u same = absurd (false≢true same)
+
+language_decides : (sources : List (List ℕ)) → HaveOneTag (language_rules sources)
+language_decides sources K t u is too = sym (one_tag_alone (words.empty_tag K) t is) ∙ one_tag_alone (words.empty_tag K) u too
+
+pub one_judgement_each : EqualTagsAreOneKind → FunctionsAreFound → JudgementsAreDetermined
+one_judgement_each kinds names = record { script = one_script kinds names; language = language_decides }

@@ -8,6 +8,7 @@ use Rattle.vrl_state.specs.States.{RootMap}
 use Rattle.vrl_syntax.specs.ErrorAssignments.{in_args, in_arms, in_closure, in_else, in_expr, in_exprs, in_form, in_pairs}
 use Rattle.vrl_syntax.specs.Tree.{Args, Arms, Closure, Else, Expr, Exprs, Form, Pairs, no_pairs, pair}
 use Rattle.vrl_check.specs.Determined.{EmptiesAreCounted}
+use Rattle.vrl_check.specs.OpenRules.{OpenRules}
 use Rattle.vrl_judge.specs.Rules.{Argument, Judgement, banged}
 use Rattle.vrl_check.specs.Judgement.{nulls, pair_values}
 use Rattle.vrl_check.specs.Judgement.{Judges, unreached, reached, Gives, a_literal, an_array, an_object, a_known_root, an_unknown_root, a_query, a_group, a_block, a_conditional, a_negation, an_equality, of_table, a_merge, a_conjunction, a_disjunction, a_coalescing, an_assignment, a_merge_into_nothing, a_merge_assignment, an_error_assignment, a_call_of_nothing, a_call, a_deletion, an_existence, a_return, an_abort, an_abort_with, JudgesBoth, operands, JudgesAll, no_more, one_more, JudgesArguments, no_more_arguments, one_more_argument, JudgesBlock, unreached_block, reached_block, JudgesArms, an_arm, an_else, a_missing_else, JudgesItems, no_more_items, one_more_item, JudgesScript, a_script}
@@ -41,11 +42,11 @@ two_counted : (l r : Expr) (j k whole : Judgement) → length j.empties ≡ in_e
 two_counted l r j k whole left right is = joined j.empties k.empties whole.empties (in_expr l) (in_expr r) is left right
 
 mutual
-  judges_counted : {sources : List (List ℕ)} {known : Option RootMap} {e : Expr} {j : Judgement} → Judges sources known e j → length j.empties ≡ in_expr e
+  judges_counted : {rules : OpenRules} {known : Option RootMap} {e : Expr} {j : Judgement} → Judges rules known e j → length j.empties ≡ in_expr e
   judges_counted (unreached {e = e}) = nulls_counted (in_expr e)
   judges_counted (reached gives) = gives_counted gives
 
-  gives_counted : {sources : List (List ℕ)} {known : RootMap} {span : Span} {f : Form} {j : Judgement} → Gives sources known span f j → length j.empties ≡ in_form f
+  gives_counted : {rules : OpenRules} {known : RootMap} {span : Span} {f : Form} {j : Judgement} → Gives rules known span f j → length j.empties ≡ in_form f
   gives_counted (a_literal cut) = refl
   gives_counted (an_array {es = es} {j = j} all cut) = from_none (length j.empties) (in_exprs es) (all_counted all)
   gives_counted (an_object {ps = ps} {j = j} all cut) = from_none (length j.empties) (in_exprs (pair_values ps)) (all_counted all) ∙ values_counted ps
@@ -65,7 +66,7 @@ mutual
   gives_counted (an_assignment part written) = judges_counted part
   gives_counted (a_merge_into_nothing part) = judges_counted part
   gives_counted (a_merge_assignment {e = e} {j = j} part written) = from_none (length j.empties) (in_expr e) (judges_counted part)
-  gives_counted (an_error_assignment given given_both failed failed_both part empty either null text one two three four joins) = ap suc (judges_counted part)
+  gives_counted (an_error_assignment empty given given_both failed failed_both part may cut either null text one two three four joins) = ap suc (judges_counted part)
   gives_counted (a_call_of_nothing {gs = gs} {c = c} {j = j} unknown other arguments) = call_counted gs c j (record j { empties = j.empties ++ nulls (in_closure c) }) (from_none (length j.empties) (in_args gs) (arguments_counted arguments)) refl
   gives_counted (a_call {span = span} function {bang = bang} {gs = gs} {c = c} {j = j} {whole = whole} K fails fail named arguments is answered joins) =
       banged_counted span bang _ ∙ call_counted gs c j whole (from_none (length j.empties) (in_args gs) (arguments_counted arguments)) (ap (λ w. w.empties) is)
@@ -77,28 +78,28 @@ mutual
   gives_counted an_abort = refl
   gives_counted (an_abort_with part) = judges_counted part
 
-  operands_counted : {sources : List (List ℕ)} {known : RootMap} {l r : Expr} {j k whole : Judgement} → JudgesBoth sources known l r j k whole → length whole.empties ≡ in_expr l + in_expr r
+  operands_counted : {rules : OpenRules} {known : RootMap} {l r : Expr} {j k whole : Judgement} → JudgesBoth rules known l r j k whole → length whole.empties ≡ in_expr l + in_expr r
   operands_counted (operands {l = l} {r = r} {j = j} {k = k} {whole = whole} left right then) = two_counted l r j k whole (judges_counted left) (judges_counted right) then.behind.empties
 
-  all_counted : {sources : List (List ℕ)} {before after : Judgement} {es : Exprs} {Ks : List KindTree} → JudgesAll sources before es Ks after → length after.empties ≡ length before.empties + in_exprs es
+  all_counted : {rules : OpenRules} {before after : Judgement} {es : Exprs} {Ks : List KindTree} → JudgesAll rules before es Ks after → length after.empties ≡ length before.empties + in_exprs es
   all_counted (no_more {before = before}) = omega arith
   all_counted (one_more {before = before} {j = j} {middle = middle} {after = after} {e = e} {es = es} part then rest) =
       let step = joined before.empties j.empties middle.empties (length before.empties) (in_expr e) then.behind.empties refl (judges_counted part) in
       let others = all_counted rest in
       omega (arith, step, others)
 
-  arguments_counted : {sources : List (List ℕ)} {before after : Judgement} {gs : Args} {js : List Argument} → JudgesArguments sources before gs js after → length after.empties ≡ length before.empties + in_args gs
+  arguments_counted : {rules : OpenRules} {before after : Judgement} {gs : Args} {js : List Argument} → JudgesArguments rules before gs js after → length after.empties ≡ length before.empties + in_args gs
   arguments_counted (no_more_arguments {before = before}) = omega arith
   arguments_counted (one_more_argument {before = before} {j = j} {middle = middle} {after = after} {e = e} {gs = gs} part then rest) =
       let step = joined before.empties j.empties middle.empties (length before.empties) (in_expr e) then.behind.empties refl (judges_counted part) in
       let others = arguments_counted rest in
       omega (arith, step, others)
 
-  block_counted : {sources : List (List ℕ)} {known : Option RootMap} {es : Exprs} {j : Judgement} → JudgesBlock sources known es j → length j.empties ≡ in_exprs es
+  block_counted : {rules : OpenRules} {known : Option RootMap} {es : Exprs} {j : Judgement} → JudgesBlock rules known es j → length j.empties ≡ in_exprs es
   block_counted (unreached_block {es = es}) = nulls_counted (in_exprs es)
   block_counted (reached_block {es = es} {j = j} null all) = from_none (length j.empties) (in_exprs es) (all_counted all)
 
-  arms_counted : {sources : List (List ℕ)} {state : Option RootMap} {ways all : Judgement} {gs : Arms} {otherwise : Else} → JudgesArms sources state ways gs otherwise all → length all.empties ≡ length ways.empties + (in_arms gs + in_else otherwise)
+  arms_counted : {rules : OpenRules} {state : Option RootMap} {ways all : Judgement} {gs : Arms} {otherwise : Else} → JudgesArms rules state ways gs otherwise all → length all.empties ≡ length ways.empties + (in_arms gs + in_else otherwise)
   arms_counted (an_arm {ways = ways} {j = j} {with_predicate = with_predicate} {k = k} {with_branch = with_branch} {all = all} {p = p} {es = es} {gs = gs} {otherwise = otherwise} predicate beside branch besides rest) =
       let step = joined ways.empties j.empties with_predicate.empties (length ways.empties) (in_expr p) beside.empties refl (judges_counted predicate) in
       let next = joined with_predicate.empties k.empties with_branch.empties (length with_predicate.empties) (in_exprs es) besides.empties refl (block_counted branch) in
@@ -111,19 +112,19 @@ mutual
       let step = joined ways.empties [] all.empties (length ways.empties) 0 beside.empties refl refl in
       omega (arith, step)
 
-items_counted : {sources : List (List ℕ)} {before after : Judgement} {es : Exprs} → JudgesItems sources before es after → length after.empties ≡ length before.empties + in_exprs es
+items_counted : {rules : OpenRules} {before after : Judgement} {es : Exprs} → JudgesItems rules before es after → length after.empties ≡ length before.empties + in_exprs es
 items_counted (no_more_items {before = before}) = omega arith
 items_counted (one_more_item {before = before} {j = j} {middle = middle} {after = after} {e = e} {es = es} part then rest) =
     let step = joined before.empties j.empties middle.empties (length before.empties) (in_expr e) then.behind.empties refl (judges_counted part) in
     let others = items_counted rest in
     omega (arith, step, others)
 
-script_counted : (sources : List (List ℕ)) (start : KindTree) (items : Exprs) (j : Judgement) → JudgesScript sources start items j → length j.empties ≡ in_exprs items
-script_counted sources start items k (a_script {j = j} starts null all) = from_none (length j.empties) (in_exprs items) (items_counted all)
+script_counted : (rules : OpenRules) (start : KindTree) (items : Exprs) (j : Judgement) → JudgesScript rules start items j → length j.empties ≡ in_exprs items
+script_counted rules start items k (a_script {j = j} starts null all) = from_none (length j.empties) (in_exprs items) (items_counted all)
 
 pub empties_are_counted : EmptiesAreCounted
 empties_are_counted = record {
-  expression = λ sources known e j judges. judges_counted judges;
-  block = λ sources known es j judges. block_counted judges;
+  expression = λ rules known e j judges. judges_counted judges;
+  block = λ rules known es j judges. block_counted judges;
   script = script_counted;
 }

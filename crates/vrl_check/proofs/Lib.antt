@@ -12,9 +12,10 @@ pub mod CallsGiven
 pub mod CallsJudged
 pub mod CallsLiterals
 pub mod Capable
+pub mod Causes
 pub mod Determined
 pub mod Emptied
 pub mod Forms
-pub mod Nulls
 pub mod Partway
+pub mod Repeated
 pub mod Told

@@ -11,7 +11,7 @@ use Rattle.vrl_judge.specs.Rules.{Judgement, IsScalar, array_at, gives, object_a
 use Rattle.vrl_check.specs.Judgement.{of_item, pair_names, pair_values, span_of}
 use Rattle.vrl_check.specs.Judgement.{Judges, JudgesAll, no_more, one_more, JudgesItems, no_more_items, one_more_item, an_array, an_object}
 use Rattle.vrl_judge.specs.Judging.{AreEnds, AreJoinedEnds, HasEnds, HasGathered, HasJudged, HaveCommonScopes, IsSettledAs, no_ends}
-use Rattle.vrl_check.specs.Walking.{CanBeJudged, ElseCanBeJudged, FormCanBeJudged, IsAnywhereAs, IsItemAs, IsJudgedAs, IsScriptAs, IsSequenceAs, ItemsCanBeJudged, PairsCanBeJudged}
+use Rattle.vrl_check.specs.Walking.{ExprCanBeJudged, ElseCanBeJudged, FormCanBeJudged, IsAnywhereAs, IsItemAs, IsJudgedAs, IsScriptAs, IsSequenceAs, ItemsCanBeJudged, PairsCanBeJudged}
 use Rattle.vrl_judge.specs.declared.checker.Checker.{Checker}
 use Rattle.vrl_judge.specs.declared.ends.Ends.{Ends}
 use Rattle.vrl_judge.specs.declared.outcome.Outcome.{Outcome}
@@ -24,6 +24,7 @@ use Rattle.vrl_check.proofs.Told.{judges_at}
 use Rattle.vrl_judge.proofs.Joining.{common}
 use Rattle.vrl_judge.proofs.Gathering.{part_are, part_then, value_ends, value_gathered, with_kind_of}
 use Rattle.vrl_value.specs.declared.value.Tag.TheVariants as tag
+use Rattle.vrl_check.specs.OpenRules.{language_rules}
 
 -- ---- one part behind others
 
@@ -31,8 +32,8 @@ pub part_common : (before now after : Checker) (ends : Ends) (part : Outcome) (j
 part_common before now after ends part j p has_ends gathered has = common before.state.scopes ends part.ends has_ends.are (part_are before now after part j p gathered has)
 
 -- what can be judged at one place can be at another
-pub can_at : (before now : Checker) (e : Expr) → now.patterns ≡ before.patterns → CanBeJudged before.patterns.now e → CanBeJudged now.patterns.now e
-can_at before now e same can = subst (λ ps. CanBeJudged ps.now e) (sym same) can
+pub can_at : (before now : Checker) (e : Expr) → now.patterns ≡ before.patterns → ExprCanBeJudged before.patterns.now e → ExprCanBeJudged now.patterns.now e
+can_at before now e same can = subst (λ ps. ExprCanBeJudged ps.now e) (sym same) can
 
 pub form_at : (before now : Checker) (f : Form) → now.patterns ≡ before.patterns → FormCanBeJudged before.patterns.now f → FormCanBeJudged now.patterns.now f
 form_at before now f same can = subst (λ ps. FormCanBeJudged ps.now f) (sym same) can
@@ -47,7 +48,7 @@ else_at before now otherwise same can = subst (λ ps. ElseCanBeJudged ps.now oth
 
 -- what is judged of what is left, behind what was judged so far, is judged of the whole
 pub record IsPartway (before now : Checker) (K : KindTree) (whole left : Exprs) (ends : Ends) (Ks : List KindTree) (j : Judgement) : Type 0 where
-  pub leads : (more : List KindTree) (k : Judgement) → JudgesAll before.patterns.now j left more k → JudgesAll before.patterns.now (gives K before.state.known) whole (Ks ++ more) k
+  pub leads : (more : List KindTree) (k : Judgement) → JudgesAll (language_rules before.patterns.now) j left more k → JudgesAll (language_rules before.patterns.now) (gives K before.state.known) whole (Ks ++ more) k
   pub has_ends : HasEnds before.state.scopes ends j
   pub gathered : HasGathered before now j
   pub can : ItemsCanBeJudged before.patterns.now left
@@ -58,24 +59,24 @@ partway_first before K whole can = record { leads = λ more k all. all; has_ends
 
 -- one more part
 partway_next : (before now after : Checker) (K : KindTree) (whole rest : Exprs) (e : Expr) (ends next : Ends) (part : Outcome) (Ks : List KindTree) (j p : Judgement)
-    → IsPartway before now K whole (exprs e rest) ends Ks j → Judges now.patterns.now now.state.known e p → HasJudged now after part p → AreJoinedEnds ends part.ends next → AreEnds before.state.scopes next
+    → IsPartway before now K whole (exprs e rest) ends Ks j → Judges (language_rules now.patterns.now) now.state.known e p → HasJudged now after part p → AreJoinedEnds ends part.ends next → AreEnds before.state.scopes next
     → IsPartway before after K whole rest next (Ks ++ (part.kind ∷ [])) (behind_with next j p)
 partway_next before now after K whole rest e ends next part Ks j p so_far judges has joined are =
     let all = part_then before now after ends next part j p so_far.has_ends so_far.gathered has joined are in
-    let from : Judges before.patterns.now j.ok e p = judges_at before now j.ok e p so_far.gathered.patterns so_far.gathered.ok judges in
+    let from : Judges (language_rules before.patterns.now) j.ok e p = judges_at before now j.ok e p so_far.gathered.patterns so_far.gathered.ok judges in
     let fewer = so_far.fewer in
     record {
       leads = λ more k rest_all.
           let kinds : Ks ++ (p.kind ∷ more) ≡ (Ks ++ (part.kind ∷ [])) ++ more = ap (λ L. Ks ++ (L ∷ more)) (sym has.kind) ∙ sym (append_assoc Ks (part.kind ∷ []) more) in
-          subst (λ Ls. JudgesAll before.patterns.now (gives K before.state.known) whole Ls k) kinds (so_far.leads (p.kind ∷ more) k (one_more from all.in_order rest_all));
+          subst (λ Ls. JudgesAll (language_rules before.patterns.now) (gives K before.state.known) whole Ls k) kinds (so_far.leads (p.kind ∷ more) k (one_more from all.in_order rest_all));
       has_ends = all.ends;
       gathered = all.gathered;
       can = rest_can e rest so_far.can;
       fewer = omega (arith, fewer);
     }
 
-partway_end : (before now : Checker) (K : KindTree) (whole : Exprs) (ends : Ends) (Ks : List KindTree) (j : Judgement) → IsPartway before now K whole no_exprs ends Ks j → JudgesAll before.patterns.now (gives K before.state.known) whole Ks j
-partway_end before now K whole ends Ks j so_far = subst (λ Ls. JudgesAll before.patterns.now (gives K before.state.known) whole Ls j) (append-nil Ks) (so_far.leads [] j no_more)
+partway_end : (before now : Checker) (K : KindTree) (whole : Exprs) (ends : Ends) (Ks : List KindTree) (j : Judgement) → IsPartway before now K whole no_exprs ends Ks j → JudgesAll (language_rules before.patterns.now) (gives K before.state.known) whole Ks j
+partway_end before now K whole ends Ks j so_far = subst (λ Ls. JudgesAll (language_rules before.patterns.now) (gives K before.state.known) whole Ls j) (append-nil Ks) (so_far.leads [] j no_more)
 
 -- the next of the items that are left, and their end
 pub next_item : (all : List CodeExpr) (i : ℕ) (e : CodeExpr) → i < length all → e ≡ get_or all i e → exprs_view (drop i all) ≡ exprs (expr_of e) (exprs_view (drop (i + 1) all))
@@ -103,7 +104,7 @@ array_first before whole left ends Ks all none empty can =
     (subst (λ e. IsArrayPartway before before whole whole e Ks) (sym none)
     (subst (λ Ls. IsArrayPartway before before whole whole no_ends Ls) (sym empty) (record { j = gives never_kind before.state.known; so_far = first })))
 
-pub array_can_next : (before now : Checker) (whole left rest : Exprs) (e : Expr) (ends : Ends) (Ks : List KindTree) → left ≡ exprs e rest → IsArrayPartway before now whole left ends Ks → CanBeJudged now.patterns.now e
+pub array_can_next : (before now : Checker) (whole left rest : Exprs) (e : Expr) (ends : Ends) (Ks : List KindTree) → left ≡ exprs e rest → IsArrayPartway before now whole left ends Ks → ExprCanBeJudged now.patterns.now e
 array_can_next before now whole left rest e ends Ks is so_far = can_at before now e so_far.so_far.gathered.patterns (first_can e rest (subst (ItemsCanBeJudged before.patterns.now) is so_far.so_far.can))
 
 pub array_fewer : (before now : Checker) (whole left rest : Exprs) (e : Expr) (ends : Ends) (Ks : List KindTree) → left ≡ exprs e rest → IsArrayPartway before now whole left ends Ks → expr_size e ≤ exprs_size whole
@@ -126,7 +127,7 @@ array_next before now after whole left rest e ends next part Ks Ls is more so_fa
 pub array_given : (before now : Checker) (whole left : Exprs) (ends : Ends) (Ks : List KindTree) (K : KindTree) → left ≡ no_exprs → IsArrayPartway before now whole left ends Ks → IsCutOf (array_at Ks) K → IsAnywhereAs (array whole) before now (record { kind = K; ends = ends })
 array_given before now whole left ends Ks K is so_far cut span known alive =
     let here = subst (λ l. IsPartway before now never_kind whole l ends Ks so_far.j) is so_far.so_far in
-    let all = subst (λ k. JudgesAll before.patterns.now (gives never_kind k) whole Ks so_far.j) alive (partway_end before now never_kind whole ends Ks so_far.j here) in
+    let all = subst (λ k. JudgesAll (language_rules before.patterns.now) (gives never_kind k) whole Ks so_far.j) alive (partway_end before now never_kind whole ends Ks so_far.j here) in
     (record so_far.j { kind = K }, an_array all cut, with_kind_of before now ends so_far.j K here.has_ends here.gathered (array_root Ks K cut))
 
 -- ---- objects
@@ -141,7 +142,7 @@ object_first before whole left ends es all none empty can = record {
   names = ap₂ (λ ns ps. ns ++ pair_names ps) (ap names_in empty) all;
 }
 
-pub object_can_next : (before now : Checker) (whole left rest : Pairs) (n : List ℕ) (e : Expr) (ends : Ends) (es : List (List ℕ × KindTree)) → left ≡ pair n e rest → IsObjectPartway before now whole left ends es → CanBeJudged now.patterns.now e
+pub object_can_next : (before now : Checker) (whole left rest : Pairs) (n : List ℕ) (e : Expr) (ends : Ends) (es : List (List ℕ × KindTree)) → left ≡ pair n e rest → IsObjectPartway before now whole left ends es → ExprCanBeJudged now.patterns.now e
 object_can_next before now whole left rest n e ends es is so_far = array_can_next before now (pair_values whole) (pair_values left) (pair_values rest) e ends (kinds_in es) (ap pair_values is) so_far.values
 
 pub object_fewer : (before now : Checker) (whole left rest : Pairs) (n : List ℕ) (e : Expr) (ends : Ends) (es : List (List ℕ × KindTree)) → left ≡ pair n e rest → IsObjectPartway before now whole left ends es → expr_size e ≤ pairs_size whole
@@ -170,7 +171,7 @@ object_given before now whole left ends es K is so_far cut span known alive =
     let Ks = kinds_in es in
     let j = so_far.values.j in
     let here = subst (λ l. IsPartway before now never_kind (pair_values whole) (pair_values l) ends Ks j) is so_far.values.so_far in
-    let all = subst (λ k. JudgesAll before.patterns.now (gives never_kind k) (pair_values whole) Ks j) alive (partway_end before now never_kind (pair_values whole) ends Ks j here) in
+    let all = subst (λ k. JudgesAll (language_rules before.patterns.now) (gives never_kind k) (pair_values whole) Ks j) alive (partway_end before now never_kind (pair_values whole) ends Ks j here) in
     let names : names_in es ≡ pair_names whole = sym (append-nil (names_in es)) ∙ ap (λ ps. names_in es ++ pair_names ps) (sym is) ∙ so_far.names in
     let named = subst (λ ns. IsCutOf (object_at ns Ks) K) names cut in
     (record j { kind = K }, an_object all named, with_kind_of before now ends j K here.has_ends here.gathered (object_root (names_in es) Ks K cut))
@@ -198,7 +199,7 @@ sequence_first before whole left last N all is none null can = record {
   root = scalar_root tag.Null N null refl;
 }
 
-pub sequence_can_next : (before now : Checker) (whole left rest : Exprs) (e : Expr) (last : Outcome) → left ≡ exprs e rest → IsSequencePartway before now whole left last → CanBeJudged now.patterns.now e
+pub sequence_can_next : (before now : Checker) (whole left rest : Exprs) (e : Expr) (last : Outcome) → left ≡ exprs e rest → IsSequencePartway before now whole left last → ExprCanBeJudged now.patterns.now e
 sequence_can_next before now whole left rest e last is so_far = can_at before now e so_far.so_far.gathered.patterns (first_can e rest (subst (ItemsCanBeJudged before.patterns.now) is so_far.so_far.can))
 
 pub sequence_fewer : (before now : Checker) (whole left rest : Exprs) (e : Expr) (last : Outcome) → left ≡ exprs e rest → IsSequencePartway before now whole left last → expr_size e ≤ exprs_size whole
@@ -226,7 +227,7 @@ sequence_next before now after whole left rest e last next part is so_far judged
 pub sequence_end : (before now : Checker) (whole left : Exprs) (last : Outcome) → left ≡ no_exprs → IsSequencePartway before now whole left last → IsSequenceAs whole before now last
 sequence_end before now whole left last is so_far known alive =
     let here = subst (λ l. IsPartway before now so_far.N whole l last.ends so_far.Ks so_far.j) is so_far.so_far in
-    let all = subst (λ k. JudgesAll before.patterns.now (gives so_far.N k) whole so_far.Ks so_far.j) alive (partway_end before now so_far.N whole last.ends so_far.Ks so_far.j here) in
+    let all = subst (λ k. JudgesAll (language_rules before.patterns.now) (gives so_far.N k) whole so_far.Ks so_far.j) alive (partway_end before now so_far.N whole last.ends so_far.Ks so_far.j here) in
     (so_far.N, so_far.Ks, so_far.j, so_far.null, all, record { kind = so_far.kind; root = so_far.root; ends = here.has_ends; gathered = here.gathered })
 
 -- ---- items of a script
@@ -235,7 +236,7 @@ pub record IsScriptPartway (before now : Checker) (whole left : Exprs) (last : O
   pub N : KindTree
   pub j : Judgement
   pub null : IsScalar tag.Null N
-  pub leads : (k : Judgement) → JudgesItems before.patterns.now j left k → JudgesItems before.patterns.now (gives N before.state.known) whole k
+  pub leads : (k : Judgement) → JudgesItems (language_rules before.patterns.now) j left k → JudgesItems (language_rules before.patterns.now) (gives N before.state.known) whole k
   pub has : HasJudged before now last j
   pub can : ItemsCanBeJudged before.patterns.now left
 
@@ -256,7 +257,7 @@ script_first before whole left last N all is none null can =
     } in
     subst (λ l. IsScriptPartway before before whole l last) (sym all) first
 
-pub script_can_next : (before now : Checker) (whole left rest : Exprs) (e : Expr) (last : Outcome) → left ≡ exprs e rest → IsScriptPartway before now whole left last → CanBeJudged now.patterns.now e
+pub script_can_next : (before now : Checker) (whole left rest : Exprs) (e : Expr) (last : Outcome) → left ≡ exprs e rest → IsScriptPartway before now whole left last → ExprCanBeJudged now.patterns.now e
 script_can_next before now whole left rest e last is so_far = can_at before now e so_far.has.gathered.patterns (first_can e rest (subst (ItemsCanBeJudged before.patterns.now) is so_far.can))
 
 pub script_common : (before now after : Checker) (whole left : Exprs) (e : Expr) (last part : Outcome) → IsScriptPartway before now whole left last → IsItemAs e now after part → HaveCommonScopes last.ends part.ends
@@ -270,12 +271,12 @@ script_next before now after whole left rest e last next part is so_far item sam
     let told = with_codes (of_item (span_of e) item.0) item.0 in
     let both = are so_far.has.ends.are (part_are before now after part so_far.j told so_far.has.gathered item.2) in
     let all = part_then before now after last.ends next.ends part so_far.j told so_far.has.ends so_far.has.gathered item.2 joined both in
-    let from : Judges before.patterns.now so_far.j.ok e item.0 = judges_at before now so_far.j.ok e item.0 so_far.has.gathered.patterns so_far.has.gathered.ok item.1 in
+    let from : Judges (language_rules before.patterns.now) so_far.j.ok e item.0 = judges_at before now so_far.j.ok e item.0 so_far.has.gathered.patterns so_far.has.gathered.ok item.1 in
     record {
       N = so_far.N;
       j = behind_with next.ends so_far.j told;
       null = so_far.null;
-      leads = λ k items. so_far.leads k (subst (λ l. JudgesItems before.patterns.now so_far.j l k) (sym is) (one_more_item from all.in_order items));
+      leads = λ k items. so_far.leads k (subst (λ l. JudgesItems (language_rules before.patterns.now) so_far.j l k) (sym is) (one_more_item from all.in_order items));
       has = record { kind = same ∙ item.2.kind; root = item.2.root; ends = all.ends; gathered = all.gathered };
       can = rest_can e rest (subst (ItemsCanBeJudged before.patterns.now) is so_far.can);
     }
@@ -283,4 +284,4 @@ script_next before now after whole left rest e last next part is so_far item sam
 pub script_end : (before now : Checker) (whole left : Exprs) (last outcome : Outcome) → left ≡ no_exprs → IsScriptPartway before now whole left last → IsSettledAs last now outcome → IsScriptAs whole before now outcome
 script_end before now whole left last outcome is so_far settles =
     let has = settles before so_far.j so_far.has in
-    (so_far.N, so_far.j, so_far.null, so_far.leads so_far.j (subst (λ l. JudgesItems before.patterns.now so_far.j l so_far.j) (sym is) no_more_items), has)
+    (so_far.N, so_far.j, so_far.null, so_far.leads so_far.j (subst (λ l. JudgesItems (language_rules before.patterns.now) so_far.j l so_far.j) (sym is) no_more_items), has)

@@ -12,41 +12,42 @@ use Rattle.vrl_judge.specs.Seen.{seen}
 use Rattle.vrl_judge.specs.declared.checker.Checker.{Checker}
 use Rattle.vrl_judge.specs.declared.outcome.Outcome.{Outcome}
 use Rattle.vrl_judge.proofs.Told.{as_seen, IsTold, told_of, are_behind}
+use Rattle.vrl_check.specs.OpenRules.{language_rules}
 
 -- ---- expressions and blocks
 
 -- a part is judged beside the same regexes wherever the walk stands
-pub judges_at : (a c : Checker) (known : Option RootMap) (e : Expr) (j : Judgement) → c.patterns ≡ a.patterns → c.state.known ≡ known → Judges c.patterns.now c.state.known e j → Judges a.patterns.now known e j
-judges_at a c known e j same here is = subst (λ s. Judges a.patterns.now s e j) here (subst (λ ps. Judges ps.now c.state.known e j) same is)
+pub judges_at : (a c : Checker) (known : Option RootMap) (e : Expr) (j : Judgement) → c.patterns ≡ a.patterns → c.state.known ≡ known → Judges (language_rules c.patterns.now) c.state.known e j → Judges (language_rules a.patterns.now) known e j
+judges_at a c known e j same here is = subst (λ s. Judges (language_rules a.patterns.now) s e j) here (subst (λ ps. Judges (language_rules ps.now) c.state.known e j) same is)
 
-pub block_at : (a c : Checker) (known : Option RootMap) (es : Exprs) (j : Judgement) → c.patterns ≡ a.patterns → c.state.known ≡ known → JudgesBlock c.patterns.now c.state.known es j → JudgesBlock a.patterns.now known es j
-block_at a c known es j same here is = subst (λ s. JudgesBlock a.patterns.now s es j) here (subst (λ ps. JudgesBlock ps.now c.state.known es j) same is)
+pub block_at : (a c : Checker) (known : Option RootMap) (es : Exprs) (j : Judgement) → c.patterns ≡ a.patterns → c.state.known ≡ known → JudgesBlock (language_rules c.patterns.now) c.state.known es j → JudgesBlock (language_rules a.patterns.now) known es j
+block_at a c known es j same here is = subst (λ s. JudgesBlock (language_rules a.patterns.now) s es j) here (subst (λ ps. JudgesBlock (language_rules ps.now) c.state.known es j) same is)
 
 pub record IsToldExpr (e : Expr) (before after : Checker) (part : Outcome) : Type 0 where
   pub codes : List Diagnostic
   pub tags : List Tag
-  pub judges : Judges before.patterns.now before.state.known e (seen part after codes tags)
+  pub judges : Judges (language_rules before.patterns.now) before.state.known e (seen part after codes tags)
   pub ended : IsTold before after part codes tags
 
 pub told_expr : (e : Expr) (before after : Checker) (part : Outcome) → IsJudgedAs e before after part → IsToldExpr e before after part
 told_expr e before after part is = record {
   codes = is.0.codes;
   tags = is.0.empties;
-  judges = subst (Judges before.patterns.now before.state.known e) (as_seen before after part is.0 is.2) is.1;
+  judges = subst (Judges (language_rules before.patterns.now) before.state.known e) (as_seen before after part is.0 is.2) is.1;
   ended = told_of before after part is.0 is.2;
 }
 
 pub record IsToldBlock (es : Exprs) (before after : Checker) (part : Outcome) : Type 0 where
   pub codes : List Diagnostic
   pub tags : List Tag
-  pub judges : JudgesBlock before.patterns.now before.state.known es (seen part after codes tags)
+  pub judges : JudgesBlock (language_rules before.patterns.now) before.state.known es (seen part after codes tags)
   pub ended : IsTold before after part codes tags
 
 pub told_block : (es : Exprs) (before after : Checker) (part : Outcome) → IsBlockAs es before after part → IsToldBlock es before after part
 told_block es before after part is = record {
   codes = is.0.codes;
   tags = is.0.empties;
-  judges = subst (JudgesBlock before.patterns.now before.state.known es) (as_seen before after part is.0 is.2) is.1;
+  judges = subst (JudgesBlock (language_rules before.patterns.now) before.state.known es) (as_seen before after part is.0 is.2) is.1;
   ended = told_of before after part is.0 is.2;
 }
 

@@ -2,8 +2,10 @@
 use Rattle.std.specs.Prelude.{◌≡◌, [], Option}
 use Rattle.vrl_state.specs.Known.{known_as, HaveRootKinds}
 use Rattle.vrl_state.specs.States.{IsEither, IsJoined, IsRootKind, RootMap, State}
+use Rattle.vrl_syntax.specs.Tree.{Exprs}
 use Rattle.vrl_judge.specs.Rules.{Judgement}
 use Rattle.vrl_judge.specs.Ordered.{AreOrdered}
+use Rattle.vrl_check.specs.Loops.{closures_in_exprs, deads}
 use Rattle.vrl_check.specs.declared.judged.Ending.{Ending}
 use Rattle.vrl_check.specs.declared.judged.Judged.{Judged}
 use Rattle.vrl_judge.specs.Returns.{return_state, return_kind, returning}
@@ -12,8 +14,8 @@ use Rattle.vrl_judge.specs.Returns.{return_state, return_kind, returning}
 abbrev pub outside : Option RootMap → State
 outside known = record { known = known; scopes = [] }
 
--- the answer tells this judgement, whose ends stand outside all blocks
-pub record IsJudged (j : Judgement) (judged : Judged) : Type 0 where
+-- the answer tells this judgement of a script's items, whose ends stand outside all blocks
+pub record IsJudged (items : Exprs) (j : Judgement) (judged : Judged) : Type 0 where
   pub kind : judged.kind ≡ j.kind
   pub root : IsRootKind judged.kind
   pub ok : judged.ok ≡ outside j.ok
@@ -22,8 +24,8 @@ pub record IsJudged (j : Judgement) (judged : Judged) : Type 0 where
   pub returned : return_kind judged.ret ≡ j.returned
   pub returned_root : IsRootKind j.returned
   pub empties : judged.empties ≡ j.empties
-  -- nothing is told of closures so far
-  pub loops : judged.loops ≡ []
+  -- no closure is judged so far
+  pub loops : judged.loops ≡ deads (closures_in_exprs items)
   pub diagnostics : AreOrdered j.codes judged.diagnostics
 
 -- the kind of a script's value, from its end or from a return, and what is known there

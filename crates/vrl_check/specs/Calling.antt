@@ -11,7 +11,7 @@ use Rattle.vrl_syntax.specs.Written.{is_del}
 use Rattle.vrl_syntax.specs.declared.tree.Arg.{Arg as CodeArg}
 use Rattle.vrl_syntax.specs.declared.tree.Call.{Call as CodeCall, out-Call}
 use Rattle.vrl_kind.specs.Canonical.{never_kind}
-use Rattle.vrl_builtin.specs.Conditions.{AreGiven as AreAllowed}
+use Rattle.vrl_builtin.specs.Conditions.{AreGiven}
 use Rattle.vrl_builtin.specs.Rows.{GivenTree, ParameterRow, Row}
 use Rattle.vrl_state.specs.States.{IsRootKind, RootMap}
 use Rattle.vrl_table.specs.Binding.{binding, keywords_of, path_parameters}
@@ -21,7 +21,7 @@ use Rattle.vrl_judge.specs.Branching.{IsOrFail}
 use Rattle.vrl_syntax.specs.Calls.{is_exists}
 use Rattle.vrl_diag.specs.Refusal.{is_error}
 use Rattle.vrl_judge.specs.Rules.{Argument, Judgement, at, banged, gives, if_state}
-use Rattle.vrl_check.specs.Judgement.{AreGiven, Gives, JudgesArguments, IsAnsweredUnless, IsDeletedAt, behind_arguments, bound, deleted_kind, deleted_path, nulls, of_call, places_in, wants_literal, wants_path}
+use Rattle.vrl_check.specs.Judgement.{AreAskedAbout, Gives, JudgesArguments, IsAnsweredUnless, IsDeletedAt, behind_arguments, bound, deleted_kind, deleted_path, nulls, of_call, places_in, wants_literal, wants_path}
 use Rattle.vrl_judge.specs.Judging.{AreEnds, HasEnds, HasGathered, HasJudged, IsMoved}
 use Rattle.vrl_judge.specs.declared.calls.Argument.{Argument as CodeArgument}
 use Rattle.vrl_check.specs.declared.calls.Arguments.{Arguments}
@@ -29,8 +29,9 @@ use Rattle.vrl_check.specs.declared.calls.Callee.{Callee}
 use Rattle.vrl_judge.specs.declared.checker.Checker.{Checker}
 use Rattle.vrl_judge.specs.declared.ends.Ends.{Ends}
 use Rattle.vrl_judge.specs.declared.outcome.Outcome.{Outcome}
-use Rattle.vrl_judge.specs.Calling.{told}
+use Rattle.vrl_judge.specs.Calling.{part_of}
 use Rattle.vrl_check.specs.declared.calls.Callee.TheVariants as callee
+use Rattle.vrl_check.specs.OpenRules.{language_rules}
 
 -- ---- a call
 
@@ -78,7 +79,7 @@ written (arg name span e gs) = (span, e) ∷ written gs
 
 -- these arguments, judged so
 pub record AreTold (gs : Args) (parts : List CodeArgument) (js : List Argument) : Type 0 where
-  pub parts_are : parts ≡ map told js
+  pub parts_are : parts ≡ map part_of js
   pub written_are : written gs ≡ map (λ g. (g.span, g.value)) js
 
 -- they were judged in some way
@@ -97,14 +98,14 @@ pub record HasArguments (before after : Checker) (gs : Args) (arguments : Argume
   pub gathered : HasGathered before after j
 
 abbrev pub AreArgumentsAs : Args → Checker → Checker → Arguments → Type 0
-AreArgumentsAs gs before after arguments = (js : List Argument) × (j : Judgement) × JudgesArguments before.patterns.now (gives never_kind before.state.known) gs js j × HasArguments before after gs arguments js j
+AreArgumentsAs gs before after arguments = (js : List Argument) × (j : Judgement) × JudgesArguments (language_rules before.patterns.now) (gives never_kind before.state.known) gs js j × HasArguments before after gs arguments js j
 
 -- ---- the call, behind them
 
 abbrev pub IsCalledAs : Span → Form → Args → Arguments → Checker → Checker → Outcome → Type 0
 IsCalledAs span f gs arguments now after outcome = (before : Checker) (known : RootMap) (js : List Argument) (j : Judgement)
-    → before.state.known ≡ Some known → JudgesArguments before.patterns.now (gives never_kind (Some known)) gs js j → HasArguments before now gs arguments js j
-    → (k : Judgement) × Gives before.patterns.now known span f k × HasJudged before after outcome k
+    → before.state.known ≡ Some known → JudgesArguments (language_rules before.patterns.now) (gives never_kind (Some known)) gs js j → HasArguments before now gs arguments js j
+    → (k : Judgement) × Gives (language_rules before.patterns.now) known span f k × HasJudged before after outcome k
 
 -- behind its closure, which isn't judged
 abbrev pub IsPassed : Checker → Checker → Args → Closure → Arguments → List Argument → Judgement → Type 0
@@ -112,8 +113,8 @@ IsPassed before now gs c arguments js j = HasArguments before now gs arguments j
 
 abbrev pub IsPassedCallAs : Span → Form → Args → Closure → Arguments → Checker → Checker → Outcome → Type 0
 IsPassedCallAs span f gs c arguments now after outcome = (before : Checker) (known : RootMap) (js : List Argument) (j : Judgement)
-    → before.state.known ≡ Some known → JudgesArguments before.patterns.now (gives never_kind (Some known)) gs js j → IsPassed before now gs c arguments js j
-    → (k : Judgement) × Gives before.patterns.now known span f k × HasJudged before after outcome k
+    → before.state.known ≡ Some known → JudgesArguments (language_rules before.patterns.now) (gives never_kind (Some known)) gs js j → IsPassed before now gs c arguments js j
+    → (k : Judgement) × Gives (language_rules before.patterns.now) known span f k × HasJudged before after outcome k
 
 -- ---- its codes
 
@@ -133,8 +134,8 @@ with_call_codes f = behind_arguments (callee_wants f) (callee_parameters f)
 -- what the call gives then, but for its `!`
 abbrev pub IsBoundCallAs : Callee → Span → Form → Bool → Args → Closure → Arguments → Checker → Checker → Outcome → Type 0
 IsBoundCallAs named span f bang gs c arguments now after outcome = (before : Checker) (known : RootMap) (js : List Argument) (j : Judgement)
-    → before.state.known ≡ Some known → JudgesArguments before.patterns.now (gives never_kind (Some known)) gs js j → HasArguments before now gs arguments js (with_call_codes named span gs c js j)
-    → (k : Judgement) × Gives before.patterns.now known span f (banged span bang k) × HasJudged before after outcome k
+    → before.state.known ≡ Some known → JudgesArguments (language_rules before.patterns.now) (gives never_kind (Some known)) gs js j → HasArguments before now gs arguments js (with_call_codes named span gs c js j)
+    → (k : Judgement) × Gives (language_rules before.patterns.now) known span f (banged span bang k) × HasJudged before after outcome k
 
 -- arguments that are bound so were judged in some way, and where no error code stands on the call, none of its own does
 pub record HasCodes (named : Callee) (gs : Args) (c : Closure) (arguments : Arguments) (places : List (Option ℕ)) : Type 0 where
@@ -150,7 +151,7 @@ pub record HasCodes (named : Callee) (gs : Args) (c : Closure) (arguments : Argu
 pub record MayBeAsked (r : Row) (gs : Args) (parts : List CodeArgument) (places : List (Option ℕ)) : Type 0 where
   pub js : List Argument
   pub told : AreTold gs parts js
-  pub allowed : (givens : List GivenTree) → AreGiven r.parameters (bound places js) givens → AreAllowed r givens
+  pub allowed : (givens : List GivenTree) → AreAskedAbout r.parameters (bound places js) givens → AreGiven r givens
 
 -- a function is asked about arguments without code
 pub record IsAnsweredAs (function : Fun) (js : List (Option Argument)) (ends : Ends) (before : Checker) (outcome : Outcome) : Type 0 where
@@ -177,4 +178,4 @@ alone_at (suc place) v (suc i) = alone_at place v i
 -- what was found of an argument: its value, and what the walk keeps of it
 abbrev pub IsFound : Option Argument → Option (CodeArg × CodeArgument) → Type 0
 IsFound None found = found ≡ None
-IsFound (Some g) found = IsSomeAnd found (λ f. (expr_of f.0.value ≡ g.value) × (f.1 ≡ told g))
+IsFound (Some g) found = IsSomeAnd found (λ f. (expr_of f.0.value ≡ g.value) × (f.1 ≡ part_of g))

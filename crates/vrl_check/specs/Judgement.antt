@@ -4,6 +4,8 @@
 --
 -- Each form names its four ends: what is known where it ends with a value, with an error and with a return, and the kind of what
 -- is returned. In a dead state nothing can happen, and no code is given. Every kind is cut, and so is every join.
+--
+-- The judgement is told for every way in which the open rules may be given; that of the language is the one at `language_rules`.
 use Rattle.std.specs.Prelude.{◌≡◌, ◌≢◌, ℕ, suc, Bool, true, false, ◌||◌, ◌&&◌, not, List, [], ◌∷◌, ◌++◌, map as map_list, replicate, slice_get, Option, Some, None, is_some, if◌then◌else◌}
 use Rattle.std.specs.Option.{option_map_or}
 use Rattle.std.specs.declared.result.Result.{Result}
@@ -33,8 +35,9 @@ use Rattle.vrl_table.specs.Binding.{binding, keywords_of, path_parameters}
 use Rattle.vrl_table.specs.Table.{row_of}
 use Rattle.vrl_table.specs.declared.binding.BindFault.{BindFault}
 use Rattle.vrl_table.specs.declared.function.Fun.{Fun}
+use Rattle.vrl_check.specs.OpenRules.{OpenRules}
 use Rattle.vrl_syntax.specs.Calls.{takes_closure}
-use Rattle.vrl_judge.specs.Rules.{IsReadAt, scalars_at, IsScalar, array_at, object_at, Judgement, is_alive, if_state, nothing, gives, at, when, with_codes, settled_kind, settle, is_known, is_needless, is_other, is_fallible, may_be_truth, may_be_no_truth, IsBehind, IsThen, left, is_equality, some_pair, table_tags, chained, of_pairs, no_objects, IsMerged, or_else_at, IsWritten, of_assignment, empty_tag, of_error_assignment, of_message, of_predicate, Argument, is_disjoint, has_others, argument_at, banged, IsDeleted, sum_tag, number_tag, order_tag}
+use Rattle.vrl_judge.specs.Rules.{IsReadAt, scalars_at, IsScalar, array_at, object_at, Judgement, is_alive, if_state, nothing, gives, at, when, with_codes, settled_kind, settle, is_known, is_needless, is_other, is_fallible, may_be_truth, may_be_no_truth, IsBehind, IsThen, left, is_equality, some_pair, table_tags, chained, of_pairs, no_objects, IsMerged, or_else_at, IsTargetWritten, of_assignment, of_error_assignment, of_message, of_predicate, Argument, is_disjoint, has_others, argument_at, banged, IsDeleted, sum_tag, number_tag, order_tag}
 use Rattle.vrl_value.specs.declared.value.Tag.TheVariants as tag
 use Rattle.vrl_path.specs.declared.path.Step as steps
 use Rattle.vrl_syntax.specs.declared.root.Op.TheVariants as op
@@ -158,14 +161,14 @@ pub record IsCutDown (T : TagSet) (K L : KindTree) : Type 0 where
 
 -- what a function is asked about: the kind of each argument, cut down to the tags that its parameter allows, and its value where it is
 -- written as a literal
-abbrev pub IsGiven : ParameterRow → Option Argument → GivenTree → Type 0
-IsGiven p None given = given ≡ record { kind = None; literal = None }
-IsGiven p (Some g) given = (L : KindTree) × IsCutDown p.allowed g.judged.kind L × (given ≡ record { kind = Some L; literal = literal_of g.value })
+abbrev pub IsAskedAbout : ParameterRow → Option Argument → GivenTree → Type 0
+IsAskedAbout p None given = given ≡ record { kind = None; literal = None }
+IsAskedAbout p (Some g) given = (L : KindTree) × IsCutDown p.allowed g.judged.kind L × (given ≡ record { kind = Some L; literal = literal_of g.value })
 
-abbrev pub AreGiven : List ParameterRow → List (Option Argument) → List GivenTree → Type 0
-AreGiven (p ∷ ps) (g ∷ js) (given ∷ givens) = IsGiven p g given × AreGiven ps js givens
-AreGiven (p ∷ ps) (g ∷ js) [] = ⊥
-AreGiven ps js givens = givens ≡ []
+abbrev pub AreAskedAbout : List ParameterRow → List (Option Argument) → List GivenTree → Type 0
+AreAskedAbout (p ∷ ps) (g ∷ js) (given ∷ givens) = IsAskedAbout p g given × AreAskedAbout ps js givens
+AreAskedAbout (p ∷ ps) (g ∷ js) [] = ⊥
+AreAskedAbout ps js givens = givens ≡ []
 
 -- the kind of some argument isn't within its parameter's
 abbrev pub some_has_others : List ParameterRow → List (Option Argument) → Bool
@@ -177,7 +180,7 @@ some_has_others ps js = false
 -- parameter's, or where the function may fail. Of a call that has an error code, or has one in it, nothing is asked.
 pub record IsAnswered (sources : List (List ℕ)) (r : Row) (js : List (Option Argument)) (K : KindTree) (may : Bool) : Type 0 where
   pub givens : List GivenTree
-  pub given : AreGiven r.parameters js givens
+  pub given : AreAskedAbout r.parameters js givens
   pub kind : IsCutOf (r.kind givens sources) K
   pub fails : may ≡ (some_has_others r.parameters js || r.may_fail givens)
 
@@ -202,180 +205,180 @@ deleted_kind poisoned js = any_kind
 -- ---- the forms
 
 mutual
-  pub data Judges (sources : List (List ℕ)) : Option RootMap → Expr → Judgement → Type 0 where
-    unreached : {e : Expr} → Judges sources None e (nothing (nulls (in_expr e)))
-    reached : {known : RootMap} {span : Span} {f : Form} {j : Judgement} → Gives sources known span f j → Judges sources (Some known) (expr span f) (settle j)
+  pub data Judges (rules : OpenRules) : Option RootMap → Expr → Judgement → Type 0 where
+    unreached : {e : Expr} → Judges rules None e (nothing (nulls (in_expr e)))
+    reached : {known : RootMap} {span : Span} {f : Form} {j : Judgement} → Gives rules known span f j → Judges rules (Some known) (expr span f) (settle j)
 
   -- what a form gives where it is reached, before it is settled
-  pub data Gives (sources : List (List ℕ)) : RootMap → Span → Form → Judgement → Type 0 where
+  pub data Gives (rules : OpenRules) : RootMap → Span → Form → Judgement → Type 0 where
     a_literal : {known : RootMap} {span : Span} {v : Tree} {K : KindTree}
         → IsCutOf (found_at v) K
-        → Gives sources known span (literal v) (gives K (Some known))
+        → Gives rules known span (literal v) (gives K (Some known))
     an_array : {known : RootMap} {span : Span} {es : Exprs} {j : Judgement} {Ks : List KindTree} {K : KindTree}
-        → JudgesAll sources (gives never_kind (Some known)) es Ks j → IsCutOf (array_at Ks) K
-        → Gives sources known span (array es) (record j { kind = K })
+        → JudgesAll rules (gives never_kind (Some known)) es Ks j → IsCutOf (array_at Ks) K
+        → Gives rules known span (array es) (record j { kind = K })
     an_object : {known : RootMap} {span : Span} {ps : Pairs} {j : Judgement} {Ks : List KindTree} {K : KindTree}
-        → JudgesAll sources (gives never_kind (Some known)) (pair_values ps) Ks j → IsCutOf (object_at (pair_names ps) Ks) K
-        → Gives sources known span (object ps) (record j { kind = K })
+        → JudgesAll rules (gives never_kind (Some known)) (pair_values ps) Ks j → IsCutOf (object_at (pair_names ps) Ks) K
+        → Gives rules known span (object ps) (record j { kind = K })
     -- reads: a variable that isn't known is 701
     a_known_root : {known : RootMap} {span : Span} {root : Root} {path : List steps.Step} {K M : KindTree}
         → kind_of root known ≡ Some K → IsReadAt K path M
-        → Gives sources known span (read root path) (gives M (Some known))
+        → Gives rules known span (read root path) (gives M (Some known))
     an_unknown_root : {known : RootMap} {span : Span} {root : Root} {path : List steps.Step}
         → kind_of root known ≡ None
-        → Gives sources known span (read root path) (with_codes (at 701 span) (gives any_kind (Some known)))
+        → Gives rules known span (read root path) (with_codes (at 701 span) (gives any_kind (Some known)))
     a_query : {known : RootMap} {span : Span} {e : Expr} {path : List steps.Step} {j : Judgement} {K : KindTree}
-        → Judges sources (Some known) e j → IsReadAt j.kind path K
-        → Gives sources known span (query e path) (record j { kind = K })
+        → Judges rules (Some known) e j → IsReadAt j.kind path K
+        → Gives rules known span (query e path) (record j { kind = K })
     -- what holds items
     a_group : {known : RootMap} {span : Span} {e : Expr} {j : Judgement}
-        → Judges sources (Some known) e j
-        → Gives sources known span (group e) j
+        → Judges rules (Some known) e j
+        → Gives rules known span (group e) j
     a_block : {known : RootMap} {span : Span} {es : Exprs} {j : Judgement}
-        → JudgesBlock sources (Some known) es j
-        → Gives sources known span (block es) j
+        → JudgesBlock rules (Some known) es j
+        → Gives rules known span (block es) j
     a_conditional : {known : RootMap} {span : Span} {gs : Arms} {es : Else} {j : Judgement}
-        → JudgesArms sources (Some known) (nothing []) gs es j
-        → Gives sources known span (conditional gs es) j
+        → JudgesArms rules (Some known) (nothing []) gs es j
+        → Gives rules known span (conditional gs es) j
     -- operators
     a_negation : {known : RootMap} {span : Span} {e : Expr} {j : Judgement} {K : KindTree}
-        → Judges sources (Some known) e j → IsScalar tag.Bool K
-        → Gives sources known span (negation e) (with_codes (when (is_other tag.Bool j) (at 660 span)) (record j { kind = K }))
+        → Judges rules (Some known) e j → IsScalar tag.Bool K
+        → Gives rules known span (negation e) (with_codes (when (is_other tag.Bool j) (at 660 span)) (record j { kind = K }))
     an_equality : {known : RootMap} {span : Span} {o : Op} {l r : Expr} {j k whole : Judgement} {K : KindTree}
-        → is_equality o ≡ true → JudgesBoth sources known l r j k whole → IsScalar tag.Bool K
-        → Gives sources known span (binary o l r) (with_codes (chained span o l r) (record whole { kind = K }))
+        → is_equality o ≡ true → JudgesBoth rules known l r j k whole → IsScalar tag.Bool K
+        → Gives rules known span (binary o l r) (with_codes (chained span o l r) (record whole { kind = K }))
     of_table : {known : RootMap} {span : Span} {o : Op} {table : Tag → Tag → Option Tag} {l r : Expr} {j k whole : Judgement} {K : KindTree} {fail : Option RootMap}
-        → table_of o ≡ Some table → JudgesBoth sources known l r j k whole
+        → table_of o ≡ Some table → JudgesBoth rules known l r j k whole
         → IsCutOf (scalars_at (table_tags table j.kind k.kind)) K
         → IsJoined whole.fail (if_state (some_pair (λ a b. not (is_some (table a b))) j.kind k.kind) whole.ok) fail
-        → Gives sources known span (binary o l r) (of_pairs table j k (with_codes (chained span o l r) whole) K fail)
+        → Gives rules known span (binary o l r) (of_pairs table j k (with_codes (chained span o l r) whole) K fail)
     a_merge : {known : RootMap} {span : Span} {l r : Expr} {j k whole : Judgement} {K : KindTree}
-        → JudgesBoth sources known l r j k whole → IsMerged j.kind k.kind K
-        → Gives sources known span (binary op.Merge l r) (with_codes (no_objects (span_of l) (span_of r) j k) (record whole { kind = K }))
+        → JudgesBoth rules known l r j k whole → IsMerged j.kind k.kind K
+        → Gives rules known span (binary op.Merge l r) (with_codes (no_objects (span_of l) (span_of r) j k) (record whole { kind = K }))
     -- `&&`: the right side is judged where the left one may be a boolean
     a_conjunction : {known : RootMap} {span : Span} {l r : Expr} {j k whole : Judgement} {K : KindTree} (left_fail part_fail : Option RootMap) {ok fail : Option RootMap}
-        → Judges sources (Some known) l j → Judges sources (if_state (root_tags j.kind tag.Bool) j.ok) r k → IsBehind j k whole → IsScalar tag.Bool K
+        → Judges rules (Some known) l j → Judges rules (if_state (root_tags j.kind tag.Bool) j.ok) r k → IsBehind j k whole → IsScalar tag.Bool K
         → IsJoined (if_state (may_be_truth j.kind) j.ok) (if_state (may_be_truth k.kind) k.ok) ok
         → IsJoined j.fail (if_state (may_be_no_truth j.kind) j.ok) left_fail → IsJoined left_fail k.fail part_fail → IsJoined part_fail (if_state (may_be_no_truth k.kind) k.ok) fail
-        → Gives sources known span (binary op.And l r) (record whole { kind = K; ok = ok; fail = fail })
+        → Gives rules known span (binary op.And l r) (record whole { kind = K; ok = ok; fail = fail })
     -- `||`: the right side is judged where the left one may be null or a boolean; its value is the whole's alone where the left is exactly null
     a_disjunction : {known : RootMap} {span : Span} {l r : Expr} {j k whole : Judgement} {K : KindTree} {ok : Option RootMap}
-        → Judges sources (Some known) l j → Judges sources (if_state (may_be_truth j.kind) j.ok) r k → IsThen j k whole
+        → Judges rules (Some known) l j → Judges rules (if_state (may_be_truth j.kind) j.ok) r k → IsThen j k whole
         → IsCutOf (or_else_at j.kind k.kind) K
         → IsJoined (if_state (not (is_alone (root_tags j.kind) tag.Null)) j.ok) k.ok ok
-        → Gives sources known span (binary op.Or l r) (record whole { kind = K; ok = ok })
+        → Gives rules known span (binary op.Or l r) (record whole { kind = K; ok = ok })
     -- `??`: the right side is judged where the left one ended with an error. A left side that can't fail is 651, a warning
     a_coalescing : {known : RootMap} {span : Span} {l r : Expr} {j k whole : Judgement} {K : KindTree} {ok : Option RootMap}
-        → Judges sources (Some known) l j → Judges sources j.fail r k → IsBehind j k whole
+        → Judges rules (Some known) l j → Judges rules j.fail r k → IsBehind j k whole
         → IsEither j.kind k.kind K → IsJoined j.ok k.ok ok
-        → Gives sources known span (binary op.Coalesce l r) (with_codes (when (is_needless j) (at 651 span)) (record whole { kind = K; ok = ok; fail = k.fail }))
+        → Gives rules known span (binary op.Coalesce l r) (with_codes (when (is_needless j) (at 651 span)) (record whole { kind = K; ok = ok; fail = k.fail }))
     -- assignments
     an_assignment : {known : RootMap} {span : Span} {t : Target} {e : Expr} {j : Judgement} {ok : Option RootMap}
-        → Judges sources (Some known) e j → IsWritten t j.kind j.ok ok
-        → Gives sources known span (assign t e) (with_codes (of_assignment span t j) (record j { ok = ok }))
+        → Judges rules (Some known) e j → IsTargetWritten t j.kind j.ok ok
+        → Gives rules known span (assign t e) (with_codes (of_assignment span t j) (record j { ok = ok }))
     a_merge_into_nothing : {known : RootMap} {span : Span} {e : Expr} {j : Judgement}
-        → Judges sources (Some known) e j
-        → Gives sources known span (merge Nowhere e) (with_codes (at 640 span) j)
+        → Judges rules (Some known) e j
+        → Gives rules known span (merge Nowhere e) (with_codes (at 640 span) j)
     -- `t |= e` is `t = t | e`
     a_merge_assignment : {known : RootMap} {span s : Span} {root : Root} {path : List steps.Step} {e : Expr} {j : Judgement} {ok : Option RootMap}
-        → Judges sources (Some known) (expr span (binary op.Merge (expr s (read root path)) e)) j → IsWritten (Place s root path) j.kind j.ok ok
-        → Gives sources known span (merge (Place s root path) e) (with_codes (of_assignment span (Place s root path) j) (record j { ok = ok }))
-    -- `t, u = e`: behind a value the value and null are written; behind an error the empty value and a text
-    an_error_assignment : {known : RootMap} {span : Span} {t u : Target} {e : Expr} {j : Judgement} {E K N T : KindTree} (given given_both failed failed_both : Option RootMap) {ok : Option RootMap}
-        → Judges sources (Some known) e j
-        → IsCutOf (found_at (empty_value (empty_tag j.kind))) E → IsEither j.kind E K
+        → Judges rules (Some known) (expr span (binary op.Merge (expr s (read root path)) e)) j → IsTargetWritten (Place s root path) j.kind j.ok ok
+        → Gives rules known span (merge (Place s root path) e) (with_codes (of_assignment span (Place s root path) j) (record j { ok = ok }))
+    -- `t, u = e`: behind a value the value and null are written; behind an error the empty value, of any tag that the rules allow, and a text
+    an_error_assignment : {known : RootMap} {span : Span} {t u : Target} {e : Expr} {j : Judgement} (empty : Tag) {E K N T : KindTree} (given given_both failed failed_both : Option RootMap) {ok : Option RootMap}
+        → Judges rules (Some known) e j
+        → rules.empty j.kind empty ≡ true → IsCutOf (found_at (empty_value empty)) E → IsEither j.kind E K
         → IsScalar tag.Null N → IsScalar tag.Text T
-        → IsWritten t j.kind j.ok given → IsWritten u N given given_both
-        → IsWritten t E j.fail failed → IsWritten u T failed failed_both
+        → IsTargetWritten t j.kind j.ok given → IsTargetWritten u N given given_both
+        → IsTargetWritten t E j.fail failed → IsTargetWritten u T failed failed_both
         → IsJoined given_both failed_both ok
-        → Gives sources known span (both t u e) (with_codes (of_error_assignment span t u j K) (record j { kind = K; ok = ok; fail = None; empties = empty_tag j.kind ∷ j.empties }))
+        → Gives rules known span (both t u e) (with_codes (of_error_assignment span t u j K) (record j { kind = K; ok = ok; fail = None; empties = empty ∷ j.empties }))
     -- calls: a function that there isn't is 105
     a_call_of_nothing : {known : RootMap} {span s : Span} {name : List ℕ} {bang : Bool} {gs : Args} {c : Closure} {js : List Argument} {j : Judgement}
         → ((function : Fun) → (row_of function).name ≢ name) → (is_del name || (is_exists name || takes_closure name)) ≡ false
-        → JudgesArguments sources (gives never_kind (Some known)) gs js j
-        → Gives sources known span (call name s bang gs c) (with_codes (at 105 s) (record j { kind = any_kind; empties = j.empties ++ nulls (in_closure c) }))
+        → JudgesArguments rules (gives never_kind (Some known)) gs js j
+        → Gives rules known span (call name s bang gs c) (with_codes (at 105 s) (record j { kind = any_kind; empties = j.empties ++ nulls (in_closure c) }))
     a_call : {known : RootMap} {span s : Span} (function : Fun) {name : List ℕ} {bang : Bool} {gs : Args} {c : Closure} {js : List Argument} {j whole : Judgement} (K : KindTree) (fails : Bool) (fail : Option RootMap)
         → (row_of function).name ≡ name
-        → JudgesArguments sources (gives never_kind (Some known)) gs js j
+        → JudgesArguments rules (gives never_kind (Some known)) gs js j
         → whole ≡ behind_arguments (wants_literal (row_of function)) (row_of function).parameters span gs c js j
-        → IsAnsweredUnless whole.poisoned sources (row_of function) (bound (places_in (binding (row_of function).parameters (keywords_of gs))) js) K fails
+        → IsAnsweredUnless whole.poisoned rules.sources (row_of function) (bound (places_in (binding (row_of function).parameters (keywords_of gs))) js) K fails
         → IsJoined whole.fail (if_state fails whole.ok) fail
-        → Gives sources known span (call name s bang gs c) (banged span bang (record whole { kind = K; fail = fail }))
+        → Gives rules known span (call name s bang gs c) (banged span bang (record whole { kind = K; fail = fail }))
     -- `del`: the kind is that of reading the path, and what stands there is taken out
     a_deletion : {known : RootMap} {span s : Span} {name : List ℕ} {bang : Bool} {gs : Args} {c : Closure} {js : List Argument} {j whole : Judgement} (ok : Option RootMap)
         → is_del name ≡ true
-        → JudgesArguments sources (gives never_kind (Some known)) gs js j
+        → JudgesArguments rules (gives never_kind (Some known)) gs js j
         → whole ≡ behind_arguments wants_path path_parameters span gs c js j
         → IsDeletedAt (deleted_path whole.poisoned js) whole.ok ok
-        → Gives sources known span (call name s bang gs c) (banged span bang (record whole { kind = deleted_kind whole.poisoned js; ok = ok }))
+        → Gives rules known span (call name s bang gs c) (banged span bang (record whole { kind = deleted_kind whole.poisoned js; ok = ok }))
     -- `exists`: a boolean, and the state stays
     an_existence : {known : RootMap} {span s : Span} {name : List ℕ} {bang : Bool} {gs : Args} {c : Closure} {js : List Argument} {j whole : Judgement} (K : KindTree)
         → is_exists name ≡ true
-        → JudgesArguments sources (gives never_kind (Some known)) gs js j
+        → JudgesArguments rules (gives never_kind (Some known)) gs js j
         → whole ≡ behind_arguments wants_path path_parameters span gs c js j
         → IsScalar tag.Bool K
-        → Gives sources known span (call name s bang gs c) (banged span bang (record whole { kind = K }))
+        → Gives rules known span (call name s bang gs c) (banged span bang (record whole { kind = K }))
     -- ends
     a_return : {known : RootMap} {span : Span} {e : Expr} {j : Judgement} {ret : Option RootMap} {R : KindTree}
-        → Judges sources (Some known) e j → IsJoined j.ret j.ok ret → IsEither j.returned (settled_kind false (is_alive j.ok) j.kind) R
-        → Gives sources known span (return_of e) (record j { kind = never_kind; ok = None; ret = ret; returned = R })
+        → Judges rules (Some known) e j → IsJoined j.ret j.ok ret → IsEither j.returned (settled_kind false (is_alive j.ok) j.kind) R
+        → Gives rules known span (return_of e) (record j { kind = never_kind; ok = None; ret = ret; returned = R })
     an_abort : {known : RootMap} {span : Span}
-        → Gives sources known span (abort_with no_message) (nothing [])
+        → Gives rules known span (abort_with no_message) (nothing [])
     -- a message that may fail, or isn't exactly a text, is 1011
     an_abort_with : {known : RootMap} {span : Span} {e : Expr} {j : Judgement}
-        → Judges sources (Some known) e j
-        → Gives sources known span (abort_with (message e)) (with_codes (of_message (span_of e) j) (record j { kind = never_kind; ok = None }))
+        → Judges rules (Some known) e j
+        → Gives rules known span (abort_with (message e)) (with_codes (of_message (span_of e) j) (record j { kind = never_kind; ok = None }))
 
   -- two operands, the second judged where the first ends with a value
-  pub data JudgesBoth (sources : List (List ℕ)) : RootMap → Expr → Expr → Judgement → Judgement → Judgement → Type 0 where
+  pub data JudgesBoth (rules : OpenRules) : RootMap → Expr → Expr → Judgement → Judgement → Judgement → Type 0 where
     operands : {known : RootMap} {l r : Expr} {j k whole : Judgement}
-        → Judges sources (Some known) l j → Judges sources j.ok r k → IsThen j k whole
-        → JudgesBoth sources known l r j k whole
+        → Judges rules (Some known) l j → Judges rules j.ok r k → IsThen j k whole
+        → JudgesBoth rules known l r j k whole
 
   -- expressions behind what was judged before them, with their kinds
-  pub data JudgesAll (sources : List (List ℕ)) : Judgement → Exprs → List KindTree → Judgement → Type 0 where
-    no_more : {before : Judgement} → JudgesAll sources before no_exprs [] before
+  pub data JudgesAll (rules : OpenRules) : Judgement → Exprs → List KindTree → Judgement → Type 0 where
+    no_more : {before : Judgement} → JudgesAll rules before no_exprs [] before
     one_more : {before j middle after : Judgement} {e : Expr} {es : Exprs} {Ks : List KindTree}
-        → Judges sources before.ok e j → IsThen before j middle → JudgesAll sources middle es Ks after
-        → JudgesAll sources before (exprs e es) (j.kind ∷ Ks) after
+        → Judges rules before.ok e j → IsThen before j middle → JudgesAll rules middle es Ks after
+        → JudgesAll rules before (exprs e es) (j.kind ∷ Ks) after
 
   -- the arguments of a call behind what was judged before them
-  pub data JudgesArguments (sources : List (List ℕ)) : Judgement → Args → List Argument → Judgement → Type 0 where
-    no_more_arguments : {before : Judgement} → JudgesArguments sources before no_args [] before
+  pub data JudgesArguments (rules : OpenRules) : Judgement → Args → List Argument → Judgement → Type 0 where
+    no_more_arguments : {before : Judgement} → JudgesArguments rules before no_args [] before
     one_more_argument : {before j middle after : Judgement} {name : Option (List ℕ)} {span : Span} {e : Expr} {gs : Args} {js : List Argument}
-        → Judges sources before.ok e j → IsThen before j middle → JudgesArguments sources middle gs js after
-        → JudgesArguments sources before (arg name span e gs) (record { span = span; value = e; judged = j } ∷ js) after
+        → Judges rules before.ok e j → IsThen before j middle → JudgesArguments rules middle gs js after
+        → JudgesArguments rules before (arg name span e gs) (record { span = span; value = e; judged = j } ∷ js) after
 
   -- the items of a block or a branch; an empty one gives null, and its names end with it
-  pub data JudgesBlock (sources : List (List ℕ)) : Option RootMap → Exprs → Judgement → Type 0 where
-    unreached_block : {es : Exprs} → JudgesBlock sources None es (nothing (nulls (in_exprs es)))
+  pub data JudgesBlock (rules : OpenRules) : Option RootMap → Exprs → Judgement → Type 0 where
+    unreached_block : {es : Exprs} → JudgesBlock rules None es (nothing (nulls (in_exprs es)))
     reached_block : {known : RootMap} {es : Exprs} {Ks : List KindTree} {N : KindTree} {j : Judgement}
-        → IsScalar tag.Null N → JudgesAll sources (gives N (Some known)) es Ks j
-        → JudgesBlock sources (Some known) es (settle (left known j))
+        → IsScalar tag.Null N → JudgesAll rules (gives N (Some known)) es Ks j
+        → JudgesBlock rules (Some known) es (settle (left known j))
 
   -- the arms of an `if` beside the ways before them: each branch is judged behind all predicates before it
-  pub data JudgesArms (sources : List (List ℕ)) : Option RootMap → Judgement → Arms → Else → Judgement → Type 0 where
+  pub data JudgesArms (rules : OpenRules) : Option RootMap → Judgement → Arms → Else → Judgement → Type 0 where
     an_arm : {state : Option RootMap} {ways j with_predicate k with_branch all : Judgement} {p : Expr} {es : Exprs} {gs : Arms} {otherwise : Else}
-        → Judges sources state p j → IsBeside ways (record (predicate_of p j) { kind = never_kind; ok = None }) with_predicate
-        → JudgesBlock sources j.ok es k → IsBeside with_predicate k with_branch
-        → JudgesArms sources j.ok with_branch gs otherwise all
-        → JudgesArms sources state ways (arm p es gs) otherwise all
+        → Judges rules state p j → IsBeside ways (record (predicate_of p j) { kind = never_kind; ok = None }) with_predicate
+        → JudgesBlock rules j.ok es k → IsBeside with_predicate k with_branch
+        → JudgesArms rules j.ok with_branch gs otherwise all
+        → JudgesArms rules state ways (arm p es gs) otherwise all
     an_else : {state : Option RootMap} {ways k all : Judgement} {es : Exprs}
-        → JudgesBlock sources state es k → IsBeside ways k all
-        → JudgesArms sources state ways no_arms (else_block es) all
+        → JudgesBlock rules state es k → IsBeside ways k all
+        → JudgesArms rules state ways no_arms (else_block es) all
     a_missing_else : {state : Option RootMap} {ways all : Judgement} {N : KindTree}
         → IsScalar tag.Null N → IsBeside ways (settle (gives N state)) all
-        → JudgesArms sources state ways no_arms no_else all
+        → JudgesArms rules state ways no_arms no_else all
 
 -- the items of a script: one that may fail is 100
-pub data JudgesItems (sources : List (List ℕ)) : Judgement → Exprs → Judgement → Type 0 where
-  no_more_items : {before : Judgement} → JudgesItems sources before no_exprs before
+pub data JudgesItems (rules : OpenRules) : Judgement → Exprs → Judgement → Type 0 where
+  no_more_items : {before : Judgement} → JudgesItems rules before no_exprs before
   one_more_item : {before j middle after : Judgement} {e : Expr} {es : Exprs}
-      → Judges sources before.ok e j → IsThen before (with_codes (of_item (span_of e) j) j) middle → JudgesItems sources middle es after
-      → JudgesItems sources before (exprs e es) after
+      → Judges rules before.ok e j → IsThen before (with_codes (of_item (span_of e) j) j) middle → JudgesItems rules middle es after
+      → JudgesItems rules before (exprs e es) after
 
 -- a script over events of a kind; an empty one gives null
-pub data JudgesScript (sources : List (List ℕ)) : KindTree → Exprs → Judgement → Type 0 where
+pub data JudgesScript (rules : OpenRules) : KindTree → Exprs → Judgement → Type 0 where
   a_script : {start N : KindTree} {state : State} {es : Exprs} {j : Judgement}
-      → IsStart start state → IsScalar tag.Null N → JudgesItems sources (gives N state.known) es j
-      → JudgesScript sources start es (settle j)
+      → IsStart start state → IsScalar tag.Null N → JudgesItems rules (gives N state.known) es j
+      → JudgesScript rules start es (settle j)

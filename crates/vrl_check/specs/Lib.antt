@@ -3,4 +3,6 @@ pub mod Calling
 pub mod Calls
 pub mod Determined
 pub mod Judgement
+pub mod Loops
+pub mod OpenRules
 pub mod Walking

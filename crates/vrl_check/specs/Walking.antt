@@ -19,6 +19,7 @@ use Rattle.vrl_judge.specs.declared.operators.Operands.{Operands}
 use Rattle.vrl_judge.specs.declared.outcome.Outcome.{Outcome}
 use Rattle.vrl_judge.specs.Judging.{HasJudged, HasOperands, known_on, IsWay, HasEnds}
 use Rattle.vrl_value.specs.declared.value.Tag.TheVariants as tag
+use Rattle.vrl_check.specs.OpenRules.{language_rules}
 
 -- ---- what can be judged
 
@@ -29,8 +30,8 @@ pub record IsJudgeable {A : Type 0} (holds_closure_call : A → Bool) (faults : 
   pub limits : faults part ≡ []
   pub regexes : regexes_below (length sources) part ≡ true
 
-abbrev pub CanBeJudged : List (List ℕ) → Expr → Type 0
-CanBeJudged = IsJudgeable expr_holds_closure_call expr_faults expr_regexes_below
+abbrev pub ExprCanBeJudged : List (List ℕ) → Expr → Type 0
+ExprCanBeJudged = IsJudgeable expr_holds_closure_call expr_faults expr_regexes_below
 
 abbrev pub FormCanBeJudged : List (List ℕ) → Form → Type 0
 FormCanBeJudged = IsJudgeable form_holds_closure_call form_faults form_regexes_below
@@ -55,38 +56,38 @@ ArgumentsCanBeJudged = IsJudgeable args_hold_closure_call (args_faults false) ar
 
 -- an expression, a form where a way leads to it, items of a block, items before their block ends
 abbrev pub IsJudgedAs : Expr → Checker → Checker → Outcome → Type 0
-IsJudgedAs e before after outcome = (j : Judgement) × Judges before.patterns.now before.state.known e j × HasJudged before after outcome j
+IsJudgedAs e before after outcome = (j : Judgement) × Judges (language_rules before.patterns.now) before.state.known e j × HasJudged before after outcome j
 
 abbrev pub IsGivenAs : Span → Form → Checker → Checker → Outcome → Type 0
-IsGivenAs span f before after outcome = (known : RootMap) → before.state.known ≡ Some known → (j : Judgement) × Gives before.patterns.now known span f j × HasJudged before after outcome j
+IsGivenAs span f before after outcome = (known : RootMap) → before.state.known ≡ Some known → (j : Judgement) × Gives (language_rules before.patterns.now) known span f j × HasJudged before after outcome j
 
 -- the same wherever it stands
 abbrev pub IsAnywhereAs : Form → Checker → Checker → Outcome → Type 0
 IsAnywhereAs f before after outcome = (span : Span) → IsGivenAs span f before after outcome
 
 abbrev pub IsBlockAs : Exprs → Checker → Checker → Outcome → Type 0
-IsBlockAs es before after outcome = (j : Judgement) × JudgesBlock before.patterns.now before.state.known es j × HasJudged before after outcome j
+IsBlockAs es before after outcome = (j : Judgement) × JudgesBlock (language_rules before.patterns.now) before.state.known es j × HasJudged before after outcome j
 
 abbrev pub IsSequenceAs : Exprs → Checker → Checker → Outcome → Type 0
 IsSequenceAs es before after outcome = (known : RootMap) → before.state.known ≡ Some known
-    → (N : KindTree) × (Ks : List KindTree) × (j : Judgement) × IsScalar tag.Null N × JudgesAll before.patterns.now (gives N (Some known)) es Ks j × HasJudged before after outcome j
+    → (N : KindTree) × (Ks : List KindTree) × (j : Judgement) × IsScalar tag.Null N × JudgesAll (language_rules before.patterns.now) (gives N (Some known)) es Ks j × HasJudged before after outcome j
 
 -- items of a script, and one of them
 abbrev pub IsScriptAs : Exprs → Checker → Checker → Outcome → Type 0
-IsScriptAs es before after outcome = (N : KindTree) × (j : Judgement) × IsScalar tag.Null N × JudgesItems before.patterns.now (gives N before.state.known) es j × HasJudged before after outcome (settle j)
+IsScriptAs es before after outcome = (N : KindTree) × (j : Judgement) × IsScalar tag.Null N × JudgesItems (language_rules before.patterns.now) (gives N before.state.known) es j × HasJudged before after outcome (settle j)
 
 abbrev pub IsItemAs : Expr → Checker → Checker → Outcome → Type 0
-IsItemAs e before after outcome = (j : Judgement) × Judges before.patterns.now before.state.known e j × HasJudged before after outcome (with_codes (of_item (span_of e) j) j)
+IsItemAs e before after outcome = (j : Judgement) × Judges (language_rules before.patterns.now) before.state.known e j × HasJudged before after outcome (with_codes (of_item (span_of e) j) j)
 
 -- ---- steps of the walk
 
 abbrev pub AreBoth : Expr → Expr → Checker → Checker → Operands → Type 0
-AreBoth l r before after parts = (j : Judgement) × (k : Judgement) × (whole : Judgement) × Judges before.patterns.now before.state.known l j × Judges before.patterns.now j.ok r k × IsThen j k whole × HasOperands before after parts j k whole
+AreBoth l r before after parts = (j : Judgement) × (k : Judgement) × (whole : Judgement) × Judges (language_rules before.patterns.now) before.state.known l j × Judges (language_rules before.patterns.now) j.ok r k × IsThen j k whole × HasOperands before after parts j k whole
 
 -- the right one, behind the left one
 abbrev pub IsBesideAs : Expr → Outcome → Checker → Checker → Operands → Type 0
 IsBesideAs r left now after parts = (before : Checker) (j : Judgement) → HasJudged before now left j
-    → (k : Judgement) × (whole : Judgement) × Judges before.patterns.now now.state.known r k × IsThen j k whole × HasOperands before after parts j k whole
+    → (k : Judgement) × (whole : Judgement) × Judges (language_rules before.patterns.now) now.state.known r k × IsThen j k whole × HasOperands before after parts j k whole
 
 -- the ways of an `if` that were judged so far
 pub record HasWays (before now : Checker) (ways : Ways) (w : Judgement) : Type 0 where
@@ -106,9 +107,9 @@ pub record IsArmAs (a : ArmTree) (w : Judgement) (before now after : Checker) (w
   pub k : Judgement
   pub with_predicate : Judgement
   pub all : Judgement
-  pub predicate : Judges now.patterns.now now.state.known a.0 j
+  pub predicate : Judges (language_rules now.patterns.now) now.state.known a.0 j
   pub first : IsBeside w (record (predicate_of a.0 j) { kind = never_kind; ok = None }) with_predicate
-  pub block : JudgesBlock now.patterns.now j.ok a.1 k
+  pub block : JudgesBlock (language_rules now.patterns.now) j.ok a.1 k
   pub second : IsBeside with_predicate k all
   pub known : after.state.known ≡ j.ok
   pub told : HasWays before after ways all

@@ -1,13 +1,13 @@
 ghost use Rattle.std.specs.Option.{option_map_or};
 ghost use Rattle.std.specs.Prelude.{[], false, is_some, length, map, not, option_map, slice_get, true, ◌++◌, ◌≡◌, ◌≢◌, IfOk, IfSome, IsSomeAnd, IsTrue, List, MatchOption, OnOk, Option, Some, ℕ};
-ghost use Rattle.vrl_builtin.specs.Conditions.{below_if, literals_below, AreGiven as AreAllowed};
+ghost use Rattle.vrl_builtin.specs.Conditions.{below_if, literals_below, AreGiven};
 ghost use Rattle.vrl_builtin.specs.Rows.{literal_at};
 ghost use Rattle.vrl_builtin.specs.View.{given_tree, givens_of as trees_of_givens, parameter_row};
 ghost use Rattle.vrl_check.specs.Calling.{alone_at, call_args, call_bang, call_closure, call_name, callee_codes, callee_parameters, callee_wants, of_code, written, AreTold, HasCodes, IsAnsweredAs, IsBoundCallAs, IsCalledAs, IsDeletedAs, IsFound, IsNamed, IsPassedCallAs, IsTold, IsUnknown, MayBeAsked};
-ghost use Rattle.vrl_check.specs.Judgement.{bound as bound_at, deleted_kind, deleted_path, of_argument, of_arguments, of_closure, of_fault, of_found, places_in, some_has_others as some_have_others, AreGiven, IsAnswered, IsDeletedAt, IsGiven};
+ghost use Rattle.vrl_check.specs.Judgement.{bound as bound_at, deleted_kind, deleted_path, of_argument, of_arguments, of_closure, of_fault, of_found, places_in, some_has_others as some_have_others, AreAskedAbout, IsAnswered, IsDeletedAt, IsAskedAbout};
 ghost use Rattle.vrl_check.specs.Walking.{FormCanBeJudged};
 ghost use Rattle.vrl_diag.specs.declared.diagnostic.Span.{Span as SpecSpan};
-ghost use Rattle.vrl_judge.specs.Calling.{told};
+ghost use Rattle.vrl_judge.specs.Calling.{part_of};
 ghost use Rattle.vrl_judge.specs.Judging.{AreEnds, IsMoved, IsReported};
 ghost use Rattle.vrl_judge.specs.Rules.{argument_at as argument_of, at, Argument as JudgedArgument, IsScalar};
 ghost use Rattle.vrl_kind.specs.Canonical.{any_kind};
@@ -25,7 +25,7 @@ ghost use Rattle.vrl_value.specs.declared.value.Tag.TheVariants as tags;
 use crate::empties::pass_closure;
 use std::alloc::Global;
 use vrl_builtin::{Given, Givens, Parameter, Tags, cut_down};
-use vrl_diag::Span;
+use vrl_diag::{Span, code};
 use vrl_judge::{
     Argument, Checker, Ends, Outcome, either_of, is_disjoint, part_has_others, scalar,
 };
@@ -129,17 +129,17 @@ impl Callee {
         part: &Argument,
     ) -> Result<Option<u16>, Memory>
         requires { slice_get (callee_parameters self) place ≡ Some (parameter_row parameter.now) }
-        ensures { IfOk result (λ code. (g : JudgedArgument) → g.value ≡ expr_of value.now → told g ≡ part.now
+        ensures { IfOk result (λ code. (g : JudgedArgument) → g.value ≡ expr_of value.now → part_of g ≡ part.now
             → of_code code value.now.span ≡ of_argument parameter.now.allowed (callee_wants self place (parameter_row parameter.now) g.value) g) }
     {
         if part.fallible {
-            return Ok(Some(630));
+            return Ok(Some(code::FALLIBLE_ARGUMENT));
         }
         if part.known && is_disjoint(&parameter.allowed, &part.kind) {
-            return Ok(Some(110));
+            return Ok(Some(code::INVALID_ARGUMENT_TYPE));
         }
         if self.is_unwritten(alloc, place, parameter, value)? {
-            return Ok(Some(1013));
+            return Ok(Some(code::LITERAL_OR_PATH_WANTED));
         }
         Ok(None)
     }
@@ -174,7 +174,7 @@ fn call_of_nothing(
     ensures reported { IfOk result (λ outcome. IsReported (at 105 name) checker.old checker.new arguments.ends outcome.ends) }
 {
     let mut ends = arguments.ends;
-    checker.report(&mut ends, true, 105, name)?;
+    checker.report(&mut ends, true, code::UNDEFINED_FUNCTION, name)?;
     let kind = Kind::any(checker.alloc)?;
     Ok(Outcome { kind, ends })
 }
@@ -248,7 +248,7 @@ fn bound_codes(
         &arguments.parts,
         &mut arguments.ends,
     )?;
-    checker.report(&mut arguments.ends, call.closure.is_some(), 1010, span)
+    checker.report(&mut arguments.ends, call.closure.is_some(), code::WRONG_CLOSURE, span)
 }
 
 // The code of a call whose arguments aren't bound. `Memory`: want of memory.
@@ -264,9 +264,9 @@ fn unbound(
         → IsReported (of_fault span js fault) checker.old checker.new ends.old ends.new) }
 {
     match fault {
-        BindFault::Number => checker.report(ends, true, 106, span),
+        BindFault::Number => checker.report(ends, true, code::WRONG_NUMBER_OF_ARGUMENTS, span),
         BindFault::Unknown(place) => report_unknown(checker, ends, args.as_slice(), place),
-        BindFault::Missing(_) => checker.report(ends, true, 107, span),
+        BindFault::Missing(_) => checker.report(ends, true, code::MISSING_ARGUMENT, span),
         BindFault::Memory => Err(Memory),
     }
 }
@@ -281,7 +281,7 @@ fn report_unknown(
     ensures { OnOk result (IsReported (option_map_or (λ arg. at 108 arg.span) (slice_get args.now place) []) checker.old checker.new ends.old ends.new) }
 {
     match args.get(place) {
-        Some(arg) => checker.report(ends, true, 108, arg.span),
+        Some(arg) => checker.report(ends, true, code::UNKNOWN_ARGUMENT_NAME, arg.span),
         None => Ok(()),
     }
 }
@@ -452,7 +452,7 @@ fn existing(checker: &Checker<'_>, arguments: Arguments) -> Result<Outcome, Memo
 
 // The kind of the one argument; any where there is another number. `Memory`: want of memory.
 fn only_kind(alloc: Global, parts: Vec<Argument>) -> Result<Kind, Memory>
-    ensures { IfOk result (λ kind. (js : List JudgedArgument) → parts.items ≡ map told js → kind ≡ deleted_kind false js) }
+    ensures { IfOk result (λ kind. (js : List JudgedArgument) → parts.items ≡ map part_of js → kind ≡ deleted_kind false js) }
 {
     let mut parts = parts;
     let Some(part) = parts.pop() else {
@@ -488,7 +488,7 @@ fn argument_at<'a>(
 
 // Whether the kind of some argument isn't within its parameter's.
 fn some_has_others(parameters: &[Parameter], places: &[Option<usize>], parts: &[Argument]) -> bool
-    ensures { (js : List JudgedArgument) → parts.now ≡ map told js → result ≡ some_have_others (map parameter_row parameters.now) (bound_at places.now js) }
+    ensures { (js : List JudgedArgument) → parts.now ≡ map part_of js → result ≡ some_have_others (map parameter_row parameters.now) (bound_at places.now js) }
 {
     let mut left = parameters;
     let mut bound = places;
@@ -515,7 +515,7 @@ fn givens_of(
     parts: &[Argument],
 ) -> Result<Givens, Memory>
     ensures given { IfOk result (λ givens. (js : List JudgedArgument) → AreTold (args_view args.now) parts.now js
-        → AreGiven (map parameter_row parameters.now) (bound_at places.now js) (trees_of_givens givens)) }
+        → AreAskedAbout (map parameter_row parameters.now) (bound_at places.now js) (trees_of_givens givens)) }
     ensures regexes { IfOk result (λ givens. (count : ℕ) → args_regexes_below count (args_view args.now) ≡ true → literals_below count (trees_of_givens givens) ≡ true) }
 {
     let mut givens = Vec::with_capacity(alloc, parameters.len())?;
@@ -539,7 +539,7 @@ fn given_of(
     parameter: &Parameter,
     argument: Option<(&Arg, &Argument)>,
 ) -> Result<Given, Memory>
-    ensures given { IfOk result (λ given. (g : Option JudgedArgument) → IsFound g (option_map (λ f. (f.0.now, f.1.now)) argument.entry) → IsGiven (parameter_row parameter.now) g (given_tree given)) }
+    ensures given { IfOk result (λ given. (g : Option JudgedArgument) → IsFound g (option_map (λ f. (f.0.now, f.1.now)) argument.entry) → IsAskedAbout (parameter_row parameter.now) g (given_tree given)) }
     ensures regexes { IfOk result (λ given. (count : ℕ) → IfSome argument.entry (λ f. expr_regexes_below count (expr_of f.0.now.value) ≡ true) → below_if count (given_tree given).literal ≡ true) }
 {
     let Some((arg, part)) = argument else {
@@ -628,7 +628,7 @@ fn answer_kind(
     givens: &Givens,
     patterns: &Patterns,
 ) -> Result<Kind, Memory>
-    requires given { AreAllowed (row_of function) (trees_of_givens givens.now) }
+    requires given { AreGiven (row_of function) (trees_of_givens givens.now) }
     requires regexes { IsTrue (literals_below (length patterns.now) (trees_of_givens givens.now)) }
     ensures kind { IfOk result (IsCutOf ((row_of function).kind (trees_of_givens givens.now) patterns.now)) }
     ensures root { IfOk result IsRootKind }

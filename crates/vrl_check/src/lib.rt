@@ -10,10 +10,11 @@ mod closures;
 mod empties;
 mod judged;
 mod laws;
+mod loops;
 mod script;
 mod walk;
 
 pub use closures::holds_closure_call;
 pub use judged::{Ending, Judged};
-pub use laws::{empties_are_counted, judgements_are_determined};
+pub use laws::{empties_are_counted, judgements_are_determined, poisons_have_causes};
 pub use script::{check, ending};

@@ -2,22 +2,25 @@ ghost use Rattle.std.specs.Prelude.{false, length, true, ◌≡◌, IfOk, None};
 ghost use Rattle.vrl_check.specs.Answer.{IsEnding, IsJudged};
 ghost use Rattle.vrl_check.specs.Calls.{exprs_hold_closure_call};
 ghost use Rattle.vrl_check.specs.Judgement.{JudgesScript};
-ghost use Rattle.vrl_check.specs.Walking.{CanBeJudged, IsItemAs, IsScriptAs, ItemsCanBeJudged};
+ghost use Rattle.vrl_check.specs.Walking.{ExprCanBeJudged, IsItemAs, IsScriptAs, ItemsCanBeJudged};
 ghost use Rattle.vrl_judge.specs.Rules.{Judgement};
 ghost use Rattle.vrl_kind.specs.Canonical.{allows_absent};
 ghost use Rattle.vrl_state.specs.Known.{known_as, HaveRootKinds};
 ghost use Rattle.vrl_syntax.specs.Limits.{KeepsLimits};
 ghost use Rattle.vrl_syntax.specs.Regexes.{exprs_regexes_below};
+ghost use Rattle.vrl_syntax.specs.Tree.{Exprs as Items};
 ghost use Rattle.vrl_syntax.specs.View.{expr_of, exprs_of};
+ghost use Rattle.vrl_check.specs.OpenRules.{language_rules};
 
 use crate::judged::{Ending, Judged};
+use crate::loops::dead_loops;
 use crate::walk::expr;
 use std::alloc::Global;
-use vrl_diag::Diagnostics;
+use vrl_diag::{Diagnostics, code};
 use vrl_judge::{Checker, Outcome, either, ordered, scalar};
 use vrl_kind::Kind;
 use vrl_pattern::Patterns;
-use vrl_state::{Branch, Knowns, State};
+use vrl_state::{Branch, State};
 use vrl_syntax::{Empties, Expr, Exprs, Script};
 use vrl_value::{Memory, Tag};
 
@@ -35,7 +38,7 @@ pub fn check(
     requires patterns { patterns.now ≡ script.now.patterns }
     requires regexes { exprs_regexes_below (length patterns.now) (exprs_of script.now.items) ≡ true }
     requires present { allows_absent start.now ≡ false }
-    ensures { IfOk result (λ judged. (j : Judgement) × JudgesScript patterns.now start.now (exprs_of script.now.items) j × IsJudged j judged) }
+    ensures { IfOk result (λ judged. (j : Judgement) × JudgesScript (language_rules patterns.now) start.now (exprs_of script.now.items) j × IsJudged (exprs_of script.now.items) j judged) }
 {
     let state = State::start(alloc, start)?;
     let mut checker = Checker {
@@ -46,6 +49,7 @@ pub fn check(
         empties: Vec::new(alloc),
     };
     let outcome = script_items(&mut checker, &script.items)?;
+    let loops = dead_loops(alloc, &script.items)?;
     let diagnostics = ordered(checker.diagnostics)?;
     let (ok, none) = split(alloc, checker.state)?;
     Ok(Judged {
@@ -54,7 +58,7 @@ pub fn check(
         fail: outcome.ends.fail.unwrap_or(none),
         ret: outcome.ends.ret,
         empties: Empties::new(checker.empties),
-        loops: Knowns::new(Vec::new(alloc)),
+        loops,
         diagnostics: Diagnostics::new(diagnostics),
     })
 }
@@ -74,12 +78,12 @@ fn script_items(checker: &mut Checker<'_>, items: &Exprs) -> Result<Outcome, Mem
 
 // An item of the script itself that may fail is 100.
 fn script_item(checker: &mut Checker<'_>, item: &Expr) -> Result<Outcome, Memory>
-    requires { CanBeJudged checker.old.patterns.now (expr_of item.now) }
+    requires { ExprCanBeJudged checker.old.patterns.now (expr_of item.now) }
     ensures { IfOk result (λ outcome. IsItemAs (expr_of item.now) checker.old checker.new outcome) }
 {
     let part = expr(checker, item)?;
     let fallible = part.is_fallible();
-    checker.reported(part, fallible, 100, item.span)
+    checker.reported(part, fallible, code::UNHANDLED_ERROR, item.span)
 }
 
 // The state as a branch, and a dead one beside it. `Memory`: want of memory.
@@ -99,7 +103,7 @@ fn split(alloc: Global, state: State) -> Result<(Branch, Branch), Memory>
 /// The kind of a script's value, from its end or from a return, and what is known there. `Memory`: want of
 /// memory.
 pub fn ending(alloc: Global, judged: &Judged) -> Result<Ending, Memory>
-    requires { (j : Judgement) × IsJudged j judged.now }
+    requires { (items : Items) × (j : Judgement) × IsJudged items j judged.now }
     ensures { IfOk result (λ ending. IsEnding judged.now ending) }
 {
     let mut state = State::start(alloc, &Kind::never(alloc)?)?;

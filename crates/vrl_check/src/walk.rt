@@ -1,6 +1,6 @@
 ghost use Rattle.std.specs.Prelude.{[], option_map, true, ◌≡◌, IfOk, OnOk, Some};
 ghost use Rattle.vrl_check.specs.Calling.{AreArgumentsAs};
-ghost use Rattle.vrl_check.specs.Walking.{AreBoth, ArgumentsCanBeJudged, ArmsCanBeJudged, CanBeJudged, ElseCanBeJudged, FormCanBeJudged, IsAnywhereAs, IsArmBehind, IsBesideAs, IsBlockAs, IsElseAs, IsGivenAs, IsJudgedAs, IsSequenceAs, ItemsCanBeJudged, PairsCanBeJudged};
+ghost use Rattle.vrl_check.specs.Walking.{AreBoth, ArgumentsCanBeJudged, ArmsCanBeJudged, ExprCanBeJudged, ElseCanBeJudged, FormCanBeJudged, IsAnywhereAs, IsArmBehind, IsBesideAs, IsBlockAs, IsElseAs, IsGivenAs, IsJudgedAs, IsSequenceAs, ItemsCanBeJudged, PairsCanBeJudged};
 ghost use Rattle.vrl_judge.specs.Branching.{AreWays};
 ghost use Rattle.vrl_judge.specs.Judging.{table_rule, AreEnds, HasJudged};
 ghost use Rattle.vrl_judge.specs.Rules.{is_equality, Judgement};
@@ -13,7 +13,7 @@ ghost use Rattle.vrl_syntax.specs.declared.root.Op.TheVariants as ops;
 
 use crate::calls::{Arguments, called};
 use crate::empties::{pass, pass_items};
-use vrl_diag::Span;
+use vrl_diag::{Span, code};
 use vrl_judge::{
     Checker, Ends, Operands, Outcome, Table, Ways, add_field, array_kind, cut_kind_of, is_chained,
     object_kind, read_cut, scalar,
@@ -25,7 +25,7 @@ use vrl_value::{Memory, Tag, Value};
 // Judges an expression. `Memory`: want of memory.
 #[cycle(judge)]
 pub(crate) fn expr(checker: &mut Checker<'_>, expr: &Expr) -> Result<Outcome, Memory>
-    requires { CanBeJudged checker.old.patterns.now (expr_of expr.now) }
+    requires { ExprCanBeJudged checker.old.patterns.now (expr_of expr.now) }
     ensures { IfOk result (λ outcome. IsJudgedAs (expr_of expr.now) checker.old checker.new outcome) }
 {
     if checker.state.is_dead() {
@@ -113,7 +113,7 @@ fn read(checker: &mut Checker<'_>, span: Span, root: &Root, path: &Path) -> Resu
 
 #[cycle(judge)]
 fn query(checker: &mut Checker<'_>, inner: &Expr, path: &Path) -> Result<Outcome, Memory>
-    requires { CanBeJudged checker.old.patterns.now (expr_of inner.now) }
+    requires { ExprCanBeJudged checker.old.patterns.now (expr_of inner.now) }
     ensures { IfOk result (λ outcome. IsAnywhereAs (query_form (expr_of inner.now) path.now) checker.old checker.new outcome) }
 {
     let part = expr(checker, inner)?;
@@ -157,8 +157,8 @@ fn binary(
     left: &Expr,
     right: &Expr,
 ) -> Result<Outcome, Memory>
-    requires left { CanBeJudged checker.old.patterns.now (expr_of left.now) }
-    requires right { CanBeJudged checker.old.patterns.now (expr_of right.now) }
+    requires left { ExprCanBeJudged checker.old.patterns.now (expr_of left.now) }
+    requires right { ExprCanBeJudged checker.old.patterns.now (expr_of right.now) }
     ensures { IfOk result (λ outcome. IsGivenAs span (binary_form op (expr_of left.now) (expr_of right.now)) checker.old checker.new outcome) }
 {
     match op {
@@ -178,7 +178,7 @@ fn binary(
 // `!e`
 #[cycle(judge)]
 fn negation(checker: &mut Checker<'_>, span: Span, inner: &Expr) -> Result<Outcome, Memory>
-    requires { CanBeJudged checker.old.patterns.now (expr_of inner.now) }
+    requires { ExprCanBeJudged checker.old.patterns.now (expr_of inner.now) }
     ensures { IfOk result (λ outcome. IsGivenAs span (negation_form (expr_of inner.now)) checker.old checker.new outcome) }
 {
     let part = expr(checker, inner)?;
@@ -188,8 +188,8 @@ fn negation(checker: &mut Checker<'_>, span: Span, inner: &Expr) -> Result<Outco
 // Judges both operands, the right one where the left one ends with a value.
 #[cycle(judge)]
 fn operands(checker: &mut Checker<'_>, left: &Expr, right: &Expr) -> Result<Operands, Memory>
-    requires left { CanBeJudged checker.old.patterns.now (expr_of left.now) }
-    requires right { CanBeJudged checker.old.patterns.now (expr_of right.now) }
+    requires left { ExprCanBeJudged checker.old.patterns.now (expr_of left.now) }
+    requires right { ExprCanBeJudged checker.old.patterns.now (expr_of right.now) }
     ensures { IfOk result (λ parts. AreBoth (expr_of left.now) (expr_of right.now) checker.old checker.new parts) }
 {
     let left = expr(checker, left)?;
@@ -199,7 +199,7 @@ fn operands(checker: &mut Checker<'_>, left: &Expr, right: &Expr) -> Result<Oper
 // The same where the left one was judged last.
 #[cycle(judge)]
 fn beside(checker: &mut Checker<'_>, left: Outcome, right: &Expr) -> Result<Operands, Memory>
-    requires right { CanBeJudged checker.old.patterns.now (expr_of right.now) }
+    requires right { ExprCanBeJudged checker.old.patterns.now (expr_of right.now) }
     requires ends { AreEnds checker.old.state.scopes left.ends }
     ensures { IfOk result (λ parts. IsBesideAs (expr_of right.now) left checker.old checker.new parts) }
 {
@@ -217,8 +217,8 @@ fn equality(
     right: &Expr,
 ) -> Result<Outcome, Memory>
     requires op { is_equality op ≡ true }
-    requires left { CanBeJudged checker.old.patterns.now (expr_of left.now) }
-    requires right { CanBeJudged checker.old.patterns.now (expr_of right.now) }
+    requires left { ExprCanBeJudged checker.old.patterns.now (expr_of left.now) }
+    requires right { ExprCanBeJudged checker.old.patterns.now (expr_of right.now) }
     ensures { IfOk result (λ outcome. IsGivenAs span (binary_form op (expr_of left.now) (expr_of right.now)) checker.old checker.new outcome) }
 {
     let parts = operands(checker, left, right)?;
@@ -235,8 +235,8 @@ fn of_table(
     right: &Expr,
 ) -> Result<Outcome, Memory>
     requires op { table_of op ≡ Some (table_rule table) }
-    requires left { CanBeJudged checker.old.patterns.now (expr_of left.now) }
-    requires right { CanBeJudged checker.old.patterns.now (expr_of right.now) }
+    requires left { ExprCanBeJudged checker.old.patterns.now (expr_of left.now) }
+    requires right { ExprCanBeJudged checker.old.patterns.now (expr_of right.now) }
     ensures { IfOk result (λ outcome. IsGivenAs span (binary_form op (expr_of left.now) (expr_of right.now)) checker.old checker.new outcome) }
 {
     let parts = operands(checker, left, right)?;
@@ -245,8 +245,8 @@ fn of_table(
 
 #[cycle(judge)]
 fn merge(checker: &mut Checker<'_>, left: &Expr, right: &Expr) -> Result<Outcome, Memory>
-    requires left { CanBeJudged checker.old.patterns.now (expr_of left.now) }
-    requires right { CanBeJudged checker.old.patterns.now (expr_of right.now) }
+    requires left { ExprCanBeJudged checker.old.patterns.now (expr_of left.now) }
+    requires right { ExprCanBeJudged checker.old.patterns.now (expr_of right.now) }
     ensures { IfOk result (λ outcome. IsAnywhereAs (binary_form ops.Merge (expr_of left.now) (expr_of right.now)) checker.old checker.new outcome) }
 {
     let parts = operands(checker, left, right)?;
@@ -262,7 +262,7 @@ fn merge_into(
     path: &Path,
     value: &Expr,
 ) -> Result<Outcome, Memory>
-    requires { CanBeJudged checker.old.patterns.now (expr_of value.now) }
+    requires { ExprCanBeJudged checker.old.patterns.now (expr_of value.now) }
     ensures given { IfOk result (λ outcome. IsAnywhereAs (binary_form ops.Merge (expr_form place (read_form root.now path.now)) (expr_of value.now)) checker.old checker.new outcome) }
     ensures judged { IfOk result (λ outcome. (j : Judgement) × HasJudged checker.old checker.new outcome j) }
 {
@@ -275,8 +275,8 @@ fn merge_into(
 // The right side is judged where the left one may be a boolean.
 #[cycle(judge)]
 fn conjunction(checker: &mut Checker<'_>, left: &Expr, right: &Expr) -> Result<Outcome, Memory>
-    requires left { CanBeJudged checker.old.patterns.now (expr_of left.now) }
-    requires right { CanBeJudged checker.old.patterns.now (expr_of right.now) }
+    requires left { ExprCanBeJudged checker.old.patterns.now (expr_of left.now) }
+    requires right { ExprCanBeJudged checker.old.patterns.now (expr_of right.now) }
     ensures { IfOk result (λ outcome. IsAnywhereAs (binary_form ops.And (expr_of left.now) (expr_of right.now)) checker.old checker.new outcome) }
 {
     let part = expr(checker, left)?;
@@ -289,8 +289,8 @@ fn conjunction(checker: &mut Checker<'_>, left: &Expr, right: &Expr) -> Result<O
 // where the left one is exactly null.
 #[cycle(judge)]
 fn disjunction(checker: &mut Checker<'_>, left: &Expr, right: &Expr) -> Result<Outcome, Memory>
-    requires left { CanBeJudged checker.old.patterns.now (expr_of left.now) }
-    requires right { CanBeJudged checker.old.patterns.now (expr_of right.now) }
+    requires left { ExprCanBeJudged checker.old.patterns.now (expr_of left.now) }
+    requires right { ExprCanBeJudged checker.old.patterns.now (expr_of right.now) }
     ensures { IfOk result (λ outcome. IsAnywhereAs (binary_form ops.Or (expr_of left.now) (expr_of right.now)) checker.old checker.new outcome) }
 {
     let part = expr(checker, left)?;
@@ -307,8 +307,8 @@ fn coalescing(
     left: &Expr,
     right: &Expr,
 ) -> Result<Outcome, Memory>
-    requires left { CanBeJudged checker.old.patterns.now (expr_of left.now) }
-    requires right { CanBeJudged checker.old.patterns.now (expr_of right.now) }
+    requires left { ExprCanBeJudged checker.old.patterns.now (expr_of left.now) }
+    requires right { ExprCanBeJudged checker.old.patterns.now (expr_of right.now) }
     ensures { IfOk result (λ outcome. IsGivenAs span (binary_form ops.Coalesce (expr_of left.now) (expr_of right.now)) checker.old checker.new outcome) }
 {
     let part = expr(checker, left)?;
@@ -316,7 +316,7 @@ fn coalescing(
     let side = checker.left_of_coalescing(part)?;
     let other = expr(checker, right)?;
     let both = checker.coalesced(side, other)?;
-    checker.reported(both, needless, 651, span)
+    checker.reported(both, needless, code::UNNECESSARY_ERROR_COALESCING, span)
 }
 
 // Each branch is judged behind all predicates before it.
@@ -341,7 +341,7 @@ fn conditional(
 // A predicate and its block, beside the ways before them.
 #[cycle(judge)]
 fn add_arm(checker: &mut Checker<'_>, ways: &mut Ways, arm: &Arm) -> Result<(), Memory>
-    requires predicate { CanBeJudged checker.old.patterns.now (arm_of arm.now).0 }
+    requires predicate { ExprCanBeJudged checker.old.patterns.now (arm_of arm.now).0 }
     requires block { ItemsCanBeJudged checker.old.patterns.now (arm_of arm.now).1 }
     requires ways { AreWays checker.old.state.scopes ways.old }
     ensures { OnOk result (IsArmBehind (arm_of arm.now) ways.old checker.old checker.new ways.new) }
@@ -381,7 +381,7 @@ fn assignment(
     value: &Expr,
 ) -> Result<Outcome, Memory>
     requires target { target_faults target.now ≡ [] }
-    requires value { CanBeJudged checker.old.patterns.now (expr_of value.now) }
+    requires value { ExprCanBeJudged checker.old.patterns.now (expr_of value.now) }
     ensures { IfOk result (λ outcome. IsGivenAs span (assign_form target.now (expr_of value.now)) checker.old checker.new outcome) }
 {
     let part = expr(checker, value)?;
@@ -397,13 +397,13 @@ fn merge_assignment(
     value: &Expr,
 ) -> Result<Outcome, Memory>
     requires target { target_faults target.now ≡ [] }
-    requires value { CanBeJudged checker.old.patterns.now (expr_of value.now) }
+    requires value { ExprCanBeJudged checker.old.patterns.now (expr_of value.now) }
     ensures { IfOk result (λ outcome. IsGivenAs span (merge_form target.now (expr_of value.now)) checker.old checker.new outcome) }
 {
     match target {
         Target::Nowhere => {
             let part = expr(checker, value)?;
-            checker.reported(part, true, 640, span)
+            checker.reported(part, true, code::NO_OP_ASSIGNMENT, span)
         }
         Target::Place(place, root, path) => {
             let whole = merge_into(checker, *place, root, path, value)?;
@@ -424,7 +424,7 @@ fn error_assignment(
 ) -> Result<Outcome, Memory>
     requires ok { target_faults ok.now ≡ [] }
     requires err { target_faults err.now ≡ [] }
-    requires value { CanBeJudged checker.old.patterns.now (expr_of value.now) }
+    requires value { ExprCanBeJudged checker.old.patterns.now (expr_of value.now) }
     ensures { IfOk result (λ outcome. IsGivenAs span (both_form ok.now err.now (expr_of value.now)) checker.old checker.new outcome) }
 {
     let place = checker.empties.len();
@@ -461,7 +461,7 @@ fn arguments(checker: &mut Checker<'_>, args: &Args) -> Result<Arguments, Memory
 
 #[cycle(judge)]
 fn return_with(checker: &mut Checker<'_>, value: &Expr) -> Result<Outcome, Memory>
-    requires { CanBeJudged checker.old.patterns.now (expr_of value.now) }
+    requires { ExprCanBeJudged checker.old.patterns.now (expr_of value.now) }
     ensures { IfOk result (λ outcome. IsAnywhereAs (return_form (expr_of value.now)) checker.old checker.new outcome) }
 {
     let part = expr(checker, value)?;
@@ -478,7 +478,7 @@ fn abort(checker: &mut Checker<'_>) -> Result<Outcome, Memory>
 // A message that may fail, or isn't exactly a text, is 1011.
 #[cycle(judge)]
 fn abort_with(checker: &mut Checker<'_>, message: &Expr) -> Result<Outcome, Memory>
-    requires { CanBeJudged checker.old.patterns.now (expr_of message.now) }
+    requires { ExprCanBeJudged checker.old.patterns.now (expr_of message.now) }
     ensures { IfOk result (λ outcome. IsAnywhereAs (abort_form (message_form (expr_of message.now))) checker.old checker.new outcome) }
 {
     let part = expr(checker, message)?;

@@ -21,7 +21,7 @@ use Rattle.vrl_builtin.specs.Rows.{SettingTree}
 use Rattle.vrl_store.specs.Operators.{is_true}
 use Rattle.vrl_store.specs.Outcomes.{Outcome, value, error, aborted, returned, banged, deep, Ended, block_left, ends, on_value}
 use Rattle.vrl_store.specs.WellFormed.{AreWellFormedArms, AreWellFormedExprs, IsWellFormedElse, IsWellFormedStore}
-use Rattle.vrl_judge.specs.Rules.{Judgement, IsScalar, gives, kept, left, nothing, of_predicate, settle, with_codes}
+use Rattle.vrl_judge.specs.Rules.{Judgement, IsScalar, gives, without_new_names, left, nothing, of_predicate, settle, with_codes}
 use Rattle.vrl_check.specs.Judgement.{IsBeside, span_of}
 use Rattle.vrl_resolve.specs.Meaning.{eval, eval_arms, eval_else, eval_items}
 use Rattle.vrl_compile.specs.Sound.{HasNoError, IsSoundEnd, IsSoundOutcome}
@@ -50,14 +50,14 @@ module _ {X : Type 0} where
   at_kept m test x = map.get-retain_keys m test x (λ y tie. ap test (sym (slice_cmp-IsAntisymmetric nat_cmp-IsAntisymmetric x y tie)))
 
 -- what was known before is known behind the block, of the store that held it before
-kept_fits : (known end : RootMap) (before after : Store) → FitsMap before known → FitsMap after end → FitsMap (store_kept before after) (kept known end)
+kept_fits : (known end : RootMap) (before after : Store) → FitsMap before known → FitsMap after end → FitsMap (store_kept before after) (without_new_names known end)
 kept_fits known end before after first fits = record {
   event = fits.event;
   variables = λ x. rw (at_kept after.variables (λ y. map.contains_key before.variables y) x, at_kept end.variables (λ y. map.contains_key known.variables y) x)
       (kept_kind (map.get after.variables x) (map.get end.variables x) (map.contains_key before.variables x) (map.contains_key known.variables x) (known_is_there (map.get before.variables x) (map.get known.variables x) (first.variables x)) (fits.variables x));
 }
 
-left_fits : (known : RootMap) (end : Option RootMap) (before after : Store) → FitsMap before known → FitsKnown after end → FitsKnown (store_kept before after) (option_map (kept known) end)
+left_fits : (known : RootMap) (end : Option RootMap) (before after : Store) → FitsMap before known → FitsKnown after end → FitsKnown (store_kept before after) (option_map (without_new_names known) end)
 left_fits known None before after first fits = absurd fits
 left_fits known (Some end) before after first fits = kept_fits known end before after first fits
 

@@ -14,13 +14,13 @@ use Rattle.vrl_syntax.specs.Calls.{literal_of}
 use Rattle.vrl_kind.specs.KindTree.{KindTree}
 use Rattle.vrl_kind.specs.Kinds.{root_tags, step_tag, tags_at, Inhabits}
 use Rattle.vrl_kind.specs.Tags.{Tags, all_tags}
-use Rattle.vrl_builtin.specs.Conditions.{arguments_below, below_if, AreArguments, AreArgumentsFrom, AreGiven as AreAllowed, AreGivenFrom as AreAllowedFrom, IsArgument, IsGiven as IsAllowed, IsLiteral, IsThere}
+use Rattle.vrl_builtin.specs.Conditions.{arguments_below, below_if, AreArguments, AreArgumentsFrom, AreGiven, AreGivenFrom, IsArgument, IsGiven, IsLiteral, IsThere}
 use Rattle.vrl_builtin.specs.Law.{AreInstances, IsOfGiven}
 use Rattle.vrl_builtin.specs.Rows.{GivenTree, ParameterRow, Row, argument_at as value_at, held, kind_at, literal_at}
 use Rattle.vrl_builtin.specs.TagSets.{allows}
 use Rattle.vrl_builtin.specs.declared.tags.Tags.{Tags as TagSet}
 use Rattle.vrl_judge.specs.Rules.{Argument, argument_at, has_others, some_tag}
-use Rattle.vrl_check.specs.Judgement.{bound, some_has_others, wants_literal, AreGiven, IsCutDown, IsGiven}
+use Rattle.vrl_check.specs.Judgement.{bound, some_has_others, wants_literal, AreAskedAbout, IsCutDown, IsAskedAbout}
 use Rattle.vrl_resolve.specs.Calls.{argument_in, first_unfit, or_others, unfit_tag}
 use Rattle.vrl_compile.proofs.SoundArguments.{AreValuesOf, IsValueOf}
 use Rattle.vrl_compile.proofs.SoundBound.{ArePresent, AreWritten}
@@ -141,7 +141,7 @@ none_unfit count i (p ∷ ps) (Some g ∷ gs) all (Some v ∷ ws) tail same none
 
 -- of one parameter, by what is known of its argument and by its value
 record IsMet (accepts : Tree → Bool) (count : ℕ) (p : ParameterRow) (given : GivenTree) (w : Option Tree) : Type 0 where
-  allowed : IsAllowed p accepts given.kind given.literal
+  allowed : IsGiven p accepts given.kind given.literal
   argument : IsArgument p accepts w
   instance : IsOfGiven given.kind w
   literal : IfSome given.literal (λ v. w ≡ Some v)
@@ -168,7 +168,7 @@ value_allowed true accepts None v is same = absurd (false≢true is.0)
 value_allowed true accepts (Some u) v is same = (refl, subst (λ x. IsTrue (accepts x)) (sym same) is.1)
 value_allowed false accepts l v is same = tt
 
-one_met : (count : ℕ) (r : Row) (i : ℕ) (p : ParameterRow) (g : Option Argument) (given : GivenTree) (w : Option Tree) → (p.required && is_none g) ≡ false → IfSome g (λ a. wants_literal r i p a.value ≡ false) → IsGiven p g given → IsValueIf count g w
+one_met : (count : ℕ) (r : Row) (i : ℕ) (p : ParameterRow) (g : Option Argument) (given : GivenTree) (w : Option Tree) → (p.required && is_none g) ≡ false → IfSome g (λ a. wants_literal r i p a.value ≡ false) → IsAskedAbout p g given → IsValueIf count g w
     → unfit_tag p w ≡ None → IsMet (r.accepts i) count p given w
 one_met count r i p None given None present written is value fits =
     subst (λ (x : GivenTree). IsMet (r.accepts i) count p x None) (sym is) (record {
@@ -199,7 +199,7 @@ AreMet accepts count i [] [] [] = ⊤
 AreMet accepts count i (p ∷ ps) (given ∷ givens) (w ∷ ws) = IsMet (accepts i) count p given w × AreMet accepts count (suc i) ps givens ws
 AreMet accepts count i ps givens ws = ⊥
 
-are_met : (count : ℕ) (r : Row) (i : ℕ) (ps : List ParameterRow) (gs : List (Option Argument)) (givens : List GivenTree) (ws : List (Option Tree)) → length gs ≡ length ps → ArePresent ps gs → AreWritten (wants_literal r) i ps gs → AreGiven ps gs givens
+are_met : (count : ℕ) (r : Row) (i : ℕ) (ps : List ParameterRow) (gs : List (Option Argument)) (givens : List GivenTree) (ws : List (Option Tree)) → length gs ≡ length ps → ArePresent ps gs → AreWritten (wants_literal r) i ps gs → AreAskedAbout ps gs givens
     → AreValuesIf count gs ws → AllFit ps ws → AreMet r.accepts count i ps givens ws
 are_met count r i [] [] givens [] same present written given values fit = subst (λ x. AreMet r.accepts count i [] x []) (sym given) tt
 are_met count r i [] [] givens (w ∷ ws) same present written given values fit = absurd values
@@ -211,12 +211,12 @@ are_met count r i (p ∷ ps) (g ∷ gs) (x ∷ givens) (w ∷ ws) same present w
     (one_met count r i p g x w present.0 written.0 given.0 values.0 fit.0, are_met count r (suc i) ps gs givens ws (omega arith) present.1 written.1 given.1 values.1 fit.1)
 
 -- what is known is allowed
-met_allowed : (accepts : ℕ → Tree → Bool) (count i : ℕ) (ps : List ParameterRow) (givens : List GivenTree) (ws : List (Option Tree)) (all : List GivenTree) → IsTail i all givens → AreMet accepts count i ps givens ws → AreAllowedFrom i ps accepts all
+met_allowed : (accepts : ℕ → Tree → Bool) (count i : ℕ) (ps : List ParameterRow) (givens : List GivenTree) (ws : List (Option Tree)) (all : List GivenTree) → IsTail i all givens → AreMet accepts count i ps givens ws → AreGivenFrom i ps accepts all
 met_allowed accepts count i [] givens ws all tail met = tt
 met_allowed accepts count i (p ∷ ps) [] ws all tail met = absurd met
 met_allowed accepts count i (p ∷ ps) (x ∷ givens) [] all tail met = absurd met
 met_allowed accepts count i (p ∷ ps) (x ∷ givens) (w ∷ ws) all tail met = (
-  subst (λ (o : Option GivenTree). IsAllowed p (accepts i) (held (option_map (λ g. g.kind) o)) (held (option_map (λ g. g.literal) o))) (sym (tail_here i all givens x tail)) met.0.allowed,
+  subst (λ (o : Option GivenTree). IsGiven p (accepts i) (held (option_map (λ g. g.kind) o)) (held (option_map (λ g. g.literal) o))) (sym (tail_here i all givens x tail)) met.0.allowed,
   met_allowed accepts count (suc i) ps givens ws all (tail_next i all givens x tail) met.1,
 )
 
@@ -254,14 +254,14 @@ met_below accepts count i (p ∷ ps) [] (w ∷ ws) met = absurd met
 met_below accepts count i (p ∷ ps) (x ∷ givens) (w ∷ ws) met = and_from _ _ met.0.below (met_below accepts count (suc i) ps givens ws met.1)
 
 pub record MeetsRow (count : ℕ) (r : Row) (givens : List GivenTree) (ws : List (Option Tree)) : Type 0 where
-  pub allowed : AreAllowed r givens
+  pub allowed : AreGiven r givens
   pub arguments : AreArguments r ws
   pub instances : AreInstances givens ws
   pub below : IsTrue (arguments_below count ws)
 
 -- where no code stands on the arguments and each value has a tag that its parameter allows, the function's law may be asked
 pub meets_row : (count : ℕ) (r : Row) (gs : List (Option Argument)) (givens : List GivenTree) (ws : List (Option Tree)) → length gs ≡ length r.parameters → ArePresent r.parameters gs → AreWritten (wants_literal r) 0 r.parameters gs
-    → AreGiven r.parameters gs givens → AreValuesIf count gs ws → first_unfit 0 r.parameters ws ≡ None → MeetsRow count r givens ws
+    → AreAskedAbout r.parameters gs givens → AreValuesIf count gs ws → first_unfit 0 r.parameters ws ≡ None → MeetsRow count r givens ws
 meets_row count r gs givens ws same present written given values none =
     let met = are_met count r 0 r.parameters gs givens ws same present written given values (all_fit 0 r.parameters ws ws (whole_tail ws) none) in
     record {

@@ -24,7 +24,7 @@ use Rattle.vrl_builtin.specs.Rows.{SettingTree}
 use Rattle.vrl_store.specs.Outcomes.{Outcome, value, error, returned, deep, Ended, ends}
 use Rattle.vrl_store.specs.Places.{is_within, root_value, root_with, writes_to}
 use Rattle.vrl_store.specs.WellFormed.{IsWellFormedEnded, IsWellFormedExpr}
-use Rattle.vrl_judge.specs.Rules.{IsScalar, IsWritten, Judgement, at, empty_tag, of_assignment, of_error_assignment, with_codes}
+use Rattle.vrl_judge.specs.Rules.{IsScalar, IsTargetWritten, Judgement, at, empty_tag, of_assignment, of_error_assignment, with_codes}
 use Rattle.vrl_resolve.specs.Meaning.{assigned, both_assigned, eval, written_both}
 use Rattle.vrl_compile.specs.Sound.{IsSoundEnd, IsSoundOutcome}
 use Rattle.vrl_compile.proofs.SoundValues.{of_own_kind, scalar_is}
@@ -41,7 +41,7 @@ write_fits laws root path N v known after store is fits of_kind =
     laws.writes root (plain path) N v known after store (with_value root (root_with root path v store) store) is fits of_kind (record { value = root_with root path v store; set = set.0; store = refl })
 
 -- what follows a write of a value of the kind that was judged to be written
-sound_written : Laws → (j : Judgement) (t : Target) (N : KindTree) (known after : Option RootMap) (v : Tree) (store : Store) (next : Store → Ended) → IsWritten t N known after → FitsKnown store known → Inhabits v N
+sound_written : Laws → (j : Judgement) (t : Target) (N : KindTree) (known after : Option RootMap) (v : Tree) (store : Store) (next : Store → Ended) → IsTargetWritten t N known after → FitsKnown store known → Inhabits v N
     → ((end : Store) → FitsKnown end after → IsSoundEnd j (next end)) → IsSoundEnd j (writes_to t v store next)
 sound_written laws j Nowhere N known after v store next is fits of_kind behind = behind store (subst (FitsKnown store) (sym is) fits)
 sound_written laws j (Place span root path) N known after v store next is fits of_kind behind =
@@ -51,21 +51,21 @@ sound_written laws j (Place span root path) N known after v store next is fits o
 -- ---- `t = e` and `t |= e`
 
 -- behind the expression
-sound_assigned : Laws → (count : ℕ) (t : Target) (j : Judgement) (ok : Option RootMap) (ds : List Diagnostic) (given : Ended) → IsWritten t j.kind j.ok ok → IsSoundEnd j given → IsWellFormedEnded count given
+sound_assigned : Laws → (count : ℕ) (t : Target) (j : Judgement) (ok : Option RootMap) (ds : List Diagnostic) (given : Ended) → IsTargetWritten t j.kind j.ok ok → IsSoundEnd j given → IsWellFormedEnded count given
     → IsSoundEnd (with_codes ds (record j { ok = ok })) (assigned t given)
 sound_assigned laws count t j ok ds given is sound well =
     let whole = with_codes ds (record j { ok = ok }) in
     sound_on_value count j whole given (λ v after. writes_to t v after (λ end. ends (value v) end)) (ends_alike j whole refl refl refl) sound well
     (λ v after came. sound_written laws whole t j.kind j.ok ok v after (λ end. ends (value v) end) is came.ok came.kind (λ end fits. (came.kind, fits)))
 
-pub assignment_is_sound : Laws → (setting : SettingTree) (known : RootMap) (span : Span) (t : Target) (e : Expr) (j : Judgement) (ok : Option RootMap) → IsWritten t j.kind j.ok ok → IsSoundPart setting (Some known) e j
+pub assignment_is_sound : Laws → (setting : SettingTree) (known : RootMap) (span : Span) (t : Target) (e : Expr) (j : Judgement) (ok : Option RootMap) → IsTargetWritten t j.kind j.ok ok → IsSoundPart setting (Some known) e j
     → IsSoundForm setting known (assign t e) (with_codes (of_assignment span t j) (record j { ok = ok }))
 assignment_is_sound laws setting known span t e j ok is part none well rest store stored fits =
     let run = as_run laws setting (Some known) e j rest well (part (no_error_parts j.codes (of_assignment span t j) none).0 well) in
     sound_assigned laws (length setting.sources) t j ok (of_assignment span t j) (eval setting (j.empties ++ rest) e store) is (run.sound store stored fits) (run.kept store stored)
 
 -- judged as the assignment of the merge of what stands there and the expression
-pub merge_assignment_is_sound : Laws → (setting : SettingTree) (known : RootMap) (span s : Span) (root : Root) (path : List Step) (e : Expr) (j : Judgement) (ok : Option RootMap) → IsWritten (Place s root path) j.kind j.ok ok
+pub merge_assignment_is_sound : Laws → (setting : SettingTree) (known : RootMap) (span s : Span) (root : Root) (path : List Step) (e : Expr) (j : Judgement) (ok : Option RootMap) → IsTargetWritten (Place s root path) j.kind j.ok ok
     → IsSoundPart setting (Some known) (expr span (binary op.Merge (expr s (read root path)) e)) j
     → IsSoundForm setting known (merge (Place s root path) e) (with_codes (of_assignment span (Place s root path) j) (record j { ok = ok }))
 merge_assignment_is_sound laws setting known span s root path e j ok is part none well rest store stored fits =
@@ -81,7 +81,7 @@ merge_into_nothing_is_sound setting known span e j none well rest store stored f
 -- ---- `ok, err = e`
 
 -- both targets are written, one behind the other
-sound_written_both : Laws → (j : Judgement) (t u : Target) (K L : KindTree) (known between after : Option RootMap) (v w : Tree) (store : Store) → IsWritten t K known between → IsWritten u L between after → FitsKnown store known
+sound_written_both : Laws → (j : Judgement) (t u : Target) (K L : KindTree) (known between after : Option RootMap) (v w : Tree) (store : Store) → IsTargetWritten t K known between → IsTargetWritten u L between after → FitsKnown store known
     → Inhabits v K → Inhabits w L → ((end : Store) → FitsKnown end after → Inhabits v j.kind × FitsKnown end j.ok) → IsSoundEnd j (written_both t u v w store)
 sound_written_both laws j t u K L known between after v w store first second fits of_first of_second behind =
     sound_written laws j t K known between v store (λ mid. writes_to u w mid (λ end. ends (value v) end)) first fits of_first
@@ -98,10 +98,10 @@ record AreJudgedSo (t u : Target) (j : Judgement) (E K : KindTree) (ok : Option 
   given_both : Option RootMap
   failed : Option RootMap
   failed_both : Option RootMap
-  given_first : IsWritten t j.kind j.ok given
-  given_second : IsWritten u N given given_both
-  failed_first : IsWritten t E j.fail failed
-  failed_second : IsWritten u T failed failed_both
+  given_first : IsTargetWritten t j.kind j.ok given
+  given_second : IsTargetWritten u N given given_both
+  failed_first : IsTargetWritten t E j.fail failed
+  failed_second : IsTargetWritten u T failed failed_both
   joined : IsJoined given_both failed_both ok
 
 sound_both : Laws → (t u : Target) (empty : Tag) (j : Judgement) (E K : KindTree) (ok : Option RootMap) (ds : List Diagnostic) (tags : List Tag) (outcome : Outcome) (store : Store) → Inhabits (empty_value empty) E → AreJudgedSo t u j E K ok
@@ -119,7 +119,7 @@ sound_both laws t u empty j E K ok ds tags other store of_empty judged sound = t
 
 pub error_assignment_is_sound : Laws → (setting : SettingTree) (known : RootMap) (span : Span) (t u : Target) (e : Expr) (j : Judgement) (E K N T : KindTree) (given given_both failed failed_both ok : Option RootMap)
     → IsCutOf (found_at (empty_value (empty_tag j.kind))) E → IsEither j.kind E K → IsScalar tag.Null N → IsScalar tag.Text T
-    → IsWritten t j.kind j.ok given → IsWritten u N given given_both → IsWritten t E j.fail failed → IsWritten u T failed failed_both → IsJoined given_both failed_both ok → IsSoundPart setting (Some known) e j
+    → IsTargetWritten t j.kind j.ok given → IsTargetWritten u N given given_both → IsTargetWritten t E j.fail failed → IsTargetWritten u T failed failed_both → IsJoined given_both failed_both ok → IsSoundPart setting (Some known) e j
     → IsSoundForm setting known (both t u e) (with_codes (of_error_assignment span t u j K) (record j { kind = K; ok = ok; fail = None; empties = empty_tag j.kind ∷ j.empties }))
 error_assignment_is_sound laws setting known span t u e j E K N T given given_both failed failed_both ok empty kind null_kind text_kind given_first given_second failed_first failed_second joined part none well rest store stored fits =
     let ended = eval setting (j.empties ++ rest) e store in

@@ -13,7 +13,7 @@ use Rattle.vrl_state.specs.States.{IsCutOf, IsEither, IsPresent, RootMap}
 use Rattle.vrl_judge.specs.Assigning.{AreAssigned}
 use Rattle.vrl_syntax.specs.ErrorAssignments.{empty_value}
 use Rattle.vrl_diag.specs.Refusal.{is_error}
-use Rattle.vrl_judge.specs.Rules.{Judgement, at, empty_tag, is_no_event, is_nowhere, of_assignment, of_error_assignment, when, with_codes, IsWritten}
+use Rattle.vrl_judge.specs.Rules.{Judgement, at, empty_tag, is_no_event, is_nowhere, of_assignment, of_error_assignment, when, with_codes, IsTargetWritten}
 use Rattle.vrl_judge.specs.Judging.{known_on, AreBothWritten, AreEnds, HasEnds, HasJudged, IsAssignedAs, IsMoved, IsReported, IsWay}
 use Rattle.vrl_judge.specs.Seen.{seen}
 use Rattle.vrl_judge.specs.declared.checker.Checker.{Checker}
@@ -38,8 +38,8 @@ moved_judged before now after part j has moved = record {
   gathered = gathered_moved before now after j has.gathered moved;
 }
 
-pub written_at : (target : Target) (K L : KindTree) (a a' b : Option RootMap) → K ≡ L → a ≡ a' → IsWritten target K a b → IsWritten target L a' b
-written_at target K L a a' b same before is = subst (λ M. IsWritten target M a' b) same (subst (λ s. IsWritten target K s b) before is)
+pub written_at : (target : Target) (K L : KindTree) (a a' b : Option RootMap) → K ≡ L → a ≡ a' → IsTargetWritten target K a b → IsTargetWritten target L a' b
+written_at target K L a a' b same before is = subst (λ M. IsTargetWritten target M a' b) same (subst (λ s. IsTargetWritten target K s b) before is)
 
 -- the codes of an assignment, by what the walk tests
 pub codes_of : Span → Target → Bool → Bool → List Diagnostic
@@ -56,7 +56,7 @@ codes_are span target before now part j fallible no_event has is event =
 pub assigned_told : (span : Span) (target : Target) (now told after : Checker) (part : Outcome) (ends : Ends) (fallible no_event : Bool) → fallible ≡ is_some part.ends.fail
     → no_event ≡ ((is_some now.state.known && not part.ends.poisoned) && is_no_event target part.kind)
     → IsReported (when fallible (at 103 span) ++ (when (is_nowhere target) (at 640 span) ++ when no_event (at 1006 span))) now told part.ends ends
-    → IsWritten target part.kind told.state.known after.state.known → IsMoved told after
+    → IsTargetWritten target part.kind told.state.known after.state.known → IsMoved told after
     → IsAssignedAs span target part now after (record { kind = part.kind; ends = ends })
 unfolding codes_of
 assigned_told span target now told after part ends fallible no_event is event reported written moved = λ before j has.
@@ -72,7 +72,7 @@ assigned_told span target now told after part ends fallible no_event is event re
 pub assigned_judged : (span : Span) (target : Target) (now b c told after : Checker) (part : Outcome) (first second ends : Ends) (fallible nowhere no_event : Bool) → fallible ≡ is_some part.ends.fail → nowhere ≡ is_nowhere target
     → no_event ≡ ((is_some now.state.known && not part.ends.poisoned) && is_no_event target part.kind)
     → IsReported (when fallible (at 103 span)) now b part.ends first → IsReported (when nowhere (at 640 span)) b c first second → IsReported (when no_event (at 1006 span)) c told second ends
-    → IsWritten target part.kind told.state.known after.state.known → IsMoved told after
+    → IsTargetWritten target part.kind told.state.known after.state.known → IsMoved told after
     → IsAssignedAs span target part now after (record { kind = part.kind; ends = ends })
 assigned_judged span target now b c told after part first second ends fallible nowhere no_event is none event one two three written moved =
     assigned_told span target now told after part ends fallible no_event is event

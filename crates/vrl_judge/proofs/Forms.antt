@@ -11,7 +11,7 @@ use Rattle.vrl_path.specs.declared.path.Step.{Step}
 use Rattle.vrl_state.specs.States.{kept as kept_by, knows, IsCutOf, IsLeft, IsRootKind, RootMap, Scope}
 use Rattle.vrl_value.specs.declared.value.Tag.{Tag}
 use Rattle.vrl_judge.specs.Branching.{IsOrFail}
-use Rattle.vrl_judge.specs.Rules.{Judgement, IsMerged, IsMergedIf, IsReadAt, IsScalar, at, gives, if_state, is_other, kept, left, no_objects, of_pairs, scalars_at, settled_kind, some_pair, table_tags, with_codes, when}
+use Rattle.vrl_judge.specs.Rules.{Judgement, IsMerged, IsMergedIf, IsReadAt, IsScalar, at, gives, if_state, is_other, without_new_names, left, no_objects, of_pairs, scalars_at, settled_kind, some_pair, table_tags, with_codes, when}
 use Rattle.vrl_judge.specs.Judging.{AreEnds, AreJoinedEnds, AreLeftEnds, ArePairedAs, HasEnds, HasGathered, HasJudged, IsBlockEndAs, IsCombinedAs, IsEquatedAs, IsMergedAs, IsMoved, IsNegatedAs, IsReadOffAs, IsReported, IsSettledAs, known_on, no_ends, settled_ends, table_rule}
 use Rattle.vrl_judge.specs.declared.checker.Checker.{Checker}
 use Rattle.vrl_judge.specs.declared.ends.Ends.{Ends}
@@ -58,7 +58,7 @@ read_off path part now K at_path before j has =
 -- ---- blocks
 
 -- what a block keeps is told alike
-pub kept_all : (scope : Scope) (known : RootMap) (there : Option RootMap) → ((x : List ℕ) → set.contains scope.known x ≡ knows (Some known) x) → option_map (kept_by scope) there ≡ option_map (kept known) there
+pub kept_all : (scope : Scope) (known : RootMap) (there : Option RootMap) → ((x : List ℕ) → set.contains scope.known x ≡ knows (Some known) x) → option_map (kept_by scope) there ≡ option_map (without_new_names known) there
 kept_all scope known None names = refl
 kept_all scope known (Some roots) names = ap Some (kept_is scope known roots names)
 

@@ -9,7 +9,7 @@ use Rattle.vrl_kind.specs.KindTree.{KindTree}
 use Rattle.vrl_state.specs.States.{kept as kept_by, knows, IsEither, IsJoined, RootMap, Scope, State}
 use Rattle.vrl_judge.specs.Returns.{return_kind, return_state, returning}
 use Rattle.vrl_diag.specs.Refusal.{is_error}
-use Rattle.vrl_judge.specs.Rules.{Judgement, IsBehind, IsThen, if_state, is_alive, kept, left, settle, settled_kind, with_codes}
+use Rattle.vrl_judge.specs.Rules.{Judgement, IsBehind, IsThen, if_state, is_alive, without_new_names, left, settle, settled_kind, with_codes}
 use Rattle.vrl_judge.specs.Judging.{known_on, settled_ends, AreEnds, AreJoinedEnds, AreLeftEnds, HasEnds, HasGathered, HasJudged, IsMoved, IsReported, IsReturnIn, IsWay}
 use Rattle.vrl_judge.specs.declared.checker.Checker.{Checker}
 use Rattle.vrl_judge.specs.declared.ends.Ends.{Ends}
@@ -229,14 +229,14 @@ settled_judged before after part settled alive j has reached kind ends = record 
 -- ---- blocks
 
 -- the names that a block keeps are those that were known where it began
-pub kept_is : (scope : Scope) (known roots : RootMap) → ((x : List ℕ) → set.contains scope.known x ≡ knows (Some known) x) → kept_by scope roots ≡ kept known roots
+pub kept_is : (scope : Scope) (known roots : RootMap) → ((x : List ℕ) → set.contains scope.known x ≡ knows (Some known) x) → kept_by scope roots ≡ without_new_names known roots
 kept_is scope known roots names = ap (λ test. record roots { variables = map.retain_keys roots.variables test }) (fun_ext names)
 
 -- a block ends at all ends
 pub left_ends : (scope : Scope) (scopes : List Scope) (known : RootMap) (before after : Ends) (j : Judgement) → ((x : List ℕ) → set.contains scope.known x ≡ knows (Some known) x)
     → HasEnds (scope ∷ scopes) before j → AreLeftEnds scope scopes before after → HasEnds scopes after (left known j)
 left_ends scope scopes known before after j names has gone =
-    let same : (known_there : Option RootMap) → option_map (kept_by scope) known_there ≡ option_map (kept known) known_there = same_there in
+    let same : (known_there : Option RootMap) → option_map (kept_by scope) known_there ≡ option_map (without_new_names known) known_there = same_there in
     record {
       are = record {
         fail = kept_way scopes (option_map (kept_by scope) (known_on before.fail)) after.fail gone.fail;
@@ -248,7 +248,7 @@ left_ends scope scopes known before after j names has gone =
       poisoned = gone.poisoned ∙ has.poisoned;
     }
   where
-    same_there : (known_there : Option RootMap) → option_map (kept_by scope) known_there ≡ option_map (kept known) known_there
+    same_there : (known_there : Option RootMap) → option_map (kept_by scope) known_there ≡ option_map (without_new_names known) known_there
     same_there None = refl
     same_there (Some roots) = ap Some (kept_is scope known roots names)
 

@@ -10,8 +10,8 @@ use Rattle.vrl_judge.specs.declared.outcome.Outcome.{Outcome}
 -- ---- arguments that were judged
 
 -- what is kept of an argument
-abbrev pub told : Argument → CodeArgument
-told g = record { kind = g.judged.kind; fallible = is_fallible g.judged; known = is_known g.judged }
+abbrev pub part_of : Argument → CodeArgument
+part_of g = record { kind = g.judged.kind; fallible = is_fallible g.judged; known = is_known g.judged }
 
 -- ---- what is called
 

@@ -10,7 +10,7 @@ use Rattle.vrl_kind.specs.KindTree.{KindTree}
 use Rattle.vrl_state.specs.States.{IsCutOf, IsEither, IsEntered, IsJoined, IsRootKind, kept as kept_by, RootMap, Scope, State}
 use Rattle.vrl_judge.specs.Returns.{return_kind, return_state, returning}
 use Rattle.vrl_diag.specs.Refusal.{is_error}
-use Rattle.vrl_judge.specs.Rules.{Judgement, IsMerged, IsReadAt, IsScalar, IsThen, IsWritten, at, if_state, is_other, left as left_behind, no_objects, number_tag, of_assignment, of_pairs, order_tag, scalars_at, settle, some_pair, sum_tag, table_tags, when, with_codes}
+use Rattle.vrl_judge.specs.Rules.{Judgement, IsMerged, IsReadAt, IsScalar, IsThen, IsTargetWritten, at, if_state, is_other, left as left_behind, no_objects, number_tag, of_assignment, of_pairs, order_tag, scalars_at, settle, some_pair, sum_tag, table_tags, when, with_codes}
 use Rattle.vrl_judge.specs.declared.checker.Checker.{Checker}
 use Rattle.vrl_judge.specs.declared.ends.Ends.{Ends}
 use Rattle.vrl_judge.specs.declared.ends.Returned.{Returned}
@@ -188,13 +188,13 @@ IsMergedAs left_span right_span parts now after outcome = (before : Checker) (j 
 -- an assignment, behind its expression
 abbrev pub IsAssignedAs : Span → Target → Outcome → Checker → Checker → Outcome → Type 0
 IsAssignedAs span target part now after outcome = (before : Checker) (j : Judgement) → HasJudged before now part j
-    → (ok : Option RootMap) × IsWritten target j.kind j.ok ok × HasJudged before after outcome (with_codes (of_assignment span target j) (record j { ok = ok }))
+    → (ok : Option RootMap) × IsTargetWritten target j.kind j.ok ok × HasJudged before after outcome (with_codes (of_assignment span target j) (record j { ok = ok }))
 
 -- one target is written, and then the other
 pub record AreWritten (t u : Target) (K L : KindTree) (before after : Option RootMap) : Type 0 where
   pub between : Option RootMap
-  pub first : IsWritten t K before between
-  pub second : IsWritten u L between after
+  pub first : IsTargetWritten t K before between
+  pub second : IsTargetWritten u L between after
 
 -- both are written behind an error, beside what is known elsewhere
 pub record AreWrittenBeside (t u : Target) (K L : KindTree) (known fail after : Option RootMap) : Type 0 where

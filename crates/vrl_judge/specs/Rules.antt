@@ -182,11 +182,11 @@ pub record IsThen (before part after : Judgement) : Type 0 where
   pub fail : IsJoined before.fail part.fail after.fail
 
 -- the names of a block or a branch end with it: what is known behind it is known before it
-abbrev pub kept : RootMap → RootMap → RootMap
-kept before after = record after { variables = map.retain_keys after.variables (λ x. map.contains_key before.variables x) }
+abbrev pub without_new_names : RootMap → RootMap → RootMap
+without_new_names before after = record after { variables = map.retain_keys after.variables (λ x. map.contains_key before.variables x) }
 
 abbrev pub left : RootMap → Judgement → Judgement
-left before j = record j { ok = option_map (kept before) j.ok; fail = option_map (kept before) j.fail; ret = option_map (kept before) j.ret }
+left before j = record j { ok = option_map (without_new_names before) j.ok; fail = option_map (without_new_names before) j.fail; ret = option_map (without_new_names before) j.ret }
 
 -- ---- operators
 
@@ -272,9 +272,9 @@ or_else_at K L p t = without_at K tag.Null p t || tags_at L p t
 -- ---- assignments
 
 -- the place of a target is written; one that takes nothing changes nothing
-abbrev pub IsWritten : Target → KindTree → Option RootMap → Option RootMap → Type 0
-IsWritten Nowhere K before after = after ≡ before
-IsWritten (Place span root path) K before after = states.IsWritten root (plain path) K before after
+abbrev pub IsTargetWritten : Target → KindTree → Option RootMap → Option RootMap → Type 0
+IsTargetWritten Nowhere K before after = after ≡ before
+IsTargetWritten (Place span root path) K before after = states.IsWritten root (plain path) K before after
 
 abbrev pub is_event : Target → Bool
 is_event (Place span root.Event []) = true

@@ -1,7 +1,7 @@
 ghost use Rattle.std.specs.Prelude.{[], false, is_some, length, not, slice_set, ◌&&◌, ◌<◌, ◌||◌, ◌≡◌, IfOk, OnOk};
 ghost use Rattle.vrl_judge.specs.Assigning.{AreAssigned};
 ghost use Rattle.vrl_judge.specs.Judging.{known_on, AreBothWritten, AreEnds, AreWritten, AreWrittenBeside, HasEnds, IsAssignedAs, IsMoved, IsReported, IsWay};
-ghost use Rattle.vrl_judge.specs.Rules.{is_event as is_event_itself, is_no_event as is_no_event_at, is_nowhere as takes_nothing, of_error_assignment, IsWritten, Judgement};
+ghost use Rattle.vrl_judge.specs.Rules.{is_event as is_event_itself, is_no_event as is_no_event_at, is_nowhere as takes_nothing, of_error_assignment, IsTargetWritten, Judgement};
 ghost use Rattle.vrl_kind.specs.Canonical.{allows_absent};
 ghost use Rattle.vrl_kind.specs.Kinds.{found_at};
 ghost use Rattle.vrl_state.specs.States.{IsCutOf, IsRootKind};
@@ -13,7 +13,7 @@ use crate::ends::Ends;
 use crate::kinds::{cut_kind_of, either, empty_tag, may_be_event, scalar};
 use crate::outcome::Outcome;
 use std::alloc::Global;
-use vrl_diag::Span;
+use vrl_diag::{Span, code};
 use vrl_kind::Kind;
 use vrl_state::Branch;
 use vrl_syntax::{Root, Target, empty_value};
@@ -24,7 +24,7 @@ impl Checker<'_> {
     fn write(&mut self, target: &Target, kind: &Kind) -> Result<(), Memory>
         requires target { target_faults target.now ≡ [] }
         requires present { allows_absent kind.now ≡ false }
-        ensures written { OnOk result (IsWritten target.now kind.now self.old.state.known self.new.state.known) }
+        ensures written { OnOk result (IsTargetWritten target.now kind.now self.old.state.known self.new.state.known) }
         ensures others { IsMoved self.old self.new }
     {
         match target {
@@ -48,9 +48,9 @@ impl Checker<'_> {
         let mut part = part;
         let fallible = part.is_fallible();
         let no_event = self.puts_no_event(target, &part);
-        self.report(&mut part.ends, fallible, 103, span)?;
-        self.report(&mut part.ends, is_nowhere(target), 640, span)?;
-        self.report(&mut part.ends, no_event, 1006, span)?;
+        self.report(&mut part.ends, fallible, code::UNHANDLED_FALLIBLE_ASSIGNMENT, span)?;
+        self.report(&mut part.ends, is_nowhere(target), code::NO_OP_ASSIGNMENT, span)?;
+        self.report(&mut part.ends, no_event, code::EVENT_ASSIGNED_NO_CONTAINER, span)?;
         self.write(target, &part.kind)?;
         Ok(part)
     }
@@ -117,9 +117,9 @@ impl Checker<'_> {
     {
         let needless = ends.is_needless();
         let no_event = self.writes_no_event(ok, err, ends, kind);
-        self.report(ends, needless, 104, span)?;
-        self.report(ends, are_nowhere(ok, err), 640, span)?;
-        self.report(ends, no_event, 1006, span)
+        self.report(ends, needless, code::UNNECESSARY_ERROR_ASSIGNMENT, span)?;
+        self.report(ends, are_nowhere(ok, err), code::NO_OP_ASSIGNMENT, span)?;
+        self.report(ends, no_event, code::EVENT_ASSIGNED_NO_CONTAINER, span)
     }
 
     // Whether the event may get a value that can't stand there, where the assignment is reached.

@@ -13,7 +13,7 @@ use crate::ends::{Ends, add_way};
 use crate::kinds::{either, is_exactly, may_be_no_truth, may_be_truth, scalar, widen};
 use crate::outcome::Outcome;
 use std::alloc::Global;
-use vrl_diag::Span;
+use vrl_diag::{Span, code};
 use vrl_kind::{Kind, has, without};
 use vrl_state::{Branch, Mark};
 use vrl_value::{Memory, Tag};
@@ -181,11 +181,11 @@ impl Checker<'_> {
     {
         let mut part = part;
         if part.is_fallible() {
-            self.report(&mut part.ends, true, 1005, span)?;
+            self.report(&mut part.ends, true, code::FALLIBLE_PREDICATE, span)?;
             return Ok(part.ends);
         }
         let other = self.is_other(Tag::Bool, &part);
-        self.report(&mut part.ends, other, 102, span)?;
+        self.report(&mut part.ends, other, code::NON_BOOLEAN_PREDICATE, span)?;
         Ok(part.ends)
     }
 
@@ -237,7 +237,7 @@ impl Checker<'_> {
     {
         let mut part = part;
         let wrong = self.is_no_message(&part);
-        self.report(&mut part.ends, wrong, 1011, span)?;
+        self.report(&mut part.ends, wrong, code::WRONG_ABORT_MESSAGE, span)?;
         self.state.kill();
         part.kind = Kind::never(self.alloc)?;
         Ok(part)

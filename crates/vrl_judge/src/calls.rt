@@ -2,7 +2,7 @@ ghost use Rattle.std.specs.Option.{option_map_or};
 ghost use Rattle.std.specs.Prelude.{[], false, is_some, map, not, ◌&&◌, ◌≡◌, IfOk, List, OnOk, Option, Some};
 ghost use Rattle.vrl_builtin.specs.TagSets.{allows};
 ghost use Rattle.vrl_diag.specs.declared.diagnostic.Span.{Span as SpecSpan};
-ghost use Rattle.vrl_judge.specs.Calling.{told, IsBangedAs};
+ghost use Rattle.vrl_judge.specs.Calling.{part_of, IsBangedAs};
 ghost use Rattle.vrl_judge.specs.Judging.{AreEnds, AreJoinedEnds, HaveCommonScopes, IsMoved};
 ghost use Rattle.vrl_syntax.specs.Stores.{left_in};
 ghost use Rattle.vrl_judge.specs.Rules.{argument_at as argument_of, at, has_others as has_tags_beside, is_disjoint as has_no_tag, some_tag, Argument as JudgedArgument, IsDeleted};
@@ -15,7 +15,7 @@ use crate::checker::Checker;
 use crate::ends::Ends;
 use crate::outcome::Outcome;
 use vrl_builtin::{Parameter, Tags};
-use vrl_diag::Span;
+use vrl_diag::{Span, code};
 use vrl_kind::{Kind, TAGS, has, kind_is_canonical, kind_of};
 use vrl_path::Path;
 use vrl_syntax::{Root, empty_value};
@@ -78,7 +78,7 @@ impl Checker<'_> {
             return Ok(call);
         }
         let needless = call.ends.is_needless();
-        self.report(&mut call.ends, needless, 620, span)?;
+        self.report(&mut call.ends, needless, code::ABORTING_INFALLIBLE_FUNCTION, span)?;
         call.ends.fail = None;
         Ok(call)
     }
@@ -121,7 +121,7 @@ fn has_others(tags: &Tags, kind: &Kind) -> bool
 
 /// Whether the kind of the argument at a place has a tag that its parameter doesn't allow. `None`: the parameter has no argument.
 pub fn part_has_others(parameter: &Parameter, place: Option<usize>, parts: &[Argument]) -> bool
-    ensures { (js : List JudgedArgument) → parts.now ≡ map told js
+    ensures { (js : List JudgedArgument) → parts.now ≡ map part_of js
         → result ≡ option_map_or (λ g. has_tags_beside parameter.now.allowed g.judged.kind) (argument_of js place) false }
 {
     match place {

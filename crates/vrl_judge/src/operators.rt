@@ -7,7 +7,7 @@ use crate::ends::{Ends, either_of};
 use crate::kinds::{is_exactly, scalar};
 use crate::outcome::Outcome;
 use crate::tables::Table;
-use vrl_diag::Span;
+use vrl_diag::{Span, code};
 use vrl_kind::{Kind, cut, kind_is_canonical, overlaid};
 use vrl_value::{Memory, Tag};
 
@@ -33,7 +33,7 @@ impl Checker<'_> {
     {
         let mut part = part;
         let other = self.is_other(Tag::Bool, &part);
-        self.report(&mut part.ends, other, 660, span)?;
+        self.report(&mut part.ends, other, code::NEGATION_OF_NON_BOOLEAN, span)?;
         part.kind = scalar(self.alloc, Tag::Bool)?;
         Ok(part)
     }
@@ -65,7 +65,7 @@ impl Checker<'_> {
         ensures { IfOk result (λ outcome. IsEquatedAs span chained parts self.old self.new outcome) }
     {
         let mut parts = parts;
-        self.report(&mut parts.ends, chained, 650, span)?;
+        self.report(&mut parts.ends, chained, code::CHAINED_COMPARISON, span)?;
         let kind = scalar(self.alloc, Tag::Bool)?;
         let ends = parts.ends;
         Ok(Outcome { kind, ends })
@@ -85,7 +85,7 @@ impl Checker<'_> {
         ensures { IfOk result (λ outcome. IsCombinedAs span table chained parts self.old self.new outcome) }
     {
         let mut parts = parts;
-        self.report(&mut parts.ends, chained, 650, span)?;
+        self.report(&mut parts.ends, chained, code::CHAINED_COMPARISON, span)?;
         let refuses = table.may_refuse(&parts.left, &parts.right);
         self.fail_if(&mut parts.ends, refuses)?;
         let takes = table.may_take(&parts.left, &parts.right);
@@ -105,8 +105,8 @@ impl Checker<'_> {
         ensures { IfOk result (λ outcome. IsMergedAs left_span right_span parts self.old self.new outcome) }
     {
         let mut parts = parts;
-        self.report(&mut parts.ends, parts.left_no_object, 652, left_span)?;
-        self.report(&mut parts.ends, parts.right_no_object, 652, right_span)?;
+        self.report(&mut parts.ends, parts.left_no_object, code::MERGE_OF_NON_OBJECT, left_span)?;
+        self.report(&mut parts.ends, parts.right_no_object, code::MERGE_OF_NON_OBJECT, right_span)?;
         let kind = self.merged_kind(&parts.left, &parts.right)?;
         let ends = parts.ends;
         Ok(Outcome { kind, ends })

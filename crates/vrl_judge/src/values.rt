@@ -8,7 +8,7 @@ use crate::checker::Checker;
 use crate::kinds::read_cut;
 use crate::outcome::Outcome;
 use std::alloc::Global;
-use vrl_diag::Span;
+use vrl_diag::{Span, code};
 use vrl_kind::{Kind, Rest, cut, kind_is_canonical};
 use vrl_path::Path;
 use vrl_value::{Chars, Memory};
@@ -29,7 +29,7 @@ impl Checker<'_> {
         ensures { IfOk result (λ outcome. HasJudged self.old self.new outcome (with_codes (at 701 span) (gives any_kind self.old.state.known))) }
     {
         let part = Outcome::value(Kind::any(self.alloc)?);
-        self.reported(part, true, 701, span)
+        self.reported(part, true, code::UNDEFINED_VARIABLE, span)
     }
 
     /// What is read at a path of what was judged. `Memory`: want of memory.

@@ -9,6 +9,7 @@ use Rattle.vrl_check.proofs.CallsFound.{call_seen}
 use Rattle.vrl_check.proofs.CallsJudged.{closure_passed, nothing_judged, takes_none}
 use Rattle.vrl_judge.proofs.Results.{by_both}
 use Rattle.vrl_check.proofs.calls.called.Goals as goal
+use Rattle.vrl_check.specs.OpenRules.{language_rules}
 
 pub returns-in-None : goal.returns-in-None
 returns-in-None c =
@@ -16,7 +17,7 @@ returns-in-None c =
     by_both c.call_of_nothing.result _ _ _
     (λ outcome any reported before known js j alive judged has.
     let passed = closure_passed before c.args.checker.now c.pass_closure.new.checker (call_args x) (call_closure x) c.args.arguments js j has c.in_ok-pass_closure.ensures.empties c.in_ok-pass_closure.ensures.others in
-    subst (λ f. (k : Judgement) × Gives before.patterns.now known c.args.span f k × HasJudged before c.call_of_nothing.new.checker outcome k) (sym (call_seen x))
+    subst (λ f. (k : Judgement) × Gives (language_rules before.patterns.now) known c.args.span f k × HasJudged before c.call_of_nothing.new.checker outcome k) (sym (call_seen x))
     (nothing_judged (call_name x) (out-Call x).name_span c.args.span (call_bang x) (call_args x) (call_closure x) before c.pass_closure.new.checker c.call_of_nothing.new.checker known js j c.args.arguments outcome (subst IsUnknown c.as_str.ensures c.in-None.ensures)
     (takes_none (call_of x) (call_name x) (out-Call x).name_span (call_bang x) (call_args x) (call_closure x) (call_seen x) c.requires.form) judged passed any reported))
     c.call_of_nothing.ensures.kind c.call_of_nothing.ensures.reported

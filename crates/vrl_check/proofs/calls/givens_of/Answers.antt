@@ -1,13 +1,13 @@
 use Rattle.std.proofs.Common.{map, subst, sym}
 use Rattle.vrl_builtin.specs.View.{parameter_row}
 use Rattle.vrl_judge.specs.Rules.{argument_at}
-use Rattle.vrl_check.specs.Judgement.{bound, AreGiven}
+use Rattle.vrl_check.specs.Judgement.{bound, AreAskedAbout}
 use Rattle.vrl_check.proofs.CallsGiven.{given_end, given_end_early, given_next}
 use Rattle.vrl_check.proofs.calls.givens_of.Goals as goal
 
 pub returns-in_default-split_first-clause-given : goal.returns-in_default-split_first-clause-given
 returns-in_default-split_first-clause-given c js told =
-    subst (AreGiven (map parameter_row c.args.parameters.now) (bound c.args.places.now js)) (sym c.new.ensures)
+    subst (AreAskedAbout (map parameter_row c.args.parameters.now) (bound c.args.places.now js)) (sym c.new.ensures)
     (given_end_early c.args.args.now c.args.parts.now c.args.parameters.now c.args.places.now c.loop-parameter.givens.items c.loop-parameter.left.now c.loop-parameter.bound.now c.in_default-split_first.ensures.cases c.loop-parameter.invariant js told)
 
 pub loop-parameter-preserved : goal.loop-parameter-preserved
@@ -20,5 +20,5 @@ loop-parameter-preserved c =
 
 pub returns-clause-given : goal.returns-clause-given
 returns-clause-given c js told =
-    subst (AreGiven (map parameter_row c.args.parameters.now) (bound c.args.places.now js)) (sym c.new-2.ensures)
+    subst (AreAskedAbout (map parameter_row c.args.parameters.now) (bound c.args.places.now js)) (sym c.new-2.ensures)
     (given_end c.args.args.now c.args.parts.now c.args.parameters.now c.args.places.now c.loop-parameter.givens.items c.loop-parameter.left.now c.loop-parameter.bound.now c.in_default.ensures.cases c.loop-parameter.invariant js told)

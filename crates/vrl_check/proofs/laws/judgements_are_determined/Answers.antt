@@ -1,5 +1,5 @@
-use Rattle.vrl_check.proofs.Determined.{one_script}
+use Rattle.vrl_check.proofs.Determined.{one_judgement_each}
 use Rattle.vrl_check.proofs.laws.judgements_are_determined.Goals as goal
 
 pub returns : goal.returns
-returns c = one_script c.equal_tags_are_one_kind.ensures c.functions_are_found.ensures
+returns c = one_judgement_each c.equal_tags_are_one_kind.ensures c.functions_are_found.ensures

@@ -15,7 +15,7 @@ returns c =
     let before : Checker = record { alloc = c.args.alloc; patterns = c.args.patterns; state = c.in_ok-state.state; diagnostics = c.new.result; empties = c.new-2.result } in
     let outcome = c.in_ok-outcome.outcome in
     let after = c.script_items.new.checker in
-    let judged : Judged = record { kind = outcome.kind; ok = c.in_ok-ok.ok; fail = c.unwrap_or.result; ret = outcome.ends.ret; empties = c.new-3.result; loops = c.new-5.result; diagnostics = c.new-6.result } in
+    let judged : Judged = record { kind = outcome.kind; ok = c.in_ok-ok.ok; fail = c.unwrap_or.result; ret = outcome.ends.ret; empties = c.new-3.result; loops = c.in_ok-loops.loops; diagnostics = c.new-4.result } in
     let answered : AreAnswered after.state outcome judged = record { kind = refl; ok = c.in_ok-ok.ensures.state; fail = c.unwrap_or.ensures ∙ ap (unwrap_or outcome.ends.fail) c.in_ok-ok.ensures.none; ret = refl } in
     script_judged c.args.start.now (exprs_of c.args.script.now.items) before after outcome judged c.in_ok-state.ensures.state c.new.ensures.items c.new-2.ensures.items c.in_ok-outcome.ensures
-    answered c.new-3.ensures (c.new-5.ensures ∙ c.new-4.ensures.items) (subst (AreOrdered after.diagnostics.items) (sym c.new-6.ensures) c.in_ok-diagnostics.ensures)
+    answered c.new-3.ensures c.in_ok-loops.ensures (subst (AreOrdered after.diagnostics.items) (sym c.new-4.ensures) c.in_ok-diagnostics.ensures)

@@ -7,7 +7,7 @@ use Rattle.vrl_syntax.specs.declared.tree.Arg.{out-Arg}
 use Rattle.vrl_syntax.specs.declared.tree.Arm.{out-Arm}
 use Rattle.vrl_syntax.specs.declared.tree.Call.{out-Call}
 use Rattle.vrl_syntax.specs.declared.tree.Form.{the_lemmas}
-use Rattle.vrl_check.specs.Walking.{CanBeJudged, FormCanBeJudged, IsArmBehind, IsGivenAs, ItemsCanBeJudged, ElseCanBeJudged, IsElseAs}
+use Rattle.vrl_check.specs.Walking.{ExprCanBeJudged, FormCanBeJudged, IsArmBehind, IsGivenAs, ItemsCanBeJudged, ElseCanBeJudged, IsElseAs}
 use Rattle.vrl_check.proofs.Capable.{form_can, abort_can, arguments_can, array_can, assign_can, binary_can, block_can, both_can, conditional_can, group_can, merge_can, negation_can, object_can, query_can, return_can}
 use Rattle.vrl_check.proofs.Forms.{expr_passed, expr_reached, block_given, group_given, query_given, block_passed, block_reached, in_block, negation_given, here_are, operands_given, beside_given, both_common, equality_given, operands_are, table_given, merge_given, merge_into_given, merge_into_judged, place_are}
 use Rattle.vrl_syntax.proofs.PartSizes.{expr_size, form_size, arms_size, else_size, exprs_size}
@@ -27,7 +27,7 @@ pub expr-form-requires : goal.expr-form-requires
 expr-form-requires t c =
     let e = c.args.expr.now in
     let is : expr_of e ≡ expr e.span (form_of e.form) = search (rules, the_lemmas) in
-    (omega (arith, c.decreases, ap expr_size is), form_can e.span (form_of e.form) (subst (CanBeJudged c.args.checker.now.patterns.now) is c.requires))
+    (omega (arith, c.decreases, ap expr_size is), form_can e.span (form_of e.form) (subst (ExprCanBeJudged c.args.checker.now.patterns.now) is c.requires))
 
 pub expr-returns-then-is_dead : goal.expr-returns-then-is_dead
 expr-returns-then-is_dead t c =
@@ -552,7 +552,7 @@ pub add_arm-expr-requires : goal.add_arm-expr-requires
 add_arm-expr-requires t c =
     let a = out-Arm c.args.arm.now in
     let is : arm_of c.args.arm.now ≡ (expr_of a.predicate, exprs_of a.body) = search (rules, the_lemmas) in
-    (omega (arith, c.decreases, ap (λ a. expr_size a.0 + exprs_size a.1) is), subst (λ t. CanBeJudged c.args.checker.now.patterns.now t.0) is c.requires.predicate)
+    (omega (arith, c.decreases, ap (λ a. expr_size a.0 + exprs_size a.1) is), subst (λ t. ExprCanBeJudged c.args.checker.now.patterns.now t.0) is c.requires.predicate)
 
 pub add_arm-add_predicate-requires : goal.add_arm-add_predicate-requires
 add_arm-add_predicate-requires t c =

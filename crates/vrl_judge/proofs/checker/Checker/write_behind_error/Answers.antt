@@ -4,13 +4,13 @@ use Rattle.vrl_kind.specs.KindTree.{KindTree}
 use Rattle.vrl_state.specs.States.{IsJoined, RootMap, State}
 use Rattle.vrl_syntax.specs.declared.root.Target.{Target}
 use Rattle.vrl_syntax.specs.declared.root.Target.TheVariants.{Nowhere, Place}
-use Rattle.vrl_judge.specs.Rules.{IsWritten}
+use Rattle.vrl_judge.specs.Rules.{IsTargetWritten}
 use Rattle.vrl_judge.specs.Judging.{known_on, AreWritten, AreWrittenBeside}
 use Rattle.vrl_judge.proofs.Joining.{join_none}
 use Rattle.vrl_judge.proofs.checker.Checker.write_behind_error.Goals as goal
 
 -- where no way leads nothing is written
-written_none : (t : Target) (K : KindTree) → IsWritten t K None None
+written_none : (t : Target) (K : KindTree) → IsTargetWritten t K None None
 written_none Nowhere K = refl
 written_none (Place span root path) K = refl
 
@@ -21,7 +21,7 @@ none_known (Some s) is = absurd (true≢false is)
 without_error : (t u : Target) (K L : KindTree) (known fail : Option RootMap) → fail ≡ None → AreWrittenBeside t u K L known fail known
 without_error t u K L known fail none = record {
   failed = None;
-  written = record { between = None; first = subst (λ f. IsWritten t K f None) (sym none) (written_none t K); second = written_none u L };
+  written = record { between = None; first = subst (λ f. IsTargetWritten t K f None) (sym none) (written_none t K); second = written_none u L };
   joined = join_none known;
 }
 
