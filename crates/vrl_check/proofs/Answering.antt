@@ -1,5 +1,5 @@
 -- What is answered of a script that was judged.
-use Rattle.std.proofs.Common.{◌≡◌, [], ◌++◌, Option, Some, None, unwrap_or, sym, ap, ap₂, ◌∙◌, subst}
+use Rattle.std.proofs.Common.{◌≡◌, [], ◌++◌, Option, Some, None, unwrap_or, refl, sym, ap, ap₂, ◌∙◌, subst}
 use Rattle.vrl_kind.specs.KindTree.{KindTree}
 use Rattle.vrl_state.specs.Known.{known_as, HaveRootKinds}
 use Rattle.vrl_state.specs.States.{IsEither, IsJoined, IsRootKind, IsStart, RootMap, State}
@@ -25,12 +25,12 @@ use Rattle.vrl_check.specs.OpenRules.{language_rules}
 pub record AreAnswered (after : State) (outcome : Outcome) (judged : Judged) : Type 0 where
   pub kind : judged.kind ≡ outcome.kind
   pub ok : judged.ok ≡ after
-  pub fail : judged.fail ≡ unwrap_or outcome.ends.fail (record after { known = None })
+  pub fail : judged.fail ≡ unwrap_or outcome.ends.fail (outside None)
   pub ret : judged.ret ≡ outcome.ends.ret
 
-fail_outside : (branch : Option State) (s : State) → IsWay [] branch → s.scopes ≡ [] → unwrap_or branch (record s { known = None }) ≡ outside (known_on branch)
-fail_outside None s is none = ap (λ scopes. record { known = None; scopes = scopes }) none
-fail_outside (Some b) s is none = let found = way_known [] b is in found.1 ∙ ap outside (sym (ap (λ t. t.known) found.1))
+fail_outside : (branch : Option State) → IsWay [] branch → unwrap_or branch (outside None) ≡ outside (known_on branch)
+fail_outside None is = refl
+fail_outside (Some b) is = let found = way_known [] b is in found.1 ∙ ap outside (sym (ap (λ t. t.known) found.1))
 
 state_outside : (s : State) (known : Option RootMap) → s.known ≡ known → s.scopes ≡ [] → s ≡ outside known
 state_outside s known is none = λ i. record { known = is i; scopes = none i }
@@ -49,7 +49,7 @@ script_judged start es before after outcome judged starts no_codes no_tags is an
         kind = kind;
         root = subst IsRootKind (sym kind) has.root;
         ok = answered.ok ∙ state_outside after.state j.ok has.gathered.ok none;
-        fail = answered.fail ∙ fail_outside outcome.ends.fail after.state are.fail none ∙ ap outside has.ends.fail;
+        fail = answered.fail ∙ fail_outside outcome.ends.fail are.fail ∙ ap outside has.ends.fail;
         ret = answered.ret ∙ are.ret.alive ∙ ap₂ (returning []) has.ends.returned has.ends.ret;
         returned = ap return_kind answered.ret ∙ has.ends.returned;
         returned_root = subst IsRootKind has.ends.returned are.ret.kind;

@@ -1,5 +1,5 @@
-ghost use Rattle.std.specs.Prelude.{false, length, true, ◌≡◌, IfOk, None};
-ghost use Rattle.vrl_check.specs.Answer.{IsEnding, IsJudged};
+ghost use Rattle.std.specs.Prelude.{false, length, true, unwrap_or, ◌≡◌, IfOk, None};
+ghost use Rattle.vrl_check.specs.Answer.{outside, IsEnding, IsJudged};
 ghost use Rattle.vrl_check.specs.Calls.{exprs_hold_closure_call};
 ghost use Rattle.vrl_check.specs.Judgement.{JudgesScript};
 ghost use Rattle.vrl_check.specs.Walking.{ExprCanBeJudged, IsItemAs, IsScriptAs, ItemsCanBeJudged};
@@ -51,11 +51,12 @@ pub fn check(
     let outcome = script_items(&mut checker, &script.items)?;
     let loops = dead_loops(alloc, &script.items)?;
     let diagnostics = ordered(checker.diagnostics)?;
-    let (ok, none) = split(alloc, checker.state)?;
+    let ok = branch_of(alloc, checker.state)?;
+    let fail = or_dead(alloc, outcome.ends.fail)?;
     Ok(Judged {
         kind: outcome.kind,
         ok,
-        fail: outcome.ends.fail.unwrap_or(none),
+        fail,
         ret: outcome.ends.ret,
         empties: Empties::new(checker.empties),
         loops,
@@ -86,18 +87,33 @@ fn script_item(checker: &mut Checker<'_>, item: &Expr) -> Result<Outcome, Memory
     checker.reported(part, fallible, code::UNHANDLED_ERROR, item.span)
 }
 
-// The state as a branch, and a dead one beside it. `Memory`: want of memory.
-fn split(alloc: Global, state: State) -> Result<(Branch, Branch), Memory>
-    ensures state { IfOk result (λ branches. branches.0 ≡ state) }
-    ensures none { IfOk result (λ branches. branches.1 ≡ record state { known = None }) }
+// A dead state, outside all blocks. `Memory`: want of memory.
+fn dead(alloc: Global) -> Result<State, Memory>
+    ensures { IfOk result (λ state. state ≡ outside None) }
 {
-    let mut state = state;
-    let copy = state.mark(alloc)?;
-    let ok = state.back(copy);
+    let mut state = State::start(alloc, &Kind::never(alloc)?)?;
     state.kill();
-    let copy = state.mark(alloc)?;
-    let none = state.back(copy);
-    Ok((ok, none))
+    Ok(state)
+}
+
+// The state as a branch. `Memory`: want of memory.
+fn branch_of(alloc: Global, state: State) -> Result<Branch, Memory>
+    ensures { IfOk result (λ branch. branch ≡ state) }
+{
+    let mut nothing = dead(alloc)?;
+    let mark = nothing.mark(alloc)?;
+    let mut state = state;
+    Ok(state.back(mark))
+}
+
+// The branch, or a dead one where there is none. `Memory`: want of memory.
+fn or_dead(alloc: Global, branch: Option<Branch>) -> Result<Branch, Memory>
+    ensures { IfOk result (λ found. found ≡ unwrap_or branch (outside None)) }
+{
+    match branch {
+        Some(branch) => Ok(branch),
+        None => branch_of(alloc, dead(alloc)?),
+    }
 }
 
 /// The kind of a script's value, from its end or from a return, and what is known there. `Memory`: want of
@@ -106,8 +122,7 @@ pub fn ending(alloc: Global, judged: &Judged) -> Result<Ending, Memory>
     requires { (items : Items) × (j : Judgement) × IsJudged items j judged.now }
     ensures { IfOk result (λ ending. IsEnding judged.now ending) }
 {
-    let mut state = State::start(alloc, &Kind::never(alloc)?)?;
-    state.kill();
+    let mut state = dead(alloc)?;
     state.join(alloc, &judged.ok)?;
     match &judged.ret {
         None => {
@@ -126,7 +141,7 @@ fn end(alloc: Global, state: State, kind: Kind) -> Result<Ending, Memory>
     ensures same { IfOk result (λ ending. ending ≡ record { kind = kind; state = known_as state.known }) }
     ensures roots { IfOk result (λ ending. HaveRootKinds ending.state) }
 {
-    let (branch, _none) = split(alloc, state)?;
+    let branch = branch_of(alloc, state)?;
     let state = branch.known(alloc)?;
     Ok(Ending { kind, state })
 }

@@ -1,4 +1,4 @@
-use Rattle.std.proofs.Common.{ap, refl, sym, ◌∙◌, subst, unwrap_or}
+use Rattle.std.proofs.Common.{refl, sym, ◌∙◌, subst}
 use Rattle.vrl_syntax.specs.View.{exprs_of}
 use Rattle.vrl_judge.specs.Ordered.{AreOrdered}
 use Rattle.vrl_judge.specs.declared.checker.Checker.{Checker}
@@ -15,7 +15,7 @@ returns c =
     let before : Checker = record { alloc = c.args.alloc; patterns = c.args.patterns; state = c.in_ok-state.state; diagnostics = c.new.result; empties = c.new-2.result } in
     let outcome = c.in_ok-outcome.outcome in
     let after = c.script_items.new.checker in
-    let judged : Judged = record { kind = outcome.kind; ok = c.in_ok-ok.ok; fail = c.unwrap_or.result; ret = outcome.ends.ret; empties = c.new-3.result; loops = c.in_ok-loops.loops; diagnostics = c.new-4.result } in
-    let answered : AreAnswered after.state outcome judged = record { kind = refl; ok = c.in_ok-ok.ensures.state; fail = c.unwrap_or.ensures ∙ ap (unwrap_or outcome.ends.fail) c.in_ok-ok.ensures.none; ret = refl } in
+    let judged : Judged = record { kind = outcome.kind; ok = c.in_ok-ok.ok; fail = c.in_ok-fail.fail; ret = outcome.ends.ret; empties = c.new-3.result; loops = c.in_ok-loops.loops; diagnostics = c.new-4.result } in
+    let answered : AreAnswered after.state outcome judged = record { kind = refl; ok = c.in_ok-ok.ensures; fail = c.in_ok-fail.ensures; ret = refl } in
     script_judged c.args.start.now (exprs_of c.args.script.now.items) before after outcome judged c.in_ok-state.ensures.state c.new.ensures.items c.new-2.ensures.items c.in_ok-outcome.ensures
     answered c.new-3.ensures c.in_ok-loops.ensures (subst (AreOrdered after.diagnostics.items) (sym c.new-4.ensures) c.in_ok-diagnostics.ensures)
