@@ -7,7 +7,7 @@ use Rattle.vrl_value.specs.declared.value.Tag.{Tag}
 use Rattle.vrl_diag.specs.declared.diagnostic.Diagnostic.{Diagnostic}
 use Rattle.vrl_diag.specs.declared.diagnostic.Span.{Span}
 use Rattle.vrl_syntax.specs.Limits.{arms_faults, expr_faults, exprs_faults}
-use Rattle.vrl_syntax.specs.Tree.{Expr, Exprs, Arms, no_arms, arm, Else, no_else, else_block, conditional}
+use Rattle.vrl_syntax.specs.Tree.{Expr, Exprs, Arms, no_arms, arm, Else, no_else, else_block, conditional, span_of}
 use Rattle.vrl_syntax.specs.View.{ArmTree, arm_of, arms_view}
 use Rattle.vrl_syntax.specs.declared.tree.Arm.{Arm as CodeArm}
 use Rattle.vrl_kind.specs.Canonical.{never_kind}
@@ -17,7 +17,7 @@ use Rattle.vrl_judge.specs.Branching.{no_ways, AreWays, IsBlockBeside, IsLastBes
 use Rattle.vrl_check.specs.Calls.{arms_hold_closure_call, expr_holds_closure_call, exprs_hold_closure_call}
 use Rattle.vrl_diag.specs.Refusal.{is_error}
 use Rattle.vrl_judge.specs.Rules.{Judgement, gives, nothing, of_predicate, settle}
-use Rattle.vrl_check.specs.Judgement.{predicate_of, span_of, IsBeside}
+use Rattle.vrl_check.specs.Judgement.{predicate_of, IsBeside}
 use Rattle.vrl_check.specs.Judgement.{JudgesArms, JudgesBlock, a_conditional, a_missing_else, an_arm, an_else, Judges}
 use Rattle.vrl_judge.specs.Judging.{known_on, AreEnds, AreJoinedEnds, HasJudged, IsReported}
 use Rattle.vrl_check.specs.Walking.{HasWays}

@@ -3,7 +3,7 @@ use Rattle.std.proofs.Common.{◌≡◌, Bool, not, ◌||◌, List, [], Option, 
 use Rattle.vrl_value.specs.declared.value.Tag.{Tag}
 use Rattle.vrl_diag.specs.declared.diagnostic.Diagnostic.{Diagnostic}
 use Rattle.vrl_diag.specs.declared.diagnostic.Span.{Span}
-use Rattle.vrl_syntax.specs.Tree.{Expr, binary, return_of, abort_with, no_message, message}
+use Rattle.vrl_syntax.specs.Tree.{Expr, binary, return_of, abort_with, no_message, message, span_of}
 use Rattle.vrl_kind.specs.Canonical.{never_kind}
 use Rattle.vrl_kind.specs.Kinds.{root_tags}
 use Rattle.vrl_place.specs.Sets.{is_alone}
@@ -11,7 +11,6 @@ use Rattle.vrl_state.specs.States.{IsCutOf, IsEither, IsJoined, RootMap, State}
 use Rattle.vrl_judge.specs.Returns.{return_kind, return_state}
 use Rattle.vrl_judge.specs.Branching.{AreBothSides, IsAborted, IsConjoined, IsLeftSide, IsOrFail, IsReturned, StandsIn}
 use Rattle.vrl_judge.specs.Rules.{Judgement, at, if_state, is_alive, may_be_no_truth, may_be_truth, nothing, of_message, or_else_at, when, with_codes, IsBehind, IsThen}
-use Rattle.vrl_check.specs.Judgement.{span_of}
 use Rattle.vrl_check.specs.Judgement.{Judges, a_conjunction, a_disjunction, a_coalescing, a_return, an_abort, an_abort_with}
 use Rattle.vrl_judge.specs.Judging.{known_on, no_ends, AreEnds, AreJoinedEnds, IsMoved, IsReported}
 use Rattle.vrl_check.specs.Walking.{IsAnywhereAs, IsGivenAs, IsJudgedAs}

@@ -9,7 +9,7 @@ use Rattle.std.specs.List.{list_any}
 use Rattle.std.specs.Option.{option_map_or}
 use Rattle.vrl_value.specs.Tree.{Tree}
 use Rattle.vrl_diag.specs.declared.diagnostic.Span.{Span}
-use Rattle.vrl_syntax.specs.Tree.{Args, no_args, arg, Closure}
+use Rattle.vrl_syntax.specs.Tree.{Args, no_args, arg, Closure, span_of}
 use Rattle.vrl_kind.specs.KindTree.{KindTree}
 use Rattle.vrl_builtin.specs.Conditions.{AreGiven, AreGivenFrom, IsGiven, IsLiteral, IsThere}
 use Rattle.vrl_builtin.specs.Rows.{GivenTree, ParameterRow, Row, held}
@@ -22,7 +22,6 @@ use Rattle.vrl_check.specs.Calling.{written, HasCodes, MayBeAsked}
 use Rattle.vrl_syntax.specs.Calls.{literal_of}
 use Rattle.vrl_diag.specs.Refusal.{is_error}
 use Rattle.vrl_judge.specs.Rules.{Argument, argument_at, at, is_disjoint, is_fallible, is_known, when}
-use Rattle.vrl_check.specs.Judgement.{span_of}
 use Rattle.vrl_check.specs.Judgement.{bound, of_argument, of_arguments, of_call, of_closure, of_found, of_unknown, places_in, wants_literal, AreAskedAbout, IsAskedAbout}
 use Rattle.vrl_check.specs.declared.calls.Arguments.{Arguments}
 use Rattle.vrl_table.specs.declared.binding.BindFault.TheVariants as fault

@@ -7,7 +7,6 @@ use Rattle.vrl_diag.specs.declared.diagnostic.Span.{Span}
 use Rattle.vrl_syntax.specs.ErrorAssignments.{in_closure}
 use Rattle.vrl_syntax.specs.Limits.{args_faults, closure_faults, form_faults}
 use Rattle.vrl_syntax.specs.Tree.{Args, Closure, Form, call}
-use Rattle.vrl_syntax.specs.Written.{is_del}
 use Rattle.vrl_kind.specs.Canonical.{any_kind, never_kind}
 use Rattle.vrl_kind.specs.KindTree.{KindTree}
 use Rattle.vrl_state.specs.States.{IsJoined, IsRootKind, RootMap}
@@ -15,7 +14,7 @@ use Rattle.vrl_table.specs.Binding.{binding, keywords_of}
 use Rattle.vrl_table.specs.Table.{row_of}
 use Rattle.vrl_table.specs.declared.function.Fun.{Fun}
 use Rattle.vrl_check.specs.Calling.{callee_codes, callee_parameters, with_call_codes, AreRootKinds, AreTold, HasArguments, HasCodes, IsAnsweredAs, IsBoundCallAs, IsDeletedAs, IsPassed, IsTold, IsUnknown}
-use Rattle.vrl_syntax.specs.Calls.{is_exists}
+use Rattle.vrl_syntax.specs.Calls.{is_exists, is_del}
 use Rattle.vrl_check.specs.Calls.{args_hold_closure_call, closure_holds_closure_call, form_holds_closure_call}
 use Rattle.vrl_syntax.specs.Calls.{takes_closure}
 use Rattle.vrl_diag.specs.Refusal.{is_error}

@@ -6,13 +6,13 @@ use Rattle.vrl_diag.specs.declared.diagnostic.Span.{Span}
 use Rattle.vrl_syntax.specs.Limits.{args_faults, expr_faults, exprs_faults, pairs_faults, target_faults}
 use Rattle.vrl_syntax.specs.Regexes.{expr_regexes_below, exprs_regexes_below, pairs_regexes_below}
 use Rattle.vrl_syntax.specs.Tree.{Expr, expr, Form, array, object, query, group, block, conditional, negation, binary, assign, merge, both, call, return_of, abort_with, Exprs, exprs, Pairs, no_pairs, pair, Arms, Else, Args, no_args, arg, Closure, message}
-use Rattle.vrl_syntax.specs.Written.{is_del}
 use Rattle.vrl_syntax.specs.declared.root.Op.{Op}
 use Rattle.vrl_syntax.specs.declared.root.Target.{Target}
 use Rattle.vrl_check.specs.Calls.{expr_holds_closure_call, exprs_hold_closure_call, pairs_hold_closure_call}
 use Rattle.vrl_check.specs.Judgement.{pair_values}
 use Rattle.vrl_check.specs.Walking.{ArgumentsCanBeJudged, ArmsCanBeJudged, ExprCanBeJudged, ElseCanBeJudged, FormCanBeJudged, ItemsCanBeJudged, PairsCanBeJudged}
 use Rattle.vrl_syntax.proofs.PartSizes.{expr_size, exprs_size, pairs_size}
+use Rattle.vrl_syntax.specs.Calls.{is_del}
 
 -- ---- neither of two
 

@@ -6,14 +6,11 @@ use Rattle.std.proofs.lemmas.Cmp.{nat_list_cmp_total}
 use Rattle.std.specs.Cmp.Lexicographic.{slice_cmp}
 use Rattle.std.specs.FinMap.{IsAntisymmetric, nat_cmp-IsAntisymmetric, slice_cmp-IsAntisymmetric}
 use Rattle.std.specs.Ordering.{nat_cmp}
-use Rattle.vrl_value.specs.Look.{Step as PlainStep}
 use Rattle.vrl_value.specs.Tree.{Tree}
 use Rattle.vrl_value.specs.declared.value.Tag.{Tag}
-use Rattle.vrl_path.specs.Steps.{plain}
 use Rattle.vrl_path.specs.declared.path.Step.{Step}
 use Rattle.vrl_diag.specs.declared.diagnostic.Span.{Span}
-use Rattle.vrl_syntax.specs.Tree.{Expr, expr, Form, Exprs, no_exprs, exprs, Pairs, no_pairs, pair, Arms, no_arms, arm, Else, no_else, else_block, Args, no_args, arg, Closure, no_message, message}
-use Rattle.vrl_syntax.specs.Written.{is_del}
+use Rattle.vrl_syntax.specs.Tree.{Expr, expr, Form, Exprs, no_exprs, exprs, Pairs, no_pairs, pair, Arms, no_arms, arm, Else, no_else, else_block, Args, no_args, arg, Closure, no_message, message, span_of}
 use Rattle.vrl_syntax.specs.declared.root.Op.{Op}
 use Rattle.vrl_syntax.specs.declared.root.Root.{Root}
 use Rattle.vrl_syntax.specs.declared.root.Target.{Target}
@@ -34,11 +31,11 @@ use Rattle.vrl_builtin.specs.declared.tags.Tags.{Tags as TagSet}
 use Rattle.vrl_table.specs.Binding.{binding, keywords_of, path_parameters}
 use Rattle.vrl_table.specs.Table.{row_of, function_named, FunctionsAreFound}
 use Rattle.vrl_table.specs.declared.function.Fun.{Fun}
-use Rattle.vrl_syntax.specs.Calls.{is_exists, literal_of}
+use Rattle.vrl_syntax.specs.Calls.{is_exists, literal_of, is_del}
 use Rattle.vrl_syntax.specs.ErrorAssignments.{empty_value, in_closure}
 use Rattle.vrl_syntax.specs.Calls.{takes_closure}
 use Rattle.vrl_judge.specs.Rules.{Argument, Judgement, IsBehind, IsDeleted, IsMerged, IsMergedIf, IsReadAt, IsThen, IsTargetWritten, banged, gives, settle, with_codes, if_state, is_alive}
-use Rattle.vrl_check.specs.Judgement.{IsBeside, span_of}
+use Rattle.vrl_check.specs.Judgement.{IsBeside}
 use Rattle.vrl_check.specs.Judgement.{Judges, Gives, JudgesBoth, JudgesAll, JudgesArguments, JudgesBlock, JudgesArms, JudgesItems, JudgesScript, AreAskedAbout, IsAnsweredUnless, IsCutDown, IsDeletedAt, IsAskedAbout, behind_arguments, bound, deleted_kind, deleted_path, nulls, places_in, unreached, reached, wants_literal}
 use Rattle.vrl_check.specs.Determined.{JudgementsAreDetermined}
 use Rattle.vrl_check.specs.OpenRules.{OpenRules, HaveOneTag, language_rules}
@@ -132,17 +129,17 @@ one_written : EqualTagsAreOneKind → (t : Target) {K L : KindTree} {a b c d : O
 one_written kinds t {L = L} {a = a} {b = b} {c = c} {d = d} kind known one two =
     one_written_of kinds t L b c d (subst (λ x. IsTargetWritten t L x c) known (subst (λ K. IsTargetWritten t K a c) kind one)) two
 
-abbrev IsTakenOutOf : Option KindTree → Root → List PlainStep → RootMap → Option RootMap → Type 0
+abbrev IsTakenOutOf : Option KindTree → Root → List Step → RootMap → Option RootMap → Type 0
 IsTakenOutOf found root path roots after = MatchOption found (after ≡ Some roots) (λ K. HasNow root (remove (tags_at K) path) roots after)
 
-one_taken_out : EqualTagsAreOneKind → (found : Option KindTree) (root : Root) (path : List PlainStep) (roots : RootMap) (c d : Option RootMap) → IsTakenOutOf found root path roots c → IsTakenOutOf found root path roots d → c ≡ d
+one_taken_out : EqualTagsAreOneKind → (found : Option KindTree) (root : Root) (path : List Step) (roots : RootMap) (c d : Option RootMap) → IsTakenOutOf found root path roots c → IsTakenOutOf found root path roots d → c ≡ d
 one_taken_out kinds None root path roots c d one two = one ∙ sym two
 one_taken_out kinds (Some K) root path roots c d one two = one.2 ∙ ap (λ M. Some (with_kind root M roots)) (one_cut kinds refl one.1 two.1) ∙ sym two.2
 
 one_deleted_of : EqualTagsAreOneKind → (root : Root) (path : List Step) (before c d : Option RootMap) → IsDeleted root path before c → IsDeleted root path before d → c ≡ d
 one_deleted_of kinds root [] before c d one two = one.2 ∙ ap (λ M. option_map (with_kind root M) before) (one_cut kinds refl one.1 two.1) ∙ sym two.2
 one_deleted_of kinds root (step ∷ path) None c d one two = one ∙ sym two
-one_deleted_of kinds root (step ∷ path) (Some roots) c d one two = one_taken_out kinds (kind_of root roots) root (plain (step ∷ path)) roots c d one two
+one_deleted_of kinds root (step ∷ path) (Some roots) c d one two = one_taken_out kinds (kind_of root roots) root (step ∷ path) roots c d one two
 
 one_deleted : EqualTagsAreOneKind → (found : Option (Root × List Step)) (before c d : Option RootMap) → IsDeletedAt found before c → IsDeletedAt found before d → c ≡ d
 one_deleted kinds None before c d one two = one ∙ sym two

@@ -8,12 +8,12 @@ use Rattle.vrl_place.specs.Sets.{is_alone}
 use Rattle.vrl_path.specs.declared.path.Step.{Step}
 use Rattle.vrl_state.specs.States.{kind_in, kind_of, IsCutOf, IsEntered, IsRootKind, RootMap}
 use Rattle.vrl_syntax.specs.ErrorAssignments.{in_expr, in_exprs}
-use Rattle.vrl_syntax.specs.Tree.{Expr, expr, Form, literal, read, query, group, block, negation, binary, Exprs}
+use Rattle.vrl_syntax.specs.Tree.{Expr, expr, Form, literal, read, query, group, block, negation, binary, Exprs, span_of}
 use Rattle.vrl_syntax.specs.declared.root.Op.{Op}
 use Rattle.vrl_syntax.specs.declared.root.Root.{Root}
 use Rattle.vrl_value.specs.Tree.{Tree}
 use Rattle.vrl_judge.specs.Rules.{Judgement, IsReadAt, at, chained, gives, is_alive, is_compared, is_comparison, is_equality, is_other, left, no_objects, nothing, of_pairs, settle, with_codes, when}
-use Rattle.vrl_check.specs.Judgement.{nulls, of_item, span_of, table_of}
+use Rattle.vrl_check.specs.Judgement.{nulls, of_item, table_of}
 use Rattle.vrl_check.specs.Judgement.{Judges, unreached, reached, a_literal, a_known_root, an_unknown_root, a_query, a_group, a_block, a_negation, an_equality, of_table, a_merge, JudgesBoth, operands, JudgesBlock, unreached_block, reached_block, JudgesAll}
 use Rattle.vrl_check.specs.Walking.{AreBoth, IsAnywhereAs, IsBesideAs, IsBlockAs, IsGivenAs, IsItemAs, IsJudgedAs, IsSequenceAs}
 use Rattle.vrl_judge.specs.Judging.{AreEnds, ArePairedAs, HasEnds, HasJudged, HaveCommonScopes, IsBlockEndAs, IsCombinedAs, IsEquatedAs, IsInBlock, IsMergedAs, IsNegatedAs, IsReadOffAs, IsReported, IsSettledAs, no_ends, table_rule}

@@ -4,11 +4,11 @@ use Rattle.std.proofs.lemmas.List.{at_drop_all, at_drop_more, map-append}
 use Rattle.vrl_kind.specs.Canonical.{never_kind}
 use Rattle.vrl_kind.specs.KindTree.{KindTree}
 use Rattle.vrl_state.specs.States.{IsCutOf, IsRootKind}
-use Rattle.vrl_syntax.specs.Tree.{Else, Expr, Exprs, Form, no_exprs, exprs, Pairs, no_pairs, pair, array, object}
+use Rattle.vrl_syntax.specs.Tree.{Else, Expr, Exprs, Form, no_exprs, exprs, Pairs, no_pairs, pair, array, object, span_of}
 use Rattle.vrl_syntax.specs.View.{expr_of, exprs_view, pairs_view}
 use Rattle.vrl_syntax.specs.declared.tree.Expr.{Expr as CodeExpr}
 use Rattle.vrl_judge.specs.Rules.{Judgement, IsScalar, array_at, gives, object_at, with_codes}
-use Rattle.vrl_check.specs.Judgement.{of_item, pair_names, pair_values, span_of}
+use Rattle.vrl_check.specs.Judgement.{of_item, pair_names, pair_values}
 use Rattle.vrl_check.specs.Judgement.{Judges, JudgesAll, no_more, one_more, JudgesItems, no_more_items, one_more_item, an_array, an_object}
 use Rattle.vrl_judge.specs.Judging.{AreEnds, AreJoinedEnds, HasEnds, HasGathered, HasJudged, HaveCommonScopes, IsSettledAs, no_ends}
 use Rattle.vrl_check.specs.Walking.{ExprCanBeJudged, ElseCanBeJudged, FormCanBeJudged, IsAnywhereAs, IsItemAs, IsJudgedAs, IsScriptAs, IsSequenceAs, ItemsCanBeJudged, PairsCanBeJudged}

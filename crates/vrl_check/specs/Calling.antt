@@ -7,7 +7,6 @@ use Rattle.vrl_diag.specs.declared.diagnostic.Span.{Span}
 use Rattle.vrl_syntax.specs.ErrorAssignments.{in_closure}
 use Rattle.vrl_syntax.specs.Tree.{Expr, Form, Args, no_args, arg, Closure}
 use Rattle.vrl_syntax.specs.View.{args_of, closure_in, closure_of, expr_of}
-use Rattle.vrl_syntax.specs.Written.{is_del}
 use Rattle.vrl_syntax.specs.declared.tree.Arg.{Arg as CodeArg}
 use Rattle.vrl_syntax.specs.declared.tree.Call.{Call as CodeCall, out-Call}
 use Rattle.vrl_kind.specs.Canonical.{never_kind}
@@ -18,7 +17,7 @@ use Rattle.vrl_table.specs.Binding.{binding, keywords_of, path_parameters}
 use Rattle.vrl_table.specs.Table.{row_of}
 use Rattle.vrl_table.specs.declared.function.Fun.{Fun}
 use Rattle.vrl_judge.specs.Branching.{IsOrFail}
-use Rattle.vrl_syntax.specs.Calls.{is_exists}
+use Rattle.vrl_syntax.specs.Calls.{is_exists, is_del}
 use Rattle.vrl_diag.specs.Refusal.{is_error}
 use Rattle.vrl_judge.specs.Rules.{Argument, Judgement, at, banged, gives, if_state}
 use Rattle.vrl_check.specs.Judgement.{AreAskedAbout, Gives, JudgesArguments, IsAnsweredUnless, IsDeletedAt, behind_arguments, bound, deleted_kind, deleted_path, nulls, of_call, places_in, wants_literal, wants_path}

@@ -14,10 +14,9 @@ use Rattle.vrl_value.specs.Tree.{Tree}
 use Rattle.vrl_value.specs.declared.value.Tag.{Tag}
 use Rattle.vrl_diag.specs.declared.diagnostic.Span.{Span}
 use Rattle.vrl_diag.specs.declared.diagnostic.Diagnostic.{Diagnostic}
-use Rattle.vrl_syntax.specs.Tree.{Expr, expr, Form, literal, array, object, read, query, group, block, conditional, negation, binary, assign, merge, both, call, return_of, abort_with, Exprs, no_exprs, exprs, Pairs, Arms, no_arms, arm, Else, no_else, else_block, Args, no_args, arg, Closure, no_closure, closure, no_message, message, no_pairs, pair}
-use Rattle.vrl_syntax.specs.Calls.{is_exists, literal_of, path_of}
+use Rattle.vrl_syntax.specs.Tree.{Expr, expr, Form, literal, array, object, read, query, group, block, conditional, negation, binary, assign, merge, both, call, return_of, abort_with, Exprs, no_exprs, exprs, Pairs, Arms, no_arms, arm, Else, no_else, else_block, Args, no_args, arg, Closure, no_closure, closure, no_message, message, no_pairs, pair, span_of}
+use Rattle.vrl_syntax.specs.Calls.{is_exists, literal_of, path_of, is_del}
 use Rattle.vrl_syntax.specs.ErrorAssignments.{empty_value, in_closure, in_expr, in_exprs}
-use Rattle.vrl_syntax.specs.Written.{is_del}
 use Rattle.vrl_syntax.specs.declared.root.Op.{Op}
 use Rattle.vrl_syntax.specs.declared.root.Root.{Root}
 use Rattle.vrl_syntax.specs.declared.root.Target.{Target}
@@ -50,9 +49,6 @@ abbrev pub nulls : ℕ → List Tag
 nulls n = replicate n tag.Null
 
 -- ---- parts of forms
-
-abbrev pub span_of : Expr → Span
-span_of (expr span f) = span
 
 -- the names of an object's fields, and their values
 abbrev pub pair_names : Pairs → List (List ℕ)

@@ -4,14 +4,14 @@ use Rattle.vrl_diag.specs.declared.diagnostic.Diagnostic.{Diagnostic}
 use Rattle.vrl_diag.specs.declared.diagnostic.Span.{Span}
 use Rattle.vrl_syntax.specs.Limits.{args_faults, expr_faults, form_faults, exprs_faults, pairs_faults, arms_faults, else_faults}
 use Rattle.vrl_syntax.specs.Regexes.{args_regexes_below, arms_regexes_below, else_regexes_below, expr_regexes_below, exprs_regexes_below, form_regexes_below, pairs_regexes_below}
-use Rattle.vrl_syntax.specs.Tree.{Args, Expr, Form, Exprs, Pairs, Arms, Else, no_else, else_block}
+use Rattle.vrl_syntax.specs.Tree.{Args, Expr, Form, Exprs, Pairs, Arms, Else, no_else, else_block, span_of}
 use Rattle.vrl_syntax.specs.View.{ArmTree}
 use Rattle.vrl_kind.specs.Canonical.{never_kind}
 use Rattle.vrl_kind.specs.KindTree.{KindTree}
 use Rattle.vrl_state.specs.States.{RootMap, IsRootKind}
 use Rattle.vrl_check.specs.Calls.{args_hold_closure_call, arms_hold_closure_call, else_holds_closure_call, expr_holds_closure_call, exprs_hold_closure_call, form_holds_closure_call, pairs_hold_closure_call}
 use Rattle.vrl_judge.specs.Rules.{Judgement, IsScalar, IsThen, gives, settle, with_codes}
-use Rattle.vrl_check.specs.Judgement.{IsBeside, of_item, predicate_of, span_of}
+use Rattle.vrl_check.specs.Judgement.{IsBeside, of_item, predicate_of}
 use Rattle.vrl_check.specs.Judgement.{Judges, Gives, JudgesAll, JudgesBlock, JudgesItems}
 use Rattle.vrl_judge.specs.declared.branches.Ways.{Ways}
 use Rattle.vrl_judge.specs.declared.checker.Checker.{Checker}

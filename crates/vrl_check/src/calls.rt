@@ -32,7 +32,7 @@ use vrl_judge::{
 use vrl_kind::{Kind, cut, kind_is_canonical};
 use vrl_path::Path;
 use vrl_pattern::Patterns;
-use vrl_syntax::{Arg, Args, Call, Expr, Root};
+use vrl_syntax::{Arg, Args, Call, CallForm, Expr, Root};
 use vrl_table::{
     BindFault, Bound, Fun, bind_to, functions_keep_law, lookup, may_fail, parameters, result_kind,
     wrong_literal,
@@ -78,9 +78,9 @@ impl Callee {
     fn of(name: &str) -> Option<Callee>
         ensures { MatchOption result (IsUnknown name.now) (IsNamed name.now) }
     {
-        match name {
-            "del" => Some(Callee::Deletion),
-            "exists" => Some(Callee::Existence),
+        match CallForm::named(name) {
+            Some(CallForm::Del) => Some(Callee::Deletion),
+            Some(CallForm::Exists) => Some(Callee::Existence),
             _ => match lookup(name) {
                 Some(function) => Some(Callee::Function(function)),
                 None => None,

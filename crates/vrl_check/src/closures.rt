@@ -1,9 +1,8 @@
 ghost use Rattle.std.specs.Prelude.{option_map, ◌≡◌};
 ghost use Rattle.vrl_check.specs.Calls.{args_hold_closure_call as args_hold_one, arms_hold_closure_call as arms_hold_one, closure_holds_closure_call as closure_holds_one, else_holds_closure_call as else_holds_one, expr_holds_closure_call as expr_holds_one, exprs_hold_closure_call, form_holds_closure_call as form_holds_one, pairs_hold_closure_call as pairs_hold_one};
-ghost use Rattle.vrl_syntax.specs.Calls.{takes_closure as name_takes_closure};
 ghost use Rattle.vrl_syntax.specs.View.{args_of, arms_of, call_of, closure_in, closure_of, else_of, expr_of, exprs_of, pairs_of};
 
-use vrl_syntax::{Args, Arms, Call, Closure, Expr, Exprs, Form, Pairs};
+use vrl_syntax::{Args, Arms, Call, Closure, Expr, Exprs, Form, Pairs, takes_closure};
 
 /// Whether items call a function that takes a closure, anywhere inside: `for_each`, `filter`, `map_values` or `map_keys`. It takes no
 /// memory, and walks the items at most once.
@@ -17,13 +16,6 @@ pub fn holds_closure_call(items: &Exprs) -> bool
         }
     }
     false
-}
-
-// Whether a function takes a closure.
-fn takes_closure(name: &str) -> bool
-    ensures { result ≡ name_takes_closure name.now }
-{
-    name == "for_each" || name == "filter" || name == "map_values" || name == "map_keys"
 }
 
 // Whether an expression calls such a function.

@@ -12,7 +12,7 @@ use Rattle.vrl_value.specs.declared.value.Tag.TheVariants as tag
 use Rattle.vrl_syntax.specs.ErrorAssignments.{behind, behind_all, behind_arms, in_expr, in_exprs}
 use Rattle.vrl_syntax.specs.Stores.{store_kept}
 use Rattle.vrl_syntax.specs.Tree as form
-use Rattle.vrl_syntax.specs.Tree.{Expr, Exprs, Arms, no_arms, arm, Else, no_else, else_block}
+use Rattle.vrl_syntax.specs.Tree.{Expr, Exprs, Arms, no_arms, arm, Else, no_else, else_block, span_of}
 use Rattle.vrl_kind.specs.KindTree.{KindTree}
 use Rattle.vrl_kind.specs.Canonical.{never_kind}
 use Rattle.vrl_state.specs.States.{RootMap}
@@ -22,7 +22,7 @@ use Rattle.vrl_store.specs.Operators.{is_true}
 use Rattle.vrl_store.specs.Outcomes.{Outcome, value, error, aborted, returned, banged, deep, Ended, block_left, ends, on_value}
 use Rattle.vrl_store.specs.WellFormed.{AreWellFormedArms, AreWellFormedExprs, IsWellFormedElse, IsWellFormedStore}
 use Rattle.vrl_judge.specs.Rules.{Judgement, IsScalar, gives, without_new_names, left, nothing, of_predicate, settle, with_codes}
-use Rattle.vrl_check.specs.Judgement.{IsBeside, span_of}
+use Rattle.vrl_check.specs.Judgement.{IsBeside}
 use Rattle.vrl_resolve.specs.Meaning.{eval, eval_arms, eval_else, eval_items}
 use Rattle.vrl_compile.specs.Sound.{HasNoError, IsSoundEnd, IsSoundOutcome}
 use Rattle.vrl_compile.proofs.SoundCauses.{HasCause}

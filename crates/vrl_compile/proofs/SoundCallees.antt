@@ -7,9 +7,8 @@ use Rattle.std.proofs.lemmas.Slice.Eq.{bytes_eq-Decides}
 use Rattle.vrl_value.specs.Tree.{Tree}
 use Rattle.vrl_path.specs.declared.path.Step.{Step}
 use Rattle.vrl_diag.specs.declared.diagnostic.Span.{Span}
-use Rattle.vrl_syntax.specs.Calls.{is_exists, literal_of}
+use Rattle.vrl_syntax.specs.Calls.{is_exists, literal_of, is_del}
 use Rattle.vrl_syntax.specs.Tree.{Expr, expr, read, Args, no_args, arg, no_closure}
-use Rattle.vrl_syntax.specs.Written.{is_del}
 use Rattle.vrl_syntax.specs.declared.root.Root.{Root}
 use Rattle.vrl_state.specs.Stores.{Store}
 use Rattle.vrl_builtin.specs.Rows.{ParameterRow, Row}

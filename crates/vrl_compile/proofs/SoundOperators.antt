@@ -8,7 +8,7 @@ use Rattle.vrl_value.specs.declared.value.Tag.TheVariants as tag
 use Rattle.vrl_diag.specs.declared.diagnostic.Diagnostic.{Diagnostic}
 use Rattle.vrl_diag.specs.declared.diagnostic.Span.{Span}
 use Rattle.vrl_syntax.specs.ErrorAssignments.{behind}
-use Rattle.vrl_syntax.specs.Tree.{Expr, negation, binary}
+use Rattle.vrl_syntax.specs.Tree.{Expr, negation, binary, span_of}
 use Rattle.vrl_syntax.specs.declared.root.Op.{Op}
 use Rattle.vrl_syntax.specs.declared.root.Op.TheVariants as op
 use Rattle.vrl_kind.specs.KindTree.{KindTree}
@@ -22,7 +22,7 @@ use Rattle.vrl_store.specs.Operators.{applied, merged, negated}
 use Rattle.vrl_store.specs.Outcomes.{Outcome, value, error, Ended, ends, on_value}
 use Rattle.vrl_store.specs.WellFormed.{IsWellFormedEnded, IsWellFormedExpr, IsWellFormedStore}
 use Rattle.vrl_judge.specs.Rules.{Judgement, IsBehind, IsMerged, IsMergedIf, IsScalar, IsThen, at, chained, if_state, is_equality, is_other, no_objects, of_pairs, scalars_at, some_pair, table_tags, when, with_codes}
-use Rattle.vrl_check.specs.Judgement.{span_of, table_of}
+use Rattle.vrl_check.specs.Judgement.{table_of}
 use Rattle.vrl_check.specs.Judgement.{Judges, JudgesBoth, operands}
 use Rattle.vrl_resolve.specs.Meaning.{both_sides, combined, eval, eval_form}
 use Rattle.vrl_compile.specs.Sound.{HasNoError, IsSoundEnd, IsSoundOutcome}

@@ -6,9 +6,8 @@ use Rattle.vrl_value.specs.Tree.{boolean, no_items, item}
 use Rattle.vrl_value.specs.declared.value.Tag.{Tag}
 use Rattle.vrl_value.specs.declared.value.Tag.TheVariants as tag
 use Rattle.vrl_diag.specs.declared.diagnostic.Span.{Span}
-use Rattle.vrl_syntax.specs.Calls.{is_exists, path_of}
+use Rattle.vrl_syntax.specs.Calls.{is_exists, path_of, is_del}
 use Rattle.vrl_syntax.specs.Tree.{Expr, expr, read, Args, no_args, arg, Closure, no_closure, call}
-use Rattle.vrl_syntax.specs.Written.{is_del}
 use Rattle.vrl_kind.specs.Canonical.{never_kind}
 use Rattle.vrl_kind.specs.KindTree.{KindTree}
 use Rattle.vrl_kind.specs.Kinds.{Inhabits}

@@ -5,7 +5,7 @@ use Rattle.vrl_value.specs.Tag.{tag_of}
 use Rattle.vrl_value.specs.Tree.{Tree, string}
 use Rattle.vrl_value.specs.declared.value.Tag.{Tag}
 use Rattle.vrl_value.specs.declared.value.Tag.TheVariants as tag
-use Rattle.vrl_syntax.specs.Tree.{Expr, return_of, abort_with, no_message, message}
+use Rattle.vrl_syntax.specs.Tree.{Expr, return_of, abort_with, no_message, message, span_of}
 use Rattle.vrl_kind.specs.Canonical.{never_kind}
 use Rattle.vrl_kind.specs.KindTree.{KindTree}
 use Rattle.vrl_kind.specs.Kinds.{Inhabits}
@@ -14,7 +14,6 @@ use Rattle.vrl_state.specs.Stores.{FitsKnown, Store}
 use Rattle.vrl_builtin.specs.Rows.{SettingTree}
 use Rattle.vrl_store.specs.Outcomes.{returned, ends}
 use Rattle.vrl_judge.specs.Rules.{Judgement, at, is_alive, is_fallible, is_other, nothing, settled_kind, when, with_codes}
-use Rattle.vrl_check.specs.Judgement.{span_of}
 use Rattle.vrl_check.specs.Judgement.{Judges}
 use Rattle.vrl_resolve.specs.Meaning.{aborted_with, eval}
 use Rattle.vrl_compile.specs.Sound.{IsSoundEnd}

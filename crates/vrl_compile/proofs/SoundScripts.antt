@@ -8,7 +8,7 @@ use Rattle.vrl_value.specs.Tree.{Tree, null}
 use Rattle.vrl_diag.specs.declared.diagnostic.Diagnostic.{Diagnostic}
 use Rattle.vrl_diag.specs.declared.diagnostic.Span.{Span}
 use Rattle.vrl_syntax.specs.Stores.{store_of}
-use Rattle.vrl_syntax.specs.Tree.{Expr, Exprs}
+use Rattle.vrl_syntax.specs.Tree.{Expr, Exprs, span_of}
 use Rattle.vrl_kind.specs.KindTree.{KindTree}
 use Rattle.vrl_state.specs.States.{IsJoined, RootMap}
 use Rattle.vrl_state.specs.Stores.{FitsKnown, Store}
@@ -16,7 +16,7 @@ use Rattle.vrl_builtin.specs.Rows.{SettingTree}
 use Rattle.vrl_store.specs.Outcomes.{Outcome, value, error, aborted, returned, banged, deep, Ended}
 use Rattle.vrl_store.specs.WellFormed.{IsWellFormed, IsWellFormedStore}
 use Rattle.vrl_judge.specs.Rules.{Judgement, at, if_state, settle, when, with_codes}
-use Rattle.vrl_check.specs.Judgement.{of_item, span_of}
+use Rattle.vrl_check.specs.Judgement.{of_item}
 use Rattle.vrl_check.specs.Judgement.{JudgesItems, no_more_items, one_more_item, a_script}
 use Rattle.vrl_resolve.specs.Meaning.{run_script}
 use Rattle.vrl_compile.specs.Sound.{ComesTo, ExpressionsAreSound, HasNoError, IsSoundOutcome, ScriptsAreSound, ends_of}

@@ -3,7 +3,6 @@ use Rattle.std.proofs.Common.{◌≡◌, false, List, [], Option, Some, None, �
 use Rattle.std.proofs.lemmas.Bool.{cases_lt}
 use Rattle.vrl_value.specs.Look.{Step}
 use Rattle.vrl_value.specs.Tree.{Tree}
-use Rattle.vrl_path.specs.Steps.{plain}
 use Rattle.vrl_path.specs.declared.path.Step.{Step as CodeStep}
 use Rattle.vrl_syntax.specs.declared.root.Root.{Root}
 use Rattle.vrl_kind.specs.Canonical.{IsCanonical}
@@ -27,7 +26,7 @@ cut_of K =
     (λ low. (K, record { kept = λ _ _. refl; too_many = λ many. absurd (omega (arith, many, few)); too_deep = λ deep. absurd (omega (arith, deep, low)) })) (cases_lt level_limit (levels K)))
     (cases_lt node_limit (nodes K))
 
-pub left_over : (r : Root) (K : KindTree) (before after : Option RootMap) → IsCanonical K → ((p : List Step) → tags_at K p ≡ found_at (left_in r) p) → IsWritten r (plain []) K before after → IsDeleted r [] before after
+pub left_over : (r : Root) (K : KindTree) (before after : Option RootMap) → IsCanonical K → ((p : List Step) → tags_at K p ≡ found_at (left_in r) p) → IsWritten r [] K before after → IsDeleted r [] before after
 left_over r K None after canonical tags is =
     let cut = cut_of K in
     (cut.0, record { whole = K; canonical = canonical; tags = λ p t. ap (λ T. T t) (tags p); cut = cut.1 }, is)
@@ -44,10 +43,10 @@ pub root_present : (r : Root) (v : Tree) (K : KindTree) → v ≡ left_in r → 
 root_present r v K left tags = ap (λ T. T tag.Absent) (tags []) ∙ ap (λ u. found_at u [] tag.Absent) left ∙ left_present r
 
 pub root_taken : (r : Root) (path : List CodeStep) (v : Tree) (K : KindTree) (before after : Option RootMap) → path ≡ [] → v ≡ left_in r → IsCanonical K → ((p : List Step) → tags_at K p ≡ found_at v p)
-    → IsWritten r (plain path) K before after → IsDeleted r path before after
+    → IsWritten r path K before after → IsDeleted r path before after
 root_taken r path v K before after empty left canonical tags is =
     subst (λ p. IsDeleted r p before after) (sym empty)
-    (left_over r K before after canonical (λ p. tags p ∙ ap (λ u. found_at u p) left) (subst (λ p. IsWritten r (plain p) K before after) empty is))
+    (left_over r K before after canonical (λ p. tags p ∙ ap (λ u. found_at u p) left) (subst (λ p. IsWritten r p K before after) empty is))
 
 -- nothing is in a list without length
 pub empty_list : {X : Type 0} (xs : List X) → length xs ≡ 0 → xs ≡ []

@@ -5,7 +5,6 @@ use Rattle.std.specs.Prelude.{◌≡◌, ℕ, zero, suc, Bool, true, false, ◌|
 use Rattle.std.specs.List.{list_any}
 use Rattle.vrl_value.specs.Look.{field, place}
 use Rattle.vrl_value.specs.declared.value.Tag.{Tag}
-use Rattle.vrl_path.specs.Steps.{plain}
 use Rattle.vrl_diag.specs.declared.diagnostic.Span.{Span}
 use Rattle.vrl_diag.specs.declared.diagnostic.Diagnostic.{Diagnostic}
 use Rattle.vrl_diag.specs.Refusal.{is_error}
@@ -274,7 +273,7 @@ or_else_at K L p t = without_at K tag.Null p t || tags_at L p t
 -- the place of a target is written; one that takes nothing changes nothing
 abbrev pub IsTargetWritten : Target → KindTree → Option RootMap → Option RootMap → Type 0
 IsTargetWritten Nowhere K before after = after ≡ before
-IsTargetWritten (Place span root path) K before after = states.IsWritten root (plain path) K before after
+IsTargetWritten (Place span root path) K before after = states.IsWritten root path K before after
 
 abbrev pub is_event : Target → Bool
 is_event (Place span root.Event []) = true
@@ -346,4 +345,4 @@ banged span true j = with_codes (when (is_needless j) (at 620 span)) (record j {
 -- the state without what stands at a path; that of a root is what is left in it
 abbrev pub IsDeleted : Root → List steps.Step → Option RootMap → Option RootMap → Type 0
 IsDeleted root [] before after = (K : KindTree) × IsCutOf (found_at (left_in root)) K × (after ≡ option_map (with_kind root K) before)
-IsDeleted root (step ∷ path) before after = states.IsTakenOut root (plain (step ∷ path)) before after
+IsDeleted root (step ∷ path) before after = states.IsTakenOut root (step ∷ path) before after

@@ -1,5 +1,4 @@
 ghost use Rattle.std.specs.Prelude.{is_some, not, ◌&&◌, ◌≡◌, IfOk, OnOk};
-ghost use Rattle.vrl_diag.specs.Refusal.{is_error as refuses};
 ghost use Rattle.vrl_judge.specs.Branching.{IsOrFail};
 ghost use Rattle.vrl_judge.specs.Judging.{known_on, way, AreEnds, IsMoved, IsReported, IsWay};
 ghost use Rattle.vrl_judge.specs.Returns.{returning};
@@ -12,7 +11,7 @@ use crate::ends::{Ends, Returned};
 use crate::kinds::is_exactly;
 use crate::outcome::Outcome;
 use std::alloc::Global;
-use vrl_diag::{Diagnostic, Severity, Span, severity};
+use vrl_diag::{Diagnostic, Span};
 use vrl_kind::Kind;
 use vrl_pattern::Patterns;
 use vrl_state::{Branch, Mark, State};
@@ -70,7 +69,7 @@ impl Checker<'_> {
         }
         let diagnostic = Diagnostic { code, span };
         self.diagnostics.push(diagnostic)?;
-        ends.add_error(is_error(&diagnostic));
+        ends.add_error(diagnostic.is_error());
         Ok(())
     }
 
@@ -177,11 +176,4 @@ impl Checker<'_> {
         let branch = self.back(mark);
         self.join(branch)
     }
-}
-
-// Whether a diagnostic refuses the script.
-fn is_error(diagnostic: &Diagnostic) -> bool
-    ensures { result ≡ refuses diagnostic.now }
-{
-    matches!(severity(diagnostic.code), Severity::Error)
 }

@@ -1,11 +1,11 @@
 use Rattle.std.proofs.Common.{◌≡◌, rules, subst, sym}
 use Rattle.vrl_syntax.specs.View.{expr_of}
 use Rattle.vrl_syntax.specs.declared.tree.Form.{the_lemmas}
-use Rattle.vrl_check.specs.Judgement.{span_of}
 use Rattle.vrl_check.specs.Walking.{IsItemAs}
 use Rattle.vrl_check.proofs.Forms.{item_judged}
 use Rattle.vrl_judge.proofs.Results.{by_both}
 use Rattle.vrl_check.proofs.script.script_item.Goals as goal
+use Rattle.vrl_syntax.specs.Tree.{span_of}
 
 pub returns : goal.returns
 returns c =

@@ -1,7 +1,7 @@
 use Rattle.std.proofs.Common.{◌≡◌, ◌++◌, ◌∷◌, [], rules, sym, ◌∙◌, subst, arith, ap, option_map, refl, ap₂, ◌+◌, drop, length, vec_len, IfOk}
 use Rattle.std.proofs.lemmas.Bool.{true≢false}
 use Rattle.std.proofs.lemmas.Result.{IfOk-weaker}
-use Rattle.vrl_syntax.specs.Tree.{expr, abort_with, arg, array, assign, binary, block, both, call, conditional, group, literal, merge, message, negation, no_message, object, query, read, return_of}
+use Rattle.vrl_syntax.specs.Tree.{expr, abort_with, arg, array, assign, binary, block, both, call, conditional, group, literal, merge, message, negation, no_message, object, query, read, return_of, span_of}
 use Rattle.vrl_syntax.specs.View.{arg_of, args_of, args_view, call_of, closure_in, closure_of, expr_of, form_of, arms_of, else_of, exprs_of, pairs_of, exprs_view, pairs_view, arm_of, arms_view}
 use Rattle.vrl_syntax.specs.declared.tree.Arg.{out-Arg}
 use Rattle.vrl_syntax.specs.declared.tree.Arm.{out-Arm}
@@ -14,7 +14,6 @@ use Rattle.vrl_syntax.proofs.PartSizes.{expr_size, form_size, arms_size, else_si
 use Rattle.vrl_value.specs.View.{tree_of}
 use Rattle.vrl_check.proofs.Partway.{can_at, else_at, form_at, items_at, array_can_next, array_common, array_first, array_given, array_next, next_item, no_item_left, array_fewer, next_pair, no_pair_left, object_can_next, object_common, object_first, object_given, object_next, object_fewer, sequence_can_next, sequence_common, sequence_end, sequence_first, sequence_next, sequence_fewer}
 use Rattle.vrl_judge.proofs.Results.{by_both}
-use Rattle.vrl_check.specs.Judgement.{span_of}
 use Rattle.vrl_check.proofs.Branching.{conjunction_judged, stands_here, disjunction_judged, coalescing_judged, return_judged, abort_judged}
 use Rattle.vrl_check.proofs.Told.{expr_ends, block_ends, expr_root}
 use Rattle.vrl_check.proofs.Arguments.{argument_can_next, argument_common, argument_fewer, arguments_are, arguments_first, arguments_given, arguments_next, arguments_told, call_given, next_arg, no_arg_left}
