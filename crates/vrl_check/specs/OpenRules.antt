@@ -1,8 +1,10 @@
 -- What the rules of the judgement leave open: which tag the empty value of an error assignment has. The judgement of the language is one
 -- instance of them. What is shown of every instance holds of any other too, as of a judgement whose empty values are given beforehand.
 --
--- A closure isn't judged so far. The rule by which the state before each of its runs is found joins here, as a test of the tries: for each of
--- them the state before the body and the one behind it, which the judgement of the call gathers as data.
+-- A rule is a test, since a law over all instances of rules that are relations would be too large for a clause. A closure isn't judged so far.
+-- The rule by which the state before each of its runs is found joins here, as a test of the list of its tries: each with the state before the
+-- body, the one behind it, and whether it is stable and comes next by the rules of the language, which the judgement of the call gathers as
+-- data.
 use Rattle.std.specs.Prelude.{◌≡◌, ℕ, Bool, true, List}
 use Rattle.vrl_value.specs.declared.value.Tag.{Tag}
 use Rattle.vrl_kind.specs.KindTree.{KindTree}
