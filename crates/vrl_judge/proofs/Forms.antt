@@ -22,6 +22,7 @@ use Rattle.vrl_judge.proofs.Parts.{are_ends_of, behind_with, ends_in, ends_of, e
 use Rattle.vrl_judge.proofs.Gathering.{part_are, part_then, value_ends, value_gathered, with_kind_of}
 use Rattle.vrl_judge.proofs.RootKinds.{any_root, merged_root, read_root, scalar_root, table_root}
 use Rattle.vrl_judge.proofs.Joining.{join_of}
+use Rattle.std.specs.FinMap as map
 use Rattle.std.specs.FinSet as set
 use Rattle.vrl_value.specs.declared.value.Tag.TheVariants as tag
 
@@ -58,9 +59,9 @@ read_off path part now K at_path before j has =
 -- ---- blocks
 
 -- what a block keeps is told alike
-pub kept_all : (scope : Scope) (known : RootMap) (there : Option RootMap) → ((x : List ℕ) → set.contains scope.known x ≡ knows (Some known) x) → option_map (kept_by scope) there ≡ option_map (without_new_names known) there
-kept_all scope known None names = refl
-kept_all scope known (Some roots) names = ap Some (kept_is scope known roots names)
+pub kept_all : (scope : Scope) (known : RootMap) (there : Option RootMap) → scope.hidden ≡ map.empty → ((x : List ℕ) → set.contains scope.known x ≡ knows (Some known) x) → option_map (kept_by scope) there ≡ option_map (without_new_names known) there
+kept_all scope known None none names = refl
+kept_all scope known (Some roots) none names = ap Some (kept_is scope known roots none names)
 
 -- the end of an open block
 pub block_ended : (now after : Checker) (part outcome : Outcome) (ends : Ends) → IsLeft now.state after.state → after.diagnostics ≡ now.diagnostics → after.empties ≡ now.empties → after.patterns ≡ now.patterns
@@ -71,13 +72,13 @@ block_ended now after part outcome ends leaves same_codes same_empties same_patt
     let rest : after.state.scopes ≡ before.state.scopes = cc in
     let inside = ends_in entered.state.scopes (enters.scope ∷ before.state.scopes) part.ends j enters.scopes has.ends in
     let names = λ (x : List ℕ). enters.names x ∙ ap (λ k. knows k x) here in
-    let gone = left_ends enters.scope before.state.scopes known part.ends ends j names inside (left_so enters.scope before.state.scopes inside.are) in
+    let gone = left_ends enters.scope before.state.scopes known part.ends ends j enters.hidden names inside (left_so enters.scope before.state.scopes inside.are) in
     settles before (left known j) (record {
       kind = has.kind;
       root = has.root;
       ends = gone;
       gathered = record {
-        ok = leaves.known ∙ ap₂ (λ x k. option_map (kept_by x) k) one has.gathered.ok ∙ kept_all enters.scope known j.ok names;
+        ok = leaves.known ∙ ap₂ (λ x k. option_map (kept_by x) k) one has.gathered.ok ∙ kept_all enters.scope known j.ok enters.hidden names;
         scopes = rest;
         diagnostics = ap (λ ds. ds.items) same_codes ∙ has.gathered.diagnostics ∙ ap (λ ds. ds.items ++ j.codes) entered_codes;
         empties = ap (λ ts. ts.items) same_empties ∙ has.gathered.empties ∙ ap (λ ts. ts.items ++ j.empties) entered_empties;

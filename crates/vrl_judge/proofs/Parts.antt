@@ -7,6 +7,7 @@ use Rattle.std.specs.List.{list_any}
 use Rattle.vrl_diag.specs.declared.diagnostic.Diagnostic.{Diagnostic}
 use Rattle.vrl_kind.specs.KindTree.{KindTree}
 use Rattle.vrl_state.specs.States.{kept as kept_by, knows, IsEither, IsJoined, RootMap, Scope, State}
+use Rattle.vrl_state.proofs.Behind.{nothing_back}
 use Rattle.vrl_judge.specs.Returns.{return_kind, return_state, returning}
 use Rattle.vrl_diag.specs.Refusal.{is_error}
 use Rattle.vrl_judge.specs.Rules.{Judgement, IsBehind, IsThen, if_state, is_alive, without_new_names, left, settle, settled_kind, with_codes}
@@ -229,13 +230,13 @@ settled_judged before after part settled alive j has reached kind ends = record 
 -- ---- blocks
 
 -- the names that a block keeps are those that were known where it began
-pub kept_is : (scope : Scope) (known roots : RootMap) → ((x : List ℕ) → set.contains scope.known x ≡ knows (Some known) x) → kept_by scope roots ≡ without_new_names known roots
-kept_is scope known roots names = ap (λ test. record roots { variables = map.retain_keys roots.variables test }) (fun_ext names)
+pub kept_is : (scope : Scope) (known roots : RootMap) → scope.hidden ≡ map.empty → ((x : List ℕ) → set.contains scope.known x ≡ knows (Some known) x) → kept_by scope roots ≡ without_new_names known roots
+kept_is scope known roots none names = nothing_back scope roots none ∙ ap (λ test. record roots { variables = map.retain_keys roots.variables test }) (fun_ext names)
 
 -- a block ends at all ends
-pub left_ends : (scope : Scope) (scopes : List Scope) (known : RootMap) (before after : Ends) (j : Judgement) → ((x : List ℕ) → set.contains scope.known x ≡ knows (Some known) x)
+pub left_ends : (scope : Scope) (scopes : List Scope) (known : RootMap) (before after : Ends) (j : Judgement) → scope.hidden ≡ map.empty → ((x : List ℕ) → set.contains scope.known x ≡ knows (Some known) x)
     → HasEnds (scope ∷ scopes) before j → AreLeftEnds scope scopes before after → HasEnds scopes after (left known j)
-left_ends scope scopes known before after j names has gone =
+left_ends scope scopes known before after j none names has gone =
     let same : (known_there : Option RootMap) → option_map (kept_by scope) known_there ≡ option_map (without_new_names known) known_there = same_there in
     record {
       are = record {
@@ -250,7 +251,7 @@ left_ends scope scopes known before after j names has gone =
   where
     same_there : (known_there : Option RootMap) → option_map (kept_by scope) known_there ≡ option_map (without_new_names known) known_there
     same_there None = refl
-    same_there (Some roots) = ap Some (kept_is scope known roots names)
+    same_there (Some roots) = ap Some (kept_is scope known roots none names)
 
     kind_left : (K : KindTree) (state : Option RootMap) → K ≡ return_kind (returning (scope ∷ scopes) K state) → return_kind (returning scopes K (option_map (kept_by scope) state)) ≡ K
     kind_left K None is = sym is

@@ -176,7 +176,7 @@ impl Checker<'_> {
             return Ok(());
         }
         let mark = self.state.mark(self.alloc)?;
-        self.go_to(fail)?;
+        self.go_to(fail);
         self.write_two(ok, err, empty, text)?;
         self.join_behind(mark)
     }

@@ -129,7 +129,7 @@ impl Checker<'_> {
         let mut part = part;
         let beside = self.mark_if(true)?;
         let fail = part.ends.fail.take();
-        self.go_to(fail)?;
+        self.go_to(fail);
         Ok(LeftSide { part, beside })
     }
 

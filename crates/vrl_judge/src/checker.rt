@@ -157,14 +157,16 @@ impl Checker<'_> {
         }
     }
 
-    // What is known at a branch alone; without one, no way leads on. `Memory`: want of memory.
-    pub(crate) fn go_to(&mut self, branch: Option<Branch>) -> Result<(), Memory>
+    // What is known at a branch alone; without one, no way leads on.
+    pub(crate) fn go_to(&mut self, branch: Option<Branch>)
         requires { IsWay self.old.state.scopes branch }
-        ensures known { OnOk result (self.new.state.known ≡ known_on branch) }
+        ensures known { self.new.state.known ≡ known_on branch }
         ensures others { IsMoved self.old self.new }
     {
-        self.state.kill();
-        self.join(branch)
+        match branch {
+            None => self.state.kill(),
+            Some(branch) => drop(self.state.back(branch.into_mark())),
+        }
     }
 
     // What is known where the state was marked, or here. `Memory`: want of memory.

@@ -1,6 +1,6 @@
 ghost use Rattle.std.specs.Prelude.{is_some, not, ◌||◌, ◌∷◌, ◌≡◌, IfOk, List, OnOk};
 ghost use Rattle.vrl_judge.specs.Judging.{known_on, no_ends, settled_ends, AreEnds, AreJoinedEnds, AreJoinedReturns, AreLeftEnds, HaveCommonScopes, IsLeftReturn, IsLeftWay, IsReturnIn, IsWay};
-ghost use Rattle.vrl_state.specs.States.{HaveSameScopes, IsEither, IsJoined, Scope};
+ghost use Rattle.vrl_state.specs.States.{IsEither, IsJoined, Scope};
 
 use crate::kinds::widen;
 use crate::outcome::Outcome;
@@ -177,7 +177,7 @@ fn add_return(
 impl Returned {
     // Joins another return to this one. `Memory`: want of memory.
     fn join(&mut self, alloc: Global, other: &Returned) -> Result<(), Memory>
-        requires { HaveSameScopes self.old.state other.now.state }
+        requires { self.old.state.scopes ≡ other.now.state.scopes }
         ensures kind { OnOk result (IsEither self.old.kind other.now.kind self.new.kind) }
         ensures known { OnOk result (IsJoined self.old.state.known other.now.state.known self.new.state.known) }
         ensures scopes { self.new.state.scopes ≡ self.old.state.scopes }

@@ -10,6 +10,6 @@ pub returns : goal.returns
 returns c = record {
   side = left_side _ c.args.self.now c.mark_if.new.self _ _ true true refl
       (record { fail = subst (IsWay c.args.self.now.state.scopes) (sym c.take-fail.ensures.after) refl; ret = c.requires.ret })
-      c.in_ok-beside.ensures.mark c.mark_if.ensures.checker (c.in_ok-go_to.ensures.known ∙ ap known_on c.take-fail.ensures.value) c.go_to.ensures.others;
+      c.in_ok-beside.ensures.mark c.mark_if.ensures.checker (c.go_to.ensures.known ∙ ap known_on c.take-fail.ensures.value) c.go_to.ensures.others;
   part = ap (λ f. record c.args.part { ends = record c.args.part.ends { fail = f } }) c.take-fail.ensures.after;
 }

@@ -39,5 +39,5 @@ pub returns-clause-written : goal.returns-clause-written
 returns-clause-written c =
     IfOk-weaker c.join_behind.result _ _
     (λ _ joined. behind_error c.args.ok.now c.args.err.now c.args.empty.now c.args.text.now c.args.self.now.state.known (known_on c.args.fail) c.go_to.new.self.state.known c.write_two.new.self.state.known c.in_ok-mark.mark.known c.join_behind.new.self.state.known
-    c.in_ok-go_to.ensures.known c.in_ok-write_two.ensures.written (ap (λ s. s.known) c.in_ok-mark.ensures.mark) joined)
+    c.go_to.ensures.known c.in_ok-write_two.ensures.written (ap (λ s. s.known) c.in_ok-mark.ensures.mark) joined)
     c.join_behind.ensures.known
