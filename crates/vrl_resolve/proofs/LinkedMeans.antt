@@ -1,8 +1,8 @@
 -- What is linked means what the part of the script means that it was made of.
 use Rattle.std.proofs.Common.{◌≡◌, Bool, true, false, ◌&&◌, List, [], ◌∷◌, ◌++◌, Option, Some, None, refl, sym, ap, ap₂, ◌∙◌, if◌then◌else◌}
-use Rattle.vrl_value.specs.Tree.{Tree, null, Members, no_members, put}
+use Rattle.vrl_value.specs.Tree.{Tree, null, Items, Members, no_members, put}
 use Rattle.vrl_value.specs.declared.value.Tag.{Tag}
-use Rattle.vrl_syntax.specs.ErrorAssignments.{behind, first_tag}
+use Rattle.vrl_syntax.specs.ErrorAssignments.{behind, behind_args, first_tag}
 use Rattle.vrl_syntax.specs.Stores.{Store}
 use Rattle.vrl_syntax.specs.Tree.{Expr, Form, Exprs, no_exprs, exprs, Pairs, Arms, Else, Args}
 use Rattle.vrl_syntax.specs.declared.root.Op.TheVariants as op
@@ -14,12 +14,12 @@ use Rattle.vrl_store.specs.Outcomes.{Outcome, value, error, aborted, returned, b
 use Rattle.vrl_store.specs.Places.{part_of, read_in, target_value, writes, writes_to}
 use Rattle.vrl_store.specs.StoreView.{Names}
 use Rattle.vrl_store.specs.declared.place.Place.{Place}
-use Rattle.vrl_resolve.specs.Calls.{acts, items_in}
+use Rattle.vrl_resolve.specs.Calls.{Body, Callee, function, deletion, existence, nothing_called, acts, callee_of, items_in}
 use Rattle.vrl_resolve.specs.Linked as linked
 use Rattle.vrl_resolve.specs.Linked.{Linked, Parts}
-use Rattle.vrl_resolve.specs.LinkedMeaning.{all_mean, arms_mean, else_means, if_asked, items_mean, means, pairs_mean, target_of}
+use Rattle.vrl_resolve.specs.LinkedMeaning.{all_mean, arms_mean, else_means, if_asked, items_mean, means, no_body, pairs_mean, target_of}
 use Rattle.vrl_resolve.specs.Linking.{AreArgsLinked, AreArmsLinked, AreItemsLinked, AreLinked, ArePairsLinked, IsElseLinked, IsLinked, IsLinkedForm, IsTargetOf, stands, a_literal, an_array, an_object, a_read, a_query, a_group, a_block, a_conditional, a_negation, a_binary, an_assignment, a_merge, an_error_assignment, a_call, a_return, a_bare_abort, an_abort, none_linked, one_linked, no_item, one_item, no_pair, one_pair, no_arm, one_arm, no_last, a_last, no_argument, one_argument}
-use Rattle.vrl_resolve.specs.Meaning.{aborted_with, assigned, both_assigned, combined, eval, eval_all, eval_args, eval_arms, eval_else, eval_form, eval_items, eval_pairs, written_both}
+use Rattle.vrl_resolve.specs.Meaning.{aborted_with, assigned, both_assigned, combined, eval, eval_all, eval_args, eval_arms, eval_body, eval_else, eval_form, eval_items, eval_pairs, written_both}
 use Rattle.vrl_resolve.proofs.Asked.{asked_behind, asked_twice, block_same, same_value, unasked_before}
 
 -- ---- targets
@@ -83,6 +83,15 @@ branch_meant : (asked b : Bool) (m n e f : Ended) → IsMeant asked m e → IsMe
 branch_meant asked true m n e f first second = first
 branch_meant asked false m n e f first second = second
 
+-- ---- calls
+
+-- nothing runs the body of a closure
+acts_alone : (setting : SettingTree) (callee : Callee) (body other : Body) (vs : Items) (store : Store) → acts setting callee body vs store ≡ acts setting callee other vs store
+acts_alone setting (function f places) body other vs store = refl
+acts_alone setting (deletion root path) body other vs store = refl
+acts_alone setting (existence root path) body other vs store = refl
+acts_alone setting nothing_called body other vs store = refl
+
 -- ---- forms
 
 mutual
@@ -108,8 +117,9 @@ mutual
   form_means {names = names} setting (an_error_assignment {tags = tags} {asked = asked} {t = t} {u = u} {ok = ok} {err = err} is to part) store =
       asked_twice asked _
       ∙ ap (if_asked asked) (both_same names t u ok err (first_tag tags) is to _ _ ∙ ap (λ m. both_assigned t u (first_tag tags) m.outcome m.store) (expr_means setting part store))
-  form_means setting (a_call {asked = asked} {bang = bang} is args) store =
-      ap (if_asked asked) (ap (banged_if bang) (λ i. on_value (args_mean setting args [] store i) (λ vs after. acts setting (is.same i) (items_in vs) after)))
+  form_means setting (a_call {tags = tags} {asked = asked} {name = name} {bang = bang} {gs = gs} {c = c} is args) store =
+      ap (if_asked asked) (ap (banged_if bang) ((λ i. on_value (args_mean setting args [] store i) (λ vs after. acts setting (is.same i) no_body (items_in vs) after))
+      ∙ (λ i. on_value (eval_args setting tags gs [] store) (λ vs after. acts_alone setting (callee_of name gs c) no_body (eval_body setting (behind_args gs tags) c) (items_in vs) after i))))
   form_means setting (a_return {asked = asked} part) store = ap (if_asked asked) (ap (λ m. on_value m (λ v after. ends (returned v) after)) (expr_means setting part store))
   form_means setting a_bare_abort store = refl
   form_means setting (an_abort {asked = asked} part) store = ap (if_asked asked) (ap (λ m. on_value m (λ v after. ends (aborted_with v) after)) (expr_means setting part store))

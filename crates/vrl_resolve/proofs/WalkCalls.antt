@@ -14,7 +14,7 @@ use Rattle.vrl_store.specs.declared.store.Store.{Store as CodeStore}
 use Rattle.vrl_resolve.specs.Calls.{acts, items_in}
 use Rattle.vrl_resolve.specs.Laws.{MeaningsStayWellFormed}
 use Rattle.vrl_resolve.specs.Linked.{Linked, linked_of, parts_of_list, parts_view}
-use Rattle.vrl_resolve.specs.LinkedMeaning.{all_mean, callee_in}
+use Rattle.vrl_resolve.specs.LinkedMeaning.{all_mean, callee_in, no_body}
 use Rattle.vrl_resolve.specs.Looks.{argument_values, AreOf}
 use Rattle.vrl_resolve.specs.Plain.{plain_values, AllPlain}
 use Rattle.vrl_resolve.specs.Walking.{AllFitIn, IsReady, names_in, setting_in, store_at}
@@ -57,16 +57,16 @@ left_formed law x count args before after vs fits ready run = (run_formed law x 
 -- an argument that is run ends the call
 pub call_stops : (x : Context) (count : ℕ) (args : List Node) (callee : Callee) (before : CodeStore) (t : Store) (stop : Stop)
     → ((more : List Linked) → Stops (all_mean (names_in x) (setting_in x) (parts_of_list (map linked_of (take count args) ++ more)) [] (store_at x before)) t stop)
-    → Stops (on_value (all_mean (names_in x) (setting_in x) (parts_view args) [] (store_at x before)) (λ vs after. acts (setting_in x) (callee_in (names_in x) callee) (items_in vs) after)) t stop
+    → Stops (on_value (all_mean (names_in x) (setting_in x) (parts_view args) [] (store_at x before)) (λ vs after. acts (setting_in x) (callee_in (names_in x) callee) no_body (items_in vs) after)) t stop
 call_stops x count args callee before t stop is =
-    after_stop (all_mean (names_in x) (setting_in x) (parts_view args) [] (store_at x before)) (λ vs after. acts (setting_in x) (callee_in (names_in x) callee) (items_in vs) after) t stop
+    after_stop (all_mean (names_in x) (setting_in x) (parts_view args) [] (store_at x before)) (λ vs after. acts (setting_in x) (callee_in (names_in x) callee) no_body (items_in vs) after) t stop
     (subst (λ ns. Stops (all_mean (names_in x) (setting_in x) (parts_of_list ns) [] (store_at x before)) t stop) (sym (cut count args)) (is (map linked_of (drop count args))))
 
 -- the call itself, behind its arguments
 pub call_ends : (x : Context) (count : ℕ) (args : List Node) (callee : Callee) (run : List Value) (before after : CodeStore) (t : Store) (r : Result Value Stop) → count ≤ length args → AllPlain (map linked_of (drop count args)) → length run ≡ length (take count args)
     → AreRun x (take count args) before after (map tree_of run)
-    → Ends (acts (setting_in x) (callee_in (names_in x) callee) (argument_values (names_in x) (store_at x after) run args) (store_at x after)) t r
-    → Ends (on_value (all_mean (names_in x) (setting_in x) (parts_view args) [] (store_at x before)) (λ vs end. acts (setting_in x) (callee_in (names_in x) callee) (items_in vs) end)) t r
+    → Ends (acts (setting_in x) (callee_in (names_in x) callee) no_body (argument_values (names_in x) (store_at x after) run args) (store_at x after)) t r
+    → Ends (on_value (all_mean (names_in x) (setting_in x) (parts_view args) [] (store_at x before)) (λ vs end. acts (setting_in x) (callee_in (names_in x) callee) no_body (items_in vs) end)) t r
 call_ends x count args callee run before after t r within plain counted all acts_so =
     let vs = map tree_of run in
     let taken = length-take count args in
@@ -74,6 +74,6 @@ call_ends x count args callee run before after t r within plain counted all acts
     let behind = map linked_of (drop count args) in
     let values : all_mean (names_in x) (setting_in x) (parts_view args) [] (store_at x before) ≡ ends (value (items (items_of_trees (vs ++ plain_values (names_in x) behind (store_at x after))))) (store_at x after) =
     ap (λ ns. all_mean (names_in x) (setting_in x) (parts_of_list ns) [] (store_at x before)) (cut count args) ∙ all behind ∙ plain_mean (names_in x) (setting_in x) behind vs (store_at x after) plain in
-    let here = subst (λ k. Ends (acts (setting_in x) (callee_in (names_in x) callee) (items_of_trees (vs ++ plain_values (names_in x) (map linked_of (drop k args)) (store_at x after))) (store_at x after)) t r) as_many acts_so in
-    after_value (all_mean (names_in x) (setting_in x) (parts_view args) [] (store_at x before)) (λ ws end. acts (setting_in x) (callee_in (names_in x) callee) (items_in ws) end)
+    let here = subst (λ k. Ends (acts (setting_in x) (callee_in (names_in x) callee) no_body (items_of_trees (vs ++ plain_values (names_in x) (map linked_of (drop k args)) (store_at x after))) (store_at x after)) t r) as_many acts_so in
+    after_value (all_mean (names_in x) (setting_in x) (parts_view args) [] (store_at x before)) (λ ws end. acts (setting_in x) (callee_in (names_in x) callee) no_body (items_in ws) end)
     (items (items_of_trees (vs ++ plain_values (names_in x) behind (store_at x after)))) (store_at x after) t r values here

@@ -8,7 +8,8 @@ use Rattle.vrl_table.specs.Table.{row_of}
 use Rattle.vrl_store.specs.Outcomes.{deep, value}
 use Rattle.vrl_store.specs.Places.{is_within, read_in}
 use Rattle.vrl_store.specs.WellFormed.{IsWellFormed, IsWellFormedEnded, IsWellFormedOutcome, IsWellFormedStore}
-use Rattle.vrl_resolve.specs.Calls.{Callee, function, deletion, existence, nothing_called, acts, answer_outcome, argument_in, first_unfit, fit_or_else, items_in, within_limit}
+use Rattle.vrl_resolve.specs.Calls.{Body, Callee, function, deletion, existence, nothing_called, acts, answer_outcome, argument_in, first_unfit, fit_or_else, items_in, within_limit}
+use Rattle.vrl_resolve.specs.Laws.{KeepsWellFormed}
 use Rattle.vrl_resolve.proofs.GivenArguments.{arguments_are, AreGivenAs, AreKnownAs}
 use Rattle.vrl_resolve.proofs.LawfulCalls.{lawful_answer, AreWellFormedArguments, IsWellFormedAnswer}
 use Rattle.vrl_resolve.proofs.WellFormedEnds.{read_in_is, removed_is}
@@ -42,18 +43,19 @@ well_formed_arguments laws count vs [] is at = tt
 well_formed_arguments laws count vs (place ∷ places) is zero = argument_is laws count vs place is
 well_formed_arguments laws count vs (place ∷ places) is (suc at) = well_formed_arguments laws count vs places is at
 
-pub acts_is : (laws : Laws) (setting : SettingTree) (known : List (Option Tree)) (callee : Callee) (vs : Items) (store : Store) → TakesKnown known callee → AreKnownAs known vs →
-    IsWellFormed (length setting.sources) (array vs) → IsWellFormedStore (length setting.sources) store → IsWellFormedEnded (length setting.sources) (acts setting callee vs store)
-acts_is laws setting known (function f places) vs store takes are well is =
+-- whatever run of a closure's body that keeps them well-formed
+pub acts_is : (laws : Laws) (setting : SettingTree) (known : List (Option Tree)) (callee : Callee) (body : Body) (vs : Items) (store : Store) → TakesKnown known callee → AreKnownAs known vs →
+    KeepsWellFormed (length setting.sources) body → IsWellFormed (length setting.sources) (array vs) → IsWellFormedStore (length setting.sources) store → IsWellFormedEnded (length setting.sources) (acts setting callee body vs store)
+acts_is laws setting known (function f places) body vs store takes are keeps well is =
     let arguments = map (argument_in vs) places in (
       fit_is (length setting.sources) (first_unfit 0 (row_of f).parameters arguments) (row_of f) _
           (λ fit. lawful_answer laws.below laws.any (row_of f) arguments setting (laws.rows f) (arguments_are (row_of f) known vs places are takes fit) (well_formed_arguments laws (length setting.sources) vs places well)),
       is,
     )
-acts_is laws setting known (deletion root path) vs store takes are well is =
+acts_is laws setting known (deletion root path) body vs store takes are keeps well is =
     (within_is (length setting.sources) (read_in root path store) (read_in_is laws (length setting.sources) root path store is), removed_is laws (length setting.sources) root path store is)
-acts_is laws setting known (existence root path) vs store takes are well is = (boolean_is (length setting.sources) _, is)
-acts_is laws setting known nothing_called vs store takes are well is = (tt, is)
+acts_is laws setting known (existence root path) body vs store takes are keeps well is = (boolean_is (length setting.sources) _, is)
+acts_is laws setting known nothing_called body vs store takes are keeps well is = (tt, is)
 
 pub items_in_is : (count : ℕ) (v : Tree) → IsWellFormed count v → IsWellFormed count (array (items_in v))
 items_in_is count (array ts) is = is

@@ -1,5 +1,5 @@
 -- Outcomes and stores stay well-formed: what operators give, what is written to a store, and what follows how an expression ended.
-use Rattle.std.specs.Prelude.{◌≡◌, ℕ, Bool, true, false, cond, List, [], ◌∷◌, Option, Some, None, IfSome, refl, if◌then◌else◌}
+use Rattle.std.specs.Prelude.{◌≡◌, ℕ, Bool, true, false, cond, List, [], ◌∷◌, Option, Some, None, IfSome, bytes_eq, codes, refl, if◌then◌else◌}
 use Rattle.std.proofs.Common.{Ordering, sym, ap, subst}
 use Rattle.std.proofs.lemmas.Bool.{and_parts}
 use Rattle.std.proofs.lemmas.Cmp.{nat_list_cmp_total}
@@ -15,7 +15,7 @@ use Rattle.vrl_value.specs.declared.value.Tag.TheVariants as tag
 use Rattle.vrl_path.specs.Steps.{plain}
 use Rattle.vrl_path.specs.declared.path.Step.{Step}
 use Rattle.vrl_syntax.specs.ErrorAssignments.{empty_value}
-use Rattle.vrl_syntax.specs.Stores.{Store, store_kept, value_of, with_value}
+use Rattle.vrl_syntax.specs.Stores.{Store, Values, bound_to, store_back, store_kept, value_back, value_of, values_back, with_value}
 use Rattle.vrl_syntax.specs.declared.root.Op.{Op}
 use Rattle.vrl_syntax.specs.declared.root.Op.TheVariants as op
 use Rattle.vrl_syntax.specs.declared.root.Root.{Root}
@@ -25,8 +25,8 @@ use Rattle.vrl_syntax.specs.declared.root.Target.TheVariants.{Nowhere, Place}
 use Rattle.vrl_store.specs.Operators.{applied, cannot_apply, compared, difference_of, is_falsy, merged, negated, product_of, put_all, sum_of, truth_of}
 use Rattle.vrl_store.specs.Outcomes.{Outcome, value, error, aborted, returned, banged, deep, Ended, banged_if, block_left, ends, error_then, on_error, on_value, value_then}
 use Rattle.vrl_store.specs.Places.{is_within, part_of, read_in, removed, root_value, root_with, root_without, target_value, writes_to}
-use Rattle.vrl_store.specs.WellFormed.{IsWellFormed, IsWellFormedEnded, IsWellFormedOutcome, IsWellFormedStore}
-use Rattle.vrl_resolve.specs.Meaning.{aborted_with, assigned, both_assigned, combined, written_both}
+use Rattle.vrl_store.specs.WellFormed.{AreWellFormed, IsWellFormed, IsWellFormedEnded, IsWellFormedOutcome, IsWellFormedStore}
+use Rattle.vrl_resolve.specs.Meaning.{aborted_with, assigned, body_left, both_assigned, combined, written_both}
 use Rattle.vrl_resolve.proofs.WellFormedValues.{Laws, boolean_is, moment_is, no_items_is, no_members_is, null_is, number_is, or_null, put_is, read_is, remove_is, set_is, text_is}
 
 -- ---- operators
@@ -130,6 +130,30 @@ kept_is count before after is = record {
       (if_kept count (finite.contains_key before.variables x) (finite.get after.variables x) (is.variables x));
 }
 
+-- the names of a closure
+AreHeld : ℕ → Values → Type 0
+AreHeld count values = (x : List ℕ) → IfSome (finite.get values x) (IsWellFormed count)
+
+bound_one : (count : ℕ) (skipped : Bool) (x : List ℕ) (v : Tree) (store : Store) → IsWellFormed count v → IsWellFormedStore count store → IsWellFormedStore count (if skipped then store else with_value (Name x) v store)
+bound_one count true x v store new is = is
+bound_one count false x v store new is = with_value_is count (Name x) v store new is
+
+pub bound_is : (count : ℕ) (names : List (List ℕ)) (vs : List Tree) (store : Store) → AreWellFormed count vs → IsWellFormedStore count store → IsWellFormedStore count (bound_to names vs store)
+bound_is count [] vs store are is = is
+bound_is count (x ∷ names) [] store are is = is
+bound_is count (x ∷ names) (v ∷ vs) store are is = bound_is count names vs _ are.1 (bound_one count (bytes_eq x (codes "_")) x v store are.0 is)
+
+one_back : (count : ℕ) (x : List ℕ) (found : Option Tree) (values : Values) → IfSome found (IsWellFormed count) → AreHeld count values → AreHeld count (value_back x found values)
+one_back count x None values is are = are
+one_back count x (Some v) values is are = (with_value_is count (Name x) v (record { event = null; variables = values }) is (record { event = null_is count; variables = are })).variables
+
+all_back : (count : ℕ) (names : List (List ℕ)) (before values : Values) → AreHeld count before → AreHeld count values → AreHeld count (values_back names before values)
+all_back count [] before values were are = are
+all_back count (x ∷ names) before values were are = one_back count x (finite.get before x) (values_back names before values) (were x) (all_back count names before values were are)
+
+store_back_is : (count : ℕ) (hidden : List (List ℕ)) (before after : Store) → IsWellFormedStore count before → IsWellFormedStore count after → IsWellFormedStore count (store_back hidden before after)
+store_back_is count hidden before after was is = record { event = is.event; variables = all_back count hidden before.variables (store_kept before after).variables was.variables (kept_is count before after is).variables }
+
 without : (laws : Laws) (count : ℕ) (root : Root) (path : List Step) (v : Option Tree) (store : Store) → IfSome v (IsWellFormed count) → IsWellFormedStore count store → IsWellFormedStore count (root_without root path v store)
 without laws count root path None store there is = is
 without laws count root path (Some v) store there is = with_value_is count root _ store (remove_is laws count (plain path) v there) is
@@ -143,6 +167,9 @@ removed_is laws count root (s ∷ path) store is = without laws count root (s �
 
 pub block_is : (count : ℕ) (before : Store) (ended : Ended) → IsWellFormedEnded count ended → IsWellFormedEnded count (block_left before ended)
 block_is count before ended is = (is.0, kept_is count before ended.store is.1)
+
+pub body_left_is : (count : ℕ) (hidden : List (List ℕ)) (before : Store) (ended : Ended) → IsWellFormedStore count before → IsWellFormedEnded count ended → IsWellFormedEnded count (body_left hidden before ended)
+body_left_is count hidden before ended was is = (is.0, store_back_is count hidden before ended.store was is.1)
 
 value_then_is : (count : ℕ) (outcome : Outcome) (store : Store) (next : Tree → Store → Ended) → IsWellFormedOutcome count outcome → IsWellFormedStore count store →
     ((v : Tree) (after : Store) → IsWellFormed count v → IsWellFormedStore count after → IsWellFormedEnded count (next v after)) → IsWellFormedEnded count (value_then outcome store next)

@@ -11,8 +11,8 @@ use Rattle.vrl_value.specs.View.{items_of_trees}
 use Rattle.vrl_value.specs.declared.value.Tag.{Tag}
 use Rattle.vrl_path.specs.declared.path.Step.{Step}
 use Rattle.vrl_syntax.specs.Calls.{is_exists, literal_of}
-use Rattle.vrl_syntax.specs.ErrorAssignments.{behind, behind_all, behind_arms, first_tag, other_tags}
-use Rattle.vrl_syntax.specs.Stores.{Store}
+use Rattle.vrl_syntax.specs.ErrorAssignments.{behind, behind_all, behind_args, behind_arms, first_tag, other_tags}
+use Rattle.vrl_syntax.specs.Stores.{Store, bound_to, hidden_by}
 use Rattle.vrl_syntax.specs.Tree.{Expr, expr, Form, literal, array, object, read, query, group, block, conditional, negation, binary, assign, merge, both, call, return_of, abort_with, Exprs, no_exprs, exprs, Pairs, no_pairs, pair, Arms, no_arms, arm, Else, no_else, else_block, Args, no_args, arg, Closure, no_closure, closure, no_message, message}
 use Rattle.vrl_syntax.specs.Written.{is_del}
 use Rattle.vrl_syntax.specs.declared.root.Op.TheVariants as op
@@ -25,14 +25,14 @@ use Rattle.vrl_table.specs.declared.function.Fun.{Fun}
 use Rattle.vrl_store.specs.Operators.{is_true}
 use Rattle.vrl_store.specs.Outcomes.{Ended, ends, value}
 use Rattle.vrl_store.specs.Places.{target_value}
-use Rattle.vrl_store.specs.WellFormed.{AreWellFormed, AreWellFormedArgs, AreWellFormedArms, AreWellFormedExprs, AreWellFormedPairs, IsWellFormed, IsWellFormedElse, IsWellFormedEnded, IsWellFormedExpr, IsWellFormedForm, IsWellFormedStore}
+use Rattle.vrl_store.specs.WellFormed.{AreWellFormed, AreWellFormedArgs, AreWellFormedArms, AreWellFormedExprs, AreWellFormedPairs, IsWellFormed, IsWellFormedClosure, IsWellFormedElse, IsWellFormedEnded, IsWellFormedExpr, IsWellFormedForm, IsWellFormedStore}
 use Rattle.vrl_resolve.specs.Calls.{Callee, function, deletion, existence, nothing_called, are_written_right, bound_function, bound_path, callee_of, is_allowed_literal, is_written_right, items_in, named_function, path_callee, values_of, written_at, written_function}
-use Rattle.vrl_resolve.specs.Laws.{EvaluationsStayWellFormed}
-use Rattle.vrl_resolve.specs.Meaning.{eval, eval_all, eval_args, eval_arms, eval_else, eval_form, eval_items, eval_pairs}
+use Rattle.vrl_resolve.specs.Laws.{EvaluationsStayWellFormed, KeepsWellFormed}
+use Rattle.vrl_resolve.specs.Meaning.{eval, eval_all, eval_args, eval_arms, eval_body, eval_else, eval_form, eval_items, eval_pairs}
 use Rattle.vrl_resolve.proofs.BoundPlaces.{places_are, ArePlaced, IsPlaced}
 use Rattle.vrl_resolve.proofs.GivenArguments.{AreGivenAs, AreKnownAs, IsAllowedAs, IsGivenAs, IsKnownAs}
 use Rattle.vrl_resolve.proofs.WellFormedCalls.{acts_is, items_in_is, TakesKnown}
-use Rattle.vrl_resolve.proofs.WellFormedEnds.{aborted_is, assigned_is, banged_is, block_is, both_is, came_of, combined_is, either_is, negated_is, on_value_is, on_value_known, part_of_is, read_in_is, same_value, target_is}
+use Rattle.vrl_resolve.proofs.WellFormedEnds.{aborted_is, assigned_is, banged_is, block_is, body_left_is, both_is, bound_is, came_of, combined_is, either_is, negated_is, on_value_is, on_value_known, part_of_is, read_in_is, same_value, target_is}
 use Rattle.vrl_resolve.proofs.WellFormedValues.{Laws, array_is, no_members_is, null_is, one_more, put_is}
 
 -- ---- what is known of the arguments of a call
@@ -155,8 +155,8 @@ module _ (laws : Laws) (setting : SettingTree) where
     form_is tags (call name span bang gs c) store well is =
         let given = args_are tags gs [] store well.0 tt is in
         banged_is count bang _ (on_value_known count (eval_args setting tags gs [] store) _ given
-        (λ vs came one. acts_is laws setting (known_args gs) (callee_of name gs c) (items_in vs) (eval_args setting tags gs [] store).store
-        (takes_is name gs c) (arguments_known setting tags gs store vs came) (items_in_is count vs one) given.1))
+        (λ vs came one. acts_is laws setting (known_args gs) (callee_of name gs c) (eval_body setting (behind_args gs tags) c) (items_in vs) (eval_args setting tags gs [] store).store
+        (takes_is name gs c) (arguments_known setting tags gs store vs came) (body_is (behind_args gs tags) c well.1) (items_in_is count vs one) given.1))
     form_is tags (return_of e) store well is = on_value_is count (eval setting tags e store) _ (expr_is tags e store well is) (λ v after one stored. (one, stored))
     form_is tags (abort_with no_message) store well is = (tt, is)
     form_is tags (abort_with (message e)) store well is = on_value_is count (eval setting tags e store) _ (expr_is tags e store well is) (λ v after one stored. (aborted_is count v, stored))
@@ -193,8 +193,14 @@ module _ (laws : Laws) (setting : SettingTree) where
     else_is tags no_else store well is = (null_is count, is)
     else_is tags (else_block es) store well is = block_is count store _ (items_are tags null es store (null_is count) well is)
 
+    body_is : (tags : List Tag) (c : Closure) → IsWellFormedClosure count c → KeepsWellFormed count (eval_body setting tags c)
+    body_is tags no_closure well vs store are is = (null_is count, is)
+    body_is tags (closure names es span) well vs store are is =
+        body_left_is count (hidden_by names) store _ is (items_are tags null es (bound_to names vs store) (null_is count) well (bound_is count names vs store are is))
+
 pub evaluations_stay_well_formed : Laws → EvaluationsStayWellFormed
 evaluations_stay_well_formed laws = record {
   expression = λ setting tags e store. expr_is laws setting tags e store;
   items = λ setting tags last es store. items_are laws setting tags last es store;
+  body = λ setting tags c. body_is laws setting tags c;
 }

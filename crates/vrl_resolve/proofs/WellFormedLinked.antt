@@ -17,7 +17,7 @@ use Rattle.vrl_resolve.specs.Calls.{items_in}
 use Rattle.vrl_resolve.specs.Fits.{part_at, AllFit, AreGiven, ArmsFit, ElseFits, Fits, IsAllowedIf, IsCallee, IsGiven, PairsFit}
 use Rattle.vrl_resolve.specs.Laws.{MeaningsStayWellFormed}
 use Rattle.vrl_resolve.specs.Linked.{Linked, literal, array, object, read, query, block, conditional, negation, binary, assign, merge, both, call, return_of, abort_with, Parts, no_parts, parts, Pairs, no_pairs, pair, Arms, no_arms, arm, Else, no_else, else_block, no_message, message}
-use Rattle.vrl_resolve.specs.LinkedMeaning.{all_mean, arms_mean, callee_in, else_means, if_asked, items_mean, means, pairs_mean, target_of}
+use Rattle.vrl_resolve.specs.LinkedMeaning.{all_mean, arms_mean, callee_in, else_means, if_asked, items_mean, means, no_body, pairs_mean, target_of}
 use Rattle.vrl_resolve.specs.declared.node.Callee.{Callee}
 use Rattle.vrl_resolve.specs.declared.node.Callee.TheVariants as callee
 use Rattle.vrl_resolve.proofs.GivenArguments.{AreGivenAs, AreKnownAs, IsAllowedAs, IsGivenAs, IsKnownAs}
@@ -106,8 +106,8 @@ module _ (laws : Laws) (names : Names) (setting : SettingTree) (variables : ℕ)
     node_is (call c bang ns) store fits is =
         let given = parts_are ns [] store fits.1 tt is in
         banged_is count bang _ (on_value_known count (all_mean names setting ns [] store) _ given
-        (λ vs came one. acts_is laws setting (known_parts ns) (callee_in names c) (items_in vs) (all_mean names setting ns [] store).store
-        (takes_is names variables ns c fits.0) (arguments_known names setting ns store vs came) (items_in_is count vs one) given.1))
+        (λ vs came one. acts_is laws setting (known_parts ns) (callee_in names c) no_body (items_in vs) (all_mean names setting ns [] store).store
+        (takes_is names variables ns c fits.0) (arguments_known names setting ns store vs came) (λ us after are formed. (null_is count, formed)) (items_in_is count vs one) given.1))
     node_is (return_of n) store fits is = on_value_is count (means names setting n store) _ (node_is n store fits is) (λ v after one stored. (one, stored))
     node_is (abort_with no_message) store fits is = (tt, is)
     node_is (abort_with (message n)) store fits is = on_value_is count (means names setting n store) _ (node_is n store fits is) (λ v after one stored. (aborted_is count v, stored))

@@ -1,6 +1,7 @@
 -- Calls: what a call calls, as its text says, and what comes of it once its arguments have values.
 --
--- The four functions that take a closure aren't built yet: a call of one calls nothing.
+-- The four functions that take a closure aren't built yet: a call of one calls nothing. What a call does is given the run of its closure's body
+-- already.
 use Rattle.std.specs.Prelude.{ℕ, suc, Bool, true, false, ◌&&◌, List, [], ◌∷◌, ◌++◌, map, Option, Some, None, codes, slice_get, if◌then◌else◌}
 use Rattle.std.specs.Option.{option_map_or}
 use Rattle.std.specs.declared.result.Result.{Result}
@@ -123,12 +124,17 @@ abbrev pub argument_in : Items → Option ℕ → Option Tree
 argument_in vs None = None
 argument_in vs (Some place) = item_at place vs
 
--- a call in the store that its arguments left. A call that calls nothing ends with an error of empty text; no accepted script has one.
-abbrev pub acts : SettingTree → Callee → Items → Store → Ended
-acts setting (function f places) vs store = ends (called setting (row_of f) (map (argument_in vs) places)) store
-acts setting (deletion root path) vs store = ends (within_limit (read_in root path store)) (removed root path store)
-acts setting (existence root path) vs store = ends (value (boolean (is_there root path store))) store
-acts setting nothing_called vs store = ends (error []) store
+-- The run of a closure's body: it is given values for the closure's names and a store, and says how it ends.
+abbrev pub Body : Type 0
+Body = List Tree → Store → Ended
+
+-- A call in the store that its arguments left, with the body of its closure, which nothing runs so far. A call that calls nothing ends with
+-- an error of empty text; no accepted script has one.
+abbrev pub acts : SettingTree → Callee → Body → Items → Store → Ended
+acts setting (function f places) body vs store = ends (called setting (row_of f) (map (argument_in vs) places)) store
+acts setting (deletion root path) body vs store = ends (within_limit (read_in root path store)) (removed root path store)
+acts setting (existence root path) body vs store = ends (value (boolean (is_there root path store))) store
+acts setting nothing_called body vs store = ends (error []) store
 
 -- the items of an array
 abbrev pub items_in : Tree → Items

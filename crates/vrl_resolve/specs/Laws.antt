@@ -3,19 +3,24 @@ use Rattle.std.specs.Prelude.{◌≡◌, ℕ, List, length}
 use Rattle.vrl_value.specs.Tree.{Tree, null, object, Members}
 use Rattle.vrl_value.specs.declared.value.Tag.{Tag}
 use Rattle.vrl_syntax.specs.Stores.{Store, store_of}
-use Rattle.vrl_syntax.specs.Tree.{Expr, Exprs, no_exprs}
+use Rattle.vrl_syntax.specs.Tree.{Closure, Expr, Exprs, no_exprs}
 use Rattle.vrl_builtin.specs.Rows.{SettingTree}
 use Rattle.vrl_store.specs.Outcomes.{Ended, ends, value}
 use Rattle.vrl_store.specs.StoreView.{Names}
-use Rattle.vrl_store.specs.WellFormed.{AreWellFormed, AreWellFormedExprs, IsWellFormed, IsWellFormedEnded, IsWellFormedExpr, IsWellFormedStore}
+use Rattle.vrl_store.specs.WellFormed.{AreWellFormed, AreWellFormedExprs, IsWellFormed, IsWellFormedClosure, IsWellFormedEnded, IsWellFormedExpr, IsWellFormedStore}
+use Rattle.vrl_resolve.specs.Calls.{Body}
 use Rattle.vrl_resolve.specs.Fits.{AllFit, ArmsFit, ElseFits, Fits, PairsFit}
 use Rattle.vrl_resolve.specs.Linked.{Arms, Else, Linked, Pairs, Parts}
 use Rattle.vrl_resolve.specs.LinkedMeaning.{all_mean, arms_mean, else_means, items_mean, means, pairs_mean}
-use Rattle.vrl_resolve.specs.Meaning.{eval, eval_items, run_script}
+use Rattle.vrl_resolve.specs.Meaning.{eval, eval_body, eval_items, run_script}
 
 -- a script without items gives null, and leaves the event as it is
 abbrev pub EmptyScriptsGiveNull : Type 0
 EmptyScriptsGiveNull = (setting : SettingTree) (tags : List Tag) (event : Tree) → run_script setting tags no_exprs event ≡ ends (value null) (store_of event)
+
+-- a run of a closure's body ends well-formed where the values that it is given and the store are
+abbrev pub KeepsWellFormed : ℕ → Body → Type 0
+KeepsWellFormed count body = (vs : List Tree) (store : Store) → AreWellFormed count vs → IsWellFormedStore count store → IsWellFormedEnded count (body vs store)
 
 -- how an expression, or a list of items, ends is well-formed where the store in which it is run and its literals are
 pub record EvaluationsStayWellFormed : Type 0 where
@@ -24,6 +29,8 @@ pub record EvaluationsStayWellFormed : Type 0 where
   pub items : (setting : SettingTree) (tags : List Tag) (last : Tree) (es : Exprs) (store : Store) →
       IsWellFormed (length setting.sources) last → AreWellFormedExprs (length setting.sources) es → IsWellFormedStore (length setting.sources) store →
       IsWellFormedEnded (length setting.sources) (eval_items setting tags last es store)
+  -- the body of a closure, with its names bound to such values
+  pub body : (setting : SettingTree) (tags : List Tag) (c : Closure) → IsWellFormedClosure (length setting.sources) c → KeepsWellFormed (length setting.sources) (eval_body setting tags c)
 
 -- the same of linked expressions, and of what stands in them
 pub record MeaningsStayWellFormed : Type 0 where

@@ -13,7 +13,7 @@ use Rattle.vrl_store.specs.Outcomes.{Ended, aborted, banged_if, block_left, ends
 use Rattle.vrl_store.specs.Places.{part_of, read_in, target_value}
 use Rattle.vrl_store.specs.StoreView.{root_of, Names}
 use Rattle.vrl_store.specs.declared.place.Place.{Place}
-use Rattle.vrl_resolve.specs.Calls.{acts, deletion, existence, function, items_in, nothing_called, Callee}
+use Rattle.vrl_resolve.specs.Calls.{acts, deletion, existence, function, items_in, nothing_called, Body, Callee}
 use Rattle.vrl_resolve.specs.Linked.{Linked, literal, array, object, read, query, block, conditional, negation, binary, assign, merge, both, call, return_of, abort_with, Parts, no_parts, parts, Pairs, no_pairs, pair, Arms, no_arms, arm, Else, no_else, else_block, no_message, message}
 use Rattle.vrl_resolve.specs.Meaning.{aborted_with, assigned, both_assigned, combined}
 use Rattle.vrl_resolve.specs.declared.node.Callee.{Callee as CodeCallee}
@@ -28,6 +28,10 @@ callee_in names (callee.Function f places) = function f places.items
 callee_in names (callee.Deletion place) = deletion (root_of names place.base) place.path
 callee_in names (callee.Existence place) = existence (root_of names place.base) place.path
 callee_in names callee.Nothing = nothing_called
+
+-- a node holds no closure, since nothing that it calls runs one
+abbrev pub no_body : Body
+no_body vs store = ends (value null) store
 
 -- a value that nobody asks for is null
 abbrev pub if_asked : Bool → Ended → Ended
@@ -48,7 +52,7 @@ abbrev mutual
   means names setting (assign asked t n) store = if_asked asked (assigned (target_of names t) (means names setting n store))
   means names setting (merge asked t n) store = if_asked asked (assigned (target_of names t) (combined op.Merge (ends (value (target_value (target_of names t) store)) store) (λ after. means names setting n after)))
   means names setting (both asked t u tag n) store = let given = means names setting n store in if_asked asked (both_assigned (target_of names t) (target_of names u) tag given.outcome given.store)
-  means names setting (call c bang ns) store = banged_if bang (on_value (all_mean names setting ns [] store) (λ vs after. acts setting (callee_in names c) (items_in vs) after))
+  means names setting (call c bang ns) store = banged_if bang (on_value (all_mean names setting ns [] store) (λ vs after. acts setting (callee_in names c) no_body (items_in vs) after))
   means names setting (return_of n) store = on_value (means names setting n store) (λ v after. ends (returned v) after)
   means names setting (abort_with no_message) store = ends (aborted None) store
   means names setting (abort_with (message n)) store = on_value (means names setting n store) (λ v after. ends (aborted_with v) after)

@@ -7,9 +7,9 @@ use Rattle.std.specs.Prelude.{ℕ, false, List, [], ◌∷◌, ◌++◌, Option,
 use Rattle.vrl_value.specs.Tree.{Tree, string, boolean, null, array as items, object as members, Members, no_members, put}
 use Rattle.vrl_value.specs.View.{items_of_trees}
 use Rattle.vrl_value.specs.declared.value.Tag.{Tag}
-use Rattle.vrl_syntax.specs.ErrorAssignments.{behind, behind_all, behind_arms, empty_value, first_tag, other_tags}
-use Rattle.vrl_syntax.specs.Stores.{Store, store_of}
-use Rattle.vrl_syntax.specs.Tree.{Expr, expr, Form, literal, array, object, read, query, group, block, conditional, negation, binary, assign, merge, both, call, return_of, abort_with, Exprs, no_exprs, exprs, Pairs, no_pairs, pair, Arms, no_arms, arm, Else, no_else, else_block, Args, no_args, arg, no_message, message}
+use Rattle.vrl_syntax.specs.ErrorAssignments.{behind, behind_all, behind_args, behind_arms, empty_value, first_tag, other_tags}
+use Rattle.vrl_syntax.specs.Stores.{Store, bound_to, hidden_by, store_back, store_of}
+use Rattle.vrl_syntax.specs.Tree.{Expr, expr, Form, literal, array, object, read, query, group, block, conditional, negation, binary, assign, merge, both, call, return_of, abort_with, Exprs, no_exprs, exprs, Pairs, no_pairs, pair, Arms, no_arms, arm, Else, no_else, else_block, Args, no_args, arg, Closure, no_closure, closure, no_message, message}
 use Rattle.vrl_syntax.specs.declared.root.Op.{Op}
 use Rattle.vrl_syntax.specs.declared.root.Op.TheVariants as op
 use Rattle.vrl_syntax.specs.declared.root.Target.{Target}
@@ -54,6 +54,11 @@ abbrev pub aborted_with : Tree → Outcome
 aborted_with (string s) = aborted (Some s)
 aborted_with v = error []
 
+-- the body of a closure that hides names ends, by whatever outcome, with just the names that the store had before it, and with the hidden ones
+-- as they were there
+abbrev pub body_left : List (List ℕ) → Store → Ended → Ended
+body_left hidden before ended = ends ended.outcome (store_back hidden before ended.store)
+
 -- ---- the meaning
 
 abbrev mutual
@@ -75,7 +80,7 @@ abbrev mutual
   -- `t |= e` is `t = t | e`
   eval_form setting tags (merge t e) store = assigned t (combined op.Merge (ends (value (target_value t store)) store) (λ after. eval setting tags e after))
   eval_form setting tags (both t u e) store = let given = eval setting (other_tags tags) e store in both_assigned t u (first_tag tags) given.outcome given.store
-  eval_form setting tags (call name span bang gs c) store = banged_if bang (on_value (eval_args setting tags gs [] store) (λ vs after. acts setting (callee_of name gs c) (items_in vs) after))
+  eval_form setting tags (call name span bang gs c) store = banged_if bang (on_value (eval_args setting tags gs [] store) (λ vs after. acts setting (callee_of name gs c) (eval_body setting (behind_args gs tags) c) (items_in vs) after))
   eval_form setting tags (return_of e) store = on_value (eval setting tags e store) (λ v after. ends (returned v) after)
   eval_form setting tags (abort_with no_message) store = ends (aborted None) store
   eval_form setting tags (abort_with (message e)) store = on_value (eval setting tags e store) (λ v after. ends (aborted_with v) after)
@@ -111,6 +116,11 @@ abbrev mutual
   pub eval_else : SettingTree → List Tag → Else → Store → Ended
   eval_else setting tags no_else store = ends (value null) store
   eval_else setting tags (else_block es) store = block_left store (eval_items setting tags null es store)
+
+  -- the body of a closure, with its names bound to values; null where there is no closure
+  pub eval_body : SettingTree → List Tag → Closure → List Tree → Store → Ended
+  eval_body setting tags no_closure vs store = ends (value null) store
+  eval_body setting tags (closure names es span) vs store = body_left (hidden_by names) store (eval_items setting tags null es (bound_to names vs store))
 
 -- ---- a script
 

@@ -10,7 +10,7 @@ ghost use Rattle.vrl_store.specs.WellFormed.{AreWellFormed, IsWellFormedStore};
 ghost use Rattle.vrl_resolve.specs.Calls.{acts, argument_in, argument_text, called, first_unfit, unfit_tag, within_limit};
 ghost use Rattle.vrl_resolve.specs.Fits.{AllFit, AreGiven, IsCallee};
 ghost use Rattle.vrl_resolve.specs.Linked.{linked_of, parts_view};
-ghost use Rattle.vrl_resolve.specs.LinkedMeaning.{callee_in};
+ghost use Rattle.vrl_resolve.specs.LinkedMeaning.{callee_in, no_body};
 ghost use Rattle.vrl_resolve.specs.Looks.{argument_values, AreOf, AreReadable, IsReadable};
 ghost use Rattle.vrl_resolve.specs.Plain as spec;
 ghost use Rattle.vrl_resolve.specs.Plain.{plain_value, AllPlain};
@@ -117,7 +117,7 @@ pub(crate) fn act(
     requires of_args { AreOf (map linked_of args.now) (map tree_of run.items) }
     requires run { AreWellFormed (length context.now.setting.patterns.now) (map tree_of run.items) }
     requires formed { IsWellFormedStore (length context.now.setting.patterns.now) (store_in context.now.names.now store.old) }
-    ensures ends { let before = store_in context.now.names.now store.old in Ends (acts (setting_of context.now.setting) (callee_in context.now.names.now callee.now) (argument_values context.now.names.now before run.items args.now) before) (store_in context.now.names.now store.new) result }
+    ensures ends { let before = store_in context.now.names.now store.old in Ends (acts (setting_of context.now.setting) (callee_in context.now.names.now callee.now) no_body (argument_values context.now.names.now before run.items args.now) before) (store_in context.now.names.now store.new) result }
     ensures front { IsFront (present_of store.old) (present_of store.new) }
     ensures as_many { count_of store.new ≡ count_of store.old }
 {

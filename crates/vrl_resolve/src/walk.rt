@@ -11,7 +11,7 @@ ghost use Rattle.vrl_store.specs.Results.{Ends, IsStop};
 ghost use Rattle.vrl_resolve.specs.Calls.{acts, items_in};
 ghost use Rattle.vrl_resolve.specs.Linked as linked;
 ghost use Rattle.vrl_resolve.specs.Linked.{arms_view, call_of, else_view, linked_of, message_view, pairs_view, parts_view};
-ghost use Rattle.vrl_resolve.specs.LinkedMeaning.{all_mean, callee_in, items_mean, means, target_of};
+ghost use Rattle.vrl_resolve.specs.LinkedMeaning.{all_mean, callee_in, items_mean, means, no_body, target_of};
 ghost use Rattle.vrl_resolve.specs.Meaning.{aborted_with, both_sides};
 ghost use Rattle.vrl_resolve.specs.Fits.{IsCallee, IsTarget};
 ghost use Rattle.vrl_resolve.specs.Walking.{meant, names_in, setting_in, store_at, AllEnd, AllFitIn, ArmsFitIn, ElseFitsIn, EndsIn, EndsTrue, FitsIn, GivesBoth, IsReady, MessageFitsIn, PairsFitIn, Stays, WritesTo};
@@ -516,7 +516,7 @@ fn answer(
     requires ready { IsReady context.now store.old }
     requires callee { IsCallee (length (names_in context.now)) (parts_view args.now) callee.now }
     requires fits { AllFitIn context.now (parts_view args.now) }
-    ensures ended { EndsIn context.now (on_value (all_mean (names_in context.now) (setting_in context.now) (parts_view args.now) [] (store_at context.now store.old)) (λ vs after. acts (setting_in context.now) (callee_in (names_in context.now) callee.now) (items_in vs) after)) store.new result }
+    ensures ended { EndsIn context.now (on_value (all_mean (names_in context.now) (setting_in context.now) (parts_view args.now) [] (store_at context.now store.old)) (λ vs after. acts (setting_in context.now) (callee_in (names_in context.now) callee.now) no_body (items_in vs) after)) store.new result }
     ensures stays { Stays store.old store.new }
 {
     meanings_stay_well_formed();

@@ -10,7 +10,7 @@ use Rattle.vrl_resolve.proofs.WalkCalls.{call_ends, call_stops, first_fit, given
 use Rattle.vrl_resolve.proofs.Walks.{after_error, after_stop, array_ends, array_stops, asks_both, asked_stops, assigned_ends, assigned_stops, beside_ends, block_ends, block_store, both_end, first_stops, items_next, known_base, names_after, next_pair, next_part, of_boxed, pairs_end, pairs_next, parts_end, parts_next, parts_stop, ready_after, second_stops, stays_here, stays_then}
 use Rattle.vrl_resolve.specs.Calls.{acts, items_in}
 use Rattle.vrl_resolve.specs.Linked.{ArmTree, abort_with, arm_of, arms_view, array, assign, binary, block, both, call, call_of, conditional, else_block, else_view, linked_of, literal, merge, message, message_view, negation, object, pairs_view, parts_of_list, parts_view, query, read, return_of}
-use Rattle.vrl_resolve.specs.LinkedMeaning.{all_mean, arms_mean, callee_in, else_means, items_mean, means, pairs_mean, target_of}
+use Rattle.vrl_resolve.specs.LinkedMeaning.{all_mean, arms_mean, callee_in, else_means, items_mean, means, no_body, pairs_mean, target_of}
 use Rattle.vrl_resolve.specs.Meaning.{assigned, both_assigned, combined}
 use Rattle.vrl_resolve.specs.Walking.{AllFitIn, ElseFitsIn, FitsIn, MessageFitsIn, PairsFitIn, meant, names_in, setting_in, store_at}
 use Rattle.vrl_resolve.specs.declared.node.Arm.{out-Arm}
@@ -48,7 +48,7 @@ answer-returns-clause-ended t c =
 pub answer-returns-in_err-run-clause-ended : goal.answer-returns-in_err-run-clause-ended
 answer-returns-in_err-run-clause-ended t c =
     let x = c.args.context.now in
-    let told : Stops (on_value (all_mean (names_in x) (setting_in x) (parts_view c.args.args.now) [] (store_at x c.args.store.now)) (λ vs after. acts (setting_in x) (callee_in (names_in x) c.args.callee.now) (items_in vs) after)) (store_at x c.values.new.store) c.in_err-run.field-0.0 =
+    let told : Stops (on_value (all_mean (names_in x) (setting_in x) (parts_view c.args.args.now) [] (store_at x c.args.store.now)) (λ vs after. acts (setting_in x) (callee_in (names_in x) c.args.callee.now) no_body (items_in vs) after)) (store_at x c.values.new.store) c.in_err-run.field-0.0 =
     call_stops x c.run_before-count.result c.args.args.now c.args.callee.now c.args.store.now (store_at x c.values.new.store) c.in_err-run.field-0.0 c.in_err-run.ensures.ended in
     search rules
 
@@ -220,7 +220,7 @@ call-returns-then-call-clause-ended t c =
     let a = out-Call c.args.call.now in
     let args : c.deref.result.now ≡ a.args.items = search rules in
     let is : call_of c.args.call.now ≡ call a.callee a.bang (parts_view c.deref.result.now) = search (rules, the_lemmas) in
-    let e = on_value (all_mean (names_in x) (setting_in x) (parts_view c.deref.result.now) [] (store_at x c.args.store.now)) (λ vs after. acts (setting_in x) (callee_in (names_in x) a.callee) (items_in vs) after) in
+    let e = on_value (all_mean (names_in x) (setting_in x) (parts_view c.deref.result.now) [] (store_at x c.args.store.now)) (λ vs after. acts (setting_in x) (callee_in (names_in x) a.callee) no_body (items_in vs) after) in
     let t = store_at x c.answer-value.new.store in
     subst (λ n. Ends (meant x n c.args.store.now) t c.banged.result) (sym is)
     (subst (λ b. Ends (banged_if b e) t c.banged.result) (sym c.if-call.true) (c.banged.ensures e t c.answer-value.ensures.ended))
