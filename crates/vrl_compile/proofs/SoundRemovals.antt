@@ -4,7 +4,6 @@ use Rattle.vrl_value.specs.Look.{Step, raw_at, tag_found}
 use Rattle.vrl_value.specs.Tree.{Tree}
 use Rattle.vrl_value.specs.declared.value.Tag.{Tag}
 use Rattle.vrl_path.specs.Remove.{IsRemoved, removable_at}
-use Rattle.vrl_path.specs.Steps.{plain}
 use Rattle.vrl_path.specs.Trees.{remove_tree}
 use Rattle.vrl_path.specs.declared.path.Step.{Step as CodeStep}
 use Rattle.vrl_syntax.specs.declared.root.Root.{Root}
@@ -45,24 +44,24 @@ root_left laws root K known after store cut same fits =
 -- ---- a part
 
 -- a removal, whether there is something to remove or not
-without_by : (v : Tree) (p : List Step) (w : Tree) (found : Option Tree) → OnSome found (IsRemoved v p w) → IfNone found (w ≡ v) → MatchOption found (w ≡ v) (λ t. IsRemoved v p w)
+without_by : (v : Tree) (p : List CodeStep) (w : Tree) (found : Option Tree) → OnSome found (IsRemoved v p w) → IfNone found (w ≡ v) → MatchOption found (w ≡ v) (λ t. IsRemoved v p w)
 without_by v p w None some none = none
 without_by v p w (Some t) some none = some
 
-is_without : Laws → (v : Tree) (p : List Step) → IsWithout v p (remove_tree v p)
+is_without : Laws → (v : Tree) (p : List CodeStep) → IsWithout v p (remove_tree v p)
 is_without laws v p =
     let removed = laws.removed v p in
     without_by v p (remove_tree v p) (removable_at v p) removed.0 removed.1
 
 -- the root without what stands at the path, where it is there
 taken_by : Laws → (root : Root) (path : List CodeStep) (store : Store) (v : Option Tree)
-    → MatchOption v (root_without root path v store ≡ store) (λ u. (w : Tree) × IsWithout u (plain path) w × (root_without root path v store ≡ with_value root w store))
+    → MatchOption v (root_without root path v store ≡ store) (λ u. (w : Tree) × IsWithout u path w × (root_without root path v store ≡ with_value root w store))
 taken_by laws root path store None = refl
-taken_by laws root path store (Some u) = (remove_tree u (plain path), is_without laws u (plain path), refl)
+taken_by laws root path store (Some u) = (remove_tree u path, is_without laws u path, refl)
 
 -- ---- what is judged to be left
 
 pub removal_fits : Laws → (root : Root) (path : List CodeStep) (known after : Option RootMap) (store : Store) → IsDeleted root path known after → FitsKnown store known → FitsKnown (removed root path store) after
 removal_fits laws root [] known after store is fits = root_left laws root is.0 known after store is.1 is.2 fits
 removal_fits laws root (step ∷ path) known after store is fits =
-    laws.removals root (plain (step ∷ path)) known after store (removed root (step ∷ path) store) is fits (taken_by laws root (step ∷ path) store (value_of root store))
+    laws.removals root (step ∷ path) known after store (removed root (step ∷ path) store) is fits (taken_by laws root (step ∷ path) store (value_of root store))

@@ -5,7 +5,6 @@ use Rattle.std.proofs.lemmas.Bool.{true≢false}
 use Rattle.vrl_value.specs.Tree.{Tree, null, string}
 use Rattle.vrl_value.specs.declared.value.Tag.{Tag}
 use Rattle.vrl_value.specs.declared.value.Tag.TheVariants as tag
-use Rattle.vrl_path.specs.Steps.{plain}
 use Rattle.vrl_path.specs.declared.path.Step.{Step}
 use Rattle.vrl_diag.specs.declared.diagnostic.Diagnostic.{Diagnostic}
 use Rattle.vrl_diag.specs.declared.diagnostic.Span.{Span}
@@ -34,11 +33,11 @@ use Rattle.vrl_compile.specs.SoundLaws.{Laws}
 -- ---- one write
 
 -- a root with a value at a path
-write_fits : Laws → (root : Root) (path : List Step) (N : KindTree) (v : Tree) (known after : Option RootMap) (store : Store) → states.IsWritten root (plain path) N known after → FitsKnown store known → Inhabits v N
+write_fits : Laws → (root : Root) (path : List Step) (N : KindTree) (v : Tree) (known after : Option RootMap) (store : Store) → states.IsWritten root path N known after → FitsKnown store known → Inhabits v N
     → FitsKnown (with_value root (root_with root path v store) store) after
 write_fits laws root path N v known after store is fits of_kind =
-    let set = laws.sets (root_value root store) (plain path) v in
-    laws.writes root (plain path) N v known after store (with_value root (root_with root path v store) store) is fits of_kind (record { value = root_with root path v store; set = set.0; store = refl })
+    let set = laws.sets (root_value root store) path v in
+    laws.writes root path N v known after store (with_value root (root_with root path v store) store) is fits of_kind (record { value = root_with root path v store; set = set.0; store = refl })
 
 -- what follows a write of a value of the kind that was judged to be written
 sound_written : Laws → (j : Judgement) (t : Target) (N : KindTree) (known after : Option RootMap) (v : Tree) (store : Store) (next : Store → Ended) → IsTargetWritten t N known after → FitsKnown store known → Inhabits v N

@@ -33,7 +33,7 @@ use Rattle.vrl_store.specs.StoreView.{Names}
 use Rattle.vrl_store.specs.declared.place.Place.{Place}
 use Rattle.vrl_resolve.specs.Calls as called
 use Rattle.vrl_resolve.specs.Calls.{are_written_right, is_written_right, values_of, written_at}
-use Rattle.vrl_resolve.specs.Fits.{part_at, AllFit, AreGiven, ArmsFit, ElseFits, Fits, IsAllowed, IsAllowedIf, IsCallee, IsGiven, IsTarget, PairsFit}
+use Rattle.vrl_resolve.specs.Fits.{part_at, AllFit, AreGiven, ArmsFit, ElseFits, Fits, IsAllowedPart, IsAllowedPartIf, IsCallee, IsGiven, IsTarget, PairsFit}
 use Rattle.vrl_resolve.specs.Linked as linked
 use Rattle.vrl_resolve.specs.Linked.{Linked, Parts}
 use Rattle.vrl_resolve.specs.Linking.{AreArgsLinked, AreArmsLinked, AreItemsLinked, AreLinked, ArePairsLinked, IsCalleeOf, IsElseLinked, IsLinked, IsLinkedForm, IsTargetOf, stands, a_literal, an_array, an_object, a_read, a_query, a_group, a_block, a_conditional, a_negation, a_binary, an_assignment, a_merge, an_error_assignment, a_call, a_return, a_bare_abort, an_abort, none_linked, one_linked, no_item, one_item, no_pair, one_pair, no_arm, one_arm, no_last, a_last, no_argument, one_argument}
@@ -208,11 +208,11 @@ part_there (one_argument one rest) (suc place) below =
     let there = part_there rest place (omega arith) in
     (there.0, there.1, there.2, there.3, there.4, there.5)
 
-literal_part : {names : Names} {tags : List Tag} {e : Expr} {n : Linked} (accepts : Tree → Bool) → IsLinked names tags true e n → option_map_or accepts (literal_of e) false ≡ true → IsAllowed accepts (Some n)
+literal_part : {names : Names} {tags : List Tag} {e : Expr} {n : Linked} (accepts : Tree → Bool) → IsLinked names tags true e n → option_map_or accepts (literal_of e) false ≡ true → IsAllowedPart accepts (Some n)
 literal_part accepts (stands (a_literal ordered)) allowed = allowed
 literal_part accepts (stands form) allowed = absurd (true≢false (sym allowed))
 
-allowed_part : {names : Names} {tags : List Tag} {e : Expr} {n : Linked} (wants : Bool) (accepts : Tree → Bool) → IsLinked names tags true e n → (if wants then option_map_or accepts (literal_of e) false else true) ≡ true → IsAllowedIf wants accepts (Some n)
+allowed_part : {names : Names} {tags : List Tag} {e : Expr} {n : Linked} (wants : Bool) (accepts : Tree → Bool) → IsLinked names tags true e n → (if wants then option_map_or accepts (literal_of e) false else true) ≡ true → IsAllowedPartIf wants accepts (Some n)
 allowed_part false accepts one allowed = tt
 allowed_part true accepts one allowed = literal_part accepts one allowed
 
@@ -221,8 +221,8 @@ given_part : {names : Names} {tags : List Tag} {gs : Args} {ns : Parts} (p : Par
 given_part p accepts None linked placed right = placed
 given_part {ns = ns} p accepts (Some place) linked placed right =
     let there = part_there linked place placed in
-    let allowed : IsAllowedIf p.literal accepts (Some there.1) = allowed_part p.literal accepts there.5 (ap (is_written_right p accepts) (sym there.3) ∙ right) in
-    (subst IsSome (sym there.4) refl, subst (IsAllowedIf p.literal accepts) (sym there.4) allowed)
+    let allowed : IsAllowedPartIf p.literal accepts (Some there.1) = allowed_part p.literal accepts there.5 (ap (is_written_right p accepts) (sym there.3) ∙ right) in
+    (subst IsSome (sym there.4) refl, subst (IsAllowedPartIf p.literal accepts) (sym there.4) allowed)
 
 given_parts : {names : Names} {tags : List Tag} {gs : Args} {ns : Parts} (i : ℕ) (ps : List ParameterRow) (accepts : ℕ → Tree → Bool) (places : List (Option ℕ)) → AreArgsLinked names tags gs ns → ArePlaced ps (length (keywords_of gs)) places
     → are_written_right accepts i ps (map (written_at (values_of gs)) places) ≡ true → AreGiven i ps accepts ns places

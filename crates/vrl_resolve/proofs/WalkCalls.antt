@@ -17,7 +17,7 @@ use Rattle.vrl_resolve.specs.Linked.{Linked, linked_of, parts_of_list, parts_vie
 use Rattle.vrl_resolve.specs.LinkedMeaning.{all_mean, callee_in, no_body}
 use Rattle.vrl_resolve.specs.Looks.{argument_values, AreOf}
 use Rattle.vrl_resolve.specs.Plain.{plain_values, AllPlain}
-use Rattle.vrl_resolve.specs.Walking.{AllFitIn, IsReady, names_in, setting_in, store_at}
+use Rattle.vrl_resolve.specs.Walking.{AllFitIn, IsReadyStore, names_in, setting_in, store_at}
 use Rattle.vrl_resolve.specs.declared.node.Callee.{Callee}
 use Rattle.vrl_resolve.specs.declared.node.Node.{Node}
 use Rattle.vrl_resolve.specs.declared.walk.Context.{Context}
@@ -40,17 +40,17 @@ given_are_of x count args before after vs run =
     (run_are_of (names_in x) (setting_in x) (map linked_of (take count args)) vs (store_at x before) (store_at x after) (array_ends x (map linked_of (take count args)) before after vs run) (map linked_of (drop count args)))
 
 -- what they gave and left is well-formed
-run_formed : (law : MeaningsStayWellFormed) (x : Context) (count : ℕ) (args : List Node) (before after : CodeStore) (vs : List Tree) → AllFitIn x (parts_view args) → IsReady x before → AreRun x (take count args) before after vs
+run_formed : (law : MeaningsStayWellFormed) (x : Context) (count : ℕ) (args : List Node) (before after : CodeStore) (vs : List Tree) → AllFitIn x (parts_view args) → IsReadyStore x before → AreRun x (take count args) before after vs
     → IsWellFormedEnded (length (setting_in x).sources) (ends (value (items (items_of_trees vs))) (store_at x after))
 run_formed law x count args before after vs fits ready run =
     subst (IsWellFormedEnded (length (setting_in x).sources)) (array_ends x (map linked_of (take count args)) before after vs run)
     (law.parts (names_in x) (setting_in x) (length (names_in x)) (parts_view (take count args)) [] (store_at x before) (first_fit x count args fits) tt ready.formed)
 
-pub given_formed : (law : MeaningsStayWellFormed) (x : Context) (count : ℕ) (args : List Node) (before after : CodeStore) (vs : List Tree) → AllFitIn x (parts_view args) → IsReady x before → AreRun x (take count args) before after vs
+pub given_formed : (law : MeaningsStayWellFormed) (x : Context) (count : ℕ) (args : List Node) (before after : CodeStore) (vs : List Tree) → AllFitIn x (parts_view args) → IsReadyStore x before → AreRun x (take count args) before after vs
     → AreWellFormed (length (setting_in x).sources) vs
 given_formed law x count args before after vs fits ready run = items_are (length (setting_in x).sources) vs (run_formed law x count args before after vs fits ready run).0
 
-pub left_formed : (law : MeaningsStayWellFormed) (x : Context) (count : ℕ) (args : List Node) (before after : CodeStore) (vs : List Tree) → AllFitIn x (parts_view args) → IsReady x before → AreRun x (take count args) before after vs
+pub left_formed : (law : MeaningsStayWellFormed) (x : Context) (count : ℕ) (args : List Node) (before after : CodeStore) (vs : List Tree) → AllFitIn x (parts_view args) → IsReadyStore x before → AreRun x (take count args) before after vs
     → IsWellFormedStore (length (setting_in x).sources) (store_at x after)
 left_formed law x count args before after vs fits ready run = (run_formed law x count args before after vs fits ready run).1
 

@@ -26,7 +26,7 @@ use Rattle.vrl_resolve.specs.Laws.{MeaningsStayWellFormed}
 use Rattle.vrl_resolve.specs.Linked.{Linked, array, linked_of, no_pairs, pair, pairs_view, parts_of_list, parts_view}
 use Rattle.vrl_resolve.specs.LinkedMeaning.{all_mean, if_asked, items_mean, pairs_mean}
 use Rattle.vrl_resolve.specs.Meaning.{assigned, both_sides, combined, written_both}
-use Rattle.vrl_resolve.specs.Walking.{AllFitIn, FitsIn, IsReady, PairsFitIn, Stays, meant, names_in, setting_in, store_at}
+use Rattle.vrl_resolve.specs.Walking.{AllFitIn, FitsIn, IsReadyStore, PairsFitIn, Stays, meant, names_in, setting_in, store_at}
 use Rattle.vrl_resolve.specs.declared.node.Node.{Node}
 use Rattle.vrl_resolve.specs.declared.walk.Context.{Context}
 
@@ -51,13 +51,13 @@ known_base x s (base.Variable number) are known = let as_many = are.as_many in o
 
 -- ---- the store is ready for what is run next
 
-pub ready_from : (x : Context) (s t : CodeStore) (ended : Ended) (outcome : Outcome) → IsWellFormedEnded (length (setting_in x).sources) ended → ended ≡ ends outcome (store_at x t) → IsReady x s → Stays s t → IsReady x t
+pub ready_from : (x : Context) (s t : CodeStore) (ended : Ended) (outcome : Outcome) → IsWellFormedEnded (length (setting_in x).sources) ended → ended ≡ ends outcome (store_at x t) → IsReadyStore x s → Stays s t → IsReadyStore x t
 ready_from x s t ended outcome formed is ready stays = record {
   names = names_after (names_in x) s t ready.names stays;
   formed = (subst (IsWellFormedEnded (length (setting_in x).sources)) is formed).1;
 }
 
-pub ready_after : (x : Context) (s t : CodeStore) (n : Linked) (outcome : Outcome) → MeaningsStayWellFormed → FitsIn x n → meant x n s ≡ ends outcome (store_at x t) → IsReady x s → Stays s t → IsReady x t
+pub ready_after : (x : Context) (s t : CodeStore) (n : Linked) (outcome : Outcome) → MeaningsStayWellFormed → FitsIn x n → meant x n s ≡ ends outcome (store_at x t) → IsReadyStore x s → Stays s t → IsReadyStore x t
 ready_after x s t n outcome law fits is ready stays =
     ready_from x s t (meant x n s) outcome (law.node (names_in x) (setting_in x) (length (names_in x)) n (store_at x s) fits ready.formed) is ready stays
 
@@ -87,10 +87,10 @@ of_boxed n f part box here is = is ∙ ap f (sym here)
 -- what is left to be run, in the store behind what was run, is all that there was to be run
 pub record IsPartway {A : Type 0} (x : Context) (before now : CodeStore) (left whole : A) : Type 0 where
   pub same : left ≡ whole
-  pub ready : IsReady x now
+  pub ready : IsReadyStore x now
   pub stays : Stays before now
 
-pub partway_next : {A : Type 0} (x : Context) (before now after : CodeStore) (left next whole : A) → IsPartway x before now left whole → left ≡ next → IsReady x after → Stays now after → IsPartway x before after next whole
+pub partway_next : {A : Type 0} (x : Context) (before now after : CodeStore) (left next whole : A) → IsPartway x before now left whole → left ≡ next → IsReadyStore x after → Stays now after → IsPartway x before after next whole
 partway_next x before now after left next whole so_far is ready stays = record { same = sym is ∙ so_far.same; ready = ready; stays = stays_then before now after so_far.stays stays }
 
 pub next_part : (all : List Node) (i : ℕ) (n : Node) → i < length all → n ≡ get_or all i n → map linked_of (drop i all) ≡ linked_of n ∷ map linked_of (drop (i + 1) all)
@@ -180,7 +180,7 @@ block_ends before m store (Err stops.Deep) is = ap (block_left before) is
 block_ends before m store (Err stops.Memory) is = tt
 
 -- the store behind a block, with the names that were there before it
-pub block_store : (x : Context) (before middle after : CodeStore) (count : ℕ) → IsReady x before → Stays before middle → count ≡ length before.present.items
+pub block_store : (x : Context) (before middle after : CodeStore) (count : ℕ) → IsReadyStore x before → Stays before middle → count ≡ length before.present.items
     → store_at x after ≡ left_with (names_in x) (take count middle.present.items) (store_at x middle) → store_kept (store_at x before) (store_at x middle) ≡ store_at x after
 block_store x before middle after count ready stays counted left =
     sym (left ∙ ap (λ k. left_with (names_in x) (take k middle.present.items) (store_at x middle)) counted ∙ block_ended (names_in x) before middle ready.names stays.front)

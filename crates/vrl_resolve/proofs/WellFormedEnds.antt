@@ -12,7 +12,6 @@ use Rattle.vrl_value.specs.Regexes.{members_regexes_below, regexes_below}
 use Rattle.vrl_value.specs.Tree.{Tree, string, integer, boolean, null, object, Members, no_members, member, put}
 use Rattle.vrl_value.specs.declared.value.Tag.{Tag}
 use Rattle.vrl_value.specs.declared.value.Tag.TheVariants as tag
-use Rattle.vrl_path.specs.Steps.{plain}
 use Rattle.vrl_path.specs.declared.path.Step.{Step}
 use Rattle.vrl_syntax.specs.ErrorAssignments.{empty_value}
 use Rattle.vrl_syntax.specs.Stores.{Store, Values, bound_to, store_back, store_kept, value_back, value_of, values_back, with_value}
@@ -156,7 +155,7 @@ store_back_is count hidden before after was is = record { event = is.event; vari
 
 without : (laws : Laws) (count : ℕ) (root : Root) (path : List Step) (v : Option Tree) (store : Store) → IfSome v (IsWellFormed count) → IsWellFormedStore count store → IsWellFormedStore count (root_without root path v store)
 without laws count root path None store there is = is
-without laws count root path (Some v) store there is = with_value_is count root _ store (remove_is laws count (plain path) v there) is
+without laws count root path (Some v) store there is = with_value_is count root _ store (remove_is laws count path v there) is
 
 pub removed_is : (laws : Laws) (count : ℕ) (root : Root) (path : List Step) (store : Store) → IsWellFormedStore count store → IsWellFormedStore count (removed root path store)
 removed_is laws count Event [] store is = with_value_is count Event _ store (no_members_is count) is
@@ -239,7 +238,7 @@ pub writes_is : (laws : Laws) (count : ℕ) (target : Target) (v : Tree) (store 
     ((after : Store) → IsWellFormedStore count after → IsWellFormedEnded count (next after)) → IsWellFormedEnded count (writes_to target v store next)
 writes_is laws count Nowhere v store next new is then_is = then_is store is
 writes_is laws count (Place span root path) v store next new is then_is =
-    let written = set_is laws count (plain path) (root_value root store) v (or_null count (value_of root store) (root_is count root store is)) new in
+    let written = set_is laws count path (root_value root store) v (or_null count (value_of root store) (root_is count root store is)) new in
     either_is count (is_within (root_with root path v store)) _ _ (then_is _ (with_value_is count root (root_with root path v store) store written is)) (tt, is)
 
 pub target_is : (laws : Laws) (count : ℕ) (target : Target) (store : Store) → IsWellFormedStore count store → IsWellFormed count (target_value target store)

@@ -9,6 +9,7 @@ use Rattle.vrl_value.specs.View.{items_of_trees}
 use Rattle.vrl_kind.specs.Laws.{AnyHoldsAll}
 use Rattle.vrl_path.specs.Parts.{replace_part, with_part, without_part}
 use Rattle.vrl_path.specs.Read.{item_if, place_of, read_at, signed_part_at, signed_raw_at, tree_found}
+use Rattle.vrl_path.specs.Steps.{plain, plain_step}
 use Rattle.vrl_path.specs.Trees.{chain, if_there, remove_tree, set_tree}
 use Rattle.vrl_path.specs.Write.{items_in, members_in}
 use Rattle.vrl_path.specs.declared.path.Step.{Step as CodeStep}
@@ -154,21 +155,21 @@ there_is count (there v) next other is then_is else_is = then_is v is
 there_is count missing next other is then_is else_is = else_is
 there_is count no_place next other is then_is else_is = else_is
 
-pub set_is : (laws : Laws) (count : ℕ) (path : List Step) (v new : Tree) → IsWellFormed count v → IsWellFormed count new → IsWellFormed count (set_tree v path new)
+pub set_is : (laws : Laws) (count : ℕ) (path : List CodeStep) (v new : Tree) → IsWellFormed count v → IsWellFormed count new → IsWellFormed count (set_tree v path new)
 set_is laws count [] v new is part = part
 set_is laws count (s ∷ path) v new is part =
-    there_is count (part_at v s) (λ u. replace_part s (set_tree u path new) v) (with_part s (chain path new) v)
-    (part_is laws count v s is)
-    (λ u inner. replaced_is laws count s (set_tree u path new) v (set_is laws count path u new inner part) is)
-    (with_is laws count s (chain path new) v (chain_is laws count path new part) is)
+    there_is count (part_at v (plain_step s)) (λ u. replace_part (plain_step s) (set_tree u path new) v) (with_part (plain_step s) (chain (plain path) new) v)
+    (part_is laws count v (plain_step s) is)
+    (λ u inner. replaced_is laws count (plain_step s) (set_tree u path new) v (set_is laws count path u new inner part) is)
+    (with_is laws count (plain_step s) (chain (plain path) new) v (chain_is laws count (plain path) new part) is)
 
-pub remove_is : (laws : Laws) (count : ℕ) (path : List Step) (v : Tree) → IsWellFormed count v → IsWellFormed count (remove_tree v path)
+pub remove_is : (laws : Laws) (count : ℕ) (path : List CodeStep) (v : Tree) → IsWellFormed count v → IsWellFormed count (remove_tree v path)
 remove_is laws count [] v is = is
-remove_is laws count (s ∷ []) v is = without_is laws count s v is
+remove_is laws count (s ∷ []) v is = without_is laws count (plain_step s) v is
 remove_is laws count (s ∷ r ∷ path) v is =
-    there_is count (part_at v s) (λ u. replace_part s (remove_tree u (r ∷ path)) v) v
-    (part_is laws count v s is)
-    (λ u inner. replaced_is laws count s (remove_tree u (r ∷ path)) v (remove_is laws count (r ∷ path) u inner) is)
+    there_is count (part_at v (plain_step s)) (λ u. replace_part (plain_step s) (remove_tree u (r ∷ path)) v) v
+    (part_is laws count v (plain_step s) is)
+    (λ u inner. replaced_is laws count (plain_step s) (remove_tree u (r ∷ path)) v (remove_is laws count (r ∷ path) u inner) is)
     is
 
 -- ---- arrays of values

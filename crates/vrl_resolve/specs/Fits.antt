@@ -24,18 +24,18 @@ part_at zero (parts n ns) = Some n
 part_at (suc i) (parts n ns) = part_at i ns
 
 -- an argument that must be a literal is one that the function allows
-abbrev pub IsAllowed : (Tree → Bool) → Option Linked → Type 0
-IsAllowed accepts (Some (literal v)) = IsTrue (accepts v)
-IsAllowed accepts n = ⊥
+abbrev pub IsAllowedPart : (Tree → Bool) → Option Linked → Type 0
+IsAllowedPart accepts (Some (literal v)) = IsTrue (accepts v)
+IsAllowedPart accepts n = ⊥
 
-abbrev pub IsAllowedIf : Bool → (Tree → Bool) → Option Linked → Type 0
-IsAllowedIf true accepts n = IsAllowed accepts n
-IsAllowedIf false accepts n = ⊤
+abbrev pub IsAllowedPartIf : Bool → (Tree → Bool) → Option Linked → Type 0
+IsAllowedPartIf true accepts n = IsAllowedPart accepts n
+IsAllowedPartIf false accepts n = ⊤
 
 -- the argument of a parameter, at the place of one of the call's
 abbrev pub IsGiven : ParameterRow → (Tree → Bool) → Parts → Option ℕ → Type 0
 IsGiven p accepts ns None = IsThere {A = ℕ} p.required None
-IsGiven p accepts ns (Some place) = IsSome (part_at place ns) × IsAllowedIf p.literal accepts (part_at place ns)
+IsGiven p accepts ns (Some place) = IsSome (part_at place ns) × IsAllowedPartIf p.literal accepts (part_at place ns)
 
 abbrev pub AreGiven : ℕ → List ParameterRow → (ℕ → Tree → Bool) → Parts → List (Option ℕ) → Type 0
 AreGiven i [] accepts ns places = ⊤

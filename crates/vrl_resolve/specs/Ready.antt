@@ -16,7 +16,7 @@ use Rattle.vrl_store.specs.WellFormed.{IsWellFormed}
 use Rattle.vrl_store.specs.declared.place.Base.{Base}
 use Rattle.vrl_store.specs.declared.place.Base.TheVariants as base
 use Rattle.vrl_store.specs.declared.place.Place.{Place}
-use Rattle.vrl_resolve.specs.Fits.{part_at, AllFit, AreGiven, ArmsFit, ElseFits, Fits, IsAllowed, IsAllowedIf, IsCallee, IsGiven, IsTarget, MessageFits, PairsFit}
+use Rattle.vrl_resolve.specs.Fits.{part_at, AllFit, AreGiven, ArmsFit, ElseFits, Fits, IsAllowedPart, IsAllowedPartIf, IsCallee, IsGiven, IsTarget, MessageFits, PairsFit}
 use Rattle.vrl_resolve.specs.Linked.{Linked, literal, array, object, read, query, block, conditional, negation, binary, assign, merge, both, call, return_of, abort_with, Parts, no_parts, parts, Pairs, no_pairs, pair, Arms, no_arms, arm, Else, no_else, else_block, Message, no_message, message}
 use Rattle.vrl_resolve.specs.declared.node.Callee.{Callee}
 use Rattle.vrl_resolve.specs.declared.node.Callee.TheVariants as callee
@@ -89,12 +89,12 @@ there-prop : (b : Bool) → IsProp (IsThere {A = ℕ} b None)
 there-prop true = true-prop _
 there-prop false = Unit-prop
 
-allowed-prop : (accepts : Tree → Bool) (n : Option Linked) → IsProp (IsAllowed accepts n)
+allowed-prop : (accepts : Tree → Bool) (n : Option Linked) → IsProp (IsAllowedPart accepts n)
 allowed-prop accepts None = none-prop
 allowed-prop accepts (Some (literal v)) = true-prop (accepts v)
 allowed-prop accepts (Some n) = none-prop
 
-allowed_if-prop : (wants : Bool) (accepts : Tree → Bool) (n : Option Linked) → IsProp (IsAllowedIf wants accepts n)
+allowed_if-prop : (wants : Bool) (accepts : Tree → Bool) (n : Option Linked) → IsProp (IsAllowedPartIf wants accepts n)
 allowed_if-prop true accepts n = allowed-prop accepts n
 allowed_if-prop false accepts n = Unit-prop
 

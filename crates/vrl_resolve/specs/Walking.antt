@@ -39,7 +39,7 @@ store_at x s = store_in (names_in x) s
 
 -- ---- what is asked
 
-pub record IsReady (x : Context) (s : CodeStore) : Type 0 where
+pub record IsReadyStore (x : Context) (s : CodeStore) : Type 0 where
   pub names : AreNames (names_in x) s
   -- what it has is in order, and each of its regexes is one of the script's
   pub formed : IsWellFormedStore (length (setting_in x).sources) (store_at x s)

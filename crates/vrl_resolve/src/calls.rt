@@ -20,12 +20,10 @@ use crate::node::{Callee, Form, Node};
 use crate::walk::Context;
 use std::alloc::Global;
 use vrl_builtin::{Applied, Arguments, Builtin, Parameter};
-use vrl_store::{Stop, Store, word};
+use vrl_path::DEPTH_LIMIT;
+use vrl_store::{Stop, Store};
 use vrl_table::{Fun, apply, parameters};
 use vrl_value::{Chars, Memory, Tag, Value};
-
-// The greatest depth of the value of a call.
-const LIMIT: u64 = 128;
 
 /// How many of a call's arguments are run before it: those up to the last one that is neither a literal nor a path. Those behind only
 /// look, and are looked at where they stand.
@@ -208,7 +206,7 @@ fn first_unfit(
 fn argument_text(alloc: Global, name: &str, parameter: &str, tag: Tag) -> Result<Chars, Memory>
     ensures { IfOk result (λ text. text ≡ argument_text name.now parameter.now tag) }
 {
-    let word = word(tag);
+    let word = tag.word();
     let text = format!(in alloc; "{name}: argument {parameter} is {word}")?;
     Ok(Chars::new(text))
 }
@@ -217,7 +215,7 @@ fn argument_text(alloc: Global, name: &str, parameter: &str, tag: Tag) -> Result
 fn within_limit(value: Value) -> Result<Value, Stop>
     ensures { Gives (within_limit (tree_of value)) result }
 {
-    if value.depth() > LIMIT {
+    if value.depth() > DEPTH_LIMIT {
         return Err(Stop::Deep);
     }
     Ok(value)

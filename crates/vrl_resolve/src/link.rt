@@ -17,7 +17,7 @@ use std::alloc::Global;
 use vrl_path::Path;
 use vrl_store::{Base, EmptyTags, Place, is_asked_of_item};
 use vrl_syntax::{
-    Args, Arms, Call as SyntaxCall, Closure, Expr, Exprs, Form as SyntaxForm, Op, Pairs, Root,
+    Args, Arms, Call as SyntaxCall, CallForm, Closure, Expr, Exprs, Form as SyntaxForm, Op, Pairs, Root,
     Target,
 };
 use vrl_value::{Chars, Memory, Names, Tag, Value};
@@ -399,10 +399,11 @@ impl Linker<'_> {
         if call.closure.is_some() {
             return Ok(Callee::Nothing);
         }
-        match call.name.as_str() {
-            "del" => self.deletion(&call.args),
-            "exists" => self.existence(&call.args),
-            name => function_callee(self.alloc, name, &call.args),
+        let name = call.name.as_str();
+        match CallForm::named(name) {
+            Some(CallForm::Del) => self.deletion(&call.args),
+            Some(CallForm::Exists) => self.existence(&call.args),
+            _ => function_callee(self.alloc, name, &call.args),
         }
     }
 

@@ -14,7 +14,7 @@ ghost use Rattle.vrl_resolve.specs.Linked.{arms_view, call_of, else_view, linked
 ghost use Rattle.vrl_resolve.specs.LinkedMeaning.{all_mean, callee_in, items_mean, means, no_body, target_of};
 ghost use Rattle.vrl_resolve.specs.Meaning.{aborted_with, both_sides};
 ghost use Rattle.vrl_resolve.specs.Fits.{IsCallee, IsTarget};
-ghost use Rattle.vrl_resolve.specs.Walking.{meant, names_in, setting_in, store_at, AllEnd, AllFitIn, ArmsFitIn, ElseFitsIn, EndsIn, EndsTrue, FitsIn, GivesBoth, IsReady, MessageFitsIn, PairsFitIn, Stays, WritesTo};
+ghost use Rattle.vrl_resolve.specs.Walking.{meant, names_in, setting_in, store_at, AllEnd, AllFitIn, ArmsFitIn, ElseFitsIn, EndsIn, EndsTrue, FitsIn, GivesBoth, IsReadyStore, MessageFitsIn, PairsFitIn, Stays, WritesTo};
 
 use crate::calls::{act, peek, run_before};
 use crate::laws::meanings_stay_well_formed;
@@ -44,7 +44,7 @@ pub(crate) struct Context<'a> {
 /// Runs an expression: its value, or why it ends without one. What was written before stays.
 #[cycle(walk)]
 pub(crate) fn eval(store: &mut Store, context: &Context<'_>, node: &Node) -> Result<Value, Stop>
-    requires ready { IsReady context.now store.old }
+    requires ready { IsReadyStore context.now store.old }
     requires fits { FitsIn context.now (linked_of node.now) }
     ensures ended { EndsIn context.now (meant context.now (linked_of node.now) store.old) store.new result }
     ensures stays { Stays store.old store.new }
@@ -85,7 +85,7 @@ pub(crate) fn eval(store: &mut Store, context: &Context<'_>, node: &Node) -> Res
 // The values of expressions in order.
 #[cycle(walk)]
 fn values(store: &mut Store, context: &Context<'_>, nodes: &[Node]) -> Result<Vec<Value>, Stop>
-    requires ready { IsReady context.now store.old }
+    requires ready { IsReadyStore context.now store.old }
     requires fits { AllFitIn context.now (parts_view nodes.now) }
     ensures ended { AllEnd context.now (map linked_of nodes.now) store.old store.new result }
     ensures counted { IfOk result (λ values. length values.items ≡ length nodes.now) }
@@ -102,7 +102,7 @@ fn values(store: &mut Store, context: &Context<'_>, nodes: &[Node]) -> Result<Ve
 
 #[cycle(walk)]
 fn array(store: &mut Store, context: &Context<'_>, parts: &[Node]) -> Result<Value, Stop>
-    requires ready { IsReady context.now store.old }
+    requires ready { IsReadyStore context.now store.old }
     requires fits { AllFitIn context.now (parts_view parts.now) }
     ensures ended { EndsIn context.now (meant context.now (linked.array (parts_view parts.now)) store.old) store.new result }
     ensures stays { Stays store.old store.new }
@@ -113,7 +113,7 @@ fn array(store: &mut Store, context: &Context<'_>, parts: &[Node]) -> Result<Val
 
 #[cycle(walk)]
 fn object(store: &mut Store, context: &Context<'_>, pairs: &[(Chars, Node)]) -> Result<Value, Stop>
-    requires ready { IsReady context.now store.old }
+    requires ready { IsReadyStore context.now store.old }
     requires fits { PairsFitIn context.now (pairs_view pairs.now) }
     ensures ended { EndsIn context.now (meant context.now (linked.object (pairs_view pairs.now)) store.old) store.new result }
     ensures stays { Stays store.old store.new }
@@ -129,7 +129,7 @@ fn object(store: &mut Store, context: &Context<'_>, pairs: &[(Chars, Node)]) -> 
 
 #[cycle(walk)]
 fn query(store: &mut Store, context: &Context<'_>, part: &Node, path: &Path) -> Result<Value, Stop>
-    requires ready { IsReady context.now store.old }
+    requires ready { IsReadyStore context.now store.old }
     requires fits { FitsIn context.now (linked_of part.now) }
     ensures ended { EndsIn context.now (meant context.now (linked.query (linked_of part.now) path.now) store.old) store.new result }
     ensures stays { Stays store.old store.new }
@@ -144,7 +144,7 @@ fn query(store: &mut Store, context: &Context<'_>, part: &Node, path: &Path) -> 
 // Items in order: the value of the last, null where there is none.
 #[cycle(walk)]
 pub(crate) fn items(store: &mut Store, context: &Context<'_>, items: &[Node]) -> Result<Value, Stop>
-    requires ready { IsReady context.now store.old }
+    requires ready { IsReadyStore context.now store.old }
     requires fits { AllFitIn context.now (parts_view items.now) }
     ensures ended { EndsIn context.now (items_mean (names_in context.now) (setting_in context.now) null (parts_view items.now) (store_at context.now store.old)) store.new result }
     ensures stays { Stays store.old store.new }
@@ -160,7 +160,7 @@ pub(crate) fn items(store: &mut Store, context: &Context<'_>, items: &[Node]) ->
 // Items whose variables end with them, by whatever end.
 #[cycle(walk)]
 fn block(store: &mut Store, context: &Context<'_>, body: &[Node]) -> Result<Value, Stop>
-    requires ready { IsReady context.now store.old }
+    requires ready { IsReadyStore context.now store.old }
     requires fits { AllFitIn context.now (parts_view body.now) }
     ensures ended { EndsIn context.now (meant context.now (linked.block (parts_view body.now)) store.old) store.new result }
     ensures stays { Stays store.old store.new }
@@ -178,7 +178,7 @@ fn conditional(
     arms: &[Arm],
     otherwise: &Option<Vec<Node>>,
 ) -> Result<Value, Stop>
-    requires ready { IsReady context.now store.old }
+    requires ready { IsReadyStore context.now store.old }
     requires arms { ArmsFitIn context.now (arms_view arms.now) }
     requires otherwise { ElseFitsIn context.now (else_view otherwise.now) }
     ensures ended { EndsIn context.now (meant context.now (linked.conditional (arms_view arms.now) (else_view otherwise.now)) store.old) store.new result }
@@ -199,7 +199,7 @@ fn conditional(
 // Whether an expression's value is true.
 #[cycle(walk)]
 fn holds(store: &mut Store, context: &Context<'_>, node: &Node) -> Result<bool, Stop>
-    requires ready { IsReady context.now store.old }
+    requires ready { IsReadyStore context.now store.old }
     requires fits { FitsIn context.now (linked_of node.now) }
     ensures ended { EndsTrue (meant context.now (linked_of node.now) store.old) (store_at context.now store.new) result }
     ensures stays { Stays store.old store.new }
@@ -213,7 +213,7 @@ fn holds(store: &mut Store, context: &Context<'_>, node: &Node) -> Result<bool, 
 
 #[cycle(walk)]
 fn negation(store: &mut Store, context: &Context<'_>, part: &Node) -> Result<Value, Stop>
-    requires ready { IsReady context.now store.old }
+    requires ready { IsReadyStore context.now store.old }
     requires fits { FitsIn context.now (linked_of part.now) }
     ensures ended { EndsIn context.now (meant context.now (linked.negation (linked_of part.now)) store.old) store.new result }
     ensures stays { Stays store.old store.new }
@@ -233,7 +233,7 @@ fn binary(
     left: &Node,
     right: &Node,
 ) -> Result<Value, Stop>
-    requires ready { IsReady context.now store.old }
+    requires ready { IsReadyStore context.now store.old }
     requires left { FitsIn context.now (linked_of left.now) }
     requires right { FitsIn context.now (linked_of right.now) }
     ensures ended { EndsIn context.now (meant context.now (linked.binary op (linked_of left.now) (linked_of right.now)) store.old) store.new result }
@@ -262,7 +262,7 @@ fn look(
     left: &Node,
     right: &Node,
 ) -> Option<Result<Value, Stop>>
-    requires ready { IsReady context.now store.now }
+    requires ready { IsReadyStore context.now store.now }
     requires left { FitsIn context.now (linked_of left.now) }
     requires right { FitsIn context.now (linked_of right.now) }
     ensures { IfSome result (EndsIn context.now (both_sides op (meant context.now (linked_of left.now) store.now) (λ after. means (names_in context.now) (setting_in context.now) (linked_of right.now) after)) store.now) }
@@ -282,7 +282,7 @@ fn beside(
     left: Value,
     right: &Node,
 ) -> Result<Value, Stop>
-    requires ready { IsReady context.now store.old }
+    requires ready { IsReadyStore context.now store.old }
     requires fits { FitsIn context.now (linked_of right.now) }
     ensures ended { EndsIn context.now (on_value (meant context.now (linked_of right.now) store.old) (λ v after. ends (applied op (tree_of left) v) after)) store.new result }
     ensures stays { Stays store.old store.new }
@@ -312,7 +312,7 @@ fn coalescing(
     left: &Node,
     right: &Node,
 ) -> Result<Value, Stop>
-    requires ready { IsReady context.now store.old }
+    requires ready { IsReadyStore context.now store.old }
     requires left { FitsIn context.now (linked_of left.now) }
     requires right { FitsIn context.now (linked_of right.now) }
     ensures ended { EndsIn context.now (meant context.now (linked.binary ops.Coalesce (linked_of left.now) (linked_of right.now)) store.old) store.new result }
@@ -334,7 +334,7 @@ fn disjunction(
     left: &Node,
     right: &Node,
 ) -> Result<Value, Stop>
-    requires ready { IsReady context.now store.old }
+    requires ready { IsReadyStore context.now store.old }
     requires left { FitsIn context.now (linked_of left.now) }
     requires right { FitsIn context.now (linked_of right.now) }
     ensures ended { EndsIn context.now (meant context.now (linked.binary ops.Or (linked_of left.now) (linked_of right.now)) store.old) store.new result }
@@ -356,7 +356,7 @@ fn conjunction(
     left: &Node,
     right: &Node,
 ) -> Result<Value, Stop>
-    requires ready { IsReady context.now store.old }
+    requires ready { IsReadyStore context.now store.old }
     requires left { FitsIn context.now (linked_of left.now) }
     requires right { FitsIn context.now (linked_of right.now) }
     ensures ended { EndsIn context.now (meant context.now (linked.binary ops.And (linked_of left.now) (linked_of right.now)) store.old) store.new result }
@@ -406,7 +406,7 @@ fn assign(
     target: &Option<Place>,
     part: &Node,
 ) -> Result<Value, Stop>
-    requires ready { IsReady context.now store.old }
+    requires ready { IsReadyStore context.now store.old }
     requires target { IsTarget (length (names_in context.now)) target.now }
     requires fits { FitsIn context.now (linked_of part.now) }
     ensures ended { EndsIn context.now (meant context.now (linked.assign is_asked target.now (linked_of part.now)) store.old) store.new result }
@@ -438,7 +438,7 @@ fn merge(
     target: &Option<Place>,
     part: &Node,
 ) -> Result<Value, Stop>
-    requires ready { IsReady context.now store.old }
+    requires ready { IsReadyStore context.now store.old }
     requires target { IsTarget (length (names_in context.now)) target.now }
     requires fits { FitsIn context.now (linked_of part.now) }
     ensures ended { EndsIn context.now (meant context.now (linked.merge is_asked target.now (linked_of part.now)) store.old) store.new result }
@@ -459,7 +459,7 @@ fn outcome(
     tag: Tag,
     part: &Node,
 ) -> Result<(Value, Value), Stop>
-    requires ready { IsReady context.now store.old }
+    requires ready { IsReadyStore context.now store.old }
     requires fits { FitsIn context.now (linked_of part.now) }
     ensures ended { GivesBoth tag (meant context.now (linked_of part.now) store.old) (store_at context.now store.new) result }
     ensures stays { Stays store.old store.new }
@@ -478,7 +478,7 @@ fn both(
     tag: Tag,
     part: &Node,
 ) -> Result<Value, Stop>
-    requires ready { IsReady context.now store.old }
+    requires ready { IsReadyStore context.now store.old }
     requires ok { IsTarget (length (names_in context.now)) ok.now }
     requires err { IsTarget (length (names_in context.now)) err.now }
     requires fits { FitsIn context.now (linked_of part.now) }
@@ -494,7 +494,7 @@ fn both(
 
 #[cycle(walk)]
 fn call(store: &mut Store, context: &Context<'_>, call: &Call) -> Result<Value, Stop>
-    requires ready { IsReady context.now store.old }
+    requires ready { IsReadyStore context.now store.old }
     requires fits { FitsIn context.now (call_of call.now) }
     ensures ended { EndsIn context.now (meant context.now (call_of call.now) store.old) store.new result }
     ensures stays { Stays store.old store.new }
@@ -513,7 +513,7 @@ fn answer(
     callee: &Callee,
     args: &[Node],
 ) -> Result<Value, Stop>
-    requires ready { IsReady context.now store.old }
+    requires ready { IsReadyStore context.now store.old }
     requires callee { IsCallee (length (names_in context.now)) (parts_view args.now) callee.now }
     requires fits { AllFitIn context.now (parts_view args.now) }
     ensures ended { EndsIn context.now (on_value (all_mean (names_in context.now) (setting_in context.now) (parts_view args.now) [] (store_at context.now store.old)) (λ vs after. acts (setting_in context.now) (callee_in (names_in context.now) callee.now) no_body (items_in vs) after)) store.new result }
@@ -527,7 +527,7 @@ fn answer(
 
 #[cycle(walk)]
 fn give_back(store: &mut Store, context: &Context<'_>, part: &Node) -> Result<Value, Stop>
-    requires ready { IsReady context.now store.old }
+    requires ready { IsReadyStore context.now store.old }
     requires fits { FitsIn context.now (linked_of part.now) }
     ensures ended { EndsIn context.now (meant context.now (linked.return_of (linked_of part.now)) store.old) store.new result }
     ensures stays { Stays store.old store.new }
@@ -542,7 +542,7 @@ fn abort(
     context: &Context<'_>,
     message: &Option<Box<Node>>,
 ) -> Result<Value, Stop>
-    requires ready { IsReady context.now store.old }
+    requires ready { IsReadyStore context.now store.old }
     requires fits { MessageFitsIn context.now (message_view message.now) }
     ensures ended { EndsIn context.now (meant context.now (linked.abort_with (message_view message.now)) store.old) store.new result }
     ensures stays { Stays store.old store.new }
