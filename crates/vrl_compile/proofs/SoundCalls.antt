@@ -7,7 +7,7 @@ use Rattle.vrl_value.specs.Tree.{Tree}
 use Rattle.vrl_value.specs.View.{items_of_trees}
 use Rattle.vrl_value.specs.declared.value.Tag.{Tag}
 use Rattle.vrl_diag.specs.declared.diagnostic.Span.{Span}
-use Rattle.vrl_syntax.specs.ErrorAssignments.{in_closure}
+use Rattle.vrl_syntax.specs.ErrorAssignments.{behind_args, in_closure}
 use Rattle.vrl_syntax.specs.Tree.{Args, Closure, call}
 use Rattle.vrl_kind.specs.Canonical.{never_kind}
 use Rattle.vrl_kind.specs.KindTree.{KindTree}
@@ -25,8 +25,8 @@ use Rattle.vrl_store.specs.Places.{is_within}
 use Rattle.vrl_store.specs.WellFormed.{AreWellFormedArgs, IsWellFormedStore}
 use Rattle.vrl_judge.specs.Rules.{Argument, Judgement, at, banged, gives, if_state, with_codes}
 use Rattle.vrl_check.specs.Judgement.{IsAnswered, IsAnsweredUnless, a_call, behind_arguments, bound, nulls, of_call, places_in, some_has_others, wants_literal}
-use Rattle.vrl_resolve.specs.Calls.{acts, answer_outcome, argument_in, called, callee_of, first_unfit, fit_or_else, items_in, within_limit}
-use Rattle.vrl_resolve.specs.Meaning.{eval_args, eval_form}
+use Rattle.vrl_resolve.specs.Calls.{Body, acts, answer_outcome, argument_in, called, callee_of, first_unfit, fit_or_else, items_in, within_limit}
+use Rattle.vrl_resolve.specs.Meaning.{eval_args, eval_body, eval_form}
 use Rattle.vrl_compile.specs.Sound.{HasNoError, IsSoundEnd, IsSoundOutcome}
 use Rattle.vrl_compile.proofs.SoundArguments.{AreAllValues, AreValuesOf, argument_values, arguments_counted, arguments_empties, arguments_judged, arguments_written, own_empties}
 use Rattle.vrl_compile.proofs.SoundBound.{IsBoundCall, call_is_bound}
@@ -95,21 +95,22 @@ call_tags : (c : Closure) (js : List Argument) (j whole : Judgement) (span : Spa
 call_tags c js j whole span bang rest own is =
     ap (λ ts. ts ++ (nulls (in_closure c) ++ rest)) (sym own) ∙ sym (append_assoc j.empties (nulls (in_closure c)) rest) ∙ ap (λ ts. ts ++ rest) (sym is ∙ sym (banged_empties span bang whole))
 
--- where what comes of each list of values is an end of the call, the call ends as it was judged
+-- where what comes of each list of values, whatever the closure's body does, is an end of the call, the call ends as it was judged
 sound_call : Laws → (setting : SettingTree) (known : RootMap) (span s : Span) (name : List ℕ) (bang : Bool) (gs : Args) (c : Closure) (js : List Argument) (j whole : Judgement) → AreSoundArguments setting (gives never_kind (Some known)) gs js j
     → HasNoError j.codes → AreWellFormedArgs (length setting.sources) gs → EndsAs j whole → whole.empties ≡ j.empties ++ nulls (in_closure c)
-    → ((vs : List Tree) (store : Store) → AreValuesOf (length setting.sources) js vs → FitsKnown store j.ok → IsSoundEnd whole (acts setting (callee_of name gs c) (items_of_trees vs) store))
+    → ((body : Body) (vs : List Tree) (store : Store) → AreValuesOf (length setting.sources) js vs → FitsKnown store j.ok → IsSoundEnd whole (acts setting (callee_of name gs c) body (items_of_trees vs) store))
     → (rest : List Tag) (store : Store) → IsWellFormedStore (length setting.sources) store → FitsKnown store (Some known)
     → IsSoundEnd (banged span bang whole) (eval_form setting ((banged span bang whole).empties ++ rest) (call name s bang gs c) store)
 sound_call laws setting known span s name bang gs c js j whole arguments none well as_whole empties acts_sound rest store stored fits =
     let count = length setting.sources in
     let tags = own_empties js ++ (nulls (in_closure c) ++ rest) in
+    let body = eval_body setting (behind_args gs tags) c in
     let values = argument_values laws setting arguments none well (nulls (in_closure c) ++ rest) [] store stored fits in
-    let acted = sound_behind (AreAllValues count [] js j) j whole (eval_args setting tags gs [] store) (λ w end. acts setting (callee_of name gs c) (items_in w) end) as_whole values
-    (λ w end are. subst (λ x. IsSoundEnd whole (acts setting (callee_of name gs c) (items_in x) end)) (sym are.all) (acts_sound are.values end are.each are.ok))
+    let acted = sound_behind (AreAllValues count [] js j) j whole (eval_args setting tags gs [] store) (λ w end. acts setting (callee_of name gs c) body (items_in w) end) as_whole values
+    (λ w end are. subst (λ x. IsSoundEnd whole (acts setting (callee_of name gs c) body (items_in x) end)) (sym are.all) (acts_sound body are.values end are.each are.ok))
     in
     subst (λ ts. IsSoundEnd (banged span bang whole) (eval_form setting ts (call name s bang gs c) store)) (call_tags c js j whole span bang rest (arguments_empties (arguments_judged arguments)) empties)
-    (sound_banged span bang whole (on_value (eval_args setting tags gs [] store) (λ w end. acts setting (callee_of name gs c) (items_in w) end)) acted)
+    (sound_banged span bang whole (on_value (eval_args setting tags gs [] store) (λ w end. acts setting (callee_of name gs c) body (items_in w) end)) acted)
 
 -- ---- a call of a function
 
@@ -137,8 +138,8 @@ module _ (laws : Laws) (setting : SettingTree) (known : RootMap) (span s : Span)
       let b = call_is_bound (wants_literal (row_of f)) (row_of f).parameters (keywords_of gs) span c js (binding (row_of f).parameters (keywords_of gs)) refl (arguments_counted judged) codes.1 in
       let answered : IsAnswered setting.sources (row_of f) (bound b.places js) K fails = as_answered setting.sources (row_of f) js K fails behind_them.poisoned (binding (row_of f).parameters (keywords_of gs)) b.places clean.sound b.found told in
       sound_call laws setting known span s name bang gs c js j whole arguments codes.0 well.0 (record { fail = left_joins laws j.fail (if_state fails j.ok) fail joined; returns = returns_alike j whole refl refl }) refl
-      (λ vs end are there.
-      subst (λ callee. IsSoundEnd whole (acts setting callee (items_of_trees vs) end)) (sym (ap (callee_of name gs) b.lacks_closure ∙ function_called laws f name gs js b.places named (arguments_written judged) b.found b.written))
+      (λ body vs end are there.
+      subst (λ callee. IsSoundEnd whole (acts setting callee body (items_of_trees vs) end)) (sym (ap (callee_of name gs) b.lacks_closure ∙ function_called laws f name gs js b.places named (arguments_written judged) b.found b.written))
       (called_is_sound laws behind_them K fails fail joined setting f js vs c (keywords_of gs) b answered are end there))
       rest store stored fits
 

@@ -7,6 +7,7 @@ use Rattle.vrl_value.specs.declared.value.Tag.{Tag}
 use Rattle.vrl_value.specs.declared.value.Tag.TheVariants as tag
 use Rattle.vrl_diag.specs.declared.diagnostic.Span.{Span}
 use Rattle.vrl_syntax.specs.Calls.{is_exists, path_of, is_del}
+use Rattle.vrl_syntax.specs.ErrorAssignments.{behind_args}
 use Rattle.vrl_syntax.specs.Tree.{Expr, expr, read, Args, no_args, arg, Closure, no_closure, call}
 use Rattle.vrl_kind.specs.Canonical.{never_kind}
 use Rattle.vrl_kind.specs.KindTree.{KindTree}
@@ -23,7 +24,7 @@ use Rattle.vrl_diag.specs.Refusal.{is_error}
 use Rattle.vrl_judge.specs.Rules.{Argument, IsScalar, IsThen, Judgement, argument_at, banged, gives}
 use Rattle.vrl_check.specs.Judgement.{IsDeletedAt, a_deletion, an_existence, behind_arguments, bound, deleted_kind, deleted_path, of_call, wants_path}
 use Rattle.vrl_resolve.specs.Calls.{acts, callee_of, items_in}
-use Rattle.vrl_resolve.specs.Meaning.{eval, eval_args}
+use Rattle.vrl_resolve.specs.Meaning.{eval, eval_args, eval_body}
 use Rattle.vrl_compile.specs.Sound.{HasNoError, IsSoundEnd}
 use Rattle.vrl_compile.proofs.SoundValues.{of_scalars}
 use Rattle.vrl_compile.proofs.SoundArguments.{arguments_counted, arguments_judged}
@@ -101,7 +102,7 @@ path_call setting known span gs c js j arguments none =
 
 -- the call of such an argument, as it is run
 abbrev run_call : SettingTree → List Tag → List ℕ → Args → Closure → Store → Ended
-run_call setting tags name gs c store = on_value (eval_args setting tags gs [] store) (λ w end. acts setting (callee_of name gs c) (items_in w) end)
+run_call setting tags name gs c store = on_value (eval_args setting tags gs [] store) (λ w end. acts setting (callee_of name gs c) (eval_body setting (behind_args gs tags) c) (items_in w) end)
 
 as_path_call : (setting : SettingTree) (known : RootMap) (tags : List Tag) (name : List ℕ) (gs : Args) (c : Closure) (js : List Argument) (j whole : Judgement) (store : Store) (is : IsPathCall setting known gs c js j)
     → IsSoundEnd whole (run_call setting tags name (arg is.one.name is.one.span is.one.e no_args) no_closure store) → IsSoundEnd whole (run_call setting tags name gs c store)
@@ -114,7 +115,7 @@ as_path_call setting known tags name gs c js j whole store is sound =
 deletion_ends : Laws → (setting : SettingTree) (tags others : List Tag) (name : List ℕ) (keyword : Option (List ℕ)) (span : Span) (e : Expr) (k whole : Judgement) (places : List (Option ℕ)) (store : Store) → is_some (path_of e) ≡ true → is_del name ≡ true
     → binding path_parameters (keyword ∷ []) ≡ Ok places → IsSoundEnd k (eval setting others e store) → whole.kind ≡ k.kind → IsDeletedAt (path_of e) k.ok whole.ok → IsSoundEnd whole (run_call setting tags name (arg keyword span e no_args) no_closure store)
 deletion_ends laws setting tags others name keyword span (expr place (read root path)) k whole places store written named found holds kind deleted =
-    subst (λ callee. IsSoundEnd whole (acts setting callee (item (read_in root path store) no_items) store)) (sym (deletion_called name keyword span place root path places named found))
+    subst (λ callee. IsSoundEnd whole (acts setting callee (eval_body setting (behind_args (arg keyword span (expr place (read root path)) no_args) tags) no_closure) (item (read_in root path store) no_items) store)) (sym (deletion_called name keyword span place root path places named found))
     (within_is_sound whole (read_in root path store) (removed root path store) (subst (Inhabits (read_in root path store)) (sym kind) holds.0, removal_fits laws root path k.ok whole.ok store deleted holds.1))
 deletion_ends laws setting tags others name keyword span (expr place f) k whole places store written named found holds kind deleted = absurd (false≢true written)
 
@@ -147,7 +148,7 @@ deletion_is_sound laws setting known span s name bang gs c js j whole ok named a
 existence_ends : Laws → (setting : SettingTree) (tags others : List Tag) (name : List ℕ) (keyword : Option (List ℕ)) (span : Span) (e : Expr) (k whole : Judgement) (places : List (Option ℕ)) (store : Store) → is_some (path_of e) ≡ true → is_exists name ≡ true
     → binding path_parameters (keyword ∷ []) ≡ Ok places → IsSoundEnd k (eval setting others e store) → IsScalar tag.Bool whole.kind → whole.ok ≡ k.ok → IsSoundEnd whole (run_call setting tags name (arg keyword span e no_args) no_closure store)
 existence_ends laws setting tags others name keyword span (expr place (read root path)) k whole places store written named found holds scalar ok =
-    subst (λ callee. IsSoundEnd whole (acts setting callee (item (read_in root path store) no_items) store)) (sym (existence_called name keyword span place root path places named found))
+    subst (λ callee. IsSoundEnd whole (acts setting callee (eval_body setting (behind_args (arg keyword span (expr place (read root path)) no_args) tags) no_closure) (item (read_in root path store) no_items) store)) (sym (existence_called name keyword span place root path places named found))
     (of_scalars laws.cuts (boolean (is_there root path store)) (only tag.Bool) whole.kind scalar (λ s. refl) refl, subst (FitsKnown store) (sym ok) holds.1)
 existence_ends laws setting tags others name keyword span (expr place f) k whole places store written named found holds scalar ok = absurd (false≢true written)
 
