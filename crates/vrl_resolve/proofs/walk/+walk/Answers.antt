@@ -223,12 +223,12 @@ call-returns-then-call-clause-ended t c =
     let e = on_value (all_mean (names_in x) (setting_in x) (parts_view c.deref.result.now) [] (store_at x c.args.store.now)) (λ vs after. acts (setting_in x) (callee_in (names_in x) a.callee) no_body (items_in vs) after) in
     let t = store_at x c.answer-value.new.store in
     subst (λ n. Ends (meant x n c.args.store.now) t c.banged.result) (sym is)
-    (subst (λ b. Ends (banged_if b e) t c.banged.result) (sym c.if-call.true) (c.banged.ensures e t c.answer-value.ensures.ended))
+    (subst (λ b. Ends (banged_if b e) t c.banged.result) (sym c.if-call.true) (c.banged.ensures.ends e t c.answer-value.ensures.ended))
 
 pub coalescing-eval-requires : goal.coalescing-eval-requires
 coalescing-eval-requires t c =
     let x = c.args.context.now in
-    let told = rw c.in-None.is at (c.in_ok-value.ensures (meant x (linked_of c.args.left.now) c.args.store.now) (store_at x c.eval-value.new.store) c.eval-value.ensures.ended) in (
+    let told = rw c.in-None.is at (c.in_ok-value.ensures.ends (meant x (linked_of c.args.left.now) c.args.store.now) (store_at x c.eval-value.new.store) c.eval-value.ensures.ended) in (
       omega (arith, c.decreases),
       (
         ready_after x c.args.store.now c.eval-value.new.store (linked_of c.args.left.now) (error told.0) c.meanings_stay_well_formed.ensures c.requires.left told.1 c.requires.ready c.eval-value.ensures.stays,
@@ -243,13 +243,13 @@ coalescing-eval-value-requires t c =
 pub coalescing-returns-in-None-clause-ended : goal.coalescing-returns-in-None-clause-ended
 coalescing-returns-in-None-clause-ended t c =
     let x = c.args.context.now in
-    let told = rw c.in-None.is at (c.in_ok-value.ensures (meant x (linked_of c.args.left.now) c.args.store.now) (store_at x c.eval-value.new.store) c.eval-value.ensures.ended) in
+    let told = rw c.in-None.is at (c.in_ok-value.ensures.ends (meant x (linked_of c.args.left.now) c.args.store.now) (store_at x c.eval-value.new.store) c.eval-value.ensures.ended) in
     after_error (meant x (linked_of c.args.left.now) c.args.store.now) (λ text after. means (names_in x) (setting_in x) (linked_of c.args.right.now) after) told.0 (store_at x c.eval-value.new.store) (store_at x c.eval.new.store) c.eval.result told.1 c.eval.ensures.ended
 
 pub coalescing-returns-in-Some-clause-ended : goal.coalescing-returns-in-Some-clause-ended
 coalescing-returns-in-Some-clause-ended t c =
     let x = c.args.context.now in
-    let told = rw c.in-Some.is at (c.in_ok-value.ensures (meant x (linked_of c.args.left.now) c.args.store.now) (store_at x c.eval-value.new.store) c.eval-value.ensures.ended) in
+    let told = rw c.in-Some.is at (c.in_ok-value.ensures.ends (meant x (linked_of c.args.left.now) c.args.store.now) (store_at x c.eval-value.new.store) c.eval-value.ensures.ended) in
     ap (λ e. on_error e (λ text after. means (names_in x) (setting_in x) (linked_of c.args.right.now) after)) told
 
 pub coalescing-returns-in_err-value-clause-ended : goal.coalescing-returns-in_err-value-clause-ended
@@ -257,7 +257,7 @@ coalescing-returns-in_err-value-clause-ended t c =
     let x = c.args.context.now in
     let left = meant x (linked_of c.args.left.now) c.args.store.now in
     let next : List ℕ → Store → Ended = λ text after. means (names_in x) (setting_in x) (linked_of c.args.right.now) after in
-    let given : Stops (on_error left next) (store_at x c.eval-value.new.store) c.in_err-value.field-0.0 = c.in_err-value.ensures left (store_at x c.eval-value.new.store) c.eval-value.ensures.ended next in
+    let given : Stops (on_error left next) (store_at x c.eval-value.new.store) c.in_err-value.field-0.0 = c.in_err-value.ensures.ends left (store_at x c.eval-value.new.store) c.eval-value.ensures.ended next in
     search rules
 
 pub conditional-block-requires : goal.conditional-block-requires
