@@ -5,11 +5,10 @@ use Rattle.std.proofs.lemmas.Slice.Eq.{bytes_eq-Decides}
 use Rattle.std.specs.Prelude.{⊤}
 use Rattle.vrl_path.specs.declared.path.Step.{Step}
 use Rattle.vrl_diag.specs.declared.diagnostic.Span.{Span}
-use Rattle.vrl_syntax.specs.Calls.{is_exists, path_of}
+use Rattle.vrl_syntax.specs.Calls.{is_del, is_exists, path_of}
 use Rattle.vrl_syntax.specs.ErrorAssignments.{in_args, in_closure}
 use Rattle.vrl_syntax.specs.Tree.{Expr, expr, read, Args, no_args, arg, no_closure, call}
 use Rattle.vrl_syntax.specs.View.{args_of, call_of, closure_in, closure_of}
-use Rattle.vrl_syntax.specs.Written.{is_del}
 use Rattle.vrl_syntax.specs.declared.root.Root.{Root}
 use Rattle.vrl_syntax.specs.declared.tree.Call.{Call as CodeCall, out-Call}
 use Rattle.vrl_syntax.specs.declared.tree.Closure.{Closure as CodeClosure}

@@ -15,12 +15,11 @@ use Rattle.vrl_path.specs.declared.path.Step.{Step}
 use Rattle.vrl_path.specs.declared.path.Step.TheVariants.{Field, Place as Index}
 use Rattle.vrl_diag.specs.declared.diagnostic.Diagnostic.{Diagnostic}
 use Rattle.vrl_diag.specs.declared.diagnostic.Span.{Span}
-use Rattle.vrl_syntax.specs.Calls.{is_exists, literal_of}
+use Rattle.vrl_syntax.specs.Calls.{is_del, is_exists, literal_of}
 use Rattle.vrl_syntax.specs.Limits.{args_faults, arms_faults, else_faults, expr_faults, exprs_faults, fault_at, faults_at, form_faults, is_negative, is_too_large, pairs_faults, path_faults, target_faults}
 use Rattle.vrl_syntax.specs.Regexes.{args_regexes_below, arms_regexes_below, else_regexes_below, expr_regexes_below, exprs_regexes_below, form_regexes_below, pairs_regexes_below}
 use Rattle.vrl_syntax.specs.Tree.{Expr, expr, Form, Exprs, Pairs, Arms, Else, Args, no_args, arg, Closure, no_closure, closure, literal}
 use Rattle.vrl_syntax.specs.Tree as tree
-use Rattle.vrl_syntax.specs.Written.{is_del}
 use Rattle.vrl_syntax.specs.declared.root.Root.{Root}
 use Rattle.vrl_syntax.specs.declared.root.Target.{Target}
 use Rattle.vrl_syntax.specs.declared.root.Target.TheVariants as target

@@ -10,11 +10,10 @@ use Rattle.vrl_value.specs.Tree.{Tree, null, array as items, object as members, 
 use Rattle.vrl_value.specs.View.{items_of_trees}
 use Rattle.vrl_value.specs.declared.value.Tag.{Tag}
 use Rattle.vrl_path.specs.declared.path.Step.{Step}
-use Rattle.vrl_syntax.specs.Calls.{is_exists, literal_of}
+use Rattle.vrl_syntax.specs.Calls.{is_del, is_exists, literal_of}
 use Rattle.vrl_syntax.specs.ErrorAssignments.{behind, behind_all, behind_args, behind_arms, first_tag, other_tags}
 use Rattle.vrl_syntax.specs.Stores.{Store, bound_to, hidden_by}
 use Rattle.vrl_syntax.specs.Tree.{Expr, expr, Form, literal, array, object, read, query, group, block, conditional, negation, binary, assign, merge, both, call, return_of, abort_with, Exprs, no_exprs, exprs, Pairs, no_pairs, pair, Arms, no_arms, arm, Else, no_else, else_block, Args, no_args, arg, Closure, no_closure, closure, no_message, message}
-use Rattle.vrl_syntax.specs.Written.{is_del}
 use Rattle.vrl_syntax.specs.declared.root.Op.TheVariants as op
 use Rattle.vrl_syntax.specs.declared.root.Root.{Root}
 use Rattle.vrl_builtin.specs.Rows.{ParameterRow, SettingTree}

@@ -11,10 +11,9 @@ use Rattle.vrl_value.specs.Tag.{tag_of, word_of}
 use Rattle.vrl_value.specs.Tree.{Tree, boolean, array as items, Items, no_items}
 use Rattle.vrl_value.specs.declared.value.Tag.{Tag}
 use Rattle.vrl_path.specs.declared.path.Step.{Step}
-use Rattle.vrl_syntax.specs.Calls.{is_exists, literal_of}
+use Rattle.vrl_syntax.specs.Calls.{is_del, is_exists, literal_of}
 use Rattle.vrl_syntax.specs.Stores.{Store}
 use Rattle.vrl_syntax.specs.Tree.{Expr, expr, read, Args, no_args, arg, Closure, no_closure, closure}
-use Rattle.vrl_syntax.specs.Written.{is_del}
 use Rattle.vrl_syntax.specs.declared.root.Root.{Root}
 use Rattle.vrl_builtin.specs.Rows.{Answer, value as answered, failure, ParameterRow, Row, SettingTree, argument_at}
 use Rattle.vrl_builtin.specs.TagSets.{allows}

@@ -9,8 +9,8 @@ pub fn empty_scripts_give_null()
     ensures { EmptyScriptsGiveNull }
 {}
 
-/// Whatever an expression does, values stay well-formed: in order, and each regex in them one of the script's. Its literals are so, and what
-/// stands in the store. This takes no time: it is a law about the definitions.
+/// Whatever an expression or the body of a closure does, values stay well-formed: in order, and each regex in them one of the script's. Its
+/// literals are so, and what stands in the store. This takes no time: it is a law about the definitions.
 pub fn evaluations_stay_well_formed()
     ensures { EvaluationsStayWellFormed }
 {

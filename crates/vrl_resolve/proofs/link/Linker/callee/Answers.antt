@@ -1,7 +1,6 @@
 use Rattle.std.proofs.Common.{◌≡◌, ◌∙◌, ap, sym, false, true, is_some}
 use Rattle.std.proofs.lemmas.Result.{IfOk-weaker}
-use Rattle.vrl_syntax.specs.Calls.{is_exists}
-use Rattle.vrl_syntax.specs.Written.{is_del}
+use Rattle.vrl_syntax.specs.Calls.{is_del, is_exists}
 use Rattle.vrl_syntax.specs.declared.tree.Call.{out-Call}
 use Rattle.vrl_resolve.proofs.LinkedCalls.{deletion_called, existence_called}
 use Rattle.vrl_resolve.proofs.Links.{numbers_weaker}
