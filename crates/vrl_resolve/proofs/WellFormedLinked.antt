@@ -14,7 +14,7 @@ use Rattle.vrl_store.specs.Places.{target_value}
 use Rattle.vrl_store.specs.StoreView.{root_of, Names}
 use Rattle.vrl_store.specs.WellFormed.{AreWellFormed, IsWellFormed, IsWellFormedEnded, IsWellFormedStore}
 use Rattle.vrl_resolve.specs.Calls.{items_in}
-use Rattle.vrl_resolve.specs.Fits.{part_at, AllFit, AreGiven, ArmsFit, ElseFits, Fits, IsAllowedIf, IsCallee, IsGiven, PairsFit}
+use Rattle.vrl_resolve.specs.Fits.{part_at, AllFit, AreGiven, ArmsFit, ElseFits, Fits, IsAllowedPartIf, IsCallee, IsGiven, PairsFit}
 use Rattle.vrl_resolve.specs.Laws.{MeaningsStayWellFormed}
 use Rattle.vrl_resolve.specs.Linked.{Linked, literal, array, object, read, query, block, conditional, negation, binary, assign, merge, both, call, return_of, abort_with, Parts, no_parts, parts, Pairs, no_pairs, pair, Arms, no_arms, arm, Else, no_else, else_block, no_message, message}
 use Rattle.vrl_resolve.specs.LinkedMeaning.{all_mean, arms_mean, callee_in, else_means, if_asked, items_mean, means, no_body, pairs_mean, target_of}
@@ -39,12 +39,12 @@ abbrev pub known_parts : Parts → List (Option Tree)
 known_parts no_parts = []
 known_parts (parts n ns) = known_of n ∷ known_parts ns
 
-allowed_is : (wanted : Bool) (accepts : Tree → Bool) (n : Linked) → IsAllowedIf wanted accepts (Some n) → IsAllowedAs wanted accepts (known_of n)
+allowed_is : (wanted : Bool) (accepts : Tree → Bool) (n : Linked) → IsAllowedPartIf wanted accepts (Some n) → IsAllowedAs wanted accepts (known_of n)
 allowed_is false accepts n allowed = tt
 allowed_is true accepts (literal v) allowed = allowed
 allowed_is true accepts other allowed = absurd allowed
 
-place_is : (wanted : Bool) (accepts : Tree → Bool) (ns : Parts) (place : ℕ) → IsSome (part_at place ns) → IsAllowedIf wanted accepts (part_at place ns) → IsSomeAnd (slice_get (known_parts ns) place) (IsAllowedAs wanted accepts)
+place_is : (wanted : Bool) (accepts : Tree → Bool) (ns : Parts) (place : ℕ) → IsSome (part_at place ns) → IsAllowedPartIf wanted accepts (part_at place ns) → IsSomeAnd (slice_get (known_parts ns) place) (IsAllowedAs wanted accepts)
 place_is wanted accepts no_parts place there allowed = absurd (true≢false (sym there))
 place_is wanted accepts (parts n ns) zero there allowed = allowed_is wanted accepts n allowed
 place_is wanted accepts (parts n ns) (suc place) there allowed = place_is wanted accepts ns place there allowed
