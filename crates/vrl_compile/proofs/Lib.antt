@@ -11,7 +11,6 @@ pub mod SoundBlocks
 pub mod SoundBound
 pub mod SoundCallees
 pub mod SoundCalls
-pub mod SoundCauses
 pub mod SoundCounts
 pub mod SoundEnds
 pub mod SoundLists

@@ -8,11 +8,13 @@ use Rattle.vrl_kind.specs.KindTree.{KindTree}
 use Rattle.vrl_state.specs.States.{RootMap}
 use Rattle.vrl_builtin.specs.Rows.{SettingTree}
 use Rattle.vrl_judge.specs.Rules.{Argument, Judgement, nothing, settle}
+use Rattle.vrl_check.specs.Determined.{HasCause}
+use Rattle.vrl_check.specs.OpenRules.{OpenRules}
 use Rattle.vrl_check.specs.Judgement.{nulls, Judges, unreached, reached, Gives, a_literal, an_array, an_object, a_known_root, an_unknown_root, a_query, a_group, a_block, a_conditional, a_negation, an_equality, of_table, a_merge, a_conjunction, a_disjunction, a_coalescing, an_assignment, a_merge_into_nothing, a_merge_assignment, an_error_assignment, a_call_of_nothing, a_call, a_deletion, an_existence, a_return, an_abort, an_abort_with, operands, JudgesAll, no_more, one_more, JudgesArguments, no_more_arguments, one_more_argument, JudgesBlock, unreached_block, reached_block, JudgesArms, an_arm, an_else, a_missing_else}
-use Rattle.vrl_compile.specs.Sound.{ExpressionsAreSound}
+use Rattle.vrl_compile.specs.Sound.{ExpressionsAreSound, setting_of}
 use Rattle.vrl_compile.proofs.SoundBlocks.{block_is_sound, conditional_is_sound, reached_block_is_sound, sound_arm, sound_else, sound_missing_else, unreached_block_is_sound, AreSoundArms, IsSoundBlock}
 use Rattle.vrl_compile.proofs.SoundCalls.{call_is_sound, call_of_nothing_is_sound}
-use Rattle.vrl_compile.proofs.SoundCauses.{all_cause, given_cause, HasCause}
+use Rattle.vrl_compile.proofs.SoundCounts.{IsToldOf}
 use Rattle.vrl_compile.proofs.SoundEnds.{sound_settled, IsSoundForm, IsSoundPart}
 use Rattle.vrl_compile.specs.SoundLaws.{Laws}
 use Rattle.vrl_compile.proofs.SoundLists as lists
@@ -32,73 +34,76 @@ reached_is_sound setting known span f j cause sound none well rest store stored 
 dead_is_sound : (setting : SettingTree) (e : Expr) (j : Judgement) → IsSoundPart setting None e j
 dead_is_sound setting e j none well rest store stored fits = absurd fits
 
-module _ (laws : Laws) (moment : ℤ) (sources : List (List ℕ)) where
+module _ (laws : Laws) (moment : ℤ) (rules : OpenRules) where
   abbrev setting : SettingTree
-  setting = record { moment = moment; sources = sources }
+  setting = setting_of moment rules
+
+  told_of : {known : Option RootMap} {e : Expr} {j : Judgement} → Judges rules known e j → IsToldOf e j
+  told_of judges = record { counted = laws.counted.expression _ _ _ _ judges; cause = laws.causes.expression _ _ _ _ judges }
 
   mutual
-    expression_sound : {known : Option RootMap} {e : Expr} {j : Judgement} → Judges sources known e j → IsSoundPart setting known e j
+    expression_sound : {known : Option RootMap} {e : Expr} {j : Judgement} → Judges rules known e j → IsSoundPart setting known e j
     expression_sound (unreached {e = e}) = dead_is_sound setting e (nothing (nulls (in_expr e)))
-    expression_sound (reached {known = known} {span = span} {f = f} {j = j} gives) = reached_is_sound setting known span f j (given_cause gives) (form_sound gives)
+    expression_sound (reached {known = known} {span = span} {f = f} {j = j} gives) = reached_is_sound setting known span f j (laws.causes.form _ _ _ _ _ gives) (form_sound gives (laws.causes.form _ _ _ _ _ gives))
 
-    form_sound : {known : RootMap} {span : Span} {f : Form} {j : Judgement} → Gives sources known span f j → IsSoundForm setting known f j
-    form_sound (a_literal {known = known} {v = v} {K = K} cut) = literal_is_sound laws setting known v K cut
-    form_sound (an_array {known = known} {es = es} {j = j} {Ks = Ks} {K = K} all cut) = array_is_sound laws setting known es j Ks K (all_are_sound all) cut
-    form_sound (an_object {known = known} {ps = ps} {j = j} {Ks = Ks} {K = K} all cut) = object_is_sound laws setting known ps j Ks K (all_are_sound all) cut
-    form_sound (a_known_root {known = known} {root = root} {path = path} {K = K} {M = M} is at) = read_is_sound laws setting known root path K M is at
-    form_sound (an_unknown_root {known = known} {span = span} {root = root} {path = path} is) = unknown_is_sound setting known span root path any_kind
-    form_sound (a_query {known = known} {e = e} {path = path} {j = j} {K = K} part at) = query_is_sound laws setting known e path j K (expression_sound part) at
-    form_sound (a_group {known = known} {e = e} {j = j} part) = group_is_sound setting known e j (expression_sound part)
-    form_sound (a_block {known = known} {es = es} {j = j} all) = block_is_sound setting known es j (block_sound all)
-    form_sound (a_conditional {known = known} {gs = gs} {es = es} {j = j} arms) = conditional_is_sound laws setting known gs es j (arms_are_sound arms)
-    form_sound (a_negation {known = known} {span = span} {e = e} {j = j} {K = K} part cut) = negation_is_sound laws setting known span e j K part cut (expression_sound part)
-    form_sound (an_equality {known = known} {span = span} {o = o} {l = l} {r = r} {j = j} {k = k} {whole = w} {K = K} is (operands first second in_order) cut) =
-        equality_is_sound laws setting known span o l r j k w K is (operands first second in_order) cut (expression_sound first) (expression_sound second)
-    form_sound (of_table {known = known} {span = span} {o = o} {table = t} {l = l} {r = r} {j = j} {k = k} {whole = w} {K = K} {fail = fail} is (operands first second in_order) cut fails) =
-        table_is_sound laws setting known span o t l r j k w K fail is (operands first second in_order) cut fails (expression_sound first) (expression_sound second)
-    form_sound (a_merge {known = known} {l = l} {r = r} {j = j} {k = k} {whole = w} {K = K} (operands first second in_order) is) =
-        merge_is_sound laws setting known l r j k w K (operands first second in_order) is (expression_sound first) (expression_sound second)
-    form_sound (a_conjunction {known = known} {l = l} {r = r} {j = j} {k = k} {whole = w} {K = K} left_fail part_fail {ok = ok} {fail = fail} first second in_order cut oks left_fails part_fails fails) =
-        conjunction_is_sound laws setting known l r j k w K left_fail part_fail ok fail first in_order cut oks left_fails part_fails fails (expression_sound first) (expression_sound second)
-    form_sound (a_disjunction {known = known} {l = l} {r = r} {j = j} {k = k} {whole = w} {K = K} {ok = ok} first second in_order cut oks) =
-        disjunction_is_sound laws setting known l r j k w K ok first in_order cut oks (expression_sound first) (expression_sound second)
-    form_sound (a_coalescing {known = known} {span = span} {l = l} {r = r} {j = j} {k = k} {whole = w} {K = K} {ok = ok} first second in_order either oks) =
-        coalescing_is_sound laws setting known span l r j k w K ok first in_order either oks (expression_sound first) (expression_sound second)
-    form_sound (an_assignment {known = known} {span = span} {t = t} {e = e} {j = j} {ok = ok} part written) = assignment_is_sound laws setting known span t e j ok written (expression_sound part)
-    form_sound (a_merge_into_nothing {known = known} {span = span} {e = e} {j = j} part) = merge_into_nothing_is_sound setting known span e j
-    form_sound (a_merge_assignment {known = known} {span = span} {s = s} {root = root} {path = path} {e = e} {j = j} {ok = ok} part written) =
+    form_sound : {known : RootMap} {span : Span} {f : Form} {j : Judgement} → Gives rules known span f j → HasCause j → IsSoundForm setting known f j
+    form_sound (a_literal {known = known} {v = v} {K = K} cut) cause = literal_is_sound laws setting known v K cut
+    form_sound (an_array {known = known} {es = es} {j = j} {Ks = Ks} {K = K} all cut) cause = array_is_sound laws setting known es j Ks K (all_are_sound all) cut
+    form_sound (an_object {known = known} {ps = ps} {j = j} {Ks = Ks} {K = K} all cut) cause = object_is_sound laws setting known ps j Ks K (all_are_sound all) cut
+    form_sound (a_known_root {known = known} {root = root} {path = path} {K = K} {M = M} is at) cause = read_is_sound laws setting known root path K M is at
+    form_sound (an_unknown_root {known = known} {span = span} {root = root} {path = path} is) cause = unknown_is_sound setting known span root path any_kind
+    form_sound (a_query {known = known} {e = e} {path = path} {j = j} {K = K} part at) cause = query_is_sound laws setting known e path j K (expression_sound part) at
+    form_sound (a_group {known = known} {e = e} {j = j} part) cause = group_is_sound setting known e j (expression_sound part)
+    form_sound (a_block {known = known} {es = es} {j = j} all) cause = block_is_sound setting known es j (block_sound all)
+    form_sound (a_conditional {known = known} {gs = gs} {es = es} {j = j} arms) cause = conditional_is_sound laws setting known gs es j (arms_are_sound arms)
+    form_sound (a_negation {known = known} {span = span} {e = e} {j = j} {K = K} part cut) cause = negation_is_sound laws setting known span e j K (told_of part) cut (expression_sound part)
+    form_sound (an_equality {known = known} {span = span} {o = o} {l = l} {r = r} {j = j} {k = k} {whole = w} {K = K} is (operands first second in_order) cut) cause =
+        equality_is_sound laws setting known span o l r j k w K is (told_of first) (told_of second) in_order cut (expression_sound first) (expression_sound second)
+    form_sound (of_table {known = known} {span = span} {o = o} {table = t} {l = l} {r = r} {j = j} {k = k} {whole = w} {K = K} {fail = fail} is (operands first second in_order) cut fails) cause =
+        table_is_sound laws setting known span o t l r j k w K fail is (told_of first) (told_of second) in_order cut fails (expression_sound first) (expression_sound second)
+    form_sound (a_merge {known = known} {l = l} {r = r} {j = j} {k = k} {whole = w} {K = K} (operands first second in_order) is) cause =
+        merge_is_sound laws setting known l r j k w K (told_of first) (told_of second) in_order is (expression_sound first) (expression_sound second)
+    form_sound (a_conjunction {known = known} {l = l} {r = r} {j = j} {k = k} {whole = w} {K = K} left_fail part_fail {ok = ok} {fail = fail} first second in_order cut oks left_fails part_fails fails) cause =
+        conjunction_is_sound laws setting known l r j k w K left_fail part_fail ok fail (told_of first) in_order cut oks left_fails part_fails fails (expression_sound first) (expression_sound second)
+    form_sound (a_disjunction {known = known} {l = l} {r = r} {j = j} {k = k} {whole = w} {K = K} {ok = ok} first second in_order cut oks) cause =
+        disjunction_is_sound laws setting known l r j k w K ok (told_of first) in_order cut oks (expression_sound first) (expression_sound second)
+    form_sound (a_coalescing {known = known} {span = span} {l = l} {r = r} {j = j} {k = k} {whole = w} {K = K} {ok = ok} first second in_order either oks) cause =
+        coalescing_is_sound laws setting known span l r j k w K ok (told_of first) in_order either oks (expression_sound first) (expression_sound second)
+    form_sound (an_assignment {known = known} {span = span} {t = t} {e = e} {j = j} {ok = ok} part written) cause = assignment_is_sound laws setting known span t e j ok written (expression_sound part)
+    form_sound (a_merge_into_nothing {known = known} {span = span} {e = e} {j = j} part) cause = merge_into_nothing_is_sound setting known span e j
+    form_sound (a_merge_assignment {known = known} {span = span} {s = s} {root = root} {path = path} {e = e} {j = j} {ok = ok} part written) cause =
         merge_assignment_is_sound laws setting known span s root path e j ok written (expression_sound part)
-    form_sound (an_error_assignment {known = known} {span = span} {t = t} {u = u} {e = e} {j = j} {E = E} {K = K} {N = N} {T = T} given given_both failed failed_both {ok = ok} part empty either null_kind text_kind one two three four oks) =
-        error_assignment_is_sound laws setting known span t u e j E K N T given given_both failed failed_both ok empty either null_kind text_kind one two three four oks (expression_sound part)
-    form_sound (a_call_of_nothing {known = known} {s = s} {name = name} {bang = bang} {gs = gs} {c = c} {j = j} unknown other arguments) =
+    form_sound (an_error_assignment {known = known} {span = span} {t = t} {u = u} {e = e} {j = j} empty {E = E} {K = K} {N = N} {T = T} given given_both failed failed_both {ok = ok} part allowed cut either null_kind text_kind one two three four oks) cause =
+        error_assignment_is_sound laws setting known span t u e j empty E K N T given given_both failed failed_both ok cut either null_kind text_kind one two three four oks (expression_sound part)
+    form_sound (a_call_of_nothing {known = known} {s = s} {name = name} {bang = bang} {gs = gs} {c = c} {j = j} unknown other arguments) cause =
         call_of_nothing_is_sound setting known s name bang gs c (record j { kind = any_kind; empties = j.empties ++ nulls (in_closure c) })
-    form_sound (a_call {known = known} {span = span} {s = s} function {name = name} {bang = bang} {gs = gs} {c = c} {js = js} {j = j} {whole = w} K fails fail named arguments is answered joined) =
-        call_is_sound laws setting known span s function name bang gs c js j w K fails fail named (arguments_are_sound arguments) is answered joined
-    form_sound (a_deletion {known = known} {span = span} {s = s} {name = name} {bang = bang} {gs = gs} {c = c} {js = js} {j = j} {whole = w} ok named arguments is deleted) =
-        deletion_is_sound laws setting known span s name bang gs c js j w ok named (arguments_are_sound arguments) is deleted
-    form_sound (an_existence {known = known} {span = span} {s = s} {name = name} {bang = bang} {gs = gs} {c = c} {js = js} {j = j} {whole = w} K named arguments is scalar) =
-        existence_is_sound laws setting known span s name bang gs c js j w K named (arguments_are_sound arguments) is scalar
-    form_sound (a_return {known = known} {e = e} {j = j} {ret = ret} {R = R} part rets either) = return_is_sound laws setting known e j ret R rets either (expression_sound part)
-    form_sound (an_abort {known = known}) = abort_is_sound setting known []
-    form_sound (an_abort_with {known = known} {e = e} {j = j} part) = abort_with_is_sound laws setting known e j part (expression_sound part)
+    form_sound (a_call {known = known} {span = span} {s = s} function {name = name} {bang = bang} {gs = gs} {c = c} {js = js} {j = j} {whole = w} K fails fail named arguments is answered joined) cause =
+        call_is_sound laws setting known span s function name bang gs c js j w K fails fail named (arguments_are_sound arguments) is answered joined cause
+    form_sound (a_deletion {known = known} {span = span} {s = s} {name = name} {bang = bang} {gs = gs} {c = c} {js = js} {j = j} {whole = w} ok named arguments is deleted) cause =
+        deletion_is_sound laws setting known span s name bang gs c js j w ok named (arguments_are_sound arguments) is deleted cause
+    form_sound (an_existence {known = known} {span = span} {s = s} {name = name} {bang = bang} {gs = gs} {c = c} {js = js} {j = j} {whole = w} K named arguments is scalar) cause =
+        existence_is_sound laws setting known span s name bang gs c js j w K named (arguments_are_sound arguments) is scalar cause
+    form_sound (a_return {known = known} {e = e} {j = j} {ret = ret} {R = R} part rets either) cause = return_is_sound laws setting known e j ret R rets either (expression_sound part)
+    form_sound (an_abort {known = known}) cause = abort_is_sound setting known []
+    form_sound (an_abort_with {known = known} {e = e} {j = j} part) cause = abort_with_is_sound laws setting known e j (told_of part) (expression_sound part)
 
-    all_are_sound : {before after : Judgement} {es : Exprs} {Ks : List KindTree} → JudgesAll sources before es Ks after → AreSound setting before es Ks after
+    all_are_sound : {before after : Judgement} {es : Exprs} {Ks : List KindTree} → JudgesAll rules before es Ks after → AreSound setting before es Ks after
     all_are_sound no_more = no_more_sound
     all_are_sound (one_more part in_order more) = one_more_sound (laws.counted.expression _ _ _ _ part) (expression_sound part) in_order (all_are_sound more)
 
-    arguments_are_sound : {before after : Judgement} {gs : Args} {js : List Argument} → JudgesArguments sources before gs js after → AreSoundArguments setting before gs js after
+    arguments_are_sound : {before after : Judgement} {gs : Args} {js : List Argument} → JudgesArguments rules before gs js after → AreSoundArguments setting before gs js after
     arguments_are_sound no_more_arguments = lists.no_more_arguments
-    arguments_are_sound (one_more_argument part in_order more) = lists.one_more_argument part (expression_sound part) in_order (arguments_are_sound more)
+    arguments_are_sound (one_more_argument part in_order more) = lists.one_more_argument (told_of part) (expression_sound part) in_order (arguments_are_sound more)
 
-    block_sound : {known : Option RootMap} {es : Exprs} {j : Judgement} → JudgesBlock sources known es j → IsSoundBlock setting known es j
+    block_sound : {known : Option RootMap} {es : Exprs} {j : Judgement} → JudgesBlock rules known es j → IsSoundBlock setting known es j
     block_sound (unreached_block {es = es}) = unreached_block_is_sound setting es (nothing (nulls (in_exprs es)))
-    block_sound (reached_block {known = known} {es = es} {Ks = Ks} {N = N} {j = j} null_kind all) = reached_block_is_sound laws setting known es Ks N j null_kind (all_cause all refl) (all_are_sound all)
+    block_sound (reached_block {known = known} {es = es} {Ks = Ks} {N = N} {j = j} null_kind all) = reached_block_is_sound laws setting known es Ks N j null_kind (laws.causes.all _ _ _ _ _ all refl) (all_are_sound all)
 
-    arms_are_sound : {state : Option RootMap} {ways all : Judgement} {gs : Arms} {otherwise : Else} → JudgesArms sources state ways gs otherwise all → AreSoundArms setting state ways gs otherwise all
+    arms_are_sound : {state : Option RootMap} {ways all : Judgement} {gs : Arms} {otherwise : Else} → JudgesArms rules state ways gs otherwise all → AreSoundArms setting state ways gs otherwise all
     arms_are_sound (an_arm {j = j} predicate beside branch besides more) =
         sound_arm j (laws.counted.expression _ _ _ _ predicate) (expression_sound predicate) beside (laws.counted.block _ _ _ _ branch) (block_sound branch) besides (arms_are_sound more)
     arms_are_sound (an_else branch beside) = sound_else (block_sound branch) beside
     arms_are_sound (a_missing_else null_kind beside) = sound_missing_else null_kind beside
 
 pub expressions_sound : Laws → ExpressionsAreSound
-expressions_sound laws setting known e j judges = expression_sound laws setting.moment setting.sources judges
+expressions_sound laws moment rules known e j judges = expression_sound laws moment rules judges

@@ -15,7 +15,6 @@ use Rattle.vrl_table.specs.Binding.{keywords_of}
 use Rattle.vrl_store.specs.Outcomes.{Outcome, value, error, returned, ends}
 use Rattle.vrl_store.specs.WellFormed.{AreWellFormedArgs, IsWellFormed, IsWellFormedOutcome, IsWellFormedStore}
 use Rattle.vrl_judge.specs.Rules.{Argument, Judgement}
-use Rattle.vrl_check.specs.Judgement.{JudgesArguments, no_more_arguments, one_more_argument}
 use Rattle.vrl_resolve.specs.Calls.{values_of}
 use Rattle.vrl_resolve.specs.Meaning.{eval, eval_args}
 use Rattle.vrl_compile.specs.Sound.{HasNoError, IsSoundOutcome}
@@ -26,28 +25,24 @@ use Rattle.vrl_compile.proofs.SoundLists.{AreSoundArguments, no_more_arguments a
 
 -- ---- what was judged of them
 
-pub arguments_judged : {setting : SettingTree} {before after : Judgement} {gs : Args} {js : List Argument} → AreSoundArguments setting before gs js after → JudgesArguments setting.sources before gs js after
-arguments_judged no_more_sound = no_more_arguments
-arguments_judged (one_more_sound judges sound then more) = one_more_argument judges then (arguments_judged more)
-
 -- the tags of the empty values in them
 abbrev pub own_empties : List Argument → List Tag
 own_empties [] = []
 own_empties (g ∷ js) = g.judged.empties ++ own_empties js
 
-pub arguments_empties : {sources : List (List ℕ)} {before after : Judgement} {gs : Args} {js : List Argument} → JudgesArguments sources before gs js after → after.empties ≡ before.empties ++ own_empties js
-arguments_empties (no_more_arguments {before = before}) = sym (append-nil before.empties)
-arguments_empties (one_more_argument {before = before} {j = j} {js = js} judges then more) =
+pub arguments_empties : {setting : SettingTree} {before after : Judgement} {gs : Args} {js : List Argument} → AreSoundArguments setting before gs js after → after.empties ≡ before.empties ++ own_empties js
+arguments_empties (no_more_sound {before = before}) = sym (append-nil before.empties)
+arguments_empties (one_more_sound {before = before} {j = j} {js = js} told sound then more) =
     arguments_empties more ∙ ap (λ ts. ts ++ own_empties js) then.behind.empties ∙ append_assoc before.empties j.empties (own_empties js)
 
 -- they are those that are written
-pub arguments_written : {sources : List (List ℕ)} {before after : Judgement} {gs : Args} {js : List Argument} → JudgesArguments sources before gs js after → values_of gs ≡ map (λ g. g.value) js
-arguments_written no_more_arguments = refl
-arguments_written (one_more_argument {e = e} judges then more) = ap (λ es. e ∷ es) (arguments_written more)
+pub arguments_written : {setting : SettingTree} {before after : Judgement} {gs : Args} {js : List Argument} → AreSoundArguments setting before gs js after → values_of gs ≡ map (λ g. g.value) js
+arguments_written no_more_sound = refl
+arguments_written (one_more_sound {e = e} told sound then more) = ap (λ es. e ∷ es) (arguments_written more)
 
-pub arguments_counted : {sources : List (List ℕ)} {before after : Judgement} {gs : Args} {js : List Argument} → JudgesArguments sources before gs js after → length (keywords_of gs) ≡ length js
-arguments_counted no_more_arguments = refl
-arguments_counted (one_more_argument judges then more) = ap suc (arguments_counted more)
+pub arguments_counted : {setting : SettingTree} {before after : Judgement} {gs : Args} {js : List Argument} → AreSoundArguments setting before gs js after → length (keywords_of gs) ≡ length js
+arguments_counted no_more_sound = refl
+arguments_counted (one_more_sound told sound then more) = ap suc (arguments_counted more)
 
 -- ---- their values
 
@@ -106,7 +101,7 @@ pub argument_values : Laws → (setting : SettingTree) {before after : Judgement
     → (rest : List Tag) (run : List Tree) (store : Store) → IsWellFormedStore (length setting.sources) store → FitsKnown store before.ok
     → IsSoundAs (AreAllValues (length setting.sources) run js after) after (eval_args setting (own_empties js ++ rest) gs run store)
 argument_values laws setting (no_more_sound {before = before}) none well rest run store stored fits = record { values = []; all = ap (λ vs. items (items_of_trees vs)) (sym (append-nil run)); each = tt; ok = fits }
-argument_values laws setting (one_more_sound {before = before} {j = j} {middle = middle} {after = after} {name = name} {span = span} {e = e} {gs = gs} {js = js} judges sound then more) none well rest run store stored fits =
+argument_values laws setting (one_more_sound {before = before} {j = j} {middle = middle} {after = after} {name = name} {span = span} {e = e} {gs = gs} {js = js} told sound then more) none well rest run store stored fits =
     let count = length setting.sources in
     let g : Argument = record { span = span; value = e; judged = j } in
     let own = own_empties js ++ rest in
@@ -118,6 +113,6 @@ argument_values laws setting (one_more_sound {before = before} {j = j} {middle =
     (as_on_value (IsGivenFor count g) Q j after given (λ v end. eval_args setting (behind e (j.empties ++ own)) gs (run ++ v ∷ []) end) (ends_through (second_ends laws before j middle then) (arguments_end laws more))
     (argument_given count g given.outcome given.store (part.sound store stored fits) kept.0 kept.1 (literal_is_value setting (j.empties ++ own) e store))
     (λ v end is.
-    subst (λ tags. IsSoundAs Q after (eval_args setting tags gs (run ++ v ∷ []) end)) (sym (behind_is laws.counted judges own))
+    subst (λ tags. IsSoundAs Q after (eval_args setting tags gs (run ++ v ∷ []) end)) (sym (behind_is told own))
     (as_weaker (AreAllValues count (run ++ v ∷ []) js after) Q after (eval_args setting own gs (run ++ v ∷ []) end) (λ w last are. one_more_value count run g js after v w last is.value_of are)
     (argument_values laws setting more none well.1 rest (run ++ v ∷ []) end is.stored (subst (FitsKnown end) (sym then.behind.ok) is.ok)))))

@@ -22,10 +22,10 @@ use Rattle.vrl_store.specs.Operators.{is_true}
 use Rattle.vrl_store.specs.Outcomes.{Outcome, value, error, aborted, returned, banged, deep, Ended, block_left, ends, on_value}
 use Rattle.vrl_store.specs.WellFormed.{AreWellFormedArms, AreWellFormedExprs, IsWellFormedElse, IsWellFormedStore}
 use Rattle.vrl_judge.specs.Rules.{Judgement, IsScalar, gives, without_new_names, left, nothing, of_predicate, settle, with_codes}
+use Rattle.vrl_check.specs.Determined.{HasCause}
 use Rattle.vrl_check.specs.Judgement.{IsBeside}
 use Rattle.vrl_resolve.specs.Meaning.{eval, eval_arms, eval_else, eval_items}
 use Rattle.vrl_compile.specs.Sound.{HasNoError, IsSoundEnd, IsSoundOutcome}
-use Rattle.vrl_compile.proofs.SoundCauses.{HasCause}
 use Rattle.vrl_compile.proofs.SoundCounts.{behind_arm_is, behind_block_counted, behind_counted}
 use Rattle.vrl_compile.proofs.SoundEnds.{ends_alike, ends_through, gives_through, left_ends, left_gives, no_error_beside, no_error_parts, right_ends, right_gives, sound_as, sound_either, sound_on_value, sound_settled, sound_told, EndsAs, GivesAs, IsSoundForm, IsSoundPart}
 use Rattle.vrl_compile.specs.SoundLaws.{Laws}

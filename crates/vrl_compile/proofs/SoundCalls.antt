@@ -24,14 +24,14 @@ use Rattle.vrl_store.specs.Outcomes.{value, deep, on_value}
 use Rattle.vrl_store.specs.Places.{is_within}
 use Rattle.vrl_store.specs.WellFormed.{AreWellFormedArgs, IsWellFormedStore}
 use Rattle.vrl_judge.specs.Rules.{Argument, Judgement, at, banged, gives, if_state, with_codes}
-use Rattle.vrl_check.specs.Judgement.{IsAnswered, IsAnsweredUnless, a_call, behind_arguments, bound, nulls, of_call, places_in, some_has_others, wants_literal}
+use Rattle.vrl_check.specs.Determined.{HasCause}
+use Rattle.vrl_check.specs.Judgement.{IsAnswered, IsAnsweredUnless, behind_arguments, bound, nulls, of_call, places_in, some_has_others, wants_literal}
 use Rattle.vrl_resolve.specs.Calls.{Body, acts, answer_outcome, argument_in, called, callee_of, first_unfit, fit_or_else, items_in, within_limit}
 use Rattle.vrl_resolve.specs.Meaning.{eval_args, eval_body, eval_form}
 use Rattle.vrl_compile.specs.Sound.{HasNoError, IsSoundEnd, IsSoundOutcome}
-use Rattle.vrl_compile.proofs.SoundArguments.{AreAllValues, AreValuesOf, argument_values, arguments_counted, arguments_empties, arguments_judged, arguments_written, own_empties}
+use Rattle.vrl_compile.proofs.SoundArguments.{AreAllValues, AreValuesOf, argument_values, arguments_counted, arguments_empties, arguments_written, own_empties}
 use Rattle.vrl_compile.proofs.SoundBound.{IsBoundCall, call_is_bound}
 use Rattle.vrl_compile.proofs.SoundCallees.{banged_empties, clean_call, function_called, sound_banged}
-use Rattle.vrl_compile.proofs.SoundCauses.{given_cause}
 use Rattle.vrl_compile.proofs.SoundEnds.{EndsAs, IsSoundForm, left_joins, no_error_parts, possible_state, returns_alike, right_joins, sound_behind}
 use Rattle.vrl_compile.specs.SoundLaws.{Laws}
 use Rattle.vrl_compile.proofs.SoundLists.{AreSoundArguments}
@@ -109,7 +109,7 @@ sound_call laws setting known span s name bang gs c js j whole arguments none we
     let acted = sound_behind (AreAllValues count [] js j) j whole (eval_args setting tags gs [] store) (λ w end. acts setting (callee_of name gs c) body (items_in w) end) as_whole values
     (λ w end are. subst (λ x. IsSoundEnd whole (acts setting (callee_of name gs c) body (items_in x) end)) (sym are.all) (acts_sound body are.values end are.each are.ok))
     in
-    subst (λ ts. IsSoundEnd (banged span bang whole) (eval_form setting ts (call name s bang gs c) store)) (call_tags c js j whole span bang rest (arguments_empties (arguments_judged arguments)) empties)
+    subst (λ ts. IsSoundEnd (banged span bang whole) (eval_form setting ts (call name s bang gs c) store)) (call_tags c js j whole span bang rest (arguments_empties arguments) empties)
     (sound_banged span bang whole (on_value (eval_args setting tags gs [] store) (λ w end. acts setting (callee_of name gs c) body (items_in w) end)) acted)
 
 -- ---- a call of a function
@@ -128,30 +128,28 @@ module _ (laws : Laws) (setting : SettingTree) (known : RootMap) (span s : Span)
   abbrev IsTold : Judgement → Type 0
   IsTold k = IsAnsweredUnless k.poisoned setting.sources (row_of f) (bound (places_in (binding (row_of f).parameters (keywords_of gs))) js) K fails
 
-  function_is_sound : IsTold behind_them → IsJoined behind_them.fail (if_state fails behind_them.ok) fail → IsSoundForm setting known (call name s bang gs c) (banged span bang (record behind_them { kind = K; fail = fail }))
-  function_is_sound told joined none well rest store stored fits =
+  function_is_sound : IsTold behind_them → IsJoined behind_them.fail (if_state fails behind_them.ok) fail → HasCause (banged span bang (record behind_them { kind = K; fail = fail })) → IsSoundForm setting known (call name s bang gs c) (banged span bang (record behind_them { kind = K; fail = fail }))
+  function_is_sound told joined cause none well rest store stored fits =
       let whole = record behind_them { kind = K; fail = fail } in
-      let judged = arguments_judged arguments in
-      let cause = given_cause (a_call {s = s} f K fails fail named judged refl told joined) in
       let clean = clean_call span bang whole none (cause ∙ none) in
       let codes = no_error_parts j.codes (of_call (wants_literal (row_of f)) (row_of f).parameters span c js (binding (row_of f).parameters (keywords_of gs))) clean.codes in
-      let b = call_is_bound (wants_literal (row_of f)) (row_of f).parameters (keywords_of gs) span c js (binding (row_of f).parameters (keywords_of gs)) refl (arguments_counted judged) codes.1 in
+      let b = call_is_bound (wants_literal (row_of f)) (row_of f).parameters (keywords_of gs) span c js (binding (row_of f).parameters (keywords_of gs)) refl (arguments_counted arguments) codes.1 in
       let answered : IsAnswered setting.sources (row_of f) (bound b.places js) K fails = as_answered setting.sources (row_of f) js K fails behind_them.poisoned (binding (row_of f).parameters (keywords_of gs)) b.places clean.sound b.found told in
       sound_call laws setting known span s name bang gs c js j whole arguments codes.0 well.0 (record { fail = left_joins laws j.fail (if_state fails j.ok) fail joined; returns = returns_alike j whole refl refl }) refl
       (λ body vs end are there.
-      subst (λ callee. IsSoundEnd whole (acts setting callee body (items_of_trees vs) end)) (sym (ap (callee_of name gs) b.lacks_closure ∙ function_called laws f name gs js b.places named (arguments_written judged) b.found b.written))
+      subst (λ callee. IsSoundEnd whole (acts setting callee body (items_of_trees vs) end)) (sym (ap (callee_of name gs) b.lacks_closure ∙ function_called laws f name gs js b.places named (arguments_written arguments) b.found b.written))
       (called_is_sound laws behind_them K fails fail joined setting f js vs c (keywords_of gs) b answered are end there))
       rest store stored fits
 
 pub call_is_sound : Laws → (setting : SettingTree) (known : RootMap) (span s : Span) (f : Fun) (name : List ℕ) (bang : Bool) (gs : Args) (c : Closure) (js : List Argument) (j whole : Judgement) (K : KindTree) (fails : Bool) (fail : Option RootMap)
     → (row_of f).name ≡ name → AreSoundArguments setting (gives never_kind (Some known)) gs js j → whole ≡ behind_arguments (wants_literal (row_of f)) (row_of f).parameters span gs c js j
-    → IsAnsweredUnless whole.poisoned setting.sources (row_of f) (bound (places_in (binding (row_of f).parameters (keywords_of gs))) js) K fails → IsJoined whole.fail (if_state fails whole.ok) fail
+    → IsAnsweredUnless whole.poisoned setting.sources (row_of f) (bound (places_in (binding (row_of f).parameters (keywords_of gs))) js) K fails → IsJoined whole.fail (if_state fails whole.ok) fail → HasCause (banged span bang (record whole { kind = K; fail = fail }))
     → IsSoundForm setting known (call name s bang gs c) (banged span bang (record whole { kind = K; fail = fail }))
-call_is_sound laws setting known span s f name bang gs c js j whole K fails fail named arguments is told joined =
+call_is_sound laws setting known span s f name bang gs c js j whole K fails fail named arguments is told joined cause =
     subst (λ w. IsSoundForm setting known (call name s bang gs c) (banged span bang (record w { kind = K; fail = fail }))) (sym is)
     (function_is_sound laws setting known span s f name bang gs c js j K fails fail named arguments
     (subst (λ w. IsAnsweredUnless w.poisoned setting.sources (row_of f) (bound (places_in (binding (row_of f).parameters (keywords_of gs))) js) K fails) is told)
-    (subst (λ w. IsJoined w.fail (if_state fails w.ok) fail) is joined))
+    (subst (λ w. IsJoined w.fail (if_state fails w.ok) fail) is joined) (subst (λ w. HasCause (banged span bang (record w { kind = K; fail = fail }))) is cause))
 
 -- a call of no function has an error code
 pub call_of_nothing_is_sound : (setting : SettingTree) (known : RootMap) (s : Span) (name : List ℕ) (bang : Bool) (gs : Args) (c : Closure) (j : Judgement) → IsSoundForm setting known (call name s bang gs c) (with_codes (at 105 s) j)

@@ -15,10 +15,9 @@ use Rattle.vrl_builtin.specs.Rows.{SettingTree}
 use Rattle.vrl_store.specs.Outcomes.{on_value, Ended}
 use Rattle.vrl_store.specs.WellFormed.{AreWellFormed, AreWellFormedExprs, IsWellFormed, IsWellFormedExpr, IsWellFormedStore}
 use Rattle.vrl_judge.specs.Rules.{Argument, Judgement, IsThen}
-use Rattle.vrl_check.specs.Judgement.{Judges}
 use Rattle.vrl_resolve.specs.Meaning.{eval, eval_all, eval_items}
 use Rattle.vrl_compile.specs.Sound.{HasNoError}
-use Rattle.vrl_compile.proofs.SoundCounts.{behind_counted}
+use Rattle.vrl_compile.proofs.SoundCounts.{IsToldOf, behind_counted}
 use Rattle.vrl_compile.proofs.SoundEnds.{as_on_value, as_run, ends_itself, ends_through, first_ends, no_error_behind, second_ends, sound_given, as_weaker, EndsAs, IsGiven, IsRun, IsSoundAs, IsSoundPart, IsValueOf}
 use Rattle.vrl_compile.specs.SoundLaws.{Laws}
 
@@ -34,7 +33,7 @@ pub data AreSound (setting : SettingTree) : Judgement → Exprs → List KindTre
 pub data AreSoundArguments (setting : SettingTree) : Judgement → Args → List Argument → Judgement → Type 0 where
   no_more_arguments : {before : Judgement} → AreSoundArguments setting before no_args [] before
   one_more_argument : {before j middle after : Judgement} {name : Option (List ℕ)} {span : Span} {e : Expr} {gs : Args} {js : List Argument}
-      → Judges setting.sources before.ok e j → IsSoundPart setting before.ok e j → IsThen before j middle → AreSoundArguments setting middle gs js after
+      → IsToldOf e j → IsSoundPart setting before.ok e j → IsThen before j middle → AreSoundArguments setting middle gs js after
       → AreSoundArguments setting before (arg name span e gs) (record { span = span; value = e; judged = j } ∷ js) after
 
 -- ---- the tags of those that are left

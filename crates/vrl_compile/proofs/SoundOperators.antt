@@ -23,11 +23,9 @@ use Rattle.vrl_store.specs.Outcomes.{Outcome, value, error, Ended, ends, on_valu
 use Rattle.vrl_store.specs.WellFormed.{IsWellFormedEnded, IsWellFormedExpr, IsWellFormedStore}
 use Rattle.vrl_judge.specs.Rules.{Judgement, IsBehind, IsMerged, IsMergedIf, IsScalar, IsThen, at, chained, if_state, is_equality, is_other, no_objects, of_pairs, scalars_at, some_pair, table_tags, when, with_codes}
 use Rattle.vrl_check.specs.Judgement.{table_of}
-use Rattle.vrl_check.specs.Judgement.{Judges, JudgesBoth, operands}
 use Rattle.vrl_resolve.specs.Meaning.{both_sides, combined, eval, eval_form}
 use Rattle.vrl_compile.specs.Sound.{HasNoError, IsSoundEnd, IsSoundOutcome}
-use Rattle.vrl_compile.proofs.SoundCauses.{judges_cause}
-use Rattle.vrl_compile.proofs.SoundCounts.{behind_is}
+use Rattle.vrl_compile.proofs.SoundCounts.{IsToldOf, behind_is}
 use Rattle.vrl_compile.proofs.SoundEnds.{EndsAs, IsGiven, IsRun, IsSoundForm, IsSoundPart, as_run, ends_alike, ends_through, first_ends, left_joins, no_error_behind, no_error_parts, possible_state, returns_alike, right_joins, second_ends, sound_on_value}
 use Rattle.vrl_compile.specs.SoundLaws.{Laws}
 use Rattle.vrl_compile.proofs.SoundMerge.{merge_inhabits}
@@ -40,7 +38,7 @@ use Rattle.vrl_compile.proofs.SoundValues.{scalar_is}
 negated_is_sound : Laws → (end : Judgement) (v : Tree) (store : Store) → IsScalar tag.Bool end.kind → FitsKnown store end.ok → tag_of v ≡ tag.Bool → IsSoundOutcome end (negated v) store
 negated_is_sound laws end v store cut fits is = of_boolean (λ u. IsSoundOutcome end (negated u) store) v is (λ b. (scalar_is laws.cuts (boolean (not b)) end.kind (λ s. refl) cut, fits))
 
-pub negation_is_sound : Laws → (setting : SettingTree) (known : RootMap) (span : Span) (e : Expr) (j : Judgement) (K : KindTree) → Judges setting.sources (Some known) e j → IsScalar tag.Bool K → IsSoundPart setting (Some known) e j
+pub negation_is_sound : Laws → (setting : SettingTree) (known : RootMap) (span : Span) (e : Expr) (j : Judgement) (K : KindTree) → IsToldOf e j → IsScalar tag.Bool K → IsSoundPart setting (Some known) e j
     → IsSoundForm setting known (negation e) (with_codes (when (is_other tag.Bool j) (at 660 span)) (record j { kind = K }))
 negation_is_sound laws setting known span e j K judges cut part none well rest store stored fits =
     let own = when (is_other tag.Bool j) (at 660 span) in
@@ -49,7 +47,7 @@ negation_is_sound laws setting known span e j K judges cut part none well rest s
     sound_on_value (length setting.sources) j end (eval setting (j.empties ++ rest) e store) (λ v after. ends (negated v) after)
     (ends_alike j end refl refl refl) (part codes.0 well rest store stored fits) (laws.kept.expression setting (j.empties ++ rest) e store well stored)
     (λ v after given. negated_is_sound laws end v after cut given.ok
-    (tag_there tag.Bool j v after (judges_cause judges ∙ codes.0) given.ok (no_code (is_other tag.Bool j) span 660 refl codes.1) given.kind))
+    (tag_there tag.Bool j v after (judges.cause ∙ codes.0) given.ok (no_code (is_other tag.Bool j) span 660 refl codes.1) given.kind))
 
 -- ---- two sides
 
@@ -58,14 +56,14 @@ abbrev pub IsSoundOperator : ℕ → Op → Option RootMap → Judgement → Jud
 IsSoundOperator count o known left right whole = (first : Ended) (second : Store → Ended) → IsSoundEnd left first → IsWellFormedEnded count first → IsRun count known right second → IsSoundEnd whole (combined o first second)
 
 -- an operator between two parts is that one between their runs: the right side has the tags behind those of the left one
-pub binary_is_sound : Laws → (setting : SettingTree) (known : RootMap) (other : Option RootMap) (o : Op) (l r : Expr) (j k whole end : Judgement) → Judges setting.sources (Some known) l j → IsBehind j k whole → end.empties ≡ whole.empties
+pub binary_is_sound : Laws → (setting : SettingTree) (known : RootMap) (other : Option RootMap) (o : Op) (l r : Expr) (j k whole end : Judgement) → IsToldOf l j → IsBehind j k whole → end.empties ≡ whole.empties
     → HasNoError j.codes × HasNoError k.codes → IsSoundPart setting (Some known) l j → IsSoundPart setting other r k → IsSoundOperator (length setting.sources) o other j k end
     → IsWellFormedExpr (length setting.sources) l × IsWellFormedExpr (length setting.sources) r
     → (rest : List Tag) (store : Store) → IsWellFormedStore (length setting.sources) store → FitsKnown store (Some known) → IsSoundEnd end (eval_form setting (end.empties ++ rest) (binary o l r) store)
 binary_is_sound laws setting known other o l r j k whole end judges is same codes left right sound well rest store stored fits =
     let tags : end.empties ++ rest ≡ j.empties ++ (k.empties ++ rest) = ap (λ ts. ts ++ rest) (same ∙ is.empties) ∙ append_assoc j.empties k.empties rest in
     subst (λ ts. IsSoundEnd end (combined o (eval setting ts l store) (λ after. eval setting (behind l ts) r after))) (sym tags)
-    (subst (λ ts. IsSoundEnd end (combined o (eval setting (j.empties ++ (k.empties ++ rest)) l store) (λ after. eval setting ts r after))) (sym (behind_is laws.counted judges (k.empties ++ rest)))
+    (subst (λ ts. IsSoundEnd end (combined o (eval setting (j.empties ++ (k.empties ++ rest)) l store) (λ after. eval setting ts r after))) (sym (behind_is judges (k.empties ++ rest)))
     (sound (eval setting (j.empties ++ (k.empties ++ rest)) l store) (eval setting (k.empties ++ rest) r)
     (left codes.0 well.0 (k.empties ++ rest) store stored fits) (laws.kept.expression setting (j.empties ++ (k.empties ++ rest)) l store well.0 stored)
     (as_run laws setting other r k rest well.1 (right codes.1 well.1))))
@@ -108,9 +106,9 @@ equal_outcome P op.Equal v w is holds = holds _
 equal_outcome P op.Unequal v w is holds = holds _
 equal_outcome P o v w is holds = absurd (true≢false (sym is))
 
-pub equality_is_sound : Laws → (setting : SettingTree) (known : RootMap) (span : Span) (o : Op) (l r : Expr) (j k whole : Judgement) (K : KindTree) → is_equality o ≡ true → JudgesBoth setting.sources known l r j k whole → IsScalar tag.Bool K
+pub equality_is_sound : Laws → (setting : SettingTree) (known : RootMap) (span : Span) (o : Op) (l r : Expr) (j k whole : Judgement) (K : KindTree) → is_equality o ≡ true → IsToldOf l j → IsToldOf r k → IsThen j k whole → IsScalar tag.Bool K
     → IsSoundPart setting (Some known) l j → IsSoundPart setting j.ok r k → IsSoundForm setting known (binary o l r) (with_codes (chained span o l r) (record whole { kind = K }))
-equality_is_sound laws setting known span o l r j k whole K is (operands first second then) cut left right none =
+equality_is_sound laws setting known span o l r j k whole K is first second then cut left right none =
     let end = with_codes (chained span o l r) (record whole { kind = K }) in
     let as_end = ends_alike whole end refl refl refl in
     binary_is_sound laws setting known j.ok o l r j k whole end first then.behind refl (no_error_behind j k whole then.behind (no_error_parts whole.codes (chained span o l r) none).0) left right
@@ -130,10 +128,10 @@ tabled_is_sound laws table j k whole K fail (value u) store fails fits is = (is.
 tabled_is_sound laws table j k whole K fail (error text) store fails fits is = right_joins laws whole.fail _ fail fails store (possible_state _ whole.ok store is fits)
 tabled_is_sound laws table j k whole K fail outcome store fails fits is = absurd is
 
-pub table_is_sound : Laws → (setting : SettingTree) (known : RootMap) (span : Span) (o : Op) (table : Table) (l r : Expr) (j k whole : Judgement) (K : KindTree) (fail : Option RootMap) → table_of o ≡ Some table → JudgesBoth setting.sources known l r j k whole
+pub table_is_sound : Laws → (setting : SettingTree) (known : RootMap) (span : Span) (o : Op) (table : Table) (l r : Expr) (j k whole : Judgement) (K : KindTree) (fail : Option RootMap) → table_of o ≡ Some table → IsToldOf l j → IsToldOf r k → IsThen j k whole
     → IsCutOf (scalars_at (table_tags table j.kind k.kind)) K → IsJoined whole.fail (if_state (some_pair (λ a b. not (is_some (table a b))) j.kind k.kind) whole.ok) fail
     → IsSoundPart setting (Some known) l j → IsSoundPart setting j.ok r k → IsSoundForm setting known (binary o l r) (of_pairs table j k (with_codes (chained span o l r) whole) K fail)
-table_is_sound laws setting known span o table l r j k whole K fail is (operands first second then) cut fails left right none =
+table_is_sound laws setting known span o table l r j k whole K fail is first second then cut fails left right none =
     let coded = with_codes (chained span o l r) whole in
     let end = of_pairs table j k coded K fail in
     let as_end : EndsAs whole end = record { fail = left_joins laws whole.fail _ fail fails; returns = returns_alike whole end refl refl } in
@@ -173,12 +171,12 @@ merge_of_sides laws count left_span right_span j k whole K poisoned codes then i
     given.kind other.kind other.well.ordered)
     (λ first second. refl)
 
-pub merge_is_sound : Laws → (setting : SettingTree) (known : RootMap) (l r : Expr) (j k whole : Judgement) (K : KindTree) → JudgesBoth setting.sources known l r j k whole → IsMerged j.kind k.kind K
+pub merge_is_sound : Laws → (setting : SettingTree) (known : RootMap) (l r : Expr) (j k whole : Judgement) (K : KindTree) → IsToldOf l j → IsToldOf r k → IsThen j k whole → IsMerged j.kind k.kind K
     → IsSoundPart setting (Some known) l j → IsSoundPart setting j.ok r k → IsSoundForm setting known (binary op.Merge l r) (with_codes (no_objects (span_of l) (span_of r) j k) (record whole { kind = K }))
-merge_is_sound laws setting known l r j k whole K (operands first second then) is left right none =
+merge_is_sound laws setting known l r j k whole K first second then is left right none =
     let own = no_objects (span_of l) (span_of r) j k in
     let end = with_codes own (record whole { kind = K }) in
     let all = no_error_parts whole.codes own none in
     let codes = no_error_behind j k whole then.behind all.0 in
     binary_is_sound laws setting known j.ok op.Merge l r j k whole end first then.behind refl codes left right
-    (merge_of_sides laws (length setting.sources) (span_of l) (span_of r) j k whole K end.poisoned end.codes then is (judges_cause first ∙ codes.0) (judges_cause second ∙ codes.1) all.1)
+    (merge_of_sides laws (length setting.sources) (span_of l) (span_of r) j k whole K end.poisoned end.codes then is (first.cause ∙ codes.0) (second.cause ∙ codes.1) all.1)

@@ -22,16 +22,16 @@ use Rattle.vrl_store.specs.Places.{is_there, read_in, removed}
 use Rattle.vrl_store.specs.WellFormed.{AreWellFormedArgs, IsWellFormedStore}
 use Rattle.vrl_diag.specs.Refusal.{is_error}
 use Rattle.vrl_judge.specs.Rules.{Argument, IsScalar, IsThen, Judgement, argument_at, banged, gives}
-use Rattle.vrl_check.specs.Judgement.{IsDeletedAt, a_deletion, an_existence, behind_arguments, bound, deleted_kind, deleted_path, of_call, wants_path}
+use Rattle.vrl_check.specs.Determined.{HasCause}
+use Rattle.vrl_check.specs.Judgement.{IsDeletedAt, behind_arguments, bound, deleted_kind, deleted_path, of_call, wants_path}
 use Rattle.vrl_resolve.specs.Calls.{acts, callee_of, items_in}
 use Rattle.vrl_resolve.specs.Meaning.{eval, eval_args, eval_body}
 use Rattle.vrl_compile.specs.Sound.{HasNoError, IsSoundEnd}
 use Rattle.vrl_compile.proofs.SoundValues.{of_scalars}
-use Rattle.vrl_compile.proofs.SoundArguments.{arguments_counted, arguments_judged}
+use Rattle.vrl_compile.proofs.SoundArguments.{arguments_counted}
 use Rattle.vrl_compile.proofs.SoundBound.{ArePresent, AreWritten, IsBoundCall, call_is_bound}
 use Rattle.vrl_compile.proofs.SoundCallees.{clean_call, deletion_called, existence_called, sound_banged}
 use Rattle.vrl_compile.proofs.SoundCalls.{within_is_sound}
-use Rattle.vrl_compile.proofs.SoundCauses.{given_cause}
 use Rattle.vrl_compile.proofs.SoundEnds.{IsSoundForm, IsSoundPart, no_error_behind, no_error_parts}
 use Rattle.vrl_compile.specs.SoundLaws.{Laws}
 use Rattle.vrl_compile.proofs.SoundLists.{AreSoundArguments, no_more_arguments, one_more_argument}
@@ -96,7 +96,7 @@ path_call : (setting : SettingTree) (known : RootMap) (span : Span) (gs : Args) 
     → HasNoError (behind_arguments wants_path path_parameters span gs c js j).codes → IsPathCall setting known gs c js j
 path_call setting known span gs c js j arguments none =
     let codes = no_error_parts j.codes (of_call wants_path path_parameters span c js (binding path_parameters (keywords_of gs))) none in
-    let b = call_is_bound wants_path path_parameters (keywords_of gs) span c js (binding path_parameters (keywords_of gs)) refl (arguments_counted (arguments_judged arguments)) codes.1 in
+    let b = call_is_bound wants_path path_parameters (keywords_of gs) span c js (binding path_parameters (keywords_of gs)) refl (arguments_counted arguments) codes.1 in
     let the_one = one_bound b.places js b.counted b.few b.present b.written in
     bound_path_call setting known gs c js j codes.0 b (one_path arguments the_one.0 the_one.1 the_one.2)
 
@@ -134,10 +134,9 @@ path_deleted laws setting known tags name gs c js j whole ok path named clean kn
 
 pub deletion_is_sound : Laws → (setting : SettingTree) (known : RootMap) (span s : Span) (name : List ℕ) (bang : Bool) (gs : Args) (c : Closure) (js : List Argument) (j whole : Judgement) (ok : Option RootMap) → is_del name ≡ true
     → AreSoundArguments setting (gives never_kind (Some known)) gs js j → whole ≡ behind_arguments wants_path path_parameters span gs c js j → IsDeletedAt (deleted_path whole.poisoned js) whole.ok ok
-    → IsSoundForm setting known (call name s bang gs c) (banged span bang (record whole { kind = deleted_kind whole.poisoned js; ok = ok }))
-deletion_is_sound laws setting known span s name bang gs c js j whole ok named arguments is deleted none well rest store stored fits =
+    → HasCause (banged span bang (record whole { kind = deleted_kind whole.poisoned js; ok = ok })) → IsSoundForm setting known (call name s bang gs c) (banged span bang (record whole { kind = deleted_kind whole.poisoned js; ok = ok }))
+deletion_is_sound laws setting known span s name bang gs c js j whole ok named arguments is deleted cause none well rest store stored fits =
     let all = record whole { kind = deleted_kind whole.poisoned js; ok = ok } in
-    let cause = given_cause (a_deletion {s = s} {name = name} ok named (arguments_judged arguments) is deleted) in
     let clean = clean_call span bang all none (cause ∙ none) in
     let path = path_call setting known span gs c js j arguments (ap (λ w. list_any is_error w.codes) (sym is) ∙ clean.codes) in
     let tags = (banged span bang all).empties ++ rest in
@@ -154,10 +153,9 @@ existence_ends laws setting tags others name keyword span (expr place f) k whole
 
 pub existence_is_sound : Laws → (setting : SettingTree) (known : RootMap) (span s : Span) (name : List ℕ) (bang : Bool) (gs : Args) (c : Closure) (js : List Argument) (j whole : Judgement) (K : KindTree) → is_exists name ≡ true
     → AreSoundArguments setting (gives never_kind (Some known)) gs js j → whole ≡ behind_arguments wants_path path_parameters span gs c js j → IsScalar tag.Bool K
-    → IsSoundForm setting known (call name s bang gs c) (banged span bang (record whole { kind = K }))
-existence_is_sound laws setting known span s name bang gs c js j whole K named arguments is scalar none well rest store stored fits =
+    → HasCause (banged span bang (record whole { kind = K })) → IsSoundForm setting known (call name s bang gs c) (banged span bang (record whole { kind = K }))
+existence_is_sound laws setting known span s name bang gs c js j whole K named arguments is scalar cause none well rest store stored fits =
     let all = record whole { kind = K } in
-    let cause = given_cause (an_existence {s = s} {name = name} K named (arguments_judged arguments) is scalar) in
     let clean = clean_call span bang all none (cause ∙ none) in
     let path = path_call setting known span gs c js j arguments (ap (λ w. list_any is_error w.codes) (sym is) ∙ clean.codes) in
     let one = path.one in

@@ -14,10 +14,9 @@ use Rattle.vrl_state.specs.Stores.{FitsKnown, Store}
 use Rattle.vrl_builtin.specs.Rows.{SettingTree}
 use Rattle.vrl_store.specs.Outcomes.{returned, ends}
 use Rattle.vrl_judge.specs.Rules.{Judgement, at, is_alive, is_fallible, is_other, nothing, settled_kind, when, with_codes}
-use Rattle.vrl_check.specs.Judgement.{Judges}
 use Rattle.vrl_resolve.specs.Meaning.{aborted_with, eval}
 use Rattle.vrl_compile.specs.Sound.{IsSoundEnd}
-use Rattle.vrl_compile.proofs.SoundCauses.{judges_cause}
+use Rattle.vrl_compile.proofs.SoundCounts.{IsToldOf}
 use Rattle.vrl_compile.proofs.SoundEnds.{IsSoundForm, IsSoundPart, as_run, ends_alike, left_either, left_joins, no_error_parts, sound_on_value}
 use Rattle.vrl_compile.specs.SoundLaws.{Laws}
 use Rattle.vrl_compile.proofs.SoundTags.{no_code, tag_there}
@@ -49,7 +48,7 @@ text_aborts : (whole : Judgement) (v : Tree) (store : Store) → tag_of v ≡ ta
 text_aborts whole (string s) store is = tt
 text_aborts whole v store is = absurd cc
 
-pub abort_with_is_sound : Laws → (setting : SettingTree) (known : RootMap) (e : Expr) (j : Judgement) → Judges setting.sources (Some known) e j → IsSoundPart setting (Some known) e j
+pub abort_with_is_sound : Laws → (setting : SettingTree) (known : RootMap) (e : Expr) (j : Judgement) → IsToldOf e j → IsSoundPart setting (Some known) e j
     → IsSoundForm setting known (abort_with (message e)) (with_codes (when (is_fallible j || is_other tag.Text j) (at 1011 (span_of e))) (record j { kind = never_kind; ok = None }))
 abort_with_is_sound laws setting known e j judged part none well rest store stored fits =
     let ds = when (is_fallible j || is_other tag.Text j) (at 1011 (span_of e)) in
@@ -57,4 +56,4 @@ abort_with_is_sound laws setting known e j judged part none well rest store stor
     let run = as_run laws setting (Some known) e j rest well (part clean.0 well) in
     let whole = with_codes ds (record j { kind = never_kind; ok = None }) in
     sound_on_value (length setting.sources) j whole (eval setting (j.empties ++ rest) e store) (λ v after. ends (aborted_with v) after) (ends_alike j whole refl refl refl) (run.sound store stored fits) (run.kept store stored)
-    (λ v after came. text_aborts whole v after (tag_there tag.Text j v after (judges_cause judged ∙ clean.0) came.ok (or_parts _ _ (no_code (is_fallible j || is_other tag.Text j) (span_of e) 1011 refl clean.1)).1 came.kind))
+    (λ v after came. text_aborts whole v after (tag_there tag.Text j v after (judged.cause ∙ clean.0) came.ok (or_parts _ _ (no_code (is_fallible j || is_other tag.Text j) (span_of e) 1011 refl clean.1)).1 came.kind))

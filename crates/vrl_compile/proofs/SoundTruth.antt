@@ -21,8 +21,8 @@ use Rattle.vrl_builtin.specs.Rows.{SettingTree}
 use Rattle.vrl_store.specs.Operators.{is_falsy, truth_of}
 use Rattle.vrl_store.specs.Outcomes.{value, Ended, ends, on_value}
 use Rattle.vrl_judge.specs.Rules.{Judgement, IsBehind, IsScalar, IsThen, at, if_state, is_fallible, may_be_no_truth, may_be_truth, or_else_at, when, with_codes}
-use Rattle.vrl_check.specs.Judgement.{Judges}
 use Rattle.vrl_compile.specs.Sound.{IsSoundEnd, IsSoundOutcome}
+use Rattle.vrl_compile.proofs.SoundCounts.{IsToldOf}
 use Rattle.vrl_compile.proofs.SoundEnds.{EndsAs, IsGiven, IsRun, IsSoundForm, IsSoundPart, ends_alike, ends_through, first_ends, first_returns, left_either, left_joins, no_error_behind, no_error_parts, possible_state, returns_alike, returns_through, right_either, right_joins, second_ends, second_returns, sound_as, sound_on_error, sound_on_value}
 use Rattle.vrl_compile.specs.SoundLaws.{Laws}
 use Rattle.vrl_compile.proofs.SoundOperators.{IsSoundOperator, binary_is_sound}
@@ -75,7 +75,7 @@ module _ (laws : Laws) (count : ℕ) (j k whole : Judgement) (K : KindTree) (lef
   conjunction_of_sides first second sound well run = sound_on_value count j conjunction first (λ v after. conjunction_behind v after second) left_of_conjunction sound well (λ v after given. sound_behind_left v after second given run)
 
 pub conjunction_is_sound : Laws → (setting : SettingTree) (known : RootMap) (l r : Expr) (j k whole : Judgement) (K : KindTree) (left_fail part_fail ok fail : Option RootMap)
-    → Judges setting.sources (Some known) l j → IsBehind j k whole → IsScalar tag.Bool K
+    → IsToldOf l j → IsBehind j k whole → IsScalar tag.Bool K
     → IsJoined (if_state (may_be_truth j.kind) j.ok) (if_state (may_be_truth k.kind) k.ok) ok
     → IsJoined j.fail (if_state (may_be_no_truth j.kind) j.ok) left_fail → IsJoined left_fail k.fail part_fail → IsJoined part_fail (if_state (may_be_no_truth k.kind) k.ok) fail
     → IsSoundPart setting (Some known) l j → IsSoundPart setting (if_state (root_tags j.kind tag.Bool) j.ok) r k → IsSoundForm setting known (binary op.And l r) (record whole { kind = K; ok = ok; fail = fail })
@@ -126,7 +126,7 @@ module _ (laws : Laws) (count : ℕ) (j k whole : Judgement) (K : KindTree) (ok 
       (λ v after given. sound_behind_value v after second given run)
 
 pub disjunction_is_sound : Laws → (setting : SettingTree) (known : RootMap) (l r : Expr) (j k whole : Judgement) (K : KindTree) (ok : Option RootMap)
-    → Judges setting.sources (Some known) l j → IsThen j k whole → IsCutOf (or_else_at j.kind k.kind) K → IsJoined (if_state (not (is_alone (root_tags j.kind) tag.Null)) j.ok) k.ok ok
+    → IsToldOf l j → IsThen j k whole → IsCutOf (or_else_at j.kind k.kind) K → IsJoined (if_state (not (is_alone (root_tags j.kind) tag.Null)) j.ok) k.ok ok
     → IsSoundPart setting (Some known) l j → IsSoundPart setting (if_state (may_be_truth j.kind) j.ok) r k → IsSoundForm setting known (binary op.Or l r) (record whole { kind = K; ok = ok })
 disjunction_is_sound laws setting known l r j k whole K ok first in_order cut oks left right none =
     binary_is_sound laws setting known (if_state (may_be_truth j.kind) j.ok) op.Or l r j k whole (record whole { kind = K; ok = ok }) first in_order.behind refl (no_error_behind j k whole in_order.behind none) left right
@@ -147,7 +147,7 @@ coalescing_of_sides laws count j k whole K ok poisoned codes behind either oks f
     (run.sound after failed.stored failed.fail))
 
 pub coalescing_is_sound : Laws → (setting : SettingTree) (known : RootMap) (span : Span) (l r : Expr) (j k whole : Judgement) (K : KindTree) (ok : Option RootMap)
-    → Judges setting.sources (Some known) l j → IsBehind j k whole → IsEither j.kind k.kind K → IsJoined j.ok k.ok ok
+    → IsToldOf l j → IsBehind j k whole → IsEither j.kind k.kind K → IsJoined j.ok k.ok ok
     → IsSoundPart setting (Some known) l j → IsSoundPart setting j.fail r k
     → IsSoundForm setting known (binary op.Coalesce l r) (with_codes (when (not (j.poisoned || is_fallible j)) (at 651 span)) (record whole { kind = K; ok = ok; fail = k.fail }))
 coalescing_is_sound laws setting known span l r j k whole K ok first behind either oks left right none =

@@ -23,7 +23,7 @@ use Rattle.vrl_builtin.specs.Rows.{SettingTree}
 use Rattle.vrl_store.specs.Outcomes.{Outcome, value, error, returned, deep, Ended, ends}
 use Rattle.vrl_store.specs.Places.{is_within, root_value, root_with, writes_to}
 use Rattle.vrl_store.specs.WellFormed.{IsWellFormedEnded, IsWellFormedExpr}
-use Rattle.vrl_judge.specs.Rules.{IsScalar, IsTargetWritten, Judgement, at, empty_tag, of_assignment, of_error_assignment, with_codes}
+use Rattle.vrl_judge.specs.Rules.{IsScalar, IsTargetWritten, Judgement, at, of_assignment, of_error_assignment, with_codes}
 use Rattle.vrl_resolve.specs.Meaning.{assigned, both_assigned, eval, written_both}
 use Rattle.vrl_compile.specs.Sound.{IsSoundEnd, IsSoundOutcome}
 use Rattle.vrl_compile.proofs.SoundValues.{of_own_kind, scalar_is}
@@ -116,14 +116,15 @@ sound_both laws t u empty j E K ok ds tags (error text) store of_empty judged so
 sound_both laws t u empty j E K ok ds tags (returned v) store of_empty judged sound = sound
 sound_both laws t u empty j E K ok ds tags other store of_empty judged sound = tt
 
-pub error_assignment_is_sound : Laws → (setting : SettingTree) (known : RootMap) (span : Span) (t u : Target) (e : Expr) (j : Judgement) (E K N T : KindTree) (given given_both failed failed_both ok : Option RootMap)
-    → IsCutOf (found_at (empty_value (empty_tag j.kind))) E → IsEither j.kind E K → IsScalar tag.Null N → IsScalar tag.Text T
+-- with an empty value of any tag
+pub error_assignment_is_sound : Laws → (setting : SettingTree) (known : RootMap) (span : Span) (t u : Target) (e : Expr) (j : Judgement) (empty : Tag) (E K N T : KindTree) (given given_both failed failed_both ok : Option RootMap)
+    → IsCutOf (found_at (empty_value empty)) E → IsEither j.kind E K → IsScalar tag.Null N → IsScalar tag.Text T
     → IsTargetWritten t j.kind j.ok given → IsTargetWritten u N given given_both → IsTargetWritten t E j.fail failed → IsTargetWritten u T failed failed_both → IsJoined given_both failed_both ok → IsSoundPart setting (Some known) e j
-    → IsSoundForm setting known (both t u e) (with_codes (of_error_assignment span t u j K) (record j { kind = K; ok = ok; fail = None; empties = empty_tag j.kind ∷ j.empties }))
-error_assignment_is_sound laws setting known span t u e j E K N T given given_both failed failed_both ok empty kind null_kind text_kind given_first given_second failed_first failed_second joined part none well rest store stored fits =
+    → IsSoundForm setting known (both t u e) (with_codes (of_error_assignment span t u j K) (record j { kind = K; ok = ok; fail = None; empties = empty ∷ j.empties }))
+error_assignment_is_sound laws setting known span t u e j empty E K N T given given_both failed failed_both ok cut kind null_kind text_kind given_first given_second failed_first failed_second joined part none well rest store stored fits =
     let ended = eval setting (j.empties ++ rest) e store in
     let sound = part (no_error_parts j.codes (of_error_assignment span t u j K) none).0 well in
-    sound_both laws t u (empty_tag j.kind) j E K ok (of_error_assignment span t u j K) (empty_tag j.kind ∷ j.empties) ended.outcome ended.store (of_own_kind laws.cuts (empty_value (empty_tag j.kind)) E empty) (record {
+    sound_both laws t u empty j E K ok (of_error_assignment span t u j K) (empty ∷ j.empties) ended.outcome ended.store (of_own_kind laws.cuts (empty_value empty) E cut) (record {
       kind = kind;
       N = N;
       T = T;

@@ -1,6 +1,6 @@
 -- Soundness: what the judgement says holds of the meaning. This is the Vector Remap Language's claim that a program that compiles
 -- handles each of its errors.
-use Rattle.std.specs.Prelude.{◌≡◌, false, List, ◌++◌, Option, ⊤, length}
+use Rattle.std.specs.Prelude.{◌≡◌, ℤ, false, List, ◌++◌, Option, ⊤, length}
 use Rattle.std.specs.List.{list_any}
 use Rattle.vrl_value.specs.Tree.{Tree}
 use Rattle.vrl_value.specs.declared.value.Tag.{Tag}
@@ -16,6 +16,7 @@ use Rattle.vrl_store.specs.WellFormed.{IsWellFormed, IsWellFormedExpr, AreWellFo
 use Rattle.vrl_diag.specs.Refusal.{is_error}
 use Rattle.vrl_judge.specs.Rules.{Judgement}
 use Rattle.vrl_check.specs.Judgement.{Judges, JudgesScript}
+use Rattle.vrl_check.specs.OpenRules.{OpenRules}
 use Rattle.vrl_resolve.specs.Meaning.{eval, run_script}
 
 -- none of the codes is an error
@@ -40,9 +41,14 @@ IsSoundEnd j ended = IsSoundOutcome j ended.outcome ended.store
 abbrev pub IsSoundFrom : SettingTree → Option RootMap → Expr → Judgement → Type 0
 IsSoundFrom setting known e j = (rest : List Tag) (store : Store) → IsWellFormedStore (length setting.sources) store → FitsKnown store known → IsSoundEnd j (eval setting (j.empties ++ rest) e store)
 
--- so it is of every expression of well-formed literals, wherever it is judged without an error code
+-- the setting of a run of what is judged by these rules
+abbrev pub setting_of : ℤ → OpenRules → SettingTree
+setting_of moment rules = record { moment = moment; sources = rules.sources }
+
+-- so it is of every expression of well-formed literals, wherever it is judged without an error code, by whatever the rules leave open
 abbrev pub ExpressionsAreSound : Type 0
-ExpressionsAreSound = (setting : SettingTree) (known : Option RootMap) (e : Expr) (j : Judgement) → Judges setting.sources known e j → HasNoError j.codes → IsWellFormedExpr (length setting.sources) e → IsSoundFrom setting known e j
+ExpressionsAreSound = (moment : ℤ) (rules : OpenRules) (known : Option RootMap) (e : Expr) (j : Judgement) → Judges rules known e j → HasNoError j.codes → IsWellFormedExpr (length rules.sources) e
+    → IsSoundFrom (setting_of moment rules) known e j
 
 -- ---- scripts
 
@@ -69,7 +75,8 @@ ComesTo ends other store = ⊤
 abbrev pub IsSoundOver : SettingTree → Judgement → Exprs → Tree → Type 0
 IsSoundOver setting j items event = let ended = run_script setting j.empties items event in ComesTo (ends_of j) ended.outcome ended.store
 
--- so it is of every script of well-formed literals that is judged without an error code, over every well-formed event of the declared kind
+-- so it is of every script of well-formed literals that is judged without an error code, by whatever the rules leave open, over every well-formed
+-- event of the declared kind
 abbrev pub ScriptsAreSound : Type 0
-ScriptsAreSound = (setting : SettingTree) (declared : KindTree) (items : Exprs) (j : Judgement) → JudgesScript setting.sources declared items j → HasNoError j.codes → AreWellFormedExprs (length setting.sources) items
-    → (event : Tree) → Inhabits event declared → IsWellFormed (length setting.sources) event → IsSoundOver setting j items event
+ScriptsAreSound = (moment : ℤ) (rules : OpenRules) (declared : KindTree) (items : Exprs) (j : Judgement) → JudgesScript rules declared items j → HasNoError j.codes → AreWellFormedExprs (length rules.sources) items
+    → (event : Tree) → Inhabits event declared → IsWellFormed (length rules.sources) event → IsSoundOver (setting_of moment rules) j items event

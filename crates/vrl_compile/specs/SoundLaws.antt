@@ -3,7 +3,7 @@ use Rattle.vrl_value.specs.Laws.{MembersAreMaps}
 use Rattle.vrl_path.specs.Laws.{RemovedTreesAreRemovals, SetTreesAreSets}
 use Rattle.vrl_place.specs.Laws.{ReadsAreOfTheirCut}
 use Rattle.vrl_state.specs.Laws.{CutsHoldTheAllowed, EitherHoldsBoth, JoinsKeepFits, RemovalsKeepFits, StartsFit, WritesKeepFits}
-use Rattle.vrl_check.specs.Determined.{EmptiesAreCounted}
+use Rattle.vrl_check.specs.Determined.{EmptiesAreCounted, PoisonsHaveCauses}
 use Rattle.vrl_table.specs.Table.{FunctionsAreFound, FunctionsKeepLaw}
 use Rattle.vrl_resolve.specs.Laws.{EvaluationsStayWellFormed}
 
@@ -25,5 +25,6 @@ pub record Laws : Type 0 where
   pub lawful : FunctionsKeepLaw
   -- the judgement
   pub counted : EmptiesAreCounted
+  pub causes : PoisonsHaveCauses
   -- the meaning
   pub kept : EvaluationsStayWellFormed

@@ -2,7 +2,7 @@ ghost use Rattle.vrl_compile.specs.Answer.{AcceptedScriptsAreSound};
 ghost use Rattle.vrl_compile.specs.Sound.{ExpressionsAreSound, ScriptsAreSound};
 ghost use Rattle.vrl_compile.specs.SoundLaws.{Laws};
 
-use vrl_check::empties_are_counted;
+use vrl_check::{empties_are_counted, poisons_have_causes};
 use vrl_path::{removed_trees_are_removals, set_trees_are_sets};
 use vrl_place::reads_are_of_their_cut;
 use vrl_resolve::evaluations_stay_well_formed;
@@ -30,6 +30,7 @@ fn lower_laws()
     functions_are_found();
     functions_keep_law();
     empties_are_counted();
+    poisons_have_causes();
     evaluations_stay_well_formed();
 }
 
