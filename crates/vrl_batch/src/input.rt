@@ -3,7 +3,7 @@ ghost use Rattle.vrl_batch.specs.Gathered.{IsGathered, HasCause, KeepsFaults, Ta
 
 use std::alloc::{AllocError, Global};
 use std::cmp::min;
-use vrl_io::Source;
+use vrl_io::{Failed, Source};
 
 /// The most bytes that an input may have: 2^40.
 const INPUT_LIMIT: usize = 1 << 40;
@@ -22,6 +22,28 @@ pub enum GatherFault {
     Memory,
 }
 
+impl From<Failed> for GatherFault {
+    ghost use Rattle.std.specs.Prelude.{◌≡◌};
+    ghost use Rattle.vrl_batch.specs.declared.input.GatherFault.{GatherFault};
+
+    ghost from_gives = { λ _ fault. fault ≡ GatherFault.Read };
+
+    fn from(_failed: Failed) -> GatherFault {
+        GatherFault::Read
+    }
+}
+
+impl From<AllocError> for GatherFault {
+    ghost use Rattle.std.specs.Prelude.{◌≡◌};
+    ghost use Rattle.vrl_batch.specs.declared.input.GatherFault.{GatherFault};
+
+    ghost from_gives = { λ _ fault. fault ≡ GatherFault.Memory };
+
+    fn from(_refused: AllocError) -> GatherFault {
+        GatherFault::Memory
+    }
+}
+
 /// All the bytes of a source, up to its end.
 pub fn gather<S: Source>(alloc: Global, source: &mut S) -> Result<Vec<u8>, GatherFault>
     ensures bytes { IfOk result (λ bytes. IsGathered (S.left source.old) (S.taken source.old)
@@ -33,15 +55,13 @@ pub fn gather<S: Source>(alloc: Global, source: &mut S) -> Result<Vec<u8>, Gathe
     ensures no_fault { OnOk result (S.faults source.new ≡ S.faults source.old) }
     ensures other_fault { IfErr result (KeepsFaults (S.faults source.old) (S.faults source.new)) }
 {
-    match buffer(alloc) {
-        Ok(mut buffer) => gather_by(Vec::new(alloc), source, &mut buffer),
-        Err(_) => Err(GatherFault::Memory),
-    }
+    let mut buffer = buffer(alloc)?;
+    gather_by(Vec::new(alloc), source, &mut buffer)
 }
 
 // A buffer for one take.
 fn buffer(alloc: Global) -> Result<Vec<u8>, AllocError>
-    ensures { IfOk result (λ buffer. vec_len buffer ≡ PIECE) }
+    ensures { IfOk result (λ buffer. vec_len buffer ≡ 65536) }
 {
     vec![in alloc; 0; PIECE]
 }
@@ -69,11 +89,10 @@ fn gather_by<S: Source>(
             return Ok(bytes);
         }
     }
-    match source.take(&mut buffer[..1]) {
-        Ok(0) => Ok(bytes),
-        Ok(_) => Err(GatherFault::TooMuch),
-        Err(_) => Err(GatherFault::Read),
+    if source.take(&mut buffer[..1])? == 0 {
+        return Ok(bytes);
     }
+    Err(GatherFault::TooMuch)
 }
 
 // Takes one piece, of at most the buffer's length, and adds it to the bytes. Answers its length, which is 0
@@ -96,11 +115,7 @@ fn take_onto<S: Source>(
     ensures no_fault { OnOk result (S.faults source.new ≡ S.faults source.old) }
     ensures other_fault { IfErr result (KeepsFaults (S.faults source.old) (S.faults source.new)) }
 {
-    match source.take(buffer) {
-        Ok(count) => match bytes.extend_from_slice(&buffer[..count]) {
-            Ok(()) => Ok(count),
-            Err(_) => Err(GatherFault::Memory),
-        },
-        Err(_) => Err(GatherFault::Read),
-    }
+    let count = source.take(buffer)?;
+    bytes.extend_from_slice(&buffer[..count])?;
+    Ok(count)
 }
