@@ -4,3 +4,4 @@ pub mod Ended
 pub mod EventLists
 pub mod RunLemmas
 pub mod Sinks
+pub mod Unread

@@ -6,3 +6,4 @@ pub mod Ran
 pub mod Request
 pub mod Results
 pub mod Status
+pub mod Unread

@@ -7,6 +7,7 @@ ghost use Rattle.vrl_resolve.specs.Meaning.{IsUnhandled};
 ghost use Rattle.vrl_resolve.specs.Program.{ended_over, program_of};
 ghost use Rattle.vrl_run.specs.LineResult.{end_result, event_result, refused_line, HandlesErrors, IsLineResult};
 ghost use Rattle.vrl_run.specs.LineResult as spec;
+ghost use Rattle.vrl_run.specs.Unread.{IsReasonOf, IsUnread};
 ghost use Rattle.vrl_run.specs.Ran.{end_in};
 
 use crate::kept::kept_events;
@@ -40,9 +41,7 @@ pub fn run_line(
     }
     let event = match from_line(alloc, line.bytes.as_slice()) {
         Ok(event) => event,
-        Err(JsonFault::NotJson) => return refused(alloc, line.number, Reason::NotJson),
-        Err(JsonFault::NotWhole) => return refused(alloc, line.number, Reason::NotWhole),
-        Err(JsonFault::Memory) => return Err(Memory),
+        Err(fault) => return unread(alloc, line.number, fault),
     };
     if !inhabits(&event, declared) {
         return refused(alloc, line.number, Reason::NotDeclared);
@@ -51,6 +50,25 @@ pub fn run_line(
     lines_are_ordered();
     json_needs_no_sources();
     run_event(alloc, program, sources, options, line, event)
+}
+
+// Why a line is refused from which no value was read. `Memory`: that was for want of memory, and the line isn't refused.
+fn reason_of(fault: JsonFault) -> Result<Reason, Memory>
+    ensures { IsReasonOf fault result }
+{
+    match fault {
+        JsonFault::NotJson => Ok(Reason::NotJson),
+        JsonFault::NotWhole => Ok(Reason::NotWhole),
+        JsonFault::Memory => Err(Memory),
+    }
+}
+
+// A line from which no value was read. `Memory`: want of memory.
+fn unread(alloc: Global, number: u64, fault: JsonFault) -> Result<LineOut, Memory>
+    ensures { IfOk result (IsUnread fault number) }
+{
+    let reason = reason_of(fault)?;
+    refused(alloc, number, reason)
 }
 
 // A line that is refused. `Memory`: want of memory.
