@@ -1,4 +1,4 @@
-ghost use Rattle.std.specs.Prelude.{◌≡◌, ◌≢◌, ◌++◌, ◌∷◌, [], ◌+◌, IfErr, IfOk, List, ℕ, OnOk};
+ghost use Rattle.std.specs.Prelude.{◌≡◌, ◌≢◌, ◌++◌, ◌∷◌, [], ◌+◌, IfErr, IfOk, List, MatchResult, ℕ, OnOk};
 ghost use Rattle.vrl_parse.specs.Reading.{sources_of};
 ghost use Rattle.vrl_pattern.specs.Malformed.{malformed_from};
 ghost use Rattle.vrl_compile.specs.Answer.{malformed_at, malformed_literals};
@@ -6,7 +6,7 @@ ghost use Rattle.vrl_compile.specs.Literals.{OnMalformed};
 
 use std::alloc::Global;
 use vrl_diag::{Diagnostic, Span, code};
-use vrl_pattern::{BuildFault, Patterns};
+use vrl_pattern::{BuildFault, Numbers, Patterns};
 use vrl_token::{Spanned, Token, Tokens};
 use vrl_value::{Memory, Names};
 
@@ -43,11 +43,21 @@ pub(crate) fn build_literals(
 {
     match Patterns::build(alloc, sources) {
         Ok(patterns) => Ok(patterns),
-        Err(BuildFault::Malformed(numbers)) => {
+        Err(fault) => {
+            let numbers = malformed_numbers(fault)?;
             let found = literals_at(alloc, tokens.as_slice(), numbers.as_slice())?;
             Err(LiteralFault::Malformed(found))
         }
-        Err(BuildFault::Memory) => Err(LiteralFault::Memory),
+    }
+}
+
+// The numbers of the literals that are malformed. `Memory`: none is told, since memory was wanted.
+fn malformed_numbers(fault: BuildFault) -> Result<Numbers, Memory>
+    ensures { MatchResult result (λ numbers. fault ≡ BuildFault.Malformed numbers) (λ _. fault ≡ BuildFault.Memory) }
+{
+    match fault {
+        BuildFault::Malformed(numbers) => Ok(numbers),
+        BuildFault::Memory => Err(Memory),
     }
 }
 

@@ -1,4 +1,4 @@
-ghost use Rattle.std.specs.Prelude.{◌≡◌, ◌≤◌, ◌∷◌, [], false, List, ℕ, IfErr, IfOk, length};
+ghost use Rattle.std.specs.Prelude.{◌≡◌, ◌≤◌, ◌∷◌, [], false, List, ℕ, IfErr, IfOk, MatchResult, length};
 ghost use Rattle.vrl_kind.specs.Canonical.{allows_absent};
 ghost use Rattle.vrl_kind.specs.KindTree.{KindTree};
 ghost use Rattle.vrl_syntax.specs.Limits.{KeepsLimits};
@@ -11,6 +11,7 @@ ghost use Rattle.vrl_check.specs.Answer.{IsJudged};
 ghost use Rattle.vrl_judge.specs.Rules.{Judgement};
 ghost use Rattle.vrl_check.specs.Judgement.{JudgesScript};
 ghost use Rattle.vrl_compile.specs.Answer.{CanBeJudged, IsAnswer, IsRefused, IsScript, IsSoundAnswer, not_built};
+ghost use Rattle.vrl_compile.specs.Literals.{IsRefusedFor};
 
 use crate::literals::{LiteralFault, build_literals};
 use crate::soundness::accepted_scripts_are_sound;
@@ -69,7 +70,7 @@ pub enum Compiled {
 ///
 /// [`Memory`] where memory is wanted.
 pub fn compile(alloc: Global, text: &str, declared: &Kind) -> Result<Compiled, Memory>
-    requires short { length text.now ≤ SCRIPT_LIMIT }
+    requires short { length text.now ≤ 65536 }
     requires present { allows_absent declared.now ≡ false }
     ensures answer { IfOk result (IsAnswer declared.now text.now) }
     ensures sound { IfOk result (IsSoundAnswer declared.now) }
@@ -77,8 +78,17 @@ pub fn compile(alloc: Global, text: &str, declared: &Kind) -> Result<Compiled, M
     accepted_scripts_are_sound();
     match read(alloc, text) {
         Ok(parsed) => compile_parsed(alloc, parsed, declared),
-        Err(SyntaxFault::Fault(fault)) => Ok(Compiled::Refused(alone(alloc, fault)?)),
-        Err(SyntaxFault::Memory) => Err(Memory),
+        Err(fault) => Ok(Compiled::Refused(alone(alloc, diagnostic_of(fault)?)?)),
+    }
+}
+
+// What is told of a text that is at fault. `Memory`: there is nothing to tell, since memory was wanted.
+fn diagnostic_of(fault: SyntaxFault) -> Result<Diagnostic, Memory>
+    ensures { MatchResult result (λ diagnostic. fault ≡ SyntaxFault.Fault diagnostic) (λ _. fault ≡ SyntaxFault.Memory) }
+{
+    match fault {
+        SyntaxFault::Fault(diagnostic) => Ok(diagnostic),
+        SyntaxFault::Memory => Err(Memory),
     }
 }
 
@@ -91,7 +101,7 @@ struct Parsed {
 
 // The tokens of a text, and the script in them, the paths of which keep the limits.
 fn read(alloc: Global, text: &str) -> Result<Parsed, SyntaxFault>
-    requires { length text.now ≤ SCRIPT_LIMIT }
+    requires { length text.now ≤ 65536 }
     ensures script { IfOk result (λ parsed. IsScript text.now parsed.tokens.tokens (script_of parsed.script)) }
     ensures limits { IfOk result (λ parsed. KeepsLimits (exprs_of parsed.script.items)) }
     ensures regexes { IfOk result (λ parsed. IsNumbered (script_of parsed.script)) }
@@ -123,8 +133,17 @@ fn compile_parsed(alloc: Global, parsed: Parsed, declared: &Kind) -> Result<Comp
             let judged = check(alloc, &script, declared, &patterns)?;
             decided(alloc, script, judged, patterns)
         }
-        Err(LiteralFault::Malformed(found)) => Ok(Compiled::Refused(Diagnostics::new(found))),
-        Err(LiteralFault::Memory) => Err(Memory),
+        Err(fault) => refused_literals(fault),
+    }
+}
+
+// What is answered for a script whose regex literals aren't built. `Memory`: memory was wanted for that.
+fn refused_literals(fault: LiteralFault) -> Result<Compiled, Memory>
+    ensures { IsRefusedFor fault result }
+{
+    match fault {
+        LiteralFault::Malformed(found) => Ok(Compiled::Refused(Diagnostics::new(found))),
+        LiteralFault::Memory => Err(Memory),
     }
 }
 
