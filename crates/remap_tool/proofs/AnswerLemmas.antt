@@ -1,20 +1,21 @@
 -- How what is asked by words and a script is answered.
-use Rattle.std.proofs.Common.{◌≡◌, List, ℕ, [], ◌∷◌, ◌++◌, Result, Ok, Err, IfOk, ◌⊎◌, inl, inr, refl, sym, ap, ◌∙◌, subst}
-use Rattle.vrl_compile.specs.Answer.{IsAnswer}
+use Rattle.std.proofs.Common.{◌≡◌, List, ℕ, ◌+◌, [], ◌∷◌, ◌++◌, take, Option, Some, None, IfSome, false, Result, Ok, Err, IfOk, ◌⊎◌, inl, inr, refl, sym, ap, ◌∙◌, subst, arith}
+use Rattle.std.specs.Prelude.{option_map}
+use Rattle.vrl_compile.specs.Answer.{IsAnswer as IsAnswerOf}
 use Rattle.vrl_compile.specs.declared.script.Compiled.{Compiled}
 use Rattle.vrl_compile.specs.declared.script.Compiled.TheVariants as compiled
 use Rattle.vrl_diag.specs.declared.diagnostic.Diagnostic.{Diagnostic}
 use Rattle.vrl_resolve.specs.Program.{ProgramTree}
 use Rattle.vrl_run.specs.Answer.{Answer}
-use Rattle.vrl_run.specs.Devices.{Devices, IsAsked, IsAtMostFront, IsWhole, LeavesDevices}
+use Rattle.vrl_run.specs.Devices.{Devices, IsAsked, IsAtMostFront, IsWhole, IsWithinLimit, LeavesDevices}
 use Rattle.vrl_run.specs.Events.{event_kind}
 use Rattle.vrl_run.specs.Request.{IsSame, MayCome, Request, bad_script, bad_words, run}
-use Rattle.vrl_run.specs.Status.{ComesOfRefusal}
+use Rattle.vrl_run.specs.Status.{ComesOfRefusal, IsAnswer, meaning_of}
 use Rattle.vrl_run.specs.declared.status.Status.{Status}
 use Rattle.vrl_run.specs.declared.status.Status.TheVariants.{ReadFault}
 use Rattle.vrl_token.specs.Reading.{IsNoScript}
 use Rattle.vrl_value.specs.declared.memory.Memory.{Memory as WantOfMemory}
-use Rattle.remap_tool.specs.Request.{Held, Asks, AsksByScript, IsAccepted, IsLoaded, IsLoadFailed, IsScriptAccepted, IsScriptAnswer, has_error}
+use Rattle.remap_tool.specs.Request.{Held, Asks, AsksByScript, IsAccepted, IsLoadFailed, IsScriptAccepted, IsScriptAnswer, IsTextOfCall, has_error, script_limit}
 use Rattle.remap_tool.specs.Words.{Command, usage, script}
 
 -- a question that has this request has each that is the same
@@ -33,7 +34,7 @@ first_of (inl a) = a
 first_of (inr none) = absurd none
 
 -- what compiling answers for a text is what it answers for its bytes
-pub script_answer : (text : List ℕ) (r : Result Compiled WantOfMemory) → ¬ IsNoScript text → IfOk r (IsAnswer event_kind text) → IfOk r (IsScriptAnswer text)
+pub script_answer : (text : List ℕ) (r : Result Compiled WantOfMemory) → ¬ IsNoScript text → IfOk r (IsAnswerOf event_kind text) → IfOk r (IsScriptAnswer text)
 script_answer text (Err e) is_text is = is
 script_answer text (Ok (compiled.Accepted accepted)) is_text is = (
   record { is_text = is_text; script = is.script; judgement = is.judgement; accepted = is.accepted; program_is = is.program; ordered = is.judged.diagnostics },
@@ -80,20 +81,46 @@ leaves-by asks asks_too status before after has leaves = record {
   limit = leaves.limit;
 }
 
+-- and what a call leaves whose devices are as they were, with a status that is no answer
+pub as_before : (asks : Request → Type 0) (status : Status) (devices : Devices) → ¬ IsAnswer status → (meaning_of status).too_long ≡ false → LeavesDevices asks status devices devices
+as_before asks status devices unanswered short = record {
+  whole = λ answered. absurd (unanswered answered);
+  front = inl (refl, refl);
+  limit = subst (λ too_long. IsWithinLimit too_long devices devices) (sym short) (omega arith);
+}
+
 -- words that are refused ask nothing else
-pub asks_words : (held : Held) (command : Command) → command ≡ usage → (request : Request) → IsSame bad_words request → Asks held command request
-asks_words held command is request same = subst (λ c. Asks held c request) (sym is) same
+pub asks_words : (command : Command) (text : Option (List ℕ)) → command ≡ usage → (request : Request) → IsSame bad_words request → Asks command text request
+asks_words command text is request same = subst (λ c. Asks c text request) (sym is) same
 
--- and what a text asks that was loaded is what its name asks
-pub asks_named : (held : Held) (command : Command) (name text : List ℕ) → command ≡ script name → IsLoaded held name text → (request : Request) → AsksByScript text request → Asks held command request
-asks_named held command name text is loaded request asks = subst (λ c. Asks held c request) (sym is) (text, loaded, asks)
+-- and what a text asks is what is asked by the name that has it
+pub asks_named : (command : Command) (name text : List ℕ) → command ≡ script name → (request : Request) → AsksByScript text request → Asks command (Some text) request
+asks_named command name text is request asks = subst (λ c. Asks c (Some text) request) (sym is) asks
 
--- the text that was loaded from a name is accepted, or something else holds
-pub accepted_named : {other : Type 0} (held : Held) (command : Command) (name text : List ℕ) → command ≡ script name → IsLoaded held name text
-    → other ⊎ ((program : ProgramTree) × (warnings : List Diagnostic) × IsAccepted text program warnings) → other ⊎ IsScriptAccepted held command
-accepted_named held command name text is loaded (inl first) = inl first
-accepted_named held command name text is loaded (inr accepted) =
-    inr (text, accepted.0, accepted.1, asks_named held command name text is loaded (run text accepted.0 accepted.1) (refl, accepted.2))
+-- the text of a name is accepted, or something else holds
+pub accepted_named : {other : Type 0} (command : Command) (name text : List ℕ) → command ≡ script name
+    → other ⊎ ((program : ProgramTree) × (warnings : List Diagnostic) × IsAccepted text program warnings) → other ⊎ IsScriptAccepted command (Some text)
+accepted_named command name text is (inl first) = inl first
+accepted_named command name text is (inr accepted) = inr (text, accepted.0, accepted.1, asks_named command name text is (run text accepted.0 accepted.1) (refl, accepted.2))
+
+-- ---- the text of a call
+
+-- the one that the store tells, where it tells one
+abbrev pub text_told : Held → Command → Option (List ℕ)
+text_told held usage = None
+text_told None (script name) = None
+text_told (Some held) (script name) = option_map (take (script_limit + 1)) (held name)
+
+pub is_text_told : (held : Held) (command : Command) → IsTextOfCall held command (text_told held command)
+is_text_told held usage = refl
+is_text_told None (script name) = tt
+is_text_told (Some held) (script name) = refl
+
+pub text_of_words : (held : Held) (command : Command) → command ≡ usage → IsTextOfCall held command None
+text_of_words held command is = subst (λ c. IsTextOfCall held c None) (sym is) refl
+
+pub text_loaded : (held : Held) (command : Command) (name text : List ℕ) → command ≡ script name → IfSome held (λ h. option_map (take (script_limit + 1)) (h name) ≡ Some text) → IsTextOfCall held command (Some text)
+text_loaded held command name text is loaded = subst (λ c. IsTextOfCall held c (Some text)) (sym is) loaded
 
 -- ---- a load that did not fail adds no name
 

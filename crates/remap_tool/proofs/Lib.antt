@@ -1,3 +1,4 @@
 pub mod AnswerLemmas
+pub mod Calls
 pub mod OneAnswer
 pub mod RunSound

@@ -1,5 +1,5 @@
 -- What a call asks has one answer.
-use Rattle.std.proofs.Common.{◌≡◌, ℕ, List, Some, None, IsSome, true, false, refl, sym, ap, ◌∙◌, subst, ◌⊎◌, inl, inr}
+use Rattle.std.proofs.Common.{◌≡◌, ℕ, List, Option, Some, None, true, false, refl, sym, ap, ◌∙◌, subst, ◌⊎◌, inl, inr}
 use Rattle.std.specs.List.{list_any}
 use Rattle.std.proofs.lemmas.List.Sorted.{list_any-IsPermutation}
 use Rattle.vrl_diag.specs.Refusal.{is_error}
@@ -16,7 +16,7 @@ use Rattle.vrl_run.specs.Request.{bad_script, bad_words, run}
 use Rattle.vrl_run.specs.Status.{ComesOfRefusal}
 use Rattle.vrl_run.specs.declared.status.Status.{Status}
 use Rattle.remap_tool.specs.OneAnswer.{AreAnsweredAlike, HasOneAnswer, same as same_answer, both_unread as both_unread_answers}
-use Rattle.remap_tool.specs.Request.{Asks, AsksByScript, Held, IsAccepted, IsLoaded, IsRefused, has_error, no_text}
+use Rattle.remap_tool.specs.Request.{Asks, AsksByScript, IsAccepted, IsRefused, has_error, no_text}
 use Rattle.remap_tool.specs.Words.{Command, script, usage}
 
 -- ---- a text is refused or accepted, in one way
@@ -76,24 +76,22 @@ one_answer_by_script one_reading judgements determined text (run told program wa
     let warnings_are : warnings ≡ warned = same_warnings text warnings warned (no_warning one.1) (determined event_kind text warnings warned (accepted_diagnostics one.1) (accepted_diagnostics two.1)) in
     same_answer (λ input moments. rw (texts, programs, warnings_are) refl)
 
-pub one_text : (held : Held) (name : List ℕ) (text other : List ℕ) → IsSome held → IsLoaded held name text → IsLoaded held name other → text ≡ other
-one_text None name text other told one two = cc
-one_text (Some held) name text other told one two = cc
-
-pub one_answer : ScriptsHaveOneReading → JudgementsAreDetermined → DiagnosticsAreDetermined → (held : Held) (command : Command) → IsSome held → HasOneAnswer (Asks held command)
-one_answer one_reading judgements determined held usage told a b one two = same_answer (λ input moments. ap (λ r. answer_to r input moments) (one ∙ sym two))
-one_answer one_reading judgements determined held (script name) told a b one two =
-    let texts = one_text held name one.0 two.0 told one.1 two.1 in
-    one_answer_by_script one_reading judgements determined two.0 a b (subst (λ t. AsksByScript t a) texts one.2) two.2
+pub one_answer : ScriptsHaveOneReading → JudgementsAreDetermined → DiagnosticsAreDetermined → (command : Command) (text : Option (List ℕ)) → HasOneAnswer (Asks command text)
+one_answer one_reading judgements determined usage text a b one two = same_answer (λ input moments. ap (λ r. answer_to r input moments) (one ∙ sym two))
+one_answer one_reading judgements determined (script name) None a b one two = absurd one
+one_answer one_reading judgements determined (script name) (Some text) a b one two = one_answer_by_script one_reading judgements determined text a b one two
 
 -- ---- scripts that are refused
 
--- the script that was loaded is the one that the store tells
-pub is_refusal : DiagnosticsAreDetermined → (held : Held) (command : Command) (name loaded : List ℕ) (status : Status) → command ≡ script name → IsLoaded held name loaded
-    → ComesOfRefusal status ⊎ ((program : ProgramTree) × (warnings : List Diagnostic) × IsAccepted loaded program warnings)
-    → IsSome held → (text : List ℕ) (diagnostics : List Diagnostic) → Asks held command (bad_script text diagnostics) → ComesOfRefusal status
-is_refusal determined held command name loaded status is one (inl refusal) told text diagnostics asks = refusal
-is_refusal determined held command name loaded status is one (inr accepted) told text diagnostics asks =
-    let named : Asks held (script name) (bad_script text diagnostics) = subst (λ c. Asks held c (bad_script text diagnostics)) is asks in
-    let same = one_text held name named.0 loaded told named.1 one in
-    absurd (not_refused_and_accepted determined (subst (λ t. IsRefused t diagnostics) same named.2.1) accepted.2)
+-- a script that is refused isn't accepted, so what is told of it comes of a refusal
+pub is_refusal : DiagnosticsAreDetermined → (command : Command) (name text : List ℕ) (status : Status) → command ≡ script name
+    → ComesOfRefusal status ⊎ ((program : ProgramTree) × (warnings : List Diagnostic) × IsAccepted text program warnings)
+    → (told : List ℕ) (diagnostics : List Diagnostic) → Asks command (Some text) (bad_script told diagnostics) → ComesOfRefusal status
+is_refusal determined command name text status is (inl refusal) told diagnostics asks = refusal
+is_refusal determined command name text status is (inr accepted) told diagnostics asks =
+    let named : Asks (script name) (Some text) (bad_script told diagnostics) = subst (λ c. Asks c (Some text) (bad_script told diagnostics)) is asks in
+    absurd (not_refused_and_accepted determined named.1 accepted.2)
+
+-- words that are refused ask for no script
+pub words_refuse_no_script : (command : Command) (status : Status) → command ≡ usage → (told : List ℕ) (diagnostics : List Diagnostic) → Asks command None (bad_script told diagnostics) → ComesOfRefusal status
+words_refuse_no_script command status is told diagnostics asks = let same = subst (λ c. Asks c None (bad_script told diagnostics)) is asks in absurd (cc)

@@ -1,20 +1,13 @@
-ghost use Rattle.std.specs.Prelude.{◌≡◌, ◌⊎◌, Some, IfOk, IsSome, IsTrue, List, ℕ, ℤ};
+ghost use Rattle.std.specs.Prelude.{◌≡◌, ◌⊎◌, IfOk, IsTrue, List, ℕ};
 ghost use Rattle.vrl_io.specs.Faults.{HasRisen};
-ghost use Rattle.vrl_json.specs.Line.{reading_of, whole};
-ghost use Rattle.vrl_value.specs.Tree.{Tree, is_object};
-ghost use Rattle.vrl_judge.specs.Rules.{Judgement};
-ghost use Rattle.vrl_check.specs.Judgement.{JudgesScript};
-ghost use Rattle.vrl_compile.specs.Answer.{IsSoundlyEnded};
-ghost use Rattle.vrl_compile.specs.Sound.{ends_of};
 ghost use Rattle.vrl_diag.specs.declared.diagnostic.Diagnostic.{Diagnostic as SpecDiagnostic};
-ghost use Rattle.vrl_resolve.specs.Program.{ProgramTree, ended_over};
-ghost use Rattle.vrl_syntax.specs.Tree.{Script as SpecScript};
+ghost use Rattle.vrl_resolve.specs.Program.{ProgramTree};
 ghost use Rattle.vrl_run.specs.Devices.{devices, LeavesDevices};
 ghost use Rattle.vrl_run.specs.Events.{event_kind};
-ghost use Rattle.vrl_run.specs.Request.{bad_script, run as run_request};
 ghost use Rattle.vrl_run.specs.Status.{ComesOfRefusal, IsAnswer, IsOfLines, TellsRefusal};
-ghost use Rattle.remap_tool.specs.OneAnswer.{HasOneAnswer};
-ghost use Rattle.remap_tool.specs.Request.{Asks, AsksByScript, IsAccepted, IsLoadFailed, IsScriptAccepted, IsScriptAnswer, IsTextOf};
+ghost use Rattle.remap_tool.specs.Call.{IsCall};
+ghost use Rattle.remap_tool.specs.Laws.{Laws};
+ghost use Rattle.remap_tool.specs.Request.{AcceptedScriptsRunSoundly, AsksByScript, IsAccepted, IsLoadFailed};
 ghost use Rattle.remap_tool.specs.Words.{command, usage};
 
 use crate::words::script_name;
@@ -22,8 +15,8 @@ use std::alloc::Global;
 use std::thread::Threads;
 use vrl_check::judgements_are_determined;
 use vrl_compile::{
-    Compiled, Diagnostics, SCRIPT_LIMIT, accepted_scripts_are_sound, compile,
-    diagnostics_are_determined, scripts_have_one_reading,
+    Compiled, SCRIPT_LIMIT, accepted_scripts_are_sound, compile, diagnostics_are_determined,
+    scripts_have_one_reading,
 };
 use vrl_io::{Clock, LoadFault, Sink, Source, Store};
 use vrl_json::{json_needs_no_sources, lines_are_json, lines_are_ordered};
@@ -45,40 +38,20 @@ pub fn remap<R: Threads + Sync, F: Store, S: Source, O: Sink, E: Sink, C: Clock>
     report: &mut E,
     clock: &mut C,
 ) -> Status
-    // An answer comes with all its bytes, and is the answer to what was asked. Whatever the status, nothing is written
-    // but a front of that answer, and no more of the input is taken than may be.
-    ensures devices { LeavesDevices (Asks (F.held files.old) (command words.now)) result
+    // What the call comes to, all of it told of one text as the bytes of its script: what is written, asked and taken, and how the script runs.
+    ensures call { IsCall (F.held files.old) (command words.now) result
         (devices (S.left input.old) (S.taken input.old) (C.ahead clock.old)
         (O.written output.old) (E.written report.old))
         (devices (S.left input.new) (S.taken input.new) (C.ahead clock.new)
-        (O.written output.new) (E.written report.new)) }
+        (O.written output.new) (E.written report.new))
+        ((input.new ≡ input.old) × (clock.new ≡ clock.old)) }
+    // Every other text whose script is accepted would run so, too.
+    ensures sound { AcceptedScriptsRunSoundly }
 
-    // Where the store tells what it holds, one answer fits what is asked, but for the place where the grammar
-    // reads no script.
-    ensures one_answer { IsSome (F.held files.old) → HasOneAnswer (Asks (F.held files.old)
-        (command words.now)) }
-    // There a script that is refused is told so, or a fault or want of memory is.
-    ensures refused { IsSome (F.held files.old) → (text : List ℕ) (diagnostics : List SpecDiagnostic)
-        → Asks (F.held files.old) (command words.now)
-        (bad_script text diagnostics) → ComesOfRefusal result }
-
-    // The input and the clock are asked only once a script is accepted.
-    ensures accepted_first { ((input.new ≡ input.old) × (clock.new ≡ clock.old))
-        ⊎ IsScriptAccepted (F.held files.old) (command words.now) }
-    // Where it is told that the words or the script are refused, neither was asked.
+    // Where it is told that the words or the script are refused, neither the input nor the clock was asked.
     ensures unread { TellsRefusal result → (input.new ≡ input.old) × (clock.new ≡ clock.old) }
     // Lines are answered once the input has said that it is at its end.
     ensures end { IsOfLines result → IsTrue (S.ended input.new) }
-
-    // A script that runs handles each of its errors over the event of each line, at every moment: it ends with a value, by an `abort`, by a
-    // call with a `!` or by the limit of depth. The value, the variables and the event at each path are of the kinds that were judged.
-    ensures sound { (text : List ℕ) (program : ProgramTree) (warnings : List SpecDiagnostic)
-        → Asks (F.held files.old) (command words.now)
-        (run_request text program warnings)
-        → (script : SpecScript) → IsTextOf script text
-        → (judgement : Judgement) → JudgesScript script.patterns event_kind script.items judgement
-        → (line : List ℕ) (event : Tree) → reading_of line ≡ whole event → IsTrue (is_object event)
-        → (moment : ℤ) → IsSoundlyEnded (ends_of judgement) (ended_over program moment event) }
 
     // ReadFault comes only where the script could not be loaded or the input failed, WriteFault where the output or the report did.
     ensures read_fault { result ≡ Status.ReadFault
@@ -107,14 +80,8 @@ pub fn remap<R: Threads + Sync, F: Store, S: Source, O: Sink, E: Sink, C: Clock>
         → ¬ HasRisen (E.faults report.old) (E.faults report.new)
         → IsAnswer result ⊎ (result ≡ Status.Memory) ⊎ (result ≡ Status.TooMuch) }
 {
-    accepted_scripts_are_sound();
-    scripts_have_one_reading();
-    judgements_are_determined();
-    diagnostics_are_determined();
-    lines_are_json();
-    lines_are_ordered();
-    json_needs_no_sources();
-    objects_are_events();
+    laws();
+    accepted_run_soundly();
     let name = match script_name(words) {
         Some(name) => name,
         None => return answer(alloc, &Request::Words, input, output, report, clock),
@@ -124,6 +91,27 @@ pub fn remap<R: Threads + Sync, F: Store, S: Source, O: Sink, E: Sink, C: Clock>
         Err(LoadFault::Failed) => Status::ReadFault,
         Err(LoadFault::Memory) => Status::Memory,
     }
+}
+
+// The laws that the contract of a call rests on. This takes no time.
+fn laws()
+    ensures { Laws }
+{
+    scripts_have_one_reading();
+    judgements_are_determined();
+    diagnostics_are_determined();
+    accepted_scripts_are_sound();
+    lines_are_json();
+    lines_are_ordered();
+    json_needs_no_sources();
+    objects_are_events();
+}
+
+// Each script that is accepted handles each of its errors, over the event of each line. This takes no time.
+fn accepted_run_soundly()
+    ensures { AcceptedScriptsRunSoundly }
+{
+    laws();
 }
 
 // Compiles the bytes of a script, and runs it over the input.
@@ -155,10 +143,17 @@ fn run_script<S: Source, O: Sink, E: Sink, C: Clock>(
     ensures write_told { (result ≡ Status.WriteFault)
         ⊎ ((O.faults output.new ≡ O.faults output.old) × (E.faults report.new ≡ E.faults report.old)) }
 {
+    let script = match script_text(text) {
+        Ok(script) => script,
+        Err(fault) => {
+            let request = Request::Refused(text, &[fault]);
+            return answer(alloc, &request, input, output, report, clock);
+        }
+    };
     let Ok(declared) = event_kind(alloc) else {
         return Status::Memory;
     };
-    match compile_bytes(alloc, text, &declared) {
+    match compile(alloc, script, &declared) {
         Ok(Compiled::Accepted(accepted)) => {
             accepted_scripts_are_sound();
             let request = Request::Run(Script {
@@ -186,15 +181,4 @@ fn event_kind(alloc: Global) -> Result<Kind, Memory>
     let kind = Kind::object(alloc, Vec::new(alloc), Rest::Json)?;
     kind_is_canonical(&kind);
     Ok(kind)
-}
-
-// What the bytes of a script are: a text of at most the limit is compiled, and anything else is refused.
-fn compile_bytes(alloc: Global, bytes: &[u8], declared: &Kind) -> Result<Compiled, Memory>
-    requires { declared.now ≡ event_kind }
-    ensures { IfOk result (IsScriptAnswer bytes.now) }
-{
-    match script_text(bytes) {
-        Ok(text) => compile(alloc, text, declared),
-        Err(fault) => Ok(Compiled::Refused(Diagnostics::new(vec![in alloc; fault]?))),
-    }
 }
