@@ -8,6 +8,7 @@ use Rattle.vrl_compile.specs.Reading.{AreAlike, DiagnosticsAreDetermined, Script
 use Rattle.vrl_diag.specs.declared.diagnostic.Diagnostic.{Diagnostic}
 use Rattle.vrl_check.specs.Determined.{JudgementsAreDetermined}
 use Rattle.vrl_check.specs.Judgement.{JudgesScript}
+use Rattle.vrl_check.specs.OpenRules.{language_rules}
 use Rattle.vrl_compile.specs.Program.{program_for}
 use Rattle.vrl_resolve.specs.Program.{ProgramTree}
 use Rattle.vrl_run.specs.Answer.{answer_to}
@@ -57,8 +58,9 @@ same_warnings text ds es none (both_unread unread s t one two) = let wrong : tru
 one_program : ScriptsHaveOneReading → JudgementsAreDetermined → {text : List ℕ} {program other : ProgramTree} {warnings warned : List Diagnostic} → IsAccepted text program warnings → IsAccepted text other warned → program ≡ other
 one_program one_reading judgements {text = text} one two =
     let script : one.script ≡ two.script = (one_reading text one.accepted.tokens two.accepted.tokens one.script two.script one.accepted.is_script two.accepted.is_script).script_is in
-    let judged = subst (λ s. JudgesScript s.patterns event_kind s.items one.judgement) script one.accepted.judges in
-    let judgement = judgements two.script.patterns event_kind two.script.items one.judgement two.judgement judged two.accepted.judges in
+    let judged = subst (λ s. JudgesScript (language_rules s.patterns) event_kind s.items one.judgement) script one.accepted.judges in
+    let sources = two.script.patterns in
+    let judgement = judgements.script (language_rules sources) (judgements.language sources) event_kind two.script.items one.judgement two.judgement judged two.accepted.judges in
     one.program_is ∙ ap (λ s. program_for s one.judgement) script ∙ ap (program_for two.script) judgement ∙ sym two.program_is
 
 one_answer_by_script : ScriptsHaveOneReading → JudgementsAreDetermined → DiagnosticsAreDetermined → (text : List ℕ) → HasOneAnswer (AsksByScript text)

@@ -5,6 +5,7 @@ use Rattle.vrl_diag.specs.declared.diagnostic.Diagnostic.{Diagnostic}
 use Rattle.vrl_kind.specs.Kinds.{Inhabits}
 use Rattle.vrl_store.specs.WellFormed.{IsWellFormed}
 use Rattle.vrl_check.specs.Judgement.{JudgesScript}
+use Rattle.vrl_check.specs.OpenRules.{language_rules}
 use Rattle.vrl_compile.specs.Answer.{AcceptedScriptsAreSound, IsSoundlyEnded}
 use Rattle.vrl_compile.specs.Sound.{ends_of}
 use Rattle.vrl_resolve.specs.Program.{ProgramTree, ended_over}
@@ -41,6 +42,7 @@ runs_soundly laws text program warnings is s written judgement judges line event
     let json = laws.json line event reading in
     let formed : IsWellFormed (length program.sources) event = record { ordered = laws.ordered line event reading; below = laws.below (length program.sources) event json } in
     let same : s ≡ is.script = (laws.readings text written.tokens is.accepted.tokens s is.script written.is_script is.accepted.is_script).script_is in
-    let told : JudgesScript is.script.patterns event_kind is.script.items judgement = subst (λ x. JudgesScript x.patterns event_kind x.items judgement) same judges in
-    subst (λ j. IsSoundlyEnded (ends_of j) (ended_over program moment event)) (laws.judgements is.script.patterns event_kind is.script.items is.judgement judgement is.accepted.judges told)
+    let told : JudgesScript (language_rules is.script.patterns) event_kind is.script.items judgement = subst (λ x. JudgesScript (language_rules x.patterns) event_kind x.items judgement) same judges in
+    let sources = is.script.patterns in
+    subst (λ j. IsSoundlyEnded (ends_of j) (ended_over program moment event)) (laws.judgements.script (language_rules sources) (laws.judgements.language sources) event_kind is.script.items is.judgement judgement is.accepted.judges told)
     (accepted_is_sound laws.sound is moment event (laws.objects event json an_object) formed)

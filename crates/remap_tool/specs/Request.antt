@@ -9,6 +9,7 @@ use Rattle.vrl_token.specs.declared.token.Spanned.{Spanned}
 use Rattle.vrl_judge.specs.Ordered.{AreOrdered}
 use Rattle.vrl_judge.specs.Rules.{Judgement}
 use Rattle.vrl_check.specs.Judgement.{JudgesScript}
+use Rattle.vrl_check.specs.OpenRules.{language_rules}
 use Rattle.vrl_compile.specs.Answer.{IsAccepted as IsAcceptedText, IsRefused as IsRefusedText, IsScript, IsSoundlyEnded}
 use Rattle.vrl_compile.specs.Program.{program_for}
 use Rattle.vrl_compile.specs.Sound.{ends_of}
@@ -67,7 +68,7 @@ IsScriptAnswer text (Refused diagnostics) = IsRefused text diagnostics
 -- the program of a text handles each of its errors over the event of each line, at every moment: it ends with a value, by an `abort`, by a call with a `!` or by the
 -- limit of depth. The value, the variables and the event at each path are of the kinds that were judged
 abbrev pub RunsSoundly : List ℕ → ProgramTree → Type 0
-RunsSoundly text program = (s : Script) → IsTextOf s text → (judgement : Judgement) → JudgesScript s.patterns event_kind s.items judgement
+RunsSoundly text program = (s : Script) → IsTextOf s text → (judgement : Judgement) → JudgesScript (language_rules s.patterns) event_kind s.items judgement
     → (line : List ℕ) (event : Tree) → reading_of line ≡ whole event → IsTrue (is_object event) → (moment : ℤ) → IsSoundlyEnded (ends_of judgement) (ended_over program moment event)
 
 -- so runs every script that is accepted

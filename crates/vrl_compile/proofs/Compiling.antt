@@ -1,5 +1,5 @@
 -- What `compile` answers, by what was read and judged.
-use Rattle.std.proofs.Common.{◌≡◌, ◌==◌, not, ℕ, Bool, true, false, List, [], ◌∷◌, ◌++◌, if◌then◌else◌, ◌≢◌, Result, Ok, Err, IfErr, IsErrAnd, refl, sym, ap, ◌∙◌, subst}
+use Rattle.std.proofs.Common.{◌≡◌, ◌==◌, not, ℕ, Bool, true, false, List, [], ◌∷◌, ◌++◌, if◌then◌else◌, ◌≢◌, Result, Ok, Err, IfOk, IfErr, IsErrAnd, refl, sym, ap, ◌∙◌, subst}
 use Rattle.std.specs.List.{Contains, list_all, list_any}
 use Rattle.std.proofs.lemmas.Bool.{or_left}
 use Rattle.std.proofs.lemmas.List.Sorted.{list_any-IsPermutation}
@@ -20,8 +20,14 @@ use Rattle.vrl_parse.specs.Reading.{IsWrong as IsWrongScript, no_script, parse_c
 use Rattle.vrl_diag.specs.Refusal.{is_error}
 use Rattle.vrl_judge.specs.Rules.{Judgement}
 use Rattle.vrl_check.specs.Judgement.{JudgesScript}
+use Rattle.vrl_check.specs.OpenRules.{language_rules}
 use Rattle.vrl_judge.specs.Ordered.{AreOrdered}
-use Rattle.vrl_compile.specs.Answer.{CanBeJudged, IsAccepted, IsRefused, IsScript, beyond, judged, malformed, malformed_at, malformed_literals, not_built, of_script, unbuilt, unread, unread_at, wrong}
+use Rattle.vrl_value.specs.declared.memory.Memory.{Memory as WantOfMemory}
+use Rattle.vrl_compile.specs.declared.literals.LiteralFault.{LiteralFault}
+use Rattle.vrl_compile.specs.declared.literals.LiteralFault.TheVariants as literals
+use Rattle.vrl_compile.specs.declared.script.Compiled.{Compiled}
+use Rattle.vrl_compile.specs.Literals.{IsRefusedFor, OnMalformed}
+use Rattle.vrl_compile.specs.Answer.{CanBeJudged, IsAccepted, IsAnswer, IsRefused, IsScript, beyond, judged, malformed, malformed_at, malformed_literals, not_built, of_script, unbuilt, unread, unread_at, wrong}
 use Rattle.vrl_word.specs.Built.{are_built}
 
 -- ---- refusals before the judgement
@@ -85,11 +91,19 @@ refused_malformed declared text tokens script [] is limits built found some = ab
 refused_malformed declared text tokens script (first ∷ others) is limits built found some =
     record { are = of_script tokens script is (malformed limits built first others (sym found) refl); error = or_left _ _ (malformed_is_error tokens first others (sym found)) }
 
-pub refused : (declared : KindTree) (text : List ℕ) (tokens : List Spanned) (script : Script) (j : Judgement) (shown : List Diagnostic) → IsScript text tokens script → CanBeJudged tokens script → JudgesScript script.patterns declared script.items j → AreOrdered j.codes shown
+-- and what is answered for a fault of literals is that
+pub refused_for : (declared : KindTree) (text : List ℕ) (tokens : List Spanned) (script : Script) (fault : LiteralFault) (result : Result Compiled WantOfMemory) → IsRefusedFor fault result → OnMalformed (λ found. (found ≡ malformed_literals tokens) × (found ≢ [])) fault
+    → IsScript text tokens script → KeepsLimits script.items → are_built tokens ≡ true → IfOk result (IsAnswer declared text)
+refused_for declared text tokens script (literals.Malformed found) result answered told is limits built =
+    subst (λ r. IfOk r (IsAnswer declared text)) (sym answered) (refused_malformed declared text tokens script found.items is limits built told.0 told.1)
+refused_for declared text tokens script literals.Memory (Ok compiled) answered told is limits built = absurd answered
+refused_for declared text tokens script literals.Memory (Err refused) answered told is limits built = tt
+
+pub refused : (declared : KindTree) (text : List ℕ) (tokens : List Spanned) (script : Script) (j : Judgement) (shown : List Diagnostic) → IsScript text tokens script → CanBeJudged tokens script → JudgesScript (language_rules script.patterns) declared script.items j → AreOrdered j.codes shown
     → list_any is_error shown ≡ true → IsRefused declared text shown
 refused declared text tokens script j shown is can judges ordered error = record { are = of_script tokens script is (judged can j judges ordered); error = error }
 
-pub accepted : (declared : KindTree) (text : List ℕ) (tokens : List Spanned) (script : Script) (j : Judgement) (shown : List Diagnostic) → IsScript text tokens script → CanBeJudged tokens script → JudgesScript script.patterns declared script.items j → AreOrdered j.codes shown
+pub accepted : (declared : KindTree) (text : List ℕ) (tokens : List Spanned) (script : Script) (j : Judgement) (shown : List Diagnostic) → IsScript text tokens script → CanBeJudged tokens script → JudgesScript (language_rules script.patterns) declared script.items j → AreOrdered j.codes shown
     → list_any is_error shown ≡ false → IsAccepted declared text script j
 accepted declared text tokens script j shown is can judges ordered none = record {
   tokens = tokens;

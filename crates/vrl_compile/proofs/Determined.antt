@@ -15,6 +15,7 @@ use Rattle.vrl_token.specs.Laws.{TokensAreDetermined}
 use Rattle.vrl_token.specs.declared.token.Spanned.{Spanned}
 use Rattle.vrl_parse.specs.Reading.{Reads, ScriptsAreDetermined}
 use Rattle.vrl_check.specs.Determined.{JudgementsAreDetermined}
+use Rattle.vrl_check.specs.OpenRules.{language_rules}
 use Rattle.vrl_judge.specs.Ordered.{AreOrdered, diagnostic_cmp}
 use Rattle.vrl_compile.specs.Answer.{AreOfScript, IsScript, IsUngrammatical, beyond, judged, malformed, malformed_literals, of_script, unbuilt, unread, wrong}
 use Rattle.vrl_word.specs.Built.{are_built}
@@ -96,7 +97,7 @@ of_one_script one declared ts s xs ys (judged can j judges ordered) (beyond e es
 of_one_script one declared ts s xs ys (judged can j judges ordered) (unbuilt limits built second) = built_or_not ts can.built built
 of_one_script one declared ts s xs ys (judged can j judges ordered) (malformed limits built e es some second) = nothing_first (malformed_literals ts) es e some can.well_formed
 of_one_script one declared ts s xs ys (judged can j judges ordered) (judged can_too k judges_too ordered_too) =
-    one_order_of k.codes xs ys (subst (λ x. AreOrdered x.codes xs) (one s.patterns declared s.items j k judges judges_too) ordered) ordered_too
+    one_order_of k.codes xs ys (subst (λ x. AreOrdered x.codes xs) (one.script (language_rules s.patterns) (one.language s.patterns) declared s.items j k judges judges_too) ordered) ordered_too
 
 pub determined : TokensAreDetermined → ScriptsAreDetermined → JudgementsAreDetermined → DiagnosticsAreDetermined
 determined tokens scripts one declared text xs ys (wrong d is first) (wrong e too second) = one_list (first ∙ ap (λ x. x ∷ []) (tokens.one_fault text d e is too) ∙ sym second)

@@ -22,6 +22,7 @@ use Rattle.vrl_judge.specs.Returns.{return_kind, return_state}
 use Rattle.vrl_diag.specs.Refusal.{is_error}
 use Rattle.vrl_judge.specs.Rules.{Judgement}
 use Rattle.vrl_check.specs.Judgement.{JudgesScript}
+use Rattle.vrl_check.specs.OpenRules.{language_rules}
 use Rattle.vrl_judge.specs.Ordered.{AreOrdered}
 use Rattle.vrl_check.specs.declared.judged.Judged.{Judged}
 use Rattle.vrl_resolve.specs.Meaning.{IsUnhandled}
@@ -82,7 +83,7 @@ pub data AreOfScript (declared : KindTree) (tokens : List Spanned) (script : Scr
   -- regex literals are malformed
   malformed : KeepsLimits script.items → are_built tokens ≡ true → (first : Diagnostic) (others : List Diagnostic) → malformed_literals tokens ≡ first ∷ others → diagnostics ≡ first ∷ others → AreOfScript declared tokens script diagnostics
   -- those of the judgement
-  judged : CanBeJudged tokens script → (j : Judgement) → JudgesScript script.patterns declared script.items j → AreOrdered j.codes diagnostics → AreOfScript declared tokens script diagnostics
+  judged : CanBeJudged tokens script → (j : Judgement) → JudgesScript (language_rules script.patterns) declared script.items j → AreOrdered j.codes diagnostics → AreOfScript declared tokens script diagnostics
 
 -- the diagnostics of a text
 pub data AreDiagnostics (declared : KindTree) (text : List ℕ) (diagnostics : List Diagnostic) : Type 0 where
@@ -99,7 +100,7 @@ pub record IsAccepted (declared : KindTree) (text : List ℕ) (script : Script) 
   pub tokens : List Spanned
   pub is_script : IsScript text tokens script
   pub can_be_judged : CanBeJudged tokens script
-  pub judges : JudgesScript script.patterns declared script.items judgement
+  pub judges : JudgesScript (language_rules script.patterns) declared script.items judgement
   pub no_error : HasNoError judgement.codes
 
 -- the text is a script that is accepted: this is how it was judged, the program is what it is run as, and the sources are those of its
@@ -108,7 +109,7 @@ pub record IsAcceptedAs (declared : KindTree) (text : List ℕ) (answer : Accept
   pub script : Script
   pub judgement : Judgement
   pub accepted : IsAccepted declared text script judgement
-  pub judged : IsJudged judgement answer.judged
+  pub judged : IsJudged script.items judgement answer.judged
   pub program : program_of answer.program ≡ program_for script judgement
   pub sources : answer.sources ≡ script.patterns
 

@@ -10,6 +10,7 @@ ghost use Rattle.vrl_parse.specs.Reading.{sources_of, Reads};
 ghost use Rattle.vrl_check.specs.Answer.{IsJudged};
 ghost use Rattle.vrl_judge.specs.Rules.{Judgement};
 ghost use Rattle.vrl_check.specs.Judgement.{JudgesScript};
+ghost use Rattle.vrl_check.specs.OpenRules.{language_rules};
 ghost use Rattle.vrl_compile.specs.Answer.{CanBeJudged, IsAnswer, IsRefused, IsScript, IsSoundAnswer, not_built};
 ghost use Rattle.vrl_compile.specs.Literals.{IsRefusedFor};
 
@@ -78,7 +79,10 @@ pub fn compile(alloc: Global, text: &str, declared: &Kind) -> Result<Compiled, M
     accepted_scripts_are_sound();
     match read(alloc, text) {
         Ok(parsed) => compile_parsed(alloc, parsed, declared),
-        Err(fault) => Ok(Compiled::Refused(alone(alloc, diagnostic_of(fault)?)?)),
+        Err(fault) => {
+            let diagnostic = diagnostic_of(fault)?;
+            Ok(Compiled::Refused(alone(alloc, diagnostic)?))
+        }
     }
 }
 
@@ -159,7 +163,7 @@ fn decided(
     requires patterns { patterns ≡ script.patterns }
     ensures { (declared : KindTree) (text : List ℕ) (tokens : List SpecSpanned) (judgement : Judgement)
         → IsScript text tokens (script_of script) → CanBeJudged tokens (script_of script)
-        → JudgesScript script.patterns declared (exprs_of script.items) judgement → IsJudged judgement judged
+        → JudgesScript (language_rules script.patterns) declared (exprs_of script.items) judgement → IsJudged (exprs_of script.items) judgement judged
         → IfOk result (IsAnswer declared text) }
 {
     if judged.diagnostics.has_error() {

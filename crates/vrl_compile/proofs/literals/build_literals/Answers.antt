@@ -6,7 +6,7 @@ use Rattle.vrl_compile.proofs.literals.build_literals.Goals as goal
 pub returns-in-Ok-clause-formed : goal.returns-in-Ok-clause-formed
 returns-in-Ok-clause-formed c = all_formed c.args.tokens.now.tokens c.args.sources.now c.requires c.in-Ok.ensures.formed
 
-pub returns-in_ok-found-in-Err-Malformed-clause-malformed : goal.returns-in_ok-found-in-Err-Malformed-clause-malformed
-returns-in_ok-found-in-Err-Malformed-clause-malformed c =
-    let told : c.in_ok-found-in-Err-Malformed.found.items ≡ malformed_literals c.args.tokens.now.tokens = search rules in
-    (told, some_malformed c.args.tokens.now.tokens c.args.sources.now c.in-Err-Malformed.numbers c.in_ok-found-in-Err-Malformed.found.items c.requires (rw c.in-Err-Malformed.field-0-is at c.in-Err-Malformed.ensures.refused) told)
+pub returns-in_ok-found-in-Err-clause-malformed : goal.returns-in_ok-found-in-Err-clause-malformed
+returns-in_ok-found-in-Err-clause-malformed c =
+    let told : c.in_ok-found-in-Err.found.items ≡ malformed_literals c.args.tokens.now.tokens = search rules in
+    (told, some_malformed c.args.tokens.now.tokens c.args.sources.now c.in_ok-numbers-in-Err.numbers c.in_ok-found-in-Err.found.items c.requires (rw c.in_ok-numbers-in-Err.ensures at c.in-Err.ensures.refused) told)

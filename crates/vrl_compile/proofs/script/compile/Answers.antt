@@ -3,9 +3,9 @@ use Rattle.vrl_compile.specs.Answer.{IsRefused}
 use Rattle.vrl_compile.proofs.SoundAnswers.{sound_answer}
 use Rattle.vrl_compile.proofs.script.compile.Goals as goal
 
-pub returns-in_ok-alone-in-Err-Fault-clause-answer : goal.returns-in_ok-alone-in-Err-Fault-clause-answer
-returns-in_ok-alone-in-Err-Fault-clause-answer c =
-    subst (IsRefused c.args.declared.now c.args.text.now) (sym c.in_ok-alone-in-Err-Fault.ensures) ((rw c.in-Err-Fault.field-0-is at c.in-Err-Fault.ensures.fault) c.args.declared.now)
+pub returns-in_ok-alone-in-Err-clause-answer : goal.returns-in_ok-alone-in-Err-clause-answer
+returns-in_ok-alone-in-Err-clause-answer c =
+    subst (IsRefused c.args.declared.now c.args.text.now) (sym c.in_ok-alone-in-Err.ensures) ((rw c.in_ok-diagnostic-in-Err.ensures at c.in-Err.ensures.fault) c.args.declared.now)
 
 pub returns-in-Ok-clause-sound : goal.returns-in-Ok-clause-sound
 returns-in-Ok-clause-sound c =

@@ -2,10 +2,10 @@ use Rattle.std.proofs.Common.{◌≡◌, true, sym, ap, ◌∙◌, subst, length
 use Rattle.vrl_syntax.specs.Regexes.{exprs_regexes_below}
 use Rattle.vrl_syntax.specs.View.{exprs_of, script_of}
 use Rattle.vrl_check.specs.Judgement.{JudgesScript}
-use Rattle.vrl_compile.specs.Answer.{IsRefused}
+use Rattle.vrl_check.specs.OpenRules.{language_rules}
 use Rattle.vrl_word.specs.Built.{are_built}
 use Rattle.vrl_compile.proofs.BuiltCalls.{built_hold_no_closure_call}
-use Rattle.vrl_compile.proofs.Compiling.{refused_malformed, refused_unbuilt}
+use Rattle.vrl_compile.proofs.Compiling.{refused_for, refused_unbuilt}
 use Rattle.vrl_compile.proofs.script.compile_parsed.Goals as goal
 
 pub returns-then-not-are_built : goal.returns-then-not-are_built
@@ -24,10 +24,9 @@ returns-in-Ok c = λ text is.
     let judged = c.in_ok-judged-in-Ok.ensures in
     c.decided.ensures c.args.declared.now text c.args.parsed.tokens.tokens judged.0 is
     (record { limits = c.requires.limits; built = ap are_built (sym c.as_slice.ensures) ∙ sym c.are_built.ensures ∙ c.if-not-are_built.false; well_formed = c.in-Ok.ensures.formed })
-    (subst (λ sources. JudgesScript sources c.args.declared.now (exprs_of c.args.parsed.script.items) judged.0) c.in-Ok.ensures.sources judged.1) judged.2
+    (subst (λ sources. JudgesScript (language_rules sources) c.args.declared.now (exprs_of c.args.parsed.script.items) judged.0) c.in-Ok.ensures.sources judged.1) judged.2
 
-pub returns-in-Err-Malformed : goal.returns-in-Err-Malformed
-returns-in-Err-Malformed c = λ text is.
-    let told = rw c.in-Err-Malformed.field-0-is at c.in-Err-Malformed.ensures.malformed in
-    subst (IsRefused c.args.declared.now text) (sym (rw c.in-Err-Malformed.field-0-is at c.new.ensures))
-    (refused_malformed c.args.declared.now text c.args.parsed.tokens.tokens (script_of c.args.parsed.script) c.in-Err-Malformed.found.items is c.requires.limits (ap are_built (sym c.as_slice.ensures) ∙ sym c.are_built.ensures ∙ c.if-not-are_built.false) told.0 told.1)
+pub returns-in-Err : goal.returns-in-Err
+returns-in-Err c = λ text is.
+    refused_for c.args.declared.now text c.args.parsed.tokens.tokens (script_of c.args.parsed.script) c.in-Err.fault c.refused_literals.result c.refused_literals.ensures c.in-Err.ensures.malformed is c.requires.limits
+    (ap are_built (sym c.as_slice.ensures) ∙ sym c.are_built.ensures ∙ c.if-not-are_built.false)
