@@ -248,7 +248,12 @@ fn bound_codes(
         &arguments.parts,
         &mut arguments.ends,
     )?;
-    checker.report(&mut arguments.ends, call.closure.is_some(), code::WRONG_CLOSURE, span)
+    checker.report(
+        &mut arguments.ends,
+        call.closure.is_some(),
+        code::WRONG_CLOSURE,
+        span,
+    )
 }
 
 // The code of a call whose arguments aren't bound. `Memory`: want of memory.

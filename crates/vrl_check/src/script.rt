@@ -17,7 +17,7 @@ use crate::loops::dead_loops;
 use crate::walk::expr;
 use std::alloc::Global;
 use vrl_diag::{Diagnostics, code};
-use vrl_judge::{Checker, Outcome, either, ordered, scalar};
+use vrl_judge::{Checker, Ends, Outcome, either, ordered, scalar};
 use vrl_kind::Kind;
 use vrl_pattern::Patterns;
 use vrl_state::{Branch, State};
@@ -52,12 +52,18 @@ pub fn check(
     let loops = dead_loops(alloc, &script.items)?;
     let diagnostics = ordered(checker.diagnostics)?;
     let ok = branch_of(alloc, checker.state)?;
-    let fail = or_dead(alloc, outcome.ends.fail)?;
+    let Outcome { kind, ends } = outcome;
+    let Ends {
+        fail,
+        ret,
+        poisoned: _,
+    } = ends;
+    let fail = or_dead(alloc, fail)?;
     Ok(Judged {
-        kind: outcome.kind,
+        kind,
         ok,
         fail,
-        ret: outcome.ends.ret,
+        ret,
         empties: Empties::new(checker.empties),
         loops,
         diagnostics: Diagnostics::new(diagnostics),

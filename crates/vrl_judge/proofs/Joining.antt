@@ -1,8 +1,8 @@
 -- Ways that are kept, and joins of what is known on them.
-use Rattle.std.proofs.Common.{◌≡◌, Bool, true, false, not, List, Option, Some, None, is_some, option_map, refl, sym, ap, ap₂, ◌∙◌, subst}
+use Rattle.std.proofs.Common.{◌≡◌, Bool, true, false, not, List, map as each, Option, Some, None, is_some, option_map, refl, sym, ap, ap₂, ◌∙◌, subst}
 use Rattle.vrl_kind.specs.Canonical.{allows_absent}
 use Rattle.vrl_kind.specs.KindTree.{KindTree, kind}
-use Rattle.vrl_state.specs.States.{IsEither, IsEitherMap, IsEitherVariable, IsJoined, IsPresent, IsRootKind, RootMap, Scope, State}
+use Rattle.vrl_state.specs.States.{scope_names, HaveSameScopes, IsEither, IsEitherMap, IsEitherVariable, IsJoined, IsPresent, IsRootKind, RootMap, Scope, State}
 use Rattle.vrl_judge.specs.Returns.{return_kind, return_state, returning}
 use Rattle.vrl_judge.specs.Rules.{if_state, settled_kind}
 use Rattle.vrl_judge.specs.Judging.{known_on, no_ends, settled_ends, way, AreEnds, AreJoinedReturns, HaveCommonScopes, IsReturnIn, IsWay}
@@ -85,6 +85,14 @@ way_known scopes s is = by s.known refl where
 -- a state that is alive is a way in its scopes
 pub alive_way : (scopes : List Scope) (s : State) (roots : RootMap) → s.known ≡ Some roots → s.scopes ≡ scopes → IsWay scopes (Some s)
 alive_way scopes s roots alive same = ap Some (ap₂ state_at alive same) ∙ sym (ap (way scopes) alive)
+
+-- two ways that are kept stand in the same scopes
+pub same_scopes : (scopes : List Scope) (a b : State) → IsWay scopes (Some a) → IsWay scopes (Some b) → a.scopes ≡ b.scopes
+same_scopes scopes a b is_a is_b = ap (λ s. s.scopes) (way_known scopes a is_a).1 ∙ sym (ap (λ s. s.scopes) (way_known scopes b is_b).1)
+
+-- so they know and hide the same names
+pub same_names : (a b : State) → a.scopes ≡ b.scopes → HaveSameScopes a b
+same_names a b same = ap (each scope_names) same
 
 -- a join of two ways is one
 pub joined_way : (scopes : List Scope) (a b c : State) → IsWay scopes (Some a) → IsWay scopes (Some b) → IsJoined a.known b.known c.known → c.scopes ≡ a.scopes → IsWay scopes (Some c)

@@ -48,9 +48,24 @@ impl Checker<'_> {
         let mut part = part;
         let fallible = part.is_fallible();
         let no_event = self.puts_no_event(target, &part);
-        self.report(&mut part.ends, fallible, code::UNHANDLED_FALLIBLE_ASSIGNMENT, span)?;
-        self.report(&mut part.ends, is_nowhere(target), code::NO_OP_ASSIGNMENT, span)?;
-        self.report(&mut part.ends, no_event, code::EVENT_ASSIGNED_NO_CONTAINER, span)?;
+        self.report(
+            &mut part.ends,
+            fallible,
+            code::UNHANDLED_FALLIBLE_ASSIGNMENT,
+            span,
+        )?;
+        self.report(
+            &mut part.ends,
+            is_nowhere(target),
+            code::NO_OP_ASSIGNMENT,
+            span,
+        )?;
+        self.report(
+            &mut part.ends,
+            no_event,
+            code::EVENT_ASSIGNED_NO_CONTAINER,
+            span,
+        )?;
         self.write(target, &part.kind)?;
         Ok(part)
     }

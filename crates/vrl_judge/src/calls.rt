@@ -78,7 +78,12 @@ impl Checker<'_> {
             return Ok(call);
         }
         let needless = call.ends.is_needless();
-        self.report(&mut call.ends, needless, code::ABORTING_INFALLIBLE_FUNCTION, span)?;
+        self.report(
+            &mut call.ends,
+            needless,
+            code::ABORTING_INFALLIBLE_FUNCTION,
+            span,
+        )?;
         call.ends.fail = None;
         Ok(call)
     }

@@ -105,8 +105,18 @@ impl Checker<'_> {
         ensures { IfOk result (λ outcome. IsMergedAs left_span right_span parts self.old self.new outcome) }
     {
         let mut parts = parts;
-        self.report(&mut parts.ends, parts.left_no_object, code::MERGE_OF_NON_OBJECT, left_span)?;
-        self.report(&mut parts.ends, parts.right_no_object, code::MERGE_OF_NON_OBJECT, right_span)?;
+        self.report(
+            &mut parts.ends,
+            parts.left_no_object,
+            code::MERGE_OF_NON_OBJECT,
+            left_span,
+        )?;
+        self.report(
+            &mut parts.ends,
+            parts.right_no_object,
+            code::MERGE_OF_NON_OBJECT,
+            right_span,
+        )?;
         let kind = self.merged_kind(&parts.left, &parts.right)?;
         let ends = parts.ends;
         Ok(Outcome { kind, ends })
