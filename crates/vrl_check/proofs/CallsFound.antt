@@ -55,7 +55,7 @@ written_at (a ∷ args) (suc i) = written_at args i
 places_are : (args : List CodeArg) (js : List Argument) (i : ℕ) → written (args_view args) ≡ map place_of js → option_map place_of (slice_get js i) ≡ option_map written_as (slice_get args i)
 places_are args js i is = sym (slice_get-map place_of js i) ∙ ap (λ xs. slice_get xs i) (sym is) ∙ written_at args i
 
-parts_are : (parts : List CodeArgument) (js : List Argument) (i : ℕ) → parts ≡ map part_of js → option_map told (slice_get js i) ≡ slice_get parts i
+parts_are : (parts : List CodeArgument) (js : List Argument) (i : ℕ) → parts ≡ map part_of js → option_map part_of (slice_get js i) ≡ slice_get parts i
 parts_are parts js i is = sym (slice_get-map part_of js i) ∙ ap (λ xs. slice_get xs i) (sym is)
 
 none_there : (g : Option Argument) (f : Argument → Span × Expr) → option_map f g ≡ None → g ≡ None
