@@ -92,6 +92,9 @@ acts_alone setting (deletion root path) body other vs store = refl
 acts_alone setting (existence root path) body other vs store = refl
 acts_alone setting nothing_called body other vs store = refl
 
+body_unused : (setting : SettingTree) (callee : Callee) (body other : Body) (given : Ended) → on_value given (λ vs after. acts setting callee body (items_in vs) after) ≡ on_value given (λ vs after. acts setting callee other (items_in vs) after)
+body_unused setting callee body other given = λ i. on_value given (λ vs after. acts_alone setting callee body other (items_in vs) after i)
+
 -- ---- forms
 
 mutual
@@ -119,7 +122,7 @@ mutual
       ∙ ap (if_asked asked) (both_same names t u ok err (first_tag tags) is to _ _ ∙ ap (λ m. both_assigned t u (first_tag tags) m.outcome m.store) (expr_means setting part store))
   form_means setting (a_call {tags = tags} {asked = asked} {name = name} {bang = bang} {gs = gs} {c = c} is args) store =
       ap (if_asked asked) (ap (banged_if bang) ((λ i. on_value (args_mean setting args [] store i) (λ vs after. acts setting (is.same i) no_body (items_in vs) after))
-      ∙ (λ i. on_value (eval_args setting tags gs [] store) (λ vs after. acts_alone setting (callee_of name gs c) no_body (eval_body setting (behind_args gs tags) c) (items_in vs) after i))))
+      ∙ body_unused setting (callee_of name gs c) no_body (eval_body setting (behind_args gs tags) c) (eval_args setting tags gs [] store)))
   form_means setting (a_return {asked = asked} part) store = ap (if_asked asked) (ap (λ m. on_value m (λ v after. ends (returned v) after)) (expr_means setting part store))
   form_means setting a_bare_abort store = refl
   form_means setting (an_abort {asked = asked} part) store = ap (if_asked asked) (ap (λ m. on_value m (λ v after. ends (aborted_with v) after)) (expr_means setting part store))

@@ -130,7 +130,7 @@ kept_is count before after is = record {
 }
 
 -- the names of a closure
-AreHeld : ℕ → Values → Type 0
+abbrev AreHeld : ℕ → Values → Type 0
 AreHeld count values = (x : List ℕ) → IfSome (finite.get values x) (IsWellFormed count)
 
 bound_one : (count : ℕ) (skipped : Bool) (x : List ℕ) (v : Tree) (store : Store) → IsWellFormed count v → IsWellFormedStore count store → IsWellFormedStore count (if skipped then store else with_value (Name x) v store)
