@@ -13,9 +13,10 @@ use Rattle.vrl_run.specs.Request.{IsSame, MayCome, Request, bad_script, bad_word
 use Rattle.vrl_run.specs.Status.{ComesOfRefusal, IsAnswer, meaning_of}
 use Rattle.vrl_run.specs.declared.status.Status.{Status}
 use Rattle.vrl_run.specs.declared.status.Status.TheVariants.{ReadFault}
+use Rattle.vrl_token.specs.Placing.{script_limit}
 use Rattle.vrl_token.specs.Reading.{IsNoScript}
 use Rattle.vrl_value.specs.declared.memory.Memory.{Memory as WantOfMemory}
-use Rattle.remap_tool.specs.Request.{Held, Asks, AsksByScript, IsAccepted, IsLoadFailed, IsScriptAccepted, IsScriptAnswer, IsTextOfCall, has_error, script_limit}
+use Rattle.remap_tool.specs.Request.{Held, Asks, AsksByScript, IsAccepted, IsLoadFailed, IsScriptAccepted, IsScriptAnswer, IsTextOfCall, has_error}
 use Rattle.remap_tool.specs.Words.{Command, usage, script}
 
 -- a question that has this request has each that is the same

@@ -4,6 +4,7 @@ use Rattle.vrl_value.specs.Tree.{Tree, is_object}
 use Rattle.vrl_diag.specs.declared.diagnostic.Diagnostic.{Diagnostic}
 use Rattle.vrl_json.specs.Line.{reading_of, whole}
 use Rattle.vrl_syntax.specs.Tree.{Script}
+use Rattle.vrl_token.specs.Placing.{script_limit}
 use Rattle.vrl_token.specs.Reading.{IsNoScript}
 use Rattle.vrl_token.specs.declared.token.Spanned.{Spanned}
 use Rattle.vrl_judge.specs.Ordered.{AreOrdered}
@@ -25,10 +26,6 @@ use Rattle.remap_tool.specs.Words.{Command, usage, script}
 -- what a store may tell: the bytes that a name holds
 abbrev pub Held : Type 0
 Held = Option (List ℕ → Option (List ℕ))
-
--- a script has at most this many bytes
-abbrev pub script_limit : ℕ
-script_limit = 65536
 
 -- The bytes of a call's script. Words that are refused name none. Where the store tells what it holds, they are what it holds under the name, and no more of it than
 -- one byte over the limit; a name that holds nothing has none.

@@ -10,7 +10,7 @@ use vrl_value::Memory;
 
 /// What is wrong with a script, whether or not it is accepted.
 fn diagnostics_of(alloc: Global, text: &str) -> Result<Diagnostics, Memory>
-    requires { length text.now ≤ SCRIPT_LIMIT }
+    requires { length text.now ≤ 65536 }
 {
     match compile(alloc, text, &Kind::any(alloc)?)? {
         Compiled::Accepted(accepted) => {
@@ -39,7 +39,7 @@ fn expect_codes(
 
 /// Whether a script is accepted without a warning.
 fn is_accepted(alloc: Global, text: &str) -> Result<bool, Memory>
-    requires { length text.now ≤ SCRIPT_LIMIT }
+    requires { length text.now ≤ 65536 }
 {
     match compile(alloc, text, &Kind::any(alloc)?)? {
         Compiled::Accepted(accepted) => Ok(accepted.judged.diagnostics.as_slice().is_empty()),

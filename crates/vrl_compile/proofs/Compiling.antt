@@ -9,14 +9,14 @@ use Rattle.vrl_diag.specs.declared.diagnostic.Span.{Span}
 use Rattle.vrl_kind.specs.KindTree.{KindTree}
 use Rattle.vrl_syntax.specs.Limits.{KeepsLimits}
 use Rattle.vrl_syntax.specs.Tree.{Script}
-use Rattle.vrl_token.specs.Reading.{IsTokenized, IsWrong, lexical_codes}
+use Rattle.vrl_token.specs.Reading.{IsTokenized, IsTextFault, lexical_codes}
 use Rattle.vrl_token.specs.OnFault.{OnFault}
 use Rattle.vrl_token.specs.declared.fault.SyntaxFault.{SyntaxFault}
 use Rattle.vrl_token.specs.declared.fault.SyntaxFault.TheVariants.{Fault, Memory}
 use Rattle.vrl_token.specs.declared.token.Spanned.{Spanned}
 use Rattle.vrl_pattern.specs.Malformed.{is_malformed}
 use Rattle.vrl_word.specs.Words.{regex_of}
-use Rattle.vrl_parse.specs.Reading.{IsWrong as IsWrongScript, no_script, parse_codes, path_fault}
+use Rattle.vrl_parse.specs.Reading.{IsScriptFault, no_script, parse_codes, path_fault}
 use Rattle.vrl_diag.specs.Refusal.{is_error}
 use Rattle.vrl_judge.specs.Rules.{Judgement}
 use Rattle.vrl_check.specs.Judgement.{JudgesScript}
@@ -36,7 +36,7 @@ use Rattle.vrl_word.specs.Built.{are_built}
 listed_is_error : (listed : List ℕ) (d : Diagnostic) → list_all (λ n. not (n == 651)) listed ≡ true → Contains listed d.code → list_any is_error (d ∷ []) ≡ true
 listed_is_error listed d all among = or_left _ _ (subst (λ n. not (n == 651) ≡ true) among.2 (AllPass-from_list_all (λ n. not (n == 651)) listed all among.0 d.code among.1))
 
-refused_text : (text : List ℕ) (fault : Diagnostic) → IsWrong text fault → Contains lexical_codes fault.code → (declared : KindTree) → IsRefused declared text (fault ∷ [])
+refused_text : (text : List ℕ) (fault : Diagnostic) → IsTextFault text fault → Contains lexical_codes fault.code → (declared : KindTree) → IsRefused declared text (fault ∷ [])
 refused_text text fault is among declared = record { are = wrong fault is refl; error = listed_is_error lexical_codes fault refl among }
 
 unread_diagnostic : (fault : Diagnostic) → fault.code ≡ 203 → (fault ∷ []) ≡ unread_at fault.span
@@ -44,18 +44,18 @@ unread_diagnostic fault is =
     let made : ℕ → Diagnostic = λ code. record { code = code; span = fault.span } in
     ap (λ code. made code ∷ []) is
 
-refused_tokens : (text : List ℕ) (tokens : List Spanned) (fault : Diagnostic) → IsTokenized text tokens → IsWrongScript tokens fault → Contains parse_codes fault.code → (declared : KindTree) → IsRefused declared text (fault ∷ [])
+refused_tokens : (text : List ℕ) (tokens : List Spanned) (fault : Diagnostic) → IsTokenized text tokens → IsScriptFault tokens fault → Contains parse_codes fault.code → (declared : KindTree) → IsRefused declared text (fault ∷ [])
 refused_tokens text tokens fault tokenized (no_script is none) among declared =
     record { are = unread fault.span (record { tokens = tokens; tokenized = tokenized; unread = none }) (unread_diagnostic fault is); error = listed_is_error parse_codes fault refl among }
 refused_tokens text tokens fault tokenized (path_fault {s} {ds} reads faults) among declared =
     record { are = of_script tokens s (record { tokenized = tokenized; reads = reads }) (beyond fault ds faults refl); error = listed_is_error parse_codes fault refl among }
 
 -- the same of a fault that is handed on
-pub text_fault : (text : List ℕ) (f : SyntaxFault) → OnFault (IsWrong text) f → OnFault (λ d. Contains lexical_codes d.code) f → OnFault (λ d. (declared : KindTree) → IsRefused declared text (d ∷ [])) f
+pub text_fault : (text : List ℕ) (f : SyntaxFault) → OnFault (IsTextFault text) f → OnFault (λ d. Contains lexical_codes d.code) f → OnFault (λ d. (declared : KindTree) → IsRefused declared text (d ∷ [])) f
 text_fault text (Fault d) is among = refused_text text d is among
 text_fault text Memory is among = tt
 
-pub tokens_fault : (text : List ℕ) (tokens : List Spanned) (f : SyntaxFault) → IsTokenized text tokens → OnFault (IsWrongScript tokens) f → OnFault (λ d. Contains parse_codes d.code) f → OnFault (λ d. (declared : KindTree) → IsRefused declared text (d ∷ [])) f
+pub tokens_fault : (text : List ℕ) (tokens : List Spanned) (f : SyntaxFault) → IsTokenized text tokens → OnFault (IsScriptFault tokens) f → OnFault (λ d. Contains parse_codes d.code) f → OnFault (λ d. (declared : KindTree) → IsRefused declared text (d ∷ [])) f
 tokens_fault text tokens (Fault d) tokenized is among = refused_tokens text tokens d tokenized is among
 tokens_fault text tokens Memory tokenized is among = tt
 

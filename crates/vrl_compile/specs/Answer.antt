@@ -7,7 +7,7 @@ use Rattle.vrl_diag.specs.declared.diagnostic.Diagnostic.{Diagnostic}
 use Rattle.vrl_diag.specs.declared.diagnostic.Span.{Span}
 use Rattle.vrl_syntax.specs.Tree.{Script}
 use Rattle.vrl_syntax.specs.Limits.{exprs_faults, KeepsLimits}
-use Rattle.vrl_token.specs.Reading.{IsTokenized, IsWrong}
+use Rattle.vrl_token.specs.Reading.{IsTokenized, IsTextFault}
 use Rattle.vrl_token.specs.declared.token.Spanned.{Spanned}
 use Rattle.vrl_parse.specs.Reading.{Reads}
 use Rattle.vrl_word.specs.Words.{regex_of}
@@ -88,7 +88,7 @@ pub data AreOfScript (declared : KindTree) (tokens : List Spanned) (script : Scr
 -- the diagnostics of a text
 pub data AreDiagnostics (declared : KindTree) (text : List ℕ) (diagnostics : List Diagnostic) : Type 0 where
   -- a spelling is at fault, or tokens are nested too deeply (1008)
-  wrong : (fault : Diagnostic) → IsWrong text fault → diagnostics ≡ fault ∷ [] → AreDiagnostics declared text diagnostics
+  wrong : (fault : Diagnostic) → IsTextFault text fault → diagnostics ≡ fault ∷ [] → AreDiagnostics declared text diagnostics
   -- the grammar reads no script. Of this one diagnostic the place isn't told
   unread : (span : Span) → IsUngrammatical text → diagnostics ≡ unread_at span → AreDiagnostics declared text diagnostics
   of_script : (tokens : List Spanned) (script : Script) → IsScript text tokens script → AreOfScript declared tokens script diagnostics → AreDiagnostics declared text diagnostics

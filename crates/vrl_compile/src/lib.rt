@@ -7,7 +7,8 @@ mod script;
 mod soundness;
 
 pub use reading::{diagnostics_are_determined, scripts_have_one_reading};
-pub use script::{Accepted, Compiled, SCRIPT_LIMIT, compile};
+pub use script::{Accepted, Compiled, compile};
 pub use soundness::{accepted_scripts_are_sound, expressions_are_sound, scripts_are_sound};
 pub use vrl_diag::{Diagnostic, Diagnostics, Span};
 pub use vrl_resolve::Program;
+pub use vrl_token::SCRIPT_LIMIT;

@@ -28,9 +28,6 @@ use vrl_token::{SyntaxFault, Tokens, tokens};
 use vrl_value::{Memory, Names};
 use vrl_word::are_built;
 
-/// The most bytes of a script.
-pub const SCRIPT_LIMIT: usize = 65_536;
-
 /// An accepted script, and what was found out about it.
 #[derive(Drop)]
 pub struct Accepted {
