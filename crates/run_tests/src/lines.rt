@@ -10,6 +10,7 @@ use vrl_batch::{Line, LineOut, Outcome};
 use vrl_kind::Kind;
 use vrl_resolve::Program;
 use vrl_run::{Options, run_line};
+use vrl_tests::shareable;
 use vrl_value::{Bytes, Memory, Moment, Names};
 
 // A script, the options (`drop` an event over which it fails, `keep` one over which it aborts), a line's number and text (`long` is a line
@@ -42,7 +43,7 @@ fn line_of(alloc: Global, number: u64, text: &str) -> Result<Line, Memory> {
     })
 }
 
-// What is made of a line.
+// What is made of a line. What goes into it and comes of it may be sent to and shared by threads.
 fn made_of(
     alloc: Global,
     program: &Program,
@@ -53,9 +54,10 @@ fn made_of(
     requires sources { sources.now ≡ (program_of program.now).sources }
     requires handled { HandlesErrors declared.now (program_of program.now) }
 {
-    let options = options_of(row.1);
-    let line = line_of(alloc, row.2, row.3)?;
-    run_line(alloc, program, sources, declared, &options, &line)
+    let options = shareable(options_of(row.1));
+    let line = shareable(line_of(alloc, row.2, row.3)?);
+    let made = run_line(alloc, program, sources, declared, &options, &line)?;
+    Ok(shareable(made))
 }
 
 // What is made of a row's line by its script. `None`: the script isn't accepted.
