@@ -1,3 +1,4 @@
+pub mod AllFunctions
 pub mod BuiltCalls
 pub mod Compiling
 pub mod Determined

@@ -1,4 +1,5 @@
 pub mod Answer
+pub mod Functions
 pub mod Literals
 pub mod Program
 pub mod Reading
