@@ -1,4 +1,6 @@
 //! `remap SCRIPT < events.jsonl`: runs a script over lines of JSON.
+//!
+//! Files: `main.rt` has `main`, which calls `remap` (`tool.rt`) and ends with the number of its status; `words.rt` says which script the words name.
 #![tactic(auto)]
 
 mod tool;

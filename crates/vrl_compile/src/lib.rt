@@ -1,4 +1,8 @@
 //! Scripts: what a text says, whether it is accepted, and that what is accepted handles each of its errors.
+//!
+//! Files: `script.rt` has `compile`, step by step, and `literals.rt` the places of malformed regexes. `functions.rt`, `reading.rt` and `soundness.rt` state the laws. That of
+//! soundness is shown by a lemma for each form, which takes that its parts are sound (`proofs/Sound*.antt`), over ways in which one thing follows
+//! another (`SoundEnds`); one block of functions (`SoundAll`) hands the parts' results on.
 #![tactic(auto)]
 
 mod functions;

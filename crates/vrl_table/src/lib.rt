@@ -1,5 +1,7 @@
 //! The table of the language's functions: which there are, how a call's arguments are bound to a function's parameters, and the calls of
 //! [`Builtin`](vrl_builtin::Builtin) for the function of a name.
+//!
+//! Files: `function.rt` has [`Fun`] and `lookup`, `binding.rt` has `bind`, and `calls.rt` the calls that go to the function.
 #![tactic(auto)]
 
 mod binding;
