@@ -17,8 +17,8 @@ use std::alloc::Global;
 use vrl_path::Path;
 use vrl_store::{Base, EmptyTags, Place, is_asked_of_item};
 use vrl_syntax::{
-    Args, Arms, Call as SyntaxCall, CallForm, Closure, Expr, Exprs, Form as SyntaxForm, Op, Pairs, Root,
-    Target,
+    Args, Arms, Call as SyntaxCall, CallForm, Closure, Expr, Exprs, Form as SyntaxForm, Op, Pairs,
+    Root, Target,
 };
 use vrl_value::{Chars, Memory, Names, Tag, Value};
 
