@@ -2,6 +2,7 @@ ghost use Rattle.std.specs.Prelude.{◌≡◌, false, IfOk, IfSome};
 ghost use Rattle.vrl_kind.specs.KindTree.{no_fields, json_rest};
 ghost use Rattle.vrl_kind.specs.Make.{object_kind};
 ghost use Rattle.vrl_syntax.specs.Limits.{KeepsLimits};
+ghost use Rattle.vrl_syntax.specs.Tree.{Exprs as Items};
 ghost use Rattle.vrl_syntax.specs.View.{exprs_of};
 ghost use Rattle.vrl_check.specs.Answer.{IsJudged};
 ghost use Rattle.vrl_check.specs.Calls.{exprs_hold_closure_call};
@@ -56,7 +57,7 @@ fn event_kind(alloc: Global) -> Result<Kind, Memory>
 
 // What a script is judged to be over objects of JSON. `None`: it isn't judged.
 fn judged_script(alloc: Global, script: &Script) -> Result<Option<Judged>, Memory>
-    ensures { IfOk result (λ found. IfSome found (λ judged. (j : Judgement) × IsJudged j judged)) }
+    ensures { IfOk result (λ found. IfSome found (λ judged. (items : Items) × (j : Judgement) × IsJudged items j judged)) }
 {
     let faults = limit_faults(alloc, &script.items)?;
     if !faults.as_slice().is_empty() || holds_closure_call(&script.items) {
@@ -78,7 +79,7 @@ fn judged_beside(
     requires calls { exprs_hold_closure_call (exprs_of script.now.items) ≡ false }
     requires limits { KeepsLimits (exprs_of script.now.items) }
     requires patterns { patterns.now ≡ script.now.patterns }
-    ensures { IfOk result (λ found. IfSome found (λ judged. (j : Judgement) × IsJudged j judged)) }
+    ensures { IfOk result (λ found. IfSome found (λ judged. (items : Items) × (j : Judgement) × IsJudged items j judged)) }
 {
     if !regexes_below(&script.items, patterns.sources().len()) {
         return Ok(None);
@@ -90,7 +91,7 @@ fn judged_beside(
 
 // The same of a text.
 fn judged(alloc: Global, text: &str) -> Result<Option<Judged>, Memory>
-    ensures { IfOk result (λ found. IfSome found (λ judged. (j : Judgement) × IsJudged j judged)) }
+    ensures { IfOk result (λ found. IfSome found (λ judged. (items : Items) × (j : Judgement) × IsJudged items j judged)) }
 {
     match script_of(alloc, text)? {
         Some(script) => judged_script(alloc, &script),
@@ -149,7 +150,7 @@ fn push_known(alloc: Global, known: &Known, told: &mut String) -> Result<(), Mem
 
 // The kind of what a script gives, and what is known then.
 fn end_of(alloc: Global, judged: &Judged) -> Result<String, Memory>
-    requires { (j : Judgement) × IsJudged j judged.now }
+    requires { (items : Items) × (j : Judgement) × IsJudged items j judged.now }
 {
     let end = ending(alloc, judged)?;
     let mut told = String::from_str(alloc, print(alloc, &end.kind)?.as_str())?;
@@ -180,12 +181,26 @@ fn empties_of(alloc: Global, judged: &Judged) -> Result<String, Memory> {
     Ok(told)
 }
 
+// What is known where each closure was judged last: `dead,` for one where nothing is.
+fn loops_of(alloc: Global, judged: &Judged) -> Result<String, Memory> {
+    let mut told = String::new(alloc);
+    for known in judged.loops.as_slice() {
+        let word = match known {
+            Known::Dead => "dead,",
+            Known::Alive(_roots) => "alive,",
+        };
+        told.push_str(word)?;
+    }
+    Ok(told)
+}
+
 // What is told of a script.
 #[derive(Clone, Copy)]
 pub(crate) enum Asked {
     Codes,
     End,
     Empties,
+    Loops,
 }
 
 fn told_of(alloc: Global, asked: Asked, text: &str) -> Result<String, Memory> {
@@ -195,6 +210,7 @@ fn told_of(alloc: Global, asked: Asked, text: &str) -> Result<String, Memory> {
             Asked::Codes => codes_of(alloc, &judged, text),
             Asked::End => end_of(alloc, &judged),
             Asked::Empties => empties_of(alloc, &judged),
+            Asked::Loops => loops_of(alloc, &judged),
         },
     }
 }
@@ -452,4 +468,19 @@ const EMPTIES: [(&str, &str); 12] = [
 #[test]
 fn empty_values(rt: HostRuntime) -> Result<(), Memory> {
     expect(&rt, rt.alloc(), Asked::Empties, &EMPTIES)
+}
+
+const LOOPS: [(&str, &str); 4] = [
+    ("1", ""),
+    ("abs(1) -> |v| { v }", "dead,"),
+    ("abs(abs(1) -> |v| { v }) -> |w| { w }", "dead,dead,"),
+    (
+        "x = { \"a\": abs(1) -> |v| { abs(v) -> |w| { w } } }\nif is_null(x) -> |v| { v } { x = 1 }",
+        "dead,dead,dead,",
+    ),
+];
+
+#[test]
+fn what_is_known_of_closures(rt: HostRuntime) -> Result<(), Memory> {
+    expect(&rt, rt.alloc(), Asked::Loops, &LOOPS)
 }
