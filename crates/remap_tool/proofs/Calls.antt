@@ -44,4 +44,4 @@ words_have_text command is none = absurd (subst (λ c. IsWithoutText c None) is 
 
 -- and a text that was loaded is one
 pub has_text : (command : Command) (name text : List ℕ) {X : Type 0} → command ≡ script name → IsWithoutText command (Some text) → X
-has_text command name text is none = let same = subst (λ c. IsWithoutText c (Some text)) is none in absurd (cc)
+has_text command name text is none = let same : Some text ≡ None = subst (λ c. IsWithoutText c (Some text)) is none in absurd (cc)

@@ -96,4 +96,4 @@ is_refusal determined command name text status is (inr accepted) told diagnostic
 
 -- words that are refused ask for no script
 pub words_refuse_no_script : (command : Command) (status : Status) → command ≡ usage → (told : List ℕ) (diagnostics : List Diagnostic) → Asks command None (bad_script told diagnostics) → ComesOfRefusal status
-words_refuse_no_script command status is told diagnostics asks = let same = subst (λ c. Asks c None (bad_script told diagnostics)) is asks in absurd (cc)
+words_refuse_no_script command status is told diagnostics asks = let same : bad_script told diagnostics ≡ bad_words = subst (λ c. Asks c None (bad_script told diagnostics)) is asks in absurd (cc)

@@ -7,7 +7,7 @@ ghost use Rattle.vrl_run.specs.Events.{event_kind};
 ghost use Rattle.vrl_run.specs.Status.{ComesOfRefusal, IsAnswer, IsOfLines, TellsRefusal};
 ghost use Rattle.remap_tool.specs.Call.{IsCall};
 ghost use Rattle.remap_tool.specs.Laws.{Laws};
-ghost use Rattle.remap_tool.specs.Request.{AcceptedScriptsRunSoundly, AsksByScript, IsAccepted, IsLoadFailed};
+ghost use Rattle.remap_tool.specs.Request.{AcceptedScriptsRunSoundly, AsksByScript, IsAccepted, IsLoadFailed, IsScriptAnswer};
 ghost use Rattle.remap_tool.specs.Words.{command, usage};
 
 use crate::words::script_name;
@@ -15,8 +15,8 @@ use std::alloc::Global;
 use std::thread::Threads;
 use vrl_check::judgements_are_determined;
 use vrl_compile::{
-    Compiled, SCRIPT_LIMIT, accepted_scripts_are_sound, compile, diagnostics_are_determined,
-    scripts_have_one_reading,
+    Compiled, Diagnostics, SCRIPT_LIMIT, accepted_scripts_are_sound, compile,
+    diagnostics_are_determined, scripts_have_one_reading,
 };
 use vrl_io::{Clock, LoadFault, Sink, Source, Store};
 use vrl_json::{json_needs_no_sources, lines_are_json, lines_are_ordered};
@@ -143,17 +143,10 @@ fn run_script<S: Source, O: Sink, E: Sink, C: Clock>(
     ensures write_told { (result ≡ Status.WriteFault)
         ⊎ ((O.faults output.new ≡ O.faults output.old) × (E.faults report.new ≡ E.faults report.old)) }
 {
-    let script = match script_text(text) {
-        Ok(script) => script,
-        Err(fault) => {
-            let request = Request::Refused(text, &[fault]);
-            return answer(alloc, &request, input, output, report, clock);
-        }
-    };
     let Ok(declared) = event_kind(alloc) else {
         return Status::Memory;
     };
-    match compile(alloc, script, &declared) {
+    match compile_bytes(alloc, text, &declared) {
         Ok(Compiled::Accepted(accepted)) => {
             accepted_scripts_are_sound();
             let request = Request::Run(Script {
@@ -181,4 +174,15 @@ fn event_kind(alloc: Global) -> Result<Kind, Memory>
     let kind = Kind::object(alloc, Vec::new(alloc), Rest::Json)?;
     kind_is_canonical(&kind);
     Ok(kind)
+}
+
+// What the bytes of a script are: a text of at most the limit is compiled, and anything else is refused.
+fn compile_bytes(alloc: Global, bytes: &[u8], declared: &Kind) -> Result<Compiled, Memory>
+    requires { declared.now ≡ event_kind }
+    ensures { IfOk result (IsScriptAnswer bytes.now) }
+{
+    match script_text(bytes) {
+        Ok(text) => compile(alloc, text, declared),
+        Err(fault) => Ok(Compiled::Refused(Diagnostics::new(vec![in alloc; fault]?))),
+    }
 }

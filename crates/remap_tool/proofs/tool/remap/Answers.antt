@@ -13,9 +13,8 @@ pub returns-in-Ok-clause-call : goal.returns-in-Ok-clause-call
 returns-in-Ok-clause-call g c =
     let is = c.in-Some.ensures in
     let text = c.in-Ok.script in
-    let run = rw c.as_slice.ensures at c.run_script.ensures in
-    is_call c.laws.ensures c.accepted_run_soundly.ensures _ _ (Some text) _ _ _ (text_loaded _ _ c.in-Some.name.now text is c.in-Ok.ensures.bytes) (leaves-by _ _ _ _ _ (asks_named _ c.in-Some.name.now text is) run.devices)
-    (is_refusal c.laws.ensures.diagnostics _ c.in-Some.name.now text _ is run.refused) (has_text _ c.in-Some.name.now text is) (accepted_named _ c.in-Some.name.now text is run.accepted_first)
+    is_call c.laws.ensures c.accepted_run_soundly.ensures _ _ (Some text) _ _ _ (text_loaded _ _ c.in-Some.name.now text is c.in-Ok.ensures.bytes) (leaves-by _ _ _ _ _ (asks_named _ c.in-Some.name.now text is) (rw c.as_slice.ensures at c.run_script.ensures.devices))
+    (is_refusal c.laws.ensures.diagnostics _ c.in-Some.name.now text _ is (rw c.as_slice.ensures at c.run_script.ensures.refused)) (has_text _ c.in-Some.name.now text is) (accepted_named _ c.in-Some.name.now text is (rw c.as_slice.ensures at c.run_script.ensures.accepted_first))
 
 pub returns-in-Err-Failed-clause-call : goal.returns-in-Err-Failed-clause-call
 returns-in-Err-Failed-clause-call g c = is_unloaded c.laws.ensures c.accepted_run_soundly.ensures _ _ _ _ (inl refl) (refl, refl)
