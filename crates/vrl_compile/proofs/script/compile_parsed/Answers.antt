@@ -26,7 +26,7 @@ returns-in-Ok c = λ text is.
     (record { limits = c.requires.limits; built = ap are_built (sym c.as_slice.ensures) ∙ sym c.are_built.ensures ∙ c.if-not-are_built.false; well_formed = c.in-Ok.ensures.formed })
     (subst (λ sources. JudgesScript (language_rules sources) c.args.declared.now (exprs_of c.args.parsed.script.items) judged.0) c.in-Ok.ensures.sources judged.1) judged.2
 
-pub returns-in-Err : goal.returns-in-Err
-returns-in-Err c = λ text is.
+pub returns : goal.returns
+returns c = λ text is.
     refused_for c.args.declared.now text c.args.parsed.tokens.tokens (script_of c.args.parsed.script) c.in-Err.fault c.refused_literals.result c.refused_literals.ensures c.in-Err.ensures.malformed is c.requires.limits
     (ap are_built (sym c.as_slice.ensures) ∙ sym c.are_built.ensures ∙ c.if-not-are_built.false)
