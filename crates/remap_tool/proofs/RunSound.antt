@@ -1,5 +1,5 @@
 -- A script that was accepted handles each of its errors over each event.
-use Rattle.std.proofs.Common.{◌≡◌, ℕ, ℤ, List, Option, Some, None, IsTrue, length, sym, subst}
+use Rattle.std.proofs.Common.{◌≡◌, ℕ, ℤ, List, Option, Some, None, length, sym, subst}
 use Rattle.vrl_value.specs.Tree.{Tree}
 use Rattle.vrl_diag.specs.declared.diagnostic.Diagnostic.{Diagnostic}
 use Rattle.vrl_kind.specs.Kinds.{Inhabits}

@@ -22,6 +22,18 @@ returns-in-Err-Failed-clause-call g c = is_unloaded c.laws.ensures c.accepted_ru
 pub returns-in-Err-Memory-clause-call : goal.returns-in-Err-Memory-clause-call
 returns-in-Err-Memory-clause-call g c = is_unloaded c.laws.ensures c.accepted_run_soundly.ensures _ _ _ _ (inr refl) (refl, refl)
 
+pub returns-in-None-clause-sound : goal.returns-in-None-clause-sound
+returns-in-None-clause-sound g c = c.accepted_run_soundly.ensures
+
+pub returns-in-Ok-clause-sound : goal.returns-in-Ok-clause-sound
+returns-in-Ok-clause-sound g c = c.accepted_run_soundly.ensures
+
+pub returns-in-Err-Failed-clause-sound : goal.returns-in-Err-Failed-clause-sound
+returns-in-Err-Failed-clause-sound g c = c.accepted_run_soundly.ensures
+
+pub returns-in-Err-Memory-clause-sound : goal.returns-in-Err-Memory-clause-sound
+returns-in-Err-Memory-clause-sound g c = c.accepted_run_soundly.ensures
+
 pub returns-in-None-clause-load_fault : goal.returns-in-None-clause-load_fault
 returns-in-None-clause-load_fault g c failed = absurd (usage_loads_nothing _ _ _ c.in-None.ensures failed)
 
