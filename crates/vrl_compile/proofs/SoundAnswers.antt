@@ -2,6 +2,7 @@
 use Rattle.std.proofs.Common.{◌≡◌, ℕ, List, [], Option, Some, None, Result, Ok, Err, IfOk, inl, inr, length, refl, sym, ap, ◌∙◌, subst}
 use Rattle.vrl_value.specs.declared.memory.Memory.{Memory as WantOfMemory}
 use Rattle.vrl_kind.specs.KindTree.{KindTree}
+use Rattle.vrl_syntax.specs.Tree.{Exprs}
 use Rattle.vrl_state.specs.Laws.{EitherHoldsBoth, JoinsKeepFits}
 use Rattle.vrl_state.specs.States.{IsEither, IsJoined, RootMap}
 use Rattle.vrl_state.specs.Stores.{Store}
