@@ -1,7 +1,7 @@
 -- What the parts of a kind allow, as its tree says it, is what stands behind some step.
-use Rattle.std.proofs.Common.{◌≡◌, inl, inr, ◌+◌, ℕ, zero, suc, Bool, true, false, ◌||◌, ◌&&◌, not, List, [], ◌∷◌, Option, Some, None, IsTrue, IfSome, refl, sym, ap, ◌∙◌, subst, length, arith}
+use Rattle.std.proofs.Common.{◌≡◌, inl, inr, ◌+◌, ℕ, zero, suc, Bool, true, false, ◌||◌, not, List, [], ◌∷◌, Option, Some, None, IsTrue, IfSome, refl, sym, ap, ◌∙◌, subst, length, arith}
 use Rattle.std.specs.List.{list_any}
-use Rattle.vrl_value.specs.Look.{Step, field, place, Found, part_at, there, raw_at, tag_found, found_behind}
+use Rattle.vrl_value.specs.Look.{Step, field, place, Found, there, raw_at, tag_found, found_behind}
 use Rattle.vrl_value.specs.Tag.{tag_of}
 use Rattle.vrl_value.specs.Tree.{Tree}
 use Rattle.vrl_value.specs.declared.value.Tag.{Tag}
@@ -9,9 +9,8 @@ use Rattle.vrl_value.specs.declared.value.Tag.TheVariants as tag
 use Rattle.vrl_kind.specs.KindTree.{KindTree, kind, ListTree, no_list, list_part, ObjectTree, no_object, object_part, RestTree, Places, no_places, known_place, KnownFields, no_fields, known_field}
 use Rattle.vrl_kind.specs.declared.scalars.Scalars.{Scalars}
 use Rattle.vrl_kind.specs.Canonical.{rest_kind, field_or}
-use Rattle.vrl_kind.specs.Kinds.{tags_at, list_at, object_at, places_at, fields_at, rest_at, is_absence, Inhabits, IsParts}
+use Rattle.vrl_kind.specs.Kinds.{tags_at, list_at, object_at, places_at, fields_at, rest_at, is_absence}
 use Rattle.vrl_kind.specs.PartSets.{known_places_at, all_places_at, names_of, all_fields_at, parts_at, PartsAreTold, PartsAreComputed, PartsAreAllowed}
-use Rattle.vrl_kind.specs.Sets.{SameSets}
 use Rattle.vrl_kind.specs.Tags.{Tags}
 use Rattle.vrl_kind.proofs.Found.{there_at}
 use Rattle.vrl_kind.proofs.Gathering.{HasName, known_name, and_from, and_both}

@@ -1,12 +1,11 @@
 -- A tree is of a kind where the test by cases on the tree says so.
-use Rattle.std.proofs.Common.{◌≡◌, inl, inr, ℕ, zero, suc, Bool, true, false, ◌&&◌, List, [], ◌∷◌, Option, Some, None, nat_cmp, is_eq, IsTrue, refl, sym, ap, ◌∙◌, subst}
+use Rattle.std.proofs.Common.{◌≡◌, inl, inr, ℕ, zero, suc, Bool, true, false, List, [], ◌∷◌, Option, Some, None, nat_cmp, is_eq, IsTrue, refl, sym, ap, ◌∙◌, subst}
 use Rattle.std.proofs.lemmas.Cmp.{nat_list_cmp_total, tied_itself}
 use Rattle.std.specs.Cmp.Lexicographic.{slice_cmp}
 use Rattle.std.specs.List.{list_all}
-use Rattle.vrl_value.specs.Look.{item_at}
 use Rattle.vrl_value.specs.Tree.{Tree, string, integer, boolean, null, timestamp, regex, array, object, Items, no_items, item, Members, no_members, member, find}
 use Rattle.vrl_kind.specs.KindTree.{KindTree, kind, no_list, list_part, no_object, object_part, RestTree, any_rest, Places, no_places, known_place, KnownFields, no_fields, known_field}
-use Rattle.vrl_kind.specs.Canonical.{allows_absent, rest_kind, place_or, field_or}
+use Rattle.vrl_kind.specs.Canonical.{allows_absent, rest_kind, field_or}
 use Rattle.vrl_kind.specs.Kinds.{Inhabits}
 use Rattle.vrl_kind.specs.Membership.{PartInhabits, ItemsInhabit, MembersInhabit}
 use Rattle.vrl_kind.specs.PartSets.{names_of}
