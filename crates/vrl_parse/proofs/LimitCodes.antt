@@ -7,7 +7,7 @@ use Rattle.vrl_diag.specs.declared.diagnostic.Diagnostic.{Diagnostic}
 use Rattle.vrl_diag.specs.declared.diagnostic.Span.{Span}
 use Rattle.vrl_syntax.specs.Limits.{expr_faults, form_faults, exprs_faults, pairs_faults, arms_faults, else_faults, args_faults, closure_faults, message_faults, target_faults, path_faults}
 use Rattle.vrl_syntax.specs.Tree.{Expr, expr, Form, literal, array, object, read, query, group, block, conditional, negation, binary, assign, merge, both, call, return_of, abort_with, Exprs, no_exprs, exprs, Pairs, no_pairs, pair, Arms, no_arms, arm, Else, no_else, else_block, Args, no_args, arg, Closure, no_closure, closure, Message, no_message, message}
-use Rattle.vrl_syntax.specs.Written.{is_del}
+use Rattle.vrl_syntax.specs.Calls.{is_del}
 use Rattle.vrl_syntax.specs.declared.root.Target.{Target}
 use Rattle.vrl_syntax.specs.declared.root.Target.TheVariants as target
 use Rattle.vrl_token.specs.declared.token.Spanned.{Spanned}

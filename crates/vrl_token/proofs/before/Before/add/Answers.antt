@@ -1,5 +1,5 @@
 use Rattle.std.proofs.Common.{subst}
-use Rattle.vrl_token.specs.Brackets.{closes, open_behind, opened, with_bracket}
+use Rattle.vrl_token.specs.Brackets.{open_behind, opened, with_bracket}
 use Rattle.vrl_token.specs.Telling.{IsOpen}
 use Rattle.vrl_token.proofs.before.Before.add.Goals as goal
 
