@@ -1,11 +1,17 @@
 -- The roots that a part of a script writes: those of its assignments' targets, and those of the paths and names that it deletes
 -- with `del`. What stands in a block, an argument or a closure inside counts too.
-use Rattle.std.specs.Prelude.{List, [], ◌∷◌, ◌++◌, if◌then◌else◌}
+use Rattle.std.specs.Prelude.{List, [], ◌∷◌, ◌++◌, Option, Some, None, if◌then◌else◌}
+use Rattle.vrl_path.specs.declared.path.Step.{Step}
 use Rattle.vrl_syntax.specs.Tree.{Expr, expr, Form, literal, array, object, read, query, group, block, conditional, negation, binary, assign, merge, both, call, return_of, abort_with, Exprs, no_exprs, exprs, Pairs, no_pairs, pair, Arms, no_arms, arm, Else, no_else, else_block, Args, no_args, arg, Closure, no_closure, closure, Message, no_message, message}
 use Rattle.vrl_syntax.specs.Calls.{is_del}
 use Rattle.vrl_syntax.specs.declared.root.Root.{Root}
 use Rattle.vrl_syntax.specs.declared.root.Target.{Target}
 use Rattle.vrl_syntax.specs.declared.root.Target.TheVariants.{Nowhere, Place}
+
+-- where a target writes; `_` writes nowhere
+abbrev pub target_path : Target → Option (Root × List Step)
+target_path Nowhere = None
+target_path (Place span root path) = Some (root, path)
 
 abbrev pub target_roots : Target → List Root
 target_roots Nowhere = []

@@ -1,4 +1,5 @@
 ghost use Rattle.std.specs.Prelude.{◌≡◌, IfOk};
+ghost use Rattle.vrl_syntax.specs.Written.{target_path};
 
 use std::alloc::Global;
 use vrl_diag::Span;
@@ -41,6 +42,18 @@ pub enum Target {
     Nowhere,
     /// At this path from this root. The span is that of the path.
     Place(Span, Root, Path),
+}
+
+impl Target {
+    /// The root and the path that it writes at. `None`: it is nowhere.
+    pub fn into_place(self) -> Option<(Root, Path)>
+        ensures { result ≡ target_path self }
+    {
+        match self {
+            Target::Nowhere => None,
+            Target::Place(_span, root, path) => Some((root, path)),
+        }
+    }
 }
 
 // Written out, so that a target is let go by one call.

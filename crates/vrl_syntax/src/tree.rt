@@ -1,7 +1,8 @@
 ghost use Rattle.std.specs.Prelude.{◌≡◌, option_map};
 ghost use Rattle.vrl_value.specs.View.{tree_of};
 ghost use Rattle.vrl_syntax.specs.Calls.{literal_of, path_of};
-ghost use Rattle.vrl_syntax.specs.View.{args_of, args_view, arms_of, arms_view, expr_of, exprs_of, exprs_view, pairs_of, pairs_view};
+ghost use Rattle.vrl_syntax.specs.Tree.{expr};
+ghost use Rattle.vrl_syntax.specs.View.{args_of, args_view, arms_of, arms_view, expr_of, exprs_of, exprs_view, form_of, pairs_of, pairs_view};
 
 use crate::root::{Op, Root, Target};
 use vrl_diag::Span;
@@ -27,6 +28,14 @@ impl Drop for Expr {
 }
 
 impl Expr {
+    /// What it is, without its place.
+    pub fn into_form(self) -> Form
+        ensures { expr_of self ≡ expr self.span (form_of result) }
+    {
+        let Expr { span: _, form } = self;
+        form
+    }
+
     /// The value of a literal that isn't in parentheses. `None`: it is none.
     pub fn as_literal(&self) -> Option<&Value>
         ensures { option_map (λ value. tree_of value.now) result ≡ literal_of (expr_of self.now) }
