@@ -611,4 +611,4 @@ language_decides : (sources : List (List ℕ)) → HaveOneTag (language_rules so
 language_decides sources K t u is too = sym (one_tag_alone (words.empty_tag K) t is) ∙ one_tag_alone (words.empty_tag K) u too
 
 pub one_judgement_each : EqualTagsAreOneKind → FunctionsAreFound → JudgementsAreDetermined
-one_judgement_each kinds names = record { script = one_script kinds names; language = language_decides }
+one_judgement_each kinds names = record { script = one_script kinds names; kind = λ K L M N. one_cut kinds refl; join = one_join_of kinds; language = language_decides }

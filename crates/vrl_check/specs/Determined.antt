@@ -5,7 +5,7 @@ use Rattle.std.specs.List.{list_any}
 use Rattle.vrl_diag.specs.Refusal.{is_error}
 use Rattle.vrl_diag.specs.declared.diagnostic.Span.{Span}
 use Rattle.vrl_kind.specs.KindTree.{KindTree}
-use Rattle.vrl_state.specs.States.{RootMap}
+use Rattle.vrl_state.specs.States.{IsEither, IsJoined, RootMap}
 use Rattle.vrl_syntax.specs.ErrorAssignments.{in_expr, in_exprs}
 use Rattle.vrl_syntax.specs.Tree.{Expr, Exprs, Form}
 use Rattle.vrl_judge.specs.Rules.{Judgement}
@@ -16,6 +16,9 @@ pub record JudgementsAreDetermined : Type 0 where
   -- two judgements of a script over events of one kind are the same, where each kind has one empty value. A call of a function that takes
   -- a closure has no judgement where it is reached, nor has its script
   pub script : (rules : OpenRules) → HaveOneTag rules → (start : KindTree) (items : Exprs) (j k : Judgement) → JudgesScript rules start items j → JudgesScript rules start items k → j ≡ k
+  -- and what it may end with is: the kind that joins two, and what is known behind two ways
+  pub kind : (K L M N : KindTree) → IsEither K L M → IsEither K L N → M ≡ N
+  pub join : (a b c d : Option RootMap) → IsJoined a b c → IsJoined a b d → c ≡ d
   -- it has by the rules of the language
   pub language : (sources : List (List ℕ)) → HaveOneTag (language_rules sources)
 
