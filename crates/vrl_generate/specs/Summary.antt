@@ -1,5 +1,5 @@
 -- The summary of the results of lines: what is counted of them, and the digest of what would be written.
-use Rattle.std.specs.Prelude.{◌≡◌, ◌≤◌, ◌*◌, ◌^◌, ◌<◌, ℕ, Bool, true, false, List, [], ◌∷◌, ◌++◌, length, codes, decimal, sum_by, count_by}
+use Rattle.std.specs.Prelude.{◌≡◌, ◌≤◌, ◌+◌, ◌-◌, ◌*◌, ◌^◌, min, ◌<◌, ℕ, Bool, true, false, List, [], ◌∷◌, ◌++◌, length, codes, decimal, sum_by, count_by}
 use Rattle.std.specs.List.{flat_map, list_any}
 use Rattle.sha2.specs.Sha256.{sha256}
 use Rattle.sha2.specs.Hashers.{Holds256}
@@ -74,6 +74,13 @@ pub record Counts (outs : List LineOut) (summary : Summary) : Type 0 where
   pub message : Holds256 summary.hasher (would_write outs)
   pub written_within : summary.written ≤ length outs * 2 ^ 64
   pub bytes_within : summary.bytes ≤ length outs * 2 ^ 64
+
+-- one result more, by its outcome; a count stands still at its type's end
+abbrev pub CountsOutcome : Outcome → (before after : Summary) → Type 0
+CountsOutcome Fine before after = after ≡ before
+CountsOutcome Errored before after = after ≡ record before { errors = min (before.errors + 1) (2 ^ 64 - 1) }
+CountsOutcome Aborted before after = after ≡ record before { aborted = min (before.aborted + 1) (2 ^ 64 - 1) }
+CountsOutcome Refused before after = after ≡ record before { refused = min (before.refused + 1) (2 ^ 64 - 1) }
 
 -- these are the results that were added to the summary. It counts fewer than 2^64 of them, and no run has more.
 unfoldable pub IsSummaryOf : List LineOut → Summary → Type 0

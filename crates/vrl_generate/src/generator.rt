@@ -1,4 +1,4 @@
-ghost use Rattle.std.specs.Prelude.{◌≡◌, ◌≤◌, IfOk, OnErr};
+ghost use Rattle.std.specs.Prelude.{◌≡◌, ◌≤◌, IfOk, OnErr, length};
 ghost use Rattle.vrl_generate.specs.Made.{made_lines, IsNext};
 
 use crate::made::{line_from, state_after};
@@ -34,7 +34,8 @@ impl Generator {
     /// So many lines, at most 1,000,000, that are made from this seed.
     pub fn new(count: u64, seed: u64) -> Generator
         requires { count ≤ 1000000 }
-        ensures { result ≡ made_lines count seed }
+        ensures lines { result ≡ made_lines count seed }
+        ensures count { length result ≡ count }
     {
         Generator {
             made: 0,

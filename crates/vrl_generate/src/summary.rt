@@ -19,7 +19,7 @@ pub struct Summary {
 impl Summary {
     ghost use Rattle.std.specs.Prelude.{◌≡◌, ◌++◌, ◌<◌, ◌^◌, ◌∷◌, [], List, IfOk, length};
     ghost use Rattle.vrl_batch.specs.declared.work.LineOut.{LineOut};
-    ghost use Rattle.vrl_generate.specs.Summary.{IsSummaryOf, summary_of, is_marked as some_refused};
+    ghost use Rattle.vrl_generate.specs.Summary.{CountsOutcome, IsSummaryOf, summary_of, is_marked as some_refused};
 
     /// The summary of no results.
     pub fn new() -> Summary
@@ -41,11 +41,18 @@ impl Summary {
         ensures { (outs : List LineOut) → IsSummaryOf outs self.old → IsSummaryOf (outs ++ made.now ∷ []) self.new }
     {
         let output = made.output.as_slice();
+        self.count(made.outcome);
         self.lines = self.lines.saturating_add(1);
         self.written = self.written.saturating_add(made.kept as u128);
         self.bytes = self.bytes.saturating_add(output.len() as u128);
         self.hasher.update(output);
-        match made.outcome {
+    }
+
+    // Counts one line more that went so.
+    fn count(&mut self, outcome: Outcome)
+        ensures { CountsOutcome outcome self.old self.new }
+    {
+        match outcome {
             Outcome::Fine => {}
             Outcome::Errored => self.errors = self.errors.saturating_add(1),
             Outcome::Aborted => self.aborted = self.aborted.saturating_add(1),

@@ -5,7 +5,12 @@ use std::alloc::Global;
 use vrl_value::Memory;
 
 // Adds a line of the summary that tells a count. `Memory`: want of memory.
-pub(crate) fn add_count(alloc: Global, text: &mut Vec<u8>, name: &str, count: u128) -> Result<(), Memory>
+pub(crate) fn add_count(
+    alloc: Global,
+    text: &mut Vec<u8>,
+    name: &str,
+    count: u128,
+) -> Result<(), Memory>
     ensures { OnOk result (text.new.items ≡ text.old.items ++ count_line name.now count) }
 {
     let line = format!(in alloc; "{name} {count}\n")?;
@@ -14,7 +19,12 @@ pub(crate) fn add_count(alloc: Global, text: &mut Vec<u8>, name: &str, count: u1
 }
 
 // Adds a line of the summary that tells a text. `Memory`: want of memory.
-pub(crate) fn add_told(alloc: Global, text: &mut Vec<u8>, name: &str, value: &str) -> Result<(), Memory>
+pub(crate) fn add_told(
+    alloc: Global,
+    text: &mut Vec<u8>,
+    name: &str,
+    value: &str,
+) -> Result<(), Memory>
     ensures { OnOk result (text.new.items ≡ text.old.items ++ told_line name.now value.now) }
 {
     let line = format!(in alloc; "{name} {value}\n")?;
