@@ -86,7 +86,8 @@ const RESULTS: [Made; 5] = [
 ];
 
 // What is told of these results. The digest is that of the texts one after another, by Python's `hashlib`.
-const SUMMARY: &str = "lines 5\nwritten 3\nerrors 2\naborted 1\nrefused 1\nbytes 24\nsha256 b0574d4f6453b68b991cdaf2ccf7cc5befe86de529131e52d4c9736d9d2f77b0\n";
+const SUMMARY: &str =
+    "lines 5\nwritten 3\nerrors 2\naborted 1\nrefused 1\nbytes 24\nsha256 b0574d4f6453b68b991cdaf2ccf7cc5befe86de529131e52d4c9736d9d2f77b0\n";
 
 fn add(alloc: Global, summary: &mut Summary, row: &Made) -> Result<(), Memory> {
     let made = LineOut {
