@@ -1,8 +1,10 @@
 pub mod Answering
+pub mod ApartCodes
 pub mod Arguments
 pub mod Arms
 pub mod Assigning
 pub mod Between
+pub mod BoundOnce
 pub mod Branching
 pub mod CallsAllowed
 pub mod CallsCodes
@@ -13,6 +15,7 @@ pub mod CallsJudged
 pub mod CallsLiterals
 pub mod Capable
 pub mod Causes
+pub mod CountedCodes
 pub mod Determined
 pub mod Emptied
 pub mod Forms

@@ -1,4 +1,5 @@
 pub mod Answer
+pub mod Apart
 pub mod Calling
 pub mod Calls
 pub mod Determined

@@ -21,5 +21,7 @@ mod walk;
 
 pub use closures::holds_closure_call;
 pub use judged::{Ending, Judged};
-pub use laws::{empties_are_counted, judgements_are_determined, poisons_have_causes};
+pub use laws::{
+    empties_are_counted, judgements_are_determined, no_code_stands_twice, poisons_have_causes,
+};
 pub use script::{check, ending};

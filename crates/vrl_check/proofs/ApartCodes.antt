@@ -1,0 +1,408 @@
+-- No code stands twice at one place: each form gives a code once at its own place, and once at the place of each part, by codes of which none is
+-- both.
+use Rattle.std.proofs.Common.{◌≡◌, ℕ, zero, suc, ◌+◌, ◌≤◌, arith, Bool, true, false, ◌&&◌, ◌||◌, not, List, [], ◌∷◌, ◌++◌, Option, Some, None, nat_eq, eqb-true, if◌then◌else◌, refl, sym, ap, subst, ◌∙◌}
+use Rattle.std.specs.List.{list_any}
+use Rattle.std.proofs.lemmas.Bool.{true≢false}
+use Rattle.vrl_diag.specs.declared.diagnostic.Diagnostic.{Diagnostic}
+use Rattle.vrl_diag.specs.declared.diagnostic.Span.{Span}
+use Rattle.vrl_kind.specs.KindTree.{KindTree}
+use Rattle.vrl_state.specs.States.{RootMap}
+use Rattle.vrl_syntax.specs.Tree.{Args, Arms, Closure, Else, Expr, expr, Exprs, Form, Message, Pairs, no_args, arg, no_arms, arm, no_closure, closure, no_else, else_block, no_exprs, exprs, no_message, message, no_pairs, pair, literal, array, object, read, query, group, block, conditional, negation, binary, assign, merge, both, call, return_of, abort_with}
+use Rattle.vrl_syntax.specs.declared.root.Op.{Op}
+use Rattle.vrl_syntax.specs.declared.root.Target.{Target}
+use Rattle.vrl_syntax.specs.declared.root.Target.TheVariants.{Nowhere, Place}
+use Rattle.vrl_table.specs.Binding.{path_parameters}
+use Rattle.vrl_table.specs.Table.{row_of, ParametersAreToldApart}
+use Rattle.vrl_judge.specs.Rules.{Argument, Judgement, is_alive, is_comparison, is_compared, is_event, is_fallible, is_known, is_message_wrong, is_needless, is_no_event, is_nowhere, is_other, is_equality, at, chained, no_objects, of_assignment, of_error_assignment, of_message, of_predicate, when}
+use Rattle.vrl_check.specs.Apart.{arguments_at, at_place, expressions_at, names_at, nowhere, one_if, same_span, times, weigh_args, weigh_arms, weigh_closure, weigh_else, weigh_expr, weigh_exprs, weigh_form, weigh_message, weigh_pairs, weigh_target, AreApart, NoCodeStandsTwice, Weights}
+use Rattle.vrl_check.specs.Judgement.{deleted_kind, of_item, pair_values, span_of, table_of, wants_literal, wants_path}
+use Rattle.vrl_check.specs.Judgement.{Judges, unreached, reached, Gives, a_literal, an_array, an_object, a_known_root, an_unknown_root, a_query, a_group, a_block, a_conditional, a_negation, an_equality, of_table, a_merge, a_conjunction, a_disjunction, a_coalescing, an_assignment, a_merge_into_nothing, a_merge_assignment, an_error_assignment, a_call_of_nothing, a_call, a_deletion, an_existence, a_return, an_abort, an_abort_with, JudgesBoth, operands, JudgesAll, no_more, one_more, JudgesArguments, no_more_arguments, one_more_argument, JudgesBlock, unreached_block, reached_block, JudgesArms, an_arm, an_else, a_missing_else, JudgesItems, no_more_items, one_more_item, JudgesScript, a_script}
+use Rattle.vrl_check.specs.OpenRules.{OpenRules}
+use Rattle.vrl_check.proofs.CountedCodes.{assigned, behind_counted, both_assigned, both_counted, call_counted, counted, none_counted, one, one_counted, own, own_640, own_650, own_651, own_660, own_701, part, part_100, part_652, part_1011, predicate, spans, three_counted, two_counted, values, weights, when_counted}
+use Rattle.vrl_value.specs.declared.value.Tag.TheVariants as tag
+use Rattle.vrl_syntax.specs.declared.root.Op.TheVariants as op
+
+no_merge_and : op.And ≡ op.Merge → ⊥
+no_merge_and is = cc
+
+no_merge_or : op.Or ≡ op.Merge → ⊥
+no_merge_or is = cc
+
+no_merge_coalesce : op.Coalesce ≡ op.Merge → ⊥
+no_merge_coalesce is = cc
+
+Some≢None : {A : Type 0} {a : A} → Some a ≡ None → ⊥
+Some≢None is = cc
+
+pair_weights : (w : Weights) (ps : Pairs) → weigh_exprs w (pair_values ps) ≡ weigh_pairs w ps
+pair_weights w no_pairs = refl
+pair_weights w (pair n e ps) = ap (λ k. weigh_expr w e + k) (pair_weights w ps)
+
+-- ---- what is counted among the codes of a part is at most what the part weighs
+
+module _ (rules : OpenRules) (names_apart : ParametersAreToldApart) (code : ℕ) (here : Span) where
+  abbrev count : List Diagnostic → ℕ
+  count ds = counted code here ds
+
+  abbrev w : Weights
+  w = weights code here
+
+  abbrev at_own : Span → ℕ
+  at_own span = own code here span
+
+  abbrev at_part : Span → ℕ
+  at_part span = part code here span
+
+  -- a comparison, behind its operands
+  chained_light : (span : Span) (o : Op) (l r : Expr) (whole : Judgement) → count whole.codes + (at_part (span_of l) + at_part (span_of r)) ≤ weigh_expr w l + weigh_expr w r →
+      count (whole.codes ++ chained span o l r) ≤ at_own span + (weigh_expr w l + weigh_expr w r)
+  chained_light span o l r whole few =
+      let all = both_counted code here whole.codes (chained span o l r) in
+      let more = when_counted code here (is_comparison o && (is_compared l || is_compared r)) 650 span in
+      let its = own_650 code here span in
+      omega (arith, few, all, more, its)
+
+  -- a merge, behind its operands
+  merged_light : (l r : Expr) (j k whole : Judgement) → count whole.codes + (at_part (span_of l) + at_part (span_of r)) ≤ weigh_expr w l + weigh_expr w r →
+      count (whole.codes ++ no_objects (span_of l) (span_of r) j k) ≤ weigh_expr w l + weigh_expr w r
+  merged_light l r j k whole few =
+      let all = both_counted code here whole.codes (no_objects (span_of l) (span_of r) j k) in
+      let more = two_counted code here (is_other tag.Object j) (is_other tag.Object k) 652 (span_of l) (span_of r) in
+      let first = part_652 code here (span_of l) in
+      let second = part_652 code here (span_of r) in
+      omega (arith, few, all, more, first, second)
+
+  assignment_light : (span : Span) (t : Target) (j : Judgement) → count (j.codes ++ of_assignment span t j) ≤ count j.codes + at_own span
+  assignment_light span t j =
+      let all = both_counted code here j.codes (of_assignment span t j) in
+      let more = three_counted code here (is_fallible j) (is_nowhere t) (is_known j && is_no_event t j.kind) 103 640 1006 span in
+      let its = assigned code here span in
+      omega (arith, all, more, its)
+
+  -- arguments that stand behind nothing
+  from_nothing : (js : List Argument) (j : Judgement) (gs : Args) → count j.codes + (values code here js + spans code here js) ≤ count [] + weigh_args w gs → count j.codes + (values code here js + spans code here js) ≤ weigh_args w gs
+  from_nothing js j gs few = let none = none_counted code here in omega (arith, few, none)
+
+  -- nothing is judged where nothing is reached
+  unreached_light : (e : Expr) → count [] + at_part (span_of e) ≤ weigh_expr w e
+  unreached_light (expr span f) = let none = none_counted code here in omega (arith, none)
+
+  mutual
+    judges_light : {known : Option RootMap} {e : Expr} {j : Judgement} → Judges rules known e j → count j.codes + at_part (span_of e) ≤ weigh_expr w e
+    judges_light (unreached {e = e}) = unreached_light e
+    judges_light (reached {span = span} {f = f} {j = j} gives) = let few = gives_light gives in omega (arith, few)
+
+    gives_light : {known : RootMap} {span : Span} {f : Form} {j : Judgement} → Gives rules known span f j → count j.codes ≤ at_own span + weigh_form w f
+    gives_light (a_literal {span = span} cut) = let none = none_counted code here in omega (arith, none)
+    gives_light (an_array {span = span} {es = es} {j = j} all cut) = let few = all_light all in let none = none_counted code here in omega (arith, few, none)
+    gives_light (an_object {span = span} {ps = ps} {j = j} all cut) = let few = all_light all in let none = none_counted code here in let same = pair_weights w ps in omega (arith, few, none, same)
+    gives_light (a_known_root {span = span} is at) = let none = none_counted code here in omega (arith, none)
+    gives_light (an_unknown_root {span = span} is) = let few = one_counted code here 701 span in let its = own_701 code here span in omega (arith, few, its)
+    gives_light (a_query {span = span} {e = e} {j = j} part at) = let few = judges_light part in omega (arith, few)
+    gives_light (a_group {span = span} {e = e} {j = j} part) = let few = judges_light part in omega (arith, few)
+    gives_light (a_block {span = span} {es = es} {j = j} items) = let few = block_light items in omega (arith, few)
+    gives_light (a_conditional {span = span} {gs = gs} {es = es} {j = j} arms) = let few = arms_light arms in let none = none_counted code here in omega (arith, few, none)
+    gives_light (a_negation {span = span} {e = e} {j = j} part scalar) =
+        let few = judges_light part in
+        let codes = both_counted code here j.codes (when (is_other tag.Bool j) (at 660 span)) in
+        let more = when_counted code here (is_other tag.Bool j) 660 span in
+        let its = own_660 code here span in
+        omega (arith, few, codes, more, its)
+    gives_light (an_equality {span = span} {o = o} {l = l} {r = r} {whole = whole} is parts scalar) = chained_light span o l r whole (operands_light parts)
+    gives_light (of_table {span = span} {o = o} {l = l} {r = r} {whole = whole} is parts cut fails) = chained_light span o l r whole (operands_light parts)
+    gives_light (a_merge {span = span} {l = l} {r = r} {j = j} {k = k} {whole = whole} parts merged) =
+        let few = merged_light l r j k whole (operands_light parts) in omega (arith, few)
+    gives_light (a_conjunction {span = span} {l = l} {r = r} {j = j} {k = k} {whole = whole} left_fail part_fail left right in_order scalar ok one two three) =
+        let first = judges_light left in
+        let second = judges_light right in
+        let codes = behind_counted code here j k whole in_order in
+        omega (arith, first, second, codes)
+    gives_light (a_disjunction {span = span} {l = l} {r = r} {j = j} {k = k} {whole = whole} left right then cut ok) =
+        let first = judges_light left in
+        let second = judges_light right in
+        let codes = behind_counted code here j k whole then.behind in
+        omega (arith, first, second, codes)
+    gives_light (a_coalescing {span = span} {l = l} {r = r} {j = j} {k = k} {whole = whole} left right in_order either ok) =
+        let first = judges_light left in
+        let second = judges_light right in
+        let codes = behind_counted code here j k whole in_order in
+        let all = both_counted code here whole.codes (when (is_needless j) (at 651 span)) in
+        let more = when_counted code here (is_needless j) 651 span in
+        let its = own_651 code here span in
+        omega (arith, first, second, codes, all, more, its)
+    gives_light (an_assignment {span = span} {t = t} {e = e} {j = j} part written) =
+        let few = judges_light part in
+        let more = assignment_light span t j in
+        omega (arith, few, more)
+    gives_light (a_merge_into_nothing {span = span} {e = e} {j = j} part) =
+        let few = judges_light part in
+        let all = both_counted code here j.codes (at 640 span) in
+        let more = one_counted code here 640 span in
+        let its = own_640 code here span in
+        omega (arith, few, all, more, its)
+    gives_light (a_merge_assignment {span = span} {s = s} {root = root} {path = path} {e = e} {j = j} part written) =
+        let few = merge_of part in
+        let more = assignment_light span (Place s root path) j in
+        omega (arith, few, more)
+    gives_light (an_error_assignment {span = span} {t = t} {u = u} {e = e} {j = j} empty {K = K} given given_both failed failed_both part may cut either null text one two three four joins) =
+        let few = judges_light part in
+        let all = both_counted code here j.codes (of_error_assignment span t u j K) in
+        let more = three_counted code here (is_needless j) (is_nowhere t && is_nowhere u) ((is_alive j.ok || is_alive j.fail) && ((not j.poisoned && is_no_event t K) || is_event u)) 104 640 1006 span in
+        let its = both_assigned code here span in
+        omega (arith, few, all, more, its)
+    gives_light (a_call_of_nothing {span = span} {s = s} {gs = gs} {c = c} {js = js} {j = j} unknown other arguments) =
+        let few = arguments_light arguments in
+        let none = none_counted code here in
+        let all = both_counted code here j.codes (at 105 s) in
+        let more = one_counted code here 105 s in
+        omega (arith, few, none, all, more)
+    gives_light (a_call {span = span} {s = s} function {bang = bang} {gs = gs} {c = c} {js = js} {j = j} {whole = whole} K fails fail named arguments is answered joins) =
+        let few = from_nothing js j gs (arguments_light arguments) in
+        let all = call_counted code here (wants_literal (row_of function)) (row_of function).parameters span bang gs c js j whole (record whole { kind = K; fail = fail }) (weigh_args w gs) (names_apart function) few is refl in
+        omega (arith, all)
+    gives_light (a_deletion {span = span} {s = s} {bang = bang} {gs = gs} {c = c} {js = js} {j = j} {whole = whole} ok named arguments is deleted) =
+        let few = from_nothing js j gs (arguments_light arguments) in
+        let all = call_counted code here wants_path path_parameters span bang gs c js j whole (record whole { kind = deleted_kind whole.poisoned js; ok = ok }) (weigh_args w gs) refl few is refl in
+        omega (arith, all)
+    gives_light (an_existence {span = span} {s = s} {bang = bang} {gs = gs} {c = c} {js = js} {j = j} {whole = whole} K named arguments is scalar) =
+        let few = from_nothing js j gs (arguments_light arguments) in
+        let all = call_counted code here wants_path path_parameters span bang gs c js j whole (record whole { kind = K }) (weigh_args w gs) refl few is refl in
+        omega (arith, all)
+    gives_light (a_return {span = span} {e = e} {j = j} part joins either) = let few = judges_light part in omega (arith, few)
+    gives_light (an_abort {span = span}) = let none = none_counted code here in omega (arith, none)
+    gives_light (an_abort_with {span = span} {e = e} {j = j} part) =
+        let few = judges_light part in
+        let all = both_counted code here j.codes (of_message (span_of e) j) in
+        let more = when_counted code here (is_message_wrong j) 1011 (span_of e) in
+        let its = part_1011 code here (span_of e) in
+        omega (arith, few, all, more, its)
+
+    -- a merge gives no code at its own place
+    merge_light : {known : RootMap} {span : Span} {o : Op} {l r : Expr} {j : Judgement} → o ≡ op.Merge → Gives rules known span (binary o l r) j → count j.codes ≤ weigh_expr w l + weigh_expr w r
+    merge_light is (a_merge {l = l} {r = r} {j = j} {k = k} {whole = whole} parts merged) = merged_light l r j k whole (operands_light parts)
+    merge_light is (an_equality equal parts scalar) = absurd (true≢false (sym equal ∙ ap is_equality is))
+    merge_light is (of_table {table = table} from parts cut fails) = absurd (Some≢None (sym from ∙ ap table_of is))
+    merge_light is (a_conjunction left_fail part_fail left right in_order scalar ok one two three) = absurd (no_merge_and is)
+    merge_light is (a_disjunction left right then cut ok) = absurd (no_merge_or is)
+    merge_light is (a_coalescing left right in_order either ok) = absurd (no_merge_coalesce is)
+
+    merge_of : {known : Option RootMap} {span : Span} {l r : Expr} {j : Judgement} → Judges rules known (expr span (binary op.Merge l r)) j → count j.codes ≤ weigh_expr w l + weigh_expr w r
+    merge_of unreached = let none = none_counted code here in omega (arith, none)
+    merge_of (reached gives) = merge_light refl gives
+
+    operands_light : {known : RootMap} {l r : Expr} {j k whole : Judgement} → JudgesBoth rules known l r j k whole → count whole.codes + (at_part (span_of l) + at_part (span_of r)) ≤ weigh_expr w l + weigh_expr w r
+    operands_light (operands {l = l} {r = r} {j = j} {k = k} {whole = whole} left right then) =
+        let first = judges_light left in
+        let second = judges_light right in
+        let codes = behind_counted code here j k whole then.behind in
+        omega (arith, first, second, codes)
+
+    all_light : {before after : Judgement} {es : Exprs} {Ks : List KindTree} → JudgesAll rules before es Ks after → count after.codes ≤ count before.codes + weigh_exprs w es
+    all_light (no_more {before = before}) = omega arith
+    all_light (one_more {before = before} {j = j} {middle = middle} {after = after} {e = e} {es = es} part then rest) =
+        let first = judges_light part in
+        let codes = behind_counted code here before j middle then.behind in
+        let others = all_light rest in
+        omega (arith, first, codes, others)
+
+    arguments_light : {before after : Judgement} {gs : Args} {js : List Argument} → JudgesArguments rules before gs js after → count after.codes + (values code here js + spans code here js) ≤ count before.codes + weigh_args w gs
+    arguments_light (no_more_arguments {before = before}) = omega arith
+    arguments_light (one_more_argument {before = before} {j = j} {middle = middle} {after = after} {span = span} {e = e} {gs = gs} {js = js} part then rest) =
+        let first = judges_light part in
+        let codes = behind_counted code here before j middle then.behind in
+        let others = arguments_light rest in
+        omega (arith, first, codes, others)
+
+    block_light : {known : Option RootMap} {es : Exprs} {j : Judgement} → JudgesBlock rules known es j → count j.codes ≤ weigh_exprs w es
+    block_light (unreached_block {es = es}) = let none = none_counted code here in omega (arith, none)
+    block_light (reached_block {es = es} {j = j} null all) = let few = all_light all in let none = none_counted code here in omega (arith, few, none)
+
+    arms_light : {state : Option RootMap} {ways all : Judgement} {gs : Arms} {otherwise : Else} → JudgesArms rules state ways gs otherwise all → count all.codes ≤ count ways.codes + (weigh_arms w gs + weigh_else w otherwise)
+    arms_light (an_arm {ways = ways} {j = j} {with_predicate = with_predicate} {k = k} {with_branch = with_branch} {all = all} {p = p} {es = es} {gs = gs} {otherwise = otherwise} judged beside branch besides rest) =
+        let first = judges_light judged in
+        let outer = ap count beside.codes ∙ both_counted code here ways.codes (j.codes ++ of_predicate (span_of p) j) in
+        let inner = both_counted code here j.codes (of_predicate (span_of p) j) in
+        let more = predicate code here (is_fallible j) (is_other tag.Bool j) (span_of p) in
+        let inside = block_light branch in
+        let next = ap count besides.codes ∙ both_counted code here with_predicate.codes k.codes in
+        let others = arms_light rest in
+        omega (arith, first, outer, inner, more, inside, next, others)
+    arms_light (an_else {ways = ways} {k = k} {all = all} {es = es} branch beside) =
+        let inside = block_light branch in
+        let next = ap count beside.codes ∙ both_counted code here ways.codes k.codes in
+        omega (arith, inside, next)
+    arms_light (a_missing_else {ways = ways} {all = all} null beside) =
+        let none = none_counted code here in
+        let next = ap count beside.codes ∙ both_counted code here ways.codes [] in
+        omega (arith, none, next)
+
+  items_light : {before after : Judgement} {es : Exprs} → JudgesItems rules before es after → count after.codes ≤ count before.codes + weigh_exprs w es
+  items_light (no_more_items {before = before}) = omega arith
+  items_light (one_more_item {before = before} {j = j} {middle = middle} {after = after} {e = e} {es = es} part then rest) =
+      let first = judges_light part in
+      let codes = ap count then.behind.codes ∙ both_counted code here before.codes (j.codes ++ of_item (span_of e) j) in
+      let all = both_counted code here j.codes (of_item (span_of e) j) in
+      let more = when_counted code here (is_fallible j) 100 (span_of e) in
+      let its = part_100 code here (span_of e) in
+      let others = items_light rest in
+      omega (arith, first, codes, all, more, its, others)
+
+  script_light : {start : KindTree} {items : Exprs} {j : Judgement} → JudgesScript rules start items j → count j.codes ≤ weigh_exprs w items
+  script_light (a_script {es = es} {j = j} starts null judged) = let few = items_light judged in let none = none_counted code here in omega (arith, few, none)
+
+-- ---- what weighs less at each place weighs less
+
+module _ (u v : Weights) (at_expressions : (span : Span) → u.expression span ≤ v.expression span) (at_names : (span : Span) → u.name span ≤ v.name span) (at_arguments : (span : Span) → u.argument span ≤ v.argument span) where
+  target_less : (t : Target) → weigh_target u t ≤ weigh_target v t
+  target_less Nowhere = omega arith
+  target_less (Place span root path) = at_expressions span
+
+  mutual
+    expr_less : (e : Expr) → weigh_expr u e ≤ weigh_expr v e
+    expr_less (expr span f) = let one = at_expressions span in let more = form_less f in omega (arith, one, more)
+
+    form_less : (f : Form) → weigh_form u f ≤ weigh_form v f
+    form_less (literal a) = omega arith
+    form_less (array es) = exprs_less es
+    form_less (object ps) = pairs_less ps
+    form_less (read root path) = omega arith
+    form_less (query e path) = expr_less e
+    form_less (group e) = expr_less e
+    form_less (block es) = exprs_less es
+    form_less (conditional gs es) = let one = arms_less gs in let more = else_less es in omega (arith, one, more)
+    form_less (negation e) = expr_less e
+    form_less (binary o l r) = let one = expr_less l in let more = expr_less r in omega (arith, one, more)
+    form_less (assign t e) = expr_less e
+    form_less (merge t e) = let one = target_less t in let more = expr_less e in omega (arith, one, more)
+    form_less (both t other e) = expr_less e
+    form_less (call name span bang gs c) = let one = at_names span in let more = args_less gs in let last = closure_less c in omega (arith, one, more, last)
+    form_less (return_of e) = expr_less e
+    form_less (abort_with m) = message_less m
+
+    exprs_less : (es : Exprs) → weigh_exprs u es ≤ weigh_exprs v es
+    exprs_less no_exprs = omega arith
+    exprs_less (exprs e es) = let one = expr_less e in let more = exprs_less es in omega (arith, one, more)
+
+    pairs_less : (ps : Pairs) → weigh_pairs u ps ≤ weigh_pairs v ps
+    pairs_less no_pairs = omega arith
+    pairs_less (pair key e ps) = let one = expr_less e in let more = pairs_less ps in omega (arith, one, more)
+
+    arms_less : (gs : Arms) → weigh_arms u gs ≤ weigh_arms v gs
+    arms_less no_arms = omega arith
+    arms_less (arm p es gs) = let one = expr_less p in let more = exprs_less es in let last = arms_less gs in omega (arith, one, more, last)
+
+    else_less : (e : Else) → weigh_else u e ≤ weigh_else v e
+    else_less no_else = omega arith
+    else_less (else_block es) = exprs_less es
+
+    args_less : (gs : Args) → weigh_args u gs ≤ weigh_args v gs
+    args_less no_args = omega arith
+    args_less (arg name span e gs) = let first = at_arguments span in let one = expr_less e in let more = args_less gs in omega (arith, first, one, more)
+
+    closure_less : (c : Closure) → weigh_closure u c ≤ weigh_closure v c
+    closure_less no_closure = omega arith
+    closure_less (closure names es span) = exprs_less es
+
+    message_less : (m : Message) → weigh_message u m ≤ weigh_message v m
+    message_less no_message = omega arith
+    message_less (message e) = expr_less e
+
+-- ---- the codes differ
+
+not_true : (b : Bool) → not b ≡ true → b ≡ false
+not_true true wrong = absurd (true≢false (sym wrong))
+not_true false is = refl
+
+both_hold : (a b : Bool) → (a && b) ≡ true → (a ≡ true) × (b ≡ true)
+both_hold true b holds = (refl, holds)
+both_hold false b wrong = absurd (true≢false (sym wrong))
+
+not_or : (a b : Bool) → (a || b) ≡ false → (a ≡ false) × (b ≡ false)
+not_or true b wrong = absurd (true≢false wrong)
+not_or false b none = (refl, none)
+
+abbrev among : ℕ → List ℕ → Bool
+among k ks = list_any (λ m. nat_eq m k) ks
+
+abbrev differ : List ℕ → Bool
+differ [] = true
+differ (k ∷ ks) = not (among k ks) && differ ks
+
+module _ (code : ℕ) (here : Span) where
+  abbrev sum_of : List ℕ → Span → ℕ
+  sum_of [] span = 0
+  sum_of (k ∷ ks) span = one code here k span + sum_of ks span
+
+  other_code : (k : ℕ) (span : Span) → nat_eq k code ≡ false → one code here k span ≤ 0
+  unfolding one
+  other_code k span differs = let none : one_if (nat_eq k code && same_span span here) ≡ 0 = ap (λ b. one_if (b && same_span span here)) differs in omega (arith, none)
+
+  one_at_most : (b c : Bool) → one_if (b && c) ≤ one_if c
+  one_at_most true c = omega arith
+  one_at_most false true = omega arith
+  one_at_most false false = omega arith
+
+  at_place_alone : (k : ℕ) (span : Span) → one code here k span ≤ one_if (same_span span here)
+  unfolding one
+  at_place_alone k span = one_at_most (nat_eq k code) (same_span span here)
+
+  none_among : (ks : List ℕ) (span : Span) → among code ks ≡ false → sum_of ks span ≤ 0
+  none_among [] span none = omega arith
+  none_among (k ∷ ks) span none =
+      let parts = not_or (nat_eq k code) (among code ks) none in
+      let first = other_code k span parts.0 in
+      let rest = none_among ks span parts.1 in
+      omega (arith, first, rest)
+
+  one_of_them : (ks : List ℕ) (span : Span) → differ ks ≡ true → sum_of ks span ≤ one_if (same_span span here)
+  one_of_them [] span apart = omega arith
+  one_of_them (k ∷ ks) span apart = by (nat_eq k code) refl (one_of_them ks span (both_hold (not (among k ks)) (differ ks) apart).1) where
+    by : (same : Bool) → nat_eq k code ≡ same → sum_of ks span ≤ one_if (same_span span here) → one code here k span + sum_of ks span ≤ one_if (same_span span here)
+    by true is rest =
+        let first = at_place_alone k span in
+        let others = none_among ks span (ap (λ m. among m ks) (sym (eqb-true k code is)) ∙ not_true (among k ks) (both_hold (not (among k ks)) (differ ks) apart).0) in
+        omega (arith, first, others)
+    by false is rest =
+        let first = other_code k span is in
+        omega (arith, first, rest)
+
+  at_one_place : (span : Span) → own code here span + part code here span ≤ one_if (same_span span here)
+  unfolding own, part
+  at_one_place span =
+      let all = one_of_them (100 ∷ 102 ∷ 103 ∷ 104 ∷ 106 ∷ 107 ∷ 110 ∷ 620 ∷ 630 ∷ 640 ∷ 650 ∷ 651 ∷ 652 ∷ 660 ∷ 701 ∷ 1005 ∷ 1006 ∷ 1010 ∷ 1011 ∷ 1013 ∷ []) span refl in
+      omega (arith, all)
+
+-- 105 stands at the name of a call alone, and 108 at an argument
+no_more_than : (n : ℕ) → n ≤ n
+no_more_than n = omega arith
+
+name_codes : (here : Span) (items : Exprs) → names_at here items ≤ 1 → weigh_exprs (weights 105 here) items ≤ 1
+unfolding own, part, one
+name_codes here items apart =
+    let less = exprs_less (weights 105 here) (record { expression = nowhere; name = at_place here; argument = nowhere }) (λ span. no_more_than 0) (λ span. no_more_than (one_if (same_span span here))) (λ span. no_more_than 0) items in
+    omega (arith, less, apart)
+
+argument_codes : (here : Span) (items : Exprs) → arguments_at here items ≤ 1 → weigh_exprs (weights 108 here) items ≤ 1
+unfolding own, part, one
+argument_codes here items apart =
+    let less = exprs_less (weights 108 here) (record { expression = nowhere; name = nowhere; argument = at_place here }) (λ span. no_more_than 0) (λ span. no_more_than 0) (λ span. no_more_than (one_if (same_span span here))) items in
+    omega (arith, less, apart)
+
+other_codes : (code : ℕ) (here : Span) (items : Exprs) → expressions_at here items ≤ 1 → nat_eq 105 code ≡ false → nat_eq 108 code ≡ false → weigh_exprs (weights code here) items ≤ 1
+other_codes code here items apart no_name no_argument =
+    let less = exprs_less (weights code here) (record { expression = at_place here; name = nowhere; argument = nowhere }) (at_one_place code here) (λ span. other_code code here 105 span no_name) (λ span. other_code code here 108 span no_argument) items in
+    omega (arith, less, apart)
+
+light : (code : ℕ) (here : Span) (items : Exprs) → AreApart items → weigh_exprs (weights code here) items ≤ 1
+light code here items apart = by (nat_eq 105 code) (nat_eq 108 code) refl refl where
+  by : (name argument : Bool) → nat_eq 105 code ≡ name → nat_eq 108 code ≡ argument → weigh_exprs (weights code here) items ≤ 1
+  by true argument is other = subst (λ k. weigh_exprs (weights k here) items ≤ 1) (eqb-true 105 code is) (name_codes here items (apart.names here))
+  by false true is other = subst (λ k. weigh_exprs (weights k here) items ≤ 1) (eqb-true 108 code other) (argument_codes here items (apart.arguments here))
+  by false false is other = other_codes code here items (apart.expressions here) is other
+
+pub no_code_twice : ParametersAreToldApart → NoCodeStandsTwice
+unfolding counted
+no_code_twice names_apart rules start items j apart judges code here =
+    let few = script_light rules names_apart code here judges in
+    let most = light code here items apart in
+    omega (arith, few, most)
