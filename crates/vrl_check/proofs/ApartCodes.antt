@@ -7,7 +7,7 @@ use Rattle.vrl_diag.specs.declared.diagnostic.Diagnostic.{Diagnostic}
 use Rattle.vrl_diag.specs.declared.diagnostic.Span.{Span}
 use Rattle.vrl_kind.specs.KindTree.{KindTree}
 use Rattle.vrl_state.specs.States.{RootMap}
-use Rattle.vrl_syntax.specs.Tree.{Args, Arms, Closure, Else, Expr, expr, Exprs, Form, Message, Pairs, no_args, arg, no_arms, arm, no_closure, closure, no_else, else_block, no_exprs, exprs, no_message, message, no_pairs, pair, literal, array, object, read, query, group, block, conditional, negation, binary, assign, merge, both, call, return_of, abort_with}
+use Rattle.vrl_syntax.specs.Tree.{Args, Arms, Closure, Else, Expr, expr, Exprs, Form, Message, Pairs, no_args, arg, no_arms, arm, no_closure, closure, no_else, else_block, no_exprs, exprs, no_message, message, no_pairs, pair, literal, array, object, read, query, group, block, conditional, negation, binary, assign, merge, both, call, return_of, abort_with, span_of}
 use Rattle.vrl_syntax.specs.declared.root.Op.{Op}
 use Rattle.vrl_syntax.specs.declared.root.Target.{Target}
 use Rattle.vrl_syntax.specs.declared.root.Target.TheVariants.{Nowhere, Place}
@@ -15,7 +15,7 @@ use Rattle.vrl_table.specs.Binding.{path_parameters}
 use Rattle.vrl_table.specs.Table.{row_of, ParametersAreToldApart}
 use Rattle.vrl_judge.specs.Rules.{Argument, Judgement, is_alive, is_comparison, is_compared, is_event, is_fallible, is_known, is_message_wrong, is_needless, is_no_event, is_nowhere, is_other, is_equality, at, chained, no_objects, of_assignment, of_error_assignment, of_message, of_predicate, when}
 use Rattle.vrl_check.specs.Apart.{arguments_at, at_place, expressions_at, names_at, nowhere, one_if, same_span, times, weigh_args, weigh_arms, weigh_closure, weigh_else, weigh_expr, weigh_exprs, weigh_form, weigh_message, weigh_pairs, weigh_target, AreApart, NoCodeStandsTwice, Weights}
-use Rattle.vrl_check.specs.Judgement.{deleted_kind, of_item, pair_values, span_of, table_of, wants_literal, wants_path}
+use Rattle.vrl_check.specs.Judgement.{deleted_kind, of_item, pair_values, table_of, wants_literal, wants_path}
 use Rattle.vrl_check.specs.Judgement.{Judges, unreached, reached, Gives, a_literal, an_array, an_object, a_known_root, an_unknown_root, a_query, a_group, a_block, a_conditional, a_negation, an_equality, of_table, a_merge, a_conjunction, a_disjunction, a_coalescing, an_assignment, a_merge_into_nothing, a_merge_assignment, an_error_assignment, a_call_of_nothing, a_call, a_deletion, an_existence, a_return, an_abort, an_abort_with, JudgesBoth, operands, JudgesAll, no_more, one_more, JudgesArguments, no_more_arguments, one_more_argument, JudgesBlock, unreached_block, reached_block, JudgesArms, an_arm, an_else, a_missing_else, JudgesItems, no_more_items, one_more_item, JudgesScript, a_script}
 use Rattle.vrl_check.specs.OpenRules.{OpenRules}
 use Rattle.vrl_check.proofs.CountedCodes.{assigned, behind_counted, both_assigned, both_counted, call_counted, counted, none_counted, one, one_counted, own, own_640, own_650, own_651, own_660, own_701, part, part_100, part_652, part_1011, predicate, spans, three_counted, two_counted, values, weights, when_counted}
@@ -98,12 +98,12 @@ module _ (rules : OpenRules) (names_apart : ParametersAreToldApart) (code : ℕ)
     gives_light (an_object {span = span} {ps = ps} {j = j} all cut) = let few = all_light all in let none = none_counted code here in let same = pair_weights w ps in omega (arith, few, none, same)
     gives_light (a_known_root {span = span} is at) = let none = none_counted code here in omega (arith, none)
     gives_light (an_unknown_root {span = span} is) = let few = one_counted code here 701 span in let its = own_701 code here span in omega (arith, few, its)
-    gives_light (a_query {span = span} {e = e} {j = j} part at) = let few = judges_light part in omega (arith, few)
-    gives_light (a_group {span = span} {e = e} {j = j} part) = let few = judges_light part in omega (arith, few)
+    gives_light (a_query {span = span} {e = e} {j = j} judged at) = let few = judges_light judged in omega (arith, few)
+    gives_light (a_group {span = span} {e = e} {j = j} judged) = let few = judges_light judged in omega (arith, few)
     gives_light (a_block {span = span} {es = es} {j = j} items) = let few = block_light items in omega (arith, few)
     gives_light (a_conditional {span = span} {gs = gs} {es = es} {j = j} arms) = let few = arms_light arms in let none = none_counted code here in omega (arith, few, none)
-    gives_light (a_negation {span = span} {e = e} {j = j} part scalar) =
-        let few = judges_light part in
+    gives_light (a_negation {span = span} {e = e} {j = j} judged scalar) =
+        let few = judges_light judged in
         let codes = both_counted code here j.codes (when (is_other tag.Bool j) (at 660 span)) in
         let more = when_counted code here (is_other tag.Bool j) 660 span in
         let its = own_660 code here span in
@@ -117,10 +117,10 @@ module _ (rules : OpenRules) (names_apart : ParametersAreToldApart) (code : ℕ)
         let second = judges_light right in
         let codes = behind_counted code here j k whole in_order in
         omega (arith, first, second, codes)
-    gives_light (a_disjunction {span = span} {l = l} {r = r} {j = j} {k = k} {whole = whole} left right then cut ok) =
+    gives_light (a_disjunction {span = span} {l = l} {r = r} {j = j} {k = k} {whole = whole} left right next cut ok) =
         let first = judges_light left in
         let second = judges_light right in
-        let codes = behind_counted code here j k whole then.behind in
+        let codes = behind_counted code here j k whole next.behind in
         omega (arith, first, second, codes)
     gives_light (a_coalescing {span = span} {l = l} {r = r} {j = j} {k = k} {whole = whole} left right in_order either ok) =
         let first = judges_light left in
@@ -130,22 +130,22 @@ module _ (rules : OpenRules) (names_apart : ParametersAreToldApart) (code : ℕ)
         let more = when_counted code here (is_needless j) 651 span in
         let its = own_651 code here span in
         omega (arith, first, second, codes, all, more, its)
-    gives_light (an_assignment {span = span} {t = t} {e = e} {j = j} part written) =
-        let few = judges_light part in
+    gives_light (an_assignment {span = span} {t = t} {e = e} {j = j} judged written) =
+        let few = judges_light judged in
         let more = assignment_light span t j in
         omega (arith, few, more)
-    gives_light (a_merge_into_nothing {span = span} {e = e} {j = j} part) =
-        let few = judges_light part in
+    gives_light (a_merge_into_nothing {span = span} {e = e} {j = j} judged) =
+        let few = judges_light judged in
         let all = both_counted code here j.codes (at 640 span) in
         let more = one_counted code here 640 span in
         let its = own_640 code here span in
         omega (arith, few, all, more, its)
-    gives_light (a_merge_assignment {span = span} {s = s} {root = root} {path = path} {e = e} {j = j} part written) =
-        let few = merge_of part in
+    gives_light (a_merge_assignment {span = span} {s = s} {root = root} {path = path} {e = e} {j = j} judged written) =
+        let few = merge_of judged in
         let more = assignment_light span (Place s root path) j in
         omega (arith, few, more)
-    gives_light (an_error_assignment {span = span} {t = t} {u = u} {e = e} {j = j} empty {K = K} given given_both failed failed_both part may cut either null text one two three four joins) =
-        let few = judges_light part in
+    gives_light (an_error_assignment {span = span} {t = t} {u = u} {e = e} {j = j} empty {K = K} given given_both failed failed_both judged may cut either null text one two three four joins) =
+        let few = judges_light judged in
         let all = both_counted code here j.codes (of_error_assignment span t u j K) in
         let more = three_counted code here (is_needless j) (is_nowhere t && is_nowhere u) ((is_alive j.ok || is_alive j.fail) && ((not j.poisoned && is_no_event t K) || is_event u)) 104 640 1006 span in
         let its = both_assigned code here span in
@@ -168,10 +168,10 @@ module _ (rules : OpenRules) (names_apart : ParametersAreToldApart) (code : ℕ)
         let few = from_nothing js j gs (arguments_light arguments) in
         let all = call_counted code here wants_path path_parameters span bang gs c js j whole (record whole { kind = K }) (weigh_args w gs) refl few is refl in
         omega (arith, all)
-    gives_light (a_return {span = span} {e = e} {j = j} part joins either) = let few = judges_light part in omega (arith, few)
+    gives_light (a_return {span = span} {e = e} {j = j} judged joins either) = let few = judges_light judged in omega (arith, few)
     gives_light (an_abort {span = span}) = let none = none_counted code here in omega (arith, none)
-    gives_light (an_abort_with {span = span} {e = e} {j = j} part) =
-        let few = judges_light part in
+    gives_light (an_abort_with {span = span} {e = e} {j = j} judged) =
+        let few = judges_light judged in
         let all = both_counted code here j.codes (of_message (span_of e) j) in
         let more = when_counted code here (is_message_wrong j) 1011 (span_of e) in
         let its = part_1011 code here (span_of e) in
@@ -183,7 +183,7 @@ module _ (rules : OpenRules) (names_apart : ParametersAreToldApart) (code : ℕ)
     merge_light is (an_equality equal parts scalar) = absurd (true≢false (sym equal ∙ ap is_equality is))
     merge_light is (of_table {table = table} from parts cut fails) = absurd (Some≢None (sym from ∙ ap table_of is))
     merge_light is (a_conjunction left_fail part_fail left right in_order scalar ok one two three) = absurd (no_merge_and is)
-    merge_light is (a_disjunction left right then cut ok) = absurd (no_merge_or is)
+    merge_light is (a_disjunction left right next cut ok) = absurd (no_merge_or is)
     merge_light is (a_coalescing left right in_order either ok) = absurd (no_merge_coalesce is)
 
     merge_of : {known : Option RootMap} {span : Span} {l r : Expr} {j : Judgement} → Judges rules known (expr span (binary op.Merge l r)) j → count j.codes ≤ weigh_expr w l + weigh_expr w r
@@ -191,25 +191,25 @@ module _ (rules : OpenRules) (names_apart : ParametersAreToldApart) (code : ℕ)
     merge_of (reached gives) = merge_light refl gives
 
     operands_light : {known : RootMap} {l r : Expr} {j k whole : Judgement} → JudgesBoth rules known l r j k whole → count whole.codes + (at_part (span_of l) + at_part (span_of r)) ≤ weigh_expr w l + weigh_expr w r
-    operands_light (operands {l = l} {r = r} {j = j} {k = k} {whole = whole} left right then) =
+    operands_light (operands {l = l} {r = r} {j = j} {k = k} {whole = whole} left right next) =
         let first = judges_light left in
         let second = judges_light right in
-        let codes = behind_counted code here j k whole then.behind in
+        let codes = behind_counted code here j k whole next.behind in
         omega (arith, first, second, codes)
 
     all_light : {before after : Judgement} {es : Exprs} {Ks : List KindTree} → JudgesAll rules before es Ks after → count after.codes ≤ count before.codes + weigh_exprs w es
     all_light (no_more {before = before}) = omega arith
-    all_light (one_more {before = before} {j = j} {middle = middle} {after = after} {e = e} {es = es} part then rest) =
-        let first = judges_light part in
-        let codes = behind_counted code here before j middle then.behind in
+    all_light (one_more {before = before} {j = j} {middle = middle} {after = after} {e = e} {es = es} judged next rest) =
+        let first = judges_light judged in
+        let codes = behind_counted code here before j middle next.behind in
         let others = all_light rest in
         omega (arith, first, codes, others)
 
     arguments_light : {before after : Judgement} {gs : Args} {js : List Argument} → JudgesArguments rules before gs js after → count after.codes + (values code here js + spans code here js) ≤ count before.codes + weigh_args w gs
     arguments_light (no_more_arguments {before = before}) = omega arith
-    arguments_light (one_more_argument {before = before} {j = j} {middle = middle} {after = after} {span = span} {e = e} {gs = gs} {js = js} part then rest) =
-        let first = judges_light part in
-        let codes = behind_counted code here before j middle then.behind in
+    arguments_light (one_more_argument {before = before} {j = j} {middle = middle} {after = after} {span = span} {e = e} {gs = gs} {js = js} judged next rest) =
+        let first = judges_light judged in
+        let codes = behind_counted code here before j middle next.behind in
         let others = arguments_light rest in
         omega (arith, first, codes, others)
 
@@ -238,9 +238,9 @@ module _ (rules : OpenRules) (names_apart : ParametersAreToldApart) (code : ℕ)
 
   items_light : {before after : Judgement} {es : Exprs} → JudgesItems rules before es after → count after.codes ≤ count before.codes + weigh_exprs w es
   items_light (no_more_items {before = before}) = omega arith
-  items_light (one_more_item {before = before} {j = j} {middle = middle} {after = after} {e = e} {es = es} part then rest) =
-      let first = judges_light part in
-      let codes = ap count then.behind.codes ∙ both_counted code here before.codes (j.codes ++ of_item (span_of e) j) in
+  items_light (one_more_item {before = before} {j = j} {middle = middle} {after = after} {e = e} {es = es} judged next rest) =
+      let first = judges_light judged in
+      let codes = ap count next.behind.codes ∙ both_counted code here before.codes (j.codes ++ of_item (span_of e) j) in
       let all = both_counted code here j.codes (of_item (span_of e) j) in
       let more = when_counted code here (is_fallible j) 100 (span_of e) in
       let its = part_100 code here (span_of e) in
@@ -367,7 +367,7 @@ module _ (code : ℕ) (here : Span) where
         omega (arith, first, rest)
 
   at_one_place : (span : Span) → own code here span + part code here span ≤ one_if (same_span span here)
-  unfolding own, part
+  unfolding own part
   at_one_place span =
       let all = one_of_them (100 ∷ 102 ∷ 103 ∷ 104 ∷ 106 ∷ 107 ∷ 110 ∷ 620 ∷ 630 ∷ 640 ∷ 650 ∷ 651 ∷ 652 ∷ 660 ∷ 701 ∷ 1005 ∷ 1006 ∷ 1010 ∷ 1011 ∷ 1013 ∷ []) span refl in
       omega (arith, all)
@@ -377,13 +377,13 @@ no_more_than : (n : ℕ) → n ≤ n
 no_more_than n = omega arith
 
 name_codes : (here : Span) (items : Exprs) → names_at here items ≤ 1 → weigh_exprs (weights 105 here) items ≤ 1
-unfolding own, part, one
+unfolding own part one
 name_codes here items apart =
     let less = exprs_less (weights 105 here) (record { expression = nowhere; name = at_place here; argument = nowhere }) (λ span. no_more_than 0) (λ span. no_more_than (one_if (same_span span here))) (λ span. no_more_than 0) items in
     omega (arith, less, apart)
 
 argument_codes : (here : Span) (items : Exprs) → arguments_at here items ≤ 1 → weigh_exprs (weights 108 here) items ≤ 1
-unfolding own, part, one
+unfolding own part one
 argument_codes here items apart =
     let less = exprs_less (weights 108 here) (record { expression = nowhere; name = nowhere; argument = at_place here }) (λ span. no_more_than 0) (λ span. no_more_than 0) (λ span. no_more_than (one_if (same_span span here))) items in
     omega (arith, less, apart)

@@ -46,7 +46,7 @@ written n ks = get_or ks n None
 
 -- a place that is found by a keyword has this keyword
 found_keyword : (name : List ℕ) (ks : Keywords) (n : ℕ) → keyword_at name ks ≡ Some n → is_keyword name (written n ks) ≡ true
-found_keyword name ks n found = (position-Some (is_keyword name) ks n None found).1.0
+found_keyword name ks n found = (position-Some (is_keyword name) ks n None found).1
 
 -- what comes one place later
 before_it : (a : Option ℕ) (n : ℕ) → option_map suc a ≡ Some n → (m : ℕ) × (a ≡ Some m) × (n ≡ suc m)
@@ -59,10 +59,10 @@ found_without i [] n found = absurd (Some≢None (sym found))
 found_without zero (None ∷ ks) n found = ap (λ m. written m (None ∷ ks)) (sym (some_is found))
 found_without (suc i) (None ∷ ks) n found =
     let there = before_it (positional_at i ks) n found in
-    ap (λ m. written m (None ∷ ks)) there.1.1 ∙ found_without i ks there.0 there.1.0
+    ap (λ m. written m (None ∷ ks)) there.2 ∙ found_without i ks there.0 there.1
 found_without i (Some w ∷ ks) n found =
     let there = before_it (positional_at i ks) n found in
-    ap (λ m. written m (Some w ∷ ks)) there.1.1 ∙ found_without i ks there.0 there.1.0
+    ap (λ m. written m (Some w ∷ ks)) there.2 ∙ found_without i ks there.0 there.1
 
 -- and has one number
 one_number : (i k : ℕ) (ks : Keywords) (n : ℕ) → positional_at i ks ≡ Some n → positional_at k ks ≡ Some n → i ≡ k
@@ -71,23 +71,23 @@ one_number zero zero (None ∷ ks) n found too = refl
 one_number zero (suc k) (None ∷ ks) n found too =
     let there = before_it (positional_at k ks) n too in
     let first : 0 ≡ n = some_is found in
-    let more : n ≡ suc there.0 = there.1.1 in
+    let more : n ≡ suc there.0 = there.2 in
     omega (arith, first, more)
 one_number (suc i) zero (None ∷ ks) n found too =
     let there = before_it (positional_at i ks) n found in
     let first : 0 ≡ n = some_is too in
-    let more : n ≡ suc there.0 = there.1.1 in
+    let more : n ≡ suc there.0 = there.2 in
     omega (arith, first, more)
 one_number (suc i) (suc k) (None ∷ ks) n found too =
     let one = before_it (positional_at i ks) n found in
     let two = before_it (positional_at k ks) n too in
-    let same : two.0 ≡ one.0 = let a : n ≡ suc one.0 = one.1.1 in let b : n ≡ suc two.0 = two.1.1 in omega (arith, a, b) in
-    ap suc (one_number i k ks one.0 one.1.0 (two.1.0 ∙ ap Some same))
+    let same : two.0 ≡ one.0 = let a : n ≡ suc one.0 = one.2 in let b : n ≡ suc two.0 = two.2 in omega (arith, a, b) in
+    ap suc (one_number i k ks one.0 one.1 (two.1 ∙ ap Some same))
 one_number i k (Some w ∷ ks) n found too =
     let one = before_it (positional_at i ks) n found in
     let two = before_it (positional_at k ks) n too in
-    let same : two.0 ≡ one.0 = let a : n ≡ suc one.0 = one.1.1 in let b : n ≡ suc two.0 = two.1.1 in omega (arith, a, b) in
-    one_number i k ks one.0 one.1.0 (two.1.0 ∙ ap Some same)
+    let same : two.0 ≡ one.0 = let a : n ≡ suc one.0 = one.2 in let b : n ≡ suc two.0 = two.2 in omega (arith, a, b) in
+    one_number i k ks one.0 one.1 (two.1 ∙ ap Some same)
 
 -- one place before others: it is this one, and none of the others is, or it is another, and what holds of the others holds of all
 one_before : (m n most : ℕ) (rest : List (Option ℕ)) → (m ≡ n → suc (hits n rest) ≤ most) → hits n rest ≤ most → hits n (Some m ∷ rest) ≤ most

@@ -5,7 +5,7 @@ use Rattle.std.specs.declared.result.Result.TheVariants.{Ok, Err}
 use Rattle.std.proofs.lemmas.Bool.{true≢false}
 use Rattle.vrl_diag.specs.declared.diagnostic.Diagnostic.{Diagnostic}
 use Rattle.vrl_diag.specs.declared.diagnostic.Span.{Span}
-use Rattle.vrl_syntax.specs.Tree.{Args, Closure, Expr, no_closure, closure}
+use Rattle.vrl_syntax.specs.Tree.{Args, Closure, Expr, no_closure, closure, span_of}
 use Rattle.vrl_builtin.specs.Rows.{ParameterRow}
 use Rattle.vrl_builtin.specs.declared.tags.Tags.{Tags as TagSet}
 use Rattle.vrl_table.specs.Binding.{binding, bound_from, bound_or_missing, bound_or_unknown, first_missing, first_unknown, is_wrong_number, keywords_of, Keywords}
@@ -13,26 +13,26 @@ use Rattle.vrl_table.specs.Table.{has_name_twice}
 use Rattle.vrl_table.specs.declared.binding.BindFault.{BindFault}
 use Rattle.vrl_judge.specs.Rules.{Argument, Judgement, argument_at, at, banged, is_disjoint, is_fallible, is_known, is_needless, when, IsBehind}
 use Rattle.vrl_check.specs.Apart.{one_if, same_span, times, Weights}
-use Rattle.vrl_check.specs.Judgement.{behind_arguments, bound, of_argument, of_arguments, of_call, of_closure, of_fault, of_found, of_unknown, span_of}
+use Rattle.vrl_check.specs.Judgement.{behind_arguments, bound, of_argument, of_arguments, of_call, of_closure, of_fault, of_found, of_unknown}
 use Rattle.vrl_check.proofs.BoundOnce.{bound_once, hits}
 use Rattle.vrl_table.specs.declared.binding.BindFault.TheVariants as fault
 
 module _ (code : ℕ) (here : Span) where
   -- how often a code at a place is this one
-  pub one : ℕ → Span → ℕ
+  unfoldable pub one : ℕ → Span → ℕ
   one k span = one_if (nat_eq k code && same_span span here)
 
   -- the codes that a form gives at its own place, and those that it gives at the place of a part
-  pub own : Span → ℕ
+  unfoldable pub own : Span → ℕ
   own span = one 103 span + (one 104 span + (one 106 span + (one 107 span + (one 620 span + (one 640 span + (one 650 span + (one 651 span + (one 660 span + (one 701 span + (one 1006 span + one 1010 span))))))))))
 
-  pub part : Span → ℕ
+  unfoldable pub part : Span → ℕ
   part span = one 100 span + (one 102 span + (one 110 span + (one 630 span + (one 652 span + (one 1005 span + (one 1011 span + one 1013 span))))))
 
   abbrev pub weights : Weights
   weights = record { expression = λ span. own span + part span; name = one 105; argument = one 108 }
 
-  pub counted : List Diagnostic → ℕ
+  unfoldable pub counted : List Diagnostic → ℕ
   counted ds = times code here ds
 
   pub none_counted : counted [] ≡ 0
@@ -47,7 +47,7 @@ module _ (code : ℕ) (here : Span) where
       omega (arith, more)
 
   pub one_counted : (k : ℕ) (span : Span) → counted (at k span) ≤ one k span
-  unfolding counted, one
+  unfolding counted one
   one_counted k span = omega arith
 
   pub when_counted : (b : Bool) (k : ℕ) (span : Span) → counted (when b (at k span)) ≤ one k span
