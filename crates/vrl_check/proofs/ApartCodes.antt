@@ -1,6 +1,6 @@
 -- No code stands twice at one place: each form gives a code once at its own place, and once at the place of each part, by codes of which none is
 -- both.
-use Rattle.std.proofs.Common.{◌≡◌, ℕ, zero, suc, ◌+◌, ◌≤◌, arith, Bool, true, false, ◌&&◌, ◌||◌, not, List, [], ◌∷◌, ◌++◌, Option, Some, None, nat_eq, eqb-true, if◌then◌else◌, refl, sym, ap, subst, ◌∙◌}
+use Rattle.std.proofs.Common.{◌≡◌, ℕ, ◌+◌, ◌≤◌, arith, Bool, true, false, ◌&&◌, ◌||◌, not, List, [], ◌∷◌, ◌++◌, Option, Some, None, nat_eq, eqb-true, refl, sym, ap, subst, ◌∙◌}
 use Rattle.std.specs.List.{list_any}
 use Rattle.std.proofs.lemmas.Bool.{true≢false}
 use Rattle.vrl_diag.specs.declared.diagnostic.Diagnostic.{Diagnostic}
@@ -14,7 +14,7 @@ use Rattle.vrl_syntax.specs.declared.root.Target.TheVariants.{Nowhere, Place}
 use Rattle.vrl_table.specs.Binding.{path_parameters}
 use Rattle.vrl_table.specs.Table.{row_of, ParametersAreToldApart}
 use Rattle.vrl_judge.specs.Rules.{Argument, Judgement, is_alive, is_comparison, is_compared, is_event, is_fallible, is_known, is_message_wrong, is_needless, is_no_event, is_nowhere, is_other, is_equality, at, chained, no_objects, of_assignment, of_error_assignment, of_message, of_predicate, when}
-use Rattle.vrl_check.specs.Apart.{arguments_at, at_place, expressions_at, names_at, nowhere, one_if, same_span, times, weigh_args, weigh_arms, weigh_closure, weigh_else, weigh_expr, weigh_exprs, weigh_form, weigh_message, weigh_pairs, weigh_target, AreApart, NoCodeStandsTwice, Weights}
+use Rattle.vrl_check.specs.Apart.{arguments_at, at_place, expressions_at, names_at, nowhere, one_if, same_span, weigh_args, weigh_arms, weigh_closure, weigh_else, weigh_expr, weigh_exprs, weigh_form, weigh_message, weigh_pairs, weigh_target, AreApart, NoCodeStandsTwice, Weights}
 use Rattle.vrl_check.specs.Judgement.{deleted_kind, of_item, pair_values, table_of, wants_literal, wants_path}
 use Rattle.vrl_check.specs.Judgement.{Judges, unreached, reached, Gives, a_literal, an_array, an_object, a_known_root, an_unknown_root, a_query, a_group, a_block, a_conditional, a_negation, an_equality, of_table, a_merge, a_conjunction, a_disjunction, a_coalescing, an_assignment, a_merge_into_nothing, a_merge_assignment, an_error_assignment, a_call_of_nothing, a_call, a_deletion, an_existence, a_return, an_abort, an_abort_with, JudgesBoth, operands, JudgesAll, no_more, one_more, JudgesArguments, no_more_arguments, one_more_argument, JudgesBlock, unreached_block, reached_block, JudgesArms, an_arm, an_else, a_missing_else, JudgesItems, no_more_items, one_more_item, JudgesScript, a_script}
 use Rattle.vrl_check.specs.OpenRules.{OpenRules}

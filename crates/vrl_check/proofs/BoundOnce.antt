@@ -157,8 +157,8 @@ once_named w i n (p ∷ ps) ks is apart =
     let parts = neither (list_any (is_keyword p.name) (names ps)) (has_name_twice ps) apart in
     one_parameter i n 1 p ps ks
     (λ named.
-        let none = not_among w i n ps ks is (ap (λ v. list_any (is_keyword v) (names ps)) (is_name w p ks n is named) ∙ parts.0) in
-        omega (arith, none))
+    let none = not_among w i n ps ks is (ap (λ v. list_any (is_keyword v) (names ps)) (is_name w p ks n is named) ∙ parts.0) in
+    omega (arith, none))
     (once_named w i n ps ks is parts.1)
     (λ positional. absurd (with_keyword w i ks n is positional)) (once_named w (suc i) n ps ks is parts.1)
 

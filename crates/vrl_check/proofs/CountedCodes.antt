@@ -1,19 +1,16 @@
 -- How often one code at one place stands among the codes of each form.
-use Rattle.std.proofs.Common.{◌≡◌, ℕ, zero, suc, ◌+◌, ◌≤◌, arith, Bool, true, false, ◌&&◌, ◌||◌, not, List, [], ◌∷◌, ◌++◌, map, Option, Some, None, nat_eq, eqb-true, slice_get, if◌then◌else◌, refl, sym, ap, ◌∙◌}
-use Rattle.std.specs.declared.result.Result.{Result}
+use Rattle.std.proofs.Common.{◌≡◌, ℕ, zero, suc, ◌+◌, ◌≤◌, arith, Bool, true, false, ◌&&◌, List, [], ◌∷◌, ◌++◌, Option, Some, None, nat_eq, slice_get, if◌then◌else◌, refl, ap, ◌∙◌}
 use Rattle.std.specs.declared.result.Result.TheVariants.{Ok, Err}
-use Rattle.std.proofs.lemmas.Bool.{true≢false}
 use Rattle.vrl_diag.specs.declared.diagnostic.Diagnostic.{Diagnostic}
 use Rattle.vrl_diag.specs.declared.diagnostic.Span.{Span}
 use Rattle.vrl_syntax.specs.Tree.{Args, Closure, Expr, no_closure, closure, span_of}
 use Rattle.vrl_builtin.specs.Rows.{ParameterRow}
-use Rattle.vrl_builtin.specs.declared.tags.Tags.{Tags as TagSet}
 use Rattle.vrl_table.specs.Binding.{binding, bound_from, bound_or_missing, bound_or_unknown, first_missing, first_unknown, is_wrong_number, keywords_of, Keywords}
 use Rattle.vrl_table.specs.Table.{has_name_twice}
 use Rattle.vrl_table.specs.declared.binding.BindFault.{BindFault}
-use Rattle.vrl_judge.specs.Rules.{Argument, Judgement, argument_at, at, banged, is_disjoint, is_fallible, is_known, is_needless, when, IsBehind}
+use Rattle.vrl_judge.specs.Rules.{Argument, Judgement, at, banged, is_disjoint, is_fallible, is_known, is_needless, when, IsBehind}
 use Rattle.vrl_check.specs.Apart.{one_if, same_span, times, Weights}
-use Rattle.vrl_check.specs.Judgement.{behind_arguments, bound, of_argument, of_arguments, of_call, of_closure, of_fault, of_found, of_unknown}
+use Rattle.vrl_check.specs.Judgement.{behind_arguments, bound, of_arguments, of_call, of_closure, of_found, of_unknown}
 use Rattle.vrl_check.proofs.BoundOnce.{bound_once, hits}
 use Rattle.vrl_table.specs.declared.binding.BindFault.TheVariants as fault
 
