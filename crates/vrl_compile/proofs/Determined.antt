@@ -36,7 +36,7 @@ read_and_unread tokens text ts s is none =
 
 -- ---- the order of diagnostics
 
-diagnostics_total : IsTotalOrder diagnostic_cmp
+pub diagnostics_total : IsTotalOrder diagnostic_cmp
 diagnostics_total = then_total (on_total (λ d. d.span.start) nat_cmp_total) (then_total (on_total (λ d. d.span.end) nat_cmp_total) (on_total (λ d. d.code) nat_cmp_total))
 
 same_number : (m n : ℕ) → nat_cmp m n ≡ Equal → m ≡ n
@@ -54,7 +54,7 @@ same_span s t starts ends =
     ap (λ a. made a s.end) starts ∙ ap (made t.start) ends
 
 -- two diagnostics that tie are the same
-tied : (d e : Diagnostic) → diagnostic_cmp d e ≡ Equal → d ≡ e
+pub tied : (d e : Diagnostic) → diagnostic_cmp d e ≡ Equal → d ≡ e
 tied d e same =
     let first = both_tie (nat_cmp d.span.start e.span.start) _ same in
     let second = both_tie (nat_cmp d.span.end e.span.end) (nat_cmp d.code e.code) first.1 in

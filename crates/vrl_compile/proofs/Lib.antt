@@ -1,9 +1,11 @@
 pub mod AllFunctions
+pub mod ApartParts
 pub mod BuiltCalls
 pub mod Compiling
 pub mod Determined
 pub mod MalformedLiterals
 pub mod PassingWords
+pub mod Regions
 pub mod Sorting
 pub mod SoundAll
 pub mod SoundAnswers
@@ -27,4 +29,6 @@ pub mod SoundTags
 pub mod SoundTruth
 pub mod SoundValues
 pub mod SoundWrites
+pub mod StrictOrder
+pub mod ToldOnce
 pub mod WellFormedLiterals

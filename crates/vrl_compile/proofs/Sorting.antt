@@ -14,7 +14,7 @@ use Rattle.std.proofs.lemmas.List.Sums.{sum_by-cons}
 abbrev below : {X : Type 0} → (X → X → Ordering) → X → X → ℕ
 below R x y = cond (is_lt (R y x)) 1 0
 
-reversed_gt : (a b : Ordering) → a ≡ ordering_reverse b → is_lt a ≡ false → is_gt b ≡ false
+pub reversed_gt : (a b : Ordering) → a ≡ ordering_reverse b → is_lt a ≡ false → is_gt b ≡ false
 reversed_gt a Less same not_less = refl
 reversed_gt a Equal same not_less = refl
 reversed_gt a Greater same not_less = let less : a ≡ Less = same in cc
@@ -29,7 +29,7 @@ equal_of_both a Less same one two = cc
 equal_of_both a Equal same one two = same
 equal_of_both a Greater same one two = let less : a ≡ Less = same in cc
 
-sorted_tail : {X : Type 0} (R : X → X → Ordering) (x : X) (xs : List X) → IsSorted R (x ∷ xs) → IsSorted R xs
+pub sorted_tail : {X : Type 0} (R : X → X → Ordering) (x : X) (xs : List X) → IsSorted R (x ∷ xs) → IsSorted R xs
 sorted_tail R x xs sorted = λ k d low high. subst (λ n. is_lt (R (slice_index_or (x ∷ xs) n d) (slice_index_or xs k d)) ≡ false) (next k) (sorted (suc k) d (omega arith) (omega (arith, high)))
   where
     next : (k : ℕ) → suc k + 1 ≡ suc (k + 1)

@@ -1,6 +1,7 @@
 pub mod Answer
 pub mod Functions
 pub mod Literals
+pub mod Once
 pub mod Program
 pub mod Reading
 pub mod Sound

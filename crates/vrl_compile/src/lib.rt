@@ -12,7 +12,7 @@ mod script;
 mod soundness;
 
 pub use functions::functions_are_counted;
-pub use reading::{diagnostics_are_determined, scripts_have_one_reading};
+pub use reading::{diagnostics_are_determined, diagnostics_stand_once, scripts_have_one_reading};
 pub use script::{Accepted, Compiled, compile};
 pub use soundness::{accepted_scripts_are_sound, expressions_are_sound, scripts_are_sound};
 pub use vrl_diag::{Diagnostic, Diagnostics, Span};

@@ -1,6 +1,7 @@
+ghost use Rattle.vrl_compile.specs.Once.{CodesStandOnce, DiagnosticsStandOnce};
 ghost use Rattle.vrl_compile.specs.Reading.{DiagnosticsAreDetermined, ScriptsHaveOneReading};
 
-use vrl_check::judgements_are_determined;
+use vrl_check::{judgements_are_determined, no_code_stands_twice};
 use vrl_parse::scripts_are_determined;
 use vrl_token::tokens_are_determined;
 
@@ -20,4 +21,13 @@ pub fn diagnostics_are_determined()
     tokens_are_determined();
     scripts_are_determined();
     judgements_are_determined();
+}
+
+/// No code stands twice at one place in a judgement of the script that is read in a text, and no diagnostic of a text stands twice, where
+/// the text's tokens stand in it one behind another, as those that `tokens` gives do. This takes no time: it is a law about the definitions.
+pub fn diagnostics_stand_once()
+    ensures codes { CodesStandOnce }
+    ensures diagnostics { DiagnosticsStandOnce }
+{
+    no_code_stands_twice();
 }

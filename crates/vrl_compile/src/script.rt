@@ -13,8 +13,10 @@ ghost use Rattle.vrl_check.specs.Judgement.{JudgesScript};
 ghost use Rattle.vrl_check.specs.OpenRules.{language_rules};
 ghost use Rattle.vrl_compile.specs.Answer.{CanBeJudged, IsAnswer, IsRefused, IsScript, IsSoundAnswer, not_built};
 ghost use Rattle.vrl_compile.specs.Literals.{IsRefusedFor};
+ghost use Rattle.vrl_compile.specs.Once.{HasTokensInOrder, TellsOnce};
 
 use crate::literals::{LiteralFault, build_literals};
+use crate::reading::diagnostics_stand_once;
 use crate::soundness::accepted_scripts_are_sound;
 use std::alloc::Global;
 use vrl_check::{Judged, check};
@@ -24,7 +26,7 @@ use vrl_parse::parse;
 use vrl_pattern::Patterns;
 use vrl_resolve::Program;
 use vrl_syntax::Script;
-use vrl_token::{SyntaxFault, Tokens, tokens};
+use vrl_token::{SyntaxFault, Tokens, tokens, tokens_are_determined};
 use vrl_value::{Memory, Names};
 use vrl_word::are_built;
 
@@ -56,7 +58,7 @@ pub enum Compiled {
 /// reads no script (203); the first path that is written or deleted beyond the limits (1007, 1012); a call of a
 /// function that isn't built yet (1099, at the start of the text); the regex literals that are malformed (101); the judgement.
 /// Diagnostics stand in the order of their starts, those of one start in the order of their ends, and those of
-/// one span in the order of their codes.
+/// one span in the order of their codes; none stands twice.
 ///
 /// The script is accepted where none of its diagnostics is an error; those that are left are warnings. Else it is
 /// refused, with all its diagnostics, one of which at least is an error.
@@ -72,8 +74,10 @@ pub fn compile(alloc: Global, text: &str, declared: &Kind) -> Result<Compiled, M
     requires present { allows_absent declared.now ≡ false }
     ensures answer { IfOk result (IsAnswer declared.now text.now) }
     ensures sound { IfOk result (IsSoundAnswer declared.now) }
+    ensures once { IfOk result TellsOnce }
 {
     accepted_scripts_are_sound();
+    diagnostics_stand_once();
     match read(alloc, text) {
         Ok(parsed) => compile_parsed(alloc, parsed, declared),
         Err(fault) => {
@@ -107,9 +111,11 @@ fn read(alloc: Global, text: &str) -> Result<Parsed, SyntaxFault>
     ensures limits { IfOk result (λ parsed. KeepsLimits (exprs_of parsed.script.items)) }
     ensures regexes { IfOk result (λ parsed. IsNumbered (script_of parsed.script)) }
     ensures sources { IfOk result (λ parsed. parsed.script.patterns ≡ sources_of parsed.tokens.tokens) }
+    ensures order { IfOk result (λ _. HasTokensInOrder text.now) }
     ensures fault { IfErr result (OnFault (λ fault. (declared : KindTree)
         → IsRefused declared text.now (fault ∷ []))) }
 {
+    tokens_are_determined();
     let tokens = tokens(alloc, text)?;
     let script = parse(alloc, &tokens)?;
     Ok(Parsed { tokens, script })

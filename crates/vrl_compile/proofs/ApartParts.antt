@@ -1,0 +1,508 @@
+-- The parts of a script that is read stand at places of their own: each stands between its first word and its last one, and fills this stretch
+-- with no single part of its own.
+use Rattle.std.proofs.Common.{◌≡◌, ℕ, suc, ◌+◌, ◌<◌, ◌≤◌, Bool, true, false, List, [], ◌∷◌, ◌++◌, Option, Some, if◌then◌else◌, length, nat_eq, eqb-true, bytes_eq, codes, refl, sym, subst, ◌∙◌, arith}
+use Rattle.std.proofs.lemmas.Bool.{and_parts}
+use Rattle.vrl_diag.specs.declared.diagnostic.Span.{Span}
+use Rattle.vrl_syntax.specs.Tree.{Args, Arms, Closure, Else, Expr, expr, Exprs, Form, Pairs, Script, literal, array, object, read, query, group, block, conditional, negation, binary, assign, merge, both, call, return_of, abort_with, no_message, message, no_closure, span_of}
+use Rattle.vrl_syntax.specs.declared.root.Root.TheVariants as root
+use Rattle.vrl_syntax.specs.declared.root.Target.{Target}
+use Rattle.vrl_syntax.specs.declared.root.Target.TheVariants.{Nowhere, Place}
+use Rattle.vrl_token.specs.declared.token.Spanned.{Spanned}
+use Rattle.vrl_token.specs.declared.token.Token.{Token}
+use Rattle.vrl_token.specs.declared.token.Token.TheVariants as token
+use Rattle.vrl_token.specs.Placing.{InOrderFrom, spans_of}
+use Rattle.vrl_word.specs.Words.{Word, name_span, over, regex_of, target_at, words_from}
+use Rattle.vrl_parse.specs.Grammar.{IsScript, no_items, separator, last_item, more_items, IsItem, both_targets, single as single_item, IsSingle, assigned, merged, returned, aborted, aborted_with, coalesce, IsLevel, tighter, joined, tightest, IsUnary, negated, primary, IsPrimary, a_literal, a_path, without_suffix, with_suffix, with_closure, an_object, a_block, an_if, MayHaveSuffix, a_call, an_array, a_group, IsCall, called, AreArgs, no_arguments, last_argument, more_arguments, IsArg, named, unnamed, IsClosure, a_closure, AreSingles, no_singles, last_single, more_singles, ArePairs, no_parts, last_pair, more_pairs, IsBlock, a_script, AreArms, last_arm, with_else, more_arms}
+use Rattle.vrl_parse.specs.Reading.{Reads}
+use Rattle.vrl_check.specs.Apart.{at_place, nowhere, one_if, same_span, weigh_args, weigh_arms, weigh_closure, weigh_else, weigh_expr, weigh_exprs, weigh_form, weigh_pairs, weigh_target, AreApart, Weights}
+use Rattle.vrl_compile.proofs.Regions.{Count, none, single, nothing, fewer, widened, beside, at_most_one, Inside, no_part, part, inside, two_inside}
+
+-- ---- words in order
+
+-- the words stand between these places, one behind another, and each has a byte
+abbrev Stand : ℕ → List Word → ℕ → Type 0
+Stand lo [] hi = lo ≤ hi
+Stand lo (w ∷ ws) hi = (lo ≤ w.span.start) × (w.span.start < w.span.end) × Stand w.span.end ws hi
+
+words_stand : (n lo hi : ℕ) (ts : List Spanned) → InOrderFrom lo hi (spans_of ts) → Stand lo (words_from n ts) hi
+words_stand n lo hi [] is = is
+words_stand n lo hi (t ∷ ts) is = (is.0, is.1, words_stand (length (regex_of t.token) + n) t.span.end hi ts is.2)
+
+ascends : (lo hi : ℕ) (ws : List Word) → Stand lo ws hi → lo ≤ hi
+ascends lo hi [] is = is
+ascends lo hi (w ∷ ws) is = let more = ascends w.span.end hi ws is.2 in let a = is.0 in let b = is.1 in omega (arith, a, b, more)
+
+record Parted (lo hi : ℕ) (ws vs : List Word) : Type 0 where
+  mid : ℕ
+  front : Stand lo ws mid
+  back : Stand mid vs hi
+
+parted : (lo hi : ℕ) (ws vs : List Word) → Stand lo (ws ++ vs) hi → Parted lo hi ws vs
+parted lo hi [] vs is = record { mid = lo; front = omega arith; back = is }
+parted lo hi (w ∷ ws) vs is = let more = parted w.span.end hi ws vs is.2 in record { mid = more.mid; front = (is.0, is.1, more.front); back = more.back }
+
+-- words between two that enclose them
+record Enclosed (lo hi : ℕ) (o c : Word) (ws : List Word) : Type 0 where
+  mid : ℕ
+  opens : lo ≤ o.span.start
+  first : o.span.start < o.span.end
+  within : Stand o.span.end ws mid
+  order : o.span.end ≤ mid
+  closes : mid ≤ c.span.start
+  last : c.span.start < c.span.end
+  ends : c.span.end ≤ hi
+
+enclosed : (lo hi : ℕ) (o c : Word) (ws : List Word) → Stand lo (o ∷ ws ++ c ∷ []) hi → Enclosed lo hi o c ws
+enclosed lo hi o c ws is =
+    let parts = parted o.span.end hi ws (c ∷ []) is.2 in
+    record { mid = parts.mid; opens = is.0; first = is.1; within = parts.front; order = ascends o.span.end parts.mid ws parts.front; closes = parts.back.0; last = parts.back.1; ends = parts.back.2 }
+
+-- ---- what is counted in the parts of a script
+
+-- an expression between two places
+record Holds (x y a : ℕ) (w : Weights) (lo hi : ℕ) (e : Expr) : Type 0 where
+  from : lo ≤ (span_of e).start
+  some : (span_of e).start < (span_of e).end
+  to : (span_of e).end ≤ hi
+  count : Count x y (weigh_expr w e) ((span_of e).start + a) (span_of e).end
+
+record HoldsBlock (x y : ℕ) (w : Weights) (lo hi : ℕ) (es : Exprs) (span : Span) : Type 0 where
+  from : lo ≤ span.start
+  last : ℕ
+  above : span.start < last
+  below : last < span.end
+  to : span.end ≤ hi
+  count : Count x y (weigh_exprs w es) (suc span.start) last
+
+-- a call's arguments, between its name and its last word
+record HoldsCall (x y : ℕ) (w : Weights) (lo hi : ℕ) (span stop : Span) (gs : Args) : Type 0 where
+  from : lo ≤ span.start
+  some : span.start < span.end
+  last : ℕ
+  above : span.end ≤ last
+  below : last < stop.end
+  to : stop.end ≤ hi
+  count : Count x y (weigh_args w gs) span.end last
+
+record HoldsClosure (x y : ℕ) (w : Weights) (lo hi : ℕ) (c : Closure) (span : Span) : Type 0 where
+  last : ℕ
+  above : lo ≤ last
+  below : last < span.end
+  to : span.end ≤ hi
+  count : Count x y (weigh_closure w c) lo last
+
+record HoldsArg (x y : ℕ) (w : Weights) (lo hi : ℕ) (span : Span) (e : Expr) : Type 0 where
+  from : lo ≤ span.start
+  some : span.start < span.end
+  to : span.end ≤ hi
+  count : Count x y (w.argument span + weigh_expr w e) span.start span.end
+
+record HoldsArms (x y : ℕ) (w : Weights) (lo hi : ℕ) (gs : Arms) (es : Else) (span : Span) : Type 0 where
+  above : lo ≤ span.end
+  to : span.end ≤ hi
+  count : Count x y (weigh_arms w gs + weigh_else w es) lo span.end
+
+-- What is counted stands from `x` to `y`. An expression counts so at its own place beside what is inside it, a name beside what stands behind it,
+-- and an argument beside its value.
+module _ (x y a : ℕ) (w : Weights) (small : a ≤ 1)
+    (own : (span : Span) (n : ℕ) → span.start < span.end → Inside x y a n span.start span.end → Count x y (w.expression span + n) (span.start + a) span.end)
+    (naming : (span : Span) (bang : Bool) (n from to : ℕ) → span.start < span.end → span.end ≤ from → from ≤ to → Count x y n from to → Count x y (w.name (name_span span bang) + n) (span.start + a) to)
+    (arguing : (span : Span) (n from to : ℕ) → span.start < span.end → span.start + a ≤ from → to ≤ span.end → Count x y n from to → Count x y (w.argument span + n) span.start span.end) where
+  abbrev Fits : ℕ → ℕ → Expr → Type 0
+  Fits lo hi e = Holds x y a w lo hi e
+
+  made : (lo hi : ℕ) (span : Span) (f : Form) → lo ≤ span.start → span.start < span.end → span.end ≤ hi → Inside x y a (weigh_form w f) span.start span.end → Fits lo hi (expr span f)
+  made lo hi span f from some to within = record { from = from; some = some; to = to; count = own span (weigh_form w f) some within }
+
+  -- one word, or what has no part that counts
+  alone : (lo hi : ℕ) (span : Span) (f : Form) → lo ≤ span.start → span.start < span.end → span.end ≤ hi → weigh_form w f ≤ 0 → Fits lo hi (expr span f)
+  alone lo hi span f from some to none_in_it = made lo hi span f from some to (no_part none_in_it)
+
+  -- words, and an expression behind them that is counted alone
+  prefixed : (lo mid hi : ℕ) (span : Span) (e : Expr) (f : Form) → lo ≤ span.start → span.start < span.end → span.end ≤ mid → Fits mid hi e → weigh_form w f ≤ weigh_expr w e → Fits lo hi (expr (over span (span_of e)) f)
+  prefixed lo mid hi span e f from some behind it less =
+      let start = it.from in
+      let size = it.some in
+      let stop = it.to in
+      made lo hi (over span (span_of e)) f from (omega (arith, some, behind, start, size)) stop
+      (inside span.start (span_of e).end (omega (arith, some, behind, start)) (omega arith) (omega (arith, some, behind, start)) (fewer (weigh_form w f) less it.count))
+
+  -- between two words
+  bracketed : (lo hi : ℕ) (o c : Word) (ws : List Word) (f : Form) (n : ℕ) (parts : Enclosed lo hi o c ws) → weigh_form w f ≤ n → Count x y n o.span.end parts.mid → Fits lo hi (expr (over o.span c.span) f)
+  bracketed lo hi o c ws f n parts less count =
+      let first = parts.first in
+      let order = parts.order in
+      let closes = parts.closes in
+      let last = parts.last in
+      made lo hi (over o.span c.span) f parts.opens (omega (arith, first, order, closes, last)) parts.ends
+      (inside o.span.start c.span.end (omega (arith, first, small)) (omega (arith, closes, last)) (omega (arith, first, order, closes, last)) (fewer (weigh_form w f) less count))
+
+  -- an expression and what stands behind it
+  then_more : (lo mid next hi m : ℕ) (e : Expr) → Fits lo mid e → mid ≤ next → next ≤ hi → Count x y m next hi → Count x y (weigh_expr w e + m) lo hi
+  then_more lo mid next hi m e it between order count =
+      let from = it.from in
+      let some = it.some in
+      let to = it.to in
+      beside (omega (arith, from, some, to, between)) (omega (arith, to, between)) (omega (arith, to, between, order)) (widened lo (span_of e).end (omega (arith, from)) (omega arith) it.count) count
+
+  last_one : (lo hi : ℕ) (e : Expr) → Fits lo hi e → Count x y (weigh_expr w e + 0) lo hi
+  last_one lo hi e it =
+      let from = it.from in
+      let to = it.to in
+      fewer (weigh_expr w e + 0) (omega arith) (widened lo hi (omega (arith, from)) to it.count)
+
+  place_counts : (span : Span) → span.start < span.end → Count x y (w.expression span) (span.start + a) span.end
+  place_counts span some = fewer (w.expression span) (omega arith) (own span 0 some (no_part (omega arith)))
+
+  name_target : (b : Bool) (t u : Target) (span : Span) → span.start < span.end → Some (if b then Nowhere else u) ≡ Some t → (Count x y (weigh_target w u) (span.start + a) span.end) → Count x y (weigh_target w t) (span.start + a) span.end
+  name_target true t u span some is count = let same : Nowhere ≡ t = cc in subst (λ v. Count x y (weigh_target w v) (span.start + a) span.end) same (nothing (span.start + a) span.end)
+  name_target false t u span some is count = let same : u ≡ t = cc in subst (λ v. Count x y (weigh_target w v) (span.start + a) span.end) same count
+
+  target_counts : (k : Token) (span : Span) (t : Target) → target_at k span ≡ Some t → span.start < span.end → Count x y (weigh_target w t) (span.start + a) span.end
+  target_counts (token.Name n) span t is some = name_target (bytes_eq n (codes "_")) t (Place span (root.Name n) []) span some is (place_counts span some)
+  target_counts (token.NamePath n path) span t is some = let same : Place span (root.Name n) path ≡ t = cc in subst (λ v. Count x y (weigh_target w v) (span.start + a) span.end) same (place_counts span some)
+  target_counts (token.EventPath path) span t is some = let same : Place span root.Event path ≡ t = cc in subst (λ v. Count x y (weigh_target w v) (span.start + a) span.end) same (place_counts span some)
+  target_counts k span t is some = let wrong : ⊥ = cc in absurd wrong
+
+  -- two operands, or a target and what is merged into it
+  two_parts : (lo hi n m : ℕ) (first last : Span) (f : Form) → lo ≤ first.start → first.start < first.end → first.end ≤ last.start → last.start < last.end → last.end ≤ hi → weigh_form w f ≤ n + m →
+      Count x y n (first.start + a) first.end → Count x y m (last.start + a) last.end → Fits lo hi (expr (over first last) f)
+  two_parts lo hi n m first last f from some between more to less one two =
+      made lo hi (over first last) f from (omega (arith, some, between, more)) to (by (two_inside first.start last.end (omega arith) (omega (arith, some, between, more)) (omega (arith, between)) (omega (arith, small, more)) (omega (arith, some, between)) (omega arith) (omega (arith, some, between)) one two)) where
+        by : Inside x y a (n + m) first.start last.end → Inside x y a (weigh_form w f) first.start last.end
+        by (no_part zero) = no_part (omega (arith, less, zero))
+        by (part one_is at size up free) = part (omega (arith, less, one_is)) at size up free
+
+  call_fits : (lo hi : ℕ) (span stop last : Span) (f : List ℕ × Bool) (gs : Args) (c : Closure) (n end_at : ℕ) → lo ≤ span.start → span.start < span.end → span.end ≤ end_at → end_at < last.end → last.end ≤ hi → weigh_args w gs + weigh_closure w c ≤ n → Count x y n span.end end_at →
+      Fits lo hi (expr (over span last) (call f.0 (name_span span f.1) f.1 gs c))
+  call_fits lo hi span stop last f gs c n end_at from some above below to less count =
+      made lo hi (over span last) (call f.0 (name_span span f.1) f.1 gs c) from (omega (arith, some, above, below)) to
+      (inside span.start last.end (omega arith) (omega (arith, below)) (omega (arith, below)) (naming span f.1 (weigh_args w gs + weigh_closure w c) span.end end_at some (omega arith) above (fewer (weigh_args w gs + weigh_closure w c) less count)))
+
+  block_counts : (lo hi : ℕ) (es : Exprs) (span : Span) → HoldsBlock x y w lo hi es span → Count x y (weigh_exprs w es) lo span.end
+  block_counts lo hi es span it = let from = it.from in let below = it.below in widened lo span.end (omega (arith, from)) (omega (arith, below)) it.count
+
+  mutual
+    script_fits : (lo hi : ℕ) {ws : List Word} {es : Exprs} → IsScript ws es → Stand lo ws hi → Count x y (weigh_exprs w es) lo hi
+    script_fits lo hi no_items stand = nothing lo hi
+    script_fits lo hi (separator {w = word} is rest) stand =
+        let from = stand.0 in
+        let some = stand.1 in
+        widened lo hi (omega (arith, from, some)) (omega arith) (script_fits word.span.end hi rest stand.2)
+    script_fits lo hi (last_item {e = e} it) stand = last_one lo hi e (item_fits lo hi it stand)
+    script_fits lo hi (more_items {ws = ws} {vs = vs} {w = word} {e = e} {es = es} it is rest) stand =
+        let parts = parted lo hi ws (word ∷ vs) stand in
+        let at = parts.back.0 in
+        let some = parts.back.1 in
+        then_more lo parts.mid word.span.end hi (weigh_exprs w es) e (item_fits lo parts.mid it parts.front) (omega (arith, at, some)) (ascends word.span.end hi vs parts.back.2) (script_fits word.span.end hi rest parts.back.2)
+
+    item_fits : (lo hi : ℕ) {ws : List Word} {e : Expr} → IsItem ws e → Stand lo ws hi → Fits lo hi e
+    item_fits lo hi (both_targets {w = word} {c = c} {v = v} {q = q} {t = t} {u = u} {e = e} one comma two equals it) stand =
+        let a1 = stand.2.0 in
+        let a2 = stand.2.1 in
+        let b1 = stand.2.2.0 in
+        let b2 = stand.2.2.1 in
+        let c1 = stand.2.2.2.0 in
+        let c2 = stand.2.2.2.1 in
+        prefixed lo q.span.end hi word.span e (both t u e) stand.0 stand.1 (omega (arith, a1, a2, b1, b2, c1, c2)) (single_fits q.span.end hi it stand.2.2.2.2) (omega arith)
+    item_fits lo hi (single_item it) stand = single_fits lo hi it stand
+
+    single_fits : (lo hi : ℕ) {ws : List Word} {e : Expr} → IsSingle ws e → Stand lo ws hi → Fits lo hi e
+    single_fits lo hi (assigned {w = word} {q = q} {t = t} {e = e} one is it) stand =
+        let a1 = stand.2.0 in
+        let a2 = stand.2.1 in
+        prefixed lo q.span.end hi word.span e (assign t e) stand.0 stand.1 (omega (arith, a1, a2)) (single_fits q.span.end hi it stand.2.2) (omega arith)
+    single_fits lo hi (merged {w = word} {q = q} {t = t} {e = e} one is it) stand =
+        let a1 = stand.2.0 in
+        let a2 = stand.2.1 in
+        let part_of = single_fits q.span.end hi it stand.2.2 in
+        let from = part_of.from in
+        two_parts lo hi (weigh_target w t) (weigh_expr w e) word.span (span_of e) (merge t e) stand.0 stand.1 (omega (arith, a1, a2, from)) part_of.some part_of.to (omega arith) (target_counts word.token word.span t one stand.1) part_of.count
+    single_fits lo hi (returned {w = word} {e = e} is it) stand = prefixed lo word.span.end hi word.span e (return_of e) stand.0 stand.1 (omega arith) (single_fits word.span.end hi it stand.2) (omega arith)
+    single_fits lo hi (aborted {w = word} is) stand = alone lo hi word.span (abort_with no_message) stand.0 stand.1 stand.2 (omega arith)
+    single_fits lo hi (aborted_with {w = word} {e = e} is it) stand = prefixed lo word.span.end hi word.span e (abort_with (message e)) stand.0 stand.1 (omega arith) (single_fits word.span.end hi it stand.2) (omega arith)
+    single_fits lo hi (coalesce it) stand = level_fits lo hi it stand
+
+    level_fits : (lo hi : ℕ) {n : ℕ} {ws : List Word} {e : Expr} → IsLevel n ws e → Stand lo ws hi → Fits lo hi e
+    level_fits lo hi (tighter it) stand = level_fits lo hi it stand
+    level_fits lo hi (joined {o = o} {ws = ws} {vs = vs} word {l = l} {r = r} left is right) stand =
+        let parts = parted lo hi ws (word ∷ vs) stand in
+        let at = parts.back.0 in
+        let size = parts.back.1 in
+        let one = level_fits lo parts.mid left parts.front in
+        let two = level_fits word.span.end hi right parts.back.2 in
+        let to = one.to in
+        let from = two.from in
+        two_parts lo hi (weigh_expr w l) (weigh_expr w r) (span_of l) (span_of r) (binary o l r) one.from one.some (omega (arith, to, at, size, from)) two.some two.to (omega arith) one.count two.count
+    level_fits lo hi (tightest it) stand = unary_fits lo hi it stand
+
+    unary_fits : (lo hi : ℕ) {ws : List Word} {e : Expr} → IsUnary ws e → Stand lo ws hi → Fits lo hi e
+    unary_fits lo hi (negated {w = word} {e = e} is it) stand = prefixed lo word.span.end hi word.span e (negation e) stand.0 stand.1 (omega arith) (unary_fits word.span.end hi it stand.2) (omega arith)
+    unary_fits lo hi (primary it) stand = primary_fits lo hi it stand
+
+    primary_fits : (lo hi : ℕ) {ws : List Word} {e : Expr} → IsPrimary ws e → Stand lo ws hi → Fits lo hi e
+    primary_fits lo hi (a_literal {w = word} {v = v} is) stand = alone lo hi word.span (literal v) stand.0 stand.1 stand.2 (omega arith)
+    primary_fits lo hi (a_path {w = word} {r = r} {p = p} is) stand = alone lo hi word.span (read r p) stand.0 stand.1 stand.2 (omega arith)
+    primary_fits lo hi (without_suffix it) stand = part_fits lo hi it stand
+    primary_fits lo hi (with_suffix {ws = ws} {w = word} {p = p} {e = e} it is) stand =
+        let parts = parted lo hi ws (word ∷ []) stand in
+        let at = parts.back.0 in
+        let size = parts.back.1 in
+        let one = part_fits lo parts.mid it parts.front in
+        let some = one.some in
+        let to = one.to in
+        made lo hi (over (span_of e) word.span) (query e p) one.from (omega (arith, some, to, at, size)) parts.back.2
+        (inside (span_of e).start word.span.end (omega arith) (omega (arith, to, at, size)) (omega (arith, to, at, size)) one.count)
+    primary_fits lo hi (with_closure {ws = ws} {vs = vs} {span = span} {end = stop} {last = last} {f = f} {gs = gs} {c = c} it closure) stand =
+        let parts = parted lo hi ws vs stand in
+        let one = function_fits lo parts.mid it parts.front in
+        let two = closure_fits parts.mid hi closure parts.back in
+        let above = one.above in
+        let below = one.below in
+        let to = one.to in
+        let more = two.above in
+        call_fits lo hi span stop last f gs c (weigh_args w gs + weigh_closure w c) two.last one.from one.some (omega (arith, above, below, to, more)) two.below two.to (omega arith)
+        (beside (omega (arith, above, below, to)) (omega (arith, below, to)) (omega (arith, below, to, more)) one.count two.count)
+    primary_fits lo hi (an_object {o = o} {c = c} {ws = ws} {ps = ps} opens it closes) stand =
+        let parts = enclosed lo hi o c ws stand in
+        bracketed lo hi o c ws (object ps) (weigh_pairs w ps) parts (omega arith) (pairs_fit o.span.end parts.mid it parts.within)
+    primary_fits lo hi (a_block {span = span} {es = es} it) stand =
+        let one = block_fits lo hi it stand in
+        let above = one.above in
+        let below = one.below in
+        made lo hi span (block es) one.from (omega (arith, above, below)) one.to (inside span.start span.end (omega (arith, small)) (omega (arith, below)) (omega (arith, below)) one.count)
+    primary_fits lo hi (an_if {w = word} {end = stop} {gs = gs} {es = es} is it) stand =
+        let some = stand.1 in
+        let one = arms_fit word.span.end hi it stand.2 in
+        let above = one.above in
+        made lo hi (over word.span stop) (conditional gs es) stand.0 (omega (arith, some, above)) one.to (inside word.span.start stop.end (omega (arith, some, small)) (omega arith) (omega (arith, some)) one.count)
+
+    part_fits : (lo hi : ℕ) {ws : List Word} {e : Expr} → MayHaveSuffix ws e → Stand lo ws hi → Fits lo hi e
+    part_fits lo hi (a_call {span = span} {end = stop} {f = f} {gs = gs} it) stand =
+        let one = function_fits lo hi it stand in
+        call_fits lo hi span stop stop f gs no_closure (weigh_args w gs) one.last one.from one.some one.above one.below one.to (omega arith) one.count
+    part_fits lo hi (an_array {o = o} {c = c} {ws = ws} {es = es} opens it closes) stand =
+        let parts = enclosed lo hi o c ws stand in
+        bracketed lo hi o c ws (array es) (weigh_exprs w es) parts (omega arith) (singles_fit o.span.end parts.mid it parts.within)
+    part_fits lo hi (a_group {o = o} {c = c} {ws = ws} {e = e} opens it closes) stand =
+        let parts = enclosed lo hi o c ws stand in
+        bracketed lo hi o c ws (group e) (weigh_expr w e + 0) parts (omega arith) (last_one o.span.end parts.mid e (item_fits o.span.end parts.mid it parts.within))
+
+    function_fits : (lo hi : ℕ) {ws : List Word} {f : List ℕ × Bool} {span stop : Span} {gs : Args} → IsCall ws f span gs stop → Stand lo ws hi → HoldsCall x y w lo hi span stop gs
+    function_fits lo hi (called {w = word} {o = o} {c = c} {ws = ws} {gs = gs} is opens it closes) stand =
+        let parts = enclosed word.span.end hi o c ws stand.2 in
+        let at = parts.opens in
+        let size = parts.first in
+        let order = parts.order in
+        let ends = parts.closes in
+        let last = parts.last in
+        record { from = stand.0; some = stand.1; last = parts.mid; above = omega (arith, at, size, order); below = omega (arith, ends, last); to = parts.ends; count = widened word.span.end parts.mid (omega (arith, at, size)) (omega arith) (args_fit o.span.end parts.mid it parts.within) }
+
+    args_fit : (lo hi : ℕ) {ws : List Word} {gs : Args} → AreArgs ws gs → Stand lo ws hi → Count x y (weigh_args w gs) lo hi
+    args_fit lo hi no_arguments stand = nothing lo hi
+    args_fit lo hi (last_argument {s = s} {e = e} it) stand =
+        let one = arg_fits lo hi it stand in
+        fewer (w.argument s + (weigh_expr w e + 0)) (omega arith) (widened lo hi one.from one.to one.count)
+    args_fit lo hi (more_arguments {ws = ws} {vs = vs} {c = c} {s = s} {e = e} {gs = gs} it is rest) stand =
+        let parts = parted lo hi ws (c ∷ vs) stand in
+        let at = parts.back.0 in
+        let size = parts.back.1 in
+        let one = arg_fits lo parts.mid it parts.front in
+        let from = one.from in
+        let some = one.some in
+        let to = one.to in
+        let order = ascends c.span.end hi vs parts.back.2 in
+        fewer (w.argument s + (weigh_expr w e + weigh_args w gs)) (omega arith)
+        (beside (omega (arith, from, some, to, at, size)) (omega (arith, to, at, size)) (omega (arith, to, at, size, order)) (widened lo s.end from (omega arith) one.count) (args_fit c.span.end hi rest parts.back.2))
+
+    arg_fits : (lo hi : ℕ) {ws : List Word} {n : Option (List ℕ)} {s : Span} {e : Expr} → IsArg ws n s e → Stand lo ws hi → HoldsArg x y w lo hi s e
+    arg_fits lo hi (named {w = word} {c = c} {e = e} is colon it) stand =
+        let some = stand.1 in
+        let at = stand.2.0 in
+        let size = stand.2.1 in
+        let one = single_fits c.span.end hi it stand.2.2 in
+        let from = one.from in
+        let more = one.some in
+        let whole = over word.span (span_of e) in
+        let wide : word.span.start < (span_of e).end = omega (arith, some, at, size, from, more) in
+        record { from = stand.0; some = wide; to = one.to; count = arguing whole (weigh_expr w e) ((span_of e).start + a) (span_of e).end wide (omega (arith, some, at, size, from)) (omega arith) one.count }
+    arg_fits lo hi (unnamed {e = e} it) stand =
+        let one = single_fits lo hi it stand in
+        record { from = one.from; some = one.some; to = one.to; count = arguing (span_of e) (weigh_expr w e) ((span_of e).start + a) (span_of e).end one.some (omega arith) (omega arith) one.count }
+
+    closure_fits : (lo hi : ℕ) {ws : List Word} {c : Closure} {span : Span} → IsClosure ws c span → Stand lo ws hi → HoldsClosure x y w lo hi c span
+    closure_fits lo hi (a_closure {a = arrow} {o = o} {c = c} {ws = ws} {vs = vs} {es = es} {span = span} is opens names closes it) stand =
+        let parts = parted o.span.end hi ws (c ∷ vs) stand.2.2 in
+        let one = block_fits c.span.end hi it parts.back.2 in
+        let a1 = stand.0 in
+        let a2 = stand.1 in
+        let b1 = stand.2.0 in
+        let b2 = stand.2.1 in
+        let c0 = ascends o.span.end parts.mid ws parts.front in
+        let c1 = parts.back.0 in
+        let c2 = parts.back.1 in
+        let from = one.from in
+        let above = one.above in
+        let start : lo ≤ span.start = omega (arith, a1, a2, b1, b2, c0, c1, c2, from) in
+        record { last = one.last; above = omega (arith, start, above); below = one.below; to = one.to; count = widened lo one.last (omega (arith, start)) (omega arith) one.count }
+
+    singles_fit : (lo hi : ℕ) {ws : List Word} {es : Exprs} → AreSingles ws es → Stand lo ws hi → Count x y (weigh_exprs w es) lo hi
+    singles_fit lo hi no_singles stand = nothing lo hi
+    singles_fit lo hi (last_single {e = e} it) stand = last_one lo hi e (single_fits lo hi it stand)
+    singles_fit lo hi (more_singles {ws = ws} {vs = vs} {c = c} {e = e} {es = es} it is rest) stand =
+        let parts = parted lo hi ws (c ∷ vs) stand in
+        let at = parts.back.0 in
+        let some = parts.back.1 in
+        then_more lo parts.mid c.span.end hi (weigh_exprs w es) e (single_fits lo parts.mid it parts.front) (omega (arith, at, some)) (ascends c.span.end hi vs parts.back.2) (singles_fit c.span.end hi rest parts.back.2)
+
+    pairs_fit : (lo hi : ℕ) {ws : List Word} {ps : Pairs} → ArePairs ws ps → Stand lo ws hi → Count x y (weigh_pairs w ps) lo hi
+    pairs_fit lo hi no_parts stand = nothing lo hi
+    pairs_fit lo hi (last_pair {k = k} {c = c} {e = e} is colon it) stand =
+        let a1 = stand.0 in
+        let a2 = stand.1 in
+        let b1 = stand.2.0 in
+        let b2 = stand.2.1 in
+        widened lo hi (omega (arith, a1, a2, b1, b2)) (omega arith) (last_one c.span.end hi e (single_fits c.span.end hi it stand.2.2))
+    pairs_fit lo hi (more_pairs {k = k} {c = c} {d = d} {ws = ws} {vs = vs} {e = e} {ps = ps} is colon it comma rest) stand =
+        let a1 = stand.0 in
+        let a2 = stand.1 in
+        let b1 = stand.2.0 in
+        let b2 = stand.2.1 in
+        let parts = parted c.span.end hi ws (d ∷ vs) stand.2.2 in
+        let at = parts.back.0 in
+        let some = parts.back.1 in
+        widened lo hi (omega (arith, a1, a2, b1, b2)) (omega arith)
+        (then_more c.span.end parts.mid d.span.end hi (weigh_pairs w ps) e (single_fits c.span.end parts.mid it parts.front) (omega (arith, at, some)) (ascends d.span.end hi vs parts.back.2) (pairs_fit d.span.end hi rest parts.back.2))
+
+    block_fits : (lo hi : ℕ) {ws : List Word} {es : Exprs} {span : Span} → IsBlock ws es span → Stand lo ws hi → HoldsBlock x y w lo hi es span
+    block_fits lo hi (a_script {o = o} {c = c} {ws = ws} {es = es} opens it closes) stand =
+        let parts = enclosed lo hi o c ws stand in
+        let first = parts.first in
+        let order = parts.order in
+        let ends = parts.closes in
+        let last = parts.last in
+        record { from = parts.opens; last = parts.mid; above = omega (arith, first, order); below = omega (arith, ends, last); to = parts.ends; count = widened (suc o.span.start) parts.mid (omega (arith, first)) (omega arith) (script_fits o.span.end parts.mid it parts.within) }
+
+    arms_fit : (lo hi : ℕ) {ws : List Word} {gs : Arms} {es : Else} {span : Span} → AreArms ws gs es span → Stand lo ws hi → HoldsArms x y w lo hi gs es span
+    arms_fit lo hi (last_arm {ws = ws} {vs = vs} {e = e} {es = es} {s = s} predicate it) stand =
+        let parts = parted lo hi ws vs stand in
+        let mid = ascends lo parts.mid ws parts.front in
+        let one = level_fits lo parts.mid predicate parts.front in
+        let two = block_fits parts.mid hi it parts.back in
+        let from = two.from in
+        let above = two.above in
+        let below = two.below in
+        record {
+          above = omega (arith, mid, from, above, below);
+          to = two.to;
+          count = fewer ((weigh_expr w e + (weigh_exprs w es + 0)) + 0) (omega arith) (then_more lo parts.mid parts.mid s.end (weigh_exprs w es) e one (omega arith) (omega (arith, from, above, below)) (block_counts parts.mid hi es s two));
+        }
+    arms_fit lo hi (with_else {l = l} {ws = ws} {vs = vs} {us = us} {e = e} {es = es} {fs = fs} {s = s} {t = t} predicate it is other) stand =
+        let parts = parted lo hi ws (vs ++ l ∷ us) stand in
+        let more = parted parts.mid hi vs (l ∷ us) parts.back in
+        let mid = ascends lo parts.mid ws parts.front in
+        let next = ascends parts.mid more.mid vs more.front in
+        let one = level_fits lo parts.mid predicate parts.front in
+        let two = block_fits parts.mid more.mid it more.front in
+        let three = block_fits l.span.end hi other more.back.2 in
+        let at = more.back.0 in
+        let size = more.back.1 in
+        let from = two.from in
+        let above = two.above in
+        let below = two.below in
+        let to = two.to in
+        let start = three.from in
+        let over_it = three.above in
+        let under_it = three.below in
+        let both_blocks : Count x y (weigh_exprs w es + weigh_exprs w fs) parts.mid t.end = beside (omega (arith, next, at, size)) (omega (arith, to, at, size)) (omega (arith, to, at, size, start, over_it, under_it)) (block_counts parts.mid more.mid es s two) (block_counts l.span.end hi fs t three) in
+        record {
+          above = omega (arith, mid, next, at, size, start, over_it, under_it);
+          to = three.to;
+          count = fewer ((weigh_expr w e + (weigh_exprs w es + 0)) + weigh_exprs w fs) (omega arith) (then_more lo parts.mid parts.mid t.end (weigh_exprs w es + weigh_exprs w fs) e one (omega arith) (omega (arith, next, at, size, start, over_it, under_it)) both_blocks);
+        }
+    arms_fit lo hi (more_arms {l = l} {w = word} {ws = ws} {vs = vs} {us = us} {e = e} {es = es} {gs = gs} {fs = fs} {s = s} {t = t} predicate it is more_is rest) stand =
+        let parts = parted lo hi ws (vs ++ l ∷ word ∷ us) stand in
+        let more = parted parts.mid hi vs (l ∷ word ∷ us) parts.back in
+        let mid = ascends lo parts.mid ws parts.front in
+        let next = ascends parts.mid more.mid vs more.front in
+        let one = level_fits lo parts.mid predicate parts.front in
+        let two = block_fits parts.mid more.mid it more.front in
+        let three = arms_fit word.span.end hi rest more.back.2.2 in
+        let at = more.back.0 in
+        let size = more.back.1 in
+        let at_too = more.back.2.0 in
+        let size_too = more.back.2.1 in
+        let to = two.to in
+        let above = three.above in
+        let others : Count x y (weigh_exprs w es + (weigh_arms w gs + weigh_else w fs)) parts.mid t.end = beside (omega (arith, next, at, size, at_too, size_too)) (omega (arith, to, at, size, at_too, size_too)) (omega (arith, to, at, size, at_too, size_too, above)) (block_counts parts.mid more.mid es s two) three.count in
+        record {
+          above = omega (arith, mid, next, at, size, at_too, size_too, above);
+          to = three.to;
+          count = fewer ((weigh_expr w e + (weigh_exprs w es + weigh_arms w gs)) + weigh_else w fs) (omega arith) (then_more lo parts.mid parts.mid t.end (weigh_exprs w es + (weigh_arms w gs + weigh_else w fs)) e one (omega arith) (omega (arith, next, at, size, at_too, size_too, above)) others);
+        }
+
+-- ---- expressions, names and arguments
+
+-- two places are one, or nothing is counted
+abbrev SameOr : Span → Span → (ℕ → Type 0) → Type 0
+SameOr span here P = (span.start ≡ here.start → span.end ≡ here.end → P 1) → P 0 → P (at_place here span)
+
+same_or : (span here : Span) (P : ℕ → Type 0) → SameOr span here P
+same_or span here P yes_it none_of_it = by (same_span span here) refl where
+  by : (b : Bool) → same_span span here ≡ b → P (one_if b)
+  by true is = let both_are = and_parts (nat_eq span.start here.start) (nat_eq span.end here.end) is in yes_it (eqb-true span.start here.start both_are.0) (eqb-true span.end here.end both_are.1)
+  by false is = none_of_it
+
+own_none : {x y a n : ℕ} (span : Span) → Inside x y a n span.start span.end → Count x y (0 + n) (span.start + a) span.end
+own_none span (no_part zero) = none (omega (arith, zero))
+own_none span (part one at some up free) = single (omega (arith, one)) at some up
+
+own_here : {n : ℕ} (here span : Span) → span.start < span.end → span.start ≡ here.start → span.end ≡ here.end → Inside here.start here.end 0 n span.start span.end → Count here.start here.end (1 + n) (span.start + 0) span.end
+own_here here span some start stop (no_part zero) = single (omega (arith, zero)) (omega (arith, start)) (omega (arith, some, start, stop)) (omega (arith, stop))
+own_here here span some start stop (part one at more up free) = absurd (omega (arith, start, stop, free))
+
+behind_none : {x y n from to : ℕ} (start : ℕ) → start ≤ from → Count x y n from to → Count x y (0 + n) start to
+behind_none {n = n} {to = to} start less count = fewer (0 + n) (omega arith) (widened start to less (omega arith) count)
+
+expressions_apart : (total : ℕ) (ts : List Spanned) (s : Script) → InOrderFrom 0 total (spans_of ts) → Reads ts s → (here : Span) → weigh_exprs (record { expression = at_place here; name = nowhere; argument = nowhere }) s.items ≤ 1
+expressions_apart total ts s ordered reads here =
+    at_most_one (script_fits here.start here.end 0 (record { expression = at_place here; name = nowhere; argument = nowhere }) (omega arith)
+    (λ span n some within. same_or span here (λ k. Count here.start here.end (k + n) (span.start + 0) span.end) (λ start stop. own_here here span some start stop within) (own_none span within))
+    (λ span bang n from to some behind order count. behind_none (span.start + 0) (omega (arith, some, behind)) count)
+    (λ span n from to some at up count. behind_none span.start (omega (arith, at)) (widened from span.end (omega arith) up count))
+    0 total reads.items (words_stand 0 0 total ts ordered))
+
+name_here : {n from to : ℕ} (here span : Span) → span.start < span.end → span.end ≤ from → from ≤ to → span.start ≡ here.start → Count here.start (suc here.start) n from to → Count here.start (suc here.start) (1 + n) (span.start + 0) to
+name_here here span some behind order start (none zero) = single (omega (arith, zero)) (omega (arith, start)) (omega arith) (omega (arith, start, some, behind, order))
+name_here here span some behind order start (single one at more up) = absurd (omega (arith, some, behind, start, at))
+
+same_start : (span : Span) (bang : Bool) → (name_span span bang).start ≡ span.start
+same_start span true = refl
+same_start span false = refl
+
+names_apart : (total : ℕ) (ts : List Spanned) (s : Script) → InOrderFrom 0 total (spans_of ts) → Reads ts s → (here : Span) → weigh_exprs (record { expression = nowhere; name = at_place here; argument = nowhere }) s.items ≤ 1
+names_apart total ts s ordered reads here =
+    at_most_one (script_fits here.start (suc here.start) 0 (record { expression = nowhere; name = at_place here; argument = nowhere }) (omega arith)
+    (λ span n some within. own_none span within)
+    (λ span bang n from to some behind order count. same_or (name_span span bang) here (λ k. Count here.start (suc here.start) (k + n) (span.start + 0) to) (λ start stop. name_here here span some behind order (sym (same_start span bang) ∙ start) count) (behind_none (span.start + 0) (omega (arith, some, behind)) count))
+    (λ span n from to some at up count. behind_none span.start (omega (arith, at)) (widened from span.end (omega arith) up count))
+    0 total reads.items (words_stand 0 0 total ts ordered))
+
+argument_here : {n from to : ℕ} (here span : Span) → span.start < span.end → span.start + 1 ≤ from → to ≤ span.end → span.start ≡ here.start → span.end ≡ here.end → Count here.start here.end n from to → Count here.start here.end (1 + n) span.start span.end
+argument_here here span some at up start stop (none zero) = single (omega (arith, zero)) (omega (arith, start)) (omega (arith, some, start, stop)) (omega (arith, stop))
+argument_here here span some at up start stop (single one first more last) = absurd (omega (arith, at, start, first))
+
+arguments_apart : (total : ℕ) (ts : List Spanned) (s : Script) → InOrderFrom 0 total (spans_of ts) → Reads ts s → (here : Span) → weigh_exprs (record { expression = nowhere; name = nowhere; argument = at_place here }) s.items ≤ 1
+arguments_apart total ts s ordered reads here =
+    at_most_one (script_fits here.start here.end 1 (record { expression = nowhere; name = nowhere; argument = at_place here }) (omega arith)
+    (λ span n some within. own_none span within)
+    (λ span bang n from to some behind order count. behind_none (span.start + 1) (omega (arith, some, behind)) count)
+    (λ span n from to some at up count. same_or span here (λ k. Count here.start here.end (k + n) span.start span.end) (λ start stop. argument_here here span some at up start stop count) (behind_none span.start (omega (arith, at)) (widened from span.end (omega arith) up count)))
+    0 total reads.items (words_stand 0 0 total ts ordered))
+
+pub parts_apart : (total : ℕ) (ts : List Spanned) (s : Script) → InOrderFrom 0 total (spans_of ts) → Reads ts s → AreApart s.items
+parts_apart total ts s ordered reads = record {
+  expressions = expressions_apart total ts s ordered reads;
+  names = names_apart total ts s ordered reads;
+  arguments = arguments_apart total ts s ordered reads;
+}
