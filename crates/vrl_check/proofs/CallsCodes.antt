@@ -9,7 +9,6 @@ use Rattle.vrl_builtin.specs.declared.parameter.Parameter.{Parameter}
 use Rattle.vrl_table.specs.Binding.{IsBound}
 use Rattle.vrl_table.specs.declared.binding.BindFault.{BindFault}
 use Rattle.vrl_check.specs.Calling.{callee_parameters, callee_wants, written, AreTold}
-use Rattle.vrl_judge.specs.Calling.{part_of}
 use Rattle.vrl_judge.specs.Rules.{Argument, argument_at}
 use Rattle.vrl_check.specs.Judgement.{bound, of_arguments, of_found}
 use Rattle.vrl_judge.specs.Judging.{IsReported}

@@ -1,5 +1,5 @@
 -- A judgement is poisoned exactly where it has an error code: each rule's own codes, and those of its parts.
-use Rattle.std.proofs.Common.{◌≡◌, ℕ, List, ◌++◌, Bool, true, false, ◌||◌, Option, None, refl, sym, ap, ◌∙◌}
+use Rattle.std.proofs.Common.{◌≡◌, List, ◌++◌, Bool, true, false, ◌||◌, Option, None, refl, sym, ap, ◌∙◌}
 use Rattle.std.specs.List.{list_any}
 use Rattle.std.proofs.lemmas.List.Folds.{list_any-append}
 use Rattle.vrl_diag.specs.declared.diagnostic.Diagnostic.{Diagnostic}

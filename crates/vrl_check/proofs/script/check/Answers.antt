@@ -1,4 +1,4 @@
-use Rattle.std.proofs.Common.{refl, sym, ◌∙◌, subst}
+use Rattle.std.proofs.Common.{refl, sym, subst}
 use Rattle.vrl_syntax.specs.View.{exprs_of}
 use Rattle.vrl_judge.specs.Ordered.{AreOrdered}
 use Rattle.vrl_judge.specs.declared.checker.Checker.{Checker}
