@@ -1,5 +1,5 @@
 -- Soundness of every expression: what is shown of each form, put together.
-use Rattle.std.proofs.Common.{ℕ, ℤ, List, [], ◌++◌, Option, Some, None, refl, ◌∙◌}
+use Rattle.std.proofs.Common.{ℤ, List, [], ◌++◌, Option, Some, None, refl, ◌∙◌}
 use Rattle.vrl_diag.specs.declared.diagnostic.Span.{Span}
 use Rattle.vrl_syntax.specs.ErrorAssignments.{in_closure, in_expr, in_exprs}
 use Rattle.vrl_syntax.specs.Tree.{expr, Expr, Exprs, Form, Args, Arms, Else}

@@ -6,7 +6,6 @@ use Rattle.vrl_syntax.specs.Tree.{Exprs}
 use Rattle.vrl_state.specs.Laws.{EitherHoldsBoth, JoinsKeepFits}
 use Rattle.vrl_state.specs.States.{IsEither, IsJoined, RootMap}
 use Rattle.vrl_state.specs.Stores.{Store}
-use Rattle.vrl_builtin.specs.Rows.{SettingTree}
 use Rattle.vrl_store.specs.Outcomes.{Ended, Outcome, value, error, returned}
 use Rattle.vrl_store.specs.WellFormed.{IsWellFormed}
 use Rattle.vrl_check.specs.Answer.{IsJudged}

@@ -1,6 +1,6 @@
 -- What is left behind a part of the tags that it was run with are those behind its own, since a judgement has one empty value for each
 -- error assignment of what is judged.
-use Rattle.std.proofs.Common.{◌≡◌, ℕ, ◌+◌, List, ◌++◌, drop, length, sym, ap, ◌∙◌}
+use Rattle.std.proofs.Common.{◌≡◌, ◌+◌, List, ◌++◌, drop, length, sym, ap, ◌∙◌}
 use Rattle.std.proofs.Math.Seq.{drop-append_seam}
 use Rattle.std.proofs.lemmas.List.{drop-drop}
 use Rattle.vrl_value.specs.declared.value.Tag.{Tag}
