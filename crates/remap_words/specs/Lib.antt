@@ -1,0 +1,4 @@
+pub mod Numbers
+pub mod Uses
+pub mod Words
+pub mod View
