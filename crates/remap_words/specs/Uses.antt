@@ -1,5 +1,6 @@
 -- What each word of the command line is: a name, an option, an option's value, or the end of the options.
-use Rattle.std.specs.Prelude.{ℕ, Bool, false, List, [], ◌∷◌, Option, Some, None, ◌==◌, if◌then◌else◌, codes, map}
+use Rattle.std.specs.Prelude.{ℕ, Bool, false, List, [], ◌∷◌, Option, Some, None, ◌==◌, ◌&&◌, ◌||◌, if◌then◌else◌}
+use Rattle.std.specs.Prelude.{not, codes, map}
 use Rattle.std.specs.Prelude.{option_map}
 use Rattle.std.specs.List.{after_first, before_first, list_any}
 use Rattle.std.specs.Str.{bytes_eq}
@@ -60,7 +61,7 @@ option_spelt spelling value =
 -- a word before the first `--`
 abbrev pub word_of : List ℕ → Word
 word_of word =
-    if bytes_eq (codes "--") word then last
+    if bytes_eq word (codes "--") then last
     else if begins_with_hyphen word
     then option_spelt (before_first is_equals word) (behind_equals word)
     else whole (script word)
@@ -81,3 +82,14 @@ uses_of (Some given) [] = None
 uses_of (Some given) (word ∷ rest) =
     if begins_with_hyphen word then None
     else option_map (λ others. given word ∷ others) (uses_of None rest)
+
+-- a hyphen alone, or before anything but a second one
+abbrev pub is_short : List ℕ → Bool
+is_short [] = false
+is_short (b ∷ bs) = b == 45 && not (begins_with_hyphen bs)
+
+-- whether a word before the first `--` is so
+abbrev pub has_short : List (List ℕ) → Bool
+has_short [] = false
+has_short (word ∷ rest) = if bytes_eq word (codes "--") then false
+    else (is_short word || has_short rest)

@@ -65,6 +65,10 @@ abbrev pub with_uses : List Use → Given → Option Given
 with_uses [] g = Some g
 with_uses (first ∷ others) g = option_and_then (with_uses others) (with_use first g)
 
+-- what is given by the words, or none where they are refused
+abbrev pub given_of : List (List ℕ) → Option Given
+given_of words = option_and_then (λ uses. with_uses uses nothing_given) (uses_of None words)
+
 -- ---- what the values say
 
 -- a name is not empty
@@ -112,5 +116,4 @@ invocation_given g = option_and_then (λ script. option_and_then (λ kind. optio
 
 -- what the words mean, or none where they are refused
 abbrev pub words_mean : List (List ℕ) → Option Invocation
-words_mean words = option_and_then invocation_given
-    (option_and_then (λ uses. with_uses uses nothing_given) (uses_of None words))
+words_mean words = option_and_then invocation_given (given_of words)

@@ -1,32 +1,66 @@
-use clap::{Arg, ArgAction, Command};
+ghost use Rattle.std.specs.Prelude.{◌≡◌, ◌⊎◌, ⊤, None, IfErr, IfOk, IsSomeAnd, false};
+ghost use Rattle.clap.specs.Words.{app_of, kind_of, with_rule};
+ghost use Rattle.remap_words.specs.Command.{AreMatchesOf, bare_app, flag_rule, option_rule};
+ghost use Rattle.remap_words.specs.Command.{remap_app, script_rule};
+ghost use Rattle.remap_words.specs.Uses.{has_short};
+ghost use Rattle.remap_words.specs.View.{texts};
+ghost use Rattle.remap_words.specs.Words.{given_of, words_mean};
+
+use clap::error::ErrorKind;
+use clap::{Arg, ArgAction, ArgMatches, Command, Error};
 use std::alloc::{AllocError, Global};
 
-/// The command as `clap` is told of it: one script, and the options, without any of its own.
-pub(crate) fn command<'a>(alloc: Global) -> Result<Command<'a>, AllocError> {
-    let script = Arg::new(alloc, "script").required(true);
-    let kind = Arg::new(alloc, "kind").long("kind");
-    let jobs = Arg::new(alloc, "jobs").long("jobs");
-    let generate = Arg::new(alloc, "generate").long("generate");
-    let drop_on_error = Arg::new(alloc, "drop-on-error")
-        .long("drop-on-error")
-        .action(ArgAction::SetTrue);
-    let keep_on_abort = Arg::new(alloc, "keep-on-abort")
-        .long("keep-on-abort")
-        .action(ArgAction::SetTrue);
-    let check = Arg::new(alloc, "check")
-        .long("check")
-        .action(ArgAction::SetTrue);
-    let command = Command::new(alloc, "remap")
+/// What `clap` makes of the words, none of which is an option with one hyphen.
+pub(crate) fn matches_of<'a>(alloc: Global, words: &'a [String]) -> Result<ArgMatches<'a>, Error>
+    ensures given { has_short (texts words.now) ≡ false
+        → IfOk result (λ m. IsSomeAnd (given_of (texts words.now)) (λ g. AreMatchesOf g m)) }
+    ensures refused { has_short (texts words.now) ≡ false
+        → IfErr result (λ e. (kind_of e ≡ ErrorKind.OutOfMemory) ⊎ (words_mean (texts words.now) ≡ None)) }
+{
+    let command = command(alloc)?;
+    command.try_get_matches_from(words)
+}
+
+/// The command as `clap` is told of it: one script and the options, without any of its own.
+fn command<'a>(alloc: Global) -> Result<Command<'a>, AllocError>
+    ensures { IfOk result (λ command. app_of command ≡ remap_app) }
+{
+    let command = with_script(alloc, bare(alloc))?;
+    let command = with_option(alloc, command, "kind")?;
+    let command = with_option(alloc, command, "jobs")?;
+    let command = with_option(alloc, command, "generate")?;
+    let command = with_flag(alloc, command, "drop-on-error")?;
+    let command = with_flag(alloc, command, "keep-on-abort")?;
+    with_flag(alloc, command, "check")
+}
+
+/// A command whose words do not begin with the program's name, without options of its own.
+fn bare<'a>(alloc: Global) -> Command<'a>
+    ensures { app_of result ≡ bare_app }
+{
+    Command::new(alloc, "remap")
         .no_binary_name(true)
         .disable_help_flag(true)
         .disable_version_flag(true)
         .disable_help_subcommand(true)
-        .arg(script)?
-        .arg(kind)?
-        .arg(jobs)?
-        .arg(generate)?
-        .arg(drop_on_error)?
-        .arg(keep_on_abort)?
-        .arg(check)?;
-    Ok(command)
+}
+
+fn with_script<'a>(alloc: Global, command: Command<'a>) -> Result<Command<'a>, AllocError>
+    ensures { IfOk result (λ more. app_of more ≡ with_rule (app_of command.entry) script_rule) }
+{
+    command.arg(Arg::new(alloc, "script").required(true))
+}
+
+/// The command with an option that has a value.
+fn with_option<'a>(alloc: Global, command: Command<'a>, name: &'a str) -> Result<Command<'a>, AllocError>
+    ensures { IfOk result (λ more. app_of more ≡ with_rule (app_of command.entry) (option_rule name.entry.now)) }
+{
+    command.arg(Arg::new(alloc, name).long(name))
+}
+
+/// The command with an option that has no value.
+fn with_flag<'a>(alloc: Global, command: Command<'a>, name: &'a str) -> Result<Command<'a>, AllocError>
+    ensures { IfOk result (λ more. app_of more ≡ with_rule (app_of command.entry) (flag_rule name.entry.now)) }
+{
+    command.arg(Arg::new(alloc, name).long(name).action(ArgAction::SetTrue))
 }

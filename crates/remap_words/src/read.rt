@@ -1,15 +1,20 @@
-ghost use Rattle.std.specs.Prelude.{◌≡◌, Some, None, Err, IfOk};
+ghost use Rattle.std.specs.Prelude.{◌≡◌, ◌≢◌, Some, None, Err, IfOk, option_map};
+ghost use Rattle.clap.specs.Words.{kind_of};
+ghost use Rattle.remap_words.specs.Command.{AreMatchesOf};
+ghost use Rattle.remap_words.specs.Uses.{has_short};
+ghost use Rattle.remap_words.specs.Uses as uses;
 ghost use Rattle.remap_words.specs.View.{IsInBounds, invocation_of, texts};
-ghost use Rattle.remap_words.specs.Words.{words_mean};
+ghost use Rattle.remap_words.specs.Words.{Given, invocation_given, words_mean};
 
-use crate::command::command;
+use crate::command::matches_of;
 use crate::invocation::{Invocation, WordsFault};
 use crate::value::{jobs, kind, mode, name};
 use clap::error::ErrorKind;
 use clap::{ArgMatches, Error};
 use std::alloc::Global;
 
-/// Reads the words behind the program's name. It is `Refused` exactly where they mean nothing, unless memory runs out first.
+/// Reads the words behind the program's name. The answer is `Refused` only where they mean nothing, and it is so wherever they mean nothing unless memory
+/// runs out.
 pub fn read_words<'a>(alloc: Global, words: &'a [String]) -> Result<Invocation<'a>, WordsFault>
     ensures read { IfOk result (λ i. words_mean (texts words.now) ≡ Some (invocation_of i)) }
     ensures bounds { IfOk result (λ i. IsInBounds (invocation_of i)) }
@@ -18,43 +23,44 @@ pub fn read_words<'a>(alloc: Global, words: &'a [String]) -> Result<Invocation<'
     if has_short_option(words) {
         return Err(WordsFault::Refused);
     }
-    let matches = match matches_of(alloc, words) {
-        Ok(matches) => matches,
-        Err(error) => return Err(fault_of(&error)),
-    };
-    match invocation(&matches) {
-        Some(invocation) => Ok(invocation),
-        None => Err(WordsFault::Refused),
+    match matches_of(alloc, words) {
+        Ok(matches) => or_refused(invocation(&matches)),
+        Err(error) => Err(fault_of(&error)),
     }
 }
 
 /// Whether a word before the first `--` begins with one hyphen alone, as `-` does.
-fn has_short_option(words: &[String]) -> bool {
+fn has_short_option(words: &[String]) -> bool
+    ensures { result ≡ has_short (texts words.now) }
+{
     for word in words {
         let word = word.as_str();
         if word == "--" {
             return false;
         }
-        if word.starts_with('-') && !word.starts_with("--") {
+        if is_short(word) {
             return true;
         }
     }
     false
 }
 
-fn matches_of<'a>(alloc: Global, words: &'a [String]) -> Result<ArgMatches<'a>, Error> {
-    let command = command(alloc)?;
-    command.try_get_matches_from(words)
-}
-
-fn fault_of(error: &Error) -> WordsFault {
-    match error.kind() {
-        ErrorKind::OutOfMemory => WordsFault::Memory,
-        _ => WordsFault::Refused,
+/// Whether the word is a hyphen alone, or before anything but a second one.
+fn is_short(word: &str) -> bool
+    ensures { result ≡ uses.is_short word.now }
+{
+    match word.as_bytes() {
+        [b'-'] => true,
+        [b'-', second, ..] => *second != b'-',
+        _ => false,
     }
 }
 
-fn invocation<'a>(matches: &ArgMatches<'a>) -> Option<Invocation<'a>> {
+/// What is read of the matches, unless the values are refused.
+fn invocation<'a>(matches: &ArgMatches<'a>) -> Option<Invocation<'a>>
+    ensures { (g : Given) → AreMatchesOf g matches.now
+        → option_map invocation_of result ≡ invocation_given g }
+{
     let script = name(matches.get_str("script")?)?;
     let kind = kind(matches.get_str("kind"))?;
     let jobs = jobs(matches.get_str("jobs"))?;
@@ -67,4 +73,25 @@ fn invocation<'a>(matches: &ArgMatches<'a>) -> Option<Invocation<'a>> {
         keep_on_abort: matches.get_flag("keep-on-abort"),
         mode,
     })
+}
+
+fn or_refused<'a>(invocation: Option<Invocation<'a>>) -> Result<Invocation<'a>, WordsFault>
+    ensures ok { IfOk result (λ i. invocation.entry ≡ Some i) }
+    ensures refused { result ≡ Err WordsFault.Refused → invocation.entry ≡ None }
+{
+    match invocation {
+        Some(invocation) => Ok(invocation),
+        None => Err(WordsFault::Refused),
+    }
+}
+
+/// Why the words are not read, by the error that `clap` gives: only want of memory is `Memory`.
+fn fault_of(error: &Error) -> WordsFault
+    ensures memory { kind_of error.now ≡ ErrorKind.OutOfMemory → result ≡ WordsFault.Memory }
+    ensures refused { kind_of error.now ≢ ErrorKind.OutOfMemory → result ≡ WordsFault.Refused }
+{
+    match error.kind() {
+        ErrorKind::OutOfMemory => WordsFault::Memory,
+        _ => WordsFault::Refused,
+    }
 }

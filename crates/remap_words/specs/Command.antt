@@ -1,0 +1,48 @@
+-- The command as `clap` is told of it, and what the matches tell.
+use Rattle.std.specs.Prelude.{◌≡◌, Bool, true, List, ℕ, Some, codes, if◌then◌else◌}
+use Rattle.clap.specs.Words.{App, Rule, first_value, found_of, new_app, new_rule, one_text, with_rule}
+use Rattle.clap.specs.declared.builder.action.ArgAction.TheVariants.{SetTrue}
+use Rattle.clap.specs.declared.parser.matches.ArgMatches.{ArgMatches}
+use Rattle.remap_words.specs.Words.{Given}
+
+abbrev pub script_rule : Rule
+script_rule = record (new_rule (codes "script")) { required = true }
+
+abbrev pub option_rule : List ℕ → Rule
+option_rule name = record (new_rule name) { long = Some name }
+
+abbrev pub flag_rule : List ℕ → Rule
+flag_rule name = record (new_rule name) { long = Some name; action = Some SetTrue }
+
+-- one command, whose words do not begin with the program's name, with no options of its own
+abbrev pub bare_app : App
+bare_app = record (new_app (codes "remap")) {
+  top = record (new_app (codes "remap")).top {
+    no_binary_name = true;
+    disable_help_flag = true;
+    disable_version_flag = true;
+    disable_help_subcommand = true;
+  };
+}
+
+abbrev pub remap_app : App
+remap_app = with_rule (with_rule (with_rule (with_rule (with_rule (with_rule
+    (with_rule bare_app script_rule) (option_rule (codes "kind")))
+    (option_rule (codes "jobs"))) (option_rule (codes "generate")))
+    (flag_rule (codes "drop-on-error"))) (flag_rule (codes "keep-on-abort")))
+    (flag_rule (codes "check"))
+
+abbrev pub flag_text : Bool → List ℕ
+flag_text b = if b then codes "true" else codes "false"
+
+-- the matches tell what is given
+pub record AreMatchesOf (g : Given) (m : ArgMatches) : Type 0 where
+  pub script : first_value (found_of m) (codes "script") ≡ g.script
+  pub kind : first_value (found_of m) (codes "kind") ≡ g.kind
+  pub jobs : first_value (found_of m) (codes "jobs") ≡ g.jobs
+  pub generate : first_value (found_of m) (codes "generate") ≡ g.generate
+  pub drop_on_error : one_text (found_of m) (codes "drop-on-error")
+      ≡ Some (flag_text g.drop_on_error)
+  pub keep_on_abort : one_text (found_of m) (codes "keep-on-abort")
+      ≡ Some (flag_text g.keep_on_abort)
+  pub check : one_text (found_of m) (codes "check") ≡ Some (flag_text g.check)
