@@ -2,3 +2,5 @@ pub mod Table
 pub mod Rows
 pub mod Held
 pub mod Turns
+pub mod Defaults
+pub mod Walks

@@ -51,7 +51,7 @@ has_row-row id (r ∷ rs) = go (bytes_eq r.id id) (has_row-row id rs)
     go false e = e
 
 -- where an id has no row, its new row stands behind the others
-at_row-new : (id : Text) (change : Row → List Row) (missing rows : List Row) → has_row id rows ≡ false → at_row id change missing rows ≡ rows ++ missing
+pub at_row-new : (id : Text) (change : Row → List Row) (missing rows : List Row) → has_row id rows ≡ false → at_row id change missing rows ≡ rows ++ missing
 at_row-new id change missing [] none = refl
 at_row-new id change missing (r ∷ rs) none = go (bytes_eq r.id id) none (at_row-new id change missing rs)
   where

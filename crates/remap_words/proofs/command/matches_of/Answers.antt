@@ -1,7 +1,7 @@
 use Rattle.std.proofs.Common.{rules, refl}
 use Rattle.remap_words.proofs.Table.{built_is}
 use Rattle.remap_words.proofs.Turns.{long_refused}
-use Rattle.remap_words.proofs.Held.{pending_stands}
+use Rattle.remap_words.proofs.Walks.{value_agrees}
 use Rattle.remap_words.proofs.command.matches_of.Goals as goal
 
 pub returns-clause-given : goal.returns-clause-given
