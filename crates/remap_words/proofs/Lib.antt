@@ -4,3 +4,5 @@ pub mod Held
 pub mod Turns
 pub mod Defaults
 pub mod Walks
+pub mod Reading
+pub mod Matches
