@@ -1,7 +1,6 @@
 -- What the end of the words adds to the rows, and what it asks of them.
-use Rattle.std.proofs.Common.{◌≡◌, ◌∙◌, ◌&&◌, ◌||◌, ℕ, Bool, cond, codes, true, false, not, refl, sym, ap, subst, List, [], ◌∷◌, ◌++◌, Option, Some, None, is_some}
+use Rattle.std.proofs.Common.{◌≡◌, ◌∙◌, ◌||◌, Bool, cond, codes, true, false, not, refl, sym, ap, subst, List, [], ◌∷◌, ◌++◌, Option, Some, None, is_some}
 use Rattle.std.specs.Prelude.{⊤, option_and_then, slice_get}
-use Rattle.std.specs.List.{fold, list_any}
 use Rattle.std.specs.Option.{option_map, option_map_or}
 use Rattle.std.specs.Str.{bytes_eq}
 use Rattle.clap.specs.Facts.{explicit_source}
@@ -180,8 +179,19 @@ flag_passes name rows = go (has_row name rows)
 
 defaults_pass : (rows : List Row) → defaults_fault rows table ≡ []
 unfolding table
-defaults_pass = none_fails table (script_passes, (option_passes (codes "kind"), (option_passes (codes "jobs"), (option_passes (codes "generate"),
-    (flag_passes (codes "drop-on-error"), (flag_passes (codes "keep-on-abort"), (flag_passes (codes "check"), tt)))))))
+defaults_pass = none_fails table (
+  script_passes,
+  (
+    option_passes (codes "kind"),
+    (
+      option_passes (codes "jobs"),
+      (
+        option_passes (codes "generate"),
+        (flag_passes (codes "drop-on-error"), (flag_passes (codes "keep-on-abort"), (flag_passes (codes "check"), tt))),
+      ),
+    ),
+  ),
+)
 
 -- a name is asked for
 asked : (rows : List Row) → check_fault shape rows false ≡ cond (is_given (codes "script") rows) [] (MissingRequiredArgument ∷ [])

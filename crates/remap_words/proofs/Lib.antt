@@ -6,3 +6,5 @@ pub mod Defaults
 pub mod Walks
 pub mod Reading
 pub mod Matches
+pub mod Meaning
+pub mod Digits

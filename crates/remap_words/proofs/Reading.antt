@@ -1,21 +1,20 @@
 -- The walk over all words ends with what the words give, by induction on the words.
-use Rattle.std.proofs.Common.{◌≡◌, ◌∙◌, ◌+◌, ◌==◌, ◌||◌, ℕ, Bool, cond, codes, true, false, suc, take, drop, refl, sym, ap, subst, arith, List, [], ◌∷◌, Option, Some, None, true≢false}
+use Rattle.std.proofs.Common.{◌≡◌, ◌∙◌, ◌+◌, ◌==◌, ℕ, Bool, cond, codes, true, false, suc, take, drop, refl, sym, ap, subst, arith, List, [], ◌∷◌, Option, Some, None, true≢false}
 use Rattle.std.specs.Prelude.{option_and_then, map}
 use Rattle.std.specs.List.{after_first, before_first, list_any, position_or_len}
 use Rattle.std.specs.Option.{option_map}
 use Rattle.std.specs.Str.{bytes_eq}
 use Rattle.std.proofs.lemmas.Bool.{eqb-true}
 use Rattle.clap.specs.Faults.{walk_fault}
-use Rattle.clap.specs.Lexer.{long_of, short_of}
-use Rattle.clap.specs.Walk.{Held, Row, Text, Waiting, after_step, arg_by_long, finished, idle, option, plain_word}
-use Rattle.remap_words.specs.Uses.{Use, Word, begins_with_hyphen, behind_equals, check, drop_on_error, flag, generate, has_short, is_equals, is_short, jobs, keep_on_abort, kind, option_spelt, option_with_value, refused, script, uses_from, uses_of, whole, word_of}
+use Rattle.clap.specs.Walk.{Held, Text, Waiting, after_step, arg_by_long, finished, idle, option, plain_word}
+use Rattle.remap_words.specs.Uses.{begins_with_hyphen, behind_equals, check, drop_on_error, flag, generate, has_short, is_equals, is_short, jobs, keep_on_abort, kind, option_spelt, option_with_value, refused, script, uses_from, uses_of, whole, word_of}
 use Rattle.remap_words.specs.Words.{Given, with_use}
 use Rattle.remap_words.proofs.Table.{by_long, generate_by_id, jobs_by_id, kind_by_id, picked, rule_named, table}
 use Rattle.remap_words.proofs.Rows.{At, check_use, drop_on_error_use, generate_use, jobs_use, keep_on_abort_use, kind_use}
 use Rattle.remap_words.proofs.Held.{Stands, fault_first}
 use Rattle.remap_words.proofs.Turns.{IsPlain, dashes, dashes_fault, dashes_walk, long_fault_is, long_refused, long_turn, long_walk, long_walk_is, name_fault, name_walk, place, plain_fault, plain_walk, trailing_fault, trailing_walk, value_fault, value_walk}
 use Rattle.remap_words.proofs.Defaults.{Agrees, end_agrees, end_fault, fault_agrees}
-use Rattle.remap_words.proofs.Walks.{Ends, IsSetting, LongAgrees, Waits, flag_agrees, given_after, missing_fault, name_agrees, none_after, one_more, refused_first, setting_agrees, turned, value_agrees, waiting_held}
+use Rattle.remap_words.proofs.Walks.{Ends, IsSetting, LongAgrees, Waits, flag_agrees, given_after, missing_fault, name_agrees, one_more, refused_first, setting_agrees, turned, value_agrees, waiting_held}
 
 -- ---- the forms of a word
 
@@ -36,12 +35,12 @@ behind_one P alone short two long [] = alone
 behind_one P alone short two long (c ∷ cs) = at_number (λ b. P (45 ∷ b ∷ cs)) 45 c (behind_two P two long cs) (short c cs)
 
 -- a word is empty, or begins with no hyphen, with one, or with two
-by_form : (P : Text → Type 0) → P [] → ((b : ℕ) (bs : Text) → (b == 45) ≡ false → P (b ∷ bs)) → P (45 ∷ [])
+pub by_form : (P : Text → Type 0) → P [] → ((b : ℕ) (bs : Text) → (b == 45) ≡ false → P (b ∷ bs)) → P (45 ∷ [])
     → ((c : ℕ) (cs : Text) → (c == 45) ≡ false → P (45 ∷ c ∷ cs)) → P dashes → ((x : ℕ) (xs : Text) → P (45 ∷ 45 ∷ x ∷ xs)) → (word : Text) → P word
 by_form P empty plain alone short two long [] = empty
 by_form P empty plain alone short two long (b ∷ bs) = at_number (λ c. P (c ∷ bs)) 45 b (behind_one P alone short two long bs) (plain b bs)
 
-plain_is : (b : ℕ) (bs : Text) → (b == 45) ≡ false → IsPlain (b ∷ bs)
+pub plain_is : (b : ℕ) (bs : Text) → (b == 45) ≡ false → IsPlain (b ∷ bs)
 plain_is b bs other = record {
   dashes = rw other refl;
   long = rw other refl;
@@ -63,7 +62,7 @@ trailing_agrees (word ∷ rest) waiting position h m stands at =
 
 -- ---- the spelling of an option
 
-cut_before : (bs : Text) → before_first is_equals (45 ∷ bs) ≡ 45 ∷ before_first is_equals bs
+pub cut_before : (bs : Text) → before_first is_equals (45 ∷ bs) ≡ 45 ∷ before_first is_equals bs
 cut_before bs =
     let next : 1 + position_or_len is_equals bs ≡ suc (position_or_len is_equals bs) = omega arith in
     ap (λ n. take n (45 ∷ bs)) next
@@ -73,13 +72,13 @@ cut_after bs =
     let next : (1 + position_or_len is_equals bs) + 1 ≡ suc (position_or_len is_equals bs + 1) = omega arith in
     ap (λ n. drop n (45 ∷ bs)) next
 
-abbrev name_in : ℕ → Text → Text
+abbrev pub name_in : ℕ → Text → Text
 name_in x xs = before_first is_equals (x ∷ xs)
 
-abbrev value_in : ℕ → Text → Option Text
+abbrev pub value_in : ℕ → Text → Option Text
 value_in x xs = behind_equals (x ∷ xs)
 
-long_is : (x : ℕ) (xs : Text) → word_of (45 ∷ 45 ∷ x ∷ xs) ≡ option_spelt (45 ∷ 45 ∷ name_in x xs) (value_in x xs)
+pub long_is : (x : ℕ) (xs : Text) → word_of (45 ∷ 45 ∷ x ∷ xs) ≡ option_spelt (45 ∷ 45 ∷ name_in x xs) (value_in x xs)
 long_is x xs =
     let text = x ∷ xs in
     ap (λ name. option_spelt name (behind_equals (45 ∷ 45 ∷ text))) (cut_before (45 ∷ text) ∙ ap (λ name. 45 ∷ name) (cut_before text))
@@ -108,8 +107,7 @@ both_end = (
 both_plain : (word : Text) (rest : List Text) → IsPlain word → begins_with_hyphen word ≡ false → is_short word ≡ false → Both rest → Both (word ∷ rest)
 both_plain word rest plain hyphen short both =
     let rest_is : has_short (word ∷ rest) ≡ has_short rest = rw (plain.dashes, short) refl in
-    let word_is : word_of word ≡ whole (script word) = rw (plain.dashes, hyphen) refl in
-    (
+    let word_is : word_of word ≡ whole (script word) = rw (plain.dashes, hyphen) refl in (
       λ position h m stands at free.
           let uses = uses_of None rest in
           let same : given_after m (uses_of None (word ∷ rest)) ≡ given_after (option_and_then (with_use (script word)) m) uses =
@@ -165,8 +163,7 @@ both_long : (x : ℕ) (xs : Text) (rest : List Text) → Both rest → Both ((45
 both_long x xs rest both =
     let word : Text = 45 ∷ 45 ∷ x ∷ xs in
     let name = name_in x xs in
-    let value = value_in x xs in
-    (
+    let value = value_in x xs in (
       λ position h m stands at free.
           let turn = long_turn idle position h word (rule_named name) value in
           let next = long_walk idle position h word (rule_named name) value in
@@ -186,8 +183,7 @@ both_long x xs rest both =
 
 both_short : (word : Text) (rest : List Text) → bytes_eq word dashes ≡ false → is_short word ≡ true → Both (word ∷ rest)
 both_short word rest other short =
-    let not_free : has_short (word ∷ rest) ≡ true = rw (other, short) refl in
-    (
+    let not_free : has_short (word ∷ rest) ≡ true = rw (other, short) refl in (
       λ position h m stands at free. absurd (true≢false (sym not_free ∙ free)),
       λ free. absurd (true≢false (sym not_free ∙ free)),
     )

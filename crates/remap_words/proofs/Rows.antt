@@ -109,7 +109,6 @@ pub record IsUse (a : Rule) (values : List Text) (u : Use) : Type 0 where
   pub made : (rows : List Row) (g : Given) → Shows rows g → Made (use_fault false a values rows) (used a values rows) (with_use u g)
   pub place : (position : ℕ) (g : Given) → At position (Some g) → At position (with_use u g)
 
-
 abbrev faults : Bool → Kinds
 faults b = cond b (ArgumentConflict ∷ []) []
 
@@ -281,4 +280,3 @@ check_use = record {
       (flag_faults (codes "check") rows) refl (has_flag (codes "check") rows g.check s.check) (check_shown rows g s);
   place = λ position g at. at_unless position (g.check) (record g { check = true }) at;
 }
-

@@ -81,8 +81,14 @@ alone false = refl
 
 pub by_long : (name : Text) → arg_by_long table name ≡ rule_named name
 unfolding table
-by_long name = rw (alone (bytes_eq (codes "kind") name), alone (bytes_eq (codes "jobs") name), alone (bytes_eq (codes "generate") name),
-    alone (bytes_eq (codes "drop-on-error") name), alone (bytes_eq (codes "keep-on-abort") name), alone (bytes_eq (codes "check") name)) refl
+by_long name = rw (
+  alone (bytes_eq (codes "kind") name),
+  alone (bytes_eq (codes "jobs") name),
+  alone (bytes_eq (codes "generate") name),
+  alone (bytes_eq (codes "drop-on-error") name),
+  alone (bytes_eq (codes "keep-on-abort") name),
+  alone (bytes_eq (codes "check") name),
+) refl
 
 pub by_spelling : (name : Text) (value : Option Text)
     → option_spelt (45 ∷ 45 ∷ name) value ≡ pick_by name (option_with_value kind value) (option_with_value jobs value) (option_with_value generate value)

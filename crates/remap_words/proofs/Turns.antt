@@ -1,16 +1,14 @@
 -- What one word does to a walk, by the form of the word.
-use Rattle.std.proofs.Common.{◌≡◌, ◌∙◌, ◌==◌, ◌&&◌, ◌||◌, ℕ, Bool, cond, codes, true, false, refl, sym, ap, ap₂, subst, List, [], ◌∷◌, Option, Some, None, is_some}
-use Rattle.std.specs.Prelude.{⊤}
-use Rattle.std.specs.List.{fold}
+use Rattle.std.proofs.Common.{◌≡◌, ℕ, Bool, cond, true, false, refl, [], ◌∷◌, Option, Some, None, is_some}
 use Rattle.std.specs.Option.{option_map_or}
 use Rattle.std.specs.Str.{bytes_eq}
 use Rattle.clap.specs.Faults.{long_fault, option_fault, positional_fault, react_fault, settle_fault, step_fault, stray_fault, turn_fault}
 use Rattle.clap.specs.Kinds.{Kinds, or_else}
 use Rattle.clap.specs.Lexer.{long_of, short_of}
-use Rattle.clap.specs.Walk.{Held, Rule, Step, Text, Waiting, Walk, after_flag, after_step, arg_by_id, arg_by_index, arg_by_long, idle, long_met, long_word, option, plain_word, positional, takes_values, to_positional, walked}
+use Rattle.clap.specs.Walk.{Held, Rule, Text, Waiting, Walk, after_flag, after_step, arg_by_index, arg_by_long, idle, long_met, option, plain_word, positional, takes_values, to_positional, walked}
 use Rattle.clap.specs.declared.error.kind.ErrorKind.TheVariants.{TooManyValues}
-use Rattle.remap_words.proofs.Table.{built_option, shape, table}
-use Rattle.remap_words.proofs.Held.{IsFault, fault_first, none_behind}
+use Rattle.remap_words.proofs.Table.{shape, table}
+use Rattle.remap_words.proofs.Held.{IsFault, fault_first}
 
 abbrev pub place : Bool → Waiting → ℕ → Held → Walk
 place is_trailing waiting position h = record {

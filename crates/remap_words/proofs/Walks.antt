@@ -1,18 +1,18 @@
 -- The walk of `clap` over the words ends with what the words give, word by word.
-use Rattle.std.proofs.Common.{◌≡◌, ◌∙◌, ◌+◌, ◌==◌, ◌&&◌, ◌||◌, ℕ, Bool, cond, codes, true, false, min, refl, sym, ap, subst, List, [], ◌∷◌, ◌++◌, Option, Some, None, is_some}
-use Rattle.std.specs.Prelude.{⊤, option_and_then, nat_lt, map}
+use Rattle.std.proofs.Common.{◌≡◌, ◌∙◌, ◌&&◌, ◌||◌, ℕ, Bool, cond, codes, true, false, refl, sym, ap, subst, List, [], ◌∷◌, Option, Some, None, is_some}
+use Rattle.std.specs.Prelude.{option_and_then}
 use Rattle.std.specs.List.{fold}
 use Rattle.std.specs.Option.{option_map, option_map_or}
 use Rattle.std.specs.Str.{bytes_eq}
-use Rattle.clap.specs.Faults.{positional_fault, react_fault, settle_fault, stray_fault, turn_fault, use_fault, walk_fault}
+use Rattle.clap.specs.Faults.{positional_fault, react_fault, settle_fault, stray_fault, turn_fault, walk_fault}
 use Rattle.clap.specs.Kinds.{Kinds, or_else}
-use Rattle.clap.specs.Walk.{Held, Row, Rule, Text, Waiting, Walk, arg_by_id, arg_by_index, finished, idle, is_pending, option, plain_word, after_step, positional_held, pushed, reacted, settled, to_positional, used, walked}
-use Rattle.remap_words.specs.Uses.{Use, Word, flag, option_with_value, refused, script, uses_from, uses_of}
+use Rattle.clap.specs.Walk.{Held, Row, Rule, Text, Waiting, Walk, arg_by_id, finished, idle, is_pending, option, plain_word, after_step, positional_held, pushed, reacted, settled, to_positional, walked}
+use Rattle.remap_words.specs.Uses.{Use, Word, flag, option_with_value, script, uses_from, uses_of}
 use Rattle.remap_words.specs.Words.{Given, unless, with_use, with_uses}
 use Rattle.remap_words.proofs.Table.{alone, at_any, at_first, at_second, built_flag, built_option, built_script, script_by_id, shape, table}
 use Rattle.remap_words.proofs.Rows.{At, IsUse, Shows, script_made}
 use Rattle.remap_words.proofs.Held.{IsFault, Stands, Turns, fault_first, none_behind, pending_fault, pending_stands, react_turns}
-use Rattle.remap_words.proofs.Turns.{IsPlain, long_turn, long_walk, name_fault, name_walk, place}
+use Rattle.remap_words.proofs.Turns.{long_turn, long_walk, name_fault, name_walk, place}
 use Rattle.remap_words.proofs.Defaults.{Agrees, end_fault, fault_agrees}
 
 -- the faults from here on, and the rows at the end

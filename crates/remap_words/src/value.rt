@@ -1,4 +1,4 @@
-ghost use Rattle.std.specs.Prelude.{◌≡◌, option_map};
+ghost use Rattle.std.specs.Prelude.{◌≡◌, ◌&&◌, Some, None, if◌then◌else◌, nat_le, option_map};
 ghost use Rattle.std.specs.Str.{all_ascii_digits};
 ghost use Rattle.remap_words.specs.Numbers.{number_in};
 ghost use Rattle.remap_words.specs.View.{mode_of_read};
@@ -61,13 +61,29 @@ fn number(text: &str, most: usize, low: u64, high: u64) -> Option<u64>
         return None;
     }
     match text.parse::<u64>() {
-        Ok(number) if number >= low && number <= high => Some(number),
-        _ => None,
+        Ok(number) => within(number, low, high),
+        Err(_) => None,
+    }
+}
+
+fn within(number: u64, low: u64, high: u64) -> Option<u64>
+    ensures { result ≡ if nat_le low number && nat_le number high then Some number else None }
+{
+    if number < low || number > high {
+        None
+    } else {
+        Some(number)
     }
 }
 
 fn is_digits(text: &str) -> bool
     ensures { result ≡ all_ascii_digits text.now }
 {
-    text.bytes().all(|byte| byte.is_ascii_digit())
+    let bytes = text.as_bytes();
+    for byte in bytes {
+        if !byte.is_ascii_digit() {
+            return false;
+        }
+    }
+    true
 }

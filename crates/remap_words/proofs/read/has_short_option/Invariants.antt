@@ -1,4 +1,4 @@
-use Rattle.std.proofs.Common.{◌≡◌, drop, map}
+use Rattle.std.proofs.Common.{◌≡◌, drop}
 use Rattle.remap_words.specs.Uses.{has_short}
 use Rattle.remap_words.specs.View.{texts}
 use Rattle.remap_words.proofs.read.has_short_option.Given as goal
