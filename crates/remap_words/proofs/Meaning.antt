@@ -1,23 +1,26 @@
 -- What the words mean where an option with one hyphen stands among them, and what holds of each meaning.
-use Rattle.std.proofs.Common.{◌≡◌, ◌∙◌, ◌≤◌, ◌==◌, ◌&&◌, ℕ, Bool, cond, true, false, refl, sym, ap, subst, arith, inl, inr, List, [], ◌∷◌, length, Option, Some, None, Result, IfOk, IsSomeAnd, true≢false, nat_le, nat_lt, zero, suc, take, unwrap_or}
-use Rattle.std.specs.Prelude.{is_some, option_and_then}
+use Rattle.std.proofs.Common.{◌≡◌, ◌∙◌, ◌≤◌, ◌==◌, ◌&&◌, ◌⊎◌, ℕ, Bool, cond, true, false, refl, sym, ap, subst, arith, inl, inr, List, [], ◌∷◌, length, Option, Some, None, Result, Ok, Err, IfErr, IfOk, IsSomeAnd, true≢false, nat_le, nat_lt, zero, suc, take, unwrap_or}
+use Rattle.std.specs.Prelude.{is_ok, is_some, option_and_then}
 use Rattle.std.specs.List.{after_first, before_first, position_or_len}
 use Rattle.std.specs.Option.{option_map}
 use Rattle.std.specs.Str.{all_ascii_digits, bytes_eq}
 use Rattle.std.specs.Str.Parse.{digits_value}
 use Rattle.std.proofs.lemmas.Bool.{eqb-false, leb-true}
 use Rattle.std.proofs.lemmas.Bool.Decides.{eqb_tells}
-use Rattle.std.proofs.lemmas.Result.{IfOk-weaker}
 use Rattle.clap.specs.Walk.{Text}
 use Rattle.clap.specs.declared.parser.matches.ArgMatches.{ArgMatches}
 use Rattle.remap_words.specs.Numbers.{number_in}
-use Rattle.remap_words.specs.Command.{AreMatchesOf}
+use Rattle.remap_words.specs.Command.{AreMatchesOf, IsAnswer, fault_by}
 use Rattle.remap_words.specs.Uses.{Use, begins_with_hyphen, behind_equals, check, drop_on_error, flag, generate, has_short, is_equals, is_short, jobs, keep_on_abort, kind, option_spelt, option_with_value, refused, script, uses_from, uses_of, whole, word_of}
 use Rattle.remap_words.specs.View.{IsInBounds, IsModeInBounds, invocation_of}
 use Rattle.remap_words.specs.Words as words
-use Rattle.remap_words.specs.Words.{Given, Invocation, Mode, given_of, invocation_given, jobs_of, kind_of, mode_of, name_of, nothing_given, with_uses, words_mean}
+use Rattle.remap_words.specs.Words.{Given, Invocation, Mode, given_of, invocation_given, jobs_of, kind_file_of, mode_of, name_of, nothing_given, with_uses, words_mean}
 use Rattle.remap_words.specs.declared.invocation.Invocation.{Invocation as Read}
 use Rattle.remap_words.specs.declared.invocation.WordsFault.{WordsFault}
+use Rattle.remap_words.specs.declared.invocation.WordsFault.TheVariants.{Memory, Refused}
+use Rattle.clap.specs.Values as clap
+use Rattle.clap.specs.declared.error.Error.{Error}
+use Rattle.clap.specs.declared.error.kind.ErrorKind.TheVariants.{OutOfMemory}
 use Rattle.remap_words.proofs.Table.{picked}
 use Rattle.remap_words.proofs.Turns.{IsPlain, dashes}
 use Rattle.remap_words.proofs.Reading.{by_form, cut_before, long_is, name_in, plain_is, value_in}
@@ -102,22 +105,50 @@ all_refuse (word ∷ rest) =
 pub short_refused : (words : List Text) → has_short words ≡ true → words_mean words ≡ None
 short_refused words has = ap (λ us. option_and_then invocation_given (option_and_then (λ uses. with_uses uses nothing_given) us)) (all_refuse words has).0
 
--- ---- what is read of the matches
+-- ---- the answer
 
-mean_is : (m : ArgMatches) (r : Option Read) (given : Option Given) → IsSomeAnd given (λ g. AreMatchesOf g m)
-    → ((g : Given) → AreMatchesOf g m → option_map invocation_of r ≡ invocation_given g) → option_and_then invocation_given given ≡ option_map invocation_of r
-mean_is m r None told reads = absurd told
-mean_is m r (Some g) told reads = sym (reads g told)
+ok≢err : {X E : Type 0} {x : X} {e : E} → Ok x ≡ Err e → ⊥
+ok≢err same = true≢false (ap (λ r. is_ok r) same)
 
-pub invocation_read : (words : List Text) (m : ArgMatches) (r : Option Read) (answer : Result Read WordsFault) → IsSomeAnd (given_of words) (λ g. AreMatchesOf g m)
-    → ((g : Given) → AreMatchesOf g m → option_map invocation_of r ≡ invocation_given g) → IfOk answer (λ i. r ≡ Some i)
+abbrev is_memory : Result Read WordsFault → Bool
+is_memory (Err Memory) = true
+is_memory _ = false
+
+memory≢refused : ◌≡◌ {A = Result Read WordsFault} (Err Memory) (Err Refused) → ⊥
+memory≢refused same = true≢false (ap is_memory same)
+
+read_given : (given : Option Given) (m : ArgMatches) (answer : Result Read WordsFault) → IsSomeAnd given (λ g. AreMatchesOf g m)
+    → ((g : Given) → AreMatchesOf g m → IsAnswer (invocation_given g) answer) → IsAnswer (option_and_then invocation_given given) answer
+read_given None m answer told answers = absurd told
+read_given (Some g) m answer told answers = answers g told
+
+answer_read : (meaning : Option Invocation) (answer : Result Read WordsFault) → IsAnswer meaning answer → IfOk answer (λ i. meaning ≡ Some (invocation_of i))
+answer_read (Some i) (Ok read) is = ap (λ x. Some x) (sym is)
+answer_read (Some i) (Err fault) is = tt
+answer_read None (Ok read) is = absurd is
+answer_read None (Err fault) is = tt
+
+answer_refused : (meaning : Option Invocation) (answer : Result Read WordsFault) → IsAnswer meaning answer → answer ≡ Err Refused → meaning ≡ None
+answer_refused (Some i) (Ok read) is none = absurd (ok≢err none)
+answer_refused (Some i) (Err fault) is none = absurd is
+answer_refused None answer is none = refl
+
+pub words_read : (words : List Text) (parsed : Result ArgMatches Error) (answer : Result Read WordsFault)
+    → IfOk parsed (λ m. IsSomeAnd (given_of words) (λ g. AreMatchesOf g m))
+    → IfOk parsed (λ m. (g : Given) → AreMatchesOf g m → IsAnswer (invocation_given g) answer) → IfErr parsed (λ e. answer ≡ Err (fault_by (clap.kind_of e)))
     → IfOk answer (λ i. words_mean words ≡ Some (invocation_of i))
-invocation_read words m r answer told reads ok =
-    IfOk-weaker answer _ _ (λ i is. mean_is m r (given_of words) told reads ∙ ap (λ o. option_map invocation_of o) is) ok
+words_read words (Ok m) answer told answers fails = answer_read (words_mean words) answer (read_given (given_of words) m answer told answers)
+words_read words (Err e) answer told answers fails = subst (λ r. IfOk r (λ i. words_mean words ≡ Some (invocation_of i))) (sym fails) tt
 
-pub invocation_refused : (words : List Text) (m : ArgMatches) (r : Option Read) → IsSomeAnd (given_of words) (λ g. AreMatchesOf g m)
-    → ((g : Given) → AreMatchesOf g m → option_map invocation_of r ≡ invocation_given g) → r ≡ None → words_mean words ≡ None
-invocation_refused words m r told reads none = mean_is m r (given_of words) told reads ∙ ap (λ o. option_map invocation_of o) none
+pub words_refused : (words : List Text) (parsed : Result ArgMatches Error) (answer : Result Read WordsFault)
+    → IfOk parsed (λ m. IsSomeAnd (given_of words) (λ g. AreMatchesOf g m)) → IfErr parsed (λ e. (clap.kind_of e ≡ OutOfMemory) ⊎ (words_mean words ≡ None))
+    → IfOk parsed (λ m. (g : Given) → AreMatchesOf g m → IsAnswer (invocation_given g) answer) → IfErr parsed (λ e. answer ≡ Err (fault_by (clap.kind_of e)))
+    → answer ≡ Err Refused → words_mean words ≡ None
+words_refused words (Ok m) answer told refuses answers fails none = answer_refused (words_mean words) answer (read_given (given_of words) m answer told answers) none
+words_refused words (Err e) answer told refuses answers fails none = elim refuses [
+  | inl memory ↦ absurd (memory≢refused (sym (fails ∙ ap (λ k. Err (fault_by k)) memory) ∙ none))
+  | inr nothing ↦ nothing
+]
 
 -- ---- bounds
 
@@ -167,7 +198,7 @@ jobs_bounds None n is =
 jobs_bounds (Some text) n is = number_bounds 2 1 32 text n is
 
 given_in_bounds : (g : Given) (i : Invocation) → invocation_given g ≡ Some i → IsInBounds i
-given_in_bounds g i is = go (option_and_then name_of g.script) (kind_of g.kind) (jobs_of g.jobs) (mode_of g.check g.generate)
+given_in_bounds g i is = go (option_and_then name_of g.script) (kind_file_of g.kind) (jobs_of g.jobs) (mode_of g.check g.generate)
     (jobs_bounds g.jobs) (mode_bounds g.check g.generate) is
   where
     go : (s : Option Text) (k : Option (Option Text)) (j : Option ℕ) (m : Option Mode) → ((n : ℕ) → j ≡ Some n → (1 ≤ n) × (n ≤ 32))

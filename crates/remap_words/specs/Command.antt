@@ -1,9 +1,15 @@
 -- The command as `clap` is told of it, and what the matches tell.
-use Rattle.std.specs.Prelude.{◌≡◌, Bool, true, List, ℕ, Some, codes, if◌then◌else◌}
+use Rattle.std.specs.Prelude.{◌≡◌, Bool, true, List, ℕ, Option, Some, None, Result, Ok, Err, codes, if◌then◌else◌}
 use Rattle.clap.specs.Words.{App, Rule, first_value, found_of, new_app, new_rule, one_text, with_rule}
 use Rattle.clap.specs.declared.builder.action.ArgAction.TheVariants.{SetTrue}
 use Rattle.clap.specs.declared.parser.matches.ArgMatches.{ArgMatches}
-use Rattle.remap_words.specs.Words.{Given}
+use Rattle.clap.specs.declared.error.kind.ErrorKind.{ErrorKind}
+use Rattle.clap.specs.declared.error.kind.ErrorKind.TheVariants.{OutOfMemory}
+use Rattle.remap_words.specs.View.{invocation_of}
+use Rattle.remap_words.specs.Words.{Given, Invocation}
+use Rattle.remap_words.specs.declared.invocation.Invocation.{Invocation as Read}
+use Rattle.remap_words.specs.declared.invocation.WordsFault.{WordsFault}
+use Rattle.remap_words.specs.declared.invocation.WordsFault.TheVariants.{Memory, Refused}
 
 abbrev pub script_rule : Rule
 script_rule = record (new_rule (codes "script")) { required = true }
@@ -34,6 +40,18 @@ remap_app = with_rule (with_rule (with_rule (with_rule (with_rule (with_rule
 
 abbrev pub flag_text : Bool → List ℕ
 flag_text b = if b then codes "true" else codes "false"
+
+-- want of memory is told apart from every other error
+abbrev pub fault_by : ErrorKind → WordsFault
+fault_by OutOfMemory = Memory
+fault_by _ = Refused
+
+-- what is given is answered by what it means, or is refused
+abbrev pub IsAnswer : Option Invocation → Result Read WordsFault → Type 0
+IsAnswer (Some i) (Ok read) = invocation_of read ≡ i
+IsAnswer (Some i) (Err fault) = ⊥
+IsAnswer None (Ok read) = ⊥
+IsAnswer None (Err fault) = fault ≡ Refused
 
 -- the matches tell what is given
 pub record AreMatchesOf (g : Given) (m : ArgMatches) : Type 0 where

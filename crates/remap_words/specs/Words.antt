@@ -77,9 +77,9 @@ name_of [] = None
 name_of (b ∷ bs) = Some (b ∷ bs)
 
 -- a kind file need not be named
-abbrev pub kind_of : Option (List ℕ) → Option (Option (List ℕ))
-kind_of None = Some None
-kind_of (Some name) = option_map (λ n. Some n) (name_of name)
+abbrev pub kind_file_of : Option (List ℕ) → Option (Option (List ℕ))
+kind_file_of None = Some None
+kind_file_of (Some name) = option_map (λ n. Some n) (name_of name)
 
 -- one worker, or as many as one or two digits say, from 1 to 32
 abbrev pub jobs_of : Option (List ℕ) → Option ℕ
@@ -111,7 +111,7 @@ invocation_given g = option_and_then (λ script. option_and_then (λ kind. optio
       drop_on_error = g.drop_on_error;
       keep_on_abort = g.keep_on_abort;
       mode = mode;
-    }) (mode_of g.check g.generate)) (jobs_of g.jobs)) (kind_of g.kind))
+    }) (mode_of g.check g.generate)) (jobs_of g.jobs)) (kind_file_of g.kind))
     (option_and_then name_of g.script)
 
 -- what the words mean, or none where they are refused

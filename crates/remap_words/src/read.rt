@@ -1,10 +1,10 @@
-ghost use Rattle.std.specs.Prelude.{◌≡◌, ◌≢◌, Some, None, Err, IfOk, option_map};
+ghost use Rattle.std.specs.Prelude.{◌≡◌, Option, Some, None, Err, IfErr, IfOk, option_map, true};
 ghost use Rattle.clap.specs.Words.{kind_of};
-ghost use Rattle.remap_words.specs.Command.{AreMatchesOf};
+ghost use Rattle.remap_words.specs.Command.{AreMatchesOf, IsAnswer, fault_by};
 ghost use Rattle.remap_words.specs.Uses.{has_short};
 ghost use Rattle.remap_words.specs.Uses as uses;
 ghost use Rattle.remap_words.specs.View.{IsInBounds, invocation_of, texts};
-ghost use Rattle.remap_words.specs.Words.{Given, invocation_given, words_mean};
+ghost use Rattle.remap_words.specs.Words.{Given, Invocation as Asked, invocation_given, words_mean};
 
 use crate::command::matches_of;
 use crate::invocation::{Invocation, WordsFault};
@@ -13,17 +13,26 @@ use clap::error::ErrorKind;
 use clap::{ArgMatches, Error};
 use std::alloc::Global;
 
-/// Reads the words behind the program's name. The answer is `Refused` only where they mean nothing, and it is so wherever they mean nothing unless memory
-/// runs out.
+/// Reads the words behind the program's name. The answer is `Refused` only where they mean nothing, and wherever they mean nothing it is `Refused` unless
+/// memory runs out. A word with one hyphen, which is no option, is refused before memory is asked for.
 pub fn read_words<'a>(alloc: Global, words: &'a [String]) -> Result<Invocation<'a>, WordsFault>
     ensures read { IfOk result (λ i. words_mean (texts words.now) ≡ Some (invocation_of i)) }
     ensures bounds { IfOk result (λ i. IsInBounds (invocation_of i)) }
     ensures refused { result ≡ Err WordsFault.Refused → words_mean (texts words.now) ≡ None }
+    ensures short { has_short (texts words.now) ≡ true → result ≡ Err WordsFault.Refused }
 {
     if has_short_option(words) {
         return Err(WordsFault::Refused);
     }
-    match matches_of(alloc, words) {
+    answer(matches_of(alloc, words))
+}
+
+/// What is answered where `clap` answers so. Only its want of memory is ours.
+fn answer<'a>(parsed: Result<ArgMatches<'a>, Error>) -> Result<Invocation<'a>, WordsFault>
+    ensures ok { IfOk parsed.entry (λ m. (g : Given) → AreMatchesOf g m → IsAnswer (invocation_given g) result) }
+    ensures err { IfErr parsed.entry (λ e. result ≡ Err (fault_by (kind_of e))) }
+{
+    match parsed {
         Ok(matches) => or_refused(invocation(&matches)),
         Err(error) => Err(fault_of(&error)),
     }
@@ -76,8 +85,7 @@ fn invocation<'a>(matches: &ArgMatches<'a>) -> Option<Invocation<'a>>
 }
 
 fn or_refused<'a>(invocation: Option<Invocation<'a>>) -> Result<Invocation<'a>, WordsFault>
-    ensures ok { IfOk result (λ i. invocation.entry ≡ Some i) }
-    ensures refused { result ≡ Err WordsFault.Refused → invocation.entry ≡ None }
+    ensures { (i : Option Asked) → option_map invocation_of invocation.entry ≡ i → IsAnswer i result }
 {
     match invocation {
         Some(invocation) => Ok(invocation),
@@ -85,10 +93,8 @@ fn or_refused<'a>(invocation: Option<Invocation<'a>>) -> Result<Invocation<'a>, 
     }
 }
 
-/// Why the words are not read, by the error that `clap` gives: only want of memory is `Memory`.
 fn fault_of(error: &Error) -> WordsFault
-    ensures memory { kind_of error.now ≡ ErrorKind.OutOfMemory → result ≡ WordsFault.Memory }
-    ensures refused { kind_of error.now ≢ ErrorKind.OutOfMemory → result ≡ WordsFault.Refused }
+    ensures { result ≡ fault_by (kind_of error.now) }
 {
     match error.kind() {
         ErrorKind::OutOfMemory => WordsFault::Memory,

@@ -2,7 +2,7 @@ ghost use Rattle.std.specs.Prelude.{◌≡◌, ◌&&◌, Some, None, if◌then�
 ghost use Rattle.std.specs.Str.{all_ascii_digits};
 ghost use Rattle.remap_words.specs.Numbers.{number_in};
 ghost use Rattle.remap_words.specs.View.{mode_of_read};
-ghost use Rattle.remap_words.specs.Words.{generate_of, jobs_of, kind_of, mode_of, name_of};
+ghost use Rattle.remap_words.specs.Words.{generate_of, jobs_of, kind_file_of, mode_of, name_of};
 
 use crate::invocation::Mode;
 
@@ -15,7 +15,7 @@ pub(crate) fn name(text: &str) -> Option<&str>
 
 /// The name of the kind file, where there is one; it is not empty.
 pub(crate) fn kind(text: Option<&str>) -> Option<Option<&str>>
-    ensures { option_map (option_map (λ name. name.now)) result ≡ kind_of (option_map (λ text. text.now) text.entry) }
+    ensures { option_map (option_map (λ name. name.now)) result ≡ kind_file_of (option_map (λ text. text.now) text.entry) }
 {
     match text {
         Some(text) => Some(Some(name(text)?)),
