@@ -31,12 +31,16 @@ bare_app = record (new_app (codes "remap")) {
   };
 }
 
+abbrev pub with_value_rules : App → App
+with_value_rules app = with_rule (with_rule (with_rule app (option_rule (codes "kind")))
+    (option_rule (codes "jobs"))) (option_rule (codes "generate"))
+
+abbrev pub with_flag_rules : App → App
+with_flag_rules app = with_rule (with_rule (with_rule app (flag_rule (codes "drop-on-error")))
+    (flag_rule (codes "keep-on-abort"))) (flag_rule (codes "check"))
+
 abbrev pub remap_app : App
-remap_app = with_rule (with_rule (with_rule (with_rule (with_rule (with_rule
-    (with_rule bare_app script_rule) (option_rule (codes "kind")))
-    (option_rule (codes "jobs"))) (option_rule (codes "generate")))
-    (flag_rule (codes "drop-on-error"))) (flag_rule (codes "keep-on-abort")))
-    (flag_rule (codes "check"))
+remap_app = with_flag_rules (with_value_rules (with_rule bare_app script_rule))
 
 abbrev pub flag_text : Bool → List ℕ
 flag_text b = if b then codes "true" else codes "false"

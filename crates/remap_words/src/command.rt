@@ -1,7 +1,7 @@
 ghost use Rattle.std.specs.Prelude.{◌≡◌, ◌⊎◌, ⊤, None, IfErr, IfOk, IsSomeAnd, false};
 ghost use Rattle.clap.specs.Words.{app_of, kind_of, with_rule};
 ghost use Rattle.remap_words.specs.Command.{AreMatchesOf, bare_app, flag_rule, option_rule};
-ghost use Rattle.remap_words.specs.Command.{remap_app, script_rule};
+ghost use Rattle.remap_words.specs.Command.{remap_app, script_rule, with_flag_rules, with_value_rules};
 ghost use Rattle.remap_words.specs.Uses.{has_short};
 ghost use Rattle.remap_words.specs.View.{texts};
 ghost use Rattle.remap_words.specs.Words.{given_of, words_mean};
@@ -25,13 +25,24 @@ pub(crate) fn matches_of<'a>(alloc: Global, words: &'a [String]) -> Result<ArgMa
 fn command<'a>(alloc: Global) -> Result<Command<'a>, AllocError>
     ensures { IfOk result (λ command. app_of command ≡ remap_app) }
 {
-    let command = with_script(alloc, bare(alloc))?;
-    let command = with_option(alloc, command, "kind")?;
-    let command = with_option(alloc, command, "jobs")?;
-    let command = with_option(alloc, command, "generate")?;
-    let command = with_flag(alloc, command, "drop-on-error")?;
-    let command = with_flag(alloc, command, "keep-on-abort")?;
-    with_flag(alloc, command, "check")
+    let named = with_script(alloc, bare(alloc))?;
+    with_flags(alloc, with_values(alloc, named)?)
+}
+
+fn with_values<'a>(alloc: Global, command: Command<'a>) -> Result<Command<'a>, AllocError>
+    ensures { IfOk result (λ more. app_of more ≡ with_value_rules (app_of command.entry)) }
+{
+    let kind = with_option(alloc, command, "kind")?;
+    let jobs = with_option(alloc, kind, "jobs")?;
+    with_option(alloc, jobs, "generate")
+}
+
+fn with_flags<'a>(alloc: Global, command: Command<'a>) -> Result<Command<'a>, AllocError>
+    ensures { IfOk result (λ more. app_of more ≡ with_flag_rules (app_of command.entry)) }
+{
+    let dropping = with_flag(alloc, command, "drop-on-error")?;
+    let keeping = with_flag(alloc, dropping, "keep-on-abort")?;
+    with_flag(alloc, keeping, "check")
 }
 
 /// A command whose words do not begin with the program's name, without options of its own.
