@@ -1,4 +1,6 @@
+pub mod Accepting
 pub mod AnswerLemmas
 pub mod Calls
+pub mod Loads
 pub mod OneAnswer
 pub mod RunSound

@@ -1,31 +1,33 @@
 -- What a call of the program comes to.
-use Rattle.std.specs.Prelude.{◌≡◌, ◌⊎◌, ℕ, List, Option}
-use Rattle.vrl_diag.specs.declared.diagnostic.Diagnostic.{Diagnostic}
-use Rattle.vrl_resolve.specs.Program.{ProgramTree}
+use Rattle.std.specs.Prelude.{◌≡◌, ◌⊎◌, ℕ, List, Option, IfSome, IsTrue}
 use Rattle.vrl_run.specs.Devices.{Devices, LeavesDevices}
-use Rattle.vrl_run.specs.Request.{bad_script, run}
-use Rattle.vrl_run.specs.Status.{ComesOfRefusal}
+use Rattle.vrl_run.specs.Request.{MayCome, Request, ScriptRun, map_lines}
+use Rattle.vrl_run.specs.Status.{IsFinished}
 use Rattle.vrl_run.specs.declared.status.Status.{Status}
 use Rattle.vrl_run.specs.declared.status.Status.TheVariants.{Memory, ReadFault}
 use Rattle.remap_tool.specs.OneAnswer.{HasOneAnswer}
-use Rattle.remap_tool.specs.Request.{Asks, Held, IsScriptAccepted, IsTextOfCall, IsWithoutText, RunsSoundly}
-use Rattle.remap_tool.specs.Words.{Command}
+use Rattle.remap_tool.specs.Request.{AreTexts, Asks, AsksToRun, HasLoadedBy, Held, IsUnloaded, ReadsLines, RunsSoundly, Texts}
+use Rattle.remap_words.specs.Words.{Invocation}
 
--- A call with this command, over a store that holds this, ended with this status, and its devices told this before and after. All is told of one text: the bytes of the
--- call's script. `Unasked` says that neither the input nor the clock was asked.
-pub record IsCall (held : Held) (command : Command) (status : Status) (before after : Devices) (Unasked : Type 0) : Type 0 where
-  pub text : Option (List ℕ)
-  pub is_text : IsTextOfCall held command text
+-- A call whose words mean this, or are refused, over a store that holds this, ended with this status; its store had these failures before and after, and its devices told this.
+-- All is told of the same texts: the bytes of the call's script and of its kind file. `Unasked` says that neither the input nor the clock was asked.
+pub record IsCall (held : Held) (invocation : Option Invocation) (failures failures_after : List (List ℕ)) (status : Status) (before after : Devices) (Unasked : Type 0) : Type 0 where
+  pub texts : Texts
+  pub are_texts : AreTexts held invocation texts
   -- An answer comes with all its bytes, and is the answer to what was asked. Whatever the status, nothing is written but a front of that answer, and no more of the
   -- input is taken than may be.
-  pub leaves : LeavesDevices (Asks command text) status before after
+  pub leaves : LeavesDevices (Asks invocation texts) status before after
   -- One answer fits what is asked, but for the place where the grammar reads no script.
-  pub one_answer : HasOneAnswer (Asks command text)
-  -- A script that is refused is told so, or a fault or want of memory is.
-  pub refused : (told : List ℕ) (diagnostics : List Diagnostic) → Asks command text (bad_script told diagnostics) → ComesOfRefusal status
-  -- Where the name of the script has no bytes, that the script could not be loaded is told, or want of memory.
-  pub unloaded : IsWithoutText command text → (status ≡ ReadFault) ⊎ (status ≡ Memory)
-  -- The input and the clock are asked only once the script is accepted.
-  pub accepted_first : Unasked ⊎ IsScriptAccepted command text
+  pub one_answer : HasOneAnswer (Asks invocation texts)
+  -- The status is one that may come of what is asked: its own, or that a device failed or memory was wanted.
+  pub comes : (request : Request) → Asks invocation texts request → MayCome request status
+  -- Where a name has no bytes, that it could not be loaded is told, or want of memory.
+  pub unloaded : IfSome invocation (λ i. IsUnloaded i texts → (status ≡ ReadFault) ⊎ (status ≡ Memory))
+  -- No other name is loaded than that of the script and that of the kind file, and this once the script is known to be a text.
+  pub loads : HasLoadedBy invocation texts failures failures_after
+  -- The input and the clock are asked only to run a script over lines, once it is accepted.
+  pub first : Unasked ⊎ ((run : ScriptRun) × Asks invocation texts (map_lines run))
+  -- Lines are answered once the input has said that it is at its end.
+  pub ended : ReadsLines invocation → IsFinished status → IsTrue after.ended
   -- A script that runs handles each of its errors, and what it leaves is of the kinds that were judged.
-  pub sound : (told : List ℕ) (program : ProgramTree) (warnings : List Diagnostic) → Asks command text (run told program warnings) → RunsSoundly told program
+  pub sound : (run : ScriptRun) → AsksToRun invocation texts run → RunsSoundly run.declared run.text run.program

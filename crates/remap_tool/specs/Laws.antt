@@ -6,17 +6,18 @@ use Rattle.vrl_json.specs.Line.{reading_of, whole}
 use Rattle.vrl_check.specs.Determined.{JudgementsAreDetermined}
 use Rattle.vrl_compile.specs.Answer.{AcceptedScriptsAreSound}
 use Rattle.vrl_compile.specs.Reading.{DiagnosticsAreDetermined, ScriptsHaveOneReading}
-use Rattle.vrl_run.specs.Events.{ObjectsAreEvents}
+use Rattle.vrl_kindfile.specs.Laws.{FilesHaveOneAnswer}
 
 pub record Laws : Type 0 where
   -- a text and its judgement are read in one way
   pub readings : ScriptsHaveOneReading
   pub judgements : JudgementsAreDetermined
   pub diagnostics : DiagnosticsAreDetermined
+  -- a kind file declares one kind, or has one fault
+  pub kind_files : FilesHaveOneAnswer
   -- what the judgement says holds
   pub sound : AcceptedScriptsAreSound
   -- what a line of JSON says of the tree that it stands for
   pub json : (line : List ℕ) (tree : Tree) → reading_of line ≡ whole tree → IsTrue (is_json tree)
   pub ordered : (line : List ℕ) (tree : Tree) → reading_of line ≡ whole tree → IsOrdered tree
   pub below : (count : ℕ) (tree : Tree) → IsTrue (is_json tree) → IsTrue (regexes_below count tree)
-  pub objects : ObjectsAreEvents

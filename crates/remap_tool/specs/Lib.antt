@@ -1,5 +1,5 @@
 pub mod Call
 pub mod Laws
+pub mod Loading
 pub mod OneAnswer
 pub mod Request
-pub mod Words

@@ -1,10 +1,12 @@
 //! `remap SCRIPT < events.jsonl`: runs a script over lines of JSON.
 //!
-//! Files: `main.rt` has `main`, which calls `remap` (`tool.rt`) and ends with the number of its status; `words.rt` says which script the words name.
+//! Files: `main.rt` has `main`, which calls `remap` (`tool.rt`) and ends with the number of its status; `loading.rt` has what is done with the bytes of a script and of
+//! a kind file, and `running.rt` what is done with a script over events of the declared kind.
 #![tactic(auto)]
 
+mod loading;
+mod running;
 mod tool;
-mod words;
 
 use std::process::ExitCode;
 use std::rt::Env;

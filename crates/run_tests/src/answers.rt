@@ -1,6 +1,5 @@
 ghost use Rattle.std.specs.Prelude.{◌≡◌};
 ghost use Rattle.vrl_resolve.specs.Program.{program_of};
-ghost use Rattle.vrl_run.specs.Events.{event_kind};
 ghost use Rattle.vrl_run.specs.LineResult.{HandlesErrors};
 ghost use Rattle.vrl_run.specs.Request.{IsReadyRequest};
 
@@ -12,7 +11,7 @@ use vrl_diag::{Diagnostic, Span};
 use vrl_io::{MemoryClock, MemorySink, MemorySource};
 use vrl_kind::Kind;
 use vrl_resolve::Program;
-use vrl_run::{Request, Script, Status, answer};
+use vrl_run::{Options, Request, Script, Status, answer};
 use vrl_value::{Memory, Names};
 
 // The size of the input's pieces, where it comes in pieces, and the number of the call that fails, of the input, the output and the
@@ -114,15 +113,18 @@ fn is_run(
     declared: &Kind,
     row: &Row,
 ) -> Result<bool, Memory>
-    requires kind { declared.now ≡ event_kind }
     requires sources { sources.now ≡ (program_of program.now).sources }
-    requires handled { HandlesErrors event_kind (program_of program.now) }
+    requires handled { HandlesErrors declared.now (program_of program.now) }
 {
     let request = Request::Run(Script {
         text: text.as_bytes(),
         program,
         sources,
         declared,
+        options: Options {
+            drop_on_error: false,
+            keep_on_abort: false,
+        },
         warnings: &[],
     });
     is_answered(alloc, &request, row)
@@ -168,7 +170,7 @@ const FAULTS: [Row; 13] = [
     (None, Faults { report: Some(0), ..NONE }, Status::WriteFault, "", ""),
     // No call fails: a script is refused, and the words are.
     (Some(".x = y"), NONE, Status::Refused, "", "error[E701] 1:6 undefined variable\n"),
-    (None, NONE, Status::Usage, "", "usage: remap SCRIPT\n"),
+    (None, NONE, Status::Usage, "", "usage: remap SCRIPT [--kind FILE] [--jobs N] [--drop-on-error] [--keep-on-abort] [--check] [--generate COUNT:SEED]\n"),
 ];
 
 #[test]

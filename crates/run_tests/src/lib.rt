@@ -7,6 +7,8 @@ mod answers;
 #[cfg(test)]
 mod forms;
 #[cfg(test)]
+mod generated;
+#[cfg(test)]
 mod lines;
 #[cfg(test)]
 mod rows;

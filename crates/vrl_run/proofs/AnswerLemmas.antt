@@ -1,20 +1,19 @@
 -- How the parts of an answer make the whole of it.
-use Rattle.std.proofs.Common.{◌≡◌, ◌≤◌, ◌+◌, ℕ, ℤ, pos, false, List, [], Option, Some, None, IfSome, unwrap_or, ◌⊎◌, inl, inr, refl, arith, sym, ap, ◌∙◌, subst}
+use Rattle.std.proofs.Common.{◌≡◌, ◌≤◌, ◌+◌, ℕ, ℤ, pos, Bool, true, false, List, [], Option, Some, None, IfSome, unwrap_or, ◌⊎◌, inl, inr, refl, arith, sym, ap, ◌∙◌, subst}
 use Rattle.vrl_batch.specs.Gathered.{input_limit}
-use Rattle.vrl_batch.specs.Sinks.{Appends, AppendsFront}
+use Rattle.vrl_io.specs.Faults.{HasRisen}
 use Rattle.vrl_batch.specs.declared.work.LineOut.{LineOut}
-use Rattle.vrl_diag.specs.Rendering.{diagnostic_lines}
-use Rattle.vrl_diag.specs.declared.diagnostic.Diagnostic.{Diagnostic}
-use Rattle.vrl_resolve.specs.Program.{ProgramTree}
-use Rattle.vrl_run.specs.Answer.{answer_to, line_results, run_of}
-use Rattle.vrl_run.specs.Devices.{Devices, IsAsked, IsWithinLimit, LeavesDevices, devices}
-use Rattle.vrl_run.specs.Request.{IsRunOf, IsSame, Request, RunsScript, run}
+use Rattle.vrl_run.specs.Answer.{answer_to, line_results, mapped, status_if, warnings_of}
+use Rattle.vrl_run.specs.Devices.{Devices, IsAnswered, IsAsked, IsWithinLimit, devices}
+use Rattle.vrl_run.specs.Request.{IsSame, MayCome, ReadsLines, Request, ScriptRun, bad_kind, bad_script, bad_words, map_lines, map_made, tell_kinds}
 use Rattle.vrl_run.specs.Results.{IsRun, IsRunOver, answer_of}
-use Rattle.vrl_run.specs.Status.{IsOfLines, IsAnswer as IsAnswerStatus, meaning_of}
+use Rattle.vrl_run.specs.Status.{IsAnswer, IsFinished, IsInterrupted, meaning_of}
+use Rattle.vrl_run.specs.Writing.{IsWritten}
 use Rattle.vrl_run.specs.declared.lines.Results.{Results}
 use Rattle.vrl_run.specs.declared.status.Status.{Status}
-use Rattle.vrl_run.specs.declared.status.Status.TheVariants.{Done, Refused, Usage, ReadFault, WriteFault, Memory, Marked, TooMuch}
-use Rattle.vrl_run.proofs.Sinks.{appends-nil, appends_front-nil}
+use Rattle.vrl_run.specs.declared.status.Status.TheVariants.{Done, Refused, Usage, ReadFault, WriteFault, Memory, KindRefused, Marked}
+
+-- ---- what isn't told
 
 -- what a source that tells nothing may have held, and a clock
 pub some_input : (left : Option (List ℕ)) → IfSome left (λ bytes. bytes ≡ unwrap_or left [])
@@ -28,98 +27,131 @@ pub some_moments : (ahead : Option (ℕ → ℤ)) → IfSome ahead (λ told. (i 
 some_moments None = tt
 some_moments (Some told) = λ i. refl
 
--- joined results are the answer to a run
-pub answer_of-run : (warnings : List ℕ) (r : Results) (results : List LineOut) → IsRun warnings r results → answer_of r ≡ run_of warnings results
-answer_of-run warnings r results is = rw (is.marked, is.output, is.report) refl
-
-abbrev pub asked_run : (text : List ℕ) (program : ProgramTree) (diagnostics : List Diagnostic) (warnings : List ℕ) (before : Devices) (input : List ℕ) (r : Results) → warnings ≡ diagnostic_lines text diagnostics → IfSome before.left (λ bytes. bytes ≡ input) → IsRunOver program warnings input before.ahead r
-    → IsAsked (IsRunOf text program diagnostics) before (answer_of r)
-asked_run text program diagnostics warnings before input r told is_left is = record {
-  request = run text program diagnostics;
-  asked = refl;
-  input = input;
-  is_left = is_left;
-  moments = is.moments;
-  are_ahead = is.are_ahead;
-  in_range = λ runs. is.in_range;
-  answered = answer_of-run warnings r _ is.is_run ∙ ap (λ w. run_of w (line_results program is.moments input)) told;
-}
+-- ---- statuses
 
 -- a status that doesn't say that the input is too long
 pub within_limit : (status : Status) (before after : Devices) → (meaning_of status).too_long ≡ false → after.taken ≤ before.taken + input_limit → IsWithinLimit (meaning_of status).too_long before after
 within_limit status before after is fewer = subst (λ too_long. IsWithinLimit too_long before after) (sym is) fewer
 
-pub words_not_long : (s : Status) → (s ≡ Usage) ⊎ (s ≡ WriteFault) → (meaning_of s).too_long ≡ false
-words_not_long s (inl is) = ap (λ status. (meaning_of status).too_long) is
-words_not_long s (inr is) = ap (λ status. (meaning_of status).too_long) is
+-- an answer doesn't
+answer_not_long : (s : Status) → IsAnswer s → (meaning_of s).too_long ≡ false
+answer_not_long Done answers = refl
+answer_not_long Refused answers = refl
+answer_not_long Usage answers = refl
+answer_not_long KindRefused answers = refl
+answer_not_long Marked answers = refl
+answer_not_long s answers = absurd answers
 
-pub script_not_long : (s : Status) → (s ≡ Refused) ⊎ (s ≡ WriteFault) ⊎ (s ≡ Memory) → (meaning_of s).too_long ≡ false
-script_not_long s (inl is) = ap (λ status. (meaning_of status).too_long) is
-script_not_long s (inr (inl is)) = ap (λ status. (meaning_of status).too_long) is
-script_not_long s (inr (inr is)) = ap (λ status. (meaning_of status).too_long) is
+-- nor does what comes in its place
+pub written_not_long : (s answer : Status) → IsAnswer answer → (s ≡ answer) ⊎ (s ≡ WriteFault) ⊎ (s ≡ Memory) → (meaning_of s).too_long ≡ false
+written_not_long s answer answers (inl is) = ap (λ status. (meaning_of status).too_long) is ∙ answer_not_long answer answers
+written_not_long s answer answers (inr (inl is)) = ap (λ status. (meaning_of status).too_long) is
+written_not_long s answer answers (inr (inr is)) = ap (λ status. (meaning_of status).too_long) is
 
-pub lines_not_long : (s : Status) → IsOfLines s ⊎ (s ≡ WriteFault) → (meaning_of s).too_long ≡ false
-lines_not_long s (inr is) = ap (λ status. (meaning_of status).too_long) is
-lines_not_long Done (inl lines) = refl
-lines_not_long Refused (inl lines) = refl
-lines_not_long Usage (inl lines) = refl
-lines_not_long ReadFault (inl lines) = refl
-lines_not_long WriteFault (inl lines) = refl
-lines_not_long Memory (inl lines) = refl
-lines_not_long Marked (inl lines) = refl
-lines_not_long TooMuch (inl lines) = absurd lines
+-- and no fault of reading
+not_read : (s answer : Status) → IsAnswer answer → (s ≡ answer) ⊎ (s ≡ WriteFault) ⊎ (s ≡ Memory) → s ≡ ReadFault → ⊥
+not_read s answer answers (inl is) read = subst IsAnswer (sym is ∙ read) answers
+not_read s answer answers (inr (inl is)) read = let wrong : WriteFault ≡ ReadFault = sym is ∙ read in cc
+not_read s answer answers (inr (inr is)) read = let wrong : Memory ≡ ReadFault = sym is ∙ read in cc
 
--- a refusal that is an answer is the status of the refusal
-pub refused_only : (s : Status) → (s ≡ Refused) ⊎ (s ≡ WriteFault) ⊎ (s ≡ Memory) → IsAnswerStatus s → s ≡ Refused
-refused_only Done either answered = grind arith
-refused_only Refused either answered = refl
-refused_only Usage either answered = grind arith
-refused_only ReadFault either answered = absurd answered
-refused_only WriteFault either answered = absurd answered
-refused_only Memory either answered = absurd answered
-refused_only Marked either answered = grind arith
-refused_only TooMuch either answered = absurd answered
+-- where an answer comes it is its own
+own_status : (s answer : Status) → (s ≡ answer) ⊎ (s ≡ WriteFault) ⊎ (s ≡ Memory) → IsAnswer s → s ≡ answer
+own_status s answer (inl is) answers = is
+own_status s answer (inr (inl is)) answers = absurd (subst IsAnswer is answers)
+own_status s answer (inr (inr is)) answers = absurd (subst IsAnswer is answers)
 
-pub usage_only : (s : Status) → (s ≡ Usage) ⊎ (s ≡ WriteFault) → IsAnswerStatus s → s ≡ Usage
-usage_only Done either answered = grind arith
-usage_only Refused either answered = grind arith
-usage_only Usage either answered = refl
-usage_only ReadFault either answered = absurd answered
-usage_only WriteFault either answered = absurd answered
-usage_only Memory either answered = absurd answered
-usage_only Marked either answered = grind arith
-usage_only TooMuch either answered = absurd answered
+-- and else a device failed, or memory was wanted
+own_or_interrupted : {X : Type 0} (s answer : Status) → (s ≡ answer → X) → (s ≡ answer) ⊎ (s ≡ WriteFault) ⊎ (s ≡ Memory) → X ⊎ IsInterrupted s
+own_or_interrupted s answer own (inl is) = inl (own is)
+own_or_interrupted s answer own (inr (inl is)) = inr (subst IsInterrupted (sym is) tt)
+own_or_interrupted s answer own (inr (inr is)) = inr (subst IsInterrupted (sym is) tt)
 
--- ---- a run reads the lines
+finished_if : (marked : Bool) → IsFinished (status_if marked)
+finished_if true = tt
+finished_if false = tt
 
--- ---- a refusal is told, and nothing else is done
+answers_if : (marked : Bool) → IsAnswer (status_if marked)
+answers_if true = tt
+answers_if false = tt
 
--- the sinks once something was told of a request, of which the answer is just that
-pub told_leaves : (request : Request) (refusal s : Status) (bytes : List ℕ) (left : Option (List ℕ)) (taken : ℕ) (ahead : Option (ℕ → ℤ)) (output report report_after : Option (List ℕ))
-    → answer_to request (unwrap_or left []) (moments_of ahead) ≡ record { status = refusal; output = []; report = bytes } → (IsAnswerStatus s → s ≡ refusal) → ¬ RunsScript request → ¬ IsOfLines refusal → (meaning_of s).too_long ≡ false
-    → (s ≡ refusal → Appends report report_after bytes) → AppendsFront report report_after bytes
-    → LeavesDevices (IsSame request) s (devices left taken ahead output report) (devices left taken ahead output report_after)
-told_leaves request refusal s bytes left taken ahead output report report_after is only unrun unlined short whole front =
-    let asked : IsAsked (IsSame request) (devices left taken ahead output report) (record { status = refusal; output = []; report = bytes }) = record {
+pub own_of_two : (s answer : Status) → (s ≡ answer) ⊎ (s ≡ WriteFault) → IsAnswer s → s ≡ answer
+own_of_two s answer (inl is) answers = is
+own_of_two s answer (inr is) answers = absurd (subst IsAnswer is answers)
+
+pub not_long_if : (marked : Bool) (s answer : Status) → answer ≡ status_if marked → (s ≡ answer) ⊎ (s ≡ WriteFault) → (meaning_of s).too_long ≡ false
+not_long_if marked s answer own (inl is) = ap (λ status. (meaning_of status).too_long) (is ∙ own) ∙ answer_not_long (status_if marked) (answers_if marked)
+not_long_if marked s answer own (inr is) = ap (λ status. (meaning_of status).too_long) is
+
+-- ---- a request of which no input is read
+
+-- its answer is one
+has_answer : (request : Request) (input : List ℕ) (moments : ℕ → ℤ) → IsAnswer (answer_to request input moments).status
+has_answer bad_words input moments = tt
+has_answer (bad_kind fault) input moments = tt
+has_answer (bad_script text diagnostics) input moments = tt
+has_answer (map_lines run) input moments = answers_if _
+has_answer (map_made run count seed) input moments = answers_if _
+has_answer (tell_kinds text warnings K known) input moments = tt
+
+-- what comes of it
+told_comes : (request : Request) (input : List ℕ) (moments : ℕ → ℤ) (s : Status) → (s ≡ (answer_to request input moments).status) ⊎ (s ≡ WriteFault) ⊎ (s ≡ Memory) → ¬ ReadsLines request → MayCome request s
+told_comes bad_words input moments s either unread = own_or_interrupted s _ (λ is. is) either
+told_comes (bad_kind fault) input moments s either unread = own_or_interrupted s _ (λ is. is) either
+told_comes (bad_script text diagnostics) input moments s either unread = own_or_interrupted s _ (λ is. is) either
+told_comes (map_lines run) input moments s either unread = absurd (unread tt)
+told_comes (map_made run count seed) input moments s either unread = own_or_interrupted s _ (λ is. subst IsFinished (sym is) (finished_if _)) either
+told_comes (tell_kinds text warnings K known) input moments s either unread = own_or_interrupted s _ (λ is. subst IsFinished (sym is) tt) either
+
+-- what is done once its answer was written
+pub told_answered : (request : Request) (s : Status) {left : Option (List ℕ)} {taken : ℕ} {ended : Bool} {faults : ℕ} {ahead : Option (ℕ → ℤ)} {output output_after : Option (List ℕ)} {o o_after : ℕ} {report report_after : Option (List ℕ)} {e e_after : ℕ} {Unasked : Type 0}
+    → ¬ ReadsLines request → ((input : List ℕ) (moments : ℕ → ℤ) → IsWritten (answer_to request input moments) s output output_after report report_after)
+    → (s ≡ WriteFault → HasRisen o o_after ⊎ HasRisen e e_after) → (s ≡ WriteFault) ⊎ ((o_after ≡ o) × (e_after ≡ e)) → Unasked
+    → IsAnswered (IsSame request) ⊥ s (devices left taken ended faults ahead output o report e) (devices left taken ended faults ahead output_after o_after report_after e_after) Unasked
+told_answered request s {left} {taken} {ended} {faults} {ahead} {output} {output_after} {o} {o_after} {report} {report_after} {e} {e_after} unread writes cause told unasked =
+    let written = writes (unwrap_or left []) (moments_of ahead) in
+    let asked : IsAsked (IsSame request) (devices left taken ended faults ahead output o report e) (answer_to request (unwrap_or left []) (moments_of ahead)) = record {
       request = request;
       asked = refl;
       input = unwrap_or left [];
       is_left = some_input left;
       moments = moments_of ahead;
       are_ahead = some_moments ahead;
-      in_range = λ runs. absurd (unrun runs);
-      answered = sym is;
+      in_range = λ reads. absurd (unread reads);
+      answered = refl;
     } in
     record {
-      whole = λ answered. let same = only answered in record {
-        answer = _;
-        asked = asked;
-        status_is = same;
-        output = appends-nil output;
-        report = whole same;
-        taken_is = λ lines. absurd (unlined (subst IsOfLines same lines));
-        clock_is = λ lines. absurd (unlined (subst IsOfLines same lines));
+      leaves = record {
+        whole = λ answered. record {
+          answer = _;
+          asked = asked;
+          status_is = own_status s _ written.either answered;
+          output = (written.whole answered).0;
+          report = (written.whole answered).1;
+          read = λ reads. absurd (unread reads);
+        };
+        front = inr (record { answer = _; asked = asked; output = written.front.0; report = written.front.1 });
+        limit = within_limit s _ _ (written_not_long s _ (has_answer request _ _) written.either) (omega arith);
       };
-      front = inr (record { answer = _; asked = asked; output = appends_front-nil output []; report = front });
-      limit = within_limit s _ _ short (omega arith);
+      causes = record { read = λ is. absurd (not_read s _ (has_answer request (unwrap_or left []) (moments_of ahead)) written.either is); write = cause; read_told = inr refl; write_told = told };
+      came = inr (request, refl, told_comes request _ _ s written.either unread);
+      first = inl unasked;
     }
+
+-- ---- a run over the lines of the input
+
+-- joined results are its answer
+pub answer_of-run : (warnings : List ℕ) (r : Results) (results : List LineOut) → IsRun warnings r results → answer_of r ≡ mapped warnings results
+answer_of-run warnings r results is = rw (is.marked, is.output, is.report) refl
+
+abbrev pub asked_run : (run : ScriptRun) (warnings : List ℕ) (before : Devices) (input : List ℕ) (r : Results) → warnings ≡ warnings_of run → IfSome before.left (λ bytes. bytes ≡ input) → IsRunOver run warnings input before.ahead r
+    → IsAsked (IsSame (map_lines run)) before (answer_of r)
+asked_run run warnings before input r told is_left is = record {
+  request = map_lines run;
+  asked = refl;
+  input = input;
+  is_left = is_left;
+  moments = is.moments;
+  are_ahead = is.are_ahead;
+  in_range = λ reads. is.in_range;
+  answered = answer_of-run warnings r _ is.is_run ∙ ap (λ w. mapped w (line_results run is.moments input)) told;
+}

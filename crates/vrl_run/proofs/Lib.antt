@@ -1,7 +1,7 @@
 pub mod AnswerLemmas
-pub mod Declared
 pub mod Ended
+pub mod EventLines
 pub mod EventLists
+pub mod MadeLemmas
 pub mod RunLemmas
-pub mod Sinks
 pub mod Unread

@@ -7,8 +7,9 @@ use Rattle.std.specs.List.{enumerate_from, flat_map, list_any}
 use Rattle.vrl_value.specs.Moment.{IsInRange}
 use Rattle.vrl_batch.specs.declared.work.LineOut.{LineOut}
 use Rattle.vrl_io.specs.Moments.{Advances}
-use Rattle.vrl_resolve.specs.Program.{ProgramTree}
-use Rattle.vrl_run.specs.Answer.{is_refused, line_result, line_results}
+use Rattle.vrl_generate.specs.Summary.{is_refused}
+use Rattle.vrl_run.specs.Answer.{line_result, line_results}
+use Rattle.vrl_run.specs.Request.{ScriptRun}
 use Rattle.vrl_batch.specs.Lines.{lines_of, is_blank, event_lines_from, event_lines}
 use Rattle.vrl_run.specs.Results.{IsRun, IsRunOver, AddsResult}
 use Rattle.vrl_run.specs.Devices.{MovesOn}
@@ -102,11 +103,11 @@ event_lines_from-event : (n : ℕ) (bytes line behind : List ℕ) → lines_of b
 event_lines_from-event n bytes line behind first event = rw (first, event, add-one) refl
 
 -- the results of lines, the first of which has this place among those of the input
-abbrev results_from : ProgramTree → (ℕ → ℤ) → ℕ → List (ℕ × List ℕ) → List LineOut
-results_from program moments place lines = map (λ l. line_result program (moments l.0) l.1) (enumerate_from place lines)
+abbrev results_from : ScriptRun → (ℕ → ℤ) → ℕ → List (ℕ × List ℕ) → List LineOut
+results_from script moments place lines = map (λ l. line_result script (moments l.0) l.1) (enumerate_from place lines)
 
-results_from-next : (program : ProgramTree) (moments : ℕ → ℤ) (place : ℕ) (line : ℕ × List ℕ) (lines : List (ℕ × List ℕ)) → results_from program moments place (line ∷ lines) ≡ line_result program (moments place) line ∷ results_from program moments (suc place) lines
-results_from-next program moments place line lines = rw add-one refl
+results_from-next : (script : ScriptRun) (moments : ℕ → ℤ) (place : ℕ) (line : ℕ × List ℕ) (lines : List (ℕ × List ℕ)) → results_from script moments place (line ∷ lines) ≡ line_result script (moments place) line ∷ results_from script moments (suc place) lines
+results_from-next script moments place line lines = rw add-one refl
 
 length-push : {X : Type 0} (xs : List X) (x : X) → length (xs ++ x ∷ []) ≡ suc (length xs)
 length-push xs x = grind (arith, common_steps)
@@ -114,18 +115,18 @@ length-push xs x = grind (arith, common_steps)
 -- ---- a run
 
 -- these results are done, at the moments that were told, and those of the rest of the input are left
-pub record IsRunTo (program : ProgramTree) (warnings : List ℕ) (input rest : List ℕ) (number : ℕ) (run : Results) (ahead ahead_after : Option (ℕ → ℤ)) : Type 0 where
+pub record IsRunTo (script : ScriptRun) (warnings : List ℕ) (input rest : List ℕ) (number : ℕ) (run : Results) (ahead ahead_after : Option (ℕ → ℤ)) : Type 0 where
   pub given : List ℤ
   pub done : List LineOut
   pub is_run : IsRun warnings run done
-  pub divides : (moments : ℕ → ℤ) → Begin given moments → line_results program moments input ≡ done ++ results_from program moments (length given) (event_lines_from (suc number) rest)
+  pub divides : (moments : ℕ → ℤ) → Begin given moments → line_results script moments input ≡ done ++ results_from script moments (length given) (event_lines_from (suc number) rest)
   pub counted : length (event_lines input) ≡ length given + length (event_lines_from (suc number) rest)
   pub clock : MovesOn ahead (length given) ahead_after
   pub told : IfSome ahead (Begin given)
   pub in_range : AreInRange given
 
-pub is_run_to-start : (program : ProgramTree) (warnings input : List ℕ) (run : Results) (ahead : Option (ℕ → ℤ)) → IsRun warnings run [] → IsRunTo program warnings input input 0 run ahead ahead
-is_run_to-start program warnings input run ahead is_run = record {
+pub is_run_to-start : (script : ScriptRun) (warnings input : List ℕ) (run : Results) (ahead : Option (ℕ → ℤ)) → IsRun warnings run [] → IsRunTo script warnings input input 0 run ahead ahead
+is_run_to-start script warnings input run ahead is_run = record {
   given = [];
   done = [];
   is_run = is_run;
@@ -139,10 +140,10 @@ is_run_to-start program warnings input run ahead is_run = record {
   told_none None = tt
   told_none (Some first) = tt
 
-is_run_to-event_at : (program : ProgramTree) (warnings input bytes line behind : List ℕ) (number : ℕ) (run run_after : Results) (ahead middle after : Option (ℕ → ℤ)) (moment : ℤ) → lines_of bytes ≡ line ∷ lines_of behind → is_blank line ≡ false
-    → IsRunTo program warnings input bytes number run ahead middle → Advances middle moment after → IsInRange moment → AddsResult run run_after (line_result program moment (suc number, line)) → IsRunTo program warnings input behind (suc number) run_after ahead after
-is_run_to-event_at program warnings input bytes line behind number run run_after ahead middle after moment first event to advances range adds =
-    let r = line_result program moment (suc number, line) in
+is_run_to-event_at : (script : ScriptRun) (warnings input bytes line behind : List ℕ) (number : ℕ) (run run_after : Results) (ahead middle after : Option (ℕ → ℤ)) (moment : ℤ) → lines_of bytes ≡ line ∷ lines_of behind → is_blank line ≡ false
+    → IsRunTo script warnings input bytes number run ahead middle → Advances middle moment after → IsInRange moment → AddsResult run run_after (line_result script moment (suc number, line)) → IsRunTo script warnings input behind (suc number) run_after ahead after
+is_run_to-event_at script warnings input bytes line behind number run run_after ahead middle after moment first event to advances range adds =
+    let r = line_result script moment (suc number, line) in
     let left = event_lines_from-event (suc number) bytes line behind first event in
     let longer = length-push to.given moment in
     record {
@@ -150,11 +151,11 @@ is_run_to-event_at program warnings input bytes line behind number run run_after
       done = to.done ++ r ∷ [];
       is_run = is_run-push warnings run run_after to.done r to.is_run adds;
       divides = λ moments begin.
-          let rest = λ (place : ℕ). results_from program moments place (event_lines_from (suc (suc number)) behind) in
+          let rest = λ (place : ℕ). results_from script moments place (event_lines_from (suc (suc number)) behind) in
           to.divides moments (begin-front to.given moment moments begin)
-          ∙ ap (λ lines. to.done ++ results_from program moments (length to.given) lines) left
-          ∙ ap (λ results. to.done ++ results) (results_from-next program moments (length to.given) (suc number, line) (event_lines_from (suc (suc number)) behind))
-          ∙ ap (λ m. to.done ++ line_result program m (suc number, line) ∷ rest (suc (length to.given))) (sym (begin-last to.given moment moments begin))
+          ∙ ap (λ lines. to.done ++ results_from script moments (length to.given) lines) left
+          ∙ ap (λ results. to.done ++ results) (results_from-next script moments (length to.given) (suc number, line) (event_lines_from (suc (suc number)) behind))
+          ∙ ap (λ m. to.done ++ line_result script m (suc number, line) ∷ rest (suc (length to.given))) (sym (begin-last to.given moment moments begin))
           ∙ sym (append_assoc to.done (r ∷ []) (rest (suc (length to.given))))
           ∙ ap (λ place. (to.done ++ r ∷ []) ++ rest place) (sym longer);
       counted = to.counted ∙ ap (λ lines. length to.given + length lines) left ∙ omega (arith, longer);
@@ -164,11 +165,11 @@ is_run_to-event_at program warnings input bytes line behind number run run_after
     }
 
 -- the result of the next event joins those that are done
-pub is_run_to-event : (program : ProgramTree) (warnings input bytes line behind : List ℕ) (number next : ℕ) (run run_after : Results) (ahead middle after : Option (ℕ → ℤ)) (moment : ℤ) → next ≡ suc number → lines_of bytes ≡ line ∷ lines_of behind → is_blank line ≡ false
-    → IsRunTo program warnings input bytes number run ahead middle → Advances middle moment after → IsInRange moment → AddsResult run run_after (line_result program moment (next, line)) → IsRunTo program warnings input behind next run_after ahead after
-is_run_to-event program warnings input bytes line behind number next run run_after ahead middle after moment is first event to advances range =
-    subst (λ n. AddsResult run run_after (line_result program moment (n, line)) → IsRunTo program warnings input behind n run_after ahead after) (sym is)
-    (is_run_to-event_at program warnings input bytes line behind number run run_after ahead middle after moment first event to advances range)
+pub is_run_to-event : (script : ScriptRun) (warnings input bytes line behind : List ℕ) (number next : ℕ) (run run_after : Results) (ahead middle after : Option (ℕ → ℤ)) (moment : ℤ) → next ≡ suc number → lines_of bytes ≡ line ∷ lines_of behind → is_blank line ≡ false
+    → IsRunTo script warnings input bytes number run ahead middle → Advances middle moment after → IsInRange moment → AddsResult run run_after (line_result script moment (next, line)) → IsRunTo script warnings input behind next run_after ahead after
+is_run_to-event script warnings input bytes line behind number next run run_after ahead middle after moment is first event to advances range =
+    subst (λ n. AddsResult run run_after (line_result script moment (n, line)) → IsRunTo script warnings input behind n run_after ahead after) (sym is)
+    (is_run_to-event_at script warnings input bytes line behind number run run_after ahead middle after moment first event to advances range)
 
 -- ---- its end
 
@@ -181,19 +182,19 @@ nothing_left xs empty =
     let none : length xs ≡ 0 = grind (arith, nat_tests) in
     no_length xs none
 
-run_at : (program : ProgramTree) (warnings input : List ℕ) (number : ℕ) (run : Results) (ahead after : Option (ℕ → ℤ)) (to : IsRunTo program warnings input [] number run ahead after) (moments : ℕ → ℤ) → Begin to.given moments → IsRun warnings run (line_results program moments input)
-run_at program warnings input number run ahead after to moments begin = subst (IsRun warnings run) (sym (to.divides moments begin ∙ append-nil to.done)) to.is_run
+run_at : (script : ScriptRun) (warnings input : List ℕ) (number : ℕ) (run : Results) (ahead after : Option (ℕ → ℤ)) (to : IsRunTo script warnings input [] number run ahead after) (moments : ℕ → ℤ) → Begin to.given moments → IsRun warnings run (line_results script moments input)
+run_at script warnings input number run ahead after to moments begin = subst (IsRun warnings run) (sym (to.divides moments begin ∙ append-nil to.done)) to.is_run
 
 -- each line was run at its moment
-over_at : (program : ProgramTree) (warnings input : List ℕ) (number : ℕ) (run : Results) (ahead after : Option (ℕ → ℤ)) (to : IsRunTo program warnings input [] number run ahead after) (moments : ℕ → ℤ) → Begin to.given moments
-    → IfSome ahead (λ told. (i : ℕ) → told i ≡ moments i) → IsRunOver program warnings input ahead run
-over_at program warnings input number run ahead after to moments begin told = record {
+over_at : (script : ScriptRun) (warnings input : List ℕ) (number : ℕ) (run : Results) (ahead after : Option (ℕ → ℤ)) (to : IsRunTo script warnings input [] number run ahead after) (moments : ℕ → ℤ) → Begin to.given moments
+    → IfSome ahead (λ told. (i : ℕ) → told i ≡ moments i) → IsRunOver script warnings input ahead run
+over_at script warnings input number run ahead after to moments begin told = record {
   moments = moments;
   are_ahead = told;
   in_range = λ i below. in_range-at to.given moments begin to.in_range i (omega (arith, below, to.counted));
-  is_run = run_at program warnings input number run ahead after to moments begin;
+  is_run = run_at script warnings input number run ahead after to moments begin;
 }
 
-pub run_over : (program : ProgramTree) (warnings input : List ℕ) (number : ℕ) (run : Results) (ahead after : Option (ℕ → ℤ)) → IsRunTo program warnings input [] number run ahead after → IsRunOver program warnings input ahead run
-run_over program warnings input number run None after to = over_at program warnings input number run None after to (moment_at to.given) (begin_at to.given) tt
-run_over program warnings input number run (Some first) after to = over_at program warnings input number run (Some first) after to first to.told (λ i. refl)
+pub run_over : (script : ScriptRun) (warnings input : List ℕ) (number : ℕ) (run : Results) (ahead after : Option (ℕ → ℤ)) → IsRunTo script warnings input [] number run ahead after → IsRunOver script warnings input ahead run
+run_over script warnings input number run None after to = over_at script warnings input number run None after to (moment_at to.given) (begin_at to.given) tt
+run_over script warnings input number run (Some first) after to = over_at script warnings input number run (Some first) after to first to.told (λ i. refl)

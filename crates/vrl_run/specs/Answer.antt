@@ -1,53 +1,64 @@
 -- What answers a request: the status, and the bytes that belong to it.
-use Rattle.std.specs.Prelude.{ℕ, ℤ, List, [], ◌∷◌, ◌++◌, map, Bool, true, false, if◌then◌else◌, codes}
-use Rattle.std.specs.List.{enumerate_from, flat_map, list_any}
-use Rattle.vrl_json.specs.Line.{Reading, not_json, not_whole, whole, reading_of}
-use Rattle.vrl_value.specs.Tree.{Tree, is_object}
+use Rattle.std.specs.Prelude.{ℕ, ℤ, List, [], ◌∷◌, ◌++◌, map, Bool, if◌then◌else◌, codes}
+use Rattle.std.specs.List.{enumerate_from, flat_map}
+use Rattle.vrl_batch.specs.Lines.{event_lines, line_at}
 use Rattle.vrl_batch.specs.declared.line.Line.{Line}
 use Rattle.vrl_batch.specs.declared.work.LineOut.{LineOut}
-use Rattle.vrl_batch.specs.declared.work.Outcome.{Outcome}
-use Rattle.vrl_batch.specs.declared.work.Outcome.TheVariants as outcome
 use Rattle.vrl_diag.specs.Rendering.{diagnostic_lines}
-use Rattle.vrl_resolve.specs.Program.{ProgramTree, ended_over}
-use Rattle.vrl_run.specs.LineResult.{event_result, refused_line}
-use Rattle.vrl_run.specs.declared.options.Options.{Options}
-use Rattle.vrl_run.specs.declared.reason.Reason.TheVariants.{TooLong, NotJson, NotWhole, NotDeclared}
-use Rattle.vrl_batch.specs.Lines.{event_lines, line_at}
-use Rattle.vrl_run.specs.Request.{Request, bad_words, bad_script, run}
+use Rattle.vrl_generate.specs.Made.{made_lines}
+use Rattle.vrl_generate.specs.Summary.{is_marked, summary_of}
+use Rattle.vrl_kind.specs.KindTree.{KindTree}
+use Rattle.vrl_kind.specs.Print.{printed}
+use Rattle.vrl_kindfile.specs.Lines.{text_of}
+use Rattle.vrl_state.specs.declared.known.Known.{Known}
+use Rattle.vrl_state.specs.declared.known.Known.TheVariants.{Dead, Alive}
+use Rattle.vrl_state.specs.declared.known.RootKind.{RootKind}
+use Rattle.vrl_syntax.specs.declared.root.Root.{Root}
+use Rattle.vrl_syntax.specs.declared.root.Root.TheVariants.{Event, Name}
+use Rattle.vrl_run.specs.LineResult.{result_of_line}
+use Rattle.vrl_run.specs.Request.{Request, ScriptRun, bad_words, bad_kind, bad_script, map_lines, map_made, tell_kinds}
 use Rattle.vrl_run.specs.declared.status.Status.{Status}
-use Rattle.vrl_run.specs.declared.status.Status.TheVariants.{Done, Refused, Usage, Marked}
+use Rattle.vrl_run.specs.declared.status.Status.TheVariants.{Done, Refused, Usage, KindRefused, Marked}
 
 -- ---- the results of lines
 
--- neither option is given
-abbrev pub no_options : Options
-no_options = record { drop_on_error = false; keep_on_abort = false }
-
--- the result of a line that stands for this tree; the declared kind is an object of any fields
-abbrev pub result_of_tree : ProgramTree → Line → Tree → LineOut
-result_of_tree program line event = if is_object event then event_result program.sources no_options line.number event (ended_over program line.moment event) else refused_line NotDeclared line.number
-
--- the result of a line that is short enough
-abbrev pub result_of_reading : ProgramTree → Line → Reading → LineOut
-result_of_reading program line not_json = refused_line NotJson line.number
-result_of_reading program line not_whole = refused_line NotWhole line.number
-result_of_reading program line (whole event) = result_of_tree program line event
-
--- the result of a line; of the reasons to refuse it the first that holds is reported
-abbrev pub result_of_line : ProgramTree → Line → LineOut
-result_of_line program line = if line.long then refused_line TooLong line.number else result_of_reading program line (reading_of line.bytes)
+abbrev pub result_of : ScriptRun → Line → LineOut
+result_of run line = result_of_line run.program run.declared run.options line
 
 -- the result of a line, given as its number and its bytes, at a moment
-abbrev pub line_result : ProgramTree → ℤ → ℕ × List ℕ → LineOut
-line_result program moment l = result_of_line program (line_at moment l)
+abbrev pub line_result : ScriptRun → ℤ → ℕ × List ℕ → LineOut
+line_result run moment l = result_of run (line_at moment l)
 
 -- the results of the lines of an input that aren't blank, each at its moment
-abbrev pub line_results : ProgramTree → (ℕ → ℤ) → List ℕ → List LineOut
-line_results program moments input = map (λ l. line_result program (moments l.0) l.1) (enumerate_from 0 (event_lines input))
+abbrev pub line_results : ScriptRun → (ℕ → ℤ) → List ℕ → List LineOut
+line_results run moments input = map (λ l. line_result run (moments l.0) l.1) (enumerate_from 0 (event_lines input))
 
-abbrev pub is_refused : Outcome → Bool
-is_refused outcome.Refused = true
-is_refused other = false
+-- the results of made lines
+abbrev pub made_results : ScriptRun → ℕ → ℕ → List LineOut
+made_results run count seed = map (result_of run) (made_lines count seed)
+
+-- whether some line was refused
+abbrev pub status_if : Bool → Status
+status_if marked = if marked then Marked else Done
+
+-- ---- the kinds that are told
+
+-- a name, and a kind as text (docs/LANGUAGE.md tells how)
+abbrev pub kind_line : List ℕ → KindTree → List ℕ
+kind_line name K = name ++ (32 ∷ (printed K ++ 10 ∷ []))
+
+-- the event is told as `.`
+abbrev pub name_of : Root → List ℕ
+name_of Event = codes "."
+name_of (Name x) = x
+
+abbrev pub root_line : RootKind → List ℕ
+root_line root = kind_line (name_of root.root) root.kind
+
+-- the kind of the value that a script ends with, and that of each root which is known there; where it ends with none, nothing is
+abbrev pub kind_lines : KindTree → Known → List ℕ
+kind_lines K Dead = codes "result never" ++ (10 ∷ (codes ". never" ++ 10 ∷ []))
+kind_lines K (Alive roots) = kind_line (codes "result") K ++ flat_map root_line roots
 
 -- ---- the answer of a call
 
@@ -57,18 +68,32 @@ pub record Answer : Type 0 where
   pub report : List ℕ
 
 abbrev pub usage_line : List ℕ
-usage_line = codes "usage: remap SCRIPT" ++ 10 ∷ []
+usage_line = codes "usage: remap SCRIPT [--kind FILE] [--jobs N] [--drop-on-error] [--keep-on-abort] [--check] [--generate COUNT:SEED]" ++ 10 ∷ []
+
+-- a refusal writes no event
+abbrev pub refusal : Status → List ℕ → Answer
+refusal status report = record { status = status; output = []; report = report }
 
 -- the warnings, and then the results of the lines, joined in their order
-abbrev pub run_of : List ℕ → List LineOut → Answer
-run_of warnings results = record {
-  status = if list_any (λ r. is_refused r.outcome) results then Marked else Done;
+abbrev pub mapped : List ℕ → List LineOut → Answer
+mapped warnings results = record {
+  status = status_if (is_marked results);
   output = flat_map (λ r. r.output) results;
   report = warnings ++ flat_map (λ r. r.report) results;
 }
 
+abbrev pub warnings_of : ScriptRun → List ℕ
+warnings_of run = diagnostic_lines run.text run.warnings
+
+-- in place of the results their sum is told
+abbrev pub summed : List ℕ → List LineOut → Answer
+summed warnings results = record { status = status_if (is_marked results); output = summary_of results; report = warnings }
+
 -- the answer to a request over this input, of which the lines that aren't blank are run at these moments, the first at the first
 abbrev pub answer_to : Request → List ℕ → (ℕ → ℤ) → Answer
-answer_to bad_words input moments = record { status = Usage; output = []; report = usage_line }
-answer_to (bad_script text diagnostics) input moments = record { status = Refused; output = []; report = diagnostic_lines text diagnostics }
-answer_to (run text program warnings) input moments = run_of (diagnostic_lines text warnings) (line_results program moments input)
+answer_to bad_words input moments = refusal Usage usage_line
+answer_to (bad_kind fault) input moments = refusal KindRefused (text_of fault ++ 10 ∷ [])
+answer_to (bad_script text diagnostics) input moments = refusal Refused (diagnostic_lines text diagnostics)
+answer_to (map_lines run) input moments = mapped (warnings_of run) (line_results run moments input)
+answer_to (map_made run count seed) input moments = summed (warnings_of run) (made_results run count seed)
+answer_to (tell_kinds text warnings K known) input moments = record { status = Done; output = kind_lines K known; report = diagnostic_lines text warnings }

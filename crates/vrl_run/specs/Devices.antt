@@ -1,30 +1,46 @@
 -- What a call leaves in its devices, by its status.
-use Rattle.std.specs.Prelude.{◌≡◌, ℕ, ◌+◌, ◌<◌, ◌≤◌, Bool, true, false, List, length, ℤ, Option, Some, None, IfSome, IsSomeAnd, ◌⊎◌}
+use Rattle.std.specs.Prelude.{◌≡◌, ℕ, ◌+◌, ◌<◌, ◌≤◌, Bool, true, false, List, length, ℤ, Option, Some, None, IfSome, IsSomeAnd, IsTrue, ◌⊎◌}
+use Rattle.vrl_io.specs.Faults.{HasRisen}
 use Rattle.vrl_value.specs.Moment.{IsInRange}
 use Rattle.vrl_run.specs.Answer.{Answer, answer_to}
 use Rattle.vrl_batch.specs.Gathered.{input_limit}
 use Rattle.vrl_batch.specs.Lines.{event_lines}
 use Rattle.vrl_batch.specs.Sinks.{Appends, AppendsFront}
-use Rattle.vrl_run.specs.Request.{Request, RunsScript}
-use Rattle.vrl_run.specs.Status.{IsAnswer, IsOfLines, meaning_of}
+use Rattle.vrl_run.specs.Request.{MayCome, ReadsLines, Request, ScriptRun, map_lines}
+use Rattle.vrl_run.specs.Status.{IsAnswer, IsInterrupted, meaning_of}
 use Rattle.vrl_run.specs.declared.status.Status.{Status}
+use Rattle.vrl_run.specs.declared.status.Status.TheVariants.{ReadFault, WriteFault}
 
 -- the clock has told this many moments, if it tells those to come
 abbrev pub MovesOn : Option (ℕ → ℤ) → ℕ → Option (ℕ → ℤ) → Type 0
 MovesOn None count after = after ≡ None
 MovesOn (Some ahead) count after = IsSomeAnd after (λ later. (i : ℕ) → later i ≡ ahead (count + i))
 
--- what the devices of a call tell at a time: of the input what is left and how much was taken, of the clock the moments to
--- come, and of the sinks what they hold
+-- What the devices of a call tell at a time: of the input what is left, how much was taken, whether it has ended, and how often it failed; of the clock the
+-- moments to come; and of the sinks what they hold, and how often they failed.
 pub record Devices : Type 0 where
   pub left : Option (List ℕ)
   pub taken : ℕ
+  pub ended : Bool
+  pub read_faults : ℕ
   pub ahead : Option (ℕ → ℤ)
   pub output : Option (List ℕ)
+  pub output_faults : ℕ
   pub report : Option (List ℕ)
+  pub report_faults : ℕ
 
-abbrev pub devices : Option (List ℕ) → ℕ → Option (ℕ → ℤ) → Option (List ℕ) → Option (List ℕ) → Devices
-devices left taken ahead output report = record { left = left; taken = taken; ahead = ahead; output = output; report = report }
+abbrev pub devices : Option (List ℕ) → ℕ → Bool → ℕ → Option (ℕ → ℤ) → Option (List ℕ) → ℕ → Option (List ℕ) → ℕ → Devices
+devices left taken ended read_faults ahead output output_faults report report_faults = record {
+  left = left;
+  taken = taken;
+  ended = ended;
+  read_faults = read_faults;
+  ahead = ahead;
+  output = output;
+  output_faults = output_faults;
+  report = report;
+  report_faults = report_faults;
+}
 
 -- A call that asks one of these requests has this answer, for the bytes of the input and the moments of the clock, as far as these tell them.
 pub record IsAsked (asks : Request → Type 0) (before : Devices) (answer : Answer) : Type 0 where
@@ -35,19 +51,23 @@ pub record IsAsked (asks : Request → Type 0) (before : Devices) (answer : Answ
   pub moments : ℕ → ℤ
   pub are_ahead : IfSome before.ahead (λ told. (i : ℕ) → told i ≡ moments i)
   -- each line that is run has its moment in the range of moments
-  pub in_range : RunsScript request → (i : ℕ) → i < length (event_lines input) → IsInRange (moments i)
+  pub in_range : ReadsLines request → (i : ℕ) → i < length (event_lines input) → IsInRange (moments i)
   pub answered : answer ≡ answer_to request input moments
 
--- The sinks hold the whole of the answer, and the status is its own. Where lines were read, just their bytes were taken,
--- and a moment for each of them that isn't blank.
+-- Just the bytes of the input were taken, and it has said that it is at its end; the clock told a moment for each line that isn't blank.
+pub record IsReadToEnd (input : List ℕ) (before after : Devices) : Type 0 where
+  pub taken : after.taken ≡ before.taken + length input
+  pub ended : IsTrue after.ended
+  pub clock : MovesOn before.ahead (length (event_lines input)) after.ahead
+
+-- The sinks hold the whole of the answer, and the status is its own. Where lines are read, they were to their end.
 pub record IsWhole (asks : Request → Type 0) (status : Status) (before after : Devices) : Type 0 where
   pub answer : Answer
   pub asked : IsAsked asks before answer
   pub status_is : status ≡ answer.status
   pub output : Appends before.output after.output answer.output
   pub report : Appends before.report after.report answer.report
-  pub taken_is : IsOfLines status → after.taken ≡ before.taken + length asked.input
-  pub clock_is : IsOfLines status → MovesOn before.ahead (length (event_lines asked.input)) after.ahead
+  pub read : ReadsLines asked.request → IsReadToEnd asked.input before after
 
 -- the sinks hold a front of the answer
 pub record IsFront (asks : Request → Type 0) (before after : Devices) : Type 0 where
@@ -70,6 +90,14 @@ IsWithinLimit false before after = after.taken ≤ before.taken + input_limit
 -- or one more was, and more than the limit stood there
 IsWithinLimit true before after = (after.taken ≡ before.taken + (input_limit + 1)) × IfSome before.left (λ bytes. input_limit < length bytes)
 
+-- A fault of reading is told only where the input failed, or a load did (`LoadFailed` says so), and one of writing only where a sink failed; and a fault of the input or of a
+-- sink is told.
+pub record HasCauses (LoadFailed : Type 0) (status : Status) (before after : Devices) : Type 0 where
+  pub read : status ≡ ReadFault → LoadFailed ⊎ HasRisen before.read_faults after.read_faults
+  pub write : status ≡ WriteFault → HasRisen before.output_faults after.output_faults ⊎ HasRisen before.report_faults after.report_faults
+  pub read_told : (status ≡ ReadFault) ⊎ (after.read_faults ≡ before.read_faults)
+  pub write_told : (status ≡ WriteFault) ⊎ ((after.output_faults ≡ before.output_faults) × (after.report_faults ≡ before.report_faults))
+
 -- A call that asks one of these requests leaves its devices so.
 pub record LeavesDevices (asks : Request → Type 0) (status : Status) (before after : Devices) : Type 0 where
   -- an answer comes with all its bytes, and is the answer to what was asked
@@ -78,3 +106,12 @@ pub record LeavesDevices (asks : Request → Type 0) (status : Status) (before a
   pub front : IsAtMostFront asks before after
   -- no more of the input is taken than may be, and a status of its own says that there is more
   pub limit : IsWithinLimit (meaning_of status).too_long before after
+
+-- What is done of a call that asks one of these requests. `LoadFailed` says that a load failed, and `Unasked` that neither the input nor the clock was asked.
+pub record IsAnswered (asks : Request → Type 0) (LoadFailed : Type 0) (status : Status) (before after : Devices) (Unasked : Type 0) : Type 0 where
+  pub leaves : LeavesDevices asks status before after
+  pub causes : HasCauses LoadFailed status before after
+  -- the status is one that may come of what was asked, or a device failed or memory was wanted before that was known
+  pub came : IsInterrupted status ⊎ ((request : Request) × asks request × MayCome request status)
+  -- the input and the clock are asked for a run over lines alone
+  pub first : Unasked ⊎ ((run : ScriptRun) × asks (map_lines run))

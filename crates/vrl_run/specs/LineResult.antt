@@ -1,10 +1,11 @@
 -- The result of a line: the events that are kept, and what is reported.
-use Rattle.std.specs.Prelude.{◌≡◌, ℕ, ℤ, Bool, true, false, not, List, [], ◌∷◌, ◌++◌, length, Some, None, codes, decimal}
+use Rattle.std.specs.Prelude.{ℕ, ℤ, Bool, true, false, not, List, [], ◌∷◌, ◌++◌, length, Some, None, codes, decimal, if◌then◌else◌}
 use Rattle.std.specs.List.{flat_map}
 use Rattle.vrl_value.specs.Tree.{Tree, string, array, Items, no_items, item}
 use Rattle.vrl_json.specs.Line.{Reading, not_json, not_whole, whole, reading_of, line_text}
 use Rattle.vrl_kind.specs.KindTree.{KindTree}
 use Rattle.vrl_kind.specs.Kinds.{Inhabits}
+use Rattle.vrl_kind.specs.TreeTest.{inhabits_tree}
 use Rattle.vrl_store.specs.Outcomes.{Ended}
 use Rattle.vrl_store.specs.WellFormed.{IsWellFormed}
 use Rattle.vrl_resolve.specs.Meaning.{End, ended, ended_aborted, ended_banged, ended_deep, unhandled, end_of, IsUnhandled}
@@ -95,24 +96,21 @@ end_result sources options number read end left = let kept = kept_events options
 abbrev pub event_result : List (List ℕ) → Options → ℕ → Tree → Ended → LineOut
 event_result sources options number read meant = end_result sources options number read (end_of meant.outcome) meant.store.event
 
--- a line that stands for an event: the program runs over one of the declared kind, and any other is refused
-pub record IsEventResult (program : ProgramTree) (declared : KindTree) (options : Options) (line : Line) (event : Tree) (out : LineOut) : Type 0 where
-  pub of_kind : Inhabits event declared → out ≡ event_result program.sources options line.number event (ended_over program line.moment event)
-  pub of_another : ¬ Inhabits event declared → out ≡ refused_line NotDeclared line.number
+-- the result of a line that stands for this event: the program runs over one of the declared kind, and any other is refused
+abbrev pub result_of_event : ProgramTree → KindTree → Options → Line → Tree → LineOut
+result_of_event program declared options line event =
+    if inhabits_tree event declared then event_result program.sources options line.number event (ended_over program line.moment event) else refused_line NotDeclared line.number
 
-abbrev pub IsReadResult : ProgramTree → KindTree → Options → Line → Reading → LineOut → Type 0
-IsReadResult program declared options line not_json out = out ≡ refused_line NotJson line.number
-IsReadResult program declared options line not_whole out = out ≡ refused_line NotWhole line.number
-IsReadResult program declared options line (whole event) out = IsEventResult program declared options line event out
-
-abbrev pub IsResultIf : Bool → ProgramTree → KindTree → Options → Line → LineOut → Type 0
-IsResultIf true program declared options line out = out ≡ refused_line TooLong line.number
-IsResultIf false program declared options line out = IsReadResult program declared options line (reading_of line.bytes) out
+-- the result of a line that is short enough
+abbrev pub result_of_reading : ProgramTree → KindTree → Options → Line → Reading → LineOut
+result_of_reading program declared options line not_json = refused_line NotJson line.number
+result_of_reading program declared options line not_whole = refused_line NotWhole line.number
+result_of_reading program declared options line (whole event) = result_of_event program declared options line event
 
 -- the result of a line, by the first of these that holds: it is too long; it is no JSON text; a number in it isn't whole; it is not of the
 -- declared kind; the program ends over it
-abbrev pub IsLineResult : ProgramTree → KindTree → Options → Line → LineOut → Type 0
-IsLineResult program declared options line out = IsResultIf line.long program declared options line out
+abbrev pub result_of_line : ProgramTree → KindTree → Options → Line → LineOut
+result_of_line program declared options line = if line.long then refused_line TooLong line.number else result_of_reading program declared options line (reading_of line.bytes)
 
 -- over no event of the declared kind, at no moment, the program ends with an error that it doesn't handle
 abbrev pub HandlesErrors : KindTree → ProgramTree → Type 0

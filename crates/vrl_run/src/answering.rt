@@ -1,30 +1,32 @@
-ghost use Rattle.std.specs.Prelude.{◌≡◌, ◌⊎◌, IsTrue};
-ghost use Rattle.vrl_io.specs.Faults.{HasRisen};
-ghost use Rattle.vrl_batch.specs.Sinks.{Appends, AppendsFront};
-ghost use Rattle.vrl_diag.specs.Rendering.{diagnostic_lines};
-ghost use Rattle.vrl_resolve.specs.Program.{program_of};
-ghost use Rattle.vrl_run.specs.Answer.{usage_line};
-ghost use Rattle.vrl_run.specs.Devices.{devices, LeavesDevices};
-ghost use Rattle.vrl_run.specs.Request.{IsReadyRequest, IsReadyScript, IsRunOf, IsSame, MayCome, RunsScript, request_of};
-ghost use Rattle.vrl_run.specs.Results.{answer_of};
-ghost use Rattle.vrl_run.specs.Status.{IsAnswer, IsOfLines};
+ghost use Rattle.std.specs.Prelude.{◌≡◌, ◌≤◌, IfOk};
+ghost use Rattle.vrl_run.specs.Answer.{refusal, status_if};
+ghost use Rattle.vrl_run.specs.Devices.{devices, HasCauses, IsAnswered, LeavesDevices};
+ghost use Rattle.vrl_run.specs.Request.{bad_kind, bad_script, bad_words, map_lines, map_made, tell_kinds, request_of, run_of, IsReadyRequest, IsReadyScript, IsSame, MayCome};
+ghost use Rattle.vrl_run.specs.Writing.{answer_in, IsTold};
 
-use crate::lines::{Results, run_lines};
+use crate::kinds::kind_lines;
+use crate::lines::run_lines;
+use crate::made::run_made;
 use crate::request::Request;
 use crate::script::Script;
 use crate::status::Status;
+use crate::writing::{Told, write_answer, write_told};
 use std::alloc::Global;
-use vrl_batch::{GatherFault, gather, give_all};
+use vrl_batch::{GatherFault, gather};
 use vrl_diag::{Diagnostic, render_all};
 use vrl_io::{Clock, Sink, Source};
+use vrl_kind::Kind;
+use vrl_kindfile::KindFault;
+use vrl_state::Known;
 use vrl_value::Memory;
 
 /// What is reported where the words are refused.
-const USAGE_LINE: &str = "usage: remap SCRIPT\n";
+const USAGE_LINE: &str =
+    "usage: remap SCRIPT [--kind FILE] [--jobs N] [--drop-on-error] [--keep-on-abort] [--check] [--generate COUNT:SEED]\n";
 
-/// Answers a request. Words that are refused, and a script that is, are reported, and neither the input nor the clock is asked. A
-/// script that runs is run over the lines of the input, at moments of the clock: its events go to `output`, and its warnings and the
-/// reports on lines to `report`.
+/// Answers a request. Words, a kind file and a script that are refused are reported. A script that runs over the lines of the input is run over each, at a moment of
+/// the clock: its events go to `output`, and its warnings and the reports on lines to `report`. Of one that runs over made lines, the summary goes to `output`, and the
+/// warnings to `report`, as do the kinds that a script may end with and its warnings. But for the lines of the input neither the input nor the clock is asked.
 pub fn answer<S: Source, O: Sink, E: Sink, C: Clock>(
     alloc: Global,
     request: &Request,
@@ -34,28 +36,104 @@ pub fn answer<S: Source, O: Sink, E: Sink, C: Clock>(
     clock: &mut C,
 ) -> Status
     requires { IsReadyRequest request.now }
-    ensures devices { LeavesDevices (IsSame (request_of request.now)) result
-        (devices (S.left input.old) (S.taken input.old) (C.ahead clock.old)
-        (O.written output.old) (E.written report.old))
-        (devices (S.left input.new) (S.taken input.new) (C.ahead clock.new)
-        (O.written output.new) (E.written report.new)) }
-    ensures status { MayCome (request_of request.now) result }
-    ensures run_first { ((input.new ≡ input.old) × (clock.new ≡ clock.old)) ⊎ RunsScript (request_of request.now) }
-    ensures end { IsOfLines result → IsTrue (S.ended input.new) }
-    ensures read_fault { result ≡ Status.ReadFault
-        → HasRisen (S.faults input.old) (S.faults input.new) }
-    ensures write_fault { result ≡ Status.WriteFault
-        → HasRisen (O.faults output.old) (O.faults output.new)
-        ⊎ HasRisen (E.faults report.old) (E.faults report.new) }
-    ensures read_told { (result ≡ Status.ReadFault) ⊎ (S.faults input.new ≡ S.faults input.old) }
-    ensures write_told { (result ≡ Status.WriteFault)
-        ⊎ ((O.faults output.new ≡ O.faults output.old) × (E.faults report.new ≡ E.faults report.old)) }
+    ensures { IsAnswered (IsSame (request_of request.now)) ⊥ result
+        (devices (S.left input.old) (S.taken input.old) (S.ended input.old) (S.faults input.old) (C.ahead clock.old)
+        (O.written output.old) (O.faults output.old) (E.written report.old) (E.faults report.old))
+        (devices (S.left input.new) (S.taken input.new) (S.ended input.new) (S.faults input.new) (C.ahead clock.new)
+        (O.written output.new) (O.faults output.new) (E.written report.new) (E.faults report.new))
+        ((input.new ≡ input.old) × (clock.new ≡ clock.old)) }
 {
     match request {
-        Request::Words => refuse_words(report),
-        Request::Refused(text, diagnostics) => refuse_script(alloc, text, diagnostics, report),
+        Request::Words => write_told(&usage(alloc), output, report),
+        Request::Kind(fault) => write_told(&kind_refusal(alloc, fault), output, report),
+        Request::Refused(text, diagnostics) => {
+            write_told(&script_refusal(alloc, text, diagnostics), output, report)
+        }
         Request::Run(script) => run_script(alloc, script, input, output, report, clock),
+        Request::Generate(script, count, seed) => {
+            write_told(&summary(alloc, script, *count, *seed), output, report)
+        }
+        Request::Check(text, warnings, kind, known) => {
+            write_told(&kinds(alloc, text, warnings, kind, known), output, report)
+        }
     }
+}
+
+// How the words go. `Memory`: want of memory.
+fn usage(alloc: Global) -> Result<Told, Memory>
+    ensures { IfOk result (IsTold bad_words) }
+{
+    refused(alloc, Status::Usage, USAGE_LINE.as_bytes().to_vec(alloc)?)
+}
+
+// Why a kind file has no kind. `Memory`: want of memory.
+fn kind_refusal(alloc: Global, fault: &KindFault) -> Result<Told, Memory>
+    ensures { IfOk result (IsTold (bad_kind fault.now)) }
+{
+    let line = format!(in alloc; "{fault}\n")?;
+    refused(alloc, Status::KindRefused, line.into_bytes())
+}
+
+// What is wrong with a script. `Memory`: want of memory.
+fn script_refusal(alloc: Global, text: &[u8], diagnostics: &[Diagnostic]) -> Result<Told, Memory>
+    ensures { IfOk result (IsTold (bad_script text.now diagnostics.now)) }
+{
+    refused(
+        alloc,
+        Status::Refused,
+        render_all(alloc, diagnostics, text)?,
+    )
+}
+
+// A refusal, of which no event comes.
+fn refused(alloc: Global, status: Status, report: Vec<u8>) -> Result<Told, Memory>
+    ensures { IfOk result (λ told. answer_in told ≡ refusal status report.items) }
+{
+    Ok(Told {
+        status,
+        output: Vec::new(alloc),
+        report,
+    })
+}
+
+// The sum of the results of made lines. `Memory`: want of memory.
+fn summary(alloc: Global, script: &Script, count: u64, seed: u64) -> Result<Told, Memory>
+    requires ready { IsReadyScript script.now }
+    requires count { count ≤ 1000000 }
+    ensures { IfOk result (IsTold (map_made (run_of script.now) count seed)) }
+{
+    let report = render_all(alloc, script.warnings, script.text)?;
+    let made = run_made(alloc, script, count, seed)?;
+    Ok(Told {
+        status: status_if(made.marked),
+        output: made.summary,
+        report,
+    })
+}
+
+// The kinds that a script may end with. `Memory`: want of memory.
+fn kinds(
+    alloc: Global,
+    text: &[u8],
+    warnings: &[Diagnostic],
+    kind: &Kind,
+    known: &Known,
+) -> Result<Told, Memory>
+    ensures { IfOk result (IsTold (tell_kinds text.now warnings.now kind.now known.now)) }
+{
+    let report = render_all(alloc, warnings, text)?;
+    Ok(Told {
+        status: Status::Done,
+        output: kind_lines(alloc, kind, known)?,
+        report,
+    })
+}
+
+// How a run over lines ended, of which some were refused or none.
+fn status_if(marked: bool) -> Status
+    ensures { result ≡ status_if marked }
+{
+    if marked { Status::Marked } else { Status::Done }
 }
 
 // Runs a script over the lines of the input.
@@ -68,102 +146,32 @@ fn run_script<S: Source, O: Sink, E: Sink, C: Clock>(
     clock: &mut C,
 ) -> Status
     requires { IsReadyScript script.now }
-    ensures devices { LeavesDevices (IsRunOf script.now.text.now (program_of script.now.program.now)
-        script.now.warnings.now) result
-        (devices (S.left input.old) (S.taken input.old) (C.ahead clock.old)
-        (O.written output.old) (E.written report.old))
-        (devices (S.left input.new) (S.taken input.new) (C.ahead clock.new)
-        (O.written output.new) (E.written report.new)) }
-    ensures end { IsOfLines result → IsTrue (S.ended input.new) }
-    ensures read_fault { result ≡ Status.ReadFault
-        → HasRisen (S.faults input.old) (S.faults input.new) }
-    ensures write_fault { result ≡ Status.WriteFault
-        → HasRisen (O.faults output.old) (O.faults output.new)
-        ⊎ HasRisen (E.faults report.old) (E.faults report.new) }
-    ensures read_told { (result ≡ Status.ReadFault) ⊎ (S.faults input.new ≡ S.faults input.old) }
-    ensures write_told { (result ≡ Status.WriteFault)
-        ⊎ ((O.faults output.new ≡ O.faults output.old) × (E.faults report.new ≡ E.faults report.old)) }
+    ensures devices { LeavesDevices (IsSame (map_lines (run_of script.now))) result
+        (devices (S.left input.old) (S.taken input.old) (S.ended input.old) (S.faults input.old) (C.ahead clock.old)
+        (O.written output.old) (O.faults output.old) (E.written report.old) (E.faults report.old))
+        (devices (S.left input.new) (S.taken input.new) (S.ended input.new) (S.faults input.new) (C.ahead clock.new)
+        (O.written output.new) (O.faults output.new) (E.written report.new) (E.faults report.new)) }
+    ensures causes { HasCauses ⊥ result
+        (devices (S.left input.old) (S.taken input.old) (S.ended input.old) (S.faults input.old) (C.ahead clock.old)
+        (O.written output.old) (O.faults output.old) (E.written report.old) (E.faults report.old))
+        (devices (S.left input.new) (S.taken input.new) (S.ended input.new) (S.faults input.new) (C.ahead clock.new)
+        (O.written output.new) (O.faults output.new) (E.written report.new) (E.faults report.new)) }
+    ensures status { MayCome (map_lines (run_of script.now)) result }
 {
     let warnings = match render_all(alloc, script.warnings, script.text) {
         Ok(warnings) => warnings,
         Err(Memory) => return Status::Memory,
     };
     match gather(alloc, input) {
-        Ok(bytes) => {
-            match run_lines(alloc, script, warnings, &bytes, clock) {
-                Ok(results) => write_results(&results, output, report),
-                Err(Memory) => Status::Memory,
+        Ok(bytes) => match run_lines(alloc, script, warnings, &bytes, clock) {
+            Ok(results) => {
+                let status = status_if(results.marked);
+                write_answer(status, &results.output, &results.report, output, report)
             }
-        }
+            Err(Memory) => Status::Memory,
+        },
         Err(GatherFault::Read) => Status::ReadFault,
         Err(GatherFault::TooMuch) => Status::TooMuch,
         Err(GatherFault::Memory) => Status::Memory,
-    }
-}
-
-// Writes what a run wrote.
-fn write_results<O: Sink, E: Sink>(results: &Results, output: &mut O, report: &mut E) -> Status
-    ensures whole { IsAnswer result → (result ≡ (answer_of results.now).status)
-        × Appends (O.written output.old) (O.written output.new) results.now.output.items
-        × Appends (E.written report.old) (E.written report.new) results.now.report.items }
-    ensures front { AppendsFront (O.written output.old) (O.written output.new)
-        results.now.output.items
-        × AppendsFront (E.written report.old) (E.written report.new) results.now.report.items }
-    ensures either { IsOfLines result ⊎ (result ≡ Status.WriteFault) }
-    ensures cause { result ≡ Status.WriteFault
-        → HasRisen (O.faults output.old) (O.faults output.new)
-        ⊎ HasRisen (E.faults report.old) (E.faults report.new) }
-    ensures told { (result ≡ Status.WriteFault)
-        ⊎ ((O.faults output.new ≡ O.faults output.old) × (E.faults report.new ≡ E.faults report.old)) }
-{
-    if give_all(output, &results.output).is_err() || give_all(report, &results.report).is_err() {
-        return Status::WriteFault;
-    }
-    if results.marked {
-        Status::Marked
-    } else {
-        Status::Done
-    }
-}
-
-// Reports how the words go.
-fn refuse_words<E: Sink>(report: &mut E) -> Status
-    ensures whole { result ≡ Status.Usage
-        → Appends (E.written report.old) (E.written report.new) usage_line }
-    ensures front { AppendsFront (E.written report.old) (E.written report.new) usage_line }
-    ensures either { (result ≡ Status.Usage) ⊎ (result ≡ Status.WriteFault) }
-    ensures cause { result ≡ Status.WriteFault
-        → HasRisen (E.faults report.old) (E.faults report.new) }
-    ensures told { (result ≡ Status.WriteFault) ⊎ (E.faults report.new ≡ E.faults report.old) }
-{
-    match give_all(report, USAGE_LINE.as_bytes()) {
-        Ok(()) => Status::Usage,
-        Err(_) => Status::WriteFault,
-    }
-}
-
-// Reports what is wrong with a script.
-fn refuse_script<E: Sink>(
-    alloc: Global,
-    text: &[u8],
-    diagnostics: &[Diagnostic],
-    report: &mut E,
-) -> Status
-    ensures whole { result ≡ Status.Refused → Appends (E.written report.old) (E.written report.new)
-        (diagnostic_lines text.now diagnostics.now) }
-    ensures front { AppendsFront (E.written report.old) (E.written report.new)
-        (diagnostic_lines text.now diagnostics.now) }
-    ensures either { (result ≡ Status.Refused) ⊎ (result ≡ Status.WriteFault)
-        ⊎ (result ≡ Status.Memory) }
-    ensures cause { result ≡ Status.WriteFault
-        → HasRisen (E.faults report.old) (E.faults report.new) }
-    ensures told { (result ≡ Status.WriteFault) ⊎ (E.faults report.new ≡ E.faults report.old) }
-{
-    match render_all(alloc, diagnostics, text) {
-        Ok(lines) => match give_all(report, &lines) {
-            Ok(()) => Status::Refused,
-            Err(_) => Status::WriteFault,
-        },
-        Err(Memory) => Status::Memory,
     }
 }

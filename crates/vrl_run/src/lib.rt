@@ -2,14 +2,15 @@
 //! and the answer to a request, over all lines of an input.
 //!
 //! Files: `result.rt` has `run_line`, `kept.rt` the events that are kept, `report.rt` what is reported of a line, `reason.rt` why one is refused and
-//! `options.rt` what may be asked; `lines.rt` has the results of all lines, `request.rt` and `answering.rt` a request and `answer`, `script.rt` an
-//! accepted script over an input, `status.rt` how a call ends, and `laws.rt` the laws.
+//! `options.rt` what may be asked; `request.rt` has a request and `answering.rt` `answer`, over `lines.rt`, the results of all lines of an input, `made.rt`,
+//! those of made lines, `kinds.rt`, the kinds that are told, and `writing.rt`; `script.rt` has an accepted script, and `status.rt` how a call ends.
 #![tactic(auto)]
 
 mod answering;
 mod kept;
-mod laws;
+mod kinds;
 mod lines;
+mod made;
 mod options;
 mod reason;
 mod report;
@@ -17,9 +18,9 @@ mod request;
 mod result;
 mod script;
 mod status;
+mod writing;
 
 pub use answering::answer;
-pub use laws::objects_are_events;
 pub use options::Options;
 pub use reason::Reason;
 pub use request::Request;

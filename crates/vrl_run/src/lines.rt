@@ -1,19 +1,16 @@
 ghost use Rattle.std.specs.Prelude.{◌≡◌, IfOk, OnOk, length};
-ghost use Rattle.vrl_resolve.specs.Program.{program_of};
 ghost use Rattle.vrl_batch.specs.Lines.{event_lines};
-ghost use Rattle.vrl_run.specs.Answer.{is_refused, result_of_line};
+ghost use Rattle.vrl_generate.specs.Summary.{is_refused};
+ghost use Rattle.vrl_run.specs.Answer.{result_of};
 ghost use Rattle.vrl_run.specs.Devices.{MovesOn};
-ghost use Rattle.vrl_run.specs.Request.{IsReadyScript};
+ghost use Rattle.vrl_run.specs.Request.{IsReadyScript, run_of};
 ghost use Rattle.vrl_run.specs.Results.{IsRunOver, AddsResult};
 
-use crate::options::Options;
-use crate::result::run_line;
 use crate::script::Script;
 use std::alloc::Global;
 use vrl_batch::{Line, LineOut, Outcome, is_blank, split_line};
 use vrl_io::Clock;
-use vrl_json::lines_are_json;
-use vrl_value::{Memory, members_stay_json};
+use vrl_value::Memory;
 
 /// What a run writes.
 #[derive(Drop)]
@@ -55,7 +52,7 @@ pub fn run_lines<C: Clock>(
     clock: &mut C,
 ) -> Result<Results, Memory>
     requires { IsReadyScript script.now }
-    ensures results { IfOk result (IsRunOver (program_of script.now.program.now) report.items input.now
+    ensures results { IfOk result (IsRunOver (run_of script.now) report.items input.now
         (C.ahead clock.old)) }
     ensures clock { OnOk result (MovesOn (C.ahead clock.old) (length (event_lines input.now))
         (C.ahead clock.new)) }
@@ -88,21 +85,8 @@ fn add_line(
 ) -> Result<(), Memory>
     requires { IsReadyScript script.now }
     ensures { OnOk result (AddsResult results.old results.new
-        (result_of_line (program_of script.now.program.now) line.now)) }
+        (result_of (run_of script.now) line.now)) }
 {
-    lines_are_json();
-    members_stay_json();
-    let options = Options {
-        drop_on_error: false,
-        keep_on_abort: false,
-    };
-    let made = run_line(
-        alloc,
-        script.program,
-        script.sources,
-        script.declared,
-        &options,
-        line,
-    )?;
+    let made = script.result(alloc, line)?;
     results.add(&made)
 }

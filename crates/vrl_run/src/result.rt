@@ -5,7 +5,7 @@ ghost use Rattle.vrl_value.specs.View.{tree_of};
 ghost use Rattle.vrl_json.specs.Line.{whole, reading_of};
 ghost use Rattle.vrl_resolve.specs.Meaning.{IsUnhandled};
 ghost use Rattle.vrl_resolve.specs.Program.{ended_over, program_of};
-ghost use Rattle.vrl_run.specs.LineResult.{end_result, event_result, refused_line, HandlesErrors, IsLineResult};
+ghost use Rattle.vrl_run.specs.LineResult.{end_result, event_result, refused_line, result_of_line, HandlesErrors};
 ghost use Rattle.vrl_run.specs.LineResult as spec;
 ghost use Rattle.vrl_run.specs.Unread.{IsReasonOf, IsUnread};
 ghost use Rattle.vrl_run.specs.Ran.{end_in};
@@ -17,7 +17,7 @@ use crate::report::{end_report, report_line};
 use std::alloc::Global;
 use vrl_batch::{Line, LineOut, Outcome};
 use vrl_json::{JsonFault, from_line, json_needs_no_sources, lines_are_json, lines_are_ordered};
-use vrl_kind::{Kind, inhabits};
+use vrl_kind::{Kind, inhabits, inhabits_is_computed};
 use vrl_resolve::{Ended, Program, Ran, run};
 use vrl_value::{Bytes, Memory, Names, Value};
 
@@ -34,7 +34,7 @@ pub fn run_line(
 ) -> Result<LineOut, Memory>
     requires sources { sources.now ≡ (program_of program.now).sources }
     requires handled { HandlesErrors declared.now (program_of program.now) }
-    ensures { IfOk result (IsLineResult (program_of program.now) declared.now options.now line.now) }
+    ensures { IfOk result (λ out. out ≡ result_of_line (program_of program.now) declared.now options.now line.now) }
 {
     if line.long {
         return refused(alloc, line.number, Reason::TooLong);
@@ -43,6 +43,7 @@ pub fn run_line(
         Ok(event) => event,
         Err(fault) => return unread(alloc, line.number, fault),
     };
+    inhabits_is_computed();
     if !inhabits(&event, declared) {
         return refused(alloc, line.number, Reason::NotDeclared);
     }

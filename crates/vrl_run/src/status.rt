@@ -7,19 +7,21 @@ use std::process::ExitCode;
 /// How a call ended.
 #[derive(Clone, Copy, Debug, PartialEq, Eq)]
 pub enum Status {
-    /// The input was read to its end, and no line was refused.
+    /// The lines were read or made to their end, and none was refused; or the kinds were told.
     Done,
     /// The script is refused; the report holds its diagnostics.
     Refused,
     /// The words are refused; the report holds the usage line.
     Usage,
-    /// The script could not be loaded, or the input could not be read.
+    /// The script or the kind file could not be loaded, or the input could not be read.
     ReadFault,
     /// The output or the report could not be written.
     WriteFault,
     /// Want of memory.
     Memory,
-    /// As `Done`, but some line was refused; the report tells which.
+    /// The kind file is refused; the report holds the reason.
+    KindRefused,
+    /// As `Done`, but some line was refused; the report tells which, where they were read.
     Marked,
     /// The input has more than 2^40 bytes.
     TooMuch,
@@ -37,6 +39,7 @@ impl Status {
             Status::ReadFault => 3,
             Status::WriteFault => 4,
             Status::Memory => 5,
+            Status::KindRefused => 6,
             Status::Marked => 7,
             Status::TooMuch => 8,
         })

@@ -1,44 +1,27 @@
-use Rattle.std.proofs.Common.{Some, None, inl, inr, refl, rules}
-use Rattle.remap_tool.proofs.AnswerLemmas.{accepted_named, asks_named, asks_words, first_of, leaves-by, load_fault_if_added, text_loaded, text_of_words, usage_loads_nothing}
-use Rattle.remap_tool.proofs.Calls.{has_text, is_call, is_unloaded, words_have_text}
-use Rattle.remap_tool.proofs.OneAnswer.{is_refusal, words_refuse_no_script}
+use Rattle.std.proofs.Common.{refl, rules}
+use Rattle.remap_words.specs.View.{invocation_of}
+use Rattle.remap_tool.proofs.Calls.{failed_call-of, refused_unasked, script_call-of, wanting_call-of, words_call}
 use Rattle.remap_tool.proofs.tool.remap.Goals as goal
 
-pub returns-in-None-clause-call : goal.returns-in-None-clause-call
-returns-in-None-clause-call g c =
-    let is = c.in-None.ensures in
-    is_call c.laws.ensures c.accepted_run_soundly.ensures _ _ None _ _ _ (text_of_words _ _ is) (leaves-by _ _ _ _ _ (asks_words _ _ is) c.answer.ensures.devices) (words_refuse_no_script _ _ is) (words_have_text _ is) (inl (first_of c.answer.ensures.run_first))
-
-pub returns-in-Ok-clause-call : goal.returns-in-Ok-clause-call
-returns-in-Ok-clause-call g c =
-    let is = c.in-Some.ensures in
-    let text = c.in-Ok.script in
-    is_call c.laws.ensures c.accepted_run_soundly.ensures _ _ (Some text) _ _ _ (text_loaded _ _ c.in-Some.name.now text is c.in-Ok.ensures.bytes) (leaves-by _ _ _ _ _ (asks_named _ c.in-Some.name.now text is) (rw c.as_slice.ensures at c.run_script.ensures.devices))
-    (is_refusal c.laws.ensures.diagnostics _ c.in-Some.name.now text _ is (rw c.as_slice.ensures at c.run_script.ensures.refused)) (has_text _ c.in-Some.name.now text is) (accepted_named _ c.in-Some.name.now text is (rw c.as_slice.ensures at c.run_script.ensures.accepted_first))
-
-pub returns-in-Err-Failed-clause-call : goal.returns-in-Err-Failed-clause-call
-returns-in-Err-Failed-clause-call g c = is_unloaded c.laws.ensures c.accepted_run_soundly.ensures _ _ _ _ (inl refl) (refl, refl)
+pub returns-in-Err-Refused-clause-call : goal.returns-in-Err-Refused-clause-call
+returns-in-Err-Refused-clause-call g c = words_call c.laws.ensures c.accepted_run_soundly.ensures _ _ _ _ _ _ _ _ (search rules) c.answer.ensures
 
 pub returns-in-Err-Memory-clause-call : goal.returns-in-Err-Memory-clause-call
-returns-in-Err-Memory-clause-call g c = is_unloaded c.laws.ensures c.accepted_run_soundly.ensures _ _ _ _ (inr refl) (refl, refl)
+returns-in-Err-Memory-clause-call g c = wanting_call-of c.laws.ensures c.accepted_run_soundly.ensures _ _ _ _ _ _ refl (refl, refl)
 
-pub returns-in-None-clause-sound : goal.returns-in-None-clause-sound
-returns-in-None-clause-sound g c = c.accepted_run_soundly.ensures
+pub returns-in-Ok-load-clause-call : goal.returns-in-Ok-load-clause-call
+returns-in-Ok-load-clause-call g c =
+    script_call-of c.laws.ensures c.accepted_run_soundly.ensures _ _ _ (invocation_of c.in-Ok.invocation) c.in-Ok-load.script _ _ _ _ _ _ _ c.in-Ok.ensures.read c.in-Ok-load.ensures.held c.in-Ok-load.ensures.failures c.in-Ok-load.ensures.bytes (rw c.as_slice.ensures at c.run_script.ensures)
 
-pub returns-in-Ok-clause-sound : goal.returns-in-Ok-clause-sound
-returns-in-Ok-clause-sound g c = c.accepted_run_soundly.ensures
+pub returns-in-Ok-load-clause-unread : goal.returns-in-Ok-load-clause-unread
+returns-in-Ok-load-clause-unread g c refused =
+    refused_unasked (script_call-of c.laws.ensures c.accepted_run_soundly.ensures _ _ _ (invocation_of c.in-Ok.invocation) c.in-Ok-load.script _ _ _ _ _ _ _ c.in-Ok.ensures.read c.in-Ok-load.ensures.held c.in-Ok-load.ensures.failures c.in-Ok-load.ensures.bytes (rw c.as_slice.ensures at c.run_script.ensures)) refused
 
-pub returns-in-Err-Failed-clause-sound : goal.returns-in-Err-Failed-clause-sound
-returns-in-Err-Failed-clause-sound g c = c.accepted_run_soundly.ensures
+pub returns-in-Ok-load-clause-read_fault : goal.returns-in-Ok-load-clause-read_fault
+returns-in-Ok-load-clause-read_fault g c fault = rw c.in-Ok-load.ensures.failures at (c.run_script.ensures.answered.causes.read fault)
 
-pub returns-in-Err-Memory-clause-sound : goal.returns-in-Err-Memory-clause-sound
-returns-in-Err-Memory-clause-sound g c = c.accepted_run_soundly.ensures
+pub returns-in-Err-Failed-clause-call : goal.returns-in-Err-Failed-clause-call
+returns-in-Err-Failed-clause-call g c = failed_call-of c.laws.ensures c.accepted_run_soundly.ensures _ _ (invocation_of c.in-Ok.invocation) _ _ _ _ c.in-Ok.ensures.read (search rules) (refl, refl)
 
-pub returns-in-None-clause-load_fault : goal.returns-in-None-clause-load_fault
-returns-in-None-clause-load_fault g c failed = absurd (usage_loads_nothing _ _ _ c.in-None.ensures failed)
-
-pub returns-in-Ok-clause-load_fault : goal.returns-in-Ok-clause-load_fault
-returns-in-Ok-clause-load_fault g c failed = load_fault_if_added _ c.in-Some.name.now _ _ _ c.in-Some.ensures c.in-Ok.ensures.failures failed
-
-pub returns-in-Err-Memory-clause-load_fault : goal.returns-in-Err-Memory-clause-load_fault
-returns-in-Err-Memory-clause-load_fault g c failed = load_fault_if_added _ c.in-Some.name.now _ _ _ c.in-Some.ensures (search rules) failed
+pub returns-in-Err-Memory-load-clause-call : goal.returns-in-Err-Memory-load-clause-call
+returns-in-Err-Memory-load-clause-call g c = wanting_call-of c.laws.ensures c.accepted_run_soundly.ensures _ _ _ _ _ _ (search rules) (refl, refl)

@@ -1,21 +1,38 @@
-use Rattle.std.proofs.Common.{refl}
-use Rattle.vrl_diag.specs.Rendering.{diagnostic_lines}
-use Rattle.vrl_run.specs.Answer.{usage_line}
-use Rattle.vrl_run.specs.Request.{bad_script, bad_words}
-use Rattle.vrl_run.specs.declared.status.Status.TheVariants.{Refused, Usage}
-use Rattle.vrl_run.proofs.AnswerLemmas.{refused_only, script_not_long, told_leaves, usage_only, words_not_long}
+use Rattle.std.proofs.Common.{inr, refl}
+use Rattle.vrl_run.specs.Request.{bad_kind, bad_script, bad_words, map_lines, map_made, run_of, tell_kinds}
+use Rattle.vrl_run.proofs.AnswerLemmas.{told_answered}
 use Rattle.vrl_run.proofs.answering.answer.Goals as goal
 
-pub returns-in-Words-clause-devices : goal.returns-in-Words-clause-devices
-returns-in-Words-clause-devices g c =
-    let s = c.refuse_words.result in
-    let told = c.refuse_words.ensures in
-    rw c.in-Words.is (told_leaves bad_words Usage s usage_line _ _ _ _ _ _ refl (usage_only s told.either) (λ runs. runs) (λ lines. lines) (words_not_long s told.either) told.whole told.front)
+pub returns-in-Words : goal.returns-in-Words
+returns-in-Words g c =
+    let told = c.write_told.ensures in
+    rw c.in-Words.is (told_answered bad_words _ (λ reads. reads) (told.written bad_words c.usage.ensures) told.cause told.write_told (refl, refl))
 
-pub returns-in-Refused-clause-devices : goal.returns-in-Refused-clause-devices
-returns-in-Refused-clause-devices g c =
-    let s = c.refuse_script.result in
-    let told = c.refuse_script.ensures in
-    let text = c.in-Refused.text.now in
-    let diagnostics = c.in-Refused.diagnostics.now in
-    rw c.in-Refused.is (told_leaves (bad_script text diagnostics) Refused s (diagnostic_lines text diagnostics) _ _ _ _ _ _ refl (refused_only s told.either) (λ runs. runs) (λ lines. lines) (script_not_long s told.either) told.whole told.front)
+pub returns-in-Kind : goal.returns-in-Kind
+returns-in-Kind g c =
+    let told = c.write_told-in-Kind.ensures in
+    let request = bad_kind c.in-Kind.fault.now in
+    rw c.in-Kind.is (told_answered request _ (λ reads. reads) (told.written request c.kind_refusal.ensures) told.cause told.write_told (refl, refl))
+
+pub returns-in-Refused : goal.returns-in-Refused
+returns-in-Refused g c =
+    let told = c.write_told-in-Refused.ensures in
+    let request = bad_script c.in-Refused.text.now c.in-Refused.diagnostics.now in
+    rw c.in-Refused.is (told_answered request _ (λ reads. reads) (told.written request c.script_refusal.ensures) told.cause told.write_told (refl, refl))
+
+pub returns-in-Run : goal.returns-in-Run
+returns-in-Run g c =
+    let run = run_of c.in-Run.script in
+    rw c.in-Run.is (record { leaves = c.run_script.ensures.devices; causes = c.run_script.ensures.causes; came = inr (map_lines run, refl, c.run_script.ensures.status); first = inr (run, refl) })
+
+pub returns-in-Generate : goal.returns-in-Generate
+returns-in-Generate g c =
+    let told = c.write_told-in-Generate.ensures in
+    let request = map_made (run_of c.in-Generate.script) c.in-Generate.count c.in-Generate.seed in
+    rw c.in-Generate.is (told_answered request _ (λ reads. reads) (told.written request c.summary.ensures) told.cause told.write_told (refl, refl))
+
+pub returns-in-Check : goal.returns-in-Check
+returns-in-Check g c =
+    let told = c.write_told-in-Check.ensures in
+    let request = tell_kinds c.in-Check.text.now c.in-Check.warnings.now c.in-Check.kind.now c.in-Check.known.now in
+    rw c.in-Check.is (told_answered request _ (λ reads. reads) (told.written request c.kinds.ensures) told.cause told.write_told (refl, refl))

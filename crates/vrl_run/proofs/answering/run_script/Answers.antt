@@ -1,29 +1,31 @@
-use Rattle.std.proofs.Common.{arith, inr}
+use Rattle.std.proofs.Common.{arith, inr, ◌∙◌}
+use Rattle.vrl_run.specs.Request.{run_of}
 use Rattle.vrl_run.specs.Results.{answer_of}
-use Rattle.vrl_run.proofs.AnswerLemmas.{asked_run, lines_not_long, within_limit}
+use Rattle.vrl_run.proofs.AnswerLemmas.{asked_run, not_long_if, own_of_two, within_limit}
 use Rattle.vrl_run.proofs.answering.run_script.Goals as goal
 
 pub returns-in-Ok-run_lines-clause-devices : goal.returns-in-Ok-run_lines-clause-devices
 returns-in-Ok-run_lines-clause-devices g c =
-    let asked = asked_run _ _ _ _ _ c.in-Ok-gather.bytes.items _ c.in-Ok.ensures c.in-Ok-gather.ensures.bytes.is_left (rw c.deref.ensures.value at c.in-Ok-run_lines.ensures.results) in
-    let written = c.write_results.ensures in
+    let asked = asked_run (run_of c.args.script.now) _ _ c.in-Ok-gather.bytes.items c.in-Ok-run_lines.results c.in-Ok.ensures c.in-Ok-gather.ensures.bytes.is_left (rw c.deref.ensures.value at c.in-Ok-run_lines.ensures.results) in
+    let written = c.write_answer.ensures in
+    let whole = rw (c.deref-in-Ok-run_lines.ensures.value, c.deref-in-Ok-run_lines-2.ensures.value) at written.whole in
+    let front = rw (c.deref-in-Ok-run_lines.ensures.value, c.deref-in-Ok-run_lines-2.ensures.value) at written.front in
     let within = c.in-Ok-gather.ensures.bytes.within in
     let counted = c.in-Ok-gather.ensures.bytes.counted in
     record {
-      whole = λ answered. let all = written.whole answered in record {
+      whole = λ answered. let all = whole answered in record {
         answer = answer_of c.in-Ok-run_lines.results;
         asked = asked;
-        status_is = all.0;
-        output = all.1;
-        report = all.2;
-        taken_is = λ lines. counted;
-        clock_is = λ lines. rw c.deref.ensures.value at c.in-Ok-run_lines.ensures.clock;
+        status_is = own_of_two _ _ written.either answered ∙ c.status_if-status.ensures;
+        output = all.0;
+        report = all.1;
+        read = λ reads. record { taken = counted; ended = c.in-Ok-gather.ensures.end; clock = rw c.deref.ensures.value at c.in-Ok-run_lines.ensures.clock };
       };
       front = inr (record {
         answer = answer_of c.in-Ok-run_lines.results;
         asked = asked;
-        output = written.front.0;
-        report = written.front.1;
+        output = front.0;
+        report = front.1;
       });
-      limit = within_limit c.write_results.result _ _ (lines_not_long c.write_results.result written.either) (omega (arith, within, counted));
+      limit = within_limit c.write_answer.result _ _ (not_long_if _ _ _ c.status_if-status.ensures written.either) (omega (arith, within, counted));
     }
