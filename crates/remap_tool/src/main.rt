@@ -1,17 +1,13 @@
 //! `remap SCRIPT < events.jsonl`: runs a script over lines of JSON.
 //!
-//! Files: `main.rt` has `main`, which calls `remap` (`tool.rt`) and ends with the number of its status; `loading.rt` has what is done with the bytes of a script and of
-//! a kind file, and `running.rt` what is done with a script over events of the declared kind.
+//! `main` hands the words and the real devices to `remap` of `remap_call`, and ends with the number of its status.
 #![tactic(auto)]
 
-mod loading;
-mod running;
-mod tool;
-
+use remap_call::remap;
 use std::process::ExitCode;
 use std::rt::Env;
 use std::{env, io};
-pub use tool::remap;
+use vrl_batch::FreeGate;
 use vrl_io::{FileStore, StdSink, StdSource, SystemClock};
 use vrl_run::Status;
 
@@ -31,6 +27,7 @@ fn main(rt: HostRuntime) -> ExitCode {
         &mut StdSink::new(rt.stdout()),
         &mut StdSink::new(rt.stderr()),
         &mut SystemClock::new(&rt),
+        &FreeGate,
     );
     status.exit_code()
 }

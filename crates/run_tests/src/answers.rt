@@ -7,6 +7,8 @@ ghost use Rattle.vrl_run.specs.Request.{IsReadyRequest};
 use crate::running::{accepted, event_kind};
 use std::alloc::Global;
 use std::process::Abort;
+use std::thread::Threads;
+use vrl_batch::FreeGate;
 use vrl_diag::{Diagnostic, Span};
 use vrl_io::{MemoryClock, MemorySink, MemorySource};
 use vrl_kind::Kind;
@@ -81,7 +83,12 @@ fn source(alloc: Global, faults: &Faults) -> Result<MemorySource, Memory> {
 }
 
 // Whether a request is answered as the row wants it.
-fn is_answered(alloc: Global, request: &Request, row: &Row) -> Result<bool, Memory>
+fn is_answered<R: Threads + Sync>(
+    rt: &R,
+    alloc: Global,
+    request: &Request,
+    row: &Row,
+) -> Result<bool, Memory>
     requires { IsReadyRequest request.now }
 {
     let (_script, faults, status, written, reported) = row;
@@ -90,12 +97,15 @@ fn is_answered(alloc: Global, request: &Request, row: &Row) -> Result<bool, Memo
     let mut report = sink(alloc, faults.report)?;
     let mut clock = MemoryClock::new(Vec::new(alloc));
     let told = answer(
+        rt,
         alloc,
         request,
+        2,
         &mut input,
         &mut output,
         &mut report,
         &mut clock,
+        &FreeGate,
     );
     Ok(
         told == *status
@@ -105,7 +115,8 @@ fn is_answered(alloc: Global, request: &Request, row: &Row) -> Result<bool, Memo
 }
 
 // Whether a script that runs does what the row wants.
-fn is_run(
+fn is_run<R: Threads + Sync>(
+    rt: &R,
     alloc: Global,
     text: &str,
     program: &Program,
@@ -127,13 +138,19 @@ fn is_run(
         },
         warnings: &[],
     });
-    is_answered(alloc, &request, row)
+    is_answered(rt, alloc, &request, row)
 }
 
-fn is_told(alloc: Global, text: &str, row: &Row) -> Result<bool, Memory> {
+fn is_told<R: Threads + Sync>(
+    rt: &R,
+    alloc: Global,
+    text: &str,
+    row: &Row,
+) -> Result<bool, Memory> {
     let declared = event_kind(alloc)?;
     match accepted(alloc, text, &declared)? {
         Some(script) => is_run(
+            rt,
             alloc,
             text,
             &script.program,
@@ -141,14 +158,19 @@ fn is_told(alloc: Global, text: &str, row: &Row) -> Result<bool, Memory> {
             &declared,
             row,
         ),
-        None => is_answered(alloc, &Request::Refused(text.as_bytes(), &UNDEFINED), row),
+        None => is_answered(
+            rt,
+            alloc,
+            &Request::Refused(text.as_bytes(), &UNDEFINED),
+            row,
+        ),
     }
 }
 
-fn holds(alloc: Global, row: &Row) -> Result<bool, Memory> {
+fn holds<R: Threads + Sync>(rt: &R, alloc: Global, row: &Row) -> Result<bool, Memory> {
     match row.0 {
-        Some(text) => is_told(alloc, text, row),
-        None => is_answered(alloc, &Request::Words, row),
+        Some(text) => is_told(rt, alloc, text, row),
+        None => is_answered(rt, alloc, &Request::Words, row),
     }
 }
 
@@ -177,7 +199,7 @@ const FAULTS: [Row; 13] = [
 fn devices_fail(rt: HostRuntime) -> Result<(), Memory> {
     let alloc = rt.alloc();
     for row in &FAULTS {
-        let is_so = holds(alloc, row)?;
+        let is_so = holds(&rt, alloc, row)?;
         assert!(rt; is_so, "at {:?}", row.0);
     }
     Ok(())

@@ -1,4 +1,11 @@
+pub mod Begins
+pub mod Chunks
+pub mod Fills
 pub mod Fronts
-pub mod Gathering
+pub mod Joined
 pub mod LineLemmas
+pub mod RunLaws
 pub mod SinkLemmas
+pub mod Told
+pub mod Whole
+pub mod Windows

@@ -5,7 +5,7 @@ use Rattle.std.specs.List.{onto_first}
 use Rattle.vrl_batch.specs.Lines.{lines_of}
 
 -- a byte that is no newline goes before the first line
-lines_of-other : (b : ℕ) (bytes : List ℕ) → b ≢ 10 → lines_of (b ∷ bytes) ≡ onto_first b (lines_of bytes)
+pub lines_of-other : (b : ℕ) (bytes : List ℕ) → b ≢ 10 → lines_of (b ∷ bytes) ≡ onto_first b (lines_of bytes)
 lines_of-other b bytes other = grind (arith, nat_tests)
 
 -- the first newline stands at this place: the line before it comes first

@@ -1,3 +1,11 @@
-pub mod Gathered
+pub mod Batches
+pub mod Begun
+pub mod Limits
 pub mod Lines
+pub mod Moments
+pub mod Outs
+pub mod Parts
+pub mod Pieces
+pub mod Reads
+pub mod Runs
 pub mod Sinks

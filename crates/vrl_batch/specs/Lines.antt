@@ -1,5 +1,5 @@
 -- The lines of an input.
-use Rattle.std.specs.Prelude.{ℕ, ℤ, List, [], ◌∷◌, ◌==◌, ◌||◌, if◌then◌else◌, Bool, true, false, not, filter, length, nat_lt}
+use Rattle.std.specs.Prelude.{◌≡◌, ◌≢◌, ◌⊎◌, ℕ, ℤ, List, [], ◌∷◌, ◌++◌, ◌==◌, ◌||◌, if◌then◌else◌, Bool, true, false, not, filter, length, nat_lt}
 use Rattle.std.specs.List.{enumerate_from, list_all, onto_first}
 use Rattle.vrl_batch.specs.declared.line.Line.{Line}
 
@@ -30,3 +30,23 @@ line_limit = 1048576
 -- a line with its number, and the moment at which it is run; of one that is too long no bytes are kept
 abbrev pub line_at : ℤ → ℕ × List ℕ → Line
 line_at moment l = if nat_lt line_limit (length l.1) then record { number = l.0; bytes = []; long = true; moment = moment } else record { number = l.0; bytes = l.1; long = false; moment = moment }
+
+-- ---- bytes of which more may follow
+
+-- whole lines: no bytes, or bytes that end with a newline
+abbrev pub AreWholeLines : List ℕ → Type 0
+AreWholeLines bytes = (bytes ≡ []) ⊎ ((before : List ℕ) × (bytes ≡ before ++ 10 ∷ []))
+
+-- no newline stands in these bytes
+abbrev pub IsUnbroken : List ℕ → Type 0
+IsUnbroken [] = Unit {0}
+IsUnbroken (b ∷ bytes) = (b ≢ 10) × IsUnbroken bytes
+
+abbrev pub before_some : ℕ → List ℕ → List ℕ
+before_some b [] = []
+before_some b (c ∷ bytes) = b ∷ c ∷ bytes
+
+-- the lines that have ended: the bytes up to the last newline, with it
+abbrev pub ended_of : List ℕ → List ℕ
+ended_of [] = []
+ended_of (b ∷ bytes) = if b == 10 then b ∷ ended_of bytes else before_some b (ended_of bytes)

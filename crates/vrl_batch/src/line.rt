@@ -5,7 +5,7 @@ use std::alloc::Global;
 use vrl_value::{Bytes, Memory, Moment};
 
 /// The most bytes of a line, its newline not counted.
-const LINE_LIMIT: usize = 1_048_576;
+pub(crate) const LINE_LIMIT: usize = 1_048_576;
 
 /// A line of the input that isn't blank.
 #[derive(Drop)]

@@ -30,14 +30,14 @@ pub struct LineOut {
 
 /// What is done with each line.
 pub trait Work {
-    ghost use Rattle.std.specs.Prelude.{IfOk};
+    ghost use Rattle.std.specs.Prelude.{◌≡◌, IfOk};
     ghost use Rattle.vrl_batch.specs.declared.line.Line.{Line};
     ghost use Rattle.vrl_batch.specs.declared.work.LineOut.{LineOut};
 
-    /// Whether this is what it makes of a line.
-    ghost makes: { Self → Line → LineOut → Type 0 };
+    /// What it makes of a line.
+    ghost makes: { Self → Line → LineOut };
 
     /// What it makes of a line. `Memory`: want of memory.
     fn one(&self, alloc: Global, line: &Line) -> Result<LineOut, Memory>
-        ensures { IfOk result (makes self.now line.now) };
+        ensures { IfOk result (λ out. out ≡ makes self.now line.now) };
 }

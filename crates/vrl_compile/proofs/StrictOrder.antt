@@ -36,7 +36,7 @@ pub one_alone : (d : Diagnostic) → Strict (d ∷ [])
 unfolding IsStrictlySortedBy
 one_alone d = (tt, tt)
 
-no_diagnostic : Strict []
+pub no_diagnostic : Strict []
 unfolding IsStrictlySortedBy
 no_diagnostic = tt
 

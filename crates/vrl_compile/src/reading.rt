@@ -23,8 +23,8 @@ pub fn diagnostics_are_determined()
     judgements_are_determined();
 }
 
-/// No code stands twice at one place in a judgement of the script that is read in a text, and no diagnostic of a text stands twice, where
-/// the text's tokens stand in it one behind another, as those that `tokens` gives do. This takes no time: it is a law about the definitions.
+/// No code stands twice at one place in a judgement of the script that is read in a text, and no diagnostic of a text stands twice. This
+/// takes no time: it is a law about the definitions.
 pub fn diagnostics_stand_once()
     ensures codes { CodesStandOnce }
     ensures diagnostics { DiagnosticsStandOnce }

@@ -13,7 +13,7 @@ ghost use Rattle.vrl_check.specs.Judgement.{JudgesScript};
 ghost use Rattle.vrl_check.specs.OpenRules.{language_rules};
 ghost use Rattle.vrl_compile.specs.Answer.{CanBeJudged, IsAnswer, IsRefused, IsScript, IsSoundAnswer, not_built};
 ghost use Rattle.vrl_compile.specs.Literals.{IsRefusedFor};
-ghost use Rattle.vrl_compile.specs.Once.{HasTokensInOrder, TellsOnce};
+ghost use Rattle.vrl_compile.specs.Once.{TellsOnce};
 
 use crate::literals::{LiteralFault, build_literals};
 use crate::reading::diagnostics_stand_once;
@@ -26,7 +26,7 @@ use vrl_parse::parse;
 use vrl_pattern::Patterns;
 use vrl_resolve::Program;
 use vrl_syntax::Script;
-use vrl_token::{SyntaxFault, Tokens, tokens, tokens_are_determined};
+use vrl_token::{SyntaxFault, Tokens, tokens};
 use vrl_value::{Memory, Names};
 use vrl_word::are_built;
 
@@ -111,11 +111,9 @@ fn read(alloc: Global, text: &str) -> Result<Parsed, SyntaxFault>
     ensures limits { IfOk result (λ parsed. KeepsLimits (exprs_of parsed.script.items)) }
     ensures regexes { IfOk result (λ parsed. IsNumbered (script_of parsed.script)) }
     ensures sources { IfOk result (λ parsed. parsed.script.patterns ≡ sources_of parsed.tokens.tokens) }
-    ensures order { IfOk result (λ _. HasTokensInOrder text.now) }
     ensures fault { IfErr result (OnFault (λ fault. (declared : KindTree)
         → IsRefused declared text.now (fault ∷ []))) }
 {
-    tokens_are_determined();
     let tokens = tokens(alloc, text)?;
     let script = parse(alloc, &tokens)?;
     Ok(Parsed { tokens, script })

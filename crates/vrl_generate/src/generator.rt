@@ -1,11 +1,14 @@
-ghost use Rattle.std.specs.Prelude.{◌≡◌, ◌≤◌, IfOk, OnErr, length};
+ghost use Rattle.std.specs.Prelude.{◌≡◌, ◌++◌, ◌≤◌, [], IfOk, OnErr, length};
 ghost use Rattle.vrl_generate.specs.Made.{made_lines, IsNext};
 
 use crate::made::{line_from, state_after};
 use std::alloc::Global;
 use std::marker::Model;
-use vrl_batch::Line;
+use vrl_batch::{Batch, Line};
 use vrl_value::Memory;
+
+/// The most lines of a batch.
+const BATCH_LINES: usize = 256;
 
 /// The lines that are made from a seed, one after the other. A contract sees the list of those to come.
 #[derive(Drop)]
@@ -64,5 +67,24 @@ impl Generator {
         self.state = state;
         self.left -= 1;
         Ok(Some(line))
+    }
+
+    /// The next lines, 256 of them or those that are left; none at the end.
+    ///
+    /// # Errors
+    ///
+    /// [`Memory`] where memory is wanted.
+    pub fn next_batch(&mut self, alloc: Global) -> Result<Batch, Memory>
+        ensures next { IfOk result (λ batch. self.old ≡ batch ++ self.new) }
+        ensures empty { IfOk result (λ batch. batch ≡ [] → self.old ≡ []) }
+    {
+        let mut lines = Vec::with_capacity(alloc, BATCH_LINES)?;
+        while lines.len() < BATCH_LINES {
+            match self.next_line(alloc)? {
+                Some(line) => lines.push(line)?,
+                None => return Ok(Batch::new(lines)),
+            }
+        }
+        Ok(Batch::new(lines))
     }
 }

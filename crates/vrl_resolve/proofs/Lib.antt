@@ -13,7 +13,6 @@ pub mod LinkedMeans
 pub mod LinkedPrograms
 pub mod LinkedSizes
 pub mod Links
-pub mod Literals
 pub mod Partway
 pub mod RunArguments
 pub mod RunsWellFormed

@@ -24,7 +24,7 @@ use Rattle.vrl_resolve.specs.declared.node.Callee.{Callee}
 use Rattle.vrl_resolve.specs.declared.node.Callee.TheVariants as callee
 use Rattle.vrl_resolve.proofs.Links.{any_made}
 
-call_seen : (c : CodeCall) → call_of c ≡ call (out-Call c).name (out-Call c).name_span (out-Call c).bang (args_of (out-Call c).args) (closure_in (option_map closure_of (out-Call c).closure))
+pub call_seen : (c : CodeCall) → call_of c ≡ call (out-Call c).name (out-Call c).name_span (out-Call c).bang (args_of (out-Call c).args) (closure_in (option_map closure_of (out-Call c).closure))
 call_seen c = search (rules, the_lemmas)
 
 -- ---- the argument of `del` and `exists`

@@ -78,14 +78,14 @@ form_stands {a} {b} {asked} {n} e span f is links =
 pub any_stands : {a b : Linker} {asked : Bool} {n : Linked} (e : Expr) (span : Span) (f : Form) → e ≡ expr span f → LinksAny a b f n → Links a b (in_expr e) (λ names tags. IsLinked names tags asked e n)
 any_stands {a} {b} {asked} {n} e span f is links = form_stands e span f is (record { grows = links.grows; behind = links.behind; so = λ names begins. links.so names begins asked })
 
--- what the function of a form gives is the node of the expression; the form may have a part that was taken out of a box
-pub form_given : {A : Type 0} {part : A} (a b : Linker) (asked : Bool) (r : Result Node Memory) (e : CodeExpr) (f : A → Form) (box : A) → IfOk r (λ node. LinksForm a b asked (f part) (linked_of node)) → part ≡ box → expr_of e ≡ expr e.span (f box)
+-- what the function of a form gives is the node of the expression
+pub form_given : (a b : Linker) (asked : Bool) (r : Result Node Memory) (e : CodeExpr) (f : Form) → IfOk r (λ node. LinksForm a b asked f (linked_of node)) → expr_of e ≡ expr e.span f
     → IfOk r (λ node. Links a b (in_expr (expr_of e)) (λ names tags. IsLinked names tags asked (expr_of e) (linked_of node)))
-form_given a b asked r e f box given here is = IfOk-weaker r _ _ (λ node links. form_stands (expr_of e) e.span _ (is ∙ ap (λ x. expr e.span (f x)) (sym here)) links) given
+form_given a b asked r e f given is = IfOk-weaker r _ _ (λ node links. form_stands (expr_of e) e.span f is links) given
 
-pub any_given : {A : Type 0} {part : A} (a b : Linker) (asked : Bool) (r : Result Node Memory) (e : CodeExpr) (f : A → Form) (box : A) → IfOk r (λ node. LinksAny a b (f part) (linked_of node)) → part ≡ box → expr_of e ≡ expr e.span (f box)
+pub any_given : (a b : Linker) (asked : Bool) (r : Result Node Memory) (e : CodeExpr) (f : Form) → IfOk r (λ node. LinksAny a b f (linked_of node)) → expr_of e ≡ expr e.span f
     → IfOk r (λ node. Links a b (in_expr (expr_of e)) (λ names tags. IsLinked names tags asked (expr_of e) (linked_of node)))
-any_given a b asked r e f box given here is = IfOk-weaker r _ _ (λ node links. any_stands (expr_of e) e.span _ (is ∙ ap (λ x. expr e.span (f x)) (sym here)) links) given
+any_given a b asked r e f given is = IfOk-weaker r _ _ (λ node links. any_stands (expr_of e) e.span f is links) given
 
 -- ---- a form is made
 

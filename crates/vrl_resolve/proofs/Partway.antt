@@ -1,6 +1,6 @@
 -- What the loops of a linker have linked so far, told by what may still come.
-use Rattle.std.proofs.Common.{◌≡◌, ℕ, ◌+◌, ◌<◌, ◌≤◌, Bool, true, ◌&&◌, List, [], ◌∷◌, ◌++◌, length, map, drop, get_or, refl, sym, ap, ◌∙◌, subst, drop-drop, arith, rules}
-use Rattle.std.proofs.lemmas.List.{at_drop_all, at_drop_more, map-append}
+use Rattle.std.proofs.Common.{◌≡◌, ◌==◌, ℕ, suc, ◌+◌, ◌≤◌, Bool, false, true, ◌&&◌, List, [], ◌∷◌, ◌++◌, length, map, drop, refl, sym, ap, ◌∙◌, subst, drop-drop, arith, rules}
+use Rattle.std.proofs.lemmas.List.{map-append}
 use Rattle.vrl_value.specs.declared.value.Tag.{Tag}
 use Rattle.vrl_syntax.specs.ErrorAssignments.{in_args, in_arms, in_expr, in_exprs, in_pairs}
 use Rattle.vrl_syntax.specs.Tree.{Expr, Exprs, exprs, no_exprs, Pairs, pair, no_pairs, Arms, arm, no_arms, Args, arg, no_args}
@@ -19,7 +19,7 @@ use Rattle.vrl_resolve.specs.Linking.{names_in, AreArgsLinked, AreArmsLinked, Ar
 use Rattle.vrl_resolve.specs.declared.link.Linker.{Linker}
 use Rattle.vrl_resolve.specs.declared.node.Arm.{Arm}
 use Rattle.vrl_resolve.specs.declared.node.Node.{Node}
-use Rattle.vrl_resolve.proofs.Begins.{begins_behind}
+use Rattle.vrl_resolve.proofs.Begins.{begins_behind, begins_itself}
 use Rattle.vrl_resolve.proofs.Links.{links_then}
 
 -- ---- of any parts
@@ -29,6 +29,10 @@ pub record IsPartway (before now : Linker) (whole left : ℕ) (Leads : Names →
   pub grows : IsBeginning (names_in before) (names_in now)
   pub behind : drop left now.tags.left.now ≡ drop whole before.tags.left.now
   pub leads : (names : Names) → IsBeginning (names_in now) names → Leads names before.tags.left.now now.tags.left.now
+
+-- nothing is linked yet
+partway_start : (before : Linker) (whole : ℕ) {Leads : Names → List Tag → List Tag → Type 0} → ((names : Names) (tags : List Tag) → Leads names tags tags) → IsPartway before before whole whole Leads
+partway_start before whole leads = record { grows = begins_itself (names_in before); behind = refl; leads = λ names begins. leads names before.tags.left.now }
 
 partway_next : {before now after : Linker} {whole m rest : ℕ} {Leads Follows : Names → List Tag → List Tag → Type 0} {P : Names → List Tag → Type 0}
     → IsPartway before now whole (m + rest) Leads → Links now after m P → ((names : Names) (old new : List Tag) → Leads names old new → P names new → Follows names old (drop m new)) → IsPartway before after whole rest Follows
@@ -90,6 +94,11 @@ pub record IsArrayPartway (before now : Linker) (whole left : Exprs) (ns : List 
   pub linked : IsPartway before now (in_exprs whole) (in_exprs left) (ArrayLeads whole left ns)
   pub fewer : exprs_size left ≤ exprs_size whole
 
+pub array_start : (before : Linker) (whole left : Exprs) (ns : List Linked) → left ≡ whole → ns ≡ [] → IsArrayPartway before before whole left ns
+array_start before whole left ns same none =
+    let first : IsArrayPartway before before whole whole [] = record { linked = partway_start before _ (λ names tags more all. all); fewer = omega arith } in
+    subst (λ l. IsArrayPartway before before whole l ns) (sym same) (subst (IsArrayPartway before before whole whole) (sym none) first)
+
 pub array_next : (before now after : Linker) (whole left rest : Exprs) (e : Expr) (ns ms : List Linked) (n : Linked) → left ≡ exprs e rest → ms ≡ ns ++ (n ∷ [])
     → IsArrayPartway before now whole left ns → Links now after (in_expr e) (λ names tags. IsLinked names tags true e n) → IsArrayPartway before after whole rest ms
 array_next before now after whole left rest e ns ms n is more so_far one =
@@ -114,6 +123,11 @@ ItemsLead asked whole left ns names old new = (more : Parts) → AreItemsLinked 
 pub record IsItemsPartway (before now : Linker) (asked : Bool) (whole left : Exprs) (ns : List Linked) : Type 0 where
   pub linked : IsPartway before now (in_exprs whole) (in_exprs left) (ItemsLead asked whole left ns)
   pub fewer : exprs_size left ≤ exprs_size whole
+
+pub items_start : (before : Linker) (asked : Bool) (whole left : Exprs) (ns : List Linked) → left ≡ whole → ns ≡ [] → IsItemsPartway before before asked whole left ns
+items_start before asked whole left ns same none =
+    let first : IsItemsPartway before before asked whole whole [] = record { linked = partway_start before _ (λ names tags more all. all); fewer = omega arith } in
+    subst (λ l. IsItemsPartway before before asked whole l ns) (sym same) (subst (IsItemsPartway before before asked whole whole) (sym none) first)
 
 pub items_next : (before now after : Linker) (asked here_asked : Bool) (whole left rest : Exprs) (e : Expr) (ns ms : List Linked) (n : Linked) → left ≡ exprs e rest → ms ≡ ns ++ (n ∷ []) → here_asked ≡ (asked && is_last rest)
     → IsItemsPartway before now asked whole left ns → Links now after (in_expr e) (λ names tags. IsLinked names tags here_asked e n) → IsItemsPartway before after asked whole rest ms
@@ -141,6 +155,11 @@ pub record IsArgsPartway (before now : Linker) (whole left : Args) (ns : List Li
   pub linked : IsPartway before now (in_args whole) (in_args left) (ArgsLead whole left ns)
   pub fewer : args_size left ≤ args_size whole
 
+pub args_start : (before : Linker) (whole left : Args) (ns : List Linked) → left ≡ whole → ns ≡ [] → IsArgsPartway before before whole left ns
+args_start before whole left ns same none =
+    let first : IsArgsPartway before before whole whole [] = record { linked = partway_start before _ (λ names tags more all. all); fewer = omega arith } in
+    subst (λ l. IsArgsPartway before before whole l ns) (sym same) (subst (IsArgsPartway before before whole whole) (sym none) first)
+
 pub args_next : (before now after : Linker) (whole left rest : Args) (name : _) (span : Span) (e : Expr) (ns ms : List Linked) (n : Linked) → left ≡ arg name span e rest → ms ≡ ns ++ (n ∷ [])
     → IsArgsPartway before now whole left ns → Links now after (in_expr e) (λ names tags. IsLinked names tags true e n) → IsArgsPartway before after whole rest ms
 args_next before now after whole left rest name span e ns ms n is more so_far one =
@@ -165,6 +184,11 @@ ObjectLeads whole left ps names old new = (more : linked.Pairs) → ArePairsLink
 pub record IsObjectPartway (before now : Linker) (whole left : Pairs) (ps : List (List ℕ × Linked)) : Type 0 where
   pub linked : IsPartway before now (in_pairs whole) (in_pairs left) (ObjectLeads whole left ps)
   pub fewer : pairs_size left ≤ pairs_size whole
+
+pub object_start : (before : Linker) (whole left : Pairs) (ns : List (List ℕ × Linked)) → left ≡ whole → ns ≡ [] → IsObjectPartway before before whole left ns
+object_start before whole left ns same none =
+    let first : IsObjectPartway before before whole whole [] = record { linked = partway_start before _ (λ names tags more all. all); fewer = omega arith } in
+    subst (λ l. IsObjectPartway before before whole l ns) (sym same) (subst (IsObjectPartway before before whole whole) (sym none) first)
 
 pub object_next : (before now after : Linker) (whole left rest : Pairs) (key : List ℕ) (e : Expr) (ps qs : List (List ℕ × Linked)) (n : Linked) → left ≡ pair key e rest → qs ≡ ps ++ ((key, n) ∷ [])
     → IsObjectPartway before now whole left ps → Links now after (in_expr e) (λ names tags. IsLinked names tags true e n) → IsObjectPartway before after whole rest qs
@@ -191,6 +215,11 @@ pub record IsArmsPartway (before now : Linker) (asked : Bool) (whole left : Arms
   pub linked : IsPartway before now (in_arms whole) (in_arms left) (ArmsLead asked whole left as_)
   pub fewer : arms_size left ≤ arms_size whole
 
+pub arms_start : (before : Linker) (asked : Bool) (whole left : Arms) (ns : List ArmTree) → left ≡ whole → ns ≡ [] → IsArmsPartway before before asked whole left ns
+arms_start before asked whole left ns same none =
+    let first : IsArmsPartway before before asked whole whole [] = record { linked = partway_start before _ (λ names tags more all. all); fewer = omega arith } in
+    subst (λ l. IsArmsPartway before before asked whole l ns) (sym same) (subst (IsArmsPartway before before asked whole whole) (sym none) first)
+
 pub arms_next : (before now middle after : Linker) (asked : Bool) (whole left rest : Arms) (predicate : Expr) (es : Exprs) (as_ bs : List ArmTree) (last : ArmTree) (n : Linked) (ns : Parts) → left ≡ arm predicate es rest → bs ≡ as_ ++ (last ∷ []) → last ≡ (n, ns)
     → IsArmsPartway before now asked whole left as_ → Links now middle (in_expr predicate) (λ names tags. IsLinked names tags true predicate n)
     → Links middle after (in_exprs es) (λ names tags. AreItemsLinked names tags asked es ns) → IsArmsPartway before after asked whole rest bs
@@ -213,38 +242,22 @@ arms_end before now asked whole left as_ is so_far =
     let here = subst (λ l. IsArmsPartway before now asked whole l as_) is so_far in
     partway_end here.linked (λ names old new leads. subst (AreArmsLinked names old asked whole) (arms_ended as_) (leads linked.no_arms no_arm))
 
-pub arms_fewer : (before now : Linker) (asked : Bool) (whole left rest : Arms) (predicate : Expr) (es : Exprs) (as_ : List ArmTree) → left ≡ arm predicate es rest → IsArmsPartway before now asked whole left as_ → expr_size predicate + exprs_size es ≤ arms_size whole
-arms_fewer before now asked whole left rest predicate es as_ is so_far = let fewer : arms_size (arm predicate es rest) ≤ arms_size whole = subst (λ l. arms_size l ≤ arms_size whole) is so_far.fewer in omega (arith, fewer)
+-- ---- what is left to be taken out
 
--- ---- the next of what is left, and its end
+pub one_gone : {A : Type 0} (all rest : List A) (x : A) (before after : ℕ) → all ≡ x ∷ rest → after + 1 ≡ before → before ≡ length all → after ≡ length rest
+one_gone all rest x before after is gone counted = let whole : length all ≡ length (x ∷ rest) = ap length is in omega (arith, gone, counted, whole)
 
-pub next_item : (all : List CodeExpr) (i : ℕ) (e : CodeExpr) → i < length all → e ≡ get_or all i e → exprs_view (drop i all) ≡ exprs (expr_of e) (exprs_view (drop (i + 1) all))
-next_item all i e below is = at_drop_more exprs_view all i e below ∙ ap (λ x. exprs (expr_of x) (exprs_view (drop (i + 1) all))) (sym is)
+pub none_left : {A : Type 0} (left : List A) (count : ℕ) → count ≡ length left → count ≡ 0 → left ≡ []
+none_left [] count counted none = refl
+none_left (x ∷ left) count counted none = absurd (omega (arith, counted, none))
 
-pub no_item_left : (all : List CodeExpr) (i : ℕ) → length all ≤ i → exprs_view (drop i all) ≡ no_exprs
-no_item_left all i end = at_drop_all exprs_view all i end
+not_none : (n count : ℕ) (b : Bool) → (count == 0) ≡ b → count ≡ suc n → b ≡ false
+not_none n count false is counted = refl
+not_none n count true is counted = let none : count ≡ 0 = search rules in absurd (omega (arith, none, counted))
 
-pub no_more_items : (left : List CodeExpr) → length left ≡ 0 → exprs_view left ≡ no_exprs
-no_more_items [] none = refl
-no_more_items (e ∷ left) none = absurd (omega arith)
-
-pub next_pair : (all : List (List ℕ × CodeExpr)) (i : ℕ) (e : List ℕ × CodeExpr) → i < length all → e ≡ get_or all i e → pairs_view (drop i all) ≡ pair e.0 (expr_of e.1) (pairs_view (drop (i + 1) all))
-next_pair all i e below is = at_drop_more pairs_view all i e below ∙ ap (λ x. pair x.0 (expr_of x.1) (pairs_view (drop (i + 1) all))) (sym is)
-
-pub no_pair_left : (all : List (List ℕ × CodeExpr)) (i : ℕ) → length all ≤ i → pairs_view (drop i all) ≡ no_pairs
-no_pair_left all i end = at_drop_all pairs_view all i end
-
-pub next_arm : (all : List CodeArm) (i : ℕ) (a : CodeArm) → i < length all → a ≡ get_or all i a → arms_view (drop i all) ≡ arm (arm_of a).0 (arm_of a).1 (arms_view (drop (i + 1) all))
-next_arm all i a below is = at_drop_more arms_view all i a below ∙ ap (λ x. arm (arm_of x).0 (arm_of x).1 (arms_view (drop (i + 1) all))) (sym is)
-
-pub no_arm_left : (all : List CodeArm) (i : ℕ) → length all ≤ i → arms_view (drop i all) ≡ no_arms
-no_arm_left all i end = at_drop_all arms_view all i end
-
-pub next_arg : (all : List CodeArg) (i : ℕ) (a : CodeArg) → i < length all → a ≡ get_or all i a → args_view (drop i all) ≡ arg (arg_of a).0 (arg_of a).1 (arg_of a).2 (args_view (drop (i + 1) all))
-next_arg all i a below is = at_drop_more args_view all i a below ∙ ap (λ x. arg (arg_of x).0 (arg_of x).1 (arg_of x).2 (args_view (drop (i + 1) all))) (sym is)
-
-pub no_arg_left : (all : List CodeArg) (i : ℕ) → length all ≤ i → args_view (drop i all) ≡ no_args
-no_arg_left all i end = at_drop_all args_view all i end
+pub is_last_before : (left : List CodeExpr) (count : ℕ) → count ≡ length left → (count == 0) ≡ is_last (exprs_view left)
+is_last_before [] count counted = ap (λ n. n == 0) counted
+is_last_before (e ∷ left) count counted = not_none (length left) count (count == 0) refl counted
 
 -- ---- what is seen in memory
 
@@ -261,10 +274,9 @@ nodes_pushed old new n is = ap (map linked_of) is ∙ map-append linked_of old (
 pub arms_pushed : (old new : List Arm) (a : Arm) → new ≡ old ++ (a ∷ []) → map linked_arm new ≡ map linked_arm old ++ (linked_arm a ∷ [])
 arms_pushed old new a is = ap (map linked_arm) is ∙ map-append linked_arm old (a ∷ [])
 
-abbrev pair_in : List ℕ × Node → List ℕ × Linked
+abbrev pub pair_in : List ℕ × Node → List ℕ × Linked
 pair_in p = (p.0, linked_of p.1)
 
--- one more pair, with a copy of its key
-pub pairs_pushed : (old new : List (List ℕ × Node)) (name key : List ℕ) (n : Node) → new ≡ old ++ ((name, n) ∷ []) → name ≡ key → map pair_in new ≡ map pair_in old ++ ((key, linked_of n) ∷ [])
-pairs_pushed old new name key n is same =
-    ap (map pair_in) is ∙ map-append pair_in old ((name, n) ∷ []) ∙ ap (λ k. map pair_in old ++ ((k, linked_of n) ∷ [])) same
+-- one more pair
+pub pairs_pushed : (old new : List (List ℕ × Node)) (name : List ℕ) (n : Node) → new ≡ old ++ ((name, n) ∷ []) → map pair_in new ≡ map pair_in old ++ ((name, linked_of n) ∷ [])
+pairs_pushed old new name n is = ap (map pair_in) is ∙ map-append pair_in old ((name, n) ∷ [])

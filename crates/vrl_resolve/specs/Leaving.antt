@@ -40,3 +40,13 @@ IsHandledStop other = ⊤
 abbrev pub IsHandled : Result Value Stop → Type 0
 IsHandled (Ok v) = ⊤
 IsHandled (Err s) = IsHandledStop s
+
+-- with a value, behind which variables and their names are gathered, or for want of memory; what else it ended with takes no memory to leave
+abbrev pub MayWantAt : Stop → Type 0
+MayWantAt (stop.Returned v) = ⊤
+MayWantAt stop.Memory = ⊤
+MayWantAt other = ⊥
+
+abbrev pub MayWant : Result Value Stop → Type 0
+MayWant (Ok v) = ⊤
+MayWant (Err s) = MayWantAt s

@@ -211,22 +211,6 @@ pub record IsFunctionCallee (function : Option Fun) (gs : Args) (d : Callee) : T
   pub known : (count : ℕ) → IsKnownCallee count d
   pub same : (names : Names) → callee_in names d ≡ called.named_function function gs
 
--- the literal that an argument is written as
-abbrev pub written_literal : Option Expr → Option Tree
-written_literal None = None
-written_literal (Some e) = literal_of e
-
--- an argument is there and is no literal
-abbrev pub is_no_literal : Option Expr → Bool
-is_no_literal None = false
-is_no_literal (Some e) = is_none (literal_of e)
-
--- each parameter that wants a literal, and has an argument, has some literal
-abbrev pub have_literals : List ParameterRow → List (Option Expr) → Bool
-have_literals [] es = true
-have_literals (p ∷ ps) [] = true
-have_literals (p ∷ ps) (e ∷ es) = not (p.literal && is_no_literal e) && have_literals ps es
-
 -- a function with arguments at these places
 pub record IsWrittenCallee (function : Fun) (gs : Args) (places : List (Option ℕ)) (d : Callee) : Type 0 where
   pub known : (count : ℕ) → IsKnownCallee count d

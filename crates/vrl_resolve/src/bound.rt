@@ -1,18 +1,20 @@
-ghost use Rattle.std.specs.Prelude.{◌≡◌, map, option_map, IfOk, Some};
-ghost use Rattle.vrl_builtin.specs.View.{givens_of, parameter_row};
+ghost use Rattle.std.specs.Prelude.{◌≡◌, false, map, option_map, IfOk, IsErr, Some};
+ghost use Rattle.std.specs.Option.{option_map_or};
+ghost use Rattle.vrl_builtin.specs.View.{parameter_row};
+ghost use Rattle.vrl_syntax.specs.Calls.{literal_of};
 ghost use Rattle.vrl_syntax.specs.View.{args_of, args_view, expr_of};
+ghost use Rattle.vrl_table.specs.Binding.{binding, keywords_of, IsBound};
 ghost use Rattle.vrl_table.specs.Table.{function_named, row_of};
-ghost use Rattle.vrl_value.specs.View.{tree_of};
-ghost use Rattle.vrl_resolve.specs.Calls.{are_written_right as are_right, values_of, written_at};
-ghost use Rattle.vrl_resolve.specs.Linking.{have_literals as all_have_literals, is_no_literal as is_other, is_value_keyword, path_argument, written_literal, IsFunctionCallee, IsWrittenCallee};
+ghost use Rattle.vrl_resolve.specs.Calls.{are_written_right as are_right, is_written_right as is_right, values_of, written_at};
+ghost use Rattle.vrl_resolve.specs.Linking.{is_value_keyword, path_argument, IsFunctionCallee, IsWrittenCallee};
 
 use crate::node::Callee;
 use std::alloc::Global;
-use vrl_builtin::{Given, Givens, Parameter};
+use vrl_builtin::{Builtin, Parameter};
 use vrl_path::Path;
 use vrl_syntax::{Arg, Args, Expr, Root};
-use vrl_table::{BindFault, Fun, bind, functions_are_found, lookup, parameters, wrong_literal};
-use vrl_value::{Chars, Memory, Value};
+use vrl_table::{BindFault, Bound, Fun, bind, functions_are_found, lookup, parameters};
+use vrl_value::{Chars, Memory};
 
 /// The one argument of `del` or `exists`, where it is written as a path or a name.
 pub(crate) fn path_of(args: &Args) -> Option<(&Root, &Path)>
@@ -45,17 +47,24 @@ pub(crate) fn function_callee(alloc: Global, name: &str, args: &Args) -> Result<
 {
     functions_are_found();
     match lookup(name) {
-        Some(function) => bound_function(alloc, function, args),
+        Some(function) => bound_function(function, args, bind(alloc, function, args)),
         None => Ok(Callee::Nothing),
     }
 }
 
-// A function with its arguments bound; nothing where it doesn't take them as they are written. `Memory`: want of memory.
-fn bound_function(alloc: Global, function: Fun, args: &Args) -> Result<Callee, Memory>
-    ensures { IfOk result (IsFunctionCallee (Some function) (args_of args.now)) }
+// A function whose arguments were bound so; nothing where they aren't, or where it doesn't take them as they are written. `Memory`: to bind
+// them wanted memory.
+fn bound_function(
+    function: Fun,
+    args: &Args,
+    bound: Result<Bound, BindFault>,
+) -> Result<Callee, Memory>
+    requires bound { IsBound (binding (row_of function).parameters (keywords_of (args_of args.now))) bound }
+    ensures callee { IfOk result (IsFunctionCallee (Some function) (args_of args.now)) }
+    ensures want { IsErr result → bound ≡ Err BindFault.Memory }
 {
-    match bind(alloc, function, args) {
-        Ok(bound) => written_function(alloc, function, args, bound.into_vec()),
+    match bound {
+        Ok(bound) => Ok(written_function(function, args, bound.into_vec())),
         Err(BindFault::Memory) => Err(Memory),
         Err(BindFault::Number) | Err(BindFault::Unknown(_)) | Err(BindFault::Missing(_)) => {
             Ok(Callee::Nothing)
@@ -63,92 +72,64 @@ fn bound_function(alloc: Global, function: Fun, args: &Args) -> Result<Callee, M
     }
 }
 
-// The function with arguments at these places, where they are written as it wants them. `Memory`: want of memory.
-fn written_function(
-    alloc: Global,
-    function: Fun,
-    args: &Args,
-    places: Vec<Option<usize>>,
-) -> Result<Callee, Memory>
-    ensures { IfOk result (λ callee. IsWrittenCallee function (args_of args.now) places.items callee) }
+// The function with arguments at these places, where they are written as it wants them; else nothing.
+fn written_function(function: Fun, args: &Args, places: Vec<Option<usize>>) -> Callee
+    ensures { IsWrittenCallee function (args_of args.now) places.items result }
 {
-    if are_written_right(alloc, function, args.as_slice(), &places)? {
-        Ok(Callee::Function(function, places))
+    if are_written_right(function, args.as_slice(), &places) {
+        Callee::Function(function, places)
     } else {
-        Ok(Callee::Nothing)
+        Callee::Nothing
     }
 }
 
-// Whether each parameter that wants a literal, and has an argument, has one that the function allows. `Memory`: want of memory.
-fn are_written_right(
-    alloc: Global,
-    function: Fun,
-    args: &[Arg],
-    places: &[Option<usize>],
-) -> Result<bool, Memory>
-    ensures { IfOk result (λ right. right ≡ are_right (row_of function).accepts 0 (row_of function).parameters (map (written_at (values_of (args_view args.now))) places.now)) }
+// Whether each parameter that wants a literal, and has an argument, has one that the function allows.
+fn are_written_right(function: Fun, args: &[Arg], places: &[Option<usize>]) -> bool
+    ensures { result ≡ are_right (row_of function).accepts 0 (row_of function).parameters (map (written_at (values_of (args_view args.now))) places.now) }
 {
-    if !have_literals(parameters(function), args, places) {
-        return Ok(false);
-    }
-    let givens = literals(alloc, args, places)?;
-    Ok(wrong_literal(function, &givens).is_none())
-}
-
-// Whether each parameter that wants a literal, and has an argument, has some literal.
-fn have_literals(parameters: &[Parameter], args: &[Arg], places: &[Option<usize>]) -> bool
-    ensures { result ≡ all_have_literals (map parameter_row parameters.now) (map (written_at (values_of (args_view args.now))) places.now) }
-{
-    let mut left = parameters;
+    let mut place = 0;
+    let mut left = parameters(function);
     let mut bound = places;
     while let Some((parameter, others)) = left.split_first() {
-        let Some((place, rest)) = bound.split_first() else {
+        let Some((argument, rest)) = bound.split_first() else {
             return true;
         };
-        if parameter.literal && is_no_literal(args, *place) {
+        if !is_written_right(function, parameter, place, args, *argument) {
             return false;
         }
+        place += 1;
         left = others;
         bound = rest;
     }
     true
 }
 
-// Whether an argument is written at a place that is no literal.
-fn is_no_literal(args: &[Arg], place: Option<usize>) -> bool
-    ensures { result ≡ is_other (written_at (values_of (args_view args.now)) place) }
+// Whether the argument of the parameter at a place is a literal that the function allows, where the parameter wants one and has an argument.
+fn is_written_right(
+    function: Fun,
+    parameter: &Parameter,
+    place: usize,
+    args: &[Arg],
+    argument: Option<usize>,
+) -> bool
+    ensures { result ≡ is_right (parameter_row parameter.now) ((row_of function).accepts place) (written_at (values_of (args_view args.now)) argument) }
 {
-    match argument_at(args, place) {
-        Some(value) => value.as_literal().is_none(),
-        None => false,
+    if !parameter.literal {
+        return true;
+    }
+    match argument_at(args, argument) {
+        Some(value) => is_allowed_literal(function, place, value),
+        None => true,
     }
 }
 
-// What is known of the arguments by their text alone: the literals. `Memory`: want of memory.
-fn literals(alloc: Global, args: &[Arg], places: &[Option<usize>]) -> Result<Givens, Memory>
-    ensures { IfOk result (λ givens. map (λ given. given.literal) (givens_of givens) ≡ map (λ place. written_literal (written_at (values_of (args_view args.now)) place)) places.now) }
+// Whether an expression is a literal that a function allows for the parameter at a place.
+fn is_allowed_literal(function: Fun, place: usize, value: &Expr) -> bool
+    ensures { result ≡ option_map_or ((row_of function).accepts place) (literal_of (expr_of value.now)) false }
 {
-    let mut givens = Vec::with_capacity(alloc, places.len())?;
-    for place in places {
-        let literal = literal_at(alloc, args, *place)?;
-        givens.push(Given {
-            kind: None,
-            literal,
-        })?;
-    }
-    Ok(Givens::new(givens))
-}
-
-// A copy of the literal that an argument is written as. `Memory`: want of memory.
-fn literal_at(alloc: Global, args: &[Arg], place: Option<usize>) -> Result<Option<Value>, Memory>
-    ensures { IfOk result (λ literal. option_map tree_of literal ≡ written_literal (written_at (values_of (args_view args.now)) place)) }
-{
-    let Some(value) = argument_at(args, place) else {
-        return Ok(None);
-    };
     match value.as_literal() {
-        Some(literal) => Ok(Some(literal.copy(alloc)?)),
-        None => Ok(None),
+        Some(literal) => function.accepts(place, literal),
+        None => false,
     }
 }
 

@@ -1,13 +1,14 @@
-ghost use Rattle.std.specs.Prelude.{◌≡◌, ◌≤◌, drop, length, map, option_map, IfOk, IsTrue};
+ghost use Rattle.std.specs.Prelude.{◌≡◌, ◌≢◌, ◌≤◌, drop, length, map, option_map, Err, IfOk, IsTrue};
 ghost use Rattle.vrl_value.specs.Look.{item_at};
 ghost use Rattle.vrl_value.specs.View.{tree_of};
 ghost use Rattle.vrl_builtin.specs.Conditions.{arguments_below, AreArguments};
-ghost use Rattle.vrl_builtin.specs.View.{argument_tree, arguments_of, parameter_row, setting_of};
+ghost use Rattle.vrl_builtin.specs.Rows.{Answer};
+ghost use Rattle.vrl_builtin.specs.View.{argument_tree, arguments_of, parameter_row, setting_of, Applies};
 ghost use Rattle.vrl_table.specs.Table.{row_of};
 ghost use Rattle.vrl_store.specs.StoreView.{count_of, present_of, store_in, AreNames, IsFront, Names};
 ghost use Rattle.vrl_store.specs.Results.{Ends, Gives};
 ghost use Rattle.vrl_store.specs.WellFormed.{AreWellFormed, IsWellFormedStore};
-ghost use Rattle.vrl_resolve.specs.Calls.{acts, argument_in, argument_text, called, first_unfit, unfit_tag, within_limit};
+ghost use Rattle.vrl_resolve.specs.Calls.{acts, answer_outcome, argument_in, argument_text, called, first_unfit, unfit_tag, within_limit};
 ghost use Rattle.vrl_resolve.specs.Fits.{AllFit, AreGiven, IsCallee};
 ghost use Rattle.vrl_resolve.specs.Linked.{linked_of, parts_view};
 ghost use Rattle.vrl_resolve.specs.LinkedMeaning.{callee_in, no_body};
@@ -164,7 +165,15 @@ fn answer(context: &Context<'_>, function: Fun, arguments: &Arguments<'_>) -> Re
         let text = argument_text(context.alloc, function.name(), parameter, tag)?;
         return Err(Stop::Error(text));
     }
-    match apply(context.alloc, function, arguments, &context.setting) {
+    answered(apply(context.alloc, function, arguments, &context.setting))
+}
+
+// What a call ends with that came to this, whose value may be nested too deeply. `Memory`: it came to that.
+fn answered(applied: Applied) -> Result<Value, Stop>
+    ensures gives { (answer : Answer) → Applies answer applied → Gives (answer_outcome answer) result }
+    ensures want { result ≡ Err Stop.Memory → applied ≡ Applied.Memory }
+{
+    match applied {
         Applied::Value(value) => within_limit(value),
         Applied::Failed(text) => Err(Stop::Error(text)),
         Applied::Memory => Err(Stop::Memory),
@@ -213,7 +222,8 @@ fn argument_text(alloc: Global, name: &str, parameter: &str, tag: Tag) -> Result
 
 // A call's value, unless it is nested too deeply.
 fn within_limit(value: Value) -> Result<Value, Stop>
-    ensures { Gives (within_limit (tree_of value)) result }
+    ensures gives { Gives (within_limit (tree_of value)) result }
+    ensures no_want { result ≢ Err Stop.Memory }
 {
     if value.depth() > DEPTH_LIMIT {
         return Err(Stop::Deep);

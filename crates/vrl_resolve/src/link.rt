@@ -1,7 +1,7 @@
-ghost use Rattle.std.specs.Prelude.{◌≡◌, [], true, map, option_map, IfOk, OnOk, ⊤};
+ghost use Rattle.std.specs.Prelude.{◌≡◌, ◌&&◌, ◌==◌, [], true, map, option_map, IfOk, OnOk, ⊤};
 ghost use Rattle.vrl_syntax.specs.ErrorAssignments.{first_tag, in_args, in_arms, in_closure, in_else, in_expr, in_exprs, other_tags};
 ghost use Rattle.vrl_syntax.specs.Tree.{abort_with, array, assign, binary, block, both, conditional, literal, merge, negation, object, query, read, return_of};
-ghost use Rattle.vrl_syntax.specs.View.{args_of, arms_of, call_of, closure_in, closure_of, else_of, expr_of, exprs_of, message_of, pairs_of};
+ghost use Rattle.vrl_syntax.specs.View.{arg_of, args_of, arms_of, call_of, closure_in, closure_of, else_of, expr_of, exprs_of, message_of, pairs_of};
 ghost use Rattle.vrl_syntax.specs.declared.root.Root.TheVariants.{Name};
 ghost use Rattle.vrl_value.specs.View.{tree_of};
 ghost use Rattle.vrl_store.specs.StoreView.{AreDistinct};
@@ -15,10 +15,10 @@ use crate::node::{Arm, Call, Callee, Form, Node};
 use indexmap::IndexSet;
 use std::alloc::Global;
 use vrl_path::Path;
-use vrl_store::{Base, EmptyTags, Place, is_asked_of_item};
+use vrl_store::{Base, EmptyTags, Place};
 use vrl_syntax::{
-    Args, Arms, Call as SyntaxCall, CallForm, Closure, Expr, Exprs, Form as SyntaxForm, Op, Pairs,
-    Root, Target,
+    Arg, Args, Arm as SyntaxArm, Arms, Call as SyntaxCall, CallForm, Closure, Expr, Exprs,
+    Form as SyntaxForm, Op, Pairs, Root, Target,
 };
 use vrl_value::{Chars, Memory, Names, Tag, Value};
 
@@ -42,6 +42,25 @@ impl<'a> Linker<'a> {
             tags: EmptyTags { left: tags },
         }
     }
+}
+
+// Whether the value of an item is asked for, before so many others: where that of all the items is, and it is the last one.
+fn is_asked_before(is_asked: bool, others: usize) -> bool
+    ensures { result ≡ (is_asked && (others == 0)) }
+{
+    is_asked && others == 0
+}
+
+// The value of an argument, which is let go but for that.
+fn value_of(arg: Arg) -> Expr
+    ensures { expr_of result ≡ (arg_of arg).2 }
+{
+    let Arg {
+        name: _,
+        span: _,
+        value,
+    } = arg;
+    value
 }
 
 impl Linker<'_> {
@@ -84,23 +103,20 @@ impl Linker<'_> {
     }
 
     // A path from a root. `Memory`: want of memory.
-    fn place(&mut self, root: &Root, path: &Path) -> Result<Place, Memory>
-        ensures { IfOk result (λ place. Numbers self.old self.new (λ names. IsPlaceOf names root.now path.now place)) }
+    fn place(&mut self, root: &Root, path: Path) -> Result<Place, Memory>
+        ensures { IfOk result (λ place. Numbers self.old self.new (λ names. IsPlaceOf names root.now path place)) }
     {
         let base = self.base(root)?;
-        Ok(Place {
-            base,
-            path: path.copy(self.alloc)?,
-        })
+        Ok(Place { base, path })
     }
 
     // Where a target writes. `Memory`: want of memory.
-    fn target(&mut self, target: &Target) -> Result<Option<Place>, Memory>
-        ensures { IfOk result (λ place. Numbers self.old self.new (λ names. IsTargetOf names target.now place)) }
+    fn target(&mut self, target: Target) -> Result<Option<Place>, Memory>
+        ensures { IfOk result (λ place. Numbers self.old self.new (λ names. IsTargetOf names target place)) }
     {
-        match target {
-            Target::Nowhere => Ok(None),
-            Target::Place(_span, root, path) => Ok(Some(self.place(root, path)?)),
+        match target.into_place() {
+            Some((root, path)) => Ok(Some(self.place(&root, path)?)),
+            None => Ok(None),
         }
     }
 
@@ -115,41 +131,40 @@ impl Linker<'_> {
 
     /// The nodes of items, of which only the value of the last is asked for, and that only where the whole's is. `Memory`: want of memory.
     #[cycle(link)]
-    pub(crate) fn items(&mut self, items: &Exprs, is_asked: bool) -> Result<Vec<Node>, Memory>
-        ensures { IfOk result (λ nodes. Links self.old self.new (in_exprs (exprs_of items.now))
-            (λ names tags. AreItemsLinked names tags is_asked (exprs_of items.now) (parts_view nodes.items))) }
+    pub(crate) fn items(&mut self, items: Exprs, is_asked: bool) -> Result<Vec<Node>, Memory>
+        ensures { IfOk result (λ nodes. Links self.old self.new (in_exprs (exprs_of items))
+            (λ names tags. AreItemsLinked names tags is_asked (exprs_of items) (parts_view nodes.items))) }
     {
-        let mut nodes = Vec::with_capacity(self.alloc, items.as_slice().len())?;
-        let mut left = items.as_slice();
-        while let Some((item, others)) = left.split_first() {
-            let node = self.node(item, is_asked_of_item(is_asked, others))?;
+        let mut left = items.into_vec().into_iter();
+        let mut nodes = Vec::with_capacity(self.alloc, left.len())?;
+        while let Some(item) = left.next() {
+            let node = self.node(item, is_asked_before(is_asked, left.len()))?;
             nodes.push(node)?;
-            left = others;
         }
         Ok(nodes)
     }
 
     // The node of an expression, whose value is asked for or isn't. `Memory`: want of memory.
     #[cycle(link)]
-    fn node(&mut self, expr: &Expr, is_asked: bool) -> Result<Node, Memory>
-        ensures { IfOk result (λ node. Links self.old self.new (in_expr (expr_of expr.now))
-            (λ names tags. IsLinked names tags is_asked (expr_of expr.now) (linked_of node))) }
+    fn node(&mut self, expr: Expr, is_asked: bool) -> Result<Node, Memory>
+        ensures { IfOk result (λ node. Links self.old self.new (in_expr (expr_of expr))
+            (λ names tags. IsLinked names tags is_asked (expr_of expr) (linked_of node))) }
     {
-        match &expr.form {
-            SyntaxForm::Literal(value) => self.literal(value),
+        match expr.into_form() {
+            SyntaxForm::Literal(value) => Ok(self.literal(value)),
             SyntaxForm::Array(parts) => self.array(parts),
             SyntaxForm::Map(pairs) => self.object(pairs),
             SyntaxForm::Read(root, path) => self.read(root, path),
             SyntaxForm::Query(part, path) => self.query(part, path),
-            SyntaxForm::Group(part) => self.node(part, is_asked),
+            SyntaxForm::Group(part) => self.node(Box::into_inner(part), is_asked),
             SyntaxForm::Block(items) => self.block(items, is_asked),
             SyntaxForm::If(arms, otherwise) => self.conditional(arms, otherwise, is_asked),
             SyntaxForm::Not(part) => self.negation(part),
-            SyntaxForm::Binary(op, left, right) => self.binary(*op, left, right),
+            SyntaxForm::Binary(op, left, right) => self.binary(op, left, right),
             SyntaxForm::Assign(target, part) => self.assign(target, part, is_asked),
             SyntaxForm::Merge(target, part) => self.merge(target, part, is_asked),
             SyntaxForm::Both(ok, err, part) => self.both(ok, err, part, is_asked),
-            SyntaxForm::Call(call) => self.call(call),
+            SyntaxForm::Call(call) => self.call(Box::into_inner(call)),
             SyntaxForm::Return(part) => self.give_back(part),
             SyntaxForm::Abort(message) => self.abort(message),
         }
@@ -157,34 +172,36 @@ impl Linker<'_> {
 
     // The node of a part whose value is asked for, in a box. `Memory`: want of memory.
     #[cycle(link)]
-    fn boxed(&mut self, part: &Expr) -> Result<Box<Node>, Memory>
-        ensures { IfOk result (λ node. Links self.old self.new (in_expr (expr_of part.now))
-            (λ names tags. IsLinked names tags true (expr_of part.now) (linked_of node.value))) }
+    fn boxed(&mut self, part: Box<Expr>) -> Result<Box<Node>, Memory>
+        ensures { IfOk result (λ node. Links self.old self.new (in_expr (expr_of part.value))
+            (λ names tags. IsLinked names tags true (expr_of part.value) (linked_of node.value))) }
     {
-        let node = self.node(part, true)?;
+        let node = self.node(Box::into_inner(part), true)?;
         Ok(Box::new(self.alloc, node)?)
     }
 
-    fn literal(&mut self, value: &Value) -> Result<Node, Memory>
-        ensures { IfOk result (λ node. LinksAny self.old self.new (literal (tree_of value.now)) (linked_of node)) }
+    // A literal, which is in order: its depth says so.
+    fn literal(&self, value: Value) -> Node
+        ensures { LinksAny self.now self.now (literal (tree_of value)) (linked_of result) }
     {
-        let value = value.copy(self.alloc)?;
-        Ok(Node::of(Form::Literal(value)))
+        let _depth = value.depth();
+        Node::of(Form::Literal(value))
     }
 
-    fn read(&mut self, root: &Root, path: &Path) -> Result<Node, Memory>
-        ensures { IfOk result (λ node. LinksAny self.old self.new (read root.now path.now) (linked_of node)) }
+    fn read(&mut self, root: Root, path: Path) -> Result<Node, Memory>
+        ensures { IfOk result (λ node. LinksAny self.old self.new (read root path) (linked_of node)) }
     {
-        let place = self.place(root, path)?;
+        let place = self.place(&root, path)?;
         Ok(Node::of(Form::Read(place)))
     }
 
     #[cycle(link)]
-    fn array(&mut self, parts: &Exprs) -> Result<Node, Memory>
-        ensures { IfOk result (λ node. LinksAny self.old self.new (array (exprs_of parts.now)) (linked_of node)) }
+    fn array(&mut self, parts: Exprs) -> Result<Node, Memory>
+        ensures { IfOk result (λ node. LinksAny self.old self.new (array (exprs_of parts)) (linked_of node)) }
     {
-        let mut nodes = Vec::with_capacity(self.alloc, parts.as_slice().len())?;
-        for part in parts.as_slice() {
+        let parts = parts.into_vec();
+        let mut nodes = Vec::with_capacity(self.alloc, parts.len())?;
+        for part in parts {
             let node = self.node(part, true)?;
             nodes.push(node)?;
         }
@@ -192,12 +209,12 @@ impl Linker<'_> {
     }
 
     #[cycle(link)]
-    fn object(&mut self, pairs: &Pairs) -> Result<Node, Memory>
-        ensures { IfOk result (λ node. LinksAny self.old self.new (object (pairs_of pairs.now)) (linked_of node)) }
+    fn object(&mut self, pairs: Pairs) -> Result<Node, Memory>
+        ensures { IfOk result (λ node. LinksAny self.old self.new (object (pairs_of pairs)) (linked_of node)) }
     {
-        let mut nodes = Vec::with_capacity(self.alloc, pairs.as_slice().len())?;
-        for (name, part) in pairs.as_slice() {
-            let name = name.copy(self.alloc)?;
+        let pairs = pairs.into_vec();
+        let mut nodes = Vec::with_capacity(self.alloc, pairs.len())?;
+        for (name, part) in pairs {
             let node = self.node(part, true)?;
             nodes.push((name, node))?;
         }
@@ -205,17 +222,16 @@ impl Linker<'_> {
     }
 
     #[cycle(link)]
-    fn query(&mut self, part: &Expr, path: &Path) -> Result<Node, Memory>
-        ensures { IfOk result (λ node. LinksAny self.old self.new (query (expr_of part.now) path.now) (linked_of node)) }
+    fn query(&mut self, part: Box<Expr>, path: Path) -> Result<Node, Memory>
+        ensures { IfOk result (λ node. LinksAny self.old self.new (query (expr_of part.value) path) (linked_of node)) }
     {
         let part = self.boxed(part)?;
-        let path = path.copy(self.alloc)?;
         Ok(Node::of(Form::Query(part, path)))
     }
 
     #[cycle(link)]
-    fn block(&mut self, items: &Exprs, is_asked: bool) -> Result<Node, Memory>
-        ensures { IfOk result (λ node. LinksForm self.old self.new is_asked (block (exprs_of items.now)) (linked_of node)) }
+    fn block(&mut self, items: Exprs, is_asked: bool) -> Result<Node, Memory>
+        ensures { IfOk result (λ node. LinksForm self.old self.new is_asked (block (exprs_of items)) (linked_of node)) }
     {
         let nodes = self.items(items, is_asked)?;
         Ok(Node::of(Form::Block(nodes)))
@@ -224,12 +240,12 @@ impl Linker<'_> {
     #[cycle(link)]
     fn conditional(
         &mut self,
-        arms: &Arms,
-        otherwise: &Option<Exprs>,
+        arms: Arms,
+        otherwise: Option<Exprs>,
         is_asked: bool,
     ) -> Result<Node, Memory>
         ensures { IfOk result (λ node. LinksForm self.old self.new is_asked
-            (conditional (arms_of arms.now) (else_of (option_map exprs_of otherwise.now))) (linked_of node)) }
+            (conditional (arms_of arms) (else_of (option_map exprs_of otherwise))) (linked_of node)) }
     {
         let arms = self.arms(arms, is_asked)?;
         let otherwise = self.otherwise(otherwise, is_asked)?;
@@ -237,14 +253,16 @@ impl Linker<'_> {
     }
 
     #[cycle(link)]
-    fn arms(&mut self, arms: &Arms, is_asked: bool) -> Result<Vec<Arm>, Memory>
-        ensures { IfOk result (λ linked. Links self.old self.new (in_arms (arms_of arms.now))
-            (λ names tags. AreArmsLinked names tags is_asked (arms_of arms.now) (arms_view linked.items))) }
+    fn arms(&mut self, arms: Arms, is_asked: bool) -> Result<Vec<Arm>, Memory>
+        ensures { IfOk result (λ linked. Links self.old self.new (in_arms (arms_of arms))
+            (λ names tags. AreArmsLinked names tags is_asked (arms_of arms) (arms_view linked.items))) }
     {
-        let mut linked = Vec::with_capacity(self.alloc, arms.as_slice().len())?;
-        for arm in arms.as_slice() {
-            let predicate = self.node(&arm.predicate, true)?;
-            let body = self.items(&arm.body, is_asked)?;
+        let arms = arms.into_vec();
+        let mut linked = Vec::with_capacity(self.alloc, arms.len())?;
+        for arm in arms {
+            let SyntaxArm { predicate, body } = arm;
+            let predicate = self.node(predicate, true)?;
+            let body = self.items(body, is_asked)?;
             linked.push(Arm { predicate, body })?;
         }
         Ok(linked)
@@ -254,11 +272,11 @@ impl Linker<'_> {
     #[cycle(link)]
     fn otherwise(
         &mut self,
-        otherwise: &Option<Exprs>,
+        otherwise: Option<Exprs>,
         is_asked: bool,
     ) -> Result<Option<Vec<Node>>, Memory>
-        ensures { IfOk result (λ linked. Links self.old self.new (in_else (else_of (option_map exprs_of otherwise.now)))
-            (λ names tags. IsElseLinked names tags is_asked (else_of (option_map exprs_of otherwise.now))
+        ensures { IfOk result (λ linked. Links self.old self.new (in_else (else_of (option_map exprs_of otherwise)))
+            (λ names tags. IsElseLinked names tags is_asked (else_of (option_map exprs_of otherwise))
             (linked_else (option_map (λ nodes. map linked_of nodes.items) linked)))) }
     {
         match otherwise {
@@ -271,16 +289,16 @@ impl Linker<'_> {
     }
 
     #[cycle(link)]
-    fn negation(&mut self, part: &Expr) -> Result<Node, Memory>
-        ensures { IfOk result (λ node. LinksAny self.old self.new (negation (expr_of part.now)) (linked_of node)) }
+    fn negation(&mut self, part: Box<Expr>) -> Result<Node, Memory>
+        ensures { IfOk result (λ node. LinksAny self.old self.new (negation (expr_of part.value)) (linked_of node)) }
     {
         let part = self.boxed(part)?;
         Ok(Node::of(Form::Not(part)))
     }
 
     #[cycle(link)]
-    fn binary(&mut self, op: Op, left: &Expr, right: &Expr) -> Result<Node, Memory>
-        ensures { IfOk result (λ node. LinksAny self.old self.new (binary op (expr_of left.now) (expr_of right.now)) (linked_of node)) }
+    fn binary(&mut self, op: Op, left: Box<Expr>, right: Box<Expr>) -> Result<Node, Memory>
+        ensures { IfOk result (λ node. LinksAny self.old self.new (binary op (expr_of left.value) (expr_of right.value)) (linked_of node)) }
     {
         let left = self.boxed(left)?;
         let right = self.boxed(right)?;
@@ -288,8 +306,8 @@ impl Linker<'_> {
     }
 
     #[cycle(link)]
-    fn assign(&mut self, target: &Target, part: &Expr, is_asked: bool) -> Result<Node, Memory>
-        ensures { IfOk result (λ node. LinksForm self.old self.new is_asked (assign target.now (expr_of part.now)) (linked_of node)) }
+    fn assign(&mut self, target: Target, part: Box<Expr>, is_asked: bool) -> Result<Node, Memory>
+        ensures { IfOk result (λ node. LinksForm self.old self.new is_asked (assign target (expr_of part.value)) (linked_of node)) }
     {
         let part = self.boxed(part)?;
         let target = self.target(target)?;
@@ -301,8 +319,8 @@ impl Linker<'_> {
     }
 
     #[cycle(link)]
-    fn merge(&mut self, target: &Target, part: &Expr, is_asked: bool) -> Result<Node, Memory>
-        ensures { IfOk result (λ node. LinksForm self.old self.new is_asked (merge target.now (expr_of part.now)) (linked_of node)) }
+    fn merge(&mut self, target: Target, part: Box<Expr>, is_asked: bool) -> Result<Node, Memory>
+        ensures { IfOk result (λ node. LinksForm self.old self.new is_asked (merge target (expr_of part.value)) (linked_of node)) }
     {
         let part = self.boxed(part)?;
         let target = self.target(target)?;
@@ -316,12 +334,12 @@ impl Linker<'_> {
     #[cycle(link)]
     fn both(
         &mut self,
-        ok: &Target,
-        err: &Target,
-        part: &Expr,
+        ok: Target,
+        err: Target,
+        part: Box<Expr>,
         is_asked: bool,
     ) -> Result<Node, Memory>
-        ensures { IfOk result (λ node. LinksForm self.old self.new is_asked (both ok.now err.now (expr_of part.now)) (linked_of node)) }
+        ensures { IfOk result (λ node. LinksForm self.old self.new is_asked (both ok err (expr_of part.value)) (linked_of node)) }
     {
         let tag = self.tag();
         let part = self.boxed(part)?;
@@ -337,16 +355,16 @@ impl Linker<'_> {
     }
 
     #[cycle(link)]
-    fn give_back(&mut self, part: &Expr) -> Result<Node, Memory>
-        ensures { IfOk result (λ node. LinksAny self.old self.new (return_of (expr_of part.now)) (linked_of node)) }
+    fn give_back(&mut self, part: Box<Expr>) -> Result<Node, Memory>
+        ensures { IfOk result (λ node. LinksAny self.old self.new (return_of (expr_of part.value)) (linked_of node)) }
     {
         let part = self.boxed(part)?;
         Ok(Node::of(Form::Return(part)))
     }
 
     #[cycle(link)]
-    fn abort(&mut self, message: &Option<Box<Expr>>) -> Result<Node, Memory>
-        ensures { IfOk result (λ node. LinksAny self.old self.new (abort_with (message_of (option_map (λ part. expr_of part.value) message.now))) (linked_of node)) }
+    fn abort(&mut self, message: Option<Box<Expr>>) -> Result<Node, Memory>
+        ensures { IfOk result (λ node. LinksAny self.old self.new (abort_with (message_of (option_map (λ part. expr_of part.value) message))) (linked_of node)) }
     {
         match message {
             Some(part) => {
@@ -358,17 +376,20 @@ impl Linker<'_> {
     }
 
     #[cycle(link)]
-    fn call(&mut self, call: &SyntaxCall) -> Result<Node, Memory>
-        ensures { IfOk result (λ node. LinksAny self.old self.new (call_of call.now) (linked_of node)) }
+    fn call(&mut self, call: SyntaxCall) -> Result<Node, Memory>
+        ensures { IfOk result (λ node. LinksAny self.old self.new (call_of call) (linked_of node)) }
     {
-        let callee = self.callee(call)?;
-        let args = self.args(&call.args)?;
-        self.pass_over(&call.closure);
-        let linked = Call {
-            callee,
-            bang: call.bang,
+        let callee = self.callee(&call)?;
+        let SyntaxCall {
+            name: _,
+            name_span: _,
+            bang,
             args,
-        };
+            closure,
+        } = call;
+        let args = self.args(args)?;
+        self.pass_over(&closure);
+        let linked = Call { callee, bang, args };
         Ok(Node::of(Form::Call(Box::new(self.alloc, linked)?)))
     }
 
@@ -380,13 +401,14 @@ impl Linker<'_> {
     }
 
     #[cycle(link)]
-    fn args(&mut self, args: &Args) -> Result<Vec<Node>, Memory>
-        ensures { IfOk result (λ nodes. Links self.old self.new (in_args (args_of args.now))
-            (λ names tags. AreArgsLinked names tags (args_of args.now) (parts_view nodes.items))) }
+    fn args(&mut self, args: Args) -> Result<Vec<Node>, Memory>
+        ensures { IfOk result (λ nodes. Links self.old self.new (in_args (args_of args))
+            (λ names tags. AreArgsLinked names tags (args_of args) (parts_view nodes.items))) }
     {
-        let mut nodes = Vec::with_capacity(self.alloc, args.as_slice().len())?;
-        for arg in args.as_slice() {
-            let node = self.node(&arg.value, true)?;
+        let args = args.into_vec();
+        let mut nodes = Vec::with_capacity(self.alloc, args.len())?;
+        for arg in args {
+            let node = self.node(value_of(arg), true)?;
             nodes.push(node)?;
         }
         Ok(nodes)
@@ -412,7 +434,10 @@ impl Linker<'_> {
         ensures { IfOk result (λ callee. Numbers self.old self.new (λ names. IsPathCallee names called.deletion (args_of args.now) callee)) }
     {
         match path_of(args) {
-            Some((root, path)) => Ok(Callee::Deletion(self.place(root, path)?)),
+            Some((root, path)) => {
+                let path = path.copy(self.alloc)?;
+                Ok(Callee::Deletion(self.place(root, path)?))
+            }
             None => Ok(Callee::Nothing),
         }
     }
@@ -422,7 +447,10 @@ impl Linker<'_> {
         ensures { IfOk result (λ callee. Numbers self.old self.new (λ names. IsPathCallee names called.existence (args_of args.now) callee)) }
     {
         match path_of(args) {
-            Some((root, path)) => Ok(Callee::Existence(self.place(root, path)?)),
+            Some((root, path)) => {
+                let path = path.copy(self.alloc)?;
+                Ok(Callee::Existence(self.place(root, path)?))
+            }
             None => Ok(Callee::Nothing),
         }
     }

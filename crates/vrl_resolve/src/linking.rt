@@ -27,7 +27,8 @@ impl Program {
         ensures { IfOk result (λ program. program_of program ≡ script_program (exprs_of script.items) empties.now patterns) }
     {
         let mut linker = Linker::new(alloc, empties.as_slice());
-        let items = linker.items(&script.items, true)?;
+        let Script { items, patterns: _ } = script;
+        let items = linker.items(items, true)?;
         let names = linker.into_names()?;
         Ok(Program {
             items,

@@ -1,11 +1,11 @@
-ghost use Rattle.std.specs.Prelude.{length, IfOk, IsTrue};
+ghost use Rattle.std.specs.Prelude.{length, IfOk, IsErr, IsTrue};
 ghost use Rattle.vrl_value.specs.Regexes.{regexes_below};
 ghost use Rattle.vrl_value.specs.View.{members_of, tree_of};
 ghost use Rattle.vrl_store.specs.Outcomes as meaning;
 ghost use Rattle.vrl_store.specs.StoreView.{event_of, store_in, AreNames};
 ghost use Rattle.vrl_store.specs.Told.{AreToldByMap};
 ghost use Rattle.vrl_store.specs.Results.{Ends, Stops};
-ghost use Rattle.vrl_resolve.specs.Leaving.{IsEarly, IsHandled, IsHandledStop, IsValued};
+ghost use Rattle.vrl_resolve.specs.Leaving.{IsEarly, IsHandled, IsHandledStop, IsValued, MayWant, MayWantAt};
 ghost use Rattle.vrl_resolve.specs.Meaning.{IsUnhandled};
 ghost use Rattle.vrl_resolve.specs.Program.{ended_over, program_of, IsRan, IsWellFormedRan};
 
@@ -42,12 +42,13 @@ pub fn run(alloc: Global, program: &Program, event: Value, moment: Moment) -> Re
     left(alloc, &program.names, store, end)
 }
 
-// What a run leaves that ended so. `Memory`: want of memory.
+// What a run leaves that ended so. `Memory`: want of memory, at a value or where it ended with that.
 fn left(alloc: Global, names: &Names, store: Store, end: Result<Value, Stop>) -> Result<Ran, Memory>
     requires names { AreNames names.now store }
     requires handled { IsHandled end }
     ensures ran { IfOk result (λ ran. (meant : meaning.Ended) → Ends meant (store_in names.now store) end → IsRan meant ran) }
     ensures told { IfOk result (λ ran. AreToldByMap (members_of ran.variables)) }
+    ensures want { IsErr result → MayWant end }
 {
     match end {
         Ok(value) => valued(alloc, names, store, value),
@@ -68,12 +69,13 @@ fn valued(alloc: Global, names: &Names, store: Store, value: Value) -> Result<Ra
     })
 }
 
-// What a run leaves that ended without a value, or by a `return`. `Memory`: want of memory.
+// What a run leaves that ended without a value, or by a `return`. `Memory`: want of memory, at a `return` or where it ended with that.
 fn stopped(alloc: Global, names: &Names, store: Store, stop: Stop) -> Result<Ran, Memory>
     requires names { AreNames names.now store }
     requires handled { IsHandledStop stop }
     ensures ran { IfOk result (λ ran. (meant : meaning.Ended) → Stops meant (store_in names.now store) stop → IsRan meant ran) }
     ensures told { IfOk result (λ ran. AreToldByMap (members_of ran.variables)) }
+    ensures want { IsErr result → MayWantAt stop }
 {
     match stop {
         Stop::Returned(value) => valued(alloc, names, store, value),

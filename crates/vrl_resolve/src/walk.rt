@@ -1,4 +1,4 @@
-ghost use Rattle.std.specs.Prelude.{◌≡◌, ◌++◌, ◌∷◌, [], length, map, if◌then◌else◌, IfOk, IfSome};
+ghost use Rattle.std.specs.Prelude.{◌≡◌, ◌≢◌, ◌++◌, ◌∷◌, [], length, map, if◌then◌else◌, Err, IfOk, IfSome};
 ghost use Rattle.vrl_value.specs.Tree.{null};
 ghost use Rattle.vrl_value.specs.View.{tree_of};
 ghost use Rattle.vrl_syntax.specs.Stores.{Store as StoreTree};
@@ -566,9 +566,10 @@ fn part_of(alloc: Global, value: &Value, path: &Path) -> Result<Value, Memory>
     }
 }
 
-// The value that a part ended with and null; at an error the empty value and the text.
+// The value that a part ended with and null; at an error the empty value and the text. `Memory`: the part ended with that.
 fn both_values(alloc: Global, tag: Tag, given: Result<Value, Stop>) -> Result<(Value, Value), Stop>
-    ensures { (ended : Ended) (store : StoreTree) → Ends ended store given → GivesBoth tag ended store result }
+    ensures gives { (ended : Ended) (store : StoreTree) → Ends ended store given → GivesBoth tag ended store result }
+    ensures want { result ≡ Err Stop.Memory → given ≡ Err Stop.Memory }
 {
     match given {
         Ok(value) => Ok((value, Value::Null)),
@@ -579,7 +580,8 @@ fn both_values(alloc: Global, tag: Tag, given: Result<Value, Stop>) -> Result<(V
 
 // An `abort` with a message. `Error`: the message is no text.
 fn aborted(alloc: Global, message: Value) -> Stop
-    ensures { IsStop (aborted_with (tree_of message)) result }
+    ensures stop { IsStop (aborted_with (tree_of message)) result }
+    ensures no_want { result ≢ Stop.Memory }
 {
     match message {
         Value::Text(text) => Stop::Aborted(Some(text)),

@@ -1,17 +1,15 @@
 -- How the parts of an answer make the whole of it.
 use Rattle.std.proofs.Common.{◌≡◌, ◌≤◌, ◌+◌, ℕ, ℤ, pos, Bool, true, false, List, [], Option, Some, None, IfSome, unwrap_or, ◌⊎◌, inl, inr, refl, arith, sym, ap, ◌∙◌, subst}
-use Rattle.vrl_batch.specs.Gathered.{input_limit}
+use Rattle.vrl_batch.specs.Limits.{input_limit}
 use Rattle.vrl_io.specs.Faults.{HasRisen}
-use Rattle.vrl_batch.specs.declared.work.LineOut.{LineOut}
-use Rattle.vrl_run.specs.Answer.{answer_to, line_results, mapped, status_if, warnings_of}
+use Rattle.vrl_batch.specs.Sinks.{AppendsFront}
+use Rattle.vrl_run.specs.Answer.{answer_so_far, answer_to, status_if}
 use Rattle.vrl_run.specs.Devices.{Devices, IsAnswered, IsAsked, IsWithinLimit, devices}
 use Rattle.vrl_run.specs.Request.{IsSame, MayCome, ReadsLines, Request, ScriptRun, bad_kind, bad_script, bad_words, map_lines, map_made, tell_kinds}
-use Rattle.vrl_run.specs.Results.{IsRun, IsRunOver, answer_of}
 use Rattle.vrl_run.specs.Status.{IsAnswer, IsFinished, IsInterrupted, meaning_of}
 use Rattle.vrl_run.specs.Writing.{IsWritten}
-use Rattle.vrl_run.specs.declared.lines.Results.{Results}
 use Rattle.vrl_run.specs.declared.status.Status.{Status}
-use Rattle.vrl_run.specs.declared.status.Status.TheVariants.{Done, Refused, Usage, ReadFault, WriteFault, Memory, KindRefused, Marked}
+use Rattle.vrl_run.specs.declared.status.Status.TheVariants.{Done, Refused, Usage, ReadFault, WriteFault, Memory, KindRefused, Marked, TooMuch}
 
 -- ---- what isn't told
 
@@ -34,7 +32,7 @@ pub within_limit : (status : Status) (before after : Devices) → (meaning_of st
 within_limit status before after is fewer = subst (λ too_long. IsWithinLimit too_long before after) (sym is) fewer
 
 -- an answer doesn't
-answer_not_long : (s : Status) → IsAnswer s → (meaning_of s).too_long ≡ false
+pub answer_not_long : (s : Status) → IsAnswer s → (meaning_of s).too_long ≡ false
 answer_not_long Done answers = refl
 answer_not_long Refused answers = refl
 answer_not_long Usage answers = refl
@@ -54,6 +52,11 @@ not_read s answer answers (inl is) read = subst IsAnswer (sym is ∙ read) answe
 not_read s answer answers (inr (inl is)) read = let wrong : WriteFault ≡ ReadFault = sym is ∙ read in cc
 not_read s answer answers (inr (inr is)) read = let wrong : Memory ≡ ReadFault = sym is ∙ read in cc
 
+not_too_much : (s answer : Status) → IsAnswer answer → (s ≡ answer) ⊎ (s ≡ WriteFault) ⊎ (s ≡ Memory) → s ≡ TooMuch → ⊥
+not_too_much s answer answers (inl is) long = subst IsAnswer (sym is ∙ long) answers
+not_too_much s answer answers (inr (inl is)) long = let wrong : WriteFault ≡ TooMuch = sym is ∙ long in cc
+not_too_much s answer answers (inr (inr is)) long = let wrong : Memory ≡ TooMuch = sym is ∙ long in cc
+
 -- where an answer comes it is its own
 own_status : (s answer : Status) → (s ≡ answer) ⊎ (s ≡ WriteFault) ⊎ (s ≡ Memory) → IsAnswer s → s ≡ answer
 own_status s answer (inl is) answers = is
@@ -66,21 +69,13 @@ own_or_interrupted s answer own (inl is) = inl (own is)
 own_or_interrupted s answer own (inr (inl is)) = inr (subst IsInterrupted (sym is) tt)
 own_or_interrupted s answer own (inr (inr is)) = inr (subst IsInterrupted (sym is) tt)
 
-finished_if : (marked : Bool) → IsFinished (status_if marked)
+pub finished_if : (marked : Bool) → IsFinished (status_if marked)
 finished_if true = tt
 finished_if false = tt
 
-answers_if : (marked : Bool) → IsAnswer (status_if marked)
+pub answers_if : (marked : Bool) → IsAnswer (status_if marked)
 answers_if true = tt
 answers_if false = tt
-
-pub own_of_two : (s answer : Status) → (s ≡ answer) ⊎ (s ≡ WriteFault) → IsAnswer s → s ≡ answer
-own_of_two s answer (inl is) answers = is
-own_of_two s answer (inr is) answers = absurd (subst IsAnswer is answers)
-
-pub not_long_if : (marked : Bool) (s answer : Status) → answer ≡ status_if marked → (s ≡ answer) ⊎ (s ≡ WriteFault) → (meaning_of s).too_long ≡ false
-not_long_if marked s answer own (inl is) = ap (λ status. (meaning_of status).too_long) (is ∙ own) ∙ answer_not_long (status_if marked) (answers_if marked)
-not_long_if marked s answer own (inr is) = ap (λ status. (meaning_of status).too_long) is
 
 -- ---- a request of which no input is read
 
@@ -102,6 +97,15 @@ told_comes (map_lines run) input moments s either unread = absurd (unread tt)
 told_comes (map_made run count seed) input moments s either unread = own_or_interrupted s _ (λ is. subst IsFinished (sym is) (finished_if _)) either
 told_comes (tell_kinds text warnings K known) input moments s either unread = own_or_interrupted s _ (λ is. subst IsFinished (sym is) tt) either
 
+-- of which no line is run
+unread_so_far : (request : Request) (input : List ℕ) (moments : ℕ → ℤ) → ¬ ReadsLines request → answer_to request input moments ≡ answer_so_far 0 request input moments
+unread_so_far bad_words input moments unread = refl
+unread_so_far (bad_kind fault) input moments unread = refl
+unread_so_far (bad_script text diagnostics) input moments unread = refl
+unread_so_far (map_lines run) input moments unread = absurd (unread tt)
+unread_so_far (map_made run count seed) input moments unread = refl
+unread_so_far (tell_kinds text warnings K known) input moments unread = refl
+
 -- what is done once its answer was written
 pub told_answered : (request : Request) (s : Status) {left : Option (List ℕ)} {taken : ℕ} {ended : Bool} {faults : ℕ} {ahead : Option (ℕ → ℤ)} {output output_after : Option (List ℕ)} {o o_after : ℕ} {report report_after : Option (List ℕ)} {e e_after : ℕ} {Unasked : Type 0}
     → ¬ ReadsLines request → ((input : List ℕ) (moments : ℕ → ℤ) → IsWritten (answer_to request input moments) s output output_after report report_after)
@@ -109,49 +113,35 @@ pub told_answered : (request : Request) (s : Status) {left : Option (List ℕ)} 
     → IsAnswered (IsSame request) ⊥ s (devices left taken ended faults ahead output o report e) (devices left taken ended faults ahead output_after o_after report_after e_after) Unasked
 told_answered request s {left} {taken} {ended} {faults} {ahead} {output} {output_after} {o} {o_after} {report} {report_after} {e} {e_after} unread writes cause told unasked =
     let written = writes (unwrap_or left []) (moments_of ahead) in
-    let asked : IsAsked (IsSame request) (devices left taken ended faults ahead output o report e) (answer_to request (unwrap_or left []) (moments_of ahead)) = record {
+    let asked : IsAsked (IsSame request) (devices left taken ended faults ahead output o report e) = record {
       request = request;
       asked = refl;
       input = unwrap_or left [];
       is_left = some_input left;
       moments = moments_of ahead;
       are_ahead = some_moments ahead;
-      in_range = λ reads. absurd (unread reads);
-      answered = refl;
     } in
     record {
       leaves = record {
         whole = λ answered. record {
-          answer = _;
           asked = asked;
           status_is = own_status s _ written.either answered;
           output = (written.whole answered).0;
           report = (written.whole answered).1;
           read = λ reads. absurd (unread reads);
         };
-        front = inr (record { answer = _; asked = asked; output = written.front.0; report = written.front.1 });
+        front = inr (record {
+          asked = asked;
+          ran = 0;
+          in_range = λ reads. absurd (unread reads);
+          output = subst (λ a. AppendsFront output output_after a.output) (unread_so_far request _ _ unread) written.front.0;
+          report = subst (λ a. AppendsFront report report_after a.report) (unread_so_far request _ _ unread) written.front.1;
+        });
         limit = within_limit s _ _ (written_not_long s _ (has_answer request _ _) written.either) (omega arith);
       };
       causes = record { read = λ is. absurd (not_read s _ (has_answer request (unwrap_or left []) (moments_of ahead)) written.either is); write = cause; read_told = inr refl; write_told = told };
+      read_cut = λ is. absurd (not_read s _ (has_answer request (unwrap_or left []) (moments_of ahead)) written.either is);
+      limit_cut = λ is. absurd (not_too_much s _ (has_answer request (unwrap_or left []) (moments_of ahead)) written.either is);
       came = inr (request, refl, told_comes request _ _ s written.either unread);
       first = inl unasked;
     }
-
--- ---- a run over the lines of the input
-
--- joined results are its answer
-pub answer_of-run : (warnings : List ℕ) (r : Results) (results : List LineOut) → IsRun warnings r results → answer_of r ≡ mapped warnings results
-answer_of-run warnings r results is = rw (is.marked, is.output, is.report) refl
-
-abbrev pub asked_run : (run : ScriptRun) (warnings : List ℕ) (before : Devices) (input : List ℕ) (r : Results) → warnings ≡ warnings_of run → IfSome before.left (λ bytes. bytes ≡ input) → IsRunOver run warnings input before.ahead r
-    → IsAsked (IsSame (map_lines run)) before (answer_of r)
-asked_run run warnings before input r told is_left is = record {
-  request = map_lines run;
-  asked = refl;
-  input = input;
-  is_left = is_left;
-  moments = is.moments;
-  are_ahead = is.are_ahead;
-  in_range = λ reads. is.in_range;
-  answered = answer_of-run warnings r _ is.is_run ∙ ap (λ w. mapped w (line_results run is.moments input)) told;
-}

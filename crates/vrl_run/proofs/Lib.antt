@@ -3,5 +3,5 @@ pub mod Ended
 pub mod EventLines
 pub mod EventLists
 pub mod MadeLemmas
-pub mod RunLemmas
+pub mod MappingLemmas
 pub mod Unread

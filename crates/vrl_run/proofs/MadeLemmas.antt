@@ -1,5 +1,6 @@
 -- A run over made lines, one after the other.
-use Rattle.std.proofs.Common.{◌≡◌, ◌<◌, ◌≤◌, ◌^◌, ℕ, List, [], ◌∷◌, ◌++◌, length, map, refl, sym, ap, ◌∙◌, subst, append_assoc, arith}
+use Rattle.std.proofs.Common.{◌≡◌, ◌<◌, ◌≤◌, ◌^◌, ◌==◌, ℕ, Bool, true, false, List, [], ◌∷◌, ◌++◌, length, map, refl, sym, ap, ◌∙◌, subst, append_assoc, arith}
+use Rattle.std.proofs.lemmas.Bool.Decides.{nat_tests}
 use Rattle.std.proofs.lemmas.List.{append-nil}
 use Rattle.vrl_batch.specs.declared.line.Line.{Line}
 use Rattle.vrl_batch.specs.declared.work.LineOut.{LineOut}
@@ -17,17 +18,17 @@ pub record IsMadeTo (run : ScriptRun) (all left : List Line) (summary : Summary)
 pub is_made_to-start : (run : ScriptRun) (all left : List Line) (summary : Summary) → left ≡ all → IsSummaryOf [] summary → IsMadeTo run all left summary
 is_made_to-start run all left summary is none = record { done = []; divides = sym is; summed = none }
 
-map-push : {A B : Type 0} (f : A → B) (xs : List A) (x : A) → map f (xs ++ x ∷ []) ≡ map f xs ++ f x ∷ []
-map-push f [] x = refl
-map-push f (y ∷ ys) x = ap (λ zs. f y ∷ zs) (map-push f ys x)
+map-append : {A B : Type 0} (f : A → B) (xs ys : List A) → map f (xs ++ ys) ≡ map f xs ++ map f ys
+map-append f [] ys = refl
+map-append f (x ∷ xs) ys = ap (λ zs. f x ∷ zs) (map-append f xs ys)
 
--- one more
-pub is_made_to-next : (run : ScriptRun) (all left left_after : List Line) (line : Line) (made : LineOut) (summary summary_after : Summary) → IsMadeTo run all left summary → left ≡ line ∷ left_after → made ≡ result_of run line
-    → ((outs : List LineOut) → IsSummaryOf outs summary → IsSummaryOf (outs ++ made ∷ []) summary_after) → IsMadeTo run all left_after summary_after
-is_made_to-next run all left left_after line made summary summary_after to next is adds = record {
-  done = to.done ++ line ∷ [];
-  divides = to.divides ∙ ap (λ x. to.done ++ x) next ∙ sym (append_assoc to.done (line ∷ []) left_after);
-  summed = subst (λ outs. IsSummaryOf outs summary_after) (ap (λ m. map (result_of run) to.done ++ m ∷ []) is ∙ sym (map-push (result_of run) to.done line)) (adds (map (result_of run) to.done) to.summed);
+-- a batch more
+pub is_made_to-batch : (run : ScriptRun) (all batch left left_after : List Line) (made results : List LineOut) (summary summary_after : Summary) → IsMadeTo run all (batch ++ left) summary → made ≡ map (result_of run) batch → results ≡ made
+    → ((outs : List LineOut) → IsSummaryOf outs summary → IsSummaryOf (outs ++ results) summary_after) → left ≡ left_after → IsMadeTo run all left_after summary_after
+is_made_to-batch run all batch left left_after made results summary summary_after to is same adds next = record {
+  done = to.done ++ batch;
+  divides = to.divides ∙ sym (append_assoc to.done batch left) ∙ ap (λ x. (to.done ++ batch) ++ x) next;
+  summed = subst (λ outs. IsSummaryOf outs summary_after) (ap (λ m. map (result_of run) to.done ++ m) (same ∙ is) ∙ sym (map-append (result_of run) to.done batch)) (adds (map (result_of run) to.done) to.summed);
 }
 
 -- all are done
@@ -41,3 +42,28 @@ length-map f (x ∷ xs) = grind (arith, length-map f xs)
 -- and they are few enough to be counted
 pub few_enough : (run : ScriptRun) (all : List Line) (count : ℕ) → length all ≡ count → count ≤ 1000000 → length (map (result_of run) all) < 2 ^ 64
 few_enough run all count is few = let same = length-map (result_of run) all in omega (arith, same, is, few)
+
+no_length : {A : Type 0} (xs : List A) → length xs ≡ 0 → xs ≡ []
+no_length [] none = refl
+no_length (x ∷ xs) none = absurd (omega (arith, none))
+
+pub nothing_left : {A : Type 0} (xs : List A) (empty : Bool) → empty ≡ (length xs == 0) → empty ≡ true → xs ≡ []
+nothing_left xs empty is holds =
+    let none : length xs ≡ 0 = grind (arith, nat_tests) in
+    no_length xs none
+
+-- some of these results were added to a summary, and these are left
+pub record IsAddedTo (outs results left : List LineOut) (summary : Summary) : Type 0 where
+  pub done : List LineOut
+  pub summed : IsSummaryOf done summary
+  pub divides : done ++ left ≡ outs ++ results
+
+pub is_added_to-next : (outs results left : List LineOut) (made : LineOut) (summary summary_after : Summary) → IsAddedTo outs results (made ∷ left) summary → ((outs : List LineOut) → IsSummaryOf outs summary → IsSummaryOf (outs ++ made ∷ []) summary_after) → IsAddedTo outs results left summary_after
+is_added_to-next outs results left made summary summary_after to adds = record {
+  done = to.done ++ made ∷ [];
+  summed = adds to.done to.summed;
+  divides = append_assoc to.done (made ∷ []) left ∙ to.divides;
+}
+
+pub all_added : (outs results : List LineOut) (summary : Summary) → IsAddedTo outs results [] summary → IsSummaryOf (outs ++ results) summary
+all_added outs results summary to = subst (λ xs. IsSummaryOf xs summary) (sym (append-nil to.done) ∙ to.divides) to.summed

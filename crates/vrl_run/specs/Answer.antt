@@ -1,7 +1,8 @@
 -- What answers a request: the status, and the bytes that belong to it.
-use Rattle.std.specs.Prelude.{ℕ, ℤ, List, [], ◌∷◌, ◌++◌, map, Bool, if◌then◌else◌, codes}
-use Rattle.std.specs.List.{enumerate_from, flat_map}
-use Rattle.vrl_batch.specs.Lines.{event_lines, line_at}
+use Rattle.std.specs.Prelude.{ℕ, ℤ, List, [], ◌∷◌, ◌++◌, map, take, Bool, if◌then◌else◌, codes}
+use Rattle.std.specs.List.{flat_map}
+use Rattle.vrl_batch.specs.Lines.{event_lines}
+use Rattle.vrl_batch.specs.Moments.{lines_by}
 use Rattle.vrl_batch.specs.declared.line.Line.{Line}
 use Rattle.vrl_batch.specs.declared.work.LineOut.{LineOut}
 use Rattle.vrl_diag.specs.Rendering.{diagnostic_lines}
@@ -25,13 +26,17 @@ use Rattle.vrl_run.specs.declared.status.Status.TheVariants.{Done, Refused, Usag
 abbrev pub result_of : ScriptRun → Line → LineOut
 result_of run line = result_of_line run.program run.declared run.options line
 
--- the result of a line, given as its number and its bytes, at a moment
-abbrev pub line_result : ScriptRun → ℤ → ℕ × List ℕ → LineOut
-line_result run moment l = result_of run (line_at moment l)
-
 -- the results of the lines of an input that aren't blank, each at its moment
 abbrev pub line_results : ScriptRun → (ℕ → ℤ) → List ℕ → List LineOut
-line_results run moments input = map (λ l. line_result run (moments l.0) l.1) (enumerate_from 0 (event_lines input))
+line_results run moments input = map (result_of run) (lines_by moments (event_lines input))
+
+-- what would be written of results, joined in their order
+abbrev pub outputs : List LineOut → List ℕ
+outputs results = flat_map (λ r. r.output) results
+
+-- and what is reported of them
+abbrev pub reports : List LineOut → List ℕ
+reports results = flat_map (λ r. r.report) results
 
 -- the results of made lines
 abbrev pub made_results : ScriptRun → ℕ → ℕ → List LineOut
@@ -78,8 +83,8 @@ refusal status report = record { status = status; output = []; report = report }
 abbrev pub mapped : List ℕ → List LineOut → Answer
 mapped warnings results = record {
   status = status_if (is_marked results);
-  output = flat_map (λ r. r.output) results;
-  report = warnings ++ flat_map (λ r. r.report) results;
+  output = outputs results;
+  report = warnings ++ reports results;
 }
 
 abbrev pub warnings_of : ScriptRun → List ℕ
@@ -97,3 +102,8 @@ answer_to (bad_script text diagnostics) input moments = refusal Refused (diagnos
 answer_to (map_lines run) input moments = mapped (warnings_of run) (line_results run moments input)
 answer_to (map_made run count seed) input moments = summed (warnings_of run) (made_results run count seed)
 answer_to (tell_kinds text warnings K known) input moments = record { status = Done; output = kind_lines K known; report = diagnostic_lines text warnings }
+
+-- the same once so many lines were run
+abbrev pub answer_so_far : ℕ → Request → List ℕ → (ℕ → ℤ) → Answer
+answer_so_far ran (map_lines run) input moments = mapped (warnings_of run) (take ran (line_results run moments input))
+answer_so_far ran request input moments = answer_to request input moments

@@ -1,9 +1,11 @@
 pub mod Answer
 pub mod Devices
+pub mod Joining
 pub mod LineResult
+pub mod Mapping
 pub mod Ran
 pub mod Request
-pub mod Results
 pub mod Status
 pub mod Unread
+pub mod Working
 pub mod Writing

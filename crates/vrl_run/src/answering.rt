@@ -1,18 +1,19 @@
 ghost use Rattle.std.specs.Prelude.{◌≡◌, ◌≤◌, IfOk};
-ghost use Rattle.vrl_run.specs.Answer.{refusal, status_if};
-ghost use Rattle.vrl_run.specs.Devices.{devices, HasCauses, IsAnswered, LeavesDevices};
-ghost use Rattle.vrl_run.specs.Request.{bad_kind, bad_script, bad_words, map_lines, map_made, tell_kinds, request_of, run_of, IsReadyRequest, IsReadyScript, IsSame, MayCome};
+ghost use Rattle.vrl_run.specs.Answer.{refusal};
+ghost use Rattle.vrl_run.specs.Devices.{devices, IsAnswered};
+ghost use Rattle.vrl_run.specs.Request.{bad_kind, bad_script, bad_words, map_made, tell_kinds, request_of, run_of, IsReadyRequest, IsReadyScript, IsSame, MayCome};
 ghost use Rattle.vrl_run.specs.Writing.{answer_in, IsTold};
 
 use crate::kinds::kind_lines;
-use crate::lines::run_lines;
 use crate::made::run_made;
+use crate::mapping::{map_lines, status_if};
 use crate::request::Request;
 use crate::script::Script;
 use crate::status::Status;
-use crate::writing::{Told, write_answer, write_told};
+use crate::writing::{Told, write_told};
 use std::alloc::Global;
-use vrl_batch::{GatherFault, gather};
+use std::thread::Threads;
+use vrl_batch::Gate;
 use vrl_diag::{Diagnostic, render_all};
 use vrl_io::{Clock, Sink, Source};
 use vrl_kind::Kind;
@@ -24,18 +25,22 @@ use vrl_value::Memory;
 const USAGE_LINE: &str =
     "usage: remap SCRIPT [--kind FILE] [--jobs N] [--drop-on-error] [--keep-on-abort] [--check] [--generate COUNT:SEED]\n";
 
-/// Answers a request. Words, a kind file and a script that are refused are reported. A script that runs over the lines of the input is run over each, at a moment of
-/// the clock: its events go to `output`, and its warnings and the reports on lines to `report`. Of one that runs over made lines, the summary goes to `output`, and the
+/// Answers a request, with at most so many workers, 1 to 32, that pass the gate before each line. Words, a kind file and a script that are refused are reported. A script that runs over the lines of the input is run over each, at a moment of
+/// the clock, batch by batch: its events go to `output`, and its warnings and the reports on lines to `report`. Of one that runs over made lines, the summary goes to `output`, and the
 /// warnings to `report`, as do the kinds that a script may end with and its warnings. But for the lines of the input neither the input nor the clock is asked.
-pub fn answer<S: Source, O: Sink, E: Sink, C: Clock>(
+pub fn answer<R: Threads + Sync, S: Source, O: Sink, E: Sink, C: Clock, G: Gate + Sync>(
+    rt: &R,
     alloc: Global,
     request: &Request,
+    jobs: u32,
     input: &mut S,
     output: &mut O,
     report: &mut E,
     clock: &mut C,
+    gate: &G,
 ) -> Status
-    requires { IsReadyRequest request.now }
+    requires request { IsReadyRequest request.now }
+    requires jobs { (1 ≤ jobs) × (jobs ≤ 32) }
     ensures { IsAnswered (IsSame (request_of request.now)) ⊥ result
         (devices (S.left input.old) (S.taken input.old) (S.ended input.old) (S.faults input.old) (C.ahead clock.old)
         (O.written output.old) (O.faults output.old) (E.written report.old) (E.faults report.old))
@@ -49,9 +54,15 @@ pub fn answer<S: Source, O: Sink, E: Sink, C: Clock>(
         Request::Refused(text, diagnostics) => {
             write_told(&script_refusal(alloc, text, diagnostics), output, report)
         }
-        Request::Run(script) => run_script(alloc, script, input, output, report, clock),
+        Request::Run(script) => map_lines(
+            rt, alloc, script, jobs, input, output, report, clock, gate,
+        ),
         Request::Generate(script, count, seed) => {
-            write_told(&summary(alloc, script, *count, *seed), output, report)
+            write_told(
+                &summary(rt, alloc, script, jobs, *count, *seed, gate),
+                output,
+                report,
+            )
         }
         Request::Check(text, warnings, kind, known) => {
             write_told(&kinds(alloc, text, warnings, kind, known), output, report)
@@ -97,13 +108,22 @@ fn refused(alloc: Global, status: Status, report: Vec<u8>) -> Result<Told, Memor
 }
 
 // The sum of the results of made lines. `Memory`: want of memory.
-fn summary(alloc: Global, script: &Script, count: u64, seed: u64) -> Result<Told, Memory>
+fn summary<R: Threads + Sync, G: Gate + Sync>(
+    rt: &R,
+    alloc: Global,
+    script: &Script,
+    jobs: u32,
+    count: u64,
+    seed: u64,
+    gate: &G,
+) -> Result<Told, Memory>
     requires ready { IsReadyScript script.now }
+    requires jobs { (1 ≤ jobs) × (jobs ≤ 32) }
     requires count { count ≤ 1000000 }
     ensures { IfOk result (IsTold (map_made (run_of script.now) count seed)) }
 {
     let report = render_all(alloc, script.warnings, script.text)?;
-    let made = run_made(alloc, script, count, seed)?;
+    let made = run_made(rt, alloc, script, jobs, count, seed, gate)?;
     Ok(Told {
         status: status_if(made.marked),
         output: made.summary,
@@ -127,51 +147,4 @@ fn kinds(
         output: kind_lines(alloc, kind, known)?,
         report,
     })
-}
-
-// How a run over lines ended, of which some were refused or none.
-fn status_if(marked: bool) -> Status
-    ensures { result ≡ status_if marked }
-{
-    if marked { Status::Marked } else { Status::Done }
-}
-
-// Runs a script over the lines of the input.
-fn run_script<S: Source, O: Sink, E: Sink, C: Clock>(
-    alloc: Global,
-    script: &Script,
-    input: &mut S,
-    output: &mut O,
-    report: &mut E,
-    clock: &mut C,
-) -> Status
-    requires { IsReadyScript script.now }
-    ensures devices { LeavesDevices (IsSame (map_lines (run_of script.now))) result
-        (devices (S.left input.old) (S.taken input.old) (S.ended input.old) (S.faults input.old) (C.ahead clock.old)
-        (O.written output.old) (O.faults output.old) (E.written report.old) (E.faults report.old))
-        (devices (S.left input.new) (S.taken input.new) (S.ended input.new) (S.faults input.new) (C.ahead clock.new)
-        (O.written output.new) (O.faults output.new) (E.written report.new) (E.faults report.new)) }
-    ensures causes { HasCauses ⊥ result
-        (devices (S.left input.old) (S.taken input.old) (S.ended input.old) (S.faults input.old) (C.ahead clock.old)
-        (O.written output.old) (O.faults output.old) (E.written report.old) (E.faults report.old))
-        (devices (S.left input.new) (S.taken input.new) (S.ended input.new) (S.faults input.new) (C.ahead clock.new)
-        (O.written output.new) (O.faults output.new) (E.written report.new) (E.faults report.new)) }
-    ensures status { MayCome (map_lines (run_of script.now)) result }
-{
-    let warnings = match render_all(alloc, script.warnings, script.text) {
-        Ok(warnings) => warnings,
-        Err(Memory) => return Status::Memory,
-    };
-    match gather(alloc, input) {
-        Ok(bytes) => match run_lines(alloc, script, warnings, &bytes, clock) {
-            Ok(results) => {
-                let status = status_if(results.marked);
-                write_answer(status, &results.output, &results.report, output, report)
-            }
-            Err(Memory) => Status::Memory,
-        },
-        Err(GatherFault::Read) => Status::ReadFault,
-        Err(GatherFault::TooMuch) => Status::TooMuch,
-        Err(GatherFault::Memory) => Status::Memory,
-    }
 }

@@ -2,15 +2,17 @@
 //! and the answer to a request, over all lines of an input.
 //!
 //! Files: `result.rt` has `run_line`, `kept.rt` the events that are kept, `report.rt` what is reported of a line, `reason.rt` why one is refused and
-//! `options.rt` what may be asked; `request.rt` has a request and `answering.rt` `answer`, over `lines.rt`, the results of all lines of an input, `made.rt`,
-//! those of made lines, `kinds.rt`, the kinds that are told, and `writing.rt`; `script.rt` has an accepted script, and `status.rt` how a call ends.
+//! `options.rt` what may be asked; `request.rt` has a request and `answering.rt` `answer`, over `mapping.rt`, a run over the lines of an input batch by batch, `made.rt`,
+//! one over made lines, `work.rt`, what is done with each line, `joining.rt`, results that are joined, `kinds.rt`, the kinds that are told, and `writing.rt`; `script.rt` has
+//! an accepted script, and `status.rt` how a call ends.
 #![tactic(auto)]
 
 mod answering;
+mod joining;
 mod kept;
 mod kinds;
-mod lines;
 mod made;
+mod mapping;
 mod options;
 mod reason;
 mod report;
@@ -18,6 +20,7 @@ mod request;
 mod result;
 mod script;
 mod status;
+mod work;
 mod writing;
 
 pub use answering::answer;

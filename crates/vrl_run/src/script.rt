@@ -1,15 +1,14 @@
-ghost use Rattle.std.specs.Prelude.{◌≡◌, IfOk};
+ghost use Rattle.std.specs.Prelude.{◌≡◌};
 ghost use Rattle.vrl_run.specs.Answer.{result_of};
 ghost use Rattle.vrl_run.specs.Request.{IsReadyScript, run_of};
+ghost use Rattle.vrl_run.specs.Working.{result_by};
 
 use crate::options::Options;
-use crate::result::run_line;
-use std::alloc::Global;
-use vrl_batch::{Line, LineOut};
+use crate::work::LineWork;
 use vrl_diag::Diagnostic;
 use vrl_kind::Kind;
 use vrl_resolve::Program;
-use vrl_value::{Memory, Names};
+use vrl_value::Names;
 
 /// An accepted script.
 #[derive(Drop)]
@@ -29,18 +28,16 @@ pub struct Script<'a> {
 }
 
 impl Script<'_> {
-    // The result of a line. `Memory`: want of memory.
-    pub(crate) fn result(&self, alloc: Global, line: &Line) -> Result<LineOut, Memory>
+    // What is done with each line.
+    pub(crate) fn work(&self) -> LineWork<'_>
         requires { IsReadyScript self.now }
-        ensures { IfOk result (λ out. out ≡ result_of (run_of self.now) line.now) }
+        ensures { result_by result ≡ result_of (run_of self.now) }
     {
-        run_line(
-            alloc,
-            self.program,
-            self.sources,
-            self.declared,
-            &self.options,
-            line,
-        )
+        LineWork {
+            program: self.program,
+            sources: self.sources,
+            declared: self.declared,
+            options: self.options,
+        }
     }
 }

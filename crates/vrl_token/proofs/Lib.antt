@@ -14,7 +14,7 @@ mod Only
 mod OpenBrackets
 mod Outcomes
 mod PathCuts
-mod Placed
+pub mod Placed
 mod Quotes
 mod Readied
 mod Runs

@@ -17,4 +17,4 @@ returns-in_ok-alone-in-Err-clause-once c = alone_once _ _ c.in_ok-alone-in-Err.e
 
 pub returns-in-Ok-clause-once : goal.returns-in-Ok-clause-once
 returns-in-Ok-clause-once c =
-    answer_once c.diagnostics_stand_once.ensures.diagnostics c.args.text.now c.in-Ok.ensures.order c.args.declared.now c.compile_parsed.result (c.compile_parsed.ensures c.args.text.now c.in-Ok.ensures.script)
+    answer_once c.diagnostics_stand_once.ensures.diagnostics c.args.text.now c.args.declared.now c.compile_parsed.result (c.compile_parsed.ensures c.args.text.now c.in-Ok.ensures.script)

@@ -1,5 +1,4 @@
 use Rattle.vrl_compile.proofs.Compiling.{handed_on, text_fault, tokens_fault}
-use Rattle.vrl_compile.proofs.ToldOnce.{all_in_order}
 use Rattle.vrl_compile.proofs.script.read.Goals as goal
 
 pub returns-in_err-tokens-clause-fault : goal.returns-in_err-tokens-clause-fault
@@ -12,6 +11,3 @@ returns-in_err-script-clause-fault c =
     let f = c.in_err-script.field-0.0 in
     handed_on c.from_residual-in_err-script.result f _ c.from_residual-in_err-script.ensures.1
     (tokens_fault c.args.text.now c.in_ok-tokens.tokens.tokens f c.in_ok-tokens.ensures.ok c.in_err-script.ensures.fault c.in_err-script.ensures.codes)
-
-pub returns-clause-order : goal.returns-clause-order
-returns-clause-order c = all_in_order c.tokens_are_determined.ensures c.args.text.now c.in_ok-tokens.tokens.tokens c.in_ok-tokens.ensures.ok c.in_ok-tokens.ensures.spans

@@ -9,7 +9,7 @@ use Rattle.vrl_resolve.proofs.bound.function_callee.Goals as goal
 pub returns-in-Some : goal.returns-in-Some
 returns-in-Some c =
     let named : function_named c.args.name.now ≡ Some c.in-Some.function = sym (ap function_named c.in-Some.ensures) ∙ c.functions_are_found.ensures c.in-Some.function in
-    subst (λ function. IfOk c.bound_function.result (IsFunctionCallee function (args_of c.args.args.now))) (sym named) c.bound_function.ensures
+    subst (λ function. IfOk c.bound_function.result (IsFunctionCallee function (args_of c.args.args.now))) (sym named) c.bound_function.ensures.callee
 
 pub returns-in-None : goal.returns-in-None
 returns-in-None c =

@@ -626,7 +626,7 @@ outcome-eval-given-requires t c =
     (omega (arith, c.decreases), (c.requires.ready, c.requires.fits))
 
 pub outcome-returns-clause-ended : goal.outcome-returns-clause-ended
-outcome-returns-clause-ended t c = c.both_values.ensures (meant c.args.context.now (linked_of c.args.part.now) c.args.store.now) (store_at c.args.context.now c.eval-given.new.store) c.eval-given.ensures.ended
+outcome-returns-clause-ended t c = c.both_values.ensures.gives (meant c.args.context.now (linked_of c.args.part.now) c.args.store.now) (store_at c.args.context.now c.eval-given.new.store) c.eval-given.ensures.ended
 
 pub query-eval-requires : goal.query-eval-requires
 query-eval-requires t c =

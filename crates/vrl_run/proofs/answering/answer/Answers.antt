@@ -1,5 +1,5 @@
-use Rattle.std.proofs.Common.{inr, refl}
-use Rattle.vrl_run.specs.Request.{bad_kind, bad_script, bad_words, map_lines, map_made, run_of, tell_kinds}
+use Rattle.std.proofs.Common.{refl}
+use Rattle.vrl_run.specs.Request.{bad_kind, bad_script, bad_words, map_made, run_of, tell_kinds}
 use Rattle.vrl_run.proofs.AnswerLemmas.{told_answered}
 use Rattle.vrl_run.proofs.answering.answer.Goals as goal
 
@@ -21,9 +21,7 @@ returns-in-Refused g c =
     rw c.in-Refused.is (told_answered request _ (λ reads. reads) (told.written request c.script_refusal.ensures) told.cause told.write_told (refl, refl))
 
 pub returns-in-Run : goal.returns-in-Run
-returns-in-Run g c =
-    let run = run_of c.in-Run.script in
-    rw c.in-Run.is (record { leaves = c.run_script.ensures.devices; causes = c.run_script.ensures.causes; came = inr (map_lines run, refl, c.run_script.ensures.status); first = inr (run, refl) })
+returns-in-Run g c = rw c.in-Run.is c.map_lines.ensures
 
 pub returns-in-Generate : goal.returns-in-Generate
 returns-in-Generate g c =

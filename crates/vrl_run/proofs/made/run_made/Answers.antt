@@ -1,5 +1,27 @@
-use Rattle.vrl_run.proofs.MadeLemmas.{is_made_to-next}
+use Rattle.std.proofs.Common.{◌≡◌, ◌∙◌, ap, map, refl, rules, sym, true, []}
+use Rattle.vrl_generate.specs.Made.{made_lines}
+use Rattle.vrl_run.specs.Request.{run_of}
+use Rattle.vrl_run.proofs.MadeLemmas.{all_made, few_enough, is_made_to-batch, nothing_left}
 use Rattle.vrl_run.proofs.made.run_made.Goals as goal
 
-pub loop-line-preserved : goal.loop-line-preserved
-loop-line-preserved c = is_made_to-next _ _ _ _ c.in-Some.line c.in_ok-made.made _ _ c.loop-line.invariant (rw c.in-Some.is at c.in_ok-line.ensures.next) c.in_ok-made.ensures c.add.ensures
+pub loop-work-preserved : goal.loop-work-preserved
+loop-work-preserved g c = (
+  is_made_to-batch _ _ c.loop-work.batch c.loop-work.lines _ c.in_ok-results.results _ _ _ c.loop-work.invariant.0 (c.in_ok-results.ensures ∙ ap (λ f. map f c.loop-work.batch) c.work-work.ensures) c.as_slice-in-loop-work.ensures c.add_all.ensures c.in_ok-batch-2.ensures.next,
+  λ none. sym c.in_ok-batch-2.ensures.next ∙ c.in_ok-batch-2.ensures.empty none,
+)
+
+pub returns-clause-summary : goal.returns-clause-summary
+returns-clause-summary g c =
+    let run = run_of c.args.script.now in
+    let all = made_lines c.args.count c.args.seed in
+    let empty = nothing_left c.loop-work.batch _ (rw c.as_slice.ensures at c.is_empty.ensures) (search rules) in
+    let summed = all_made run all _ c.loop-work.summary c.loop-work.invariant.0 (c.loop-work.invariant.1 empty) in
+    c.in_ok-into_text.ensures _ (few_enough run all c.args.count (rw c.new-lines.ensures.lines at c.new-lines.ensures.count) c.requires.count) summed
+
+pub returns-clause-marked : goal.returns-clause-marked
+returns-clause-marked g c =
+    let run = run_of c.args.script.now in
+    let all = made_lines c.args.count c.args.seed in
+    let empty = nothing_left c.loop-work.batch _ (rw c.as_slice.ensures at c.is_empty.ensures) (search rules) in
+    let summed = all_made run all _ c.loop-work.summary c.loop-work.invariant.0 (c.loop-work.invariant.1 empty) in
+    c.is_marked-marked.ensures _ (few_enough run all c.args.count (rw c.new-lines.ensures.lines at c.new-lines.ensures.count) c.requires.count) summed

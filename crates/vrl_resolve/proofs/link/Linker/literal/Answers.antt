@@ -1,4 +1,4 @@
-use Rattle.std.proofs.Common.{◌≡◌, ◌∙◌, ap, rules, subst, sym}
+use Rattle.std.proofs.Common.{◌≡◌, rules, subst, sym}
 use Rattle.vrl_value.specs.View.{tree_of}
 use Rattle.vrl_syntax.specs.Tree.{literal}
 use Rattle.vrl_resolve.specs.Linked as linked
@@ -10,6 +10,5 @@ use Rattle.vrl_resolve.proofs.link.Linker.literal.Goals as goal
 
 pub returns : goal.returns
 returns c =
-    let is : linked_of c.of.result ≡ linked.literal (tree_of c.in_ok-value.value) = search (rules, the_lemmas) in
-    let same : linked_of c.of.result ≡ linked.literal (tree_of c.args.value.now) = is ∙ ap linked.literal c.in_ok-value.ensures.equal in
-    links_itself c.args.self.now (λ names asked. subst (IsLinkedForm names c.args.self.now.tags.left.now asked (literal (tree_of c.args.value.now))) (sym same) (a_literal c.in_ok-value.ensures.ordered))
+    let is : linked_of c.of.result ≡ linked.literal (tree_of c.args.value) = search (rules, the_lemmas) in
+    links_itself c.args.self.now (λ names asked. subst (IsLinkedForm names c.args.self.now.tags.left.now asked (literal (tree_of c.args.value))) (sym is) (a_literal c.depth-depth.ensures.ordered))

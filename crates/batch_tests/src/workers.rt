@@ -1,0 +1,128 @@
+// Workers on the lines of a batch.
+use std::alloc::Global;
+use std::process::Abort;
+use std::sync::atomic::{AtomicU64, Ordering};
+use std::thread::Threads;
+use vrl_batch::{Batch, FreeGate, Gate, Line, LineOut, Outcome, Work, map_batch};
+use vrl_value::{Bytes, Memory, Moment};
+
+// Gives each line back, and its number as the count of events.
+struct Copies;
+
+impl Work for Copies {
+    ghost use Rattle.vrl_batch.specs.declared.work.Outcome.TheVariants.{Fine};
+
+    ghost makes = { λ _ line. record { output = line.bytes; report = line.bytes; kept = line.number; outcome = Fine } };
+
+    fn one(&self, alloc: Global, line: &Line) -> Result<LineOut, Memory> {
+        Ok(LineOut {
+            output: Bytes::new(line.bytes.as_slice().to_vec(alloc)?),
+            report: Bytes::new(line.bytes.as_slice().to_vec(alloc)?),
+            kept: line.number,
+            outcome: Outcome::Fine,
+        })
+    }
+}
+
+// So many lines `{}`, numbered from 1.
+fn batch_of(alloc: Global, count: u64) -> Result<Batch, Memory> {
+    let mut lines = Vec::new(alloc);
+    for number in 0..count {
+        lines.push(Line::new(alloc, number + 1, b"{}", Moment::epoch())?)?;
+    }
+    Ok(Batch::new(lines))
+}
+
+// Whether the results stand in the lines' order.
+fn are_in_order(outs: &[LineOut], count: u64) -> bool {
+    let mut number = 0u64;
+    for out in outs {
+        number = number.saturating_add(1);
+        if out.kept != number || out.output.as_slice() != b"{}".as_slice() {
+            return false;
+        }
+    }
+    number == count
+}
+
+fn is_mapped<R: Threads + Sync, G: Gate + Sync>(
+    rt: &R,
+    alloc: Global,
+    count: u64,
+    jobs: u32,
+    gate: &G,
+) -> Result<bool, Memory> {
+    let batch = batch_of(alloc, count)?;
+    let outs = map_batch(rt, alloc, jobs.max(1).min(32), &batch, &Copies, gate)?;
+    Ok(are_in_order(outs.as_slice(), count))
+}
+
+// How many lines, and by how many workers.
+const ROWS: [(u64, u32); 12] = [
+    (0, 1),
+    (0, 32),
+    (1, 1),
+    (1, 32),
+    (2, 2),
+    (3, 2),
+    (31, 32),
+    (33, 32),
+    (100, 3),
+    (256, 1),
+    (256, 7),
+    (256, 32),
+];
+
+#[test]
+fn results_in_order(rt: HostRuntime) -> Result<(), Memory> {
+    for (count, jobs) in &ROWS {
+        assert!(rt;
+            is_mapped(&rt, rt.alloc(), *count, *jobs, &FreeGate)?,
+            "{count} {jobs}"
+        );
+    }
+    Ok(())
+}
+
+// Notes that place 0 or place 32 has come, and then waits for the other one. It notes a miss where that doesn't come.
+#[derive(Drop)]
+struct Meeting {
+    first: AtomicU64,
+    second: AtomicU64,
+    missed: AtomicU64,
+}
+
+impl Meeting {
+    fn meet(&self, mine: &AtomicU64, other: &AtomicU64) {
+        mine.store(1, Ordering::SeqCst);
+        for _ in 0..100_000_000u32 {
+            if other.load(Ordering::SeqCst) == 1 {
+                return;
+            }
+        }
+        self.missed.store(1, Ordering::SeqCst);
+    }
+}
+
+impl Gate for Meeting {
+    fn pass(&self, place: usize) {
+        if place == 0 {
+            self.meet(&self.first, &self.second);
+        }
+        if place == 32 {
+            self.meet(&self.second, &self.first);
+        }
+    }
+}
+
+#[test]
+fn two_workers_meet(rt: HostRuntime) -> Result<(), Memory> {
+    let meeting = Meeting {
+        first: AtomicU64::new(0),
+        second: AtomicU64::new(0),
+        missed: AtomicU64::new(0),
+    };
+    assert!(rt; is_mapped(&rt, rt.alloc(), 64, 2, &meeting)?);
+    assert!(rt; meeting.missed.load(Ordering::SeqCst) == 0);
+    Ok(())
+}

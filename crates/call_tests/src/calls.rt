@@ -1,0 +1,166 @@
+// Calls over a script, a kind file and lines in memory.
+use remap_call::remap;
+use std::alloc::Global;
+use std::process::Abort;
+use std::sync::atomic::{AtomicU64, Ordering};
+use std::thread::Threads;
+use vrl_batch::{FreeGate, Gate};
+use vrl_io::{MemoryClock, MemorySink, MemorySource, MemoryStore};
+use vrl_run::Status;
+use vrl_value::{Bytes, Chars, Memory};
+
+// What is written by a call: its status, and what its sinks hold.
+#[derive(Drop)]
+struct Written {
+    status: Status,
+    output: Vec<u8>,
+    report: Vec<u8>,
+}
+
+fn words_of(alloc: Global, words: &[&str]) -> Result<Vec<String>, Memory> {
+    let mut owned = Vec::new(alloc);
+    for word in words {
+        owned.push(String::from_str(alloc, word)?)?;
+    }
+    Ok(owned)
+}
+
+// A store that holds a script under `s` and a kind file under `k`.
+fn store(alloc: Global, script: &str, kind: &str) -> Result<MemoryStore, Memory> {
+    let mut held = Vec::new(alloc);
+    held.push((
+        Chars::copy_of(alloc, "s")?,
+        Bytes::new(script.as_bytes().to_vec(alloc)?),
+    ))?;
+    held.push((
+        Chars::copy_of(alloc, "k")?,
+        Bytes::new(kind.as_bytes().to_vec(alloc)?),
+    ))?;
+    Ok(MemoryStore::new(alloc, held, Vec::new(alloc)))
+}
+
+// So many lines `{}`.
+fn lines(alloc: Global, count: usize) -> Result<Vec<u8>, Memory> {
+    let mut bytes = Vec::new(alloc);
+    for _ in 0..count {
+        bytes.extend_from_slice(b"{}\n")?;
+    }
+    Ok(bytes)
+}
+
+// So many pieces of three bytes, and the take that fails.
+fn source(alloc: Global, count: usize, failing: Option<u64>) -> Result<MemorySource, Memory> {
+    let mut pieces = Vec::new(alloc);
+    pieces.resize(count, 3)?;
+    let mut faults = Vec::new(alloc);
+    if let Some(number) = failing {
+        faults.push(number)?;
+    }
+    Ok(MemorySource::new(lines(alloc, count)?, pieces, faults))
+}
+
+fn call<R: Threads + Sync, G: Gate + Sync>(
+    rt: &R,
+    alloc: Global,
+    words: &[&str],
+    count: usize,
+    failing: Option<u64>,
+    gate: &G,
+) -> Result<Written, Memory> {
+    let words = words_of(alloc, words)?;
+    let mut output = MemorySink::new(alloc, Vec::new(alloc));
+    let mut report = MemorySink::new(alloc, Vec::new(alloc));
+    let status = remap(
+        rt,
+        alloc,
+        &words,
+        &mut store(alloc, ".x = 1", "{\"object\":{\"a\":\"string\"}}")?,
+        &mut source(alloc, count, failing)?,
+        &mut output,
+        &mut report,
+        &mut MemoryClock::new(Vec::new(alloc)),
+        gate,
+    );
+    Ok(Written {
+        status,
+        output: output.written().to_vec(alloc)?,
+        report: report.written().to_vec(alloc)?,
+    })
+}
+
+// The words, how many lines, the take that fails, the status, and how many events are written, each `{"x":1}` and a newline.
+type Row = (&'static [&'static str], usize, Option<u64>, Status, usize);
+
+#[rattlefmt::skip]
+const ROWS: [Row; 9] = [
+    (&["s"], 300, None, Status::Done, 300),
+    (&["s", "--jobs", "2"], 300, None, Status::Done, 300),
+    (&["s", "--jobs=32"], 257, None, Status::Done, 257),
+    // The batch before the fault is written whole, and no line of the next.
+    (&["s"], 300, Some(290), Status::ReadFault, 256),
+    (&["s", "--jobs=8"], 300, Some(290), Status::ReadFault, 256),
+    (&["s"], 300, Some(100), Status::ReadFault, 0),
+    (&["s", "--kind", "k"], 2, None, Status::Marked, 0),
+    (&["s", "--kind", "s"], 2, None, Status::KindRefused, 0),
+    (&["s", "--jobs=33"], 2, None, Status::Usage, 0),
+];
+
+#[test]
+fn batches_are_written(rt: HostRuntime) -> Result<(), Memory> {
+    let alloc = rt.alloc();
+    for row in &ROWS {
+        let written = call(&rt, alloc, row.0, row.1, row.2, &FreeGate)?;
+        assert!(rt; written.status == row.3, "{:?} {:?}", row.0, row.1);
+        assert!(rt;
+            written.output.len() == 8 * row.4,
+            "{:?} {:?}",
+            row.0,
+            row.1
+        );
+    }
+    Ok(())
+}
+
+// Notes that place 0 or place 32 has come, and then waits for the other one. It notes a miss where that doesn't come.
+#[derive(Drop)]
+struct Meeting {
+    first: AtomicU64,
+    second: AtomicU64,
+    missed: AtomicU64,
+}
+
+impl Meeting {
+    fn meet(&self, mine: &AtomicU64, other: &AtomicU64) {
+        mine.store(1, Ordering::SeqCst);
+        for _ in 0..100_000_000u32 {
+            if other.load(Ordering::SeqCst) == 1 {
+                return;
+            }
+        }
+        self.missed.store(1, Ordering::SeqCst);
+    }
+}
+
+impl Gate for Meeting {
+    fn pass(&self, place: usize) {
+        if place == 0 {
+            self.meet(&self.first, &self.second);
+        }
+        if place == 32 {
+            self.meet(&self.second, &self.first);
+        }
+    }
+}
+
+#[test]
+fn two_workers_meet(rt: HostRuntime) -> Result<(), Memory> {
+    let meeting = Meeting {
+        first: AtomicU64::new(0),
+        second: AtomicU64::new(0),
+        missed: AtomicU64::new(0),
+    };
+    let written = call(&rt, rt.alloc(), &["s", "--jobs", "2"], 64, None, &meeting)?;
+    assert!(rt; written.status == Status::Done && written.output.len() == 8 * 64);
+    assert!(rt; meeting.missed.load(Ordering::SeqCst) == 0);
+    Ok(())
+}

@@ -1,0 +1,7 @@
+pub mod Accepting
+pub mod AnswerLemmas
+pub mod Calls
+pub mod Loads
+pub mod OneAnswer
+pub mod RunSound
+pub mod ToldOnce

@@ -1,6 +1,0 @@
-pub mod Accepting
-pub mod AnswerLemmas
-pub mod Calls
-pub mod Loads
-pub mod OneAnswer
-pub mod RunSound

@@ -1,0 +1,172 @@
+use remap_words::{Invocation, Mode, read_words};
+use std::alloc::{AllocError, Global};
+use std::process::Abort;
+use std::test::Fail;
+
+/// Lists of words, which stand between strokes, and what they ask for.
+const READ: [(&str, Option<Invocation>); 9] = [
+    (
+        "s",
+        Some(Invocation {
+            script: "s",
+            kind: None,
+            jobs: 1,
+            drop_on_error: false,
+            keep_on_abort: false,
+            mode: Mode::Lines,
+        }),
+    ),
+    (
+        "s|--jobs|08",
+        Some(Invocation {
+            script: "s",
+            kind: None,
+            jobs: 8,
+            drop_on_error: false,
+            keep_on_abort: false,
+            mode: Mode::Lines,
+        }),
+    ),
+    (
+        "--jobs=32|s",
+        Some(Invocation {
+            script: "s",
+            kind: None,
+            jobs: 32,
+            drop_on_error: false,
+            keep_on_abort: false,
+            mode: Mode::Lines,
+        }),
+    ),
+    (
+        "--drop-on-error|--|-s",
+        Some(Invocation {
+            script: "-s",
+            kind: None,
+            jobs: 1,
+            drop_on_error: true,
+            keep_on_abort: false,
+            mode: Mode::Lines,
+        }),
+    ),
+    (
+        "--keep-on-abort|--check|s|--kind|k",
+        Some(Invocation {
+            script: "s",
+            kind: Some("k"),
+            jobs: 1,
+            drop_on_error: false,
+            keep_on_abort: true,
+            mode: Mode::Check,
+        }),
+    ),
+    (
+        "s|--kind=-x",
+        Some(Invocation {
+            script: "s",
+            kind: Some("-x"),
+            jobs: 1,
+            drop_on_error: false,
+            keep_on_abort: false,
+            mode: Mode::Lines,
+        }),
+    ),
+    (
+        "--kind=a=b|--|--",
+        Some(Invocation {
+            script: "--",
+            kind: Some("a=b"),
+            jobs: 1,
+            drop_on_error: false,
+            keep_on_abort: false,
+            mode: Mode::Lines,
+        }),
+    ),
+    (
+        "--generate|1:1|s",
+        Some(Invocation {
+            script: "s",
+            kind: None,
+            jobs: 1,
+            drop_on_error: false,
+            keep_on_abort: false,
+            mode: Mode::Generate { count: 1, seed: 1 },
+        }),
+    ),
+    (
+        "s|--generate=1000000:4294967295",
+        Some(Invocation {
+            script: "s",
+            kind: None,
+            jobs: 1,
+            drop_on_error: false,
+            keep_on_abort: false,
+            mode: Mode::Generate {
+                count: 1_000_000,
+                seed: 4_294_967_295,
+            },
+        }),
+    ),
+];
+
+/// Lists of words that are refused.
+const REFUSED: [&str; 30] = [
+    "",
+    "--jobs=8|s|--jobs|8",
+    "s|--kind",
+    "s|--check=1",
+    "s|--generate|0:1",
+    "s|t",
+    "s|--|t",
+    "-",
+    "s|-x",
+    "s|--help",
+    "s|--kinds=k",
+    "s|--kind=",
+    "s|--kind|",
+    "s|--kind|-",
+    "s|--kind|--",
+    "s|--kind|--check",
+    "s|--jobs|0",
+    "s|--jobs=33",
+    "s|--jobs=032",
+    "s|--jobs=+8",
+    "s|--jobs=",
+    "s|--check|--check",
+    "s|--check|--generate|1:1",
+    "s|--generate=1000001:1",
+    "s|--generate=1:4294967296",
+    "s|--generate=00000001:1",
+    "s|--generate=1",
+    "s|--generate=1:",
+    "s|--check=",
+    "--",
+];
+
+/// The words that stand between strokes.
+fn words_of(alloc: Global, line: &str) -> Result<Vec<String>, AllocError> {
+    let mut words = Vec::new(alloc);
+    for word in line.split('|') {
+        words.push(String::from_str(alloc, word)?)?;
+    }
+    Ok(words)
+}
+
+/// Asserts that the words ask for this.
+fn expect_read(rt: &impl Abort, alloc: Global, words: &[String], wanted: Option<Invocation>) {
+    assert!(rt; read_words(alloc, words).ok() == wanted, "at {words:?}");
+}
+
+#[test]
+fn words_mean_what_their_rows_say(rt: HostRuntime) -> Result<(), Fail> {
+    for (line, wanted) in &READ {
+        let words = words_of(rt.alloc(), line)?;
+        expect_read(&rt, rt.alloc(), words.as_slice(), *wanted);
+    }
+    for line in &REFUSED {
+        let words = words_of(rt.alloc(), line)?;
+        expect_read(&rt, rt.alloc(), words.as_slice(), None);
+    }
+    expect_read(&rt, rt.alloc(), &[], None);
+    Ok(())
+}
