@@ -21,7 +21,7 @@ import programs
 
 LONGEST = 65536
 LINE = 1048576
-USAGE = b"usage: remap SCRIPT\n"
+USAGE = b"usage: remap SCRIPT [--kind FILE] [--jobs N] [--drop-on-error] [--keep-on-abort] [--check] [--generate COUNT:SEED]\n"
 
 
 def filled(piece, end=""):
