@@ -4,8 +4,16 @@
 #[cfg(test)]
 mod calling;
 #[cfg(test)]
+mod codecs;
+#[cfg(test)]
 mod fitting;
 #[cfg(test)]
+mod lists;
+#[cfg(test)]
 mod numbers;
+#[cfg(test)]
+mod objects;
+#[cfg(test)]
+mod strings;
 #[cfg(test)]
 mod types;

@@ -120,7 +120,7 @@ const REFUSED: [(&str, u16, u32, u32); 37] = [
     ("del(.a[-1])", 1007, 4, 10),
     // Functions that aren't built.
     (".x = now()", 1099, 0, 0),
-    ("upcase!(r'(')", 1099, 0, 0),
+    ("split!(r'(')", 1099, 0, 0),
     ("for_each({}) -> |k, v| { k }", 1099, 0, 0),
     // Regex literals that are malformed.
     (".x = r'('", 101, 5, 9),

@@ -5,10 +5,43 @@ use Rattle.vrl_syntax.specs.Calls.{form_named}
 use Rattle.vrl_builtin.specs.Law.{KeepsLaw}
 use Rattle.vrl_builtin.specs.OneTag.{whole_row}
 use Rattle.vrl_builtin.specs.Rows.{ParameterRow, Row}
+use Rattle.fn_codec.specs.Base16.{base16_of, bytes_of_base16}
+use Rattle.fn_codec.specs.Base64.{base64_of, bytes_of_base64}
+use Rattle.fn_codec.specs.Code.{code_row}
+use Rattle.fn_codec.specs.Decode.{decode_row}
+use Rattle.fn_codec.specs.Digests.{md5_of, sha1_of}
+use Rattle.fn_codec.specs.Percent.{percent_of, text_of_percent}
+use Rattle.fn_codec.specs.Sha2.{sha2_row}
+use Rattle.fn_list.specs.Append.{append_row}
+use Rattle.fn_list.specs.Chunks.{chunks_row}
+use Rattle.fn_list.specs.Compact.{compact_row}
+use Rattle.fn_list.specs.Flatten.{flatten_row}
+use Rattle.fn_list.specs.Includes.{includes_row}
+use Rattle.fn_list.specs.Push.{push_row}
+use Rattle.fn_list.specs.Unique.{unique_row}
+use Rattle.fn_list.specs.Zip.{zip_row}
 use Rattle.fn_number.specs.Abs.{abs_row}
 use Rattle.fn_number.specs.FormatInt.{format_int_row}
 use Rattle.fn_number.specs.Mod.{mod_row}
 use Rattle.fn_number.specs.ParseInt.{parse_int_row}
+use Rattle.fn_object.specs.Get.{get_row}
+use Rattle.fn_object.specs.Keys.{keys_row}
+use Rattle.fn_object.specs.Merge.{merge_row}
+use Rattle.fn_object.specs.ObjectFromArray.{object_from_array_row}
+use Rattle.fn_object.specs.Remove.{remove_row}
+use Rattle.fn_object.specs.Set.{set_row}
+use Rattle.fn_object.specs.Tally.{tally_row}
+use Rattle.fn_object.specs.Unflatten.{unflatten_row}
+use Rattle.fn_object.specs.Values.{values_row}
+use Rattle.fn_string.specs.Case.{in_lower_case, in_upper_case}
+use Rattle.fn_string.specs.Join.{join_row}
+use Rattle.fn_string.specs.Length.{length_row}
+use Rattle.fn_string.specs.OfText.{of_text_row}
+use Rattle.fn_string.specs.Search.{contains, ends_with, search_row, starts_with}
+use Rattle.fn_string.specs.Slice.{slice_row}
+use Rattle.fn_string.specs.StrLen.{strlen_row}
+use Rattle.fn_string.specs.StripWhitespace.{stripped}
+use Rattle.fn_string.specs.Truncate.{truncate_row}
 use Rattle.fn_type.specs.Is.{is_row}
 use Rattle.fn_type.specs.IsEmpty.{is_empty_row}
 use Rattle.fn_type.specs.IsNullish.{is_nullish_row}
@@ -22,9 +55,24 @@ use Rattle.vrl_table.specs.declared.function.Fun.TheVariants as fun
 
 abbrev pub row_of : Fun → Row
 row_of fun.Abs = whole_row abs_row
+row_of fun.Append = append_row
 row_of fun.Array = only_row (codes "array") tag.List
 row_of fun.Bool = only_row (codes "bool") tag.Bool
+row_of fun.Chunks = chunks_row
+row_of fun.Compact = compact_row
+row_of fun.Contains = whole_row (search_row (codes "contains") contains)
+row_of fun.DecodeBase16 = whole_row (decode_row (codes "decode_base16") (codes "not base16") bytes_of_base16)
+row_of fun.DecodeBase64 = whole_row (decode_row (codes "decode_base64") (codes "not base64") bytes_of_base64)
+row_of fun.DecodePercent = whole_row (code_row (codes "decode_percent") text_of_percent)
+row_of fun.Downcase = whole_row (of_text_row (codes "downcase") in_lower_case)
+row_of fun.EncodeBase16 = whole_row (code_row (codes "encode_base16") base16_of)
+row_of fun.EncodeBase64 = whole_row (code_row (codes "encode_base64") base64_of)
+row_of fun.EncodePercent = whole_row (code_row (codes "encode_percent") percent_of)
+row_of fun.EndsWith = whole_row (search_row (codes "ends_with") ends_with)
+row_of fun.Flatten = flatten_row
 row_of fun.FormatInt = whole_row format_int_row
+row_of fun.Get = get_row
+row_of fun.Includes = whole_row includes_row
 row_of fun.Int = only_row (codes "int") tag.Int
 row_of fun.IsArray = whole_row (is_row (codes "is_array") tag.List)
 row_of fun.IsBoolean = whole_row (is_row (codes "is_boolean") tag.Bool)
@@ -36,18 +84,40 @@ row_of fun.IsObject = whole_row (is_row (codes "is_object") tag.Object)
 row_of fun.IsRegex = whole_row (is_row (codes "is_regex") tag.Pattern)
 row_of fun.IsString = whole_row (is_row (codes "is_string") tag.Text)
 row_of fun.IsTimestamp = whole_row (is_row (codes "is_timestamp") tag.Time)
+row_of fun.Join = whole_row join_row
+row_of fun.Keys = keys_row
+row_of fun.Length = whole_row length_row
+row_of fun.Md5 = whole_row (code_row (codes "md5") md5_of)
+row_of fun.Merge = merge_row
 row_of fun.Mod = whole_row mod_row
 row_of fun.Object = only_row (codes "object") tag.Object
+row_of fun.ObjectFromArray = object_from_array_row
 row_of fun.ParseInt = whole_row parse_int_row
+row_of fun.Push = push_row
+row_of fun.Remove = remove_row
+row_of fun.Set = set_row
+row_of fun.Sha1 = whole_row (code_row (codes "sha1") sha1_of)
+row_of fun.Sha2 = sha2_row
+row_of fun.Slice = slice_row
+row_of fun.StartsWith = whole_row (search_row (codes "starts_with") starts_with)
+row_of fun.StrLen = whole_row strlen_row
 row_of fun.StringValue = only_row (codes "string") tag.Text
+row_of fun.StripWhitespace = whole_row (of_text_row (codes "strip_whitespace") stripped)
+row_of fun.Tally = tally_row
 row_of fun.Timestamp = only_row (codes "timestamp") tag.Time
 row_of fun.ToBool = whole_row to_bool_row
 row_of fun.ToInt = whole_row to_int_row
 row_of fun.ToString = whole_row to_string_row
+row_of fun.Truncate = whole_row truncate_row
+row_of fun.Unflatten = unflatten_row
+row_of fun.Unique = unique_row
+row_of fun.Upcase = whole_row (of_text_row (codes "upcase") in_upper_case)
+row_of fun.Values = values_row
+row_of fun.Zip = zip_row
 
 -- all of them
 abbrev pub all_functions : List Fun
-all_functions = fun.Abs ∷ fun.Array ∷ fun.Bool ∷ fun.FormatInt ∷ fun.Int ∷ fun.IsArray ∷ fun.IsBoolean ∷ fun.IsEmpty ∷ fun.IsInteger ∷ fun.IsNull ∷ fun.IsNullish ∷ fun.IsObject ∷ fun.IsRegex ∷ fun.IsString ∷ fun.IsTimestamp ∷ fun.Mod ∷ fun.Object ∷ fun.ParseInt ∷ fun.StringValue ∷ fun.Timestamp ∷ fun.ToBool ∷ fun.ToInt ∷ fun.ToString ∷ []
+all_functions = fun.Abs ∷ fun.Append ∷ fun.Array ∷ fun.Bool ∷ fun.Chunks ∷ fun.Compact ∷ fun.Contains ∷ fun.DecodeBase16 ∷ fun.DecodeBase64 ∷ fun.DecodePercent ∷ fun.Downcase ∷ fun.EncodeBase16 ∷ fun.EncodeBase64 ∷ fun.EncodePercent ∷ fun.EndsWith ∷ fun.Flatten ∷ fun.FormatInt ∷ fun.Get ∷ fun.Includes ∷ fun.Int ∷ fun.IsArray ∷ fun.IsBoolean ∷ fun.IsEmpty ∷ fun.IsInteger ∷ fun.IsNull ∷ fun.IsNullish ∷ fun.IsObject ∷ fun.IsRegex ∷ fun.IsString ∷ fun.IsTimestamp ∷ fun.Join ∷ fun.Keys ∷ fun.Length ∷ fun.Md5 ∷ fun.Merge ∷ fun.Mod ∷ fun.Object ∷ fun.ObjectFromArray ∷ fun.ParseInt ∷ fun.Push ∷ fun.Remove ∷ fun.Set ∷ fun.Sha1 ∷ fun.Sha2 ∷ fun.Slice ∷ fun.StartsWith ∷ fun.StrLen ∷ fun.StringValue ∷ fun.StripWhitespace ∷ fun.Tally ∷ fun.Timestamp ∷ fun.ToBool ∷ fun.ToInt ∷ fun.ToString ∷ fun.Truncate ∷ fun.Unflatten ∷ fun.Unique ∷ fun.Upcase ∷ fun.Values ∷ fun.Zip ∷ []
 
 -- the function of a name, if one has it
 unfoldable pub function_named : List ℕ → Option Fun

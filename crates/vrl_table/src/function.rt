@@ -3,7 +3,17 @@ ghost use Rattle.vrl_table.specs.Laws.{row-law};
 ghost use Rattle.vrl_table.specs.Table.{all_functions, function_named, row_of, FormsAreNoFunctions, FunctionsAreFound, ParametersAreToldApart};
 ghost use Rattle.vrl_table.specs.declared.function.Fun.{Fun};
 
+use fn_codec::{
+    Coded, DecodeBase16, DecodeBase64, DecodePercent, Decoded, EncodeBase16, EncodeBase64,
+    EncodePercent, Md5, Sha1, Sha2,
+};
+use fn_list::{Append, Chunks, Compact, Flatten, Includes, Push, Unique, Zip};
 use fn_number::{Abs, FormatInt, Mod, ParseInt};
+use fn_object::{Get, Keys, Merge, ObjectFromArray, Remove, Set, Tally, Unflatten, Values};
+use fn_string::{
+    Contains, Downcase, EndsWith, Join, Length, OfText, Search, Slice, StartsWith, StrLen,
+    StripWhitespace, Truncate, Upcase,
+};
 use fn_type::{
     Array, Bool, Int, Is, IsArray, IsBoolean, IsEmpty, IsInteger, IsNull, IsNullish, IsObject,
     IsRegex, IsString, IsTimestamp, Object, Only, StringValue, Timestamp, ToBool, ToInt, ToString,
@@ -19,12 +29,42 @@ use vrl_value::{Memory, Value};
 pub enum Fun {
     /// `abs`.
     Abs,
+    /// `append`.
+    Append,
     /// `array`.
     Array,
     /// `bool`.
     Bool,
+    /// `chunks`.
+    Chunks,
+    /// `compact`.
+    Compact,
+    /// `contains`.
+    Contains,
+    /// `decode_base16`.
+    DecodeBase16,
+    /// `decode_base64`.
+    DecodeBase64,
+    /// `decode_percent`.
+    DecodePercent,
+    /// `downcase`.
+    Downcase,
+    /// `encode_base16`.
+    EncodeBase16,
+    /// `encode_base64`.
+    EncodeBase64,
+    /// `encode_percent`.
+    EncodePercent,
+    /// `ends_with`.
+    EndsWith,
+    /// `flatten`.
+    Flatten,
     /// `format_int`.
     FormatInt,
+    /// `get`.
+    Get,
+    /// `includes`.
+    Includes,
     /// `int`.
     Int,
     /// `is_array`.
@@ -47,14 +87,46 @@ pub enum Fun {
     IsString,
     /// `is_timestamp`.
     IsTimestamp,
+    /// `join`.
+    Join,
+    /// `keys`.
+    Keys,
+    /// `length`.
+    Length,
+    /// `md5`.
+    Md5,
+    /// `merge`.
+    Merge,
     /// `mod`.
     Mod,
     /// `object`.
     Object,
+    /// `object_from_array`.
+    ObjectFromArray,
     /// `parse_int`.
     ParseInt,
+    /// `push`.
+    Push,
+    /// `remove`.
+    Remove,
+    /// `set`.
+    Set,
+    /// `sha1`.
+    Sha1,
+    /// `sha2`.
+    Sha2,
+    /// `slice`.
+    Slice,
+    /// `starts_with`.
+    StartsWith,
+    /// `strlen`.
+    StrLen,
     /// `string`.
     StringValue,
+    /// `strip_whitespace`.
+    StripWhitespace,
+    /// `tally`.
+    Tally,
     /// `timestamp`.
     Timestamp,
     /// `to_bool`.
@@ -63,6 +135,18 @@ pub enum Fun {
     ToInt,
     /// `to_string`.
     ToString,
+    /// `truncate`.
+    Truncate,
+    /// `unflatten`.
+    Unflatten,
+    /// `unique`.
+    Unique,
+    /// `upcase`.
+    Upcase,
+    /// `values`.
+    Values,
+    /// `zip`.
+    Zip,
 }
 
 // All functions, each with its variant and what has its row: a call of a method of one of them, or a list of all.
@@ -78,9 +162,24 @@ macro_rules! functions {
     ($($what:tt)*) => {
         functions!(@$($what)*;
             Abs => Abs,
+            Append => Append,
             Array => Only(Array),
             Bool => Only(Bool),
+            Chunks => Chunks,
+            Compact => Compact,
+            Contains => Search(Contains),
+            DecodeBase16 => Decoded(DecodeBase16),
+            DecodeBase64 => Decoded(DecodeBase64),
+            DecodePercent => Coded(DecodePercent),
+            Downcase => OfText(Downcase),
+            EncodeBase16 => Coded(EncodeBase16),
+            EncodeBase64 => Coded(EncodeBase64),
+            EncodePercent => Coded(EncodePercent),
+            EndsWith => Search(EndsWith),
+            Flatten => Flatten,
             FormatInt => FormatInt,
+            Get => Get,
+            Includes => Includes,
             Int => Only(Int),
             IsArray => Is(IsArray),
             IsBoolean => Is(IsBoolean),
@@ -92,14 +191,36 @@ macro_rules! functions {
             IsRegex => Is(IsRegex),
             IsString => Is(IsString),
             IsTimestamp => Is(IsTimestamp),
+            Join => Join,
+            Keys => Keys,
+            Length => Length,
+            Md5 => Coded(Md5),
+            Merge => Merge,
             Mod => Mod,
             Object => Only(Object),
+            ObjectFromArray => ObjectFromArray,
             ParseInt => ParseInt,
+            Push => Push,
+            Remove => Remove,
+            Set => Set,
+            Sha1 => Coded(Sha1),
+            Sha2 => Sha2,
+            Slice => Slice,
+            StartsWith => Search(StartsWith),
+            StrLen => StrLen,
             StringValue => Only(StringValue),
+            StripWhitespace => OfText(StripWhitespace),
+            Tally => Tally,
             Timestamp => Only(Timestamp),
             ToBool => ToBool,
             ToInt => ToInt,
             ToString => ToString,
+            Truncate => Truncate,
+            Unflatten => Unflatten,
+            Unique => Unique,
+            Upcase => OfText(Upcase),
+            Values => Values,
+            Zip => Zip,
         )
     };
 }

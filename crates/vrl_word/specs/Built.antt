@@ -6,17 +6,10 @@ use Rattle.vrl_token.specs.declared.token.Spanned.{Spanned}
 use Rattle.vrl_token.specs.declared.token.Token.{Token}
 use Rattle.vrl_token.specs.declared.token.Token.TheVariants.{BangFunction, Function}
 
--- the functions of the language that are still to come: those on texts, patterns, lists, objects, codecs, formats and time
+-- the functions of the language that are still to come: those on patterns, formats and time
 unfoldable pub unbuilt_functions : List (List ℕ)
 unbuilt_functions =
-    codes "upcase" ∷ codes "downcase" ∷ codes "strip_whitespace" ∷ codes "starts_with" ∷ codes "ends_with" ∷ codes "contains" ∷
-    codes "length" ∷ codes "strlen" ∷ codes "truncate" ∷ codes "slice" ∷ codes "join" ∷
     codes "split" ∷ codes "replace" ∷ codes "find" ∷ codes "match" ∷ codes "match_any" ∷ codes "parse_regex" ∷ codes "parse_regex_all" ∷
-    codes "push" ∷ codes "append" ∷ codes "includes" ∷ codes "unique" ∷ codes "flatten" ∷ codes "chunks" ∷ codes "zip" ∷ codes "compact" ∷
-    codes "keys" ∷ codes "values" ∷ codes "get" ∷ codes "set" ∷ codes "remove" ∷ codes "merge" ∷ codes "unflatten" ∷
-    codes "object_from_array" ∷ codes "tally" ∷
-    codes "encode_base64" ∷ codes "decode_base64" ∷ codes "encode_base16" ∷ codes "decode_base16" ∷ codes "encode_percent" ∷
-    codes "decode_percent" ∷ codes "md5" ∷ codes "sha1" ∷ codes "sha2" ∷
     codes "parse_json" ∷ codes "encode_json" ∷ codes "parse_key_value" ∷ codes "encode_key_value" ∷ codes "parse_csv" ∷ codes "parse_url" ∷
     codes "parse_query_string" ∷
     codes "now" ∷ codes "parse_timestamp" ∷ codes "format_timestamp" ∷ codes "to_unix_timestamp" ∷ codes "from_unix_timestamp" ∷ []

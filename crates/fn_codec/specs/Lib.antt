@@ -1,0 +1,8 @@
+pub mod Base16
+pub mod Base64
+pub mod Code
+pub mod Decode
+pub mod Digests
+pub mod Laws
+pub mod Percent
+pub mod Sha2

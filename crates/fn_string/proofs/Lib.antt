@@ -1,0 +1,5 @@
+mod Counted
+mod Cuts
+mod Others
+mod Searched
+mod Sliced

@@ -1,0 +1,13 @@
+pub mod Case
+pub mod Characters
+pub mod Join
+pub mod JoinLaw
+pub mod Laws
+pub mod Length
+pub mod OfText
+pub mod Search
+pub mod Slice
+pub mod SliceLaw
+pub mod StrLen
+pub mod StripWhitespace
+pub mod Truncate
