@@ -848,7 +848,10 @@ LITERALS = {
     "object": ["{}", '{"a": 1}', '{"a": "s", "b": {"a": 2}}', '{"a.b": null}', "."],
 }
 BUILT = ["is_string", "is_integer", "is_boolean", "is_null", "is_timestamp", "is_regex", "is_array", "is_object", "is_nullish", "is_empty", "string",
-         "int", "bool", "timestamp", "array", "object", "to_string", "to_int", "to_bool", "abs", "mod", "parse_int", "format_int"]
+         "int", "bool", "timestamp", "array", "object", "to_string", "to_int", "to_bool", "abs", "mod", "parse_int", "format_int",
+         "upcase", "downcase", "strip_whitespace", "starts_with", "ends_with", "contains", "length", "strlen", "truncate", "slice", "join", "push", "append",
+         "includes", "unique", "flatten", "chunks", "zip", "compact", "keys", "values", "get", "set", "remove", "merge", "unflatten", "object_from_array",
+         "tally", "encode_base64", "decode_base64", "encode_base16", "decode_base16", "encode_percent", "decode_percent", "md5", "sha1", "sha2"]
 CLOSED = ["for_each", "for_each", "filter", "map_values", "map_keys"]
 VARIANTS = {"variant": ['"SHA-256"', '"SHA-1"'], "format": ['"%+"', '"%Y-%m-%d"', '"%Y"', '"%j"', '"%"'], "unit": ['"seconds"', '"nanoseconds"', '"days"']}
 
