@@ -618,7 +618,7 @@ def main():
             if not found.accepted:
                 if given.refused:
                     refused += 1
-                    told = program.run(script.encode())
+                    told = told_by(program, script, file, b"", {})
                     if told != (b"", programs.joined(found.diagnostics), 1) and told[1] != judgement.NOT_BUILT:
                         differences += 1
                         if differences <= given.show:
