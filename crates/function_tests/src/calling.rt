@@ -13,7 +13,7 @@ use vrl_builtin::{Applied, Arguments, Given, Givens, Setting};
 use vrl_json::{JsonFault, from_line, json_needs_no_sources, lines_are_json};
 use vrl_kind::{Kind, kind_of, print};
 use vrl_pattern::Patterns;
-use vrl_table::{Fun, apply, lookup, may_fail, result_kind};
+use vrl_table::{Fun, apply, lookup, may_fail, parameters, result_kind};
 use vrl_value::{Chars, Memory, Moment, Names, Tag, Value};
 
 // A value of JSON.
@@ -133,7 +133,7 @@ fn one_pattern(alloc: Global) -> Result<Patterns, Memory>
 fn answers(alloc: Global, function: Fun, arguments: &str, wanted: &str) -> Result<bool, Memory> {
     let values = values_of(alloc, arguments)?;
     let arguments = arguments_of(alloc, &values)?;
-    if !are_arguments(function, &arguments) {
+    if !are_arguments(parameters(function), &arguments) {
         return Ok(false);
     }
     let patterns = one_pattern(alloc)?;
@@ -186,7 +186,7 @@ fn is_judged(
     fails: bool,
 ) -> Result<bool, Memory> {
     let given = givens_of(alloc, given)?;
-    if !are_given(function, &given) {
+    if !are_given(parameters(function), &given) {
         return Ok(false);
     }
     let told = told_kind(alloc, function, &given)?;
