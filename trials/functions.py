@@ -2,22 +2,21 @@
 
 A row has the parameters, the result kind, when the function may fail though its arguments fit, which literals it
 takes, and what it does. `given` maps each parameter that an argument binds to its kind, cut down to the tags that the
-parameter allows, and to its literal, if it is one. This file runs nothing by itself. What `parse_url` does is left
-out, and so is what `parse_timestamp` does with formats other than `%+`.
-
-Patterns go through Python's `re`, so scripts at random use only patterns on which it agrees with any other.
+parameter allows, and to its literal, if it is one. This file runs nothing by itself. Patterns, dates and URLs are read by
+`patterns.py`, `dates.py` and `urls.py`.
 """
 
 import base64
-import csv
 import hashlib
-import io
 import re
 import urllib.parse
 from typing import NamedTuple
 
+import dates
 import json_lines
 import kinds
+import patterns
+import urls
 from grammar import read_moment
 from kinds import ABSENT, ANY, JSON, NEVER, SCALARS, join, make, minus, own, parts, plus, rest_of, root_tags, scalars
 from values import NULL, Failed, flag, get, moment_text, objects, part, plain, put, cut_out, text, value_of, whole
@@ -243,20 +242,15 @@ def _(args, run):
 
 # ---- searching
 
-def compiled(run, number):
-    return re.compile(run.sources[number].replace("(?<", "(?P<"))
-
-
-def matches(pattern, run, string):
-    """Starts, ends and matches from the left, in characters."""
+def found_in(pattern, run, string):
+    """The matches from the left, each with its groups from the whole on, as pairs of places in characters or None."""
     tag, one = pattern
     if tag == "regex":
-        return [(m.start(), m.end(), m) for m in compiled(run, one).finditer(string)]
-    found, at = [], 0
-    while one and one in string[at:]:
-        start = string.index(one, at)
-        at = start + len(one)
-        found.append((start, at, None))
+        return patterns.matches(run.sources[one], string)
+    found, at = [], string.find(one) if one else -1
+    while at >= 0:
+        found.append(((at, at + len(one)),))
+        at = string.find(one, at + len(one))
     return found
 
 
@@ -264,7 +258,7 @@ def matches(pattern, run, string):
 def _(args, run):
     one, pieces, at = args["value"][1], [], 0
     limit = max(1, held(args, "limit", 2 ** 63))
-    for start, end, _ in matches(args["pattern"], run, one):
+    for (start, end), *_ in found_in(args["pattern"], run, one):
         if len(pieces) + 1 == limit:
             break
         pieces.append(one[at:start])
@@ -272,22 +266,16 @@ def _(args, run):
     return strings(pieces + [one[at:]])
 
 
-def expanded(template, match):
-    def group(name):
-        if name.isdigit():
-            return (match.group(int(name)) or "") if int(name) <= match.re.groups else ""
-        return (match.group(name) or "") if name in match.re.groupindex else ""
-    return re.sub(r"\$(?:(\$)|([0-9A-Za-z_]+)|\{([^}]*)\})", lambda m: "$" if m[1] else group(m[2] or m[3] or ""), template)
-
-
 @row("replace", "value:string pattern:string,regex with:string count:integer?", STRING)
 def _(args, run):
     one, out, at, count = args["value"][1], "", 0, held(args, "count", -1)
-    for number, (start, end, match) in enumerate(matches(args["pattern"], run, one)):
+    tag, pattern = args["pattern"]
+    names = patterns.group_names(run.sources[pattern]) if tag == "regex" else None
+    for number, groups in enumerate(found_in(args["pattern"], run, one)):
         if 0 <= count <= number:
             break
-        out += one[at:start] + (expanded(args["with"][1], match) if match else args["with"][1])
-        at = end
+        out += one[at:groups[0][0]] + (patterns.expanded(args["with"][1], names, groups, one) if names else args["with"][1])
+        at = groups[0][1]
     return text(out + one[at:])
 
 
@@ -299,13 +287,13 @@ def _(args, run):
     rest = one[start:].decode()
     if args["pattern"] == ("string", ""):
         return "integer", start
-    found = matches(args["pattern"], run, rest)
-    return ("integer", start + len(rest[:found[0][0]].encode())) if found else NULL
+    found = found_in(args["pattern"], run, rest)
+    return ("integer", start + len(rest[:found[0][0][0]].encode())) if found else NULL
 
 
 @row("match", "value:string pattern:regex", BOOLEAN)
 def _(args, run):
-    return flag(compiled(run, args["pattern"][1]).search(args["value"][1]))
+    return flag(found_in(args["pattern"], run, args["value"][1]))
 
 
 @row("match_any", "value:string patterns:array", BOOLEAN, parts_within("patterns", "regex"))
@@ -313,63 +301,40 @@ def _(args, run):
     for number, one in enumerate(args["patterns"][1]):
         if one[0] != "regex":
             raise Failed(f"element {number} is {one[0]}")
-    return flag(any(compiled(run, number).search(args["value"][1]) for _, number in args["patterns"][1]))
-
-
-def group_names(source):
-    """One entry for each capturing group from the whole match on, None for a group without a name."""
-    found, at, classes = [None], 0, 0
-    while at < len(source):
-        if source[at] == "\\":
-            at += 1
-        elif source[at] == "[":
-            classes += 1
-            at += source[at + 1:at + 2] == "^"
-            at += source[at + 1:at + 2] == "]"
-        elif source[at] == "]" and classes:
-            classes -= 1
-        elif source[at] == "(" and not classes:
-            named = re.compile(r"\(\?P?<([^>=!][^>]*|)(?:>|$)").match(source, at)
-            if source[at + 1:at + 2] != "?":
-                found.append(None)
-            elif named:
-                found.append(named[1] or None)
-                at = named.end() - 1
-        at += 1
-    return found
+    return flag(any(found_in(one, run, args["value"][1]) for one in args["patterns"][1]))
 
 
 def groups_kind(given, sources):
     literal = given.get("numeric_groups", Given(BOOLEAN, flag(False))).literal
     if literal == flag(True):
         return object_of(scalars("string", "null"))
-    names = {name for name in group_names(sources[given["pattern"].literal[1]]) if name}
+    names = {name for name in patterns.group_names(sources[given["pattern"].literal[1]]) if name}
     return make((), None, ({name: scalars("string", "null") for name in names}, "nothing"))
 
 
-def groups_of(args, run, match):
+def groups_of(args, run, groups):
+    """The object of a match: a field for each name, and for each group of the match where these are asked for."""
+    told = lambda span: NULL if span is None else text(args["value"][1][slice(*span)])
     fields = {}
-    numbered = held(args, "numeric_groups", False)
-    for number, name in enumerate(group_names(run.sources[args["pattern"][1]])):
+    for number, name in enumerate(patterns.group_names(run.sources[args["pattern"][1]])):
         if name:
-            fields[name] = match.group(number)
-    if numbered:
-        for number in range(match.re.groups + 1):
-            fields[str(number)] = match.group(number)
-    return objects({name: NULL if one is None else text(one) for name, one in fields.items()})
+            fields[name] = told(groups[number] if number < len(groups) else None)
+    if held(args, "numeric_groups", False):
+        fields.update({str(number): told(span) for number, span in enumerate(groups)})
+    return objects(fields)
 
 
 @row("parse_regex", "value:string pattern:regex! numeric_groups:boolean!?", groups_kind, True)
 def _(args, run):
-    match = compiled(run, args["pattern"][1]).search(args["value"][1])
-    if not match:
+    found = found_in(args["pattern"], run, args["value"][1])
+    if not found:
         raise Failed("no match")
-    return groups_of(args, run, match)
+    return groups_of(args, run, found[0])
 
 
 @row("parse_regex_all", "value:string pattern:regex! numeric_groups:boolean!?", lambda given, sources: array_of(groups_kind(given, sources)))
 def _(args, run):
-    return "array", tuple(groups_of(args, run, one) for one in compiled(run, args["pattern"][1]).finditer(args["value"][1]))
+    return "array", tuple(groups_of(args, run, one) for one in found_in(args["pattern"], run, args["value"][1]))
 
 
 # ---- lists
@@ -673,13 +638,31 @@ def good_delimiter(one):
     return len(one) == 1 and ord(one) < 128 and one not in '"\r\n'
 
 
+def first_row(string, delimiter):
+    """The fields of the first row by the `csv` crate's default rules, None where there is no row. A quote that begins a field opens it, a doubled one inside
+    stands for itself, and what follows the closing one belongs to the field; a row ends at CR, LF or both, and an empty one is passed over."""
+    string = string.removeprefix("\ufeff").lstrip("\r\n")
+    if not string:
+        return None
+    fields, at = [], 0
+    while True:
+        quoted = re.compile(r'"((?:[^"]|"")*)("|$)(?!")', re.S).match(string, at)
+        inside = quoted[1].replace('""', '"') if quoted else ""
+        plain = re.compile("[^%s\r\n]*" % re.escape(delimiter)).match(string, quoted.end() if quoted else at)
+        fields.append(inside + plain[0])
+        at = plain.end()
+        if string[at:at + 1] != delimiter:
+            return fields
+        at += 1
+
+
 @row("parse_csv", "value:string delimiter:string?", array_of(STRING),
      lambda given: "delimiter" in given and not (given["delimiter"].literal and good_delimiter(given["delimiter"].literal[1])))
 def _(args, run):
     delimiter = held(args, "delimiter", ",")
     if not good_delimiter(delimiter):
         raise Failed("bad delimiter")
-    return strings(next((one for one in csv.reader(io.StringIO(args["value"][1], newline=""), delimiter=delimiter) if one), []))
+    return strings(first_row(args["value"][1], delimiter) or [])
 
 
 @row("parse_query_string", "value:string", object_of(join(STRING, array_of(STRING))))
@@ -696,7 +679,14 @@ WORDS_OF_URLS = {"scheme": STRING, "username": STRING, "password": STRING, "path
 
 @row("parse_url", "value:string", make((), None, (WORDS_OF_URLS, "nothing")), True)
 def _(args, run):
-    raise NotImplementedError("URLs")
+    try:
+        one = urls.parse(args["value"][1])
+    except urls.NotUrl:
+        raise Failed("not a URL") from None
+    fields = {name: text(getattr(one, name)) for name in ("scheme", "username", "password", "path")}
+    fields.update({name: NULL if getattr(one, name) is None else text(getattr(one, name)) for name in ("host", "fragment")})
+    fields["port"] = NULL if one.port is None else ("integer", one.port)
+    return objects({**fields, "query": objects({name: text(value) for name, value in urls.pairs(one.query or "")})})
 
 
 # ---- moments
@@ -719,9 +709,8 @@ def whole_format(name, literal):
 
 @row("parse_timestamp", "value:string format:string!", TIME, True, whole_format)
 def _(args, run):
-    if args["format"][1] != "%+":
-        raise NotImplementedError("date formats")
-    found = read_moment(args["value"][1])
+    format_ = args["format"][1]
+    found = read_moment(args["value"][1]) if format_ == "%+" else dates.read(format_, args["value"][1])
     if found is None:
         raise Failed("no match")
     return "timestamp", found
@@ -730,12 +719,8 @@ def _(args, run):
 @row("format_timestamp", "value:timestamp format:string!", STRING, False,
      lambda name, literal: literal[1] == "%+" or conversions(literal[1]) is not None)
 def _(args, run):
-    told = moment_text(args["value"][1])
-    if args["format"][1] == "%+":
-        return text(told)
-    fields = dict(zip("YmdHMS", re.findall(r"[0-9]+", told)), z="+0000")
-    fields["%"] = "%"
-    return text(re.sub(r"%(.)", lambda m: fields[m[1]], args["format"][1]))
+    moment, format_ = args["value"][1], args["format"][1]
+    return text(moment_text(moment) if format_ == "%+" else dates.show(format_, moment))
 
 
 @row("to_unix_timestamp", "value:timestamp unit:string!?", INTEGER,
@@ -836,138 +821,3 @@ def bind(row, node):
     if any(p.required and p.name not in bound for p in row.parameters):
         raise Unbound(107, node.start, node.end)
     return bound
-
-
-# ---- calls at random
-
-LITERALS = {
-    "string": ['"s"', '""', '"a,b"', '"12"', '"a"', '"{\\"a\\": 1}"', '"k=v"', '"aGk="', '"2024-01-02T03:04:05Z"', '"-"', '"yes"', '"é b"', "s'0x1f'"],
-    "integer": ["1", "0", "-1", "2", "16", "7"], "boolean": ["true", "false"], "null": ["null"],
-    "timestamp": ["t'2024-01-02T03:04:05Z'", "t'1969-12-31T23:59:59.5Z'"], "regex": ["r'a'", r"r'(?P<k>\w)=(?P<v>\w)'", r"r'\d+'", "r'(?<c>[a-z])(x)?'"],
-    "array": ["[]", "[1, 2]", '["a", "b"]', '[["a", 1]]', "[null, [1]]", "[1, \"s\"]", "[r'a']", '["a", 0]'],
-    "object": ["{}", '{"a": 1}', '{"a": "s", "b": {"a": 2}}', '{"a.b": null}', "."],
-}
-BUILT = ["is_string", "is_integer", "is_boolean", "is_null", "is_timestamp", "is_regex", "is_array", "is_object", "is_nullish", "is_empty", "string",
-         "int", "bool", "timestamp", "array", "object", "to_string", "to_int", "to_bool", "abs", "mod", "parse_int", "format_int",
-         "upcase", "downcase", "strip_whitespace", "starts_with", "ends_with", "contains", "length", "strlen", "truncate", "slice", "join", "push", "append",
-         "includes", "unique", "flatten", "chunks", "zip", "compact", "keys", "values", "get", "set", "remove", "merge", "unflatten", "object_from_array",
-         "tally", "encode_base64", "decode_base64", "encode_base16", "decode_base16", "encode_percent", "decode_percent", "md5", "sha1", "sha2"]
-CLOSED = ["for_each", "for_each", "filter", "map_values", "map_keys"]
-VARIANTS = {"variant": ['"SHA-256"', '"SHA-1"'], "format": ['"%+"', '"%Y-%m-%d"', '"%Y"', '"%j"', '"%"'], "unit": ['"seconds"', '"nanoseconds"', '"days"']}
-
-
-def fitting(maker, parameter, depth):
-    rng = maker.rng
-    if parameter.name in VARIANTS and rng.random() < 0.9:
-        return rng.choice(VARIANTS[parameter.name])
-    pick = rng.random()
-    if pick < 0.55 or (parameter.literal and pick < 0.9):
-        return rng.choice(LITERALS[rng.choice(sorted(parameter.tags))])
-    return rng.choice(maker.PLACES) if pick < 0.8 else maker.expression(depth - 1)
-
-
-def call(maker, depth):
-    rng = maker.rng
-    every = BUILT if maker.built else sorted(set(ROWS) - {"parse_url"})
-    name = maker.pick((rng.choice(every), 6), ("del", 1.5), ("exists", 1), (rng.choice(CLOSED), 0 if maker.built else 3),
-                      (rng.choice(["to_int", "to_string", "mod" if maker.built else "push"]), 2))
-    row = ROWS[name]
-    arguments, named = [], False
-    for one in row.parameters:
-        if one.required or rng.random() < 0.4:
-            value = rng.choice(maker.PLACES) if row.path and rng.random() < 0.95 else fitting(maker, one, depth)
-            named = named or rng.random() < 0.15
-            arguments.append((one.name + ": " if named else "") + value)
-        else:
-            named = True
-    noise = rng.random()
-    if noise < 0.02:
-        arguments = arguments[1:]
-    elif noise < 0.04:
-        arguments.append(rng.choice(["1", "value: 1", "v: 1"]))
-    elif noise < 0.045 and arguments:
-        arguments[-1] = "v: 1"
-    elif noise < 0.05:
-        name = "no_such"
-    if named and rng.random() < 0.3:
-        rng.shuffle(arguments)
-    bang = 0.04 if row.path or (row.may_fail is False and all(p.tags == frozenset(TAGS) for p in row.parameters)) else 0.4
-    text_ = name + ("!" if rng.random() < bang else "") + "(" + ", ".join(arguments) + ")"
-    if (row.names is not None) != (rng.random() < 0.02):
-        names = [rng.choice(["k", "v", "_", "x", "y"]) for _ in range((row.names or 1) if rng.random() < 0.97 else 3)]
-        return text_ + " -> |" + ", ".join(names) + "| { " + closure_body(maker, name, names, depth) + " }"
-    return text_ + (rng.choice([".a", "[0]", "[-1]"]) if rng.random() < 0.1 else "")
-
-
-def loop(maker):
-    """Lines with a closure that takes more than one try to be kept."""
-    pick = maker.rng.choice
-    value = lambda: pick(["1", '"s"', "true", "null", "{}", "[1]", ".a", "v", "k", '{"a": x}', "[y]", "x"])
-    steps = [pick(["y = x", "x = y", ".a = y", ".a = x", f"x = {value()}", f"y = {value()}", f".a = {value()}", "x.a = y", "del(x.a)", "del(.a)",
-                   "y = x; x = " + value(), "x, y = to_int(.a)", "y = .a", "if v == 1 { x = y }", ".b = x + 1 ?? 0"]) for _ in range(pick([1, 2, 3]))]
-    first = f"x = {pick(['1', 'true', '{}', '[1]', 'null'])}\ny = {pick(['1', 'true', '{}', '[1]', 'null'])}\n"
-    over = pick([".", "array!(.a)", "{\"a\": 1}", "[1, 2]", "[]", "object!(.b)"])
-    name = pick(["for_each", "for_each", "filter"])
-    last = "; true" if name == "filter" else ""
-    return f"{first}{name}({over}) -> |k, v| {{ {'; '.join(steps)}{last} }}"
-
-
-def closure_body(maker, name, names, depth):
-    rng = maker.rng
-    items = [maker.items(min(depth - 1, 1))] if rng.random() < 0.6 else []
-    if rng.random() < 0.5:
-        items.append(rng.choice(["x = x + 1 ?? 0", "x = push(array(x) ?? [], %s)", ".a = %s", "x.a = %s", "del(.b)", "x = {\"a\": x}", "y = x",
-                                 "x = %s", "y = x; x = %s", "x = y; y = %s", "x = if x == 1 { \"s\" } else { x }"]).replace("%s", rng.choice(names + ["1", '"s"', "x"])))
-    last = {"filter": ["true", "%s == 1", "is_string(%s)", "%s"],
-            "map_keys": ['"k"', "upcase(%s)", "%s", "to_string(%s) ?? \"q\""]}.get(name, ["%s", "1", "[%s]"])
-    if name != "for_each" or rng.random() < 0.3:
-        items.append(rng.choice(last).replace("%s", rng.choice([n for n in names if n != "_"] or ["1"])))
-    return "; ".join(one for one in items if one)
-
-
-# ---- rows: calls, and the JSON of their values
-
-EXAMPLES = [
-    ("is_array([])", "true"), ('is_nullish("-")', "true"), ('is_empty("")', "true"), ("int(3)", "3"), ("to_string(7)", '"7"'),
-    ('to_int("-7")', "-7"),
-    ('to_bool("Yes")', "true"), ('upcase("aé")', '"Aé"'), ('downcase("AB")', '"ab"'), ('strip_whitespace(" a ")', '"a"'),
-    ('starts_with("Abc", "aB", case_sensitive: false)', "true"), ('ends_with("ab", "b")', "true"),
-    ('contains("abc", "b")', "true"),
-    ('length("é")', "2"), ('strlen("é")', "1"), ('truncate("abcd", 2, "..")', '"ab.."'), ('slice("abcd", 1, -1)', '"bc"'),
-    ('join(["a","b"], "-")', '"a-b"'),
-    ('split("a,b,c", ",", limit: 2)', '["a","b,c"]'), ('replace("aaa", "a", "b", count: 2)', '"bba"'), ('find("abc", "c")', "2"),
-    ("match(\"ab\", r'b$')", "true"), ("match_any(\"ab\", [r'x', r'b'])", "true"),
-    ("parse_regex(\"k=v\", r'(?P<a>\\w)=(?P<b>\\w)')", '{"a":"k","b":"v"}'),
-    ("parse_regex_all(\"ab\", r'(?P<c>.)')", '[{"c":"a"},{"c":"b"}]'), ('push([1], "a")', '[1,"a"]'),
-    ("append([1], [2])", "[1,2]"),
-    ("includes([1], 1)", "true"), ("unique([1,1,2])", "[1,2]"), ("flatten([1,[2,[3]]])", "[1,2,3]"),
-    ('chunks("abcde", 2)', '["ab","cd","e"]'),
-    ('zip([1,2], ["a"])', '[[1,"a"]]'), ('compact([null,1,[""]])', "[1]"), ('keys({"b":1,"a":2})', '["a","b"]'),
-    ('values({"b":1,"a":2})', "[2,1]"),
-    ('get({"a":[5]}, ["a",0])', "5"), ('set({}, ["a",1], 2)', '{"a":[null,2]}'), ('remove({"a":1,"b":2}, ["a"])', '{"b":2}'),
-    ('merge({"a":{"x":1}}, {"a":{"y":2}}, deep: true)', '{"a":{"x":1,"y":2}}'), ('unflatten({"a.b":1})', '{"a":{"b":1}}'),
-    ('object_from_array([["a",1]])', '{"a":1}'), ('tally(["a","b","a"])', '{"a":2,"b":1}'), ('encode_base64("hi")', '"aGk="'),
-    ('decode_base64("aGk=")', '"hi"'),
-    ('encode_base16("hi")', '"6869"'), ('decode_base16("6869")', '"hi"'), ('encode_percent("a b")', '"a%20b"'),
-    ('decode_percent("a%20b")', '"a b"'),
-    ('md5("")', '"d41d8cd98f00b204e9800998ecf8427e"'), ('sha1("abc")', '"a9993e364706816aba3e25717850c26c9cd0d89d"'),
-    ('sha2("abc", variant: "SHA-256")', '"ba7816bf8f01cfea414140de5dae2223b00361a396177a9cb410ff61f20015ad"'),
-    ('parse_json("[1]")', "[1]"),
-    ('encode_json({"a":[1,null]})', '"{\\"a\\":[1,null]}"'),
-    ('parse_key_value("a=1 b=\\"x y\\" c")', '{"a":"1","b":"x y","c":true}'),
-    ('encode_key_value({"a":1,"b":"x y"})', '"a=1 b=\\"x y\\""'), ('parse_csv("a,\\"b,c\\"")', '["a","b,c"]'),
-    ('parse_query_string("?a=1&a=2&b=3")', '{"a":["1","2"],"b":"3"}'),
-    ("format_timestamp(t'2024-01-02T03:04:05Z', \"%Y/%m/%d\")", '"2024/01/02"'),
-    ("to_unix_timestamp(t'1970-01-01T00:00:01.5Z', unit: \"milliseconds\")", "1500"),
-    ("from_unix_timestamp(1)", '"1970-01-01T00:00:01Z"'),
-    ("abs(-3)", "3"), ("mod(-7, 3)", "-1"), ('parse_int("0x1f")', "31"), ("format_int(255, 16)", '"ff"'),
-    ('truncate("abcd", -1)', '""'),
-    ('push([1], "a")[1]', '"a"'), ('find("aéa", "a", from: 2)', "null"), ("split(\"a1b2\", r'\\d')", '["a","b",""]'),
-    ('parse_key_value("a=")', '{"a":""}'),
-    ('parse_csv("", ";")', "[]"), ('parse_query_string("a&a=1").a', '["","1"]'), ('split("a,b", ",")[1]', '"b"'),
-    ('merge({"a":1}, {"a":"s"}).a', '"s"'),
-    ("mod(-9223372036854775808, -1)", "0"), ("abs(-9223372036854775808)", "-9223372036854775808"), ('parse_int("-0b11")', "-3"),
-    ('parse_int("017")', "15"),
-    ("filter({\"a\":1,\"b\":2}) -> |k, v| { v > 1 }", '{"b":2}'), ("map_values([1,2]) -> |v| { v * 2 }", "[2,4]"),
-    ("map_keys({\"a\":1}) -> |k| { upcase(k) }", '{"A":1}'), ("abs(-9223372036854775807)", "9223372036854775807"),
-]

@@ -1,6 +1,6 @@
 """Random trial of the judgement: kinds, states and codes of scripts.
 
-    python3 trials/judgement.py [--seed N] [--count N] [--no-calls | --built] [--hard] [--out FILE] [--program PATH [--words]] [--show N]
+    python3 trials/judgement.py [--seed N] [--count N] [--no-calls] [--hard] [--out FILE] [--program PATH [--built] [--words]] [--show N]
     python3 trials/judgement.py --text FILE [--kind FILE]
 
 The second form prints the diagnostics of a script, or its warnings and then its kinds as `--check` prints them. The
@@ -14,7 +14,7 @@ a JSON object a line:
     assignment's empty value, an outer one before those in it), loops (the state that each closure was judged in last)
 
 where result and end are null for a refused script. Calls are judged by the rows in `functions.py`; --no-calls makes
-scripts without them, --built makes those with calls of the functions that are built alone, --hard adds scripts about the
+scripts without them, --built makes those with calls of the functions that the program has, --hard adds scripts about the
 limits of nodes and levels.
 
 A state is None where it is dead, else a map from roots to kinds; the event's root is ".".
@@ -32,6 +32,7 @@ import functions
 import grammar
 import kinds
 import programs
+import some_calls
 from kinds import ABSENT, ANY, EVENT, NEVER, exactly, minus, plus, root_tags, scalars
 
 TITLES = {
@@ -490,7 +491,8 @@ class Maker:
     LITERALS = ["1", '"s"', "true", "null", "t'2024-01-02T03:04:05Z'", "r'a'", "-2", '""', "false"]
     SIGNS = ["+", "+", "+", "-", "*", "==", "!=", "<", ">=", "|", "|", "&&", "&&", "||", "||", "??", "??", "??"]
 
-    def __init__(self, rng, calls=None, built=False):
+    def __init__(self, rng, calls=None, built=None):
+        """built: the names that calls are made of, all where there are none."""
         self.rng, self.calls, self.built = rng, calls, built
 
     def pick(self, *weighted):
@@ -578,7 +580,7 @@ class Maker:
             lines.append("x = " + self.rng.choice(["1", '"s"', "{}", '{"a": 1}', "[1]", "null", ".a", "true", "."]))
         if self.rng.random() < 0.5:
             lines.append("y = " + self.rng.choice(["1", '"s"', "{}", '{"a": "s"}', "[]", "null", ".b", "x"]))
-        if self.calls and not self.built and self.rng.random() < 0.1:
+        if self.calls and not (self.built and "for_each" not in self.built) and self.rng.random() < 0.1:
             lines.append(self.calls.loop(self))
         if self.rng.random() < 0.08:
             lines.append(self.rng.choice(["x = {\"a\": [.]}", ".c.a.b = .", "x = [[.a]]", ".b[1].a = .a", ". = {\"a\": {\"a\": .}}", "y = [[[.c]]]"]))
@@ -711,6 +713,17 @@ def start_of(file):
     return EVENT if file is None else kinds.kind_file(json.dumps(file).encode())
 
 
+def built_by(program):
+    """The names that the program calls, closures' too; the two that take a path are left out."""
+    found = []
+    for name, row in functions.ROWS.items():
+        names = ", ".join("kv"[:row.names or 0])
+        call = f"x = {name}({', '.join(['1'] * len(row.parameters))})" + (f" -> |{names}| {{ 1 }}" if row.names else "")
+        if not row.path and program.run(call.encode())[1] != NOT_BUILT:
+            found.append(name)
+    return found
+
+
 def told_by(program, script, file, words):
     """Kinds and diagnostics as the program prints them, and its status."""
     more = ["--check"] if words else []
@@ -747,10 +760,11 @@ def main():
         return 0 if found.accepted else 1
     rows = self_check()
     rng = random.Random(given.seed)
-    maker = Maker(rng, None if given.no_calls else functions, given.built)
+    maker = Maker(rng, None if given.no_calls else some_calls)
     met, differences, accepted, passed = {}, 0, 0, 0
     out = open(given.out, "w") if given.out else None
     with programs.Program(given.program) if given.program else contextlib.nullcontext() as program:
+        maker.built = built_by(program) if given.built else None
         made, hard = 0, list(hard_scripts()) if given.hard else []
         while made < given.count or hard:
             script, file = (hard.pop(), None) if hard else (maker.script(), maker.kind_file())

@@ -1,6 +1,6 @@
 """Random trial of the meaning: what accepted scripts do to lines.
 
-    python3 trials/meaning.py [--seed N] [--count N] [--seconds N] [--no-calls | --built] [--program PATH [--words] [--refused]] [--show N]
+    python3 trials/meaning.py [--seed N] [--count N] [--seconds N] [--no-calls] [--program PATH [--built] [--words] [--refused]] [--show N]
     python3 trials/meaning.py --text FILE [--kind FILE] [--drop-on-error] [--keep-on-abort] < LINES
     python3 trials/meaning.py --text FILE --generate COUNT:SEED
 
@@ -12,7 +12,8 @@ joined state. With --program the bytes and the status of `PATH SCRIPTFILE < LINE
 the program says 1099 is counted and passed over. Then the script is made to write its value, the event and the variables
 into the event, at its end and at each `return`, and what the program leaves so is held against the kinds that were judged
 for the script. With --words, too, the program takes `--kind FILE` and both flags. With --refused the scripts that are
-refused go through the program as well. It ends after --count accepted scripts, or --seconds. --built makes scripts with calls of the functions that are built alone.
+refused go through the program as well. It ends after --count accepted scripts, or --seconds. --built makes scripts with calls of the functions that the program
+has. Where there is a program, `now` isn't called: `generate.py` does that.
 """
 
 import argparse
@@ -31,6 +32,8 @@ import json_lines
 import judgement
 import kinds
 import programs
+import some_calls
+import urls
 from values import NULL, Failed, cut_out, depth, flag, get, moment_text, objects, part, plain, put, text, value_of, whole
 
 DEEPEST = 128
@@ -463,7 +466,7 @@ def self_check():
                          ('if .level == "ERROR" { abort }', ["lines 1", "written 0", "errors 0", "aborted 1", "refused 0", "bytes 0",
                           "sha256 e3b0c44298fc1c149afbf4c8996fb92427ae41e4649b934ca495991b7852b855"])):
         assert summary(judgement.Verdict(script.encode()), kinds.EVENT, 1, 1)[0][:len(told)] == told
-    for call, want in functions.EXAMPLES:
+    for call, want in some_calls.EXAMPLES:
         script = grammar.read(call.encode())
         word, held = Run(script, {}, EMPTY["object"]).end()
         got = json_lines.write(plain(held, [token.value for token in script.patterns])) if word == "value" else held
@@ -472,7 +475,7 @@ def self_check():
         assert kinds.inhabits(held, kind), (call, held, kinds.print_kind(kind))
     for one in ("2024-02-29T00:00:00Z", "0000-01-01T00:00:00Z", "9999-12-29T23:59:59.000001Z", "1969-12-31T23:59:59.999999999Z", "2000-12-31T12:00:00.120Z"):
         assert moment_text(grammar.read_moment(one)) == one
-    return len(ROWS) + 10 + len(functions.EXAMPLES) + judgement.self_check()
+    return len(ROWS) + 10 + len(some_calls.EXAMPLES) + judgement.self_check()
 
 
 def told_by(program, script, file, data, options):
@@ -605,9 +608,11 @@ def main():
         return status
     rows = self_check()
     rng = random.Random(given.seed)
-    maker = judgement.Maker(rng, None if given.no_calls else functions, given.built)
+    maker = judgement.Maker(rng, None if given.no_calls else some_calls)
     met, differences, passed, made, refused, lines, left = {}, 0, 0, 0, 0, 0, 0
     with programs.Program(given.program) if given.program else contextlib.nullcontext() as program:
+        if program:
+            maker.built = [name for name in (judgement.built_by(program) if given.built else sorted(functions.ROWS)) if name != "now"]
         end = time.monotonic() + given.seconds
         while made < given.count and time.monotonic() < end:
             script, file = maker.script(), maker.kind_file()
@@ -638,6 +643,8 @@ def main():
                 differences += 1
                 if differences <= given.show:
                     print("not sound:", one, "on", repr(script), "kind", json.dumps(file), "lines", data)
+                continue
+            except urls.Unknown:
                 continue
             lines += len(data.split(b"\n"))
             if given.program:

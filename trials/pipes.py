@@ -1,0 +1,203 @@
+"""Live pipes: how long a line's event is waited for, ends that are killed, and inputs of gigabytes.
+
+    python3 trials/pipes.py --program PATH [--seed N] [--count N] [--rate N] [--seconds N] [--gigabytes N]
+
+First lines come over a pipe at so many a second for some seconds, with one worker and with eight: of each event the time is taken from when its line was given to when
+it was read. A batch waits for its 256th line, so an event may wait as long as 256 lines take to come, and for its batch to be mapped; one that waits for more than
+half a second beyond that is a difference. Then --count runs with eight workers over random lines: the writer is gone at a random byte, whose event must be that of the
+bytes it gave; the reader is gone after some bytes, and the status is 4, or the answer where all of it was in the pipe; the program is killed or stopped by a signal, and what it wrote is
+a front of the answer. With --gigabytes so much goes through a pipe with one worker and with eight, and what is told of it is the number of its events, their bytes and the most memory
+that the program had.
+"""
+
+import argparse
+import contextlib
+import os
+import random
+import signal
+import subprocess
+import sys
+import threading
+import time
+
+sys.dont_write_bytecode = True
+
+import programs
+
+BATCH = 256
+SCRIPT = b'.x = (int(.n) ?? 0) + 1\nif .x == 13 { abort "unlucky" }\n'
+LINE = b'{"host":"h6","level":"ERROR","message":"request 1 took 543 ms","n":774}\n'
+MEMORY = 32 << 20
+
+
+def start(program, jobs, script=SCRIPT):
+    """The program over pipes, with so many workers."""
+    path = program.write("script.vrl", script)
+    return subprocess.Popen([program.path, path, "--jobs", str(jobs)], stdin=subprocess.PIPE, stdout=subprocess.PIPE, stderr=subprocess.PIPE)
+
+
+def given(pipe, data):
+    """Gives all of the data, or what is taken of it."""
+    with contextlib.suppress(BrokenPipeError):
+        at = 0
+        while at < len(data):
+            at += os.write(pipe.fileno(), data[at:at + 65536])
+
+
+def closed(pipe):
+    with contextlib.suppress(BrokenPipeError):
+        pipe.close()
+
+
+def waits(program, jobs, rate, seconds):
+    """For each event the seconds from its line to it, where lines come at a rate."""
+    started = start(program, jobs, b".x = 1\n")
+    lines = int(rate * seconds)
+    came, seen = [0.0] * lines, [0.0] * lines
+
+    def give():
+        begun, made = time.perf_counter(), 0
+        while made < lines:
+            due = min(lines, int((time.perf_counter() - begun) * rate) + 1)
+            now = time.perf_counter()
+            for number in range(made, due):
+                came[number] = now
+            given(started.stdin, b"".join(b'{"n":%d}\n' % number for number in range(made, due)))
+            made = due
+            time.sleep(0.0005)
+        closed(started.stdin)
+
+    def take():
+        number, rest = 0, b""
+        while True:
+            taken = os.read(started.stdout.fileno(), 1 << 20)
+            now = time.perf_counter()
+            if not taken:
+                return
+            rest += taken
+            whole = rest.count(b"\n")
+            rest = rest[rest.rindex(b"\n") + 1:] if whole else rest
+            for at in range(number, number + whole):
+                seen[at] = now
+            number += whole
+
+    threads = [threading.Thread(target=give), threading.Thread(target=take)]
+    for thread in threads:
+        thread.start()
+    for thread in threads:
+        thread.join()
+    started.wait()
+    return [there - here for here, there in zip(came, seen)]
+
+
+def random_lines(rng):
+    lines = []
+    for _ in range(rng.choice([3, 255, 257, 600, 3000])):
+        lines.append(rng.choice([b'{"n":%d}' % rng.randrange(20), b'{"n":"%d"}' % rng.randrange(99), b"{", b"", b'{"n":1.5}', b"{}"]))
+    return b"\n".join(lines) + rng.choice([b"", b"\n"])
+
+
+def run_killed(program, rng, tell):
+    """One run of which an end is gone early."""
+    data = random_lines(rng)
+    how = rng.choice(["writer", "reader", "program", "stopped"])
+    cut = rng.randrange(len(data) + 1) if how == "writer" else len(data)
+    output, report, status = program.run(SCRIPT, data[:cut], ("--jobs", "1"))
+    started = start(program, 8)
+    most = rng.randrange(len(output) + 1) if how == "reader" else None
+    told = {}
+
+    def take(name, pipe, most=None):
+        told[name] = pipe.read() if most is None else pipe.read(most)
+        pipe.close()
+
+    # (a program that is killed gets no end of its input before)
+    threads = [threading.Thread(target=take, args=("output", started.stdout, most)), threading.Thread(target=take, args=("report", started.stderr))]
+    for thread in threads:
+        thread.start()
+    if how in ("program", "stopped"):
+        given(started.stdin, data[:rng.randrange(len(data) + 1)])
+        time.sleep(rng.choice([0, 0.001, 0.01]))
+        started.send_signal(signal.SIGKILL if how == "program" else signal.SIGTERM)
+    else:
+        given(started.stdin, data[:cut])
+    closed(started.stdin)
+    for thread in threads:
+        thread.join()
+    ended = started.wait()
+    fronts = output.startswith(told["output"]) and report.startswith(told["report"])
+    if how == "writer":
+        right = (told["output"], told["report"], ended) == (output, report, status)
+    elif how == "reader":
+        right = fronts and len(told["output"]) == most and ended in (4, status) and (ended == 4 or told["report"] == report)
+    else:
+        right = fronts and ended in (-signal.SIGKILL, -signal.SIGTERM, status)
+    tell(f"{how} gone, {len(data)} bytes, {most}", right, (ended, status, len(told["output"]), len(output)))
+
+
+def run_long(program, gigabytes, jobs, tell):
+    """So many gigabytes of one line through the program."""
+    lines = (gigabytes * 1_000_000_000) // len(LINE)
+    started = start(program, jobs, b".x = 1\n")
+    block = LINE * 4096
+
+    def give():
+        left = lines
+        while left > 0:
+            given(started.stdin, block if left >= 4096 else LINE * left)
+            left -= 4096
+        closed(started.stdin)
+
+    thread = threading.Thread(target=give)
+    begun = time.perf_counter()
+    thread.start()
+    events = taken = 0
+    while True:
+        read = os.read(started.stdout.fileno(), 1 << 20)
+        if not read:
+            break
+        events += read.count(b"\n")
+        taken += len(read)
+    thread.join()
+    _, status, usage = os.wait4(started.pid, 0)
+    kept = usage.ru_maxrss * 1024
+    right = status == 0 and events == lines and taken == lines * (len(LINE) + 6) and kept <= MEMORY * (1 if jobs == 1 else 2)
+    tell(f"{gigabytes} GB with {jobs} workers: {events} events, {taken} bytes, {kept >> 20} MB of memory, {time.perf_counter() - begun:.0f} s", right, status)
+
+
+def main():
+    words = argparse.ArgumentParser()
+    words.add_argument("--program", required=True)
+    words.add_argument("--seed", type=int, default=1)
+    words.add_argument("--count", type=int, default=400)
+    words.add_argument("--rate", type=int, default=10000)
+    words.add_argument("--seconds", type=float, default=5)
+    words.add_argument("--gigabytes", type=int, default=0)
+    told = words.parse_args()
+    rng = random.Random(told.seed)
+    tried = others = 0
+
+    def tell(title, right, what):
+        nonlocal tried, others
+        tried += 1
+        if not right:
+            others += 1
+            print(f"DIFFERENCE {title}: {what}", flush=True)
+
+    with programs.Program(told.program) as program:
+        for jobs in (1, 8):
+            taken = sorted(waits(program, jobs, told.rate, told.seconds))
+            tell("waits", taken[0] > 0 and taken[-1] < BATCH / told.rate + 0.5, taken[-1])
+            print(f"{told.rate} lines a second, {jobs} workers: an event waits {taken[len(taken) // 2] * 1000:.1f} ms (median), "
+                  f"{taken[len(taken) * 99 // 100] * 1000:.1f} (99 of 100), {taken[-1] * 1000:.1f} (most)", flush=True)
+        for _ in range(told.count):
+            run_killed(program, rng, tell)
+        if told.gigabytes:
+            for jobs in (1, 8):
+                run_long(program, told.gigabytes, jobs, lambda title, right, what: (print(title, flush=True), tell(title, right, what)))
+    print(f"pipes: {tried} runs, {others} others, seed {told.seed}")
+    return 1 if others else 0
+
+
+if __name__ == "__main__":
+    sys.exit(main())
