@@ -179,8 +179,8 @@ class Maker:
 
 
 NOISE = list("()[]{}*+?|\\^$.-,:<>!=&~#PpdDwWsSbBAzxuUtnrQk0123456789 aimsé") + ["(?", "(?:", "(?P<", "[^", "[[:", ":]]", "&&", "--", "~~", "\\p{", "\\x{", "\\u{", "(?i", "(?#", "(?=", "\\b", "{2,1}", "{1001}", "{,2}"]
-# What only later editions read: names beyond ASCII, half word boundaries, the flag R, and {,n} as a count.
-LATER = re.compile(r"\\b\{|\\[<>]|\(\?[a-zA-Z-]*R|\{\s*,|\(\?P?<[^>]*[^\x00-\x7f]")
+# What only later editions read: names beyond ASCII, half word boundaries, the flag R, {,n} as a count, all signs after a backslash, and classes without a character.
+LATER = re.compile(r"\\b\{|\\[ !\"%',/:;<=>@_`]|\(\?[a-zA-Z-]*R|\{\s*,|\(\?P?<[^>]*[^\x00-\x7f]|&&|--|~~|\[\^\\[a-zA-Z]")
 
 
 def spoilt(rng, maker):

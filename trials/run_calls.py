@@ -32,8 +32,8 @@ import programs
 from json_lines import write
 from values import moment_text, plain
 
-CALLS = [10, 30, 60]        # calls a script
-LINES = [1, 4, 12, 40]      # lines a run
+CALLS = [6, 16]            # calls a script
+LINES = [1, 4, 12]          # lines a run
 # Functions whose values may hold what they are given, which may be nested about the limit.
 DEEP = ["push", "append", "zip", "unique", "compact", "flatten", "values", "get", "set", "remove", "merge", "unflatten", "object_from_array", "slice", "array", "object", "length", "is_array",
         "is_empty", "includes", "keys", "encode_json", "encode_key_value"]
