@@ -212,7 +212,7 @@ class Trial:
         if deep:
             lines.append(". = {" + ", ".join(f'"r{site.number}": [is_array(r{site.number}), is_object(r{site.number})]' for site in kept) + "}")
         else:
-            ends = [f'"r{site.number}": [r{site.number}, is_timestamp(r{site.number}), {f"e{site.number}" if f"e{site.number}" in line else "0"}]' for site, line in zip(kept, lines)]
+            ends = [f'"r{site.number}": [r{site.number}, is_timestamp(r{site.number}), {f"e{site.number}" if line.startswith(f"r{site.number}, ") else "0"}]' for site, line in zip(kept, lines)]
             lines.append(". = {" + ", ".join(ends) + "}")
         return kept, "\n".join(lines)
 
