@@ -12,7 +12,7 @@ from functions import SHA2, TAGS, UNITS, WHITE
 from values import flag, objects, text, moment_text
 
 LEAST, GREATEST = -2 ** 63, 2 ** 63 - 1
-LETTERS = ["a", "b", "B", "c", "z", "Z", "@", "[", "`", "{", "0", "9", "-", "_", ".", " ", "=", ",", ";", "\"", "\\", "'", "\n", "\t", "\r", "\0", "\x7f", "é", "É", "ß", "İ", "ſ", "\u212a", "\u0301",
+LETTERS = ["a", "b", "B", "c", "z", "Z", "@", "[", "`", "{", "0", "9", "-", "_", ".", " ", "=", ",", ";", "\"", "\\", "'", "\n", "\t", "\r", "\0", "\x7f", "é", "É", "ß", "İ", "ſ", "\u212a",
            "中", "\u2028", "\ufeff", "\uffff", "\U0001f600", "\U0010ffff", "%", "+", "&", "?", "/", "$"]
 WORDS = ["", "a", "ab", "abc", "aXb,a", "a,b,c", "é", "aéa", "k=v", "hello world", "-", "null", "true", "1", "x" * 40]
 BLANKS = list(WHITE) + ["\u200b", "\ufeff", "\x1c", "\x1f", "\u180e"]
