@@ -1,4 +1,5 @@
 ghost use Rattle.std.specs.Prelude.{◌≡◌, ◌≤◌, ℕ, ◌++◌, [], ◌∷◌, IfOk, IsTrue, OnOk, length};
+ghost use Rattle.std.specs.Str.{IsUtf8};
 ghost use Rattle.json.specs.Token.{string};
 ghost use Rattle.vrl_value.specs.Depth.{depth_of};
 ghost use Rattle.vrl_value.specs.MomentText.{moment_text};
@@ -23,6 +24,7 @@ const USUAL_LENGTH: usize = 256;
 pub fn to_line(alloc: Global, value: &Value, sources: &[Chars]) -> Result<Bytes, Memory>
     requires { IsTrue (regexes_below (length sources.now) (tree_of value.now)) }
     ensures text { IfOk result (λ bytes. bytes ≡ line_text sources.now (tree_of value.now)) }
+    ensures utf8 { IfOk result IsUtf8 }
     // A value of JSON alone, nested at most as deep as a line can be, is what its line stands for.
     ensures read_back { IfOk result (λ bytes. IsTrue (is_json (tree_of value.now))
         → depth_of (tree_of value.now) ≤ 127

@@ -18,7 +18,9 @@ returns c =
     let before : end.before ≡ [] = grind (arith, common_steps) in
     let tokens : end.tokens ≡ tree_tokens sources t = grind (arith, common_steps, c.in_ok-write_value.ensures.ok, c.new-out.ensures.tokens) in
     let line : c.new.result ≡ print end.tokens = c.new.ensures ∙ c.into_inner.ensures.items ∙ ap (λ b. b ++ print end.tokens) before in
+    let utf8 : IsUtf8 c.new.result = subst IsUtf8 (sym line) c.into_inner.ensures.utf8 in
     record {
       text = line ∙ ap print tokens ∙ print-outline (data_of sources t);
-      read_back = line_read_back sources t _ c.in_ok-write_value.ensures.held (subst IsUtf8 (sym line) c.into_inner.ensures.utf8) (ap lex.tokens line ∙ c.into_inner.ensures.reads_back ∙ tokens);
+      utf8 = utf8;
+      read_back = line_read_back sources t _ c.in_ok-write_value.ensures.held utf8 (ap lex.tokens line ∙ c.into_inner.ensures.reads_back ∙ tokens);
     }
