@@ -1,5 +1,5 @@
 -- What the crate's answers say of a source.
-use Rattle.std.proofs.Common.{Result, Ok, Err, IfOk, IfErr, ◌≡◌, ◌≢◌, ℕ, ◌<◌, ◌≤◌, Bool, true, false, List, Option, Some, None, refl, sym, subst, arith, inl, inr, chars}
+use Rattle.std.proofs.Common.{MatchOption, Result, Ok, Err, IfOk, IfErr, ◌≡◌, ◌≢◌, ℕ, ◌<◌, ◌≤◌, true, false, List, Option, Some, None, refl, sym, subst, arith, inl, inr, chars}
 use Rattle.std.proofs.lemmas.Bool.Decides.{nat_tests}
 use Rattle.std.specs.Option.{IsSomeAnd, IfSome}
 use Rattle.regex.specs.Sources.{IsRefusal}
@@ -16,6 +16,7 @@ use Rattle.regex_syntax.specs.Verdict.{default_config, Reads, Refuses}
 use Rattle.regex_syntax.specs.declared.Config.{Config}
 use Rattle.regex_syntax.specs.declared.error.ErrorKind.{ErrorKind}
 use Rattle.regex_syntax.specs.declared.error.ErrorKind.TheVariants.{OutOfMemory}
+use Rattle.vrl_pattern.specs.Built.{IsBuiltOf}
 use Rattle.vrl_pattern.specs.Malformed.{is_no_pattern, is_malformed}
 use Rattle.vrl_pattern.specs.Verdict.{IsVerdict}
 use Rattle.vrl_value.specs.declared.memory.Memory.{Memory}
@@ -42,23 +43,29 @@ refused source kind refuses other = elim refuses [
 
 -- what an answer of the crate says of the source
 abbrev pub Says : List ℕ → Result Regex Error → Type 0
-Says source (Ok regex) = is_malformed source ≡ false
+Says source (Ok regex) = (is_malformed source ≡ false) × IsBuiltOf source regex
 Says source (Err (error.Syntax e)) = is_malformed source ≡ true
 Says source (Err other) = Unit {0}
 
 pub says : (source : List ℕ) (r : Result Regex Error)
     → IfOk r (λ regex. regex_source regex ≡ source) → IfOk r (λ regex. regex_config regex ≡ default_config) → IfOk r IsReadFromSource
     → IfErr r (IsRefusal default_config source) → IfErr r (IsRightKind default_config source) → Says source r
-says source (Ok regex) same config read refusal kind = subst (λ s. is_malformed s ≡ false) same (formed (regex_config regex) (regex_source regex) _ _ config read)
+says source (Ok regex) same config read refusal kind = (
+  subst (λ s. is_malformed s ≡ false) same (formed (regex_config regex) (regex_source regex) _ _ config read),
+  record { source_is = same; config_is = config; read = read },
+)
 says source (Err (error.Syntax e)) same config read refusal kind = refused source e.kind (refusal e refl) kind
 says source (Err error.CompiledTooBig) same config read refusal kind = tt
 says source (Err error.Internal) same config read refusal kind = tt
 says source (Err error.OutOfMemory) same config read refusal kind = tt
 
--- and so does what is told of it
-pub told : (source : List ℕ) (r : Result Regex Error) (verdict : Result Bool Memory) → Says source r → IsVerdict r verdict → IfOk verdict (λ malformed. malformed ≡ is_malformed source)
-told source (Ok regex) verdict says is = subst (λ v. IfOk v (λ malformed. malformed ≡ is_malformed source)) (sym is) (sym says)
-told source (Err (error.Syntax e)) verdict says is = subst (λ v. IfOk v (λ malformed. malformed ≡ is_malformed source)) (sym is) (sym says)
-told source (Err error.CompiledTooBig) verdict says is = subst (λ v. IfOk v (λ malformed. malformed ≡ is_malformed source)) (sym is) tt
-told source (Err error.Internal) verdict says is = subst (λ v. IfOk v (λ malformed. malformed ≡ is_malformed source)) (sym is) tt
-told source (Err error.OutOfMemory) verdict says is = subst (λ v. IfOk v (λ malformed. malformed ≡ is_malformed source)) (sym is) tt
+-- what is told of it
+abbrev pub Told : List ℕ → Result (Option Regex) Memory → Type 0
+Told source made = IfOk made (λ built. MatchOption built (is_malformed source ≡ true) (λ regex. (is_malformed source ≡ false) × IsBuiltOf source regex))
+
+pub told : (source : List ℕ) (r : Result Regex Error) (verdict : Result (Option Regex) Memory) → Says source r → IsVerdict r verdict → Told source verdict
+told source (Ok regex) verdict says is = subst (Told source) (sym is) says
+told source (Err (error.Syntax e)) verdict says is = subst (Told source) (sym is) says
+told source (Err error.CompiledTooBig) verdict says is = subst (Told source) (sym is) tt
+told source (Err error.Internal) verdict says is = subst (Told source) (sym is) tt
+told source (Err error.OutOfMemory) verdict says is = subst (Told source) (sym is) tt

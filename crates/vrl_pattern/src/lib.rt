@@ -1,16 +1,19 @@
-//! The regex literals of a script: whether each is well formed, and which groups it has.
+//! The regex literals of a script: whether each is well formed, which groups it has, and what it matches.
 //!
-//! What a source means is told by the grammar of the crate `regex` under its own options. A contract sees
-//! [`Patterns`] as the list of their sources.
+//! What a source means is told by the grammar of the crate `regex` under its own options, and what a pattern matches by that crate's definitions. A
+//! contract sees [`Patterns`] as the list of their sources.
 //!
-//! Files: `patterns.rt` has the regexes of a script, `malformed.rt` which sources are malformed, `groups.rt` the names of groups, and `fault.rt` why regexes
-//! weren't built.
+//! Files: `patterns.rt` has the regexes of a script, `building.rt` what is built of its sources and which are malformed, `matching.rt` the searches,
+//! `place.rt` where matches and groups lie, `groups.rt` the names of groups, and `fault.rt` why regexes weren't built.
 #![tactic(auto)]
 
+mod building;
 mod fault;
 mod groups;
-mod malformed;
+mod matching;
 mod patterns;
+mod place;
 
 pub use fault::{BuildFault, Numbers};
 pub use patterns::Patterns;
+pub use place::{Groups, Matches, Place};

@@ -1,28 +1,50 @@
-ghost use Rattle.std.specs.Prelude.{◌≡◌, ◌≢◌, ◌<◌, [], IfOk, IfErr, OnOk, length, slice_index_or};
+ghost use Rattle.std.specs.Prelude.{◌≡◌, ◌≢◌, ◌<◌, [], All, IfOk, IfErr, IfSome, OnOk, length, map, option_map, slice_index_or, take};
+ghost use Rattle.regex.specs.Patterns.{span};
+ghost use Rattle.vrl_value.specs.Tree.{string};
+ghost use Rattle.vrl_value.specs.View.{items_of, items_of_trees};
+ghost use Rattle.vrl_pattern.specs.Built.{IsBuiltOf};
 ghost use Rattle.vrl_pattern.specs.Groups.{groups_of};
 ghost use Rattle.vrl_pattern.specs.Malformed.{malformed_from, IsFaultOf};
+ghost use Rattle.vrl_pattern.specs.Matches.{all_matches, first_match, group_places, pieces, replaced};
+ghost use Rattle.vrl_pattern.specs.Places.{place_span, AreParts, IsPart};
 
+use crate::building::Building;
 use crate::fault::{BuildFault, Numbers};
 use crate::groups::group_names;
-use crate::malformed::malformed_numbers;
+use crate::matching;
+use crate::place::{Matches, Place};
+use regex::Regex;
 use std::alloc::Global;
 use std::marker::Model;
-use vrl_value::{Chars, Memory, Names};
+use vrl_value::{Chars, Items, Memory, Names};
 
-/// The regex literals of a script, of which none is malformed. A contract sees the list of their sources.
+/// The regex literals of a script, built. A contract sees the list of their sources, none of which is malformed.
 ///
-/// Nothing but the sources is kept, since nothing is matched yet.
-#[derive(Drop)]
+/// What a search writes to is made for each call, and let go at its end, so that a table is lent to threads, of which each has one at most.
 pub struct Patterns {
     sources: Vec<Chars>,
+    regexes: Vec<Regex>,
 }
 
 impl Model for Patterns {
     ghost use Rattle.std.specs.Prelude.{List, ℕ};
+    ghost use Rattle.vrl_pattern.specs.Built.{AreBuilt};
 
     ghost Value = { List (List ℕ) };
 
     ghost view = { λ p. p.sources.items };
+
+    ghost invariant = { λ p. AreBuilt p.sources.items p.regexes.items };
+}
+
+// Written out, so that a proof sees one call where a table is let go.
+impl Drop for Patterns {
+    fn drop(self) {
+        let Patterns {
+            sources: _sources,
+            regexes: _regexes,
+        } = self;
+    }
 }
 
 // An equal list of texts. `Memory`: want of memory.
@@ -55,9 +77,11 @@ impl Patterns {
         ensures formed { IfOk result (λ _. malformed_from 0 sources.now ≡ []) }
         ensures refused { IfErr result (IsFaultOf sources.now) }
     {
-        none_malformed(malformed_numbers(alloc, sources.as_slice())?)?;
+        let Building { regexes, malformed } = Building::of(alloc, sources.as_slice())?;
+        none_malformed(malformed)?;
         Ok(Patterns {
             sources: copy_of(alloc, sources.as_slice())?,
+            regexes,
         })
     }
 
@@ -82,5 +106,64 @@ impl Patterns {
         ensures { IfOk result (λ names. names ≡ groups_of (slice_index_or self.now number [])) }
     {
         group_names(alloc, self.sources[number as usize].as_str())
+    }
+
+    // The regex with this number.
+    fn regex(&self, number: u32) -> &Regex
+        requires { number < length self.now }
+        ensures { IsBuiltOf (slice_index_or self.now number []) result.now }
+    {
+        &self.regexes[number as usize]
+    }
+
+    /// Where the leftmost match of the regex with this number lies in the text, between characters. `None`: it has no match. `Memory`: want of
+    /// memory.
+    pub fn find(&self, alloc: Global, number: u32, text: &str) -> Result<Option<Place>, Memory>
+        requires { number < length self.now }
+        ensures found { IfOk result (λ place. option_map place_span place ≡ option_map span (first_match (slice_index_or self.now number []) text.now)) }
+        ensures within { IfOk result (λ place. IfSome place (λ place. IsPart text.now (place_span place))) }
+    {
+        matching::first_place(alloc, self.regex(number), text)
+    }
+
+    /// Where the groups of the regex with this number lie in the first `most` of its matches in the text, which are taken from the left, none
+    /// over another; each part lies between characters. `Memory`: want of memory.
+    pub fn groups(
+        &self,
+        alloc: Global,
+        number: u32,
+        text: &str,
+        most: u64,
+    ) -> Result<Matches, Memory>
+        requires { number < length self.now }
+        ensures found { IfOk result (λ found. found ≡ map (group_places (slice_index_or self.now number [])) (take most (all_matches (slice_index_or self.now number []) text.now))) }
+        ensures within { IfOk result (λ found. All (AreParts text.now) found) }
+    {
+        matching::places(alloc, self.regex(number), text, most)
+    }
+
+    /// The parts of the text between the matches of the regex with this number, as strings: at most `limit`, the last of which holds the rest.
+    /// `Memory`: want of memory.
+    pub fn split(&self, alloc: Global, number: u32, text: &str, limit: u64) -> Result<Items, Memory>
+        requires { number < length self.now }
+        ensures { IfOk result (λ parts. items_of parts ≡ items_of_trees (map string (pieces (slice_index_or self.now number []) text.now limit))) }
+    {
+        matching::split(alloc, self.regex(number), text, limit)
+    }
+
+    /// The text with the first `count` matches of the regex with this number replaced, or each where there is no count: what the template `with`
+    /// of the crate `regex` writes stands in the place of each. `Memory`: want of memory.
+    pub fn replace(
+        &self,
+        alloc: Global,
+        number: u32,
+        text: &str,
+        with: &str,
+        count: Option<u64>,
+    ) -> Result<Chars, Memory>
+        requires { number < length self.now }
+        ensures { IfOk result (λ changed. changed ≡ replaced (slice_index_or self.now number []) text.now with.now count) }
+    {
+        matching::replace(alloc, self.regex(number), text, with, count)
     }
 }

@@ -1,5 +1,5 @@
 use Rattle.vrl_pattern.proofs.Verdicts.{says, told}
-use Rattle.vrl_pattern.proofs.malformed.is_malformed.Goals as goal
+use Rattle.vrl_pattern.proofs.building.built.Goals as goal
 
 pub returns : goal.returns
 returns c =
