@@ -9,13 +9,9 @@ use Rattle.vrl_builtin.specs.OneTag.{IsOneTag, KeepsOneTag}
 use Rattle.vrl_builtin.specs.OneTagLaw.{plain_is_lawful}
 use Rattle.vrl_builtin.specs.Rows.{value, failure, text_at}
 use Rattle.vrl_builtin.proofs.Lawful.{choice_is}
-use Rattle.fn_codec.specs.Code.{code_row}
 use Rattle.fn_codec.specs.Decode.{as_text, decode_row}
 use Rattle.fn_codec.specs.Sha2.{digest_of, sha2_row}
 use Rattle.hex.specs.Hex.{encode_lower}
-
-pub code-law : (name : List ℕ) (code : List ℕ → List ℕ) → KeepsOneTag (code_row name code)
-code-law name code = record { present = refl; lawful = λ givens arguments setting fit instances. (tt, refl) }
 
 as_text_is_one_tag : (words : List ℕ) (bytes : Option (List ℕ)) → IsOneTag Text true (as_text words bytes)
 as_text_is_one_tag words None = refl

@@ -1,6 +1,5 @@
 pub mod Base16
 pub mod Base64
-pub mod Code
 pub mod Decode
 pub mod Digests
 pub mod Laws

@@ -3,10 +3,10 @@ ghost use Rattle.hex.specs.Hex.{decode_of};
 ghost use Rattle.hex.specs.declared.error.FromHexError.TheVariants.{OutOfMemory};
 ghost use Rattle.fn_codec.specs.Base16.{base16_of, bytes_of_base16};
 
-use crate::code::Code;
 use crate::decode::Decode;
 use hex::FromHexError;
 use std::alloc::Global;
+use vrl_builtin::FromText;
 use vrl_value::{Chars, Memory};
 
 /// `encode_base16(value: string)`: string. The bytes of the text as two hexadecimal digits each, in lower case (RFC 4648, section 8). It never fails.
@@ -14,14 +14,14 @@ use vrl_value::{Chars, Memory};
 #[derive(Clone, Copy)]
 pub struct EncodeBase16;
 
-impl Code for EncodeBase16 {
-    ghost code = { (codes "encode_base16", base16_of) };
+impl FromText for EncodeBase16 {
+    ghost from_text = { (codes "encode_base16", base16_of) };
 
     fn name(&self) -> &'static str {
         "encode_base16"
     }
 
-    fn of(&self, alloc: Global, text: &str) -> Result<Chars, Memory> {
+    fn make(&self, alloc: Global, text: &str) -> Result<Chars, Memory> {
         Ok(Chars::new(hex::encode(alloc, text)?))
     }
 }

@@ -4,11 +4,11 @@ ghost use Rattle.base64.specs.GeneralPurpose.{decode_of, IsDecodeFailure};
 ghost use Rattle.base64.specs.declared.decode.DecodeAllocError.TheVariants.{OutOfMemory};
 ghost use Rattle.fn_codec.specs.Base64.{base64_of, bytes_of_base64};
 
-use crate::code::Code;
 use crate::decode::Decode;
 use base64::DecodeAllocError;
 use base64::engine::general_purpose::STANDARD;
 use std::alloc::Global;
+use vrl_builtin::FromText;
 use vrl_value::{Chars, Memory};
 
 /// `encode_base64(value: string)`: string. The bytes of the text in the standard alphabet of RFC 4648, padded. It never fails. `encode_base64("hi")`
@@ -16,14 +16,14 @@ use vrl_value::{Chars, Memory};
 #[derive(Clone, Copy)]
 pub struct EncodeBase64;
 
-impl Code for EncodeBase64 {
-    ghost code = { (codes "encode_base64", base64_of) };
+impl FromText for EncodeBase64 {
+    ghost from_text = { (codes "encode_base64", base64_of) };
 
     fn name(&self) -> &'static str {
         "encode_base64"
     }
 
-    fn of(&self, alloc: Global, text: &str) -> Result<Chars, Memory> {
+    fn make(&self, alloc: Global, text: &str) -> Result<Chars, Memory> {
         Ok(Chars::new(STANDARD.encode(alloc, text.as_bytes())?))
     }
 }

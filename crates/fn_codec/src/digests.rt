@@ -1,9 +1,9 @@
 ghost use Rattle.std.specs.Prelude.{codes};
 ghost use Rattle.fn_codec.specs.Digests.{md5_of, sha1_of};
 
-use crate::code::Code;
 use md5::Digest;
 use std::alloc::Global;
+use vrl_builtin::FromText;
 use vrl_value::{Chars, Memory};
 
 /// `md5(value: string)`: string. The digest of the text's bytes by RFC 1321, as hexadecimal digits in lower case. It never fails. `md5("")` is
@@ -11,14 +11,14 @@ use vrl_value::{Chars, Memory};
 #[derive(Clone, Copy)]
 pub struct Md5;
 
-impl Code for Md5 {
-    ghost code = { (codes "md5", md5_of) };
+impl FromText for Md5 {
+    ghost from_text = { (codes "md5", md5_of) };
 
     fn name(&self) -> &'static str {
         "md5"
     }
 
-    fn of(&self, alloc: Global, text: &str) -> Result<Chars, Memory> {
+    fn make(&self, alloc: Global, text: &str) -> Result<Chars, Memory> {
         Ok(Chars::new(hex::encode(alloc, md5::Md5::digest(text))?))
     }
 }
@@ -28,14 +28,14 @@ impl Code for Md5 {
 #[derive(Clone, Copy)]
 pub struct Sha1;
 
-impl Code for Sha1 {
-    ghost code = { (codes "sha1", sha1_of) };
+impl FromText for Sha1 {
+    ghost from_text = { (codes "sha1", sha1_of) };
 
     fn name(&self) -> &'static str {
         "sha1"
     }
 
-    fn of(&self, alloc: Global, text: &str) -> Result<Chars, Memory> {
+    fn make(&self, alloc: Global, text: &str) -> Result<Chars, Memory> {
         Ok(Chars::new(hex::encode(alloc, sha1::Sha1::digest(text.as_bytes()))?))
     }
 }

@@ -1,9 +1,9 @@
 ghost use Rattle.std.specs.Prelude.{◌≡◌, codes, IfOk, string_bytes};
 ghost use Rattle.fn_codec.specs.Percent.{percent_of, text_of_percent};
 
-use crate::code::Code;
 use percent_encoding::{NON_ALPHANUMERIC, percent_decode, utf8_percent_encode};
 use std::alloc::Global;
+use vrl_builtin::FromText;
 use vrl_value::{Chars, Memory};
 
 /// `encode_percent(value: string)`: string. The text with each byte but the letters and digits of ASCII written as `%` and two hexadecimal digits in
@@ -11,14 +11,14 @@ use vrl_value::{Chars, Memory};
 #[derive(Clone, Copy)]
 pub struct EncodePercent;
 
-impl Code for EncodePercent {
-    ghost code = { (codes "encode_percent", percent_of) };
+impl FromText for EncodePercent {
+    ghost from_text = { (codes "encode_percent", percent_of) };
 
     fn name(&self) -> &'static str {
         "encode_percent"
     }
 
-    fn of(&self, alloc: Global, text: &str) -> Result<Chars, Memory> {
+    fn make(&self, alloc: Global, text: &str) -> Result<Chars, Memory> {
         let mut escaped = String::new(alloc);
         utf8_percent_encode(text, NON_ALPHANUMERIC).append_to(&mut escaped)?;
         Ok(Chars::new(escaped))
@@ -30,14 +30,14 @@ impl Code for EncodePercent {
 #[derive(Clone, Copy)]
 pub struct DecodePercent;
 
-impl Code for DecodePercent {
-    ghost code = { (codes "decode_percent", text_of_percent) };
+impl FromText for DecodePercent {
+    ghost from_text = { (codes "decode_percent", text_of_percent) };
 
     fn name(&self) -> &'static str {
         "decode_percent"
     }
 
-    fn of(&self, alloc: Global, text: &str) -> Result<Chars, Memory> {
+    fn make(&self, alloc: Global, text: &str) -> Result<Chars, Memory> {
         let mut bytes = Vec::new(alloc);
         percent_decode(text.as_bytes()).append_to(&mut bytes)?;
         Ok(Chars::new(String::from_utf8_lossy(alloc, &bytes)?))

@@ -13,9 +13,9 @@ use Rattle.vrl_value.specs.Tree.{Tree, Items, item, Members, no_members, member,
 use Rattle.vrl_value.specs.View.{items_of_trees, items_view, members_view}
 use Rattle.vrl_value.specs.declared.value.Value.{Value}
 use Rattle.fn_list.specs.Compact.{compact_items, compact_members, compacted, full, is_hollow}
-use Rattle.fn_list.specs.Listed.{trees_in}
-use Rattle.fn_list.specs.Placing.{listed_again}
-use Rattle.fn_list.proofs.Sizes.{members_size}
+use Rattle.vrl_builtin.specs.Listed.{trees_in}
+use Rattle.vrl_builtin.proofs.Listed.{listed_again}
+use Rattle.vrl_builtin.proofs.Sizes.{members_size}
 
 -- ---- items
 

@@ -5,15 +5,11 @@ use Rattle.std.proofs.lemmas.List.{append-nil, drop_more}
 use Rattle.std.specs.List.{list_any}
 use Rattle.vrl_value.specs.Tree.{Tree}
 use Rattle.fn_list.specs.Same.{same}
+use Rattle.fn_list.specs.Seen.{is_in}
 use Rattle.fn_list.specs.Unique.{firsts, without}
 use Rattle.vrl_value.specs.View.{tree_of}
 use Rattle.vrl_value.specs.declared.value.Value.{Value}
 use Rattle.fn_list.proofs.Equality.{equality_is_told}
-use Rattle.fn_list.proofs.Widening.{any_map}
-
--- the value equals one of those
-abbrev pub is_in : List Tree → Tree → Bool
-is_in ks t = list_any (λ k. same k t) ks
 
 -- those that equal none of the first list
 abbrev pub unseen : List Tree → List Tree → List Tree
@@ -39,7 +35,7 @@ met : (ks : List Tree) (v : Tree) (ts : List Tree) → is_in ks v ≡ true → u
 met ks v [] in_list = refl
 met ks v (t ∷ ts) in_list = met_at ks v t ts (without v ts) (same t v) (is_in ks t) refl refl in_list (met ks v ts in_list)
 
-any_more : (f : Tree → Bool) (ks : List Tree) (k : Tree) → list_any f (ks ++ k ∷ []) ≡ (list_any f ks || f k)
+pub any_more : (f : Tree → Bool) (ks : List Tree) (k : Tree) → list_any f (ks ++ k ∷ []) ≡ (list_any f ks || f k)
 any_more f [] k = or_false (f k) where
   or_false : (b : Bool) → (b || false) ≡ b
   or_false true = refl
@@ -94,9 +90,8 @@ ended kept whole told = sym (append-nil kept) ∙ told
 
 -- the code's own walk
 pub walked : (items kept later : List Value) (i : ℕ) (v : Value) (whole : List Tree) → i < length items → v ≡ get_or items i v →
-    map tree_of later ≡ (if list_any (λ k. same (tree_of k) (tree_of v)) kept then map tree_of kept else map tree_of kept ++ (tree_of v ∷ [])) →
+    map tree_of later ≡ (if is_in (map tree_of kept) (tree_of v) then map tree_of kept else map tree_of kept ++ (tree_of v ∷ [])) →
     map tree_of kept ++ unseen (map tree_of kept) (firsts (map tree_of (drop i items))) ≡ whole → map tree_of later ++ unseen (map tree_of later) (firsts (map tree_of (drop (i + 1) items))) ≡ whole
 walked items kept later i v whole below is told before =
-    step (map tree_of kept) (map tree_of later) (tree_of v) (map tree_of (drop (i + 1) items)) whole
-    (told ∙ ap (λ b. if b then map tree_of kept else map tree_of kept ++ (tree_of v ∷ [])) (sym (any_map (λ k. same k (tree_of v)) tree_of kept)))
+    step (map tree_of kept) (map tree_of later) (tree_of v) (map tree_of (drop (i + 1) items)) whole told
     (ap (λ vs. map tree_of kept ++ unseen (map tree_of kept) (firsts (map tree_of vs))) (sym (drop_more items i v below ∙ ap (λ w. w ∷ drop (i + 1) items) (sym is))) ∙ before)

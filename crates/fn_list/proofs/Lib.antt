@@ -2,7 +2,6 @@ mod Chunking
 mod Compacting
 mod Equality
 mod Firsts
+mod Found
 mod Leaves
-mod Made
-mod Sizes
 mod Widening

@@ -4,8 +4,6 @@ use Rattle.std.proofs.lemmas.List.{append-nil, drop_more}
 use Rattle.std.proofs.Math.ListN.{drop_of_length-le}
 use Rattle.std.specs.List.{list_all, list_any}
 use Rattle.vrl_value.specs.Look.{Step, field, place}
-use Rattle.vrl_value.specs.Tree.{Tree}
-use Rattle.vrl_value.specs.View.{items_of_trees}
 use Rattle.vrl_value.specs.declared.value.Tag.{Tag}
 use Rattle.vrl_value.specs.declared.value.Tag.TheVariants as tag
 use Rattle.vrl_kind.specs.KindTree.{KindTree, ListTree, no_list, list_part, RestTree, nothing, exact, no_places, known_place}
@@ -14,15 +12,10 @@ use Rattle.vrl_kind.specs.Make.{array_kind}
 use Rattle.vrl_kind.specs.Sets.{Sets, SameSets}
 use Rattle.vrl_kind.specs.View.{places_view}
 use Rattle.fn_list.specs.Append.{appended_at}
-use Rattle.fn_list.specs.Listed.{trees_in}
 use Rattle.fn_list.specs.Sure.{all_sure, chosen, is_known, is_sure, is_there, joined, placed, then_places, widened}
 use Rattle.fn_list.specs.Widened.{AreWidened, IsWidened}
 use Rattle.fn_list.specs.Zip.{pair_at}
-use Rattle.fn_list.proofs.Made.{absent_so}
-
-pub listed : (ts : List Tree) → trees_in (items_of_trees ts) ≡ ts
-listed [] = refl
-listed (t ∷ ts) = ap (λ us. t ∷ us) (listed ts)
+use Rattle.vrl_builtin.proofs.Containers.{absent_so}
 
 pub all_there : (ks : List KindTree) → list_all is_there ks ≡ all_sure (places_view ks)
 all_there [] = refl

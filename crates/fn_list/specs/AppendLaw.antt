@@ -12,11 +12,14 @@ use Rattle.vrl_kind.specs.Sets.{Sets, IsAllowed}
 use Rattle.vrl_builtin.specs.Law.{KeepsLaw, IsLawful, IsOfGiven}
 use Rattle.vrl_builtin.specs.Rows.{value, argument_at, kind_at, value_or}
 use Rattle.vrl_builtin.proofs.Containers.{each_item_so, EachItem, IsLawfulPart}
-use Rattle.fn_list.specs.Alone.{array_parts_at}
+use Rattle.vrl_builtin.specs.PartKinds.{array_parts_at}
 use Rattle.fn_list.specs.Append.{append_kind, append_row, appended, appended_at}
-use Rattle.fn_list.specs.Lawfully.{any_part, array_at, arrays_only, each_joined, each_list, everything, given_items, no}
-use Rattle.fn_list.specs.Listed.{trees_in}
-use Rattle.fn_list.specs.Placing.{and_first, and_second, choice_absent, choice_allowed, exactly_allowed, join_fit, known_sure, listed_again, nothing_known, widely_allowed, FitPlaces}
+use Rattle.vrl_builtin.proofs.AnswerParts.{array_answered, any_part, everything}
+use Rattle.vrl_builtin.proofs.GivenTags.{arrays_only, no}
+use Rattle.vrl_builtin.proofs.Listed.{each_joined, each_list, listed_again}
+use Rattle.vrl_builtin.proofs.PartKinds.{given_items}
+use Rattle.vrl_builtin.specs.Listed.{trees_in}
+use Rattle.fn_list.specs.Placing.{and_first, and_second, choice_absent, choice_allowed, exactly_allowed, join_fit, known_sure, nothing_known, widely_allowed, FitPlaces}
 use Rattle.fn_list.specs.Sure.{is_known, placed, then_places, widened}
 
 appended_allowed : (ts us : Items) (K L : KindTree) (A : Sets) → Inhabits (array ts) K → Inhabits (array us) L → EachItem (λ v. IsAllowed v A) us →
@@ -38,7 +41,7 @@ appended_lawful ts us (Some K) None arguments first second of fits ordered in_or
 appended_lawful ts us (Some K) (Some L) arguments first second of fits ordered in_order =
     let A = array_parts_at (Some K) in let B = array_parts_at (Some L) in let P = IsLawfulPart everything arguments in
     let ones = given_items (Some K) 0 ts arguments first of ordered in let others = given_items (Some L) 1 us arguments second fits in_order in
-    array_at (append_kind (Some K) (Some L)) false arguments _ (appended_allowed ts us K L B of fits (each_item_so (IsLawfulPart B arguments) (λ v. IsAllowed v B) us (λ u part. part.allowed) others))
+    array_answered (append_kind (Some K) (Some L)) false arguments _ (appended_allowed ts us K L B of fits (each_item_so (IsLawfulPart B arguments) (λ v. IsAllowed v B) us (λ u part. part.allowed) others))
     (each_joined P (trees_in ts) (trees_in us) (each_list P ts (each_item_so (IsLawfulPart A arguments) P ts (λ u part. any_part A arguments u part) ones))
     (each_list P us (each_item_so (IsLawfulPart B arguments) P us (λ u part. any_part B arguments u part) others)))
 

@@ -3,7 +3,7 @@ use Rattle.std.specs.Prelude.{Bool, true, false, List, [], ◌∷◌, codes, if�
 use Rattle.vrl_value.specs.Tree.{Tree, string, null, array, object, Items, no_items, item, Members, no_members, member}
 use Rattle.vrl_builtin.specs.Rows.{Row, value, any_literal, kind_at, parameter, value_at}
 use Rattle.vrl_builtin.specs.TagSets.{containers}
-use Rattle.fn_list.specs.Loose.{any_of, containers_in}
+use Rattle.vrl_builtin.specs.AnyParts.{any_of, containers_in}
 
 -- null, `""`, `[]` or `{}`
 abbrev pub is_hollow : Tree → Bool

@@ -6,8 +6,10 @@ use Rattle.vrl_builtin.specs.Law.{KeepsLaw, IsLawful, IsOfGiven}
 use Rattle.vrl_builtin.specs.Rows.{value, argument_at, kind_at, value_or}
 use Rattle.vrl_builtin.proofs.Containers.{EachItem, EachMember}
 use Rattle.fn_list.specs.Compact.{compact_items, compact_members, compact_row, compacted, is_hollow}
-use Rattle.fn_list.specs.Loose.{any_of, containers_in}
-use Rattle.fn_list.specs.Parted.{array_part, container_lawful, container_only, given_part, item_parts, member_parts, object_part, AreParts, IsPart}
+use Rattle.vrl_builtin.specs.AnyParts.{any_of, containers_in}
+use Rattle.vrl_builtin.proofs.AnswerParts.{array_part, given_part, item_parts, member_parts, object_part, AreParts, IsPart}
+use Rattle.vrl_builtin.proofs.AnyParts.{container_lawful}
+use Rattle.vrl_builtin.proofs.GivenTags.{container_only}
 
 item_unless : (P : Tree → Type 0) (b : Bool) (t : Tree) (ts : Items) → P t → EachItem P ts → EachItem P (if b then ts else item t ts)
 item_unless P true t ts one each = each

@@ -4,7 +4,7 @@ use Rattle.vrl_value.specs.Tree.{Tree, array, object, Items, no_items, item, Mem
 use Rattle.vrl_value.specs.View.{items_of_trees}
 use Rattle.vrl_builtin.specs.Rows.{Row, value, any_literal, kind_at, optional_parameter, parameter, text_at, value_at}
 use Rattle.vrl_builtin.specs.TagSets.{containers, strings}
-use Rattle.fn_list.specs.Loose.{any_of, containers_in}
+use Rattle.vrl_builtin.specs.AnyParts.{any_of, containers_in}
 
 -- ---- arrays: what stands in them, in order, at every depth of arrays
 

@@ -8,9 +8,11 @@ use Rattle.vrl_builtin.specs.Law.{KeepsLaw, IsLawful, IsOfGiven}
 use Rattle.vrl_builtin.specs.Rows.{value, argument_at, kind_at, text_at, value_or}
 use Rattle.vrl_builtin.proofs.Containers.{each_put, EachItem, EachMember}
 use Rattle.fn_list.specs.Flatten.{flatten_row, flattened, leaves, leaves_at, opened, opened_part, path_text, put_leaves, under, Leaf}
-use Rattle.fn_list.specs.Lawfully.{each_joined}
-use Rattle.fn_list.specs.Loose.{any_of, containers_in}
-use Rattle.fn_list.specs.Parted.{array_part, container_lawful, container_only, given_part, item_parts, member_parts, object_part, AreParts, IsPart}
+use Rattle.vrl_builtin.proofs.Listed.{each_joined}
+use Rattle.vrl_builtin.specs.AnyParts.{any_of, containers_in}
+use Rattle.vrl_builtin.proofs.AnswerParts.{array_part, given_part, item_parts, member_parts, object_part, AreParts, IsPart}
+use Rattle.vrl_builtin.proofs.AnyParts.{container_lawful}
+use Rattle.vrl_builtin.proofs.GivenTags.{container_only}
 
 mutual
   opened_parts : (arguments : List (Option Tree)) (ts : Items) → EachItem (IsPart arguments) ts → EachItem (IsPart arguments) (items_of_trees (opened ts))

@@ -1,14 +1,13 @@
 -- `includes`: whether a value is among the items of an array.
-use Rattle.std.specs.Prelude.{false, [], ◌∷◌, codes}
+use Rattle.std.specs.Prelude.{false, [], ◌∷◌, codes, Bool, refl}
 use Rattle.std.specs.List.{list_any}
 use Rattle.vrl_value.specs.Tree.{Tree, boolean}
 use Rattle.vrl_value.specs.declared.value.Tag.TheVariants as tag
 use Rattle.vrl_builtin.specs.OneTag.{KeepsOneTag, OneTagRow}
 use Rattle.vrl_builtin.specs.Rows.{value, parameter, value_at}
 use Rattle.vrl_builtin.specs.TagSets.{any_tags, arrays}
-use Rattle.fn_list.specs.Listed.{list_in}
+use Rattle.vrl_builtin.specs.Listed.{list_in}
 use Rattle.fn_list.specs.Same.{same}
-use Rattle.std.specs.Prelude.{Bool, refl}
 
 abbrev pub includes : Tree → Tree → Bool
 includes v w = list_any (λ u. same u w) (list_in v)

@@ -1,6 +1,6 @@
 -- Arrays with more items are of the kinds with more places.
 use Rattle.std.specs.Prelude.{◌≡◌, ℕ, zero, suc, Bool, true, false, ◌&&◌, ◌||◌, not, List, [], ◌∷◌, ◌++◌, Option, Some, None, IsTrue, IfSome, refl, if◌then◌else◌}
-use Rattle.std.proofs.Common.{sym, ap, ◌∙◌, subst}
+use Rattle.std.proofs.Common.{sym, ◌∙◌, subst}
 use Rattle.vrl_value.specs.Look.{Step, field, place, found_behind, found_if, item_at, raw_at, tag_found}
 use Rattle.vrl_value.specs.Tag.{tag_of}
 use Rattle.vrl_value.specs.Tree.{Tree, string, integer, boolean, null, timestamp, regex, array, object, Items, no_items, item}
@@ -13,8 +13,8 @@ use Rattle.vrl_kind.specs.Make.{array_kind}
 use Rattle.vrl_kind.specs.Sets.{Sets, IsAllowed}
 use Rattle.vrl_kind.specs.Tags.{same_tag}
 use Rattle.vrl_builtin.proofs.Containers.{each_at, EachItem}
-use Rattle.fn_list.specs.Lawfully.{no}
-use Rattle.fn_list.specs.Listed.{trees_in}
+use Rattle.vrl_builtin.proofs.GivenTags.{no}
+use Rattle.vrl_builtin.specs.Listed.{trees_in}
 use Rattle.fn_list.specs.Sure.{all_sure, chosen, is_known, is_nothing, is_sure, is_there, joined, placed, then_places, widened}
 
 pub and_first : (a b : Bool) → (a && b) ≡ true → a ≡ true
@@ -162,7 +162,3 @@ nothing_known ts ps (exact k) known fit = no known
 
 pub known_sure : (ps : Places) (r : RestTree) → is_known ps r ≡ true → all_sure ps ≡ true
 known_sure ps r known = and_second (is_nothing r) (all_sure ps) known
-
-pub listed_again : (ts : Items) → items_of_trees (trees_in ts) ≡ ts
-listed_again no_items = refl
-listed_again (item t ts) = ap (item t) (listed_again ts)

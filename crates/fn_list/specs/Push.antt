@@ -9,7 +9,7 @@ use Rattle.vrl_kind.specs.Make.{array_kind}
 use Rattle.vrl_kind.specs.Sets.{Sets}
 use Rattle.vrl_builtin.specs.Rows.{Row, value, any_literal, kind_at, parameter, value_at}
 use Rattle.vrl_builtin.specs.TagSets.{any_tags, arrays}
-use Rattle.fn_list.specs.Listed.{list_in}
+use Rattle.vrl_builtin.specs.Listed.{list_in}
 use Rattle.fn_list.specs.Sure.{chosen, is_known, placed, then_places, widened}
 
 abbrev pub pushed : Tree → Tree → Tree

@@ -10,9 +10,12 @@ use Rattle.vrl_kind.specs.Sets.{IsAllowed}
 use Rattle.vrl_builtin.specs.Law.{KeepsLaw, IsLawful, IsOfGiven}
 use Rattle.vrl_builtin.specs.Rows.{value, argument_at, kind_at, value_or}
 use Rattle.vrl_builtin.proofs.Containers.{each_item_so, IsLawfulPart}
-use Rattle.fn_list.specs.Alone.{array_parts_at}
-use Rattle.fn_list.specs.Lawfully.{any_part, argument_part, array_at, arrays_only, each_joined, each_list, everything, given_items, no, some_only}
-use Rattle.fn_list.specs.Listed.{trees_in}
+use Rattle.vrl_builtin.specs.PartKinds.{array_parts_at}
+use Rattle.vrl_builtin.proofs.AnswerParts.{array_answered, any_part, given_part, everything}
+use Rattle.vrl_builtin.proofs.GivenTags.{arrays_only, no, some_only}
+use Rattle.vrl_builtin.proofs.Listed.{each_joined, each_list}
+use Rattle.vrl_builtin.proofs.PartKinds.{given_items}
+use Rattle.vrl_builtin.specs.Listed.{trees_in}
 use Rattle.fn_list.specs.Placing.{choice_absent, choice_allowed, exactly_allowed, join_fit, known_sure, nothing_known, one_fit, widely_allowed}
 use Rattle.fn_list.specs.Push.{push_kind, push_row, pushed, pushed_at}
 use Rattle.fn_list.specs.Sure.{is_known, placed, then_places, widened}
@@ -30,10 +33,10 @@ pushed_lawful : (ts : Items) (v : Tree) (K L : Option KindTree) (arguments : Lis
 pushed_lawful ts v None L arguments first second of fits ordered in_order = absurd of
 pushed_lawful ts v (Some K) None arguments first second of fits ordered in_order = absurd fits
 pushed_lawful ts v (Some K) (Some L) arguments first second of fits ordered in_order =
-    array_at (push_kind (Some K) (Some L)) false arguments _ (pushed_allowed ts v K L of fits)
+    array_answered (push_kind (Some K) (Some L)) false arguments _ (pushed_allowed ts v K L of fits)
     (each_joined (IsLawfulPart everything arguments) (trees_in ts) (v ∷ [])
     (each_list (IsLawfulPart everything arguments) ts (each_item_so (IsLawfulPart (array_parts_at (Some K)) arguments) (IsLawfulPart everything arguments) ts (λ u part. any_part _ arguments u part) (given_items (Some K) 0 ts arguments first of ordered)))
-    (argument_part 1 v arguments second in_order, tt))
+    (given_part 1 v arguments second in_order, tt))
 
 not_absent : (K L : Option KindTree) → push_kind K L [] tag.Absent ≡ false
 not_absent None L = refl

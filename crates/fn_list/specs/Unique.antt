@@ -5,8 +5,8 @@ use Rattle.vrl_value.specs.View.{items_of_trees}
 use Rattle.vrl_builtin.specs.Containers.{array_of}
 use Rattle.vrl_builtin.specs.Rows.{Row, value, any_literal, kind_at, parameter, value_at}
 use Rattle.vrl_builtin.specs.TagSets.{arrays}
-use Rattle.fn_list.specs.Alone.{array_parts_at}
-use Rattle.fn_list.specs.Listed.{list_in}
+use Rattle.vrl_builtin.specs.PartKinds.{array_parts_at}
+use Rattle.vrl_builtin.specs.Listed.{list_in}
 use Rattle.fn_list.specs.Same.{same}
 
 -- the list without what equals the value

@@ -6,9 +6,11 @@ use Rattle.vrl_builtin.specs.Containers.{array_of}
 use Rattle.vrl_builtin.specs.Law.{KeepsLaw, IsLawful, IsOfGiven}
 use Rattle.vrl_builtin.specs.Rows.{value, argument_at, kind_at, value_or}
 use Rattle.vrl_builtin.proofs.Containers.{array_is_lawful, EachItem, IsLawfulPart}
-use Rattle.fn_list.specs.Alone.{array_parts_at}
-use Rattle.fn_list.specs.Lawfully.{arrays_only, each_list, given_items}
-use Rattle.fn_list.specs.Listed.{trees_in}
+use Rattle.vrl_builtin.specs.PartKinds.{array_parts_at}
+use Rattle.vrl_builtin.proofs.GivenTags.{arrays_only}
+use Rattle.vrl_builtin.proofs.Listed.{each_list}
+use Rattle.vrl_builtin.proofs.PartKinds.{given_items}
+use Rattle.vrl_builtin.specs.Listed.{trees_in}
 use Rattle.fn_list.specs.Same.{same}
 use Rattle.fn_list.specs.Unique.{firsts, unique_row, uniques, without}
 

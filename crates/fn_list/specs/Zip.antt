@@ -11,8 +11,8 @@ use Rattle.vrl_kind.specs.Tags.{same_tag}
 use Rattle.vrl_builtin.specs.Containers.{array_of}
 use Rattle.vrl_builtin.specs.Rows.{Row, value, any_literal, kind_at, parameter, value_at}
 use Rattle.vrl_builtin.specs.TagSets.{arrays}
-use Rattle.fn_list.specs.Alone.{array_parts_at}
-use Rattle.fn_list.specs.Listed.{list_in}
+use Rattle.vrl_builtin.specs.PartKinds.{array_parts_at}
+use Rattle.vrl_builtin.specs.Listed.{list_in}
 
 abbrev pub pair_of : Tree → Tree → Tree
 pair_of v w = array (item v (item w no_items))

@@ -8,9 +8,11 @@ use Rattle.vrl_kind.specs.Sets.{Sets, IsAllowed}
 use Rattle.vrl_builtin.specs.Law.{KeepsLaw, IsLawful, IsOfGiven}
 use Rattle.vrl_builtin.specs.Rows.{value, argument_at, kind_at, value_or}
 use Rattle.vrl_builtin.proofs.Containers.{array_is_lawful, EachItem, IsLawfulPart}
-use Rattle.fn_list.specs.Alone.{array_parts_at}
-use Rattle.fn_list.specs.Lawfully.{any_part, array_at, arrays_only, given_items}
-use Rattle.fn_list.specs.Listed.{trees_in}
+use Rattle.vrl_builtin.specs.PartKinds.{array_parts_at}
+use Rattle.vrl_builtin.proofs.AnswerParts.{array_answered, any_part}
+use Rattle.vrl_builtin.proofs.GivenTags.{arrays_only}
+use Rattle.vrl_builtin.proofs.PartKinds.{given_items}
+use Rattle.vrl_builtin.specs.Listed.{trees_in}
 use Rattle.fn_list.specs.Zip.{pair_at, pair_of, pairs_of, zip_kind, zip_row, zipped}
 
 -- nothing stands behind the second place
@@ -27,7 +29,7 @@ pair_allowed A B v w first second (field n ∷ p) = tt
 
 pair_part : (A B : Sets) (arguments : List (Option Tree)) (v w : Tree) → IsLawfulPart A arguments v → IsLawfulPart B arguments w → IsLawfulPart (pair_at A B) arguments (pair_of v w)
 pair_part A B arguments v w first second =
-    let lawful = array_at (pair_at A B) false arguments (item v (item w no_items)) (pair_allowed A B v w first.allowed second.allowed) (any_part A arguments v first, (any_part B arguments w second, tt)) in
+    let lawful = array_answered (pair_at A B) false arguments (item v (item w no_items)) (pair_allowed A B v w first.allowed second.allowed) (any_part A arguments v first, (any_part B arguments w second, tt)) in
     record { allowed = lawful.0; ordered = lawful.1; regexes = lawful.2 }
 
 each_pair : (A B : Sets) (arguments : List (Option Tree)) (ts us : Items) → EachItem (IsLawfulPart A arguments) ts → EachItem (IsLawfulPart B arguments) us →

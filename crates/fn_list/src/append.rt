@@ -11,10 +11,12 @@ ghost use Rattle.fn_list.specs.Append.{appended, appended_at, append_kind, appen
 ghost use Rattle.fn_list.specs.AppendLaw.{append-law};
 ghost use Rattle.fn_list.specs.Sure.{is_known};
 
-use crate::alone::{copies_of, parts_of_arrays, push_items};
+use crate::copies::{copies_of, push_items};
 use crate::places::{exact, is_known, widened};
 use std::alloc::Global;
-use vrl_builtin::{Applied, Arguments, Builtin, Givens, Parameter, Setting, Tags, required};
+use vrl_builtin::{
+    Applied, Arguments, Builtin, Givens, Parameter, Setting, Tags, array_parts, required,
+};
 use vrl_kind::{Kind, Rest, list_part};
 use vrl_pattern::Patterns;
 use vrl_value::{Items, Memory, Value};
@@ -67,7 +69,7 @@ fn appended_kind(alloc: Global, arrays: &Kind, others: &Kind, parts: &Kind) -> R
 fn joined_kind(alloc: Global, arrays: &Kind, others: &Kind) -> Result<Kind, Memory>
     ensures { IfOk result (λ kind. SameSets (tags_at kind) (append_kind (Some arrays.now) (Some others.now))) }
 {
-    let parts = parts_of_arrays(alloc, others)?;
+    let parts = array_parts(alloc, others)?;
     appended_kind(alloc, arrays, others, &parts)
 }
 

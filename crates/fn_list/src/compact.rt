@@ -4,7 +4,6 @@ ghost use Rattle.vrl_value.specs.View.{items_view, members_of, tree_of};
 ghost use Rattle.fn_list.specs.Compact.{compact_items, compact_members, compact_row, compacted, full, is_hollow};
 ghost use Rattle.fn_list.specs.CompactLaw.{compact-law};
 
-use crate::loose::any_of_given;
 use std::alloc::Global;
 use std::collections::BTreeMap;
 use vrl_builtin::{Applied, Arguments, Builtin, Givens, Parameter, Setting, Tags, required};
@@ -110,7 +109,7 @@ impl Builtin for Compact {
         given: &Givens,
         _patterns: &Patterns,
     ) -> Result<Kind, Memory> {
-        any_of_given(alloc, given, 0)
+        given.any_containers(alloc, 0)
     }
 
     fn may_fail(&self, _given: &Givens) -> bool {

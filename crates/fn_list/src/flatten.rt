@@ -4,7 +4,6 @@ ghost use Rattle.vrl_value.specs.View.{items_of, items_of_trees, items_view, mem
 ghost use Rattle.fn_list.specs.Flatten.{flatten_row, flattened, inner_of, leaves, leaves_at, opened, opened_part, put_leaves};
 ghost use Rattle.fn_list.specs.FlattenLaw.{flatten-law};
 
-use crate::loose::any_of_given;
 use std::alloc::Global;
 use std::collections::BTreeMap;
 use vrl_builtin::{
@@ -170,7 +169,7 @@ impl Builtin for Flatten {
         given: &Givens,
         _patterns: &Patterns,
     ) -> Result<Kind, Memory> {
-        any_of_given(alloc, given, 0)
+        given.any_containers(alloc, 0)
     }
 
     fn may_fail(&self, _given: &Givens) -> bool {

@@ -2,10 +2,11 @@ ghost use Rattle.std.specs.Prelude.{◌≡◌};
 ghost use Rattle.vrl_value.specs.View.{tree_of};
 ghost use Rattle.fn_list.specs.Includes.{includes, includes_row, includes-law};
 
-use crate::alone::items_of;
 use crate::same::is_among;
 use std::alloc::Global;
-use vrl_builtin::{Applied, Arguments, Givens, OneTag, Parameter, Setting, Tags, required};
+use vrl_builtin::{
+    Applied, Arguments, Givens, OneTag, Parameter, Setting, Tags, items_of, required,
+};
 use vrl_value::{Tag, Value};
 
 /// `includes(value: array, item: any)`: boolean. Whether an item of the array equals the value. It never fails. It looks at each item once.

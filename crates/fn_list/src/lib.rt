@@ -1,19 +1,20 @@
 //! The functions that read, make and change arrays.
 //!
-//! Files: each function has a file, and its row one of `specs/`; its law stands in the file of `specs/` with its name and `Law`. `alone.rt` has the
-//! items of an array, and the parts of a kind's arrays; `places.rt` the kinds of arrays with more places; `loose.rt` the kinds of arrays and objects
-//! of any parts; `same.rt` whether values are equal. Of the definitions `Listed` has the items of an array as a list, `Alone` a kind's arrays and
-//! their parts, `Sure` what a kind knows of places, and `Same` when two values are equal; `Widened` and `Pieces` say what the code promises on its
-//! way. What the laws rest on stands in `Cutting`, `Lawfully`, `Placing` and `Parted`.
+//! Files: each function has a file, and its row one of `specs/`; its law stands in the file of `specs/` with its name and `Law`. `copies.rt` has copies of
+//! the items of an array, `places.rt` the kinds of arrays with more places, `same.rt` whether values are equal, `order.rt` an order of all values, and
+//! `key.rt` what a set finds by it. Of the definitions `Sure` says what a kind knows of places, and `Same` when two values are equal; `Widened`,
+//! `Pieces`, `Order` and `Seen` say what the code promises on its way. What the laws rest on stands in `Placing`, and that the order is a total one
+//! in `Ordered`.
 #![tactic(auto)]
 
-mod alone;
 mod append;
 mod chunks;
 mod compact;
+mod copies;
 mod flatten;
 mod includes;
-mod loose;
+mod key;
+mod order;
 mod places;
 mod push;
 mod same;

@@ -10,7 +10,7 @@ ghost use Rattle.vrl_builtin.specs.View.{givens_of};
 ghost use Rattle.fn_list.specs.Push.{pushed, pushed_at, push_kind, push_row};
 ghost use Rattle.fn_list.specs.PushLaw.{push-law};
 
-use crate::alone::copies_of;
+use crate::copies::copies_of;
 use crate::places::{exact_with, is_known, widened};
 use std::alloc::Global;
 use vrl_builtin::{Applied, Arguments, Builtin, Givens, Parameter, Setting, Tags, required};

@@ -1,35 +1,40 @@
 ghost use Rattle.std.specs.Prelude.{◌≡◌, ◌++◌, [], ◌∷◌, map, IfOk, OnOk, if◌then◌else◌};
-ghost use Rattle.std.specs.List.{list_any};
 ghost use Rattle.vrl_value.specs.View.{tree_of};
-ghost use Rattle.fn_list.specs.Same.{same};
+ghost use Rattle.fn_list.specs.Seen.{is_in, Finds};
 ghost use Rattle.fn_list.specs.Unique.{firsts, unique_row, uniques};
 ghost use Rattle.fn_list.specs.UniqueLaw.{unique-law};
 
-use crate::alone::{array_parts, items_of};
-use crate::same::is_among;
+use crate::key::Key;
 use std::alloc::Global;
+use std::collections::BTreeSet;
 use vrl_builtin::{
-    Applied, Arguments, Builtin, Givens, Parameter, Setting, Tags, array_of, required,
+    Applied, Arguments, Builtin, Givens, Parameter, Setting, Tags, array_of, items_of, required,
 };
 use vrl_kind::Kind;
 use vrl_pattern::Patterns;
 use vrl_value::{Items, Memory, Value};
 
 /// `unique(value: array)`: array of the parts of the array's kind. The items of the array, of equal ones the first alone. It never fails. It
-/// compares each item with those that stay before it. `unique([1,1,2])` is `[1,2]`.
+/// makes some n log n comparisons of n items. `unique([1,1,2])` is `[1,2]`.
 #[derive(Clone, Copy)]
 pub struct Unique;
 
 static PARAMETERS: [Parameter; 1] = [required!("value", Tags::ARRAY)];
 
-// Puts a copy of an item behind those that stay, unless it equals one of them.
-fn push_new(alloc: Global, kept: &mut Vec<Value>, item: &Value) -> Result<(), Memory>
-    ensures { OnOk result (map tree_of kept.new.items ≡ (if list_any (λ other. same (tree_of other) (tree_of item.now)) kept.old.items then map tree_of kept.old.items else map tree_of kept.old.items ++ (tree_of item.now ∷ []))) }
+// Puts a copy of an item behind those that stay, unless it equals one of them, which the set finds.
+fn push_new<'a>(
+    alloc: Global,
+    seen: &mut BTreeSet<Key<'a>>,
+    kept: &mut Vec<Value>,
+    item: &'a Value,
+) -> Result<(), Memory>
+    requires { Finds seen.old (map tree_of kept.old.items) }
+    ensures kept { OnOk result (map tree_of kept.new.items ≡ (if is_in (map tree_of kept.old.items) (tree_of item.now) then map tree_of kept.old.items else map tree_of kept.old.items ++ (tree_of item.now ∷ []))) }
+    ensures seen { OnOk result (Finds seen.new (map tree_of kept.new.items)) }
 {
-    if is_among(kept, item) {
-        return Ok(());
+    if seen.insert(Key { value: item })? {
+        kept.push(item.copy(alloc)?)?;
     }
-    kept.push(item.copy(alloc)?)?;
     Ok(())
 }
 
@@ -37,9 +42,10 @@ fn push_new(alloc: Global, kept: &mut Vec<Value>, item: &Value) -> Result<(), Me
 fn firsts(alloc: Global, items: &[Value]) -> Result<Vec<Value>, Memory>
     ensures { IfOk result (λ kept. map tree_of kept.items ≡ firsts (map tree_of items.now)) }
 {
+    let mut seen = BTreeSet::new(alloc);
     let mut kept = Vec::new(alloc);
     for item in items {
-        push_new(alloc, &mut kept, item)?;
+        push_new(alloc, &mut seen, &mut kept, item)?;
     }
     Ok(kept)
 }
@@ -73,7 +79,7 @@ impl Builtin for Unique {
         given: &Givens,
         _patterns: &Patterns,
     ) -> Result<Kind, Memory> {
-        let parts = array_parts(alloc, given, 0)?;
+        let parts = given.array_parts(alloc, 0)?;
         array_of(alloc, parts)
     }
 

@@ -7,10 +7,9 @@ ghost use Rattle.vrl_builtin.specs.View.{givens_of};
 ghost use Rattle.fn_list.specs.Zip.{pair_at, pair_of, pairs_of, zip_kind, zipped, zip_row};
 ghost use Rattle.fn_list.specs.ZipLaw.{zip-law};
 
-use crate::alone::{array_parts, items_of};
 use std::alloc::Global;
 use vrl_builtin::{
-    Applied, Arguments, Builtin, Givens, Parameter, Setting, Tags, array_of, required,
+    Applied, Arguments, Builtin, Givens, Parameter, Setting, Tags, array_of, items_of, required,
 };
 use vrl_kind::{Kind, Rest};
 use vrl_pattern::Patterns;
@@ -76,8 +75,8 @@ fn pair_kind(alloc: Global, first: Kind, second: Kind) -> Result<Kind, Memory>
 fn zipped_kind(alloc: Global, given: &Givens) -> Result<Kind, Memory>
     ensures { IfOk result (λ kind. SameSets (tags_at kind) (zip_kind (kind_at 0 (givens_of given.now)) (kind_at 1 (givens_of given.now)))) }
 {
-    let first = array_parts(alloc, given, 0)?;
-    let second = array_parts(alloc, given, 1)?;
+    let first = given.array_parts(alloc, 0)?;
+    let second = given.array_parts(alloc, 1)?;
     let pair = pair_kind(alloc, first, second)?;
     array_of(alloc, pair)
 }

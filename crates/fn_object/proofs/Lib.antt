@@ -1,9 +1,5 @@
 mod Counts
 mod Faults
-mod Known
 mod Laid
-mod Made
 mod Pairs
-mod Sizes
 mod Splitting
-mod Views

@@ -6,8 +6,9 @@ use Rattle.vrl_path.specs.Read.{read_at}
 use Rattle.vrl_builtin.specs.Rows.{Row, Answer, named, any_literal, kind_at, parameter, value_at}
 use Rattle.vrl_builtin.specs.TagSets.{arrays, containers}
 use Rattle.vrl_builtin.specs.Words.{first_other}
-use Rattle.fn_object.specs.Listed.{items_in, trees_in}
-use Rattle.fn_object.specs.Paths.{has_other, path_answer, step_tags, steps_of}
+use Rattle.vrl_builtin.specs.Listed.{items_in, trees_in}
+use Rattle.fn_object.specs.Paths.{path_answer, step_tags, steps_of}
+use Rattle.vrl_builtin.specs.PartKinds.{part_allows_other}
 
 -- null where nothing stands there
 abbrev pub got : Tree → Tree → Answer
@@ -19,6 +20,6 @@ get_row = record {
   parameters = parameter (codes "value") containers ∷ parameter (codes "path") arrays ∷ [];
   accepts = any_literal;
   kind = λ givens sources. any_at;
-  may_fail = λ givens. has_other step_tags (kind_at 1 givens);
+  may_fail = λ givens. part_allows_other step_tags (kind_at 1 givens);
   means = λ arguments setting. named (codes "get") (got (value_at 0 arguments) (value_at 1 arguments));
 }

@@ -7,7 +7,7 @@ use Rattle.vrl_kind.specs.Kinds.{only_at}
 use Rattle.vrl_builtin.specs.Containers.{array_of}
 use Rattle.vrl_builtin.specs.Rows.{Row, value, any_literal, parameter, value_at}
 use Rattle.vrl_builtin.specs.TagSets.{objects}
-use Rattle.fn_object.specs.Listed.{entries_in, members_in}
+use Rattle.vrl_builtin.specs.Listed.{entries_in, members_in}
 
 -- in the order of their bytes, each name once
 abbrev pub keys_of : Members → Tree

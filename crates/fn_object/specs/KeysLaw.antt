@@ -7,8 +7,8 @@ use Rattle.vrl_builtin.specs.Law.{KeepsLaw}
 use Rattle.vrl_builtin.specs.Rows.{value_at}
 use Rattle.vrl_builtin.proofs.Containers.{array_is_lawful, plain_part, IsLawfulPart}
 use Rattle.fn_object.specs.Keys.{keys_row}
-use Rattle.fn_object.specs.Listed.{members_in}
-use Rattle.fn_object.specs.Lawfully.{each_key}
+use Rattle.vrl_builtin.specs.Listed.{members_in}
+use Rattle.vrl_builtin.proofs.Listed.{each_key}
 
 pub keys-law : KeepsLaw keys_row
 keys-law = record {

@@ -9,8 +9,8 @@ use Rattle.vrl_kind.specs.Overlay.{overlaid_at}
 use Rattle.vrl_kind.specs.Sets.{Sets}
 use Rattle.vrl_builtin.specs.Rows.{Row, value, any_literal, boolean_at, kind_at, literal_at, optional_parameter, parameter, value_at}
 use Rattle.vrl_builtin.specs.TagSets.{booleans, objects}
-use Rattle.fn_object.specs.Listed.{members_in}
-use Rattle.fn_object.specs.Loose.{any_of}
+use Rattle.vrl_builtin.specs.Listed.{members_in}
+use Rattle.vrl_builtin.specs.AnyParts.{any_of}
 
 -- the members with others put among them: of a name that both have, the other's value
 abbrev pub put_all : Members → Members → Members

@@ -1,9 +1,8 @@
 -- `merge` keeps the law.
-use Rattle.std.specs.Prelude.{◌≡◌, ℕ, Bool, true, false, ◌&&◌, ◌||◌, not, List, [], ◌∷◌, Option, Some, None, IsTrue, IfSome, refl}
+use Rattle.std.specs.Prelude.{◌≡◌, ℕ, Bool, true, false, ◌&&◌, ◌||◌, not, List, [], ◌∷◌, Option, Some, None, IsTrue, IfSome, refl, bytes_eq}
 use Rattle.std.proofs.Common.{sym, ap, ◌∙◌, subst}
 use Rattle.std.proofs.lemmas.Cmp.{nat_list_cmp_total, tied_itself}
 use Rattle.std.proofs.lemmas.Slice.Eq.{bytes_eq-Decides}
-use Rattle.std.specs.Prelude.{bytes_eq}
 use Rattle.vrl_value.specs.Look.{Step, field, place, found_behind, found_if, raw_at, tag_found}
 use Rattle.vrl_value.specs.Tag.{tag_of}
 use Rattle.vrl_value.specs.Tree.{Tree, string, integer, boolean, null, timestamp, regex, array, object, Members, no_members, member, find, put, IsBefore, IsOrdered, MembersAreOrdered}
@@ -19,10 +18,12 @@ use Rattle.vrl_builtin.specs.Law.{KeepsLaw, IsLawful, IsOfGiven}
 use Rattle.vrl_builtin.specs.Rows.{value, argument_at, boolean_or, kind_at, literal_at, value_or}
 use Rattle.vrl_builtin.specs.TagSets.{objects}
 use Rattle.vrl_builtin.proofs.Containers.{each_found, each_put, EachMember}
-use Rattle.fn_object.specs.Lawfully.{no, objects_only}
-use Rattle.fn_object.specs.Loose.{any_of}
+use Rattle.vrl_builtin.proofs.GivenTags.{no, objects_only}
+use Rattle.vrl_builtin.specs.AnyParts.{any_of}
 use Rattle.fn_object.specs.Merge.{changed, is_shallow, laid_over, lay_all, merge_kind, merge_row, merged, overlaid_kind, put_all}
-use Rattle.fn_object.specs.Parted.{answered, are_parts, each_replaced, given_part, loosely_allowed, object_part, AreParts, IsPart}
+use Rattle.vrl_builtin.proofs.AnswerParts.{answered, member_parts, given_part, object_part, AreParts, IsPart}
+use Rattle.fn_object.specs.EachChanged.{each_replaced}
+use Rattle.vrl_builtin.proofs.AnyParts.{loosely_allowed}
 
 -- ---- what is found among members that were put over others
 
@@ -119,7 +120,7 @@ changed_parts arguments k (Some u) over t ms part so found are =
 mutual
   laid_part : (arguments : List (Option Tree)) (t u : Tree) → IsPart arguments t → IsPart arguments u → IsPart arguments (laid_over t u)
   laid_part arguments (object ns) (object ms) new old =
-      let new_parts = are_parts arguments ns new in let all = lay_parts arguments ns ms new_parts.each (are_parts arguments ms old) in object_part arguments (lay_all ns ms) all.each all.ordered
+      let new_parts = member_parts arguments ns new in let all = lay_parts arguments ns ms new_parts.each (member_parts arguments ms old) in object_part arguments (lay_all ns ms) all
   laid_part arguments t u new old = new
 
   lay_parts : (arguments : List (Option Tree)) (ns ms : Members) → EachMember (IsPart arguments) ns → AreParts arguments ms → AreParts arguments (lay_all ns ms)
@@ -142,19 +143,19 @@ shallow_lawful : (K L : Option KindTree) (arguments : List (Option Tree)) (ms ns
 shallow_lawful None L arguments ms ns of fits old new = absurd of
 shallow_lawful (Some K) None arguments ms ns of fits old new = absurd fits
 shallow_lawful (Some K) (Some L) arguments ms ns of fits old new =
-    let new_parts = are_parts arguments ns new in
-    let all = put_all_parts arguments ns ms new_parts.each (are_parts arguments ms old) in
-    answered (overlaid_kind (Some K) (Some L)) false arguments (object (put_all ns ms)) (shallow_allowed ms ns K L of fits new_parts.ordered) (object_part arguments (put_all ns ms) all.each all.ordered)
+    let new_parts = member_parts arguments ns new in
+    let all = put_all_parts arguments ns ms new_parts.each (member_parts arguments ms old) in
+    answered (overlaid_kind (Some K) (Some L)) false arguments (object (put_all ns ms)) (shallow_allowed ms ns K L of fits new_parts.ordered) (object_part arguments (put_all ns ms) all)
 
 loose_lawful : (deep : Bool) (arguments : List (Option Tree)) (ms ns : Members) → IsPart arguments (object ms) → IsPart arguments (object ns) → IsLawful (any_of objects) false arguments (value (merged deep (object ms) (object ns)))
 loose_lawful true arguments ms ns old new =
-    let new_parts = are_parts arguments ns new in
-    let all = lay_parts arguments ns ms new_parts.each (are_parts arguments ms old) in
-    answered (any_of objects) false arguments (object (lay_all ns ms)) (loosely_allowed objects (object (lay_all ns ms)) refl) (object_part arguments (lay_all ns ms) all.each all.ordered)
+    let new_parts = member_parts arguments ns new in
+    let all = lay_parts arguments ns ms new_parts.each (member_parts arguments ms old) in
+    answered (any_of objects) false arguments (object (lay_all ns ms)) (loosely_allowed objects (object (lay_all ns ms)) refl) (object_part arguments (lay_all ns ms) all)
 loose_lawful false arguments ms ns old new =
-    let new_parts = are_parts arguments ns new in
-    let all = put_all_parts arguments ns ms new_parts.each (are_parts arguments ms old) in
-    answered (any_of objects) false arguments (object (put_all ns ms)) (loosely_allowed objects (object (put_all ns ms)) refl) (object_part arguments (put_all ns ms) all.each all.ordered)
+    let new_parts = member_parts arguments ns new in
+    let all = put_all_parts arguments ns ms new_parts.each (member_parts arguments ms old) in
+    answered (any_of objects) false arguments (object (put_all ns ms)) (loosely_allowed objects (object (put_all ns ms)) refl) (object_part arguments (put_all ns ms) all)
 
 merged_lawful : (shallow deep : Bool) (K L : Option KindTree) (arguments : List (Option Tree)) (ms ns : Members) → (shallow ≡ true → deep ≡ false) → IsOfGiven K (Some (object ms)) → IsOfGiven L (Some (object ns)) →
     IsPart arguments (object ms) → IsPart arguments (object ns) → IsLawful (merge_kind shallow K L) false arguments (value (merged deep (object ms) (object ns)))

@@ -3,8 +3,8 @@ use Rattle.std.specs.Prelude.{ℕ, suc, true, List, [], ◌∷◌, ◌++◌, Opt
 use Rattle.vrl_value.specs.Tree.{Tree, string, integer, boolean, null, timestamp, regex, array, object, Items, no_items, item, Members, no_members, put}
 use Rattle.vrl_builtin.specs.Rows.{Row, Answer, value, failure, named, any_literal, parameter, value_at}
 use Rattle.vrl_builtin.specs.TagSets.{arrays, objects}
-use Rattle.fn_object.specs.Listed.{items_in, trees_in}
-use Rattle.fn_object.specs.Loose.{any_of}
+use Rattle.vrl_builtin.specs.Listed.{items_in, trees_in}
+use Rattle.vrl_builtin.specs.AnyParts.{any_of}
 
 -- an array of two whose first item is a string
 abbrev pub pair_in : Items → Option (List ℕ × Tree)

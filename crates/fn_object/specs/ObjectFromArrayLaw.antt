@@ -6,11 +6,12 @@ use Rattle.vrl_builtin.specs.Law.{KeepsLaw, IsLawful}
 use Rattle.vrl_builtin.specs.Rows.{named, argument_at, value_or}
 use Rattle.vrl_builtin.specs.TagSets.{objects}
 use Rattle.vrl_builtin.proofs.Containers.{each_put, EachItem}
-use Rattle.fn_object.specs.Lawfully.{arrays_only}
-use Rattle.fn_object.specs.Listed.{items_in, trees_in}
-use Rattle.fn_object.specs.Loose.{any_of}
+use Rattle.vrl_builtin.proofs.GivenTags.{arrays_only}
+use Rattle.vrl_builtin.specs.Listed.{items_in, trees_in}
+use Rattle.vrl_builtin.specs.AnyParts.{any_of}
 use Rattle.fn_object.specs.ObjectFromArray.{entry_of, first_unfit, made_of, object_from_array_row, put_entries, put_entry, unless_unfit}
-use Rattle.fn_object.specs.Parted.{answered, given_part, item_parts, loosely_allowed, object_part, AreParts, IsPart}
+use Rattle.vrl_builtin.proofs.AnswerParts.{answered, given_part, item_parts, object_part, AreParts, IsPart}
+use Rattle.vrl_builtin.proofs.AnyParts.{loosely_allowed}
 
 put_one : (arguments : List (Option Tree)) (k : List ℕ) (v : Tree) (ms : Members) → IsPart arguments v → AreParts arguments ms → AreParts arguments (put_entry (Some (k, v)) ms)
 put_one arguments k v ms part are = record { each = each_put (IsPart arguments) k v ms part are.each; ordered = put_ordered k v ms part.ordered are.ordered }
@@ -35,7 +36,7 @@ put_all arguments (item t ts) ms each are = put_all arguments ts (put_entry (ent
 
 made_lawful : (o : Option ℕ) (arguments : List (Option Tree)) (ms : Members) → AreParts arguments ms → IsLawful (any_of objects) true arguments (named (codes "object_from_array") (unless_unfit o (object ms)))
 made_lawful (Some n) arguments ms are = refl
-made_lawful None arguments ms are = answered (any_of objects) true arguments (object ms) (loosely_allowed objects (object ms) refl) (object_part arguments ms are.each are.ordered)
+made_lawful None arguments ms are = answered (any_of objects) true arguments (object ms) (loosely_allowed objects (object ms) refl) (object_part arguments ms are)
 
 pub object_from_array-law : KeepsLaw object_from_array_row
 object_from_array-law = record {

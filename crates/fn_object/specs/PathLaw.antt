@@ -1,73 +1,17 @@
--- What is answered at paths: elements of other tags, and trees that are set and removed.
-use Rattle.std.specs.Prelude.{◌≡◌, ℕ, suc, Bool, true, false, ◌&&◌, not, List, [], ◌∷◌, Option, Some, None, IsTrue, IfSome, refl, if◌then◌else◌}
-use Rattle.std.proofs.Common.{ap, arith}
-use Rattle.std.proofs.lemmas.Grind.{common_steps}
-use Rattle.std.specs.List.{list_any}
+-- What is answered at paths: trees that are set and removed.
+use Rattle.std.specs.Prelude.{◌≡◌, true, List, [], ◌∷◌, Option, Some, None, IfSome, refl}
 use Rattle.vrl_value.specs.Look.{Step, field, place, Found, there, missing, no_place, found_if, item_at, part_at, IfThere}
 use Rattle.vrl_value.specs.Tag.{tag_of}
-use Rattle.vrl_value.specs.Tree.{Tree, string, integer, boolean, null, timestamp, regex, array, object, Items, no_items, item, Members, find, put, IsOrdered}
+use Rattle.vrl_value.specs.Tree.{Tree, string, integer, boolean, null, timestamp, regex, array, object, Items, Members, find, put}
 use Rattle.vrl_value.specs.Parts.{put_item, replace, replace_item}
-use Rattle.vrl_value.specs.declared.value.Tag.{Tag}
-use Rattle.vrl_value.specs.declared.value.Tag.TheVariants as tag
 use Rattle.vrl_value.proofs.Order.{put_ordered, replace_ordered, without_ordered}
-use Rattle.vrl_kind.specs.KindTree.{KindTree}
-use Rattle.vrl_kind.specs.Tags.{all_tags}
 use Rattle.vrl_path.specs.Parts.{replace_part, with_part, without_part}
 use Rattle.vrl_path.specs.Trees.{chain, if_there, plain_remove_tree, plain_set_tree}
 use Rattle.vrl_path.specs.Write.{items_in, members_in}
-use Rattle.vrl_builtin.specs.Law.{IsOfGiven}
-use Rattle.vrl_builtin.specs.Rows.{argument_at}
 use Rattle.vrl_builtin.specs.TagSets.{allows, containers}
-use Rattle.vrl_builtin.specs.Words.{first_other_from}
-use Rattle.vrl_builtin.specs.declared.tags.Tags.{Tags}
-use Rattle.vrl_builtin.proofs.Containers.{each_at, each_found, each_item_so, each_put, items_are_parts, plain_part, EachItem, IsLawfulPart}
-use Rattle.fn_object.specs.Alone.{array_parts_at, arrays_alone}
-use Rattle.fn_object.specs.Cutting.{alone_array}
-use Rattle.fn_object.specs.Parted.{are_parts, array_part, each_put_item, each_replaced, each_replaced_item, each_without, each_without_item, everything, item_parts, object_part, AreParts, IsPart}
-use Rattle.fn_object.specs.Paths.{has_other}
-
--- ---- elements of other tags
-
-any_tag : (P : Tag → Bool) (t : Tag) → P t ≡ true → list_any P all_tags ≡ true
-any_tag P tag.Text is = grind (arith, common_steps)
-any_tag P tag.Int is = grind (arith, common_steps)
-any_tag P tag.Bool is = grind (arith, common_steps)
-any_tag P tag.Null is = grind (arith, common_steps)
-any_tag P tag.Time is = grind (arith, common_steps)
-any_tag P tag.Pattern is = grind (arith, common_steps)
-any_tag P tag.List is = grind (arith, common_steps)
-any_tag P tag.Object is = grind (arith, common_steps)
-any_tag P tag.Absent is = grind (arith, common_steps)
-
-and_both : (a b : Bool) → a ≡ true → b ≡ true → (a && b) ≡ true
-and_both true b first second = second
-and_both false b first second = first
-
-abbrev IsOther : (Tag → Bool) → Tags → Option (ℕ × Tag) → Type 0
-IsOther A T o = IfSome o (λ other. IsTrue (A other.1 && not (allows T other.1)))
-
-by_test : (A : Tag → Bool) (T : Tags) (b : Bool) (t : Tag) (n : ℕ) (o : Option (ℕ × Tag)) → allows T t ≡ b → IsTrue (A t) → IsOther A T o → IsOther A T (if b then o else Some (n, t))
-by_test A T true t n o is allowed others = others
-by_test A T false t n o is allowed others = and_both (A t) (not (allows T t)) allowed (ap not is)
-
-other_from : (A : Tag → Bool) (T : Tags) (n : ℕ) (ts : Items) → EachItem (λ v. IsTrue (A (tag_of v))) ts → IsOther A T (first_other_from n T ts)
-other_from A T n no_items each = tt
-other_from A T n (item v ts) each = by_test A T (allows T (tag_of v)) (tag_of v) n (first_other_from (suc n) T ts) refl each.0 (other_from A T (suc n) ts each.1)
-
-given_tags : (K : Option KindTree) (at : ℕ) (ts : Items) (arguments : List (Option Tree)) → argument_at at arguments ≡ Some (array ts) → IsOfGiven K (Some (array ts)) → IsOrdered (array ts) →
-    EachItem (λ v. IsTrue (array_parts_at K [] (tag_of v))) ts
-given_tags None at ts arguments is of ordered = absurd of
-given_tags (Some K) at ts arguments is of ordered =
-    each_item_so (IsLawfulPart (array_parts_at (Some K)) arguments) (λ v. IsTrue (array_parts_at (Some K) [] (tag_of v))) ts (λ v part. part.allowed []) (items_are_parts (arrays_alone K) at ts arguments is (alone_array ts K of) ordered)
-
--- where an element of another tag is found, the kind that is given allows it
-pub other_given : (K : Option KindTree) (T : Tags) (at : ℕ) (ts : Items) (arguments : List (Option Tree)) → argument_at at arguments ≡ Some (array ts) → IsOfGiven K (Some (array ts)) → IsOrdered (array ts) →
-    IfSome (first_other_from 0 T ts) (λ other. IsTrue (has_other T K))
-unfolding has_other
-other_given K T at ts arguments is of ordered = so (first_other_from 0 T ts) (other_from (array_parts_at K []) T 0 ts (given_tags K at ts arguments is of ordered)) where
-  so : (o : Option (ℕ × Tag)) → IsOther (array_parts_at K []) T o → IfSome o (λ other. IsTrue (has_other T K))
-  so None found = tt
-  so (Some other) found = any_tag (λ t. array_parts_at K [] t && not (allows T t)) other.1 found
+use Rattle.vrl_builtin.proofs.AnswerParts.{array_part, everything, item_parts, member_parts, object_part, AreParts, IsPart}
+use Rattle.vrl_builtin.proofs.Containers.{each_at, each_found, each_put, plain_part, EachItem}
+use Rattle.fn_object.specs.EachChanged.{each_put_item, each_replaced, each_replaced_item, each_without, each_without_item}
 
 -- ---- parts put and taken out at a step
 
@@ -75,7 +19,7 @@ null_part : (arguments : List (Option Tree)) → IsPart arguments null
 null_part arguments = plain_part everything arguments null tt refl
 
 members_are : (arguments : List (Option Tree)) (u : Tree) → IsPart arguments u → AreParts arguments (members_in (there u))
-members_are arguments (object ms) part = are_parts arguments ms part
+members_are arguments (object ms) part = member_parts arguments ms part
 members_are arguments (string s) part = record { each = tt; ordered = tt }
 members_are arguments (integer n) part = record { each = tt; ordered = tt }
 members_are arguments (boolean b) part = record { each = tt; ordered = tt }
@@ -97,18 +41,18 @@ items_are arguments (object ms) part = tt
 with_is : (arguments : List (Option Tree)) (s : Step) (t u : Tree) → IsPart arguments t → IsPart arguments u → IsPart arguments (with_part s t u)
 with_is arguments (field k) t u new old =
     let are = members_are arguments u old in
-    object_part arguments (put k t (members_in (there u))) (each_put (IsPart arguments) k t (members_in (there u)) new are.each) (put_ordered k t (members_in (there u)) new.ordered are.ordered)
+    object_part arguments (put k t (members_in (there u))) (record { each = each_put (IsPart arguments) k t (members_in (there u)) new are.each; ordered = put_ordered k t (members_in (there u)) new.ordered are.ordered })
 with_is arguments (place i) t u new old = array_part arguments (put_item i t (items_in (there u))) (each_put_item (IsPart arguments) i t (items_in (there u)) (null_part arguments) new (items_are arguments u old))
 
 replaced_is : (arguments : List (Option Tree)) (s : Step) (t u : Tree) → IsPart arguments t → IsPart arguments u → IsPart arguments (replace_part s t u)
 replaced_is arguments (field k) t (object ms) new old =
-    let are = are_parts arguments ms old in object_part arguments (replace k t ms) (each_replaced (IsPart arguments) k t ms new are.each) (replace_ordered k t ms new.ordered are.ordered)
+    let are = member_parts arguments ms old in object_part arguments (replace k t ms) (record { each = each_replaced (IsPart arguments) k t ms new are.each; ordered = replace_ordered k t ms new.ordered are.ordered })
 replaced_is arguments (place i) t (array ts) new old = array_part arguments (replace_item i t ts) (each_replaced_item (IsPart arguments) i t ts new (item_parts arguments ts old))
 replaced_is arguments s t u new old = old
 
 without_is : (arguments : List (Option Tree)) (s : Step) (u : Tree) → IsPart arguments u → IsPart arguments (without_part s u)
 without_is arguments (field k) (object ms) old =
-    let are = are_parts arguments ms old in object_part arguments _ (each_without (IsPart arguments) k ms are.each) (without_ordered k ms are.ordered)
+    let are = member_parts arguments ms old in object_part arguments _ (record { each = each_without (IsPart arguments) k ms are.each; ordered = without_ordered k ms are.ordered })
 without_is arguments (place i) (array ts) old = array_part arguments _ (each_without_item (IsPart arguments) i ts (item_parts arguments ts old))
 without_is arguments s u old = old
 
@@ -117,7 +61,7 @@ there_if P None is = tt
 there_if P (Some t) is = is
 
 part_is : (arguments : List (Option Tree)) (t : Tree) (s : Step) → IsPart arguments t → IfThere (part_at t s) (IsPart arguments)
-part_is arguments (object ms) (field k) part = there_if (IsPart arguments) (find k ms) (each_found (IsPart arguments) k ms (are_parts arguments ms part).each)
+part_is arguments (object ms) (field k) part = there_if (IsPart arguments) (find k ms) (each_found (IsPart arguments) k ms (member_parts arguments ms part).each)
 part_is arguments (array ts) (place i) part = there_if (IsPart arguments) (item_at i ts) (each_at (IsPart arguments) ts i (item_parts arguments ts part))
 part_is arguments t s part = tt
 

@@ -1,17 +1,14 @@
 -- Paths that are given as arrays: strings are fields and integers places.
-use Rattle.std.specs.Prelude.{ℕ, pos, negsuc, Bool, true, false, ◌&&◌, not, leb, nat_lt, List, [], ◌∷◌, map, length, Option, Some, None, codes, if◌then◌else◌}
-use Rattle.std.specs.List.{list_all, list_any}
+use Rattle.std.specs.Prelude.{ℕ, pos, negsuc, Bool, true, false, leb, nat_lt, List, [], ◌∷◌, map, length, Option, Some, None, codes, if◌then◌else◌}
+use Rattle.std.specs.List.{list_all}
 use Rattle.vrl_value.specs.Tree.{Tree, string, integer, boolean, null, timestamp, regex, array, object}
 use Rattle.vrl_value.specs.declared.value.Tag.{Tag}
-use Rattle.vrl_kind.specs.KindTree.{KindTree}
-use Rattle.vrl_kind.specs.Tags.{all_tags}
 use Rattle.vrl_path.specs.declared.path.Step.{Step}
 use Rattle.vrl_path.specs.declared.path.Step.TheVariants.{Field, Place}
 use Rattle.vrl_builtin.specs.Rows.{Answer, value, failure}
-use Rattle.vrl_builtin.specs.TagSets.{allows, no_tags}
+use Rattle.vrl_builtin.specs.TagSets.{no_tags}
 use Rattle.vrl_builtin.specs.Words.{path_element_is}
 use Rattle.vrl_builtin.specs.declared.tags.Tags.{Tags}
-use Rattle.fn_object.specs.Alone.{array_parts_at}
 
 -- the tags that an element may have
 abbrev pub step_tags : Tags
@@ -30,10 +27,6 @@ step_of (object ms) = Place (pos 0)
 
 abbrev pub steps_of : List Tree → List Step
 steps_of = map step_of
-
--- whether the parts of an array that is given may have a tag outside the set
-unfoldable pub has_other : Tags → Option KindTree → Bool
-has_other T K = list_any (λ t. array_parts_at K [] t && not (allows T t)) all_tags
 
 -- an element of another tag, by its place, or else other words, or else a value
 abbrev pub path_answer : Option (ℕ × Tag) → Option (List ℕ) → Tree → Answer

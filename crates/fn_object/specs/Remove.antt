@@ -5,8 +5,8 @@ use Rattle.vrl_path.specs.Trees.{remove_tree}
 use Rattle.vrl_builtin.specs.Rows.{Row, Answer, named, any_literal, kind_at, parameter, value_at}
 use Rattle.vrl_builtin.specs.TagSets.{arrays, containers}
 use Rattle.vrl_builtin.specs.Words.{first_other}
-use Rattle.fn_object.specs.Listed.{items_in, trees_in}
-use Rattle.fn_object.specs.Loose.{any_of, containers_in}
+use Rattle.vrl_builtin.specs.Listed.{items_in, trees_in}
+use Rattle.vrl_builtin.specs.AnyParts.{any_of, containers_in}
 use Rattle.fn_object.specs.Paths.{path_answer, removal_fault, step_tags, steps_of}
 
 -- what `remove_tree` of vrl_path gives, which is told by look-up at every path

@@ -1,8 +1,8 @@
 -- `remove` keeps the law.
-use Rattle.std.specs.Prelude.{◌≡◌, ℕ, true, List, Option, Some, None, codes, IsTrue, IfSome, refl}
+use Rattle.std.specs.Prelude.{◌≡◌, ℕ, true, List, Option, Some, None, codes, IfSome, refl}
 use Rattle.std.proofs.Common.{ap, ◌∙◌}
 use Rattle.vrl_value.specs.Tag.{tag_of}
-use Rattle.vrl_value.specs.Tree.{Tree, null, array, object, IsOrdered}
+use Rattle.vrl_value.specs.Tree.{Tree, null, IsOrdered}
 use Rattle.vrl_value.specs.declared.value.Tag.{Tag}
 use Rattle.vrl_kind.specs.KindTree.{KindTree}
 use Rattle.vrl_path.specs.Steps.{plain}
@@ -10,22 +10,16 @@ use Rattle.vrl_path.specs.Trees.{remove_tree}
 use Rattle.vrl_path.specs.declared.path.Step.{Step}
 use Rattle.vrl_builtin.specs.Law.{KeepsLaw, IsLawful, IsOfGiven}
 use Rattle.vrl_builtin.specs.Rows.{named, argument_at, kind_at, value_or}
-use Rattle.vrl_builtin.specs.TagSets.{allows, containers}
+use Rattle.vrl_builtin.specs.TagSets.{allows}
 use Rattle.vrl_builtin.specs.Words.{first_other}
-use Rattle.vrl_builtin.proofs.Lawful.{tag_is_given}
-use Rattle.fn_object.specs.Lawfully.{arrays_only, container_only, no}
-use Rattle.fn_object.specs.Listed.{trees_in}
-use Rattle.fn_object.specs.Loose.{any_of, containers_in}
-use Rattle.fn_object.specs.Parted.{answered, given_part, loosely_allowed, IsPart}
+use Rattle.vrl_builtin.proofs.GivenTags.{arrays_only, container_only}
+use Rattle.vrl_builtin.specs.Listed.{trees_in}
+use Rattle.vrl_builtin.specs.AnyParts.{any_of, containers_in}
+use Rattle.vrl_builtin.proofs.AnswerParts.{answered, given_part, IsPart}
+use Rattle.vrl_builtin.proofs.AnyParts.{container_tag, loosely_allowed}
 use Rattle.fn_object.specs.PathLaw.{removed_is, removed_tag}
 use Rattle.fn_object.specs.Paths.{path_answer, removal_fault, step_tags, steps_of}
 use Rattle.fn_object.specs.Remove.{remove_row, removed_at}
-
--- an array or an object has a tag that its kind allows
-pub container_tag : (K : Option KindTree) (v : Tree) → IsTrue (allows containers (tag_of v)) → IsOfGiven K (Some v) → allows (containers_in K) (tag_of v) ≡ true
-container_tag K (array ts) allowed of = tag_is_given K (array ts) of
-container_tag K (object ms) allowed of = tag_is_given K (object ms) of
-container_tag K v allowed of = no allowed
 
 removed_lawful : (K : Option KindTree) (o : Option (ℕ × Tag)) (words : Option (List ℕ)) (arguments : List (Option Tree)) (v : Tree) (p : List Step) → allows (containers_in K) (tag_of v) ≡ true → IsPart arguments v →
     IsLawful (any_of (containers_in K)) true arguments (named (codes "remove") (path_answer o words (remove_tree v p)))

@@ -5,8 +5,8 @@ use Rattle.vrl_path.specs.Trees.{set_tree}
 use Rattle.vrl_builtin.specs.Rows.{Row, Answer, named, any_literal, parameter, value_at}
 use Rattle.vrl_builtin.specs.TagSets.{any_tags, arrays, containers}
 use Rattle.vrl_builtin.specs.Words.{first_other}
-use Rattle.fn_object.specs.Listed.{items_in, trees_in}
-use Rattle.fn_object.specs.Loose.{any_of}
+use Rattle.vrl_builtin.specs.Listed.{items_in, trees_in}
+use Rattle.vrl_builtin.specs.AnyParts.{any_of}
 use Rattle.fn_object.specs.Paths.{path_answer, step_tags, steps_of, write_fault}
 
 -- what `set_tree` of vrl_path gives, which is told by look-up at every path

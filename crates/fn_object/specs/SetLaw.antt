@@ -9,10 +9,11 @@ use Rattle.vrl_builtin.specs.Law.{KeepsLaw, IsLawful}
 use Rattle.vrl_builtin.specs.Rows.{named, argument_at, value_or}
 use Rattle.vrl_builtin.specs.TagSets.{containers}
 use Rattle.vrl_builtin.specs.Words.{first_other}
-use Rattle.fn_object.specs.Lawfully.{arrays_only, some_only}
-use Rattle.fn_object.specs.Listed.{trees_in}
-use Rattle.fn_object.specs.Loose.{any_of}
-use Rattle.fn_object.specs.Parted.{answered, given_part, loosely_allowed, IsPart}
+use Rattle.vrl_builtin.proofs.GivenTags.{arrays_only, some_only}
+use Rattle.vrl_builtin.specs.Listed.{trees_in}
+use Rattle.vrl_builtin.specs.AnyParts.{any_of}
+use Rattle.vrl_builtin.proofs.AnswerParts.{answered, given_part, IsPart}
+use Rattle.vrl_builtin.proofs.AnyParts.{loosely_allowed}
 use Rattle.fn_object.specs.PathLaw.{set_is, set_tag}
 use Rattle.fn_object.specs.Paths.{path_answer, step_tags, steps_of, write_fault}
 use Rattle.fn_object.specs.Set.{set_at, set_row}

@@ -1,15 +1,14 @@
 -- `tally`: how many times each string stands in an array.
-use Rattle.std.specs.Prelude.{ℕ, suc, pos, Bool, false, List, [], ◌∷◌, Option, Some, None, codes, bytes_eq, if◌then◌else◌}
+use Rattle.std.specs.Prelude.{ℕ, suc, pos, Bool, false, List, [], ◌∷◌, codes, bytes_eq, if◌then◌else◌}
 use Rattle.vrl_value.specs.Tree.{Tree, string, integer, boolean, null, timestamp, regex, array, object, Members, no_members, put}
-use Rattle.vrl_value.specs.declared.value.Tag.{Tag}
 use Rattle.vrl_value.specs.declared.value.Tag.TheVariants as tag
 use Rattle.vrl_kind.specs.Kinds.{only_at}
 use Rattle.vrl_builtin.specs.Containers.{object_of}
-use Rattle.vrl_builtin.specs.Rows.{Row, Answer, value, failure, named, any_literal, kind_at, parameter, value_at}
+use Rattle.vrl_builtin.specs.Rows.{Row, Answer, named, any_literal, kind_at, parameter, value_at}
 use Rattle.vrl_builtin.specs.TagSets.{arrays, strings}
-use Rattle.vrl_builtin.specs.Words.{element_is, first_other}
-use Rattle.fn_object.specs.Listed.{items_in, trees_in}
-use Rattle.fn_object.specs.Paths.{has_other}
+use Rattle.vrl_builtin.specs.Words.{first_other, unless_other}
+use Rattle.vrl_builtin.specs.Listed.{items_in, trees_in}
+use Rattle.vrl_builtin.specs.PartKinds.{part_allows_other}
 
 abbrev pub is_text : List ℕ → Tree → Bool
 is_text s (string u) = bytes_eq s u
@@ -42,10 +41,6 @@ abbrev pub counted : List Tree → List Tree → Members
 counted all [] = no_members
 counted all (t ∷ ts) = put_count all t (counted all ts)
 
-abbrev pub unless_other : Option (ℕ × Tag) → Tree → Answer
-unless_other (Some other) v = failure (element_is other.0 other.1)
-unless_other None v = value v
-
 abbrev pub tallied : Tree → Answer
 tallied v = let ts = trees_in (items_in v) in unless_other (first_other strings (items_in v)) (object (counted ts ts))
 
@@ -55,6 +50,6 @@ tally_row = record {
   parameters = parameter (codes "value") arrays ∷ [];
   accepts = any_literal;
   kind = λ givens sources. object_of (only_at tag.Int);
-  may_fail = λ givens. has_other strings (kind_at 0 givens);
+  may_fail = λ givens. part_allows_other strings (kind_at 0 givens);
   means = λ arguments setting. named (codes "tally") (tallied (value_at 0 arguments));
 }

@@ -9,13 +9,13 @@ use Rattle.vrl_builtin.specs.Containers.{object_of}
 use Rattle.vrl_builtin.specs.Law.{KeepsLaw, IsLawful, IsOfGiven}
 use Rattle.vrl_builtin.specs.Rows.{named, argument_at, kind_at, value_or}
 use Rattle.vrl_builtin.specs.TagSets.{strings}
-use Rattle.vrl_builtin.specs.Words.{first_other}
+use Rattle.vrl_builtin.specs.Words.{first_other, unless_other}
 use Rattle.vrl_builtin.proofs.Containers.{each_put, object_is_lawful, plain_part, EachMember, IsLawfulPart}
-use Rattle.fn_object.specs.Lawfully.{arrays_only}
-use Rattle.fn_object.specs.Listed.{trees_in}
-use Rattle.fn_object.specs.PathLaw.{other_given}
-use Rattle.fn_object.specs.Paths.{has_other}
-use Rattle.fn_object.specs.Tally.{count_in, counted, put_count, tallied, tally_row, unless_other}
+use Rattle.vrl_builtin.proofs.GivenTags.{arrays_only}
+use Rattle.vrl_builtin.specs.Listed.{trees_in}
+use Rattle.vrl_builtin.proofs.OtherParts.{other_given}
+use Rattle.vrl_builtin.specs.PartKinds.{part_allows_other}
+use Rattle.fn_object.specs.Tally.{count_in, counted, put_count, tallied, tally_row}
 
 record AreCounts (arguments : List (Option Tree)) (ms : Members) : Type 0 where
   pub each : EachMember (IsLawfulPart (only_at tag.Int) arguments) ms
@@ -47,8 +47,8 @@ tally-law = record {
   present = λ givens sources given below. refl;
   lawful = λ givens arguments setting given fit instances below.
       let K = kind_at 0 givens in
-      arrays_only (λ a. argument_at 0 arguments ≡ a → IsOfGiven K a → IfSome a IsOrdered → IsLawful (object_of (only_at tag.Int)) (has_other strings K) arguments (named (codes "tally") (tallied (value_or null a))))
+      arrays_only (λ a. argument_at 0 arguments ≡ a → IsOfGiven K a → IfSome a IsOrdered → IsLawful (object_of (only_at tag.Int)) (part_allows_other strings K) arguments (named (codes "tally") (tallied (value_or null a))))
       (argument_at 0 arguments) fit.0.there fit.0.allowed
-      (λ ts first of ordered. tallied_lawful (first_other strings ts) (has_other strings K) arguments (counted (trees_in ts) (trees_in ts)) (other_given K strings 0 ts arguments first of ordered) (counts arguments (trees_in ts) (trees_in ts)))
+      (λ ts first of ordered. tallied_lawful (first_other strings ts) (part_allows_other strings K) arguments (counted (trees_in ts) (trees_in ts)) (other_given K strings 0 ts arguments first of ordered) (counts arguments (trees_in ts) (trees_in ts)))
       refl (instances.kinds 0) (instances.ordered 0);
 }

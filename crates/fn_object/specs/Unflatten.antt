@@ -6,8 +6,8 @@ use Rattle.vrl_path.specs.declared.path.Step.{Step}
 use Rattle.vrl_path.specs.declared.path.Step.TheVariants.{Field}
 use Rattle.vrl_builtin.specs.Rows.{Row, value, any_literal, optional_parameter, parameter, text_at, value_at}
 use Rattle.vrl_builtin.specs.TagSets.{objects, strings}
-use Rattle.fn_object.specs.Listed.{members_in}
-use Rattle.fn_object.specs.Loose.{any_of}
+use Rattle.vrl_builtin.specs.Listed.{members_in}
+use Rattle.vrl_builtin.specs.AnyParts.{any_of}
 
 -- the text begins with the separator
 abbrev pub begins : List ℕ → List ℕ → Bool

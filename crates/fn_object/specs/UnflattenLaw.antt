@@ -13,9 +13,10 @@ use Rattle.vrl_builtin.specs.Law.{KeepsLaw, IsLawful}
 use Rattle.vrl_builtin.specs.Rows.{value, argument_at, text_at, value_or}
 use Rattle.vrl_builtin.specs.TagSets.{allows, objects}
 use Rattle.vrl_builtin.proofs.Containers.{EachMember}
-use Rattle.fn_object.specs.Lawfully.{objects_only}
-use Rattle.fn_object.specs.Loose.{any_of}
-use Rattle.fn_object.specs.Parted.{answered, given_part, loosely_allowed, member_parts, object_part, IsPart}
+use Rattle.vrl_builtin.proofs.GivenTags.{objects_only}
+use Rattle.vrl_builtin.specs.AnyParts.{any_of}
+use Rattle.vrl_builtin.proofs.AnswerParts.{answered, given_part, member_parts, object_part, IsPart}
+use Rattle.vrl_builtin.proofs.AnyParts.{loosely_allowed}
 use Rattle.fn_object.specs.PathLaw.{set_is}
 use Rattle.fn_object.specs.Unflatten.{cut_at, cut_key, first_place, is_nothing, path_of, put_paths, unflatten_row, unflattened}
 
@@ -63,6 +64,6 @@ unflatten-law = record {
       (λ ms first ordered.
       answered (any_of objects) false arguments (put_paths separator ms (object no_members))
       (loosely_allowed objects (put_paths separator ms (object no_members)) (ap (allows objects) (all_object separator ms (object no_members) refl)))
-      (all_parts arguments separator ms (object no_members) (member_parts arguments ms (given_part 0 (object ms) arguments first ordered)) (object_part arguments no_members tt tt)))
+      (all_parts arguments separator ms (object no_members) (member_parts arguments ms (given_part 0 (object ms) arguments first ordered)).each (object_part arguments no_members (record { each = tt; ordered = tt }))))
       refl (instances.ordered 0);
 }

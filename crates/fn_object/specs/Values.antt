@@ -5,8 +5,8 @@ use Rattle.vrl_value.specs.View.{items_of_trees}
 use Rattle.vrl_builtin.specs.Containers.{array_of}
 use Rattle.vrl_builtin.specs.Rows.{Row, value, any_literal, kind_at, parameter, value_at}
 use Rattle.vrl_builtin.specs.TagSets.{objects}
-use Rattle.fn_object.specs.Alone.{object_parts_at}
-use Rattle.fn_object.specs.Listed.{entries_in, members_in}
+use Rattle.vrl_builtin.specs.PartKinds.{object_parts_at}
+use Rattle.vrl_builtin.specs.Listed.{entries_in, members_in}
 
 -- in the order of the names' bytes
 abbrev pub values_of : Members → Tree

@@ -8,13 +8,11 @@ ghost use Rattle.fn_object.specs.Get.{get_row, got};
 ghost use Rattle.fn_object.specs.GetLaw.{get-law};
 ghost use Rattle.fn_object.specs.Paths.{steps_of};
 
-use crate::alone::has_other;
-use crate::containers::items_of;
 use crate::paths::{STEP_TAGS, path_of};
 use std::alloc::Global;
 use vrl_builtin::{
     Applied, Arguments, Builtin, Givens, Parameter, Setting, Tags, fail_at_path_element,
-    first_other, required,
+    first_other, items_of, required,
 };
 use vrl_kind::Kind;
 use vrl_path::get;
@@ -88,7 +86,7 @@ impl Builtin for Get {
     }
 
     fn may_fail(&self, given: &Givens) -> bool {
-        has_other(given, 1, &STEP_TAGS)
+        given.part_allows_other(1, &STEP_TAGS)
     }
 
     fn apply(&self, alloc: Global, arguments: &Arguments<'_>, _setting: &Setting<'_>) -> Applied {

@@ -2,7 +2,7 @@ ghost use Rattle.std.specs.Prelude.{◌≡◌, IfOk};
 ghost use Rattle.vrl_value.specs.View.{members_of, tree_of};
 ghost use Rattle.fn_object.specs.Keys.{keys_of, keys_row};
 ghost use Rattle.fn_object.specs.KeysLaw.{keys-law};
-ghost use Rattle.fn_object.specs.Listed.{members_in};
+ghost use Rattle.vrl_builtin.specs.Listed.{members_in};
 
 use std::alloc::Global;
 use vrl_builtin::{

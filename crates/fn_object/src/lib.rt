@@ -1,17 +1,12 @@
 //! The functions that read, make and change objects, and what stands at a path.
 //!
 //! Files: each function has a file, and its row one of `specs/`; its law stands in the file of `specs/` with its name and `Law`. `paths.rt` has the
-//! paths that are given as arrays, and their faults; `alone.rt` the parts of a kind's objects, and which tags the parts of its arrays may have;
-//! `containers.rt` the items of an array; `loose.rt` the kinds of arrays and objects of any parts. Of the definitions `Listed` has the parts of a value
-//! as lists, `Alone` the parts of a kind's objects and of its arrays, and `Paths` the paths; `Counting` says what the code promises on its way.
-//! What the laws rest on stands in `Cutting`, `Lawfully`, `Parted` and `PathLaw`.
+//! paths that are given as arrays, and their faults. Of the definitions `Paths` has the paths; `Counting` says what the code promises on its way. What
+//! the laws rest on stands in `EachChanged` and `PathLaw`.
 #![tactic(auto)]
 
-mod alone;
-mod containers;
 mod get;
 mod keys;
-mod loose;
 mod merge;
 mod object_from_array;
 mod paths;

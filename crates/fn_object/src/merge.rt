@@ -1,20 +1,18 @@
-ghost use Rattle.std.specs.Prelude.{◌≡◌, IfOk, OnOk, if◌then◌else◌};
+ghost use Rattle.std.specs.Prelude.{◌≡◌, IfOk, OnOk, if◌then◌else◌, Some};
 ghost use Rattle.vrl_value.specs.View.{members_of, tree_of};
 ghost use Rattle.vrl_kind.specs.Kinds.{tags_at};
 ghost use Rattle.vrl_kind.specs.Sets.{SameSets};
-ghost use Rattle.std.specs.Prelude.{Some};
 ghost use Rattle.vrl_builtin.specs.Rows.{kind_at, literal_at};
 ghost use Rattle.vrl_builtin.specs.View.{givens_of};
 ghost use Rattle.vrl_value.specs.Tree.{find};
-ghost use Rattle.fn_object.specs.Listed.{members_in};
+ghost use Rattle.vrl_builtin.specs.Listed.{members_in};
 ghost use Rattle.fn_object.specs.Merge.{changed, is_shallow, laid_over, lay_all, merge_kind, merged, merge_row, overlaid_kind, put_all};
 ghost use Rattle.fn_object.specs.MergeLaw.{merge-law};
 
-use crate::loose::any_of;
 use std::alloc::Global;
 use std::collections::BTreeMap;
 use vrl_builtin::{
-    Applied, Arguments, Builtin, Givens, Parameter, Setting, Tags, optional, required,
+    Applied, Arguments, Builtin, Givens, Parameter, Setting, Tags, any_of, optional, required,
 };
 use vrl_kind::{Kind, has, overlaid};
 use vrl_pattern::Patterns;

@@ -6,11 +6,11 @@ ghost use Rattle.vrl_builtin.specs.View.{Applies};
 ghost use Rattle.fn_object.specs.ObjectFromArray.{element, entry_of, first_unfit, made_of, object_from_array_row, pair_in, put_entries, put_entry};
 ghost use Rattle.fn_object.specs.ObjectFromArrayLaw.{object_from_array-law};
 
-use crate::containers::items_of;
-use crate::loose::any_of;
 use std::alloc::Global;
 use std::collections::BTreeMap;
-use vrl_builtin::{Applied, Arguments, Builtin, Givens, Parameter, Setting, Tags, required};
+use vrl_builtin::{
+    Applied, Arguments, Builtin, Givens, Parameter, Setting, Tags, any_of, items_of, required,
+};
 use vrl_kind::Kind;
 use vrl_pattern::Patterns;
 use vrl_value::{Chars, Fields, Memory, Value};

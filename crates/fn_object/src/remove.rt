@@ -7,13 +7,11 @@ ghost use Rattle.fn_object.specs.Paths.{removal_fault, steps_of};
 ghost use Rattle.fn_object.specs.Remove.{remove_row, removed_at};
 ghost use Rattle.fn_object.specs.RemoveLaw.{remove-law};
 
-use crate::containers::items_of;
-use crate::loose::any_of;
 use crate::paths::{STEP_TAGS, path_of, removal_fault};
 use std::alloc::Global;
 use vrl_builtin::{
     Applied, Arguments, Builtin, Givens, Parameter, Setting, Tags, fail, fail_at_path_element,
-    first_other, required,
+    first_other, items_of, required,
 };
 use vrl_kind::Kind;
 use vrl_path::{Path, remove};
@@ -86,12 +84,7 @@ impl Builtin for Remove {
         given: &Givens,
         _patterns: &Patterns,
     ) -> Result<Kind, Memory> {
-        let tags = Tags {
-            array: given.allows(0, Tag::List),
-            object: given.allows(0, Tag::Object),
-            ..Tags::NONE
-        };
-        any_of(alloc, &tags)
+        given.any_containers(alloc, 0)
     }
 
     fn may_fail(&self, _given: &Givens) -> bool {

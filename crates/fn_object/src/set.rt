@@ -7,13 +7,11 @@ ghost use Rattle.fn_object.specs.Paths.{steps_of, write_fault};
 ghost use Rattle.fn_object.specs.Set.{set_at, set_row};
 ghost use Rattle.fn_object.specs.SetLaw.{set-law};
 
-use crate::containers::items_of;
-use crate::loose::any_of;
 use crate::paths::{STEP_TAGS, path_of, write_fault};
 use std::alloc::Global;
 use vrl_builtin::{
-    Applied, Arguments, Builtin, Givens, Parameter, Setting, Tags, fail, fail_at_path_element,
-    first_other, required,
+    Applied, Arguments, Builtin, Givens, Parameter, Setting, Tags, any_of, fail,
+    fail_at_path_element, first_other, items_of, required,
 };
 use vrl_kind::Kind;
 use vrl_path::{Path, put};

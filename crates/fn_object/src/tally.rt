@@ -8,13 +8,11 @@ ghost use Rattle.fn_object.specs.Tally.{counted, tallied, tally_row};
 ghost use Rattle.fn_object.specs.TallyLaw.{tally-law};
 ghost use Rattle.vrl_value.specs.Tree.{no_members};
 
-use crate::alone::has_other;
-use crate::containers::items_of;
 use std::alloc::Global;
 use std::collections::BTreeMap;
 use vrl_builtin::{
     Applied, Arguments, Builtin, Givens, Parameter, Setting, Tags, fail_at_element, first_other,
-    object_of, required,
+    items_of, object_of, required,
 };
 use vrl_kind::Kind;
 use vrl_pattern::Patterns;
@@ -116,7 +114,7 @@ impl Builtin for Tally {
     }
 
     fn may_fail(&self, given: &Givens) -> bool {
-        has_other(given, 0, &Tags::STRING)
+        given.part_allows_other(0, &Tags::STRING)
     }
 
     fn apply(&self, alloc: Global, arguments: &Arguments<'_>, _setting: &Setting<'_>) -> Applied {

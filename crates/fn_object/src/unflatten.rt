@@ -8,11 +8,10 @@ ghost use Rattle.fn_object.specs.Paths.{is_writable};
 ghost use Rattle.fn_object.specs.Unflatten.{cut_key, is_nothing, path_of, put_paths, unflatten_row, unflattened};
 ghost use Rattle.fn_object.specs.UnflattenLaw.{unflatten-law};
 
-use crate::loose::any_of;
 use std::alloc::Global;
 use std::collections::BTreeMap;
 use vrl_builtin::{
-    Applied, Arguments, Builtin, Givens, Parameter, Setting, Tags, optional, required,
+    Applied, Arguments, Builtin, Givens, Parameter, Setting, Tags, any_of, optional, required,
 };
 use vrl_kind::Kind;
 use vrl_path::{Path, Step, put};

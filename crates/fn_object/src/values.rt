@@ -1,10 +1,9 @@
 ghost use Rattle.std.specs.Prelude.{◌≡◌, IfOk};
 ghost use Rattle.vrl_value.specs.View.{members_of, tree_of};
-ghost use Rattle.fn_object.specs.Listed.{members_in};
+ghost use Rattle.vrl_builtin.specs.Listed.{members_in};
 ghost use Rattle.fn_object.specs.Values.{values_of, values_row};
 ghost use Rattle.fn_object.specs.ValuesLaw.{values-law};
 
-use crate::alone::object_parts;
 use std::alloc::Global;
 use vrl_builtin::{
     Applied, Arguments, Builtin, Givens, Parameter, Setting, Tags, array_of, required,
@@ -62,7 +61,7 @@ impl Builtin for Values {
         given: &Givens,
         _patterns: &Patterns,
     ) -> Result<Kind, Memory> {
-        let parts = object_parts(alloc, given, 0)?;
+        let parts = given.object_parts(alloc, 0)?;
         array_of(alloc, parts)
     }
 

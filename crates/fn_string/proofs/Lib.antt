@@ -1,5 +1,4 @@
 mod Counted
 mod Cuts
-mod Others
 mod Searched
 mod Sliced

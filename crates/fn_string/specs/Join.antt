@@ -1,17 +1,12 @@
 -- `join`: the texts of an array as one, with a text between each two.
-use Rattle.std.specs.Prelude.{ℕ, Bool, false, ◌&&◌, not, List, [], ◌∷◌, ◌++◌, Option, Some, None, codes}
-use Rattle.std.specs.List.{list_any}
+use Rattle.std.specs.Prelude.{ℕ, List, [], ◌∷◌, ◌++◌, Option, Some, None, codes}
 use Rattle.vrl_value.specs.Tree.{Tree, string, integer, boolean, null, timestamp, regex, array, object, Items, no_items, item}
-use Rattle.vrl_value.specs.declared.value.Tag.{Tag}
 use Rattle.vrl_value.specs.declared.value.Tag.TheVariants as tag
-use Rattle.vrl_kind.specs.Canonical.{list_tree}
-use Rattle.vrl_kind.specs.KindTree.{KindTree}
-use Rattle.vrl_kind.specs.PartSets.{all_places_at}
-use Rattle.vrl_kind.specs.Tags.{Tags, all_tags, same_tag}
 use Rattle.vrl_builtin.specs.OneTag.{OneTagRow}
-use Rattle.vrl_builtin.specs.Rows.{Answer, value, failure, parameter, optional_parameter, kind_at, optional_items, text_at}
+use Rattle.vrl_builtin.specs.PartKinds.{part_allows_other}
+use Rattle.vrl_builtin.specs.Rows.{Answer, parameter, optional_parameter, kind_at, optional_items, text_at}
 use Rattle.vrl_builtin.specs.TagSets.{arrays, strings}
-use Rattle.vrl_builtin.specs.Words.{element_is, first_other}
+use Rattle.vrl_builtin.specs.Words.{first_other, unless_other}
 
 -- a part of another tag isn't reached
 abbrev pub text_of : Tree → List ℕ
@@ -34,32 +29,19 @@ abbrev pub joined : List ℕ → Items → List ℕ
 joined separator no_items = []
 joined separator (item v ts) = text_of v ++ separated separator ts
 
-abbrev pub unless_other : Option (ℕ × Tag) → List ℕ → Answer
-unless_other None text = value (string text)
-unless_other (Some other) text = failure (element_is other.0 other.1)
-
 -- each part must be a text
 abbrev pub join_answer : Items → List ℕ → Answer
-join_answer ts separator = unless_other (first_other strings ts) (joined separator ts)
+join_answer ts separator = unless_other (first_other strings ts) (string (joined separator ts))
 
 abbrev pub parts_of : Option Items → Items
 parts_of None = no_items
 parts_of (Some ts) = ts
-
--- some of these tags is neither a text's nor says that nothing is there
-abbrev pub has_other : Tags → Bool
-has_other T = list_any (λ t. T t && (not (same_tag t tag.Text) && not (same_tag t tag.Absent))) all_tags
-
--- some place of an array of the kind may hold something else than a text
-abbrev pub parts_may_be_other : Option KindTree → Bool
-parts_may_be_other None = false
-parts_may_be_other (Some K) = has_other (all_places_at (list_tree K) [])
 
 abbrev pub join_row : OneTagRow
 join_row = record {
   name = codes "join";
   parameters = parameter (codes "value") arrays ∷ optional_parameter (codes "separator") strings ∷ [];
   tag = tag.Text;
-  may_fail = λ givens. parts_may_be_other (kind_at 0 givens);
+  may_fail = λ givens. part_allows_other strings (kind_at 0 givens);
   means = λ arguments setting. join_answer (parts_of (optional_items 0 arguments)) (text_at 1 [] arguments);
 }

@@ -2,13 +2,9 @@
 use Rattle.std.specs.Prelude.{ℕ, Bool, List, refl}
 use Rattle.vrl_builtin.specs.OneTag.{KeepsOneTag}
 use Rattle.fn_string.specs.Length.{length_row}
-use Rattle.fn_string.specs.OfText.{of_text_row}
 use Rattle.fn_string.specs.Search.{search_row}
 use Rattle.fn_string.specs.StrLen.{strlen_row}
 use Rattle.fn_string.specs.Truncate.{truncate_row}
-
-pub of_text-law : (name : List ℕ) (make : List ℕ → List ℕ) → KeepsOneTag (of_text_row name make)
-of_text-law name make = record { present = refl; lawful = λ givens arguments setting fit instances. (tt, refl) }
 
 pub search-law : (name : List ℕ) (holds : List ℕ → List ℕ → Bool) → KeepsOneTag (search_row name holds)
 search-law name holds = record { present = refl; lawful = λ givens arguments setting fit instances. (tt, refl) }

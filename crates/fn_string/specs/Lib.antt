@@ -4,7 +4,6 @@ pub mod Join
 pub mod JoinLaw
 pub mod Laws
 pub mod Length
-pub mod OfText
 pub mod Search
 pub mod Slice
 pub mod SliceLaw

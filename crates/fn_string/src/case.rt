@@ -1,8 +1,8 @@
 ghost use Rattle.std.specs.Prelude.{codes};
 ghost use Rattle.fn_string.specs.Case.{in_lower_case, in_upper_case};
 
-use crate::of_text::FromText;
 use std::alloc::Global;
+use vrl_builtin::FromText;
 use vrl_value::{Chars, Memory};
 
 /// `upcase(value: string)`: string. The text with the letters of ASCII in upper case; all else stays as it is. It never fails. `upcase("aé")` is

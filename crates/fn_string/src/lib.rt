@@ -1,15 +1,13 @@
 //! The functions of texts.
 //!
 //! Files: each function has a file, and its row one of `specs/`; those that differ in a word stand in one: `case.rt` has `upcase` and `downcase`, and
-//! `search.rt` the tests of where a text stands in another. `of_text.rt` has what the functions that make one text of another share. The laws stand
-//! in `Laws`, `JoinLaw` and `SliceLaw`.
+//! `search.rt` the tests of where a text stands in another. The laws stand in `Laws`, `JoinLaw` and `SliceLaw`.
 #![tactic(auto)]
 
 mod case;
 mod characters;
 mod join;
 mod length;
-mod of_text;
 mod search;
 mod slice;
 mod strip_whitespace;
@@ -19,7 +17,6 @@ mod truncate;
 pub use case::{Downcase, Upcase};
 pub use join::Join;
 pub use length::Length;
-pub use of_text::{FromText, OfText};
 pub use search::{Contains, EndsWith, Search, SearchTest, StartsWith};
 pub use slice::Slice;
 pub use strip_whitespace::StripWhitespace;

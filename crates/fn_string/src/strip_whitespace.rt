@@ -1,8 +1,8 @@
 ghost use Rattle.std.specs.Prelude.{codes};
 ghost use Rattle.fn_string.specs.StripWhitespace.{stripped};
 
-use crate::of_text::FromText;
 use std::alloc::Global;
+use vrl_builtin::FromText;
 use vrl_value::{Chars, Memory};
 
 /// `strip_whitespace(value: string)`: string. The text without the white space of Unicode at both ends. It never fails. `strip_whitespace(" a ")` is

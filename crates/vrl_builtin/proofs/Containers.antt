@@ -143,7 +143,7 @@ part_regex n None [] C is so = absurd cc
 part_regex n None (s ∷ p) C is so = absurd cc
 part_regex n (Some v) p C is so = so v refl (p, is)
 
-some_so : (P : Tree → Type 0) (o : Option Tree) (v : Tree) → IfSome o P → o ≡ Some v → P v
+pub some_so : (P : Tree → Type 0) (o : Option Tree) (v : Tree) → IfSome o P → o ≡ Some v → P v
 some_so P None v each is = absurd cc
 some_so P (Some u) v each is = let same : v ≡ u = cc in rw same each
 
@@ -196,11 +196,11 @@ object_is_lawful A fails arguments ms each ordered = (
 
 -- ---- the parts of an argument
 
-found_in : (o : Option Tree) (v : Tree) (p : List Step) → o ≡ Some v → found_behind (found_if o) p (λ u. raw_at u p) ≡ raw_at v p
+pub found_in : (o : Option Tree) (v : Tree) (p : List Step) → o ≡ Some v → found_behind (found_if o) p (λ u. raw_at u p) ≡ raw_at v p
 found_in None v p is = absurd cc
 found_in (Some u) v p is = let same : v ≡ u = cc in rw same refl
 
-some_of : (P : Tree → Type 0) (o : Option Tree) → ((v : Tree) → o ≡ Some v → P v) → IfSome o P
+pub some_of : (P : Tree → Type 0) (o : Option Tree) → ((v : Tree) → o ≡ Some v → P v) → IfSome o P
 some_of P None so = tt
 some_of P (Some v) so = so v refl
 
@@ -259,3 +259,28 @@ array_told K M ps r none is same p t =
 pub object_told : (K M : KindTree) (fs : KnownFields) (r : RestTree) → fs ≡ no_fields → r ≡ exact K → SameTags M (object_kind fs r) → SameSets (tags_at M) (object_of (tags_at K))
 object_told K M fs r none is same p t =
     same p t ∙ ap (λ gs. tags_at (object_kind gs r) p t) none ∙ ap (λ rest. tags_at (object_kind no_fields rest) p t) is ∙ object_of_kind K p t
+
+-- ---- kinds whose parts are told in another way
+
+pub absent_so : (p : List Step) (T U : Tags) (t : Tag) → T t ≡ U t → or_absent p T t ≡ or_absent p U t
+absent_so [] T U t same = ap (λ b. b || same_tag tag.Absent t) same
+absent_so (s ∷ p) T U t same = same
+
+array_so : (A B : Sets) → SameSets A B → SameSets (array_of A) (array_of B)
+array_so A B same [] t = refl
+array_so A B same (place i ∷ p) t = absent_so p (A p) (B p) t (same p t)
+array_so A B same (field n ∷ p) t = refl
+
+object_so : (A B : Sets) → SameSets A B → SameSets (object_of A) (object_of B)
+object_so A B same [] t = refl
+object_so A B same (field n ∷ p) t = absent_so p (A p) (B p) t (same p t)
+object_so A B same (place i ∷ p) t = refl
+
+pub array_made : (A B : Sets) (K : KindTree) → SameSets A B → SameSets (tags_at K) (array_of A) → SameSets (tags_at K) (array_of B)
+array_made A B K same made p t = made p t ∙ array_so A B same p t
+
+pub object_made : (A B : Sets) (K : KindTree) → SameSets A B → SameSets (tags_at K) (object_of A) → SameSets (tags_at K) (object_of B)
+object_made A B K same made p t = made p t ∙ object_so A B same p t
+
+pub same_sets : (A B : Sets) → ((p : List Step) → A p ≡ B p) → SameSets A B
+same_sets A B same p t = ap (λ T. T t) (same p)

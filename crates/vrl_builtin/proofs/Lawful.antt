@@ -24,7 +24,7 @@ pub tag_is_given : (K : Option KindTree) (v : Tree) → IsOfGiven K (Some v) →
 tag_is_given None v of = absurd of
 tag_is_given (Some K) v of = of []
 
-both : (a b : Bool) → a ≡ true → b ≡ true → (a && b) ≡ true
+pub both : (a b : Bool) → a ≡ true → b ≡ true → (a && b) ≡ true
 both true b first second = second
 both false b first second = first
 
@@ -32,7 +32,7 @@ both_if : (o : Option Tag) (P : Tag → Bool) (b : Bool) → IfSome o (λ t. IsT
 both_if None P b holds is = tt
 both_if (Some t) P b holds is = both (P t) b holds is
 
-cut_is_of : (T : Tags) (K : KindTree) (v : Tree) → Inhabits v K → allows T (tag_of v) ≡ true → IsAllowed v (cut_to T K)
+pub cut_is_of : (T : Tags) (K : KindTree) (v : Tree) → Inhabits v K → allows T (tag_of v) ≡ true → IsAllowed v (cut_to T K)
 cut_is_of T K v inhabits allowed [] = both (tags_at K [] (tag_of v)) (allows T (tag_of v)) (inhabits []) allowed
 cut_is_of T K (array ts) inhabits allowed (place i ∷ p) = both_if (tag_found (raw_at (array ts) (place i ∷ p))) (tags_at K (place i ∷ p)) (allows T tag.List) (inhabits (place i ∷ p)) allowed
 cut_is_of T K (array ts) inhabits allowed (field k ∷ p) = tt
@@ -58,7 +58,7 @@ argument_is_lawful at v T K fails arguments is of ordered allowed = (
   λ n holds. (at, rw is holds),
 )
 
-any_tag : (P : Tag → Bool) (t : Tag) → P t ≡ true → list_any P all_tags ≡ true
+pub any_tag : (P : Tag → Bool) (t : Tag) → P t ≡ true → list_any P all_tags ≡ true
 any_tag P tag.Text is = grind (arith, common_steps)
 any_tag P tag.Int is = grind (arith, common_steps)
 any_tag P tag.Bool is = grind (arith, common_steps)

@@ -1,5 +1,12 @@
+pub mod AnswerParts
+pub mod AnyParts
 pub mod Containers
 pub mod Cuts
+pub mod GivenTags
 pub mod Lawful
+pub mod Listed
+pub mod OtherParts
+pub mod PartKinds
 pub mod Places
 pub mod Signed
+pub mod Sizes

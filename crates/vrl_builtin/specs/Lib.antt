@@ -1,10 +1,14 @@
+pub mod AnyParts
 pub mod Conditions
 pub mod Containers
 pub mod CutDown
 pub mod Law
+pub mod Listed
 pub mod Numeral
+pub mod OfText
 pub mod OneTag
 pub mod OneTagLaw
+pub mod PartKinds
 pub mod Rows
 pub mod TagSets
 pub mod View

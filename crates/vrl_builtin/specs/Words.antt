@@ -1,8 +1,9 @@
 -- The words of errors that name a tag, and the first part of an array that is of another.
 use Rattle.std.specs.Prelude.{ℕ, suc, List, ◌++◌, Option, Some, None, codes, decimal, if◌then◌else◌}
 use Rattle.vrl_value.specs.Tag.{tag_of, word_of}
-use Rattle.vrl_value.specs.Tree.{Items, no_items, item}
+use Rattle.vrl_value.specs.Tree.{Tree, Items, no_items, item}
 use Rattle.vrl_value.specs.declared.value.Tag.{Tag}
+use Rattle.vrl_builtin.specs.Rows.{Answer, value, failure}
 use Rattle.vrl_builtin.specs.TagSets.{allows}
 use Rattle.vrl_builtin.specs.declared.tags.Tags.{Tags}
 
@@ -27,3 +28,8 @@ first_other_from n T (item v ts) = if allows T (tag_of v) then first_other_from 
 
 abbrev pub first_other : Tags → Items → Option (ℕ × Tag)
 first_other T ts = first_other_from 0 T ts
+
+-- the error of such a part, or else a value
+abbrev pub unless_other : Option (ℕ × Tag) → Tree → Answer
+unless_other (Some other) v = failure (element_is other.0 other.1)
+unless_other None v = value v

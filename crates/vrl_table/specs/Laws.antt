@@ -4,7 +4,7 @@ use Rattle.vrl_value.specs.declared.value.Tag.TheVariants as tag
 use Rattle.fn_codec.specs.Base16.{base16_of, bytes_of_base16}
 use Rattle.fn_codec.specs.Base64.{base64_of, bytes_of_base64}
 use Rattle.fn_codec.specs.Digests.{md5_of, sha1_of}
-use Rattle.fn_codec.specs.Laws.{code-law, decode-law, sha2-law}
+use Rattle.fn_codec.specs.Laws.{decode-law, sha2-law}
 use Rattle.fn_codec.specs.Percent.{percent_of, text_of_percent}
 use Rattle.fn_list.specs.AppendLaw.{append-law}
 use Rattle.fn_list.specs.ChunksLaw.{chunks-law}
@@ -26,12 +26,13 @@ use Rattle.fn_object.specs.UnflattenLaw.{unflatten-law}
 use Rattle.fn_object.specs.ValuesLaw.{values-law}
 use Rattle.fn_string.specs.Case.{in_lower_case, in_upper_case}
 use Rattle.fn_string.specs.JoinLaw.{join-law}
-use Rattle.fn_string.specs.Laws.{length-law, of_text-law, search-law, strlen-law, truncate-law}
+use Rattle.fn_string.specs.Laws.{length-law, search-law, strlen-law, truncate-law}
 use Rattle.fn_string.specs.Search.{contains, ends_with, starts_with}
 use Rattle.fn_string.specs.SliceLaw.{slice-law}
 use Rattle.fn_string.specs.StripWhitespace.{stripped}
 use Rattle.fn_type.specs.Laws.{is-law, is_empty-law, is_nullish-law, only-law, to_bool-law, to_int-law, to_string-law}
 use Rattle.vrl_builtin.specs.Law.{KeepsLaw}
+use Rattle.vrl_builtin.specs.OfText.{of_text-law}
 use Rattle.vrl_builtin.specs.OneTag.{whole_row, KeepsOneTag, OneTagRow}
 use Rattle.vrl_builtin.specs.OneTagLaw.{one_tag-law}
 use Rattle.vrl_table.specs.Table.{function_named, row_of, FunctionsKeepLaw}
@@ -60,11 +61,11 @@ is_entry fun.Compact = entry _ refl compact-law
 is_entry fun.Contains = entry _ refl (one_tag (search-law (codes "contains") contains))
 is_entry fun.DecodeBase16 = entry _ refl (one_tag (decode-law (codes "decode_base16") (codes "not base16") bytes_of_base16))
 is_entry fun.DecodeBase64 = entry _ refl (one_tag (decode-law (codes "decode_base64") (codes "not base64") bytes_of_base64))
-is_entry fun.DecodePercent = entry _ refl (one_tag (code-law (codes "decode_percent") text_of_percent))
+is_entry fun.DecodePercent = entry _ refl (one_tag (of_text-law (codes "decode_percent") text_of_percent))
 is_entry fun.Downcase = entry _ refl (one_tag (of_text-law (codes "downcase") in_lower_case))
-is_entry fun.EncodeBase16 = entry _ refl (one_tag (code-law (codes "encode_base16") base16_of))
-is_entry fun.EncodeBase64 = entry _ refl (one_tag (code-law (codes "encode_base64") base64_of))
-is_entry fun.EncodePercent = entry _ refl (one_tag (code-law (codes "encode_percent") percent_of))
+is_entry fun.EncodeBase16 = entry _ refl (one_tag (of_text-law (codes "encode_base16") base16_of))
+is_entry fun.EncodeBase64 = entry _ refl (one_tag (of_text-law (codes "encode_base64") base64_of))
+is_entry fun.EncodePercent = entry _ refl (one_tag (of_text-law (codes "encode_percent") percent_of))
 is_entry fun.EndsWith = entry _ refl (one_tag (search-law (codes "ends_with") ends_with))
 is_entry fun.Flatten = entry _ refl flatten-law
 is_entry fun.FormatInt = entry _ refl (one_tag format_int-law)
@@ -84,7 +85,7 @@ is_entry fun.IsTimestamp = entry _ refl (one_tag (is-law (codes "is_timestamp") 
 is_entry fun.Join = entry _ refl (one_tag join-law)
 is_entry fun.Keys = entry _ refl keys-law
 is_entry fun.Length = entry _ refl (one_tag length-law)
-is_entry fun.Md5 = entry _ refl (one_tag (code-law (codes "md5") md5_of))
+is_entry fun.Md5 = entry _ refl (one_tag (of_text-law (codes "md5") md5_of))
 is_entry fun.Merge = entry _ refl merge-law
 is_entry fun.Mod = entry _ refl (one_tag mod-law)
 is_entry fun.Object = entry _ refl (only-law (codes "object") tag.Object)
@@ -93,7 +94,7 @@ is_entry fun.ParseInt = entry _ refl (one_tag parse_int-law)
 is_entry fun.Push = entry _ refl push-law
 is_entry fun.Remove = entry _ refl remove-law
 is_entry fun.Set = entry _ refl set-law
-is_entry fun.Sha1 = entry _ refl (one_tag (code-law (codes "sha1") sha1_of))
+is_entry fun.Sha1 = entry _ refl (one_tag (of_text-law (codes "sha1") sha1_of))
 is_entry fun.Sha2 = entry _ refl sha2-law
 is_entry fun.Slice = entry _ refl slice-law
 is_entry fun.StartsWith = entry _ refl (one_tag (search-law (codes "starts_with") starts_with))

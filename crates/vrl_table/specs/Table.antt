@@ -3,11 +3,11 @@ use Rattle.std.specs.Prelude.{◌≡◌, ℕ, Bool, false, List, [], ◌∷◌, 
 use Rattle.vrl_value.specs.declared.value.Tag.TheVariants as tag
 use Rattle.vrl_syntax.specs.Calls.{form_named}
 use Rattle.vrl_builtin.specs.Law.{KeepsLaw}
+use Rattle.vrl_builtin.specs.OfText.{of_text_row}
 use Rattle.vrl_builtin.specs.OneTag.{whole_row}
 use Rattle.vrl_builtin.specs.Rows.{ParameterRow, Row}
 use Rattle.fn_codec.specs.Base16.{base16_of, bytes_of_base16}
 use Rattle.fn_codec.specs.Base64.{base64_of, bytes_of_base64}
-use Rattle.fn_codec.specs.Code.{code_row}
 use Rattle.fn_codec.specs.Decode.{decode_row}
 use Rattle.fn_codec.specs.Digests.{md5_of, sha1_of}
 use Rattle.fn_codec.specs.Percent.{percent_of, text_of_percent}
@@ -36,7 +36,6 @@ use Rattle.fn_object.specs.Values.{values_row}
 use Rattle.fn_string.specs.Case.{in_lower_case, in_upper_case}
 use Rattle.fn_string.specs.Join.{join_row}
 use Rattle.fn_string.specs.Length.{length_row}
-use Rattle.fn_string.specs.OfText.{of_text_row}
 use Rattle.fn_string.specs.Search.{contains, ends_with, search_row, starts_with}
 use Rattle.fn_string.specs.Slice.{slice_row}
 use Rattle.fn_string.specs.StrLen.{strlen_row}
@@ -63,11 +62,11 @@ row_of fun.Compact = compact_row
 row_of fun.Contains = whole_row (search_row (codes "contains") contains)
 row_of fun.DecodeBase16 = whole_row (decode_row (codes "decode_base16") (codes "not base16") bytes_of_base16)
 row_of fun.DecodeBase64 = whole_row (decode_row (codes "decode_base64") (codes "not base64") bytes_of_base64)
-row_of fun.DecodePercent = whole_row (code_row (codes "decode_percent") text_of_percent)
+row_of fun.DecodePercent = whole_row (of_text_row (codes "decode_percent") text_of_percent)
 row_of fun.Downcase = whole_row (of_text_row (codes "downcase") in_lower_case)
-row_of fun.EncodeBase16 = whole_row (code_row (codes "encode_base16") base16_of)
-row_of fun.EncodeBase64 = whole_row (code_row (codes "encode_base64") base64_of)
-row_of fun.EncodePercent = whole_row (code_row (codes "encode_percent") percent_of)
+row_of fun.EncodeBase16 = whole_row (of_text_row (codes "encode_base16") base16_of)
+row_of fun.EncodeBase64 = whole_row (of_text_row (codes "encode_base64") base64_of)
+row_of fun.EncodePercent = whole_row (of_text_row (codes "encode_percent") percent_of)
 row_of fun.EndsWith = whole_row (search_row (codes "ends_with") ends_with)
 row_of fun.Flatten = flatten_row
 row_of fun.FormatInt = whole_row format_int_row
@@ -87,7 +86,7 @@ row_of fun.IsTimestamp = whole_row (is_row (codes "is_timestamp") tag.Time)
 row_of fun.Join = whole_row join_row
 row_of fun.Keys = keys_row
 row_of fun.Length = whole_row length_row
-row_of fun.Md5 = whole_row (code_row (codes "md5") md5_of)
+row_of fun.Md5 = whole_row (of_text_row (codes "md5") md5_of)
 row_of fun.Merge = merge_row
 row_of fun.Mod = whole_row mod_row
 row_of fun.Object = only_row (codes "object") tag.Object
@@ -96,7 +95,7 @@ row_of fun.ParseInt = whole_row parse_int_row
 row_of fun.Push = push_row
 row_of fun.Remove = remove_row
 row_of fun.Set = set_row
-row_of fun.Sha1 = whole_row (code_row (codes "sha1") sha1_of)
+row_of fun.Sha1 = whole_row (of_text_row (codes "sha1") sha1_of)
 row_of fun.Sha2 = sha2_row
 row_of fun.Slice = slice_row
 row_of fun.StartsWith = whole_row (search_row (codes "starts_with") starts_with)

@@ -4,22 +4,22 @@ ghost use Rattle.vrl_table.specs.Table.{all_functions, function_named, row_of, F
 ghost use Rattle.vrl_table.specs.declared.function.Fun.{Fun};
 
 use fn_codec::{
-    Coded, DecodeBase16, DecodeBase64, DecodePercent, Decoded, EncodeBase16, EncodeBase64,
-    EncodePercent, Md5, Sha1, Sha2,
+    DecodeBase16, DecodeBase64, DecodePercent, Decoded, EncodeBase16, EncodeBase64, EncodePercent,
+    Md5, Sha1, Sha2,
 };
 use fn_list::{Append, Chunks, Compact, Flatten, Includes, Push, Unique, Zip};
 use fn_number::{Abs, FormatInt, Mod, ParseInt};
 use fn_object::{Get, Keys, Merge, ObjectFromArray, Remove, Set, Tally, Unflatten, Values};
 use fn_string::{
-    Contains, Downcase, EndsWith, Join, Length, OfText, Search, Slice, StartsWith, StrLen,
-    StripWhitespace, Truncate, Upcase,
+    Contains, Downcase, EndsWith, Join, Length, Search, Slice, StartsWith, StrLen, StripWhitespace,
+    Truncate, Upcase,
 };
 use fn_type::{
     Array, Bool, Int, Is, IsArray, IsBoolean, IsEmpty, IsInteger, IsNull, IsNullish, IsObject,
     IsRegex, IsString, IsTimestamp, Object, Only, StringValue, Timestamp, ToBool, ToInt, ToString,
 };
 use std::alloc::Global;
-use vrl_builtin::{Applied, Arguments, Builtin, Givens, Parameter, Setting};
+use vrl_builtin::{Applied, Arguments, Builtin, Givens, OfText, Parameter, Setting};
 use vrl_kind::Kind;
 use vrl_pattern::Patterns;
 use vrl_value::{Memory, Value};
@@ -170,11 +170,11 @@ macro_rules! functions {
             Contains => Search(Contains),
             DecodeBase16 => Decoded(DecodeBase16),
             DecodeBase64 => Decoded(DecodeBase64),
-            DecodePercent => Coded(DecodePercent),
+            DecodePercent => OfText(DecodePercent),
             Downcase => OfText(Downcase),
-            EncodeBase16 => Coded(EncodeBase16),
-            EncodeBase64 => Coded(EncodeBase64),
-            EncodePercent => Coded(EncodePercent),
+            EncodeBase16 => OfText(EncodeBase16),
+            EncodeBase64 => OfText(EncodeBase64),
+            EncodePercent => OfText(EncodePercent),
             EndsWith => Search(EndsWith),
             Flatten => Flatten,
             FormatInt => FormatInt,
@@ -194,7 +194,7 @@ macro_rules! functions {
             Join => Join,
             Keys => Keys,
             Length => Length,
-            Md5 => Coded(Md5),
+            Md5 => OfText(Md5),
             Merge => Merge,
             Mod => Mod,
             Object => Only(Object),
@@ -203,7 +203,7 @@ macro_rules! functions {
             Push => Push,
             Remove => Remove,
             Set => Set,
-            Sha1 => Coded(Sha1),
+            Sha1 => OfText(Sha1),
             Sha2 => Sha2,
             Slice => Slice,
             StartsWith => Search(StartsWith),

@@ -3,7 +3,7 @@ use Rattle.std.proofs.lemmas.Result.{IfOk-weaker}
 use Rattle.vrl_kind.specs.Canonical.{list_tree}
 use Rattle.vrl_kind.specs.KindTree.{KindTree}
 use Rattle.vrl_kind.specs.Kinds.{tags_at}
-use Rattle.fn_list.specs.Alone.{array_parts_at}
+use Rattle.vrl_builtin.specs.PartKinds.{array_parts_at}
 use Rattle.fn_list.proofs.Widening.{appended_so}
 use Rattle.fn_list.proofs.append.joined_kind.Goals as goal
 

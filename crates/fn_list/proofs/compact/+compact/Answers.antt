@@ -8,7 +8,7 @@ use Rattle.vrl_value.specs.declared.value.Value.{Value, the_lemmas}
 use Rattle.vrl_value.specs.declared.value.Value.TheVariants as value
 use Rattle.fn_list.specs.Compact.{compact_items, compact_members}
 use Rattle.fn_list.proofs.Compacting.{begun, ended, items_ended, no_more, one_fewer, step, IsPartway}
-use Rattle.fn_list.proofs.Sizes.{members_size}
+use Rattle.vrl_builtin.proofs.Sizes.{members_size}
 use Rattle.fn_list.proofs.compact.+compact.Goals as goal
 
 pub compact_fields-loop-name-init : goal.compact_fields-loop-name-init

@@ -1,9 +1,9 @@
 use Rattle.std.proofs.Common.{◌≡◌, ◌++◌, ◌≤◌, ◌*◌, ◌+◌, drop, map}
 use Rattle.vrl_value.specs.View.{items_view, members_of, members_view, tree_of}
 use Rattle.fn_list.specs.Compact.{compact_items, compact_members}
-use Rattle.fn_list.specs.Listed.{trees_in}
+use Rattle.vrl_builtin.specs.Listed.{trees_in}
 use Rattle.fn_list.proofs.Compacting.{IsPartway}
-use Rattle.fn_list.proofs.Sizes.{items_size, members_size, size_of}
+use Rattle.vrl_builtin.proofs.Sizes.{items_size, members_size, size_of}
 use Rattle.fn_list.proofs.compact.+compact.Given as goal
 
 abbrev pub decreases-compacted : goal.decreases-compacted

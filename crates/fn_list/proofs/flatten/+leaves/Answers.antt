@@ -4,7 +4,7 @@ use Rattle.vrl_value.specs.declared.value.Value.{Value}
 use Rattle.fn_list.specs.Flatten.{leaves, put_leaves}
 use Rattle.fn_list.proofs.Compacting.{one_fewer}
 use Rattle.fn_list.proofs.Leaves.{on_ok, opened_at, walked}
-use Rattle.fn_list.proofs.Sizes.{members_size}
+use Rattle.vrl_builtin.proofs.Sizes.{members_size}
 use Rattle.fn_list.proofs.flatten.+leaves.Goals as goal
 
 pub put_fields-loop-name-preserved : goal.put_fields-loop-name-preserved

@@ -1,7 +1,7 @@
 use Rattle.std.proofs.Common.{◌≡◌, ◌≤◌, ◌*◌, ◌+◌}
 use Rattle.vrl_value.specs.View.{members_of, members_view, tree_of}
 use Rattle.fn_list.specs.Flatten.{leaves, put_leaves}
-use Rattle.fn_list.proofs.Sizes.{members_size, size_of}
+use Rattle.vrl_builtin.proofs.Sizes.{members_size, size_of}
 use Rattle.fn_list.proofs.flatten.+leaves.Given as goal
 
 abbrev pub decreases-put_fields : goal.decreases-put_fields

@@ -1,7 +1,7 @@
 use Rattle.std.proofs.Common.{◌≡◌, ◌++◌, ◌≤◌, ◌*◌, ◌+◌, drop, map}
 use Rattle.vrl_value.specs.View.{items_view, tree_of}
 use Rattle.fn_list.specs.Flatten.{opened}
-use Rattle.fn_list.proofs.Sizes.{items_size, size_of}
+use Rattle.vrl_builtin.proofs.Sizes.{items_size, size_of}
 use Rattle.fn_list.proofs.flatten.+open.Given as goal
 
 abbrev pub decreases-push_opened : goal.decreases-push_opened

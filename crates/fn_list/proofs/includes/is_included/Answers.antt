@@ -9,4 +9,4 @@ use Rattle.fn_list.proofs.includes.is_included.Goals as goal
 pub returns : goal.returns
 returns c =
     let one : Tree → Bool = λ u. same u (tree_of c.args.value.now) in
-    c.is_among.ensures ∙ sym (any_map one tree_of c.items_of.result.now) ∙ ap (list_any one) c.items_of.ensures
+    c.is_among.ensures ∙ sym (any_map one tree_of c.items_of.result.now) ∙ ap (list_any one) c.items_of.ensures.list

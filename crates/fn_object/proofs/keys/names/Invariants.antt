@@ -1,7 +1,7 @@
 use Rattle.std.proofs.Common.{◌≡◌, ◌++◌, map}
 use Rattle.vrl_value.specs.Tree.{string}
 use Rattle.vrl_value.specs.View.{members_of, members_view, tree_of}
-use Rattle.fn_object.specs.Listed.{entries_in}
+use Rattle.vrl_builtin.specs.Listed.{entries_in}
 use Rattle.fn_object.proofs.keys.names.Given as goal
 
 abbrev pub invariant-loop-name : goal.invariant-loop-name

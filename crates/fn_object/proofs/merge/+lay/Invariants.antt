@@ -1,7 +1,7 @@
 use Rattle.std.proofs.Common.{◌≡◌, ◌≤◌, ◌*◌, ◌+◌}
 use Rattle.vrl_value.specs.View.{members_of, members_view, tree_of}
 use Rattle.fn_object.specs.Merge.{lay_all}
-use Rattle.fn_object.proofs.Sizes.{members_size, size_of}
+use Rattle.vrl_builtin.proofs.Sizes.{members_size, size_of}
 use Rattle.fn_object.proofs.merge.+lay.Given as goal
 
 abbrev pub decreases-lay_copies : goal.decreases-lay_copies

@@ -1,6 +1,6 @@
 use Rattle.std.proofs.Common.{◌≡◌, ◌++◌, map}
 use Rattle.vrl_value.specs.View.{members_of, members_view, tree_of}
-use Rattle.fn_object.specs.Listed.{entries_in}
+use Rattle.vrl_builtin.specs.Listed.{entries_in}
 use Rattle.fn_object.proofs.values.parts.Given as goal
 
 abbrev pub invariant-loop-name : goal.invariant-loop-name

@@ -3,8 +3,8 @@ use Rattle.vrl_kind.specs.KindTree.{KindTree}
 use Rattle.vrl_kind.specs.Kinds.{tags_at}
 use Rattle.vrl_builtin.specs.Rows.{kind_at}
 use Rattle.vrl_builtin.specs.View.{givens_of}
-use Rattle.fn_list.specs.Alone.{array_parts_at}
-use Rattle.fn_list.proofs.Made.{array_made}
+use Rattle.vrl_builtin.specs.PartKinds.{array_parts_at}
+use Rattle.vrl_builtin.proofs.Containers.{array_made}
 use Rattle.fn_list.proofs.unique.UniqueBuiltin.result_kind.Goals as goal
 
 pub returns : goal.returns

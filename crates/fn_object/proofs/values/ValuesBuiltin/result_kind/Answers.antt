@@ -3,8 +3,8 @@ use Rattle.vrl_kind.specs.KindTree.{KindTree}
 use Rattle.vrl_kind.specs.Kinds.{tags_at}
 use Rattle.vrl_builtin.specs.Rows.{kind_at}
 use Rattle.vrl_builtin.specs.View.{givens_of}
-use Rattle.fn_object.specs.Alone.{object_parts_at}
-use Rattle.fn_object.proofs.Made.{array_made}
+use Rattle.vrl_builtin.specs.PartKinds.{object_parts_at}
+use Rattle.vrl_builtin.proofs.Containers.{array_made}
 use Rattle.fn_object.proofs.values.ValuesBuiltin.result_kind.Goals as goal
 
 pub returns : goal.returns
