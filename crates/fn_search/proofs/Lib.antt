@@ -1,0 +1,7 @@
+mod Below
+mod CutUp
+mod Fielded
+mod Firsts
+mod MadeKinds
+mod Others
+mod Starts

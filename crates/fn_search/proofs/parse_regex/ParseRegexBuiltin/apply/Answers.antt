@@ -1,0 +1,9 @@
+use Rattle.std.proofs.Common.{◌<◌, IfSome, length, sym, subst}
+use Rattle.vrl_builtin.specs.View.{arguments_of}
+use Rattle.fn_search.proofs.Below.{regex_below}
+use Rattle.fn_search.proofs.parse_regex.ParseRegexBuiltin.apply.Goals as goal
+
+pub parsed-requires : goal.parsed-requires
+parsed-requires c =
+    let count = length c.args.setting.now.patterns.now in
+    subst (λ number. IfSome number (λ n. n < count)) (sym c.optional_regex-pattern.ensures) (regex_below count 1 (arguments_of c.args.arguments.now) c.requires.regexes)

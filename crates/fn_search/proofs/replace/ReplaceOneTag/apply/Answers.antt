@@ -1,0 +1,10 @@
+use Rattle.std.proofs.Common.{IsTrue, length, sym, subst}
+use Rattle.vrl_value.specs.Regexes.{regexes_below}
+use Rattle.vrl_builtin.specs.View.{arguments_of}
+use Rattle.fn_search.proofs.Below.{value_below}
+use Rattle.fn_search.proofs.replace.ReplaceOneTag.apply.Goals as goal
+
+pub replace_by-requires : goal.replace_by-requires
+replace_by-requires c =
+    let count = length c.args.setting.now.patterns.now in
+    subst (λ v. IsTrue (regexes_below count v)) (sym c.value.ensures) (value_below count 1 (arguments_of c.args.arguments.now) c.requires.regexes)

@@ -1,0 +1,14 @@
+pub mod Cut
+pub mod Fields
+pub mod FieldsLaw
+pub mod Find
+pub mod Known
+pub mod Laws
+pub mod Match
+pub mod MatchAny
+pub mod MatchAnyLaw
+pub mod ParseRegex
+pub mod ParseRegexLaw
+pub mod Replace
+pub mod Sources
+pub mod Split

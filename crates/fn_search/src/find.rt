@@ -1,0 +1,171 @@
+ghost use Rattle.std.specs.Prelude.{◌≡◌, ◌≤◌, ◌<◌, ◌+◌, ◌^◌, ℕ, pos, IfOk, IfSome, IsTrue, List, MatchOption, None, drop, length, option_map};
+ghost use Rattle.vrl_value.specs.Regexes.{regexes_below};
+ghost use Rattle.vrl_value.specs.View.{tree_of};
+ghost use Rattle.vrl_kind.specs.Kinds.{tags_at};
+ghost use Rattle.vrl_kind.specs.Sets.{SameSets};
+ghost use Rattle.fn_search.specs.Cut.{cut as cut_text};
+ghost use Rattle.fn_search.specs.Find.{find_row, first_place, number_or_null, number_or_null_kind, place_from, start_of};
+ghost use Rattle.fn_search.specs.Laws.{find-law};
+
+use crate::cut::{cut, length_of};
+use std::alloc::Global;
+use vrl_builtin::{
+    Applied, Arguments, Builtin, Givens, Parameter, Setting, Tags, optional, required,
+};
+use vrl_kind::{Kind, join};
+use vrl_pattern::Patterns;
+use vrl_value::{Memory, Tag, Value};
+
+/// `find(value: string, pattern: string or regex, from: integer = 0)`: integer or null. The byte at which the pattern first stands in the text, from byte
+/// `from` on; what is left from there on is taken by itself. Null where it doesn't stand there, and where `from` is outside the text or inside a character. An
+/// empty string is found at `from`. It never fails. `find("abc", "c")` is 2.
+#[derive(Clone, Copy)]
+pub struct Find;
+
+/// Strings and regexes.
+pub(crate) const PATTERNS: Tags = Tags {
+    string: true,
+    regex: true,
+    ..Tags::NONE
+};
+
+static PARAMETERS: [Parameter; 3] = [
+    required!("value", Tags::STRING),
+    required!("pattern", PATTERNS),
+    optional!("from", Tags::INTEGER),
+];
+
+// How many bytes stand before the first place of the part. `None`: there is none.
+fn text_place(part: &str, text: &str) -> Option<usize>
+    ensures place { result ≡ option_map (λ parts. length parts.0) (cut_text part.now text.now) }
+    ensures within { IfSome result (λ n. n ≤ length text.now) }
+{
+    match cut(part, text) {
+        Some((before, _)) => Some(before.len()),
+        None => None,
+    }
+}
+
+// The byte at which a text or a regex first stands in a text. `None`: it doesn't. `Memory`: want of memory.
+fn first_place(
+    alloc: Global,
+    patterns: &Patterns,
+    text: &str,
+    pattern: &Value,
+) -> Result<Option<usize>, Memory>
+    requires { IsTrue (regexes_below (length patterns.now) (tree_of pattern.now)) }
+    ensures place { IfOk result (λ place. place ≡ first_place patterns.now text.now (tree_of pattern.now)) }
+    ensures within { IfOk result (λ place. IfSome place (λ n. n ≤ length text.now)) }
+{
+    match pattern {
+        Value::Text(part) => Ok(text_place(part.as_str(), text)),
+        Value::Pattern(number) => match patterns.find(alloc, *number, text)? {
+            Some(place) => Ok(Some(place.start)),
+            None => Ok(None),
+        },
+        _ => Ok(None),
+    }
+}
+
+// A byte from which on the text is looked at, and what is left from there on. `None`: it is outside the text or inside a character.
+fn left_from(text: &str, from: i64) -> Option<(usize, &str)>
+    ensures { MatchOption result (start_of text.now from ≡ None) (λ left. (from ≡ pos left.0) × (left.1.now ≡ drop left.0 text.now) × (left.0 + length left.1.now ≡ length text.now)) }
+{
+    let Ok(start) = usize::try_from(from) else {
+        return None;
+    };
+    match text.get(start..) {
+        Some(left) => Some((start, left)),
+        None => None,
+    }
+}
+
+// A place as a number, counted from a byte on, or null.
+fn number_of(place: Option<usize>, start: usize) -> Value
+    requires { IfSome place (λ k. start + k < 2 ^ 63) }
+    ensures { tree_of result ≡ number_or_null (option_map (λ k. start + k) place) }
+{
+    match place {
+        Some(place) => Value::Int((start + place) as i64),
+        None => Value::Null,
+    }
+}
+
+// Where the pattern stands in what is left from a byte on. `Memory`: want of memory.
+fn place_behind(
+    alloc: Global,
+    patterns: &Patterns,
+    left: &str,
+    pattern: &Value,
+    start: usize,
+) -> Result<Value, Memory>
+    requires regexes { IsTrue (regexes_below (length patterns.now) (tree_of pattern.now)) }
+    requires small { start + length left.now < 2 ^ 63 }
+    ensures { (text : List ℕ) → start ≤ length text → left.now ≡ drop start text → IfOk result (λ value. tree_of value ≡ number_or_null (place_from patterns.now text (tree_of pattern.now) (pos start))) }
+{
+    let place = first_place(alloc, patterns, left, pattern)?;
+    Ok(number_of(place, start))
+}
+
+// The byte at which a text or a regex first stands from a byte on, or null. `Memory`: want of memory.
+fn place_from(
+    alloc: Global,
+    patterns: &Patterns,
+    text: &str,
+    pattern: &Value,
+    from: i64,
+) -> Result<Value, Memory>
+    requires { IsTrue (regexes_below (length patterns.now) (tree_of pattern.now)) }
+    ensures { IfOk result (λ value. tree_of value ≡ number_or_null (place_from patterns.now text.now (tree_of pattern.now) from)) }
+{
+    let _length = length_of(text);
+    match left_from(text, from) {
+        Some((start, left)) => place_behind(alloc, patterns, left, pattern, start),
+        None => Ok(Value::Null),
+    }
+}
+
+// A whole number or null. `Memory`: want of memory.
+fn number_or_null_kind(alloc: Global) -> Result<Kind, Memory>
+    ensures { IfOk result (λ kind. SameSets (tags_at kind) number_or_null_kind) }
+{
+    let number = Kind::of(alloc, Tag::Int)?;
+    let null = Kind::of(alloc, Tag::Null)?;
+    join(alloc, &number, &null)
+}
+
+impl Builtin for Find {
+    ghost row = { λ _. find_row };
+
+    fn name(&self) -> &'static str {
+        "find"
+    }
+
+    fn parameters(&self) -> &'static [Parameter] {
+        &PARAMETERS
+    }
+
+    fn accepts(&self, _place: usize, _literal: &Value) -> bool {
+        true
+    }
+
+    fn result_kind(
+        &self,
+        alloc: Global,
+        _given: &Givens,
+        _patterns: &Patterns,
+    ) -> Result<Kind, Memory> {
+        number_or_null_kind(alloc)
+    }
+
+    fn may_fail(&self, _given: &Givens) -> bool {
+        false
+    }
+
+    fn apply(&self, alloc: Global, arguments: &Arguments<'_>, setting: &Setting<'_>) -> Applied {
+        let (text, from) = (arguments.text(0, ""), arguments.integer(2, 0));
+        Applied::value(place_from(alloc, setting.patterns, text, arguments.value(1), from))
+    }
+
+    ghost law = { λ _. find-law };
+}
