@@ -1,0 +1,11 @@
+mod Below
+mod Cuts
+mod Encoded
+mod Fields
+mod Gathered
+mod Latest
+mod MadeKinds
+mod Parted
+mod Quoted
+mod Told
+mod Walked

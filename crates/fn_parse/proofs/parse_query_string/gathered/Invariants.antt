@@ -1,0 +1,10 @@
+use Rattle.std.proofs.Common.{◌≡◌, map}
+use Rattle.form_urlencoded.specs.Parse.{owned_pairs_left}
+use Rattle.vrl_value.specs.Tree.{no_members}
+use Rattle.vrl_value.specs.View.{members_of}
+use Rattle.fn_parse.specs.Gathering.{add_pairs}
+use Rattle.fn_parse.specs.Pairs.{pair_of, pairs_of}
+use Rattle.fn_parse.proofs.parse_query_string.gathered.Given as goal
+
+abbrev pub invariant-loop-item : goal.invariant-loop-item
+invariant-loop-item l = add_pairs (map pair_of (owned_pairs_left l.item-iterator)) (members_of l.fields) ≡ add_pairs (pairs_of l.form) no_members
