@@ -1,0 +1,8 @@
+mod Characters
+mod Clocks
+mod Goes
+mod Letters
+mod Parsed
+mod Showing
+mod Steps
+mod UtcTexts

@@ -1,0 +1,12 @@
+pub mod Clock
+pub mod Format
+pub mod FormatTimestamp
+pub mod FromUnixTimestamp
+pub mod Laws
+pub mod Literal
+pub mod Now
+pub mod ParseTimestamp
+pub mod Read
+pub mod Shown
+pub mod ToUnixTimestamp
+pub mod Unit
