@@ -167,12 +167,17 @@ fn group_names(rt: HostRuntime) -> Result<(), Memory> {
     expect_names(&rt, &GROUP_NAMES)
 }
 
+// Patterns, which threads may be sent and share.
+fn shared(patterns: Patterns) -> Patterns {
+    shareable(patterns)
+}
+
 #[test]
 fn built_patterns(rt: HostRuntime) -> Result<(), Memory> {
     let sources = sources_in(rt.alloc(), "a(b)\n(?<c>d)")?;
     match Patterns::build(rt.alloc(), &sources) {
         Ok(patterns) => {
-            let patterns = shareable(patterns);
+            let patterns = shared(patterns);
             assert!(rt; patterns.sources().len() == 2);
             assert!(rt; patterns.names(rt.alloc(), 1)?.as_slice().len() == 2);
         }

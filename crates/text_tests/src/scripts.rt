@@ -5,6 +5,7 @@ use std::alloc::Global;
 use std::process::Abort;
 use vrl_compile::{Compiled, Diagnostics, SCRIPT_LIMIT, compile};
 use vrl_kind::Kind;
+use vrl_resolve::Program;
 use vrl_tests::shareable;
 use vrl_value::Memory;
 
@@ -119,8 +120,8 @@ const REFUSED: [(&str, u16, u32, u32); 37] = [
     (".a[65536] = 1; .a[-1] = 2", 1012, 0, 9),
     ("del(.a[-1])", 1007, 4, 10),
     // Functions that aren't built.
-    (".x = now()", 1099, 0, 0),
-    ("split!(r'(')", 1099, 0, 0),
+    (".x = filter({}) -> |k, v| { true }", 1099, 0, 0),
+    ("map_keys!(r'(')", 1099, 0, 0),
     ("for_each({}) -> |k, v| { k }", 1099, 0, 0),
     // Regex literals that are malformed.
     (".x = r'('", 101, 5, 9),
@@ -148,6 +149,11 @@ fn scripts_are_refused(rt: HostRuntime) -> Result<(), Memory> {
     expect_codes(&rt, rt.alloc(), &REFUSED)
 }
 
+// A program, which threads may be sent and share.
+fn shared(program: Program) -> Program {
+    shareable(program)
+}
+
 #[test]
 fn an_accepted_script_is_told_whole(rt: HostRuntime) -> Result<(), Memory> {
     let alloc = rt.alloc();
@@ -157,6 +163,6 @@ fn an_accepted_script_is_told_whole(rt: HostRuntime) -> Result<(), Memory> {
     };
     assert!(rt; accepted.judged.diagnostics.as_slice().len() == 1);
     assert!(rt; matches!(accepted.sources.as_slice(), [source] if source.as_str() == "a"));
-    let _program = shareable(accepted.program);
+    let _program = shared(accepted.program);
     Ok(())
 }

@@ -468,11 +468,11 @@ no_function names f name word is named none =
     let wrong : Some f ≡ None = sym (names f) ∙ ap function_named (is ∙ (bytes_eq-Decides name word).0 named) ∙ none in cc
 
 no_deleting_function : function_named (bytes_of "del") ≡ None
-unfolding function_named
+unfolding function_named row_of
 no_deleting_function = refl
 
 no_existence_function : function_named (bytes_of "exists") ≡ None
-unfolding function_named
+unfolding function_named row_of
 no_existence_function = refl
 
 -- a call of `del` is none of `exists`

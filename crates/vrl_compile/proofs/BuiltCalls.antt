@@ -1,6 +1,5 @@
 -- A script without calls of functions that aren't built calls none that takes a closure.
 use Rattle.std.proofs.Common.{◌≡◌, ◌||◌, ◌+◌, length, ℕ, Bool, true, false, not, Option, Some, List, [], ◌∷◌, ◌++◌, bytes_eq, refl, sym, subst}
-use Rattle.std.specs.List.{list_any}
 use Rattle.std.proofs.lemmas.Bool.{and_from, and_parts}
 use Rattle.vrl_diag.specs.declared.diagnostic.Span.{Span}
 use Rattle.vrl_syntax.specs.Tree.{Args, Arms, Closure, Else, Expr, Exprs, Pairs, Script}
@@ -12,28 +11,21 @@ use Rattle.vrl_parse.specs.Reading.{Reads}
 use Rattle.vrl_word.specs.Words.{Word, function_of, regex_of, words_from}
 use Rattle.vrl_check.specs.Calls.{args_hold_closure_call, arms_hold_closure_call, closure_holds_closure_call, else_holds_closure_call, expr_holds_closure_call, exprs_hold_closure_call, pairs_hold_closure_call}
 use Rattle.vrl_syntax.specs.Calls.{takes_closure}
-use Rattle.vrl_word.specs.Built.{are_built, is_built_token, is_unbuilt, unbuilt_functions}
+use Rattle.vrl_word.specs.Built.{are_built, is_built_token}
 use Rattle.vrl_compile.proofs.PassingWords.{Pass, back_pass, behind_pass, first_passes, front_pass, rest_pass}
 
 neither : (a b : Bool) → a ≡ false → b ≡ false → (a || b) ≡ false
 neither a b one two = rw (one, two) refl
 
--- ---- the functions that take a closure are none that are built
-
-none_first : (a b : Bool) → (a || b) ≡ false → a ≡ false
-none_first false b none = refl
-none_first true b none = none
-
-built_takes_none : (name : List ℕ) → is_unbuilt name ≡ false → takes_closure name ≡ false
-built_takes_none name none = none_first (takes_closure name) (list_any (λ function. bytes_eq name function) unbuilt_functions) none
+-- ---- a function that is built takes no closure
 
 not_true : (b : Bool) → not b ≡ true → b ≡ false
 not_true false is = refl
 not_true true is = sym is
 
 function_free : (t : Token) (f : List ℕ × Bool) → function_of t ≡ Some f → is_built_token t ≡ true → takes_closure f.0 ≡ false
-function_free (token.Function n) f is built = let same : (n, false) ≡ f = cc in subst (λ g. takes_closure g.0 ≡ false) same (built_takes_none n (not_true (is_unbuilt n) built))
-function_free (token.BangFunction n) f is built = let same : (n, true) ≡ f = cc in subst (λ g. takes_closure g.0 ≡ false) same (built_takes_none n (not_true (is_unbuilt n) built))
+function_free (token.Function n) f is built = let same : (n, false) ≡ f = cc in subst (λ g. takes_closure g.0 ≡ false) same (not_true (takes_closure n) built)
+function_free (token.BangFunction n) f is built = let same : (n, true) ≡ f = cc in subst (λ g. takes_closure g.0 ≡ false) same (not_true (takes_closure n) built)
 function_free t f is built = let nothing : ⊥ = cc in absurd nothing
 
 -- ---- what is read

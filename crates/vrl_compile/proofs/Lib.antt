@@ -1,4 +1,3 @@
-pub mod AllFunctions
 pub mod ApartParts
 pub mod BuiltCalls
 pub mod Compiling

@@ -60,11 +60,11 @@ other_name found f name word is none = by (bytes_eq name word) refl where
   by false other = other
 
 no_deletion : function_named (codes "del") ≡ None
-unfolding function_named
+unfolding function_named row_of
 no_deletion = refl
 
 no_existence : function_named (codes "exists") ≡ None
-unfolding function_named
+unfolding function_named row_of
 no_existence = refl
 
 -- the choice between the two functions of paths and the others

@@ -1,5 +1,4 @@
 pub mod Answer
-pub mod Functions
 pub mod Literals
 pub mod Once
 pub mod Program

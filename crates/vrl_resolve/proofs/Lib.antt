@@ -16,6 +16,7 @@ pub mod Links
 pub mod Partway
 pub mod RunArguments
 pub mod RunsWellFormed
+pub mod Shared
 pub mod WalkArms
 pub mod WalkCalls
 pub mod Walks

@@ -4,4 +4,5 @@ pub mod EventLines
 pub mod EventLists
 pub mod MadeLemmas
 pub mod MappingLemmas
+pub mod Shared
 pub mod Unread

@@ -5,7 +5,7 @@ use Rattle.std.proofs.lemmas.Bool.{true≢false}
 use Rattle.std.proofs.lemmas.Slice.Eq.{bytes_eq-Decides}
 use Rattle.vrl_syntax.specs.Calls.{form_named}
 use Rattle.vrl_table.specs.Laws.{is_entry}
-use Rattle.vrl_table.specs.Table.{all_functions, function_named, has_name_twice, row_of, FormsAreNoFunctions, FunctionsAreFound, ParametersAreToldApart}
+use Rattle.vrl_table.specs.Table.{all_functions, function_named, has_name_twice, row_of, FormsAreNoFunctions, FunctionsAreCounted, FunctionsAreFound, ParametersAreToldApart}
 use Rattle.vrl_table.specs.declared.function.Fun.{Fun}
 
 pub functions_found : FunctionsAreFound
@@ -44,9 +44,11 @@ none_there None is = refl
 none_there (Some a) wrong = absurd (true≢false (sym wrong))
 
 pub no_forms : FormsAreNoFunctions
+unfolding row_of
 no_forms function = none_there (form_named (row_of function).name) (of_each functions_found (λ other. is_none (form_named (row_of other).name)) refl function)
 
 pub parameters_apart : ParametersAreToldApart
+unfolding row_of
 parameters_apart function = not_true (has_name_twice (row_of function).parameters) (of_each functions_found (λ other. not (has_name_twice (row_of other).parameters)) refl function)
 
 -- what a search by name finds has the name
@@ -70,3 +72,7 @@ named name function found = found_named all_functions name function found
 pub looked_up : FunctionsAreFound → (name : List ℕ) (answer : Option Fun) → answer ≡ function_named name → MatchOption answer ((function : Fun) → (row_of function).name ≢ name) (λ function. (row_of function).name ≡ name)
 looked_up found name None is = none_named found name (sym is)
 looked_up found name (Some function) is = named name function (sym is)
+
+pub counted : FunctionsAreCounted
+unfolding row_of
+counted = record { number = refl; once = refl }

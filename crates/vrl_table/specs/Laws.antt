@@ -24,12 +24,21 @@ use Rattle.fn_object.specs.SetLaw.{set-law}
 use Rattle.fn_object.specs.TallyLaw.{tally-law}
 use Rattle.fn_object.specs.UnflattenLaw.{unflatten-law}
 use Rattle.fn_object.specs.ValuesLaw.{values-law}
+use Rattle.fn_parse.specs.CsvLaw.{parse_csv-law}
+use Rattle.fn_parse.specs.JsonLaw.{encode_json-law, parse_json-law}
+use Rattle.fn_parse.specs.KeyValueLaw.{encode_key_value-law, parse_key_value-law}
+use Rattle.fn_parse.specs.QueryStringLaw.{parse_query_string-law}
+use Rattle.fn_parse.specs.UrlLaw.{parse_url-law}
+use Rattle.fn_search.specs.Laws.{find-law, match-law, replace-law, split-law}
+use Rattle.fn_search.specs.MatchAnyLaw.{match_any-law}
+use Rattle.fn_search.specs.ParseRegexLaw.{parse_regex-law, parse_regex_all-law}
 use Rattle.fn_string.specs.Case.{in_lower_case, in_upper_case}
 use Rattle.fn_string.specs.JoinLaw.{join-law}
 use Rattle.fn_string.specs.Laws.{length-law, search-law, strlen-law, truncate-law}
 use Rattle.fn_string.specs.Search.{contains, ends_with, starts_with}
 use Rattle.fn_string.specs.SliceLaw.{slice-law}
 use Rattle.fn_string.specs.StripWhitespace.{stripped}
+use Rattle.fn_time.specs.Laws.{format_timestamp-law, from_unix_timestamp-law, now-law, parse_timestamp-law, to_unix_timestamp-law}
 use Rattle.fn_type.specs.Laws.{is-law, is_empty-law, is_nullish-law, only-law, to_bool-law, to_int-law, to_string-law}
 use Rattle.vrl_builtin.specs.Law.{KeepsLaw}
 use Rattle.vrl_builtin.specs.OfText.{of_text-law}
@@ -51,7 +60,7 @@ one_tag : {r : OneTagRow} → KeepsOneTag r → KeepsLaw (whole_row r)
 one_tag {r} keeps = one_tag-law r keeps
 
 pub is_entry : (function : Fun) → IsEntry function
-unfolding function_named
+unfolding function_named row_of
 is_entry fun.Abs = entry _ refl (one_tag abs-law)
 is_entry fun.Append = entry _ refl append-law
 is_entry fun.Array = entry _ refl (only-law (codes "array") tag.List)
@@ -65,10 +74,15 @@ is_entry fun.DecodePercent = entry _ refl (one_tag (of_text-law (codes "decode_p
 is_entry fun.Downcase = entry _ refl (one_tag (of_text-law (codes "downcase") in_lower_case))
 is_entry fun.EncodeBase16 = entry _ refl (one_tag (of_text-law (codes "encode_base16") base16_of))
 is_entry fun.EncodeBase64 = entry _ refl (one_tag (of_text-law (codes "encode_base64") base64_of))
+is_entry fun.EncodeJson = entry _ refl (one_tag encode_json-law)
+is_entry fun.EncodeKeyValue = entry _ refl (one_tag encode_key_value-law)
 is_entry fun.EncodePercent = entry _ refl (one_tag (of_text-law (codes "encode_percent") percent_of))
 is_entry fun.EndsWith = entry _ refl (one_tag (search-law (codes "ends_with") ends_with))
+is_entry fun.Find = entry _ refl find-law
 is_entry fun.Flatten = entry _ refl flatten-law
 is_entry fun.FormatInt = entry _ refl (one_tag format_int-law)
+is_entry fun.FormatTimestamp = entry _ refl format_timestamp-law
+is_entry fun.FromUnixTimestamp = entry _ refl from_unix_timestamp-law
 is_entry fun.Get = entry _ refl get-law
 is_entry fun.Includes = entry _ refl (one_tag includes-law)
 is_entry fun.Int = entry _ refl (only-law (codes "int") tag.Int)
@@ -85,18 +99,31 @@ is_entry fun.IsTimestamp = entry _ refl (one_tag (is-law (codes "is_timestamp") 
 is_entry fun.Join = entry _ refl (one_tag join-law)
 is_entry fun.Keys = entry _ refl keys-law
 is_entry fun.Length = entry _ refl (one_tag length-law)
+is_entry fun.Match = entry _ refl (one_tag match-law)
+is_entry fun.MatchAny = entry _ refl (one_tag match_any-law)
 is_entry fun.Md5 = entry _ refl (one_tag (of_text-law (codes "md5") md5_of))
 is_entry fun.Merge = entry _ refl merge-law
 is_entry fun.Mod = entry _ refl (one_tag mod-law)
+is_entry fun.Now = entry _ refl (one_tag now-law)
 is_entry fun.Object = entry _ refl (only-law (codes "object") tag.Object)
 is_entry fun.ObjectFromArray = entry _ refl object_from_array-law
+is_entry fun.ParseCsv = entry _ refl parse_csv-law
 is_entry fun.ParseInt = entry _ refl (one_tag parse_int-law)
+is_entry fun.ParseJson = entry _ refl parse_json-law
+is_entry fun.ParseKeyValue = entry _ refl parse_key_value-law
+is_entry fun.ParseQueryString = entry _ refl parse_query_string-law
+is_entry fun.ParseRegex = entry _ refl parse_regex-law
+is_entry fun.ParseRegexAll = entry _ refl parse_regex_all-law
+is_entry fun.ParseTimestamp = entry _ refl parse_timestamp-law
+is_entry fun.ParseUrl = entry _ refl parse_url-law
 is_entry fun.Push = entry _ refl push-law
 is_entry fun.Remove = entry _ refl remove-law
+is_entry fun.Replace = entry _ refl (one_tag replace-law)
 is_entry fun.Set = entry _ refl set-law
 is_entry fun.Sha1 = entry _ refl (one_tag (of_text-law (codes "sha1") sha1_of))
 is_entry fun.Sha2 = entry _ refl sha2-law
 is_entry fun.Slice = entry _ refl slice-law
+is_entry fun.Split = entry _ refl split-law
 is_entry fun.StartsWith = entry _ refl (one_tag (search-law (codes "starts_with") starts_with))
 is_entry fun.StrLen = entry _ refl (one_tag strlen-law)
 is_entry fun.StringValue = entry _ refl (only-law (codes "string") tag.Text)
@@ -106,6 +133,7 @@ is_entry fun.Timestamp = entry _ refl (only-law (codes "timestamp") tag.Time)
 is_entry fun.ToBool = entry _ refl (one_tag to_bool-law)
 is_entry fun.ToInt = entry _ refl (one_tag to_int-law)
 is_entry fun.ToString = entry _ refl (one_tag to_string-law)
+is_entry fun.ToUnixTimestamp = entry _ refl to_unix_timestamp-law
 is_entry fun.Truncate = entry _ refl (one_tag truncate-law)
 is_entry fun.Unflatten = entry _ refl unflatten-law
 is_entry fun.Unique = entry _ refl unique-law

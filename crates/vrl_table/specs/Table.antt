@@ -1,5 +1,5 @@
 -- The functions of the language and their rows.
-use Rattle.std.specs.Prelude.{◌≡◌, ℕ, Bool, false, List, [], ◌∷◌, map, Option, Some, None, find, bytes_eq, codes}
+use Rattle.std.specs.Prelude.{◌≡◌, ℕ, Bool, false, List, [], ◌∷◌, length, map, Option, Some, None, find, bytes_eq, codes}
 use Rattle.vrl_value.specs.declared.value.Tag.TheVariants as tag
 use Rattle.vrl_syntax.specs.Calls.{form_named}
 use Rattle.vrl_builtin.specs.Law.{KeepsLaw}
@@ -33,6 +33,18 @@ use Rattle.fn_object.specs.Set.{set_row}
 use Rattle.fn_object.specs.Tally.{tally_row}
 use Rattle.fn_object.specs.Unflatten.{unflatten_row}
 use Rattle.fn_object.specs.Values.{values_row}
+use Rattle.fn_parse.specs.Csv.{parse_csv_row}
+use Rattle.fn_parse.specs.EncodeKeyValue.{encode_key_value_row}
+use Rattle.fn_parse.specs.Json.{encode_json_row, parse_json_row}
+use Rattle.fn_parse.specs.ParseKeyValue.{parse_key_value_row}
+use Rattle.fn_parse.specs.QueryString.{parse_query_string_row}
+use Rattle.fn_parse.specs.Url.{parse_url_row}
+use Rattle.fn_search.specs.Find.{find_row}
+use Rattle.fn_search.specs.Match.{match_row}
+use Rattle.fn_search.specs.MatchAny.{match_any_row}
+use Rattle.fn_search.specs.ParseRegex.{parse_regex_row, parse_regex_all_row}
+use Rattle.fn_search.specs.Replace.{replace_row}
+use Rattle.fn_search.specs.Split.{split_row}
 use Rattle.fn_string.specs.Case.{in_lower_case, in_upper_case}
 use Rattle.fn_string.specs.Join.{join_row}
 use Rattle.fn_string.specs.Length.{length_row}
@@ -41,6 +53,11 @@ use Rattle.fn_string.specs.Slice.{slice_row}
 use Rattle.fn_string.specs.StrLen.{strlen_row}
 use Rattle.fn_string.specs.StripWhitespace.{stripped}
 use Rattle.fn_string.specs.Truncate.{truncate_row}
+use Rattle.fn_time.specs.FormatTimestamp.{format_timestamp_row}
+use Rattle.fn_time.specs.FromUnixTimestamp.{from_unix_timestamp_row}
+use Rattle.fn_time.specs.Now.{now_row}
+use Rattle.fn_time.specs.ParseTimestamp.{parse_timestamp_row}
+use Rattle.fn_time.specs.ToUnixTimestamp.{to_unix_timestamp_row}
 use Rattle.fn_type.specs.Is.{is_row}
 use Rattle.fn_type.specs.IsEmpty.{is_empty_row}
 use Rattle.fn_type.specs.IsNullish.{is_nullish_row}
@@ -52,7 +69,7 @@ use Rattle.vrl_table.specs.Binding.{has_twice}
 use Rattle.vrl_table.specs.declared.function.Fun.{Fun}
 use Rattle.vrl_table.specs.declared.function.Fun.TheVariants as fun
 
-abbrev pub row_of : Fun → Row
+unfoldable pub row_of : Fun → Row
 row_of fun.Abs = whole_row abs_row
 row_of fun.Append = append_row
 row_of fun.Array = only_row (codes "array") tag.List
@@ -66,10 +83,15 @@ row_of fun.DecodePercent = whole_row (of_text_row (codes "decode_percent") text_
 row_of fun.Downcase = whole_row (of_text_row (codes "downcase") in_lower_case)
 row_of fun.EncodeBase16 = whole_row (of_text_row (codes "encode_base16") base16_of)
 row_of fun.EncodeBase64 = whole_row (of_text_row (codes "encode_base64") base64_of)
+row_of fun.EncodeJson = whole_row encode_json_row
+row_of fun.EncodeKeyValue = whole_row encode_key_value_row
 row_of fun.EncodePercent = whole_row (of_text_row (codes "encode_percent") percent_of)
 row_of fun.EndsWith = whole_row (search_row (codes "ends_with") ends_with)
+row_of fun.Find = find_row
 row_of fun.Flatten = flatten_row
 row_of fun.FormatInt = whole_row format_int_row
+row_of fun.FormatTimestamp = format_timestamp_row
+row_of fun.FromUnixTimestamp = from_unix_timestamp_row
 row_of fun.Get = get_row
 row_of fun.Includes = whole_row includes_row
 row_of fun.Int = only_row (codes "int") tag.Int
@@ -86,18 +108,31 @@ row_of fun.IsTimestamp = whole_row (is_row (codes "is_timestamp") tag.Time)
 row_of fun.Join = whole_row join_row
 row_of fun.Keys = keys_row
 row_of fun.Length = whole_row length_row
+row_of fun.Match = whole_row match_row
+row_of fun.MatchAny = whole_row match_any_row
 row_of fun.Md5 = whole_row (of_text_row (codes "md5") md5_of)
 row_of fun.Merge = merge_row
 row_of fun.Mod = whole_row mod_row
+row_of fun.Now = whole_row now_row
 row_of fun.Object = only_row (codes "object") tag.Object
 row_of fun.ObjectFromArray = object_from_array_row
+row_of fun.ParseCsv = parse_csv_row
 row_of fun.ParseInt = whole_row parse_int_row
+row_of fun.ParseJson = parse_json_row
+row_of fun.ParseKeyValue = parse_key_value_row
+row_of fun.ParseQueryString = parse_query_string_row
+row_of fun.ParseRegex = parse_regex_row
+row_of fun.ParseRegexAll = parse_regex_all_row
+row_of fun.ParseTimestamp = parse_timestamp_row
+row_of fun.ParseUrl = parse_url_row
 row_of fun.Push = push_row
 row_of fun.Remove = remove_row
+row_of fun.Replace = whole_row replace_row
 row_of fun.Set = set_row
 row_of fun.Sha1 = whole_row (of_text_row (codes "sha1") sha1_of)
 row_of fun.Sha2 = sha2_row
 row_of fun.Slice = slice_row
+row_of fun.Split = split_row
 row_of fun.StartsWith = whole_row (search_row (codes "starts_with") starts_with)
 row_of fun.StrLen = whole_row strlen_row
 row_of fun.StringValue = only_row (codes "string") tag.Text
@@ -107,6 +142,7 @@ row_of fun.Timestamp = only_row (codes "timestamp") tag.Time
 row_of fun.ToBool = whole_row to_bool_row
 row_of fun.ToInt = whole_row to_int_row
 row_of fun.ToString = whole_row to_string_row
+row_of fun.ToUnixTimestamp = to_unix_timestamp_row
 row_of fun.Truncate = whole_row truncate_row
 row_of fun.Unflatten = unflatten_row
 row_of fun.Unique = unique_row
@@ -116,7 +152,7 @@ row_of fun.Zip = zip_row
 
 -- all of them
 abbrev pub all_functions : List Fun
-all_functions = fun.Abs ∷ fun.Append ∷ fun.Array ∷ fun.Bool ∷ fun.Chunks ∷ fun.Compact ∷ fun.Contains ∷ fun.DecodeBase16 ∷ fun.DecodeBase64 ∷ fun.DecodePercent ∷ fun.Downcase ∷ fun.EncodeBase16 ∷ fun.EncodeBase64 ∷ fun.EncodePercent ∷ fun.EndsWith ∷ fun.Flatten ∷ fun.FormatInt ∷ fun.Get ∷ fun.Includes ∷ fun.Int ∷ fun.IsArray ∷ fun.IsBoolean ∷ fun.IsEmpty ∷ fun.IsInteger ∷ fun.IsNull ∷ fun.IsNullish ∷ fun.IsObject ∷ fun.IsRegex ∷ fun.IsString ∷ fun.IsTimestamp ∷ fun.Join ∷ fun.Keys ∷ fun.Length ∷ fun.Md5 ∷ fun.Merge ∷ fun.Mod ∷ fun.Object ∷ fun.ObjectFromArray ∷ fun.ParseInt ∷ fun.Push ∷ fun.Remove ∷ fun.Set ∷ fun.Sha1 ∷ fun.Sha2 ∷ fun.Slice ∷ fun.StartsWith ∷ fun.StrLen ∷ fun.StringValue ∷ fun.StripWhitespace ∷ fun.Tally ∷ fun.Timestamp ∷ fun.ToBool ∷ fun.ToInt ∷ fun.ToString ∷ fun.Truncate ∷ fun.Unflatten ∷ fun.Unique ∷ fun.Upcase ∷ fun.Values ∷ fun.Zip ∷ []
+all_functions = fun.Abs ∷ fun.Append ∷ fun.Array ∷ fun.Bool ∷ fun.Chunks ∷ fun.Compact ∷ fun.Contains ∷ fun.DecodeBase16 ∷ fun.DecodeBase64 ∷ fun.DecodePercent ∷ fun.Downcase ∷ fun.EncodeBase16 ∷ fun.EncodeBase64 ∷ fun.EncodeJson ∷ fun.EncodeKeyValue ∷ fun.EncodePercent ∷ fun.EndsWith ∷ fun.Find ∷ fun.Flatten ∷ fun.FormatInt ∷ fun.FormatTimestamp ∷ fun.FromUnixTimestamp ∷ fun.Get ∷ fun.Includes ∷ fun.Int ∷ fun.IsArray ∷ fun.IsBoolean ∷ fun.IsEmpty ∷ fun.IsInteger ∷ fun.IsNull ∷ fun.IsNullish ∷ fun.IsObject ∷ fun.IsRegex ∷ fun.IsString ∷ fun.IsTimestamp ∷ fun.Join ∷ fun.Keys ∷ fun.Length ∷ fun.Match ∷ fun.MatchAny ∷ fun.Md5 ∷ fun.Merge ∷ fun.Mod ∷ fun.Now ∷ fun.Object ∷ fun.ObjectFromArray ∷ fun.ParseCsv ∷ fun.ParseInt ∷ fun.ParseJson ∷ fun.ParseKeyValue ∷ fun.ParseQueryString ∷ fun.ParseRegex ∷ fun.ParseRegexAll ∷ fun.ParseTimestamp ∷ fun.ParseUrl ∷ fun.Push ∷ fun.Remove ∷ fun.Replace ∷ fun.Set ∷ fun.Sha1 ∷ fun.Sha2 ∷ fun.Slice ∷ fun.Split ∷ fun.StartsWith ∷ fun.StrLen ∷ fun.StringValue ∷ fun.StripWhitespace ∷ fun.Tally ∷ fun.Timestamp ∷ fun.ToBool ∷ fun.ToInt ∷ fun.ToString ∷ fun.ToUnixTimestamp ∷ fun.Truncate ∷ fun.Unflatten ∷ fun.Unique ∷ fun.Upcase ∷ fun.Values ∷ fun.Zip ∷ []
 
 -- the function of a name, if one has it
 unfoldable pub function_named : List ℕ → Option Fun
@@ -125,6 +161,11 @@ function_named name = find (λ function. bytes_eq (row_of function).name name) a
 -- each function is the one that is found by its name, so no two have one name
 abbrev pub FunctionsAreFound : Type 0
 FunctionsAreFound = (function : Fun) → function_named (row_of function).name ≡ Some function
+
+-- there are 79, and no two have one name
+pub record FunctionsAreCounted : Type 0 where
+  pub number : length all_functions ≡ 79
+  pub once : has_twice (map (λ function. Some (row_of function).name) all_functions) ≡ false
 
 -- no function has the name of a form
 abbrev pub FormsAreNoFunctions : Type 0

@@ -1,6 +1,6 @@
 ghost use Rattle.std.specs.Prelude.{◌≡◌, ◌≢◌, find, bytes_eq, MatchOption};
 ghost use Rattle.vrl_table.specs.Laws.{row-law};
-ghost use Rattle.vrl_table.specs.Table.{all_functions, function_named, row_of, FormsAreNoFunctions, FunctionsAreFound, ParametersAreToldApart};
+ghost use Rattle.vrl_table.specs.Table.{all_functions, function_named, row_of, FormsAreNoFunctions, FunctionsAreCounted, FunctionsAreFound, ParametersAreToldApart};
 ghost use Rattle.vrl_table.specs.declared.function.Fun.{Fun};
 
 use fn_codec::{
@@ -10,10 +10,15 @@ use fn_codec::{
 use fn_list::{Append, Chunks, Compact, Flatten, Includes, Push, Unique, Zip};
 use fn_number::{Abs, FormatInt, Mod, ParseInt};
 use fn_object::{Get, Keys, Merge, ObjectFromArray, Remove, Set, Tally, Unflatten, Values};
+use fn_parse::{
+    EncodeJson, EncodeKeyValue, ParseCsv, ParseJson, ParseKeyValue, ParseQueryString, ParseUrl,
+};
+use fn_search::{Find, Match, MatchAny, ParseRegex, ParseRegexAll, Replace, Split};
 use fn_string::{
     Contains, Downcase, EndsWith, Join, Length, Search, Slice, StartsWith, StrLen, StripWhitespace,
     Truncate, Upcase,
 };
+use fn_time::{FormatTimestamp, FromUnixTimestamp, Now, ParseTimestamp, ToUnixTimestamp};
 use fn_type::{
     Array, Bool, Int, Is, IsArray, IsBoolean, IsEmpty, IsInteger, IsNull, IsNullish, IsObject,
     IsRegex, IsString, IsTimestamp, Object, Only, StringValue, Timestamp, ToBool, ToInt, ToString,
@@ -53,14 +58,24 @@ pub enum Fun {
     EncodeBase16,
     /// `encode_base64`.
     EncodeBase64,
+    /// `encode_json`.
+    EncodeJson,
+    /// `encode_key_value`.
+    EncodeKeyValue,
     /// `encode_percent`.
     EncodePercent,
     /// `ends_with`.
     EndsWith,
+    /// `find`.
+    Find,
     /// `flatten`.
     Flatten,
     /// `format_int`.
     FormatInt,
+    /// `format_timestamp`.
+    FormatTimestamp,
+    /// `from_unix_timestamp`.
+    FromUnixTimestamp,
     /// `get`.
     Get,
     /// `includes`.
@@ -93,22 +108,46 @@ pub enum Fun {
     Keys,
     /// `length`.
     Length,
+    /// `match`.
+    Match,
+    /// `match_any`.
+    MatchAny,
     /// `md5`.
     Md5,
     /// `merge`.
     Merge,
     /// `mod`.
     Mod,
+    /// `now`.
+    Now,
     /// `object`.
     Object,
     /// `object_from_array`.
     ObjectFromArray,
+    /// `parse_csv`.
+    ParseCsv,
     /// `parse_int`.
     ParseInt,
+    /// `parse_json`.
+    ParseJson,
+    /// `parse_key_value`.
+    ParseKeyValue,
+    /// `parse_query_string`.
+    ParseQueryString,
+    /// `parse_regex`.
+    ParseRegex,
+    /// `parse_regex_all`.
+    ParseRegexAll,
+    /// `parse_timestamp`.
+    ParseTimestamp,
+    /// `parse_url`.
+    ParseUrl,
     /// `push`.
     Push,
     /// `remove`.
     Remove,
+    /// `replace`.
+    Replace,
     /// `set`.
     Set,
     /// `sha1`.
@@ -117,6 +156,8 @@ pub enum Fun {
     Sha2,
     /// `slice`.
     Slice,
+    /// `split`.
+    Split,
     /// `starts_with`.
     StartsWith,
     /// `strlen`.
@@ -135,6 +176,8 @@ pub enum Fun {
     ToInt,
     /// `to_string`.
     ToString,
+    /// `to_unix_timestamp`.
+    ToUnixTimestamp,
     /// `truncate`.
     Truncate,
     /// `unflatten`.
@@ -174,10 +217,15 @@ macro_rules! functions {
             Downcase => OfText(Downcase),
             EncodeBase16 => OfText(EncodeBase16),
             EncodeBase64 => OfText(EncodeBase64),
+            EncodeJson => EncodeJson,
+            EncodeKeyValue => EncodeKeyValue,
             EncodePercent => OfText(EncodePercent),
             EndsWith => Search(EndsWith),
+            Find => Find,
             Flatten => Flatten,
             FormatInt => FormatInt,
+            FormatTimestamp => FormatTimestamp,
+            FromUnixTimestamp => FromUnixTimestamp,
             Get => Get,
             Includes => Includes,
             Int => Only(Int),
@@ -194,18 +242,31 @@ macro_rules! functions {
             Join => Join,
             Keys => Keys,
             Length => Length,
+            Match => Match,
+            MatchAny => MatchAny,
             Md5 => OfText(Md5),
             Merge => Merge,
             Mod => Mod,
+            Now => Now,
             Object => Only(Object),
             ObjectFromArray => ObjectFromArray,
+            ParseCsv => ParseCsv,
             ParseInt => ParseInt,
+            ParseJson => ParseJson,
+            ParseKeyValue => ParseKeyValue,
+            ParseQueryString => ParseQueryString,
+            ParseRegex => ParseRegex,
+            ParseRegexAll => ParseRegexAll,
+            ParseTimestamp => ParseTimestamp,
+            ParseUrl => ParseUrl,
             Push => Push,
             Remove => Remove,
+            Replace => Replace,
             Set => Set,
             Sha1 => OfText(Sha1),
             Sha2 => Sha2,
             Slice => Slice,
+            Split => Split,
             StartsWith => Search(StartsWith),
             StrLen => StrLen,
             StringValue => Only(StringValue),
@@ -215,6 +276,7 @@ macro_rules! functions {
             ToBool => ToBool,
             ToInt => ToInt,
             ToString => ToString,
+            ToUnixTimestamp => ToUnixTimestamp,
             Truncate => Truncate,
             Unflatten => Unflatten,
             Unique => Unique,
@@ -228,18 +290,22 @@ macro_rules! functions {
 impl Builtin for Fun {
     ghost row = { row_of };
 
+    #[tactic(auto, unfolding(crate::specs::Table::row_of))]
     fn name(&self) -> &'static str {
         functions!(call self, name())
     }
 
+    #[tactic(auto, unfolding(crate::specs::Table::row_of))]
     fn parameters(&self) -> &'static [Parameter] {
         functions!(call self, parameters())
     }
 
+    #[tactic(auto, unfolding(crate::specs::Table::row_of))]
     fn accepts(&self, place: usize, literal: &Value) -> bool {
         functions!(call self, accepts(place, literal))
     }
 
+    #[tactic(auto, unfolding(crate::specs::Table::row_of))]
     fn result_kind(
         &self,
         alloc: Global,
@@ -249,10 +315,12 @@ impl Builtin for Fun {
         functions!(call self, result_kind(alloc, given, patterns))
     }
 
+    #[tactic(auto, unfolding(crate::specs::Table::row_of))]
     fn may_fail(&self, given: &Givens) -> bool {
         functions!(call self, may_fail(given))
     }
 
+    #[tactic(auto, unfolding(crate::specs::Table::row_of))]
     fn apply(&self, alloc: Global, arguments: &Arguments<'_>, setting: &Setting<'_>) -> Applied {
         functions!(call self, apply(alloc, arguments, setting))
     }
@@ -301,6 +369,11 @@ pub fn lookup(name: &str) -> Option<Fun>
 /// Each function is the one that is found by its name, so no two have one name. This takes no time: it is a law about the definitions.
 pub fn functions_are_found()
     ensures { FunctionsAreFound }
+{}
+
+/// There are 79 functions, and no two have one name. This takes no time: it is a law about the definitions.
+pub fn functions_are_counted()
+    ensures { FunctionsAreCounted }
 {}
 
 /// No function has the name of a form of the language, as `del`. This takes no time: it is a law about the definitions.

@@ -11,5 +11,6 @@ mod function;
 pub use binding::{BindFault, Bound, bind, bind_to};
 pub use calls::{apply, functions_keep_law, may_fail, parameters, result_kind, wrong_literal};
 pub use function::{
-    Fun, forms_are_no_functions, functions_are_found, lookup, parameters_are_told_apart,
+    Fun, forms_are_no_functions, functions_are_counted, functions_are_found, lookup,
+    parameters_are_told_apart,
 };

@@ -1,3 +1,8 @@
+use denote.Param.Send.{sendable}
+use Rattle.std.proofs.Crossing.{crosses}
+use Rattle.std.proofs.MapsCrossing.{crosses as maps}
+use Rattle.vrl_resolve.proofs.Shared.{program_sync}
+use Rattle.vrl_run.proofs.Shared.{kind_sync, kind_field_sync}
 use Rattle.std.proofs.Common.{◌≡◌, ◌∙◌, ap, map, refl, rules, sym, true, []}
 use Rattle.vrl_generate.specs.Made.{made_lines}
 use Rattle.vrl_run.specs.Request.{run_of}
@@ -25,3 +30,6 @@ returns-clause-marked g c =
     let empty = nothing_left c.loop-work.batch _ (rw c.as_slice.ensures at c.is_empty.ensures) (search rules) in
     let summed = all_made run all _ c.loop-work.summary c.loop-work.invariant.0 (c.loop-work.invariant.1 empty) in
     c.is_marked-marked.ensures _ (few_enough run all c.args.count (rw c.new-lines.ensures.lines at c.new-lines.ensures.count) c.requires.count) summed
+
+pub map_batch-requires-sync-W : goal.map_batch-requires-sync-W
+map_batch-requires-sync-W g c κs within = search (program_sync, kind_sync, kind_field_sync, sendable, crosses, maps) depth 30
