@@ -10,7 +10,7 @@ use std::process::Abort;
 use vrl_kind::{Kind, has, print};
 use vrl_path::Path;
 use vrl_state::{Branch, Known, RootKind, State};
-use vrl_syntax::Root;
+use vrl_syntax::{Root, Roots};
 use vrl_value::{Chars, Memory, Tag};
 
 // What stands before the point of a path, and behind it.
@@ -40,7 +40,7 @@ fn steps_of(alloc: Global, path: &str) -> Result<Path, Memory>
 fn remove_at(alloc: Global, state: &mut State, root: &Root, path: &str) -> Result<(), Memory>
     ensures { state.new.scopes ≡ state.old.scopes }
 {
-    state.remove(alloc, root, &steps_of(alloc, path)?)
+    state.remove(root, &steps_of(alloc, path)?)
 }
 
 fn remove(alloc: Global, state: &mut State, path: &str) -> Result<(), Memory>
@@ -59,7 +59,7 @@ fn assign_at(
     requires { IsPresent kind.now }
     ensures { state.new.scopes ≡ state.old.scopes }
 {
-    state.assign(alloc, root, &steps_of(alloc, path)?, kind)
+    state.assign(root, &steps_of(alloc, path)?, kind)
 }
 
 fn assign_kind(alloc: Global, state: &mut State, path: &str, kind: &Kind) -> Result<(), Memory>
@@ -77,7 +77,26 @@ fn assign(alloc: Global, state: &mut State, path: &str, word: &str) -> Result<()
     assign_kind(alloc, state, path, &kind_of_word(alloc, word)?)
 }
 
-// One word: `!` makes the state dead, `-path` removes, and `path=kind` writes.
+// A list of one root.
+fn one_root(alloc: Global, path: &str) -> Result<Roots, Memory> {
+    let mut roots = Vec::new(alloc);
+    roots.push(root_of(alloc, path)?)?;
+    Ok(Roots::new(roots))
+}
+
+fn flatten(alloc: Global, state: &mut State, path: &str) -> Result<(), Memory>
+    ensures { state.new.scopes ≡ state.old.scopes }
+{
+    state.flatten(&one_root(alloc, path)?)
+}
+
+fn forget(alloc: Global, state: &mut State, path: &str) -> Result<(), Memory>
+    ensures { state.new.scopes ≡ state.old.scopes }
+{
+    state.forget(&one_root(alloc, path)?)
+}
+
+// One word: `!` makes the state dead, `-path` removes, `~root` flattens, `?root` forgets, and `path=kind` writes.
 fn write(alloc: Global, state: &mut State, word: &str) -> Result<(), Memory>
     ensures { state.new.scopes ≡ state.old.scopes }
 {
@@ -87,6 +106,12 @@ fn write(alloc: Global, state: &mut State, word: &str) -> Result<(), Memory>
     }
     if let Some(path) = word.strip_prefix('-') {
         return remove(alloc, state, path);
+    }
+    if let Some(path) = word.strip_prefix('~') {
+        return flatten(alloc, state, path);
+    }
+    if let Some(path) = word.strip_prefix('?') {
+        return forget(alloc, state, path);
     }
     match word.split_once('=') {
         Some((path, kind)) => assign(alloc, state, path, kind),
@@ -144,7 +169,7 @@ fn known_told(alloc: Global, known: &Known) -> Result<String, Memory> {
 
 // What is known, in text.
 fn told(alloc: Global, branch: &Branch) -> Result<String, Memory> {
-    known_told(alloc, &branch.known(alloc)?)
+    known_told(alloc, &branch.known()?)
 }
 
 // The state of a script with such an event.
@@ -178,7 +203,7 @@ fn branch_of(alloc: Global, state: &mut State, words: &str) -> Result<Branch, Me
     ensures branch { IfOk result (λ branch. branch.scopes ≡ state.old.scopes) }
     ensures state { OnOk result (state.new ≡ state.old) }
 {
-    let mark = state.mark(alloc)?;
+    let mark = state.mark()?;
     write_all(alloc, state, words)?;
     Ok(state.back(mark))
 }
@@ -193,7 +218,7 @@ fn join_to_state(
     requires { branch.now.scopes ≡ state.old.scopes }
 {
     write_all(alloc, state, words)?;
-    state.join(alloc, branch)?;
+    state.join(branch)?;
     branch_of(alloc, state, "")
 }
 
@@ -217,7 +242,7 @@ fn join_to_branch(
 ) -> Result<(), Memory>
     requires { branch.old.scopes ≡ state.old.scopes }
 {
-    branch.join(alloc, &branch_of(alloc, state, words)?)
+    branch.join(&branch_of(alloc, state, words)?)
 }
 
 // The branch of the first way with that of the second one joined to it.
@@ -236,14 +261,14 @@ fn branch_joined(
 fn write_block(alloc: Global, state: &mut State, inside: &str) -> Result<(), Memory>
     ensures { OnOk result (state.new.scopes ≢ []) }
 {
-    state.enter(alloc)?;
+    state.enter()?;
     write_all(alloc, state, inside)
 }
 
 // What is known behind a block with these words in it, left in the state.
 fn state_left(alloc: Global, state: &mut State, inside: &str) -> Result<Branch, Memory> {
     write_block(alloc, state, inside)?;
-    state.leave(alloc)?;
+    state.leave()?;
     branch_of(alloc, state, "")
 }
 
@@ -251,7 +276,7 @@ fn state_left(alloc: Global, state: &mut State, inside: &str) -> Result<Branch, 
 fn block(alloc: Global, state: &mut State, inside: &str) -> Result<Branch, Memory>
     ensures { IfOk result (λ branch. branch.scopes ≢ []) }
 {
-    let mark = state.mark(alloc)?;
+    let mark = state.mark()?;
     write_block(alloc, state, inside)?;
     Ok(state.back(mark))
 }
@@ -259,8 +284,34 @@ fn block(alloc: Global, state: &mut State, inside: &str) -> Result<Branch, Memor
 // The same as `state_left`, left in the branch that ends in the block.
 fn branch_left(alloc: Global, state: &mut State, inside: &str) -> Result<Branch, Memory> {
     let mut branch = block(alloc, state, inside)?;
-    branch.leave(alloc)?;
+    branch.leave()?;
     Ok(branch)
+}
+
+// Opens a scope in which the name `x` is bound to a value of a kind.
+fn bind(alloc: Global, state: &mut State, kind: &Kind) -> Result<(), Memory>
+    requires { IsPresent kind.now }
+    ensures { OnOk result (state.new.scopes ≢ []) }
+{
+    state.enter()?;
+    state.hide(&Chars::copy_of(alloc, "x")?, kind)
+}
+
+// What is known at the end of such a scope, with these words in it, and behind it.
+fn binding_told(
+    alloc: Global,
+    state: &mut State,
+    kind: &Kind,
+    inside: &str,
+) -> Result<(String, String), Memory>
+    requires { IsPresent kind.now }
+{
+    bind(alloc, state, kind)?;
+    write_all(alloc, state, inside)?;
+    let mut branch = branch_of(alloc, state, "")?;
+    let within = told(alloc, &branch)?;
+    branch.leave()?;
+    Ok((within, told(alloc, &branch)?))
 }
 
 // How two ways on, or a block, come to one branch.
@@ -396,7 +447,7 @@ fn expect_within(
     Ok(())
 }
 
-const KINDS: [(&str, &str, &str); 14] = [
+const KINDS: [(&str, &str, &str); 21] = [
     ("", ".", "{..json}"),
     ("", "x", "unknown"),
     ("!", ".", "dead"),
@@ -411,6 +462,13 @@ const KINDS: [(&str, &str, &str); 14] = [
     // It may hold any value, from a way that a join dropped.
     ("x.a=integer", "x", "{\"a\": integer, ..any}"),
     ("x=string;x.a=integer", "x", "{\"a\": integer}"),
+    ("x={\"a\":1};~x", "x", "{..any}"),
+    ("x=[1];~x;~y", "x", "[..any]"),
+    ("~.", ".", "{..any}"),
+    ("x=integer;?x", "x", "any"),
+    ("?.", ".", "any"),
+    ("?x", "x", "unknown"),
+    ("!;?.", ".", "dead"),
     // Deeper than the limit.
     (
         "x=[[[[[[[[[[[[[[[[[[[[[[[[[[[[[[[[[[[[[[[[]]]]]]]]]]]]]]]]]]]]]]]]]]]]]]]]]]]]]]]]",
@@ -422,6 +480,95 @@ const KINDS: [(&str, &str, &str); 14] = [
 #[test]
 fn writes_and_removals_change_what_is_known(rt: HostRuntime) -> Result<(), Memory> {
     expect_kinds(&rt, rt.alloc(), &KINDS)
+}
+
+// The kind of a root as the state shares it.
+fn shared_kind(alloc: Global, state: &State, root: &Root) -> Result<Chars, Memory> {
+    match state.shared(root)? {
+        Some(kind) => print(alloc, &kind),
+        None => Chars::copy_of(alloc, "unknown"),
+    }
+}
+
+fn shared_told(alloc: Global, state: &State, path: &str) -> Result<Chars, Memory> {
+    shared_kind(alloc, state, &root_of(alloc, path)?)
+}
+
+// Opens a second mark, writes behind it and takes it back.
+fn look_aside(alloc: Global, state: &mut State) -> Result<(), Memory>
+    ensures { OnOk result (state.new ≡ state.old) }
+{
+    let _aside = branch_of(alloc, state, "x=boolean;z=null")?;
+    Ok(())
+}
+
+// `x` as an integer; behind a mark `x` as a string and `y` as null; what is shared once that was taken back.
+fn shared_behind(alloc: Global, path: &str) -> Result<Chars, Memory> {
+    let mut state = state_after(alloc, "x=integer")?;
+    let _branch = branch_of(alloc, &mut state, "x=string;y=null")?;
+    look_aside(alloc, &mut state)?;
+    shared_told(alloc, &state, path)
+}
+
+const SHARED: [(&str, &str); 3] = [("x", "integer"), ("y", "unknown"), (".", "{..json}")];
+
+#[test]
+fn what_is_taken_back_is_shared_as_before(rt: HostRuntime) -> Result<(), Memory> {
+    for (path, wanted) in &SHARED {
+        let kind = shared_behind(rt.alloc(), path)?;
+        assert!(&rt; kind.as_str() == *wanted, "{path:?}");
+    }
+    Ok(())
+}
+
+// A name of two parts.
+fn name_of_two(alloc: Global, first: &str, second: &str) -> Result<Root, Memory> {
+    let mut name = String::from_str(alloc, first)?;
+    name.push_str(second)?;
+    Ok(Root::Name(Chars::copy_of(alloc, name.as_str())?))
+}
+
+fn assign_integer(alloc: Global, state: &mut State, root: &Root) -> Result<(), Memory>
+    ensures { state.new.scopes ≡ state.old.scopes }
+{
+    let kind = kind_of_word(alloc, "integer")?;
+    if has(&kind, Tag::Absent) {
+        return Ok(());
+    }
+    assign_at(alloc, state, root, "", &kind)
+}
+
+fn assign_ten(alloc: Global, state: &mut State, first: &str) -> Result<(), Memory> {
+    for second in "0 1 2 3 4 5 6 7 8 9".split(' ') {
+        assign_integer(alloc, state, &name_of_two(alloc, first, second)?)?;
+    }
+    Ok(())
+}
+
+// Whether a state is marked, and gone back to, this often.
+fn goes_back(state: &mut State, times: usize) -> bool {
+    for _ in 0..times {
+        match state.mark() {
+            Err(Memory) => return false,
+            Ok(mark) => {
+                let _left = state.back(mark);
+            }
+        }
+    }
+    true
+}
+
+const TWENTY: &str = "a b c d e f g h i j k l m n o p q r s t";
+
+// A mark copies pointers alone: with each allocation refused in turn (`trials/refusals.py`) none wants memory.
+#[test]
+fn marks_take_no_memory(rt: HostRuntime) -> Result<(), Memory> {
+    let mut state = state_after(rt.alloc(), "")?;
+    for first in TWENTY.split(' ') {
+        assign_ten(rt.alloc(), &mut state, first)?;
+    }
+    assert!(&rt; goes_back(&mut state, 10));
+    Ok(())
 }
 
 const JOINS: [(&str, &str, &str, &str); 9] = [
@@ -464,6 +611,51 @@ const BLOCKS: [(&str, &str, &str); 5] = [
 fn blocks_end_with_their_names(rt: HostRuntime) -> Result<(), Memory> {
     expect_blocks(&rt, rt.alloc(), End::StateLeft, &BLOCKS)?;
     expect_blocks(&rt, rt.alloc(), End::BranchLeft, &BLOCKS)
+}
+
+// The same from the start of a script, after words, with the kind of a word.
+fn bindings_told(
+    alloc: Global,
+    before: &str,
+    word: &str,
+    inside: &str,
+) -> Result<(String, String), Memory> {
+    let mut state = state_after(alloc, before)?;
+    let kind = kind_of_word(alloc, word)?;
+    if has(&kind, Tag::Absent) {
+        return Err(Memory);
+    }
+    binding_told(alloc, &mut state, &kind, inside)
+}
+
+// Words before a scope that binds `x`, its kind, words in it, and what is known at its end and behind it.
+const BINDINGS: [(&str, &str, &str, &str, &str); 4] = [
+    ("", "integer", "", ".={..json}; x=integer", ".={..json}"),
+    (
+        "x=string",
+        "integer",
+        "",
+        ".={..json}; x=integer",
+        ".={..json}; x=string",
+    ),
+    (
+        "x=string",
+        "integer",
+        "x=null;y=null",
+        ".={..json}; x=null; y=null",
+        ".={..json}; x=string",
+    ),
+    ("!", "integer", "", "dead", "dead"),
+];
+
+#[test]
+fn names_that_are_bound_come_back(rt: HostRuntime) -> Result<(), Memory> {
+    for (before, kind, inside, within, behind) in &BINDINGS {
+        let (inner, outer) = bindings_told(rt.alloc(), before, kind, inside)?;
+        assert!(&rt; inner.as_str() == *within, "{inside:?} behind {before:?}");
+        assert!(&rt; outer.as_str() == *behind, "behind {inside:?}");
+    }
+    Ok(())
 }
 
 const WITHIN: [(&str, &str, bool); 9] = [

@@ -107,7 +107,7 @@ fn branch_of(alloc: Global, state: State) -> Result<Branch, Memory>
     ensures { IfOk result (λ branch. branch ≡ state) }
 {
     let mut nothing = dead(alloc)?;
-    let mark = nothing.mark(alloc)?;
+    let mark = nothing.mark()?;
     let mut state = state;
     Ok(state.back(mark))
 }
@@ -129,14 +129,14 @@ pub fn ending(alloc: Global, judged: &Judged) -> Result<Ending, Memory>
     ensures { IfOk result (λ ending. IsEnding judged.now ending) }
 {
     let mut state = dead(alloc)?;
-    state.join(alloc, &judged.ok)?;
+    state.join(&judged.ok)?;
     match &judged.ret {
         None => {
             let kind = either(alloc, &judged.kind, &Kind::never(alloc)?)?;
             end(alloc, state, kind)
         }
         Some(ret) => {
-            state.join(alloc, &ret.state)?;
+            state.join(&ret.state)?;
             let kind = either(alloc, &judged.kind, &ret.kind)?;
             end(alloc, state, kind)
         }
@@ -148,6 +148,6 @@ fn end(alloc: Global, state: State, kind: Kind) -> Result<Ending, Memory>
     ensures roots { IfOk result (λ ending. HaveRootKinds ending.state) }
 {
     let branch = branch_of(alloc, state)?;
-    let state = branch.known(alloc)?;
+    let state = branch.known()?;
     Ok(Ending { kind, state })
 }

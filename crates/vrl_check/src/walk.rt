@@ -129,7 +129,7 @@ fn block(checker: &mut Checker<'_>, items: &Exprs) -> Result<Outcome, Memory>
     if checker.state.is_dead() {
         return pass_items(checker, items);
     }
-    checker.state.enter(checker.alloc)?;
+    checker.state.enter()?;
     let part = sequence(checker, items)?;
     checker.end_block(part)
 }
@@ -348,7 +348,7 @@ fn add_arm(checker: &mut Checker<'_>, ways: &mut Ways, arm: &Arm) -> Result<(), 
 {
     let part = expr(checker, &arm.predicate)?;
     checker.add_predicate(ways, part, arm.predicate.span)?;
-    let mark = checker.state.mark(checker.alloc)?;
+    let mark = checker.state.mark()?;
     let block = block(checker, &arm.body)?;
     checker.add_block(ways, mark, block)
 }

@@ -29,7 +29,7 @@ impl Checker<'_> {
     {
         match target {
             Target::Nowhere => Ok(()),
-            Target::Place(_, root, path) => self.state.assign(self.alloc, root, path, kind),
+            Target::Place(_, root, path) => self.state.assign(root, path, kind),
         }
     }
 
@@ -190,7 +190,7 @@ impl Checker<'_> {
         if fail.is_none() {
             return Ok(());
         }
-        let mark = self.state.mark(self.alloc)?;
+        let mark = self.state.mark()?;
         self.go_to(fail);
         self.write_two(ok, err, empty, text)?;
         self.join_behind(mark)

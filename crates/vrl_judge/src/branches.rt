@@ -45,7 +45,7 @@ impl Checker<'_> {
         ensures checker { self.new ≡ self.old }
     {
         if wanted {
-            Ok(Some(self.state.mark(self.alloc)?))
+            Ok(Some(self.state.mark()?))
         } else {
             Ok(None)
         }
@@ -89,7 +89,7 @@ impl Checker<'_> {
         let refused = self.branch_if(may_be_no_truth(&right.kind))?;
         self.go_on_if(may_be_truth(&right.kind));
         let mut both = self.both_sides(left, right.ends)?;
-        both.ends.add_fail(self.alloc, refused)?;
+        both.ends.add_fail(refused)?;
         both.kind = scalar(self.alloc, Tag::Bool)?;
         Ok(both)
     }
@@ -196,7 +196,7 @@ impl Checker<'_> {
         ensures { OnOk result (IsBlockBeside mark block ways.old self.old self.new ways.new) }
     {
         let left = self.back(mark);
-        add_way(&mut ways.ok, self.alloc, left)?;
+        add_way(&mut ways.ok, left)?;
         let kind = ways.ends.absorb(self.alloc, block)?;
         widen(&mut ways.kind, self.alloc, &kind)?;
         Ok(())

@@ -61,12 +61,12 @@ impl Checker<'_> {
         ensures others { IsMoved self.old self.new }
     {
         if !path.as_slice().is_empty() {
-            return self.state.remove(self.alloc, root, path);
+            return self.state.remove(root, path);
         }
         let left = empty_value(self.alloc, left_tag(root));
         let kind = kind_of(self.alloc, &left)?;
         kind_is_canonical(&kind);
-        self.state.assign(self.alloc, root, path, &kind)
+        self.state.assign(root, path, &kind)
     }
 
     /// A call, behind all but its `!`, which leaves no error; of a call that can't end with one it is 620. `Memory`: want of memory.

@@ -98,7 +98,7 @@ impl Checker<'_> {
         if !wanted || self.state.is_dead() {
             return Ok(None);
         }
-        let copy = self.state.mark(self.alloc)?;
+        let copy = self.state.mark()?;
         Ok(Some(self.state.back(copy)))
     }
 
@@ -110,7 +110,7 @@ impl Checker<'_> {
         ensures checker { self.new ≡ self.old }
     {
         let point = self.branch_if(holds)?;
-        ends.add_fail(self.alloc, point)?;
+        ends.add_fail(point)?;
         Ok(())
     }
 
@@ -153,7 +153,7 @@ impl Checker<'_> {
     {
         match branch {
             None => Ok(()),
-            Some(branch) => self.state.join(self.alloc, &branch),
+            Some(branch) => self.state.join(&branch),
         }
     }
 

@@ -54,7 +54,7 @@ impl Ends {
         ensures joined { OnOk result (AreJoinedEnds self.old part self.new) }
         ensures scopes { OnOk result ((scopes : List Scope) → AreEnds scopes self.old → AreEnds scopes part → AreEnds scopes self.new) }
     {
-        add_way(&mut self.fail, alloc, part.fail)?;
+        add_way(&mut self.fail, part.fail)?;
         add_return(&mut self.ret, alloc, part.ret)?;
         self.poisoned = either_of(self.poisoned, part.poisoned);
         Ok(())
@@ -72,13 +72,13 @@ impl Ends {
     }
 
     // Adds one more way to end with an error. `Memory`: want of memory.
-    pub(crate) fn add_fail(&mut self, alloc: Global, point: Option<Branch>) -> Result<(), Memory>
+    pub(crate) fn add_fail(&mut self, point: Option<Branch>) -> Result<(), Memory>
         requires { HaveCommonScopes self.old (record no_ends { fail = point }) }
         ensures joined { OnOk result (IsJoined (known_on self.old.fail) (known_on point) (known_on self.new.fail)) }
         ensures others { OnOk result (self.new ≡ record self.old { fail = self.new.fail }) }
         ensures scopes { OnOk result ((scopes : List Scope) → AreEnds scopes self.old → IsWay scopes point → AreEnds scopes self.new) }
     {
-        add_way(&mut self.fail, alloc, point)
+        add_way(&mut self.fail, point)
     }
 
     // Adds one more way to return. `Memory`: want of memory.
@@ -103,12 +103,12 @@ impl Ends {
     }
 
     // The innermost block ends in each of them. `Memory`: want of memory.
-    pub(crate) fn leave(&mut self, alloc: Global) -> Result<(), Memory>
+    pub(crate) fn leave(&mut self) -> Result<(), Memory>
         requires { (scope : Scope) × (scopes : List Scope) × AreEnds (scope ∷ scopes) self.old }
         ensures { OnOk result ((scope : Scope) (scopes : List Scope) → AreEnds (scope ∷ scopes) self.old → AreLeftEnds scope scopes self.old self.new) }
     {
-        leave_way(&mut self.fail, alloc)?;
-        leave_return(&mut self.ret, alloc)
+        leave_way(&mut self.fail)?;
+        leave_return(&mut self.ret)
     }
 
     // No error is left of what is poisoned.
@@ -129,11 +129,7 @@ pub fn either_of(a: bool, b: bool) -> bool
 }
 
 // Adds what is known on another way. `Memory`: want of memory.
-pub(crate) fn add_way(
-    way: &mut Option<Branch>,
-    alloc: Global,
-    other: Option<Branch>,
-) -> Result<(), Memory>
+pub(crate) fn add_way(way: &mut Option<Branch>, other: Option<Branch>) -> Result<(), Memory>
     requires { (scopes : List Scope) × IsWay scopes way.old × IsWay scopes other }
     ensures joined { OnOk result (IsJoined (known_on way.old) (known_on other) (known_on way.new)) }
     ensures scopes { OnOk result ((scopes : List Scope) → IsWay scopes way.old → IsWay scopes other → IsWay scopes way.new) }
@@ -145,7 +141,7 @@ pub(crate) fn add_way(
                 *way = Some(other);
                 Ok(())
             }
-            Some(way) => way.join(alloc, &other),
+            Some(way) => way.join(&other),
         },
     }
 }
@@ -183,28 +179,28 @@ impl Returned {
         ensures scopes { self.new.state.scopes ≡ self.old.state.scopes }
     {
         widen(&mut self.kind, alloc, &other.kind)?;
-        self.state.join(alloc, &other.state)?;
+        self.state.join(&other.state)?;
         Ok(())
     }
 }
 
 // The innermost block ends at a way. `Memory`: want of memory.
-fn leave_way(way: &mut Option<Branch>, alloc: Global) -> Result<(), Memory>
+fn leave_way(way: &mut Option<Branch>) -> Result<(), Memory>
     requires { (scope : Scope) × (scopes : List Scope) × IsWay (scope ∷ scopes) way.old }
     ensures { OnOk result ((scope : Scope) (scopes : List Scope) → IsWay (scope ∷ scopes) way.old → IsLeftWay scope scopes way.old way.new) }
 {
     match way {
         None => Ok(()),
-        Some(branch) => branch.leave(alloc),
+        Some(branch) => branch.leave(),
     }
 }
 
-fn leave_return(ret: &mut Option<Returned>, alloc: Global) -> Result<(), Memory>
+fn leave_return(ret: &mut Option<Returned>) -> Result<(), Memory>
     requires { (scope : Scope) × (scopes : List Scope) × IsReturnIn (scope ∷ scopes) ret.old }
     ensures { OnOk result ((scope : Scope) (scopes : List Scope) → IsReturnIn (scope ∷ scopes) ret.old → IsLeftReturn scope scopes ret.old ret.new) }
 {
     match ret {
         None => Ok(()),
-        Some(ret) => ret.state.leave(alloc),
+        Some(ret) => ret.state.leave(),
     }
 }

@@ -14,8 +14,8 @@ impl Checker<'_> {
         ensures { IfOk result (λ outcome. IsBlockEndAs part self.old self.new outcome) }
     {
         let mut part = part;
-        self.state.leave(self.alloc)?;
-        part.ends.leave(self.alloc)?;
+        self.state.leave()?;
+        part.ends.leave()?;
         self.settled(part)
     }
 }

@@ -13,7 +13,7 @@ use Rattle.vrl_value.specs.Tree.{Tree}
 use Rattle.vrl_syntax.specs.Stores.{value_back, values_back, Values}
 use Rattle.vrl_kind.specs.KindTree.{KindTree}
 use Rattle.vrl_state.specs.Laws.{BlocksGiveNothingBack}
-use Rattle.vrl_state.specs.States.{block_scope, kept, kinds_back, Names, RootMap, Scope, Variables}
+use Rattle.vrl_state.specs.States.{kept, kinds_back, RootMap, Scope, Variables}
 use Rattle.vrl_state.specs.Stores.{FitsKind}
 use Rattle.vrl_state.proofs.Finite.{at_kept}
 
@@ -53,13 +53,10 @@ pub nothing_back : BlocksGiveNothingBack
 nothing_back scope roots none =
     ap (λ es. record roots { variables = kinds_back es (map.retain_keys roots.variables (λ x. set.contains scope.known x)) }) (ap map.entries none ∙ no_entries)
 
--- a block ends
-pub block_left : (names : Names) (event : KindTree) (m n : Variables) (roots : RootMap) → record { event = event; variables = m } ≡ roots → n ≡ map.retain_keys m (λ x. set.contains names x)
-    → record { event = event; variables = n } ≡ kept (block_scope names) roots
-block_left names event m n roots seen is =
-    ap (λ v. record { event = event; variables = v }) is
-    ∙ sym (nothing_back (block_scope names) (record { event = event; variables = m }) refl)
-    ∙ ap (kept (block_scope names)) seen
+-- a scope ends
+pub scope_left : (scope : Scope) (event : KindTree) (m k n : Variables) (roots : RootMap) → record { event = event; variables = m } ≡ roots → k ≡ map.retain_keys m (λ x. set.contains scope.known x) → n ≡ kinds_back (map.entries scope.hidden) k
+    → record { event = event; variables = n } ≡ kept scope roots
+scope_left scope event m k n roots seen stays back = ap (λ v. record { event = event; variables = v }) (back ∙ ap (kinds_back (map.entries scope.hidden)) stays) ∙ ap (kept scope) seen
 
 -- ---- values
 

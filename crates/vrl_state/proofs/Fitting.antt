@@ -92,7 +92,7 @@ fits_root Event store roots fits = fits.event
 fits_root (Name x) store roots fits = fits.variables x
 
 -- a root with a new value and its new kind
-fits_with : (root : Root) (store : Store) (roots : RootMap) (v : Tree) (K : KindTree) → FitsMap store roots → Inhabits v K → FitsMap (with_value root v store) (with_kind root K roots)
+pub fits_with : (root : Root) (store : Store) (roots : RootMap) (v : Tree) (K : KindTree) → FitsMap store roots → Inhabits v K → FitsMap (with_value root v store) (with_kind root K roots)
 fits_with Event store roots v K fits h = record { event = h; variables = fits.variables }
 fits_with (Name x) store roots v K fits h =
     record {

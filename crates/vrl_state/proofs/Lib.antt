@@ -1,10 +1,10 @@
-pub mod Along
 pub mod Behind
+mod Cutting
 pub mod Finite
 pub mod Fitting
+mod JoinedScopes
 pub mod Limits
 pub mod Listed
-pub mod Named
-pub mod Scopes
-pub mod Stack
-pub mod Steps
+mod Parts
+mod Turning
+mod Versions

@@ -13,13 +13,15 @@ use Rattle.vrl_kind.specs.Canonical.{IsCanonical, ListIsCanonical, ObjectIsCanon
 use Rattle.vrl_kind.specs.Count.{nodes, levels}
 use Rattle.vrl_kind.specs.Cut.{IsCut, flat, flat_list, flat_object, level_limit, node_limit}
 use Rattle.vrl_kind.specs.KindTree.{KindTree, kind, ListTree, no_list, list_part, ObjectTree, no_object, object_part}
+use Rattle.vrl_kind.specs.Kinds as kinds
 use Rattle.vrl_kind.specs.Kinds.{step_tag, tags_at}
 use Rattle.vrl_kind.specs.Sets.{Sets}
 use Rattle.vrl_kind.specs.Tags.{only}
 use Rattle.vrl_place.specs.Remove.{remove}
 use Rattle.vrl_place.specs.Write.{write}
-use Rattle.vrl_state.specs.States.{kind_of, with_kind, HasRootKinds, IsCutOf, IsEither, IsEitherMap, IsEitherVariable, IsMapWithin, IsPresent, IsRootKind, IsRootKindIf, Names, RootMap, Variables}
-use Rattle.vrl_state.proofs.Finite.{at_kept, at_name, at_other, by_name}
+use Rattle.vrl_state.specs.States.{kind_of, kinds_back, with_kind, HasRootKinds, IsCutOf, IsEither, IsEitherMap, IsEitherVariable, IsMapWithin, IsPresent, IsRootKind, IsRootKindIf, RootMap, Scope, Variables}
+use Rattle.vrl_state.proofs.Behind.{at_behind, first_of}
+use Rattle.vrl_state.proofs.Finite.{at_name, at_other, by_name}
 
 list_is_canonical : (l : ListTree) → ListIsCanonical (flat_list l)
 list_is_canonical no_list = tt
@@ -84,6 +86,42 @@ removed_root K M p is c = sets_root _ M c (removed_present (tags_at K) p ∙ is.
 pub either_root : (K L M : KindTree) → IsRootKind K → IsRootKind L → IsEither K L M → IsRootKind M
 either_root K L M k l c = sets_root _ M c (ap (λ b. b || tags_at L [] tag.Absent) k.present ∙ l.present)
 
+-- ---- a kind that is within another
+
+-- a root's kind stays whole
+root_cut : (K : KindTree) → IsRootKind K → IsCut K K
+root_cut K is = record {
+  kept = λ few flat. refl;
+  too_many = λ many. absurd (omega (arith, is.nodes));
+  too_deep = λ deep. absurd (omega (arith, is.levels));
+}
+
+wider_or : (b c : Bool) → (c ≡ true → b ≡ true) → b ≡ (b || c)
+wider_or true c h = refl
+wider_or false true h = h refl
+wider_or false false h = refl
+
+or_wider : (b c : Bool) → (b ≡ true → c ≡ true) → c ≡ (b || c)
+or_wider true c h = h refl
+or_wider false c h = refl
+
+-- either of a root's kind and one within it is that kind
+pub either_first : (K L : KindTree) → IsRootKind K → kinds.IsWithin L K → IsEither K L K
+either_first K L is within = record {
+  whole = K;
+  canonical = is.canonical;
+  tags = λ p t. wider_or (tags_at K p t) (tags_at L p t) (within p t);
+  cut = root_cut K is;
+}
+
+pub either_second : (K L : KindTree) → IsRootKind L → kinds.IsWithin K L → IsEither K L L
+either_second K L is within = record {
+  whole = L;
+  canonical = is.canonical;
+  tags = λ p t. or_wider (tags_at K p t) (tags_at L p t) (within p t);
+  cut = root_cut L is;
+}
+
 -- ---- of all roots
 
 pub root_of : (root : Root) (roots : RootMap) → HasRootKinds roots → IsRootKindIf (kind_of root roots)
@@ -103,7 +141,7 @@ with_root (Name x) K roots is all =
 pub put_name : (event : KindTree) (m n : Variables) (x : List ℕ) (K : KindTree) → n ≡ map.insert m x K → IsRootKind K → HasRootKinds (record { event = event; variables = m }) → HasRootKinds (record { event = event; variables = n })
 put_name event m n x K e is all = subst (λ v. HasRootKinds (record { event = event; variables = v })) (sym e) (with_root (Name x) K (record { event = event; variables = m }) is all)
 
-either_variable : (K L M : Option KindTree) → IsEitherVariable K L M → IsRootKindIf K → IsRootKindIf L → IsRootKindIf M
+pub either_variable : (K L M : Option KindTree) → IsEitherVariable K L M → IsRootKindIf K → IsRootKindIf L → IsRootKindIf M
 either_variable None L M is k l = subst IsRootKindIf (sym is) tt
 either_variable (Some K) None M is k l = subst IsRootKindIf (sym is) tt
 either_variable (Some K) (Some L) None is k l = absurd is
@@ -125,11 +163,22 @@ either_seen a a' b b' c e f is = subst (λ m. IsEitherMap m b' c) e (subst (λ m
 pub within_seen : (a a' b b' : RootMap) → a ≡ a' → b ≡ b' → IsMapWithin a b → IsMapWithin a' b'
 within_seen a a' b b' e f is = subst (λ m. IsMapWithin m b') e (subst (λ m. IsMapWithin a m) f is)
 
-pub kept_as : (names : Names) (event : KindTree) (m n : Variables) → n ≡ map.retain_keys m (λ x. set.contains names x) → HasRootKinds (record { event = event; variables = m }) → HasRootKinds (record { event = event; variables = n })
-kept_as names event m n e all = record {
+first_root : (K L : Option KindTree) → IsRootKindIf K → IsRootKindIf L → IsRootKindIf (first_of K L)
+first_root None L k l = l
+first_root (Some K) L k l = k
+
+-- behind a scope
+pub left_roots : (scope : Scope) (event : KindTree) (m k n : Variables) → k ≡ map.retain_keys m (λ x. set.contains scope.known x) → n ≡ kinds_back (map.entries scope.hidden) k
+    → ((x : List ℕ) → IsRootKindIf (map.get scope.hidden x)) → HasRootKinds (record { event = event; variables = m }) → HasRootKinds (record { event = event; variables = n })
+left_roots scope event m k n kept back hidden all = record {
   event = all.event;
-  variables = λ x. subst IsRootKindIf (sym (ap (λ v. map.get v x) e ∙ at_kept m (λ y. set.contains names y) x)) (kept_variable (set.contains names x) (map.get m x) (all.variables x));
+  variables = λ x.
+      subst IsRootKindIf (sym (ap (λ v. map.get v x) (back ∙ ap (kinds_back (map.entries scope.hidden)) kept) ∙ at_behind scope m x))
+      (first_root (map.get scope.hidden x) _ (hidden x) (kept_variable (set.contains scope.known x) (map.get m x) (all.variables x)));
 }
+
+pub none_hidden : (v : Variables) → v ≡ map.empty → (x : List ℕ) → IsRootKindIf (map.get v x)
+none_hidden v none x = subst IsRootKindIf (sym (ap (λ m. map.get m x) none ∙ map.get-empty _ x)) tt
 
 pub start_roots : (K M : KindTree) (roots : RootMap) → IsCanonical K → IsPresent K → IsCut K M → roots.event ≡ M → roots.variables ≡ map.empty → HasRootKinds roots
 start_roots K M roots canonical present c e none = record {

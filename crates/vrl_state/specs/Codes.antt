@@ -21,3 +21,6 @@ scope_code = code_by (Names × Variables) (coded× names_code variables_code) (�
 
 abbrev pub state_code : Coded State
 state_code = code_by (Option RootMap × List Scope) (coded× (coded_option root_map_code) (coded_list scope_code)) (λ s. (s.known, s.scopes)) (λ p. record { known = p.0; scopes = p.1 }) (λ _. refl)
+
+abbrev pub scopes_code : Coded (List Scope)
+scopes_code = coded_list scope_code

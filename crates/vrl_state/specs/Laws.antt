@@ -1,16 +1,17 @@
 -- Laws of states: what a store holds goes on fitting what is known of it.
-use Rattle.std.specs.Prelude.{◌≡◌, ◌⊎◌, false, [], ◌∷◌, ℕ, List, Option, option_map, ⊤}
+use Rattle.std.specs.Prelude.{◌≡◌, ◌⊎◌, false, [], ◌∷◌, ℕ, List, Option, option_map, IsSome, IsTrue, ⊤}
 use Rattle.std.specs.FinMap as map
 use Rattle.std.specs.FinSet as set
 use Rattle.vrl_value.specs.Tree.{Tree}
 use Rattle.vrl_value.specs.declared.value.Tag.TheVariants as tag
 use Rattle.vrl_path.specs.declared.path.Step.{Step}
 use Rattle.vrl_syntax.specs.declared.root.Root.{Root}
+use Rattle.vrl_syntax.specs.declared.root.Root.TheVariants.{Name}
 use Rattle.vrl_kind.specs.KindTree.{KindTree}
 use Rattle.vrl_kind.specs.Kinds.{Inhabits}
 use Rattle.vrl_kind.specs.Sets.{Sets, IsAllowed}
-use Rattle.vrl_state.specs.States.{kept, AreScopesJoined, BeginsAt, IsCutOf, IsEither, IsJoined, IsKnownWithin, IsRootKind, IsRootKindIf, IsScopeJoined, IsStart, IsTakenOut, IsWritten, RootMap, Scope, State}
-use Rattle.vrl_state.specs.Stores.{store_back, Fits, FitsKnown, HidesOf, HoldsNames, IsStoreTakenOut, IsStoreWritten, Store}
+use Rattle.vrl_state.specs.States.{hiding, kept, AreScopesJoined, BeginsAt, IsCutOf, IsEither, IsFlattened, IsForgotten, IsHidden, IsJoined, IsKnownWithin, IsRootKind, IsRootKindIf, IsScopeJoined, IsStart, IsTakenOut, IsWritten, RootMap, Scope, State}
+use Rattle.vrl_state.specs.Stores.{store_back, with_value, Fits, FitsKind, FitsKnown, HidesOf, HoldsNames, IsStoreTakenOut, IsStoreWritten, Store}
 
 -- a value that the sets allow is of the kind that has them, cut
 abbrev pub CutsHoldTheAllowed : Type 0
@@ -70,3 +71,25 @@ JoinsKeepHeldNames = (s t u : Scope) (store : Store) → t.known ≡ s.known →
 -- a store that holds only what it held where a scope began, and in hidden names what these held there, fits what is known behind the scope
 abbrev pub BlocksKeepFits : Type 0
 BlocksKeepFits = (scope : Scope) (names : List (List ℕ)) (known : Option RootMap) (before after : Store) → HidesOf scope names → HoldsNames before scope → FitsKnown after known → FitsKnown (store_back names before after) (option_map (kept scope) known)
+
+-- ---- closures
+
+-- a store that fits what is known goes on fitting it once roots are flattened
+abbrev pub FlatteningKeepsFits : Type 0
+FlatteningKeepsFits = (roots : List Root) (known known' : Option RootMap) (store : Store) → IsFlattened roots known known' → FitsKnown store known → FitsKnown store known'
+
+-- .. and once they are forgotten
+abbrev pub ForgettingKeepsFits : Type 0
+ForgettingKeepsFits = (roots : List Root) (known known' : Option RootMap) (store : Store) → IsForgotten roots known known' → FitsKnown store known → FitsKnown store known'
+
+-- a store in which a closure's name is bound to a value of its kind fits the state in which it has this kind
+abbrev pub HidingKeepsFits : Type 0
+HidingKeepsFits = (x : List ℕ) (K : KindTree) (value : Tree) (before after : State) (store : Store) → IsHidden x K before after → Fits store before → Inhabits value K → Fits (with_value (Name x) value store) after
+
+-- a store that holds the names of a scope, and in one of them a value of the kind that is hidden, holds those of the scope that hides it
+abbrev pub HidingKeepsHeldNames : Type 0
+HidingKeepsHeldNames = (x : List ℕ) (K : Option KindTree) (scope : Scope) (store : Store) → HoldsNames store scope → FitsKind (map.get store.variables x) K → HoldsNames store (hiding x K scope)
+
+-- a scope that hides some names hides one name more, where the kind of what it knows is told
+abbrev pub HidingHides : Type 0
+HidingHides = (x : List ℕ) (K : Option KindTree) (scope : Scope) (names : List (List ℕ)) → HidesOf scope names → (IsTrue (set.contains scope.known x) → IsSome K) → HidesOf (hiding x K scope) (x ∷ names)

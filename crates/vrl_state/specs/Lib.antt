@@ -1,7 +1,13 @@
 pub mod Codes
+pub mod EntryView
 pub mod Known
 pub mod Laws
 pub mod Merging
+pub mod Ordered
+pub mod ScopesFall
+pub mod ScopesView
 pub mod States
 pub mod Stores
+pub mod TreeFalls
+pub mod TreeView
 pub mod View

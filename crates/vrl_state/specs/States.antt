@@ -1,10 +1,11 @@
 -- What is known at a place of a script, before any event is there: the kinds of the event and of the variables, and the scopes that
 -- are open. The rules are those by which the Vector Remap Language types a script: a write changes what is known from there on, and
 -- behind branches only what each of them leaves is known.
-use Rattle.std.specs.Prelude.{◌≡◌, ◌≤◌, Bool, ◌||◌, false, ℕ, List, [], ◌∷◌, Option, Some, None, map as each, option_map, is_some, IfSome, IsSomeAnd, MatchOption, ⊤}
+use Rattle.std.specs.Prelude.{◌≡◌, ◌≤◌, Bool, ◌||◌, ◌&&◌, not, true, false, bytes_eq, if◌then◌else◌, ℕ, List, [], ◌∷◌, Option, Some, None, map as each, option_map, is_some, IfSome, IsSomeAnd, MatchOption, ⊤}
 use Rattle.std.specs.Cmp.Lexicographic.{slice_cmp}
 use Rattle.std.specs.FinMap as map
 use Rattle.std.specs.FinSet as set
+use Rattle.std.specs.List.{list_any}
 use Rattle.std.specs.Ordering.{nat_cmp}
 use Rattle.vrl_value.specs.declared.value.Tag.TheVariants as tag
 use Rattle.vrl_path.specs.declared.path.Step.{Step}
@@ -12,7 +13,7 @@ use Rattle.vrl_syntax.specs.declared.root.Root.{Root}
 use Rattle.vrl_syntax.specs.declared.root.Root.TheVariants.{Event, Name}
 use Rattle.vrl_kind.specs.Canonical.{IsCanonical, any_kind}
 use Rattle.vrl_kind.specs.Count.{nodes, levels}
-use Rattle.vrl_kind.specs.Cut.{IsCut, level_limit, node_limit}
+use Rattle.vrl_kind.specs.Cut.{flat, IsCut, level_limit, node_limit}
 use Rattle.vrl_kind.specs.KindTree.{KindTree}
 use Rattle.vrl_kind.specs.Kinds as kinds
 use Rattle.vrl_kind.specs.Kinds.{tags_at}
@@ -41,10 +42,6 @@ pub record Scope : Type 0 where
   pub known : Names
   -- those of them that it hides, with the kinds that they get back where it ends
   pub hidden : Variables
-
--- a block hides no name
-abbrev pub block_scope : Names → Scope
-block_scope names = record { known = names; hidden = map.empty }
 
 pub record State : Type 0 where
   -- none where no way leads: the state is dead
@@ -226,3 +223,48 @@ pub record IsLeft (before after : State) : Type 0 where
   pub scope : Scope
   pub scopes : before.scopes ≡ scope ∷ after.scopes
   pub known : after.known ≡ option_map (kept scope) before.known
+
+-- ---- roots that the body of a closure writes
+
+-- whether two are one root: the event, or variables of one name
+abbrev pub same_root : Root → Root → Bool
+same_root Event Event = true
+same_root Event (Name y) = false
+same_root (Name x) Event = false
+same_root (Name x) (Name y) = bytes_eq x y
+
+-- each of these roots that is known has the kind that f makes of its own; what else is known stays
+pub record IsEachTurned (f : KindTree → KindTree) (roots : List Root) (before after : Option RootMap) : Type 0 where
+  -- a dead state stays dead, and no other becomes so
+  pub alive : is_some after ≡ is_some before
+  pub kinds : (root : Root) → kind_in root after ≡ (if list_any (same_root root) roots then option_map f (kind_in root before) else kind_in root before)
+
+-- each keeps its outer tags, with every value inside
+abbrev pub IsFlattened : List Root → Option RootMap → Option RootMap → Type 0
+IsFlattened roots before after = IsEachTurned flat roots before after
+
+-- of each nothing is known but that it is there
+abbrev pub IsForgotten : List Root → Option RootMap → Option RootMap → Type 0
+IsForgotten roots before after = IsEachTurned (λ K. any_kind) roots before after
+
+-- ---- names that a closure binds
+
+-- a scope hides a name that has this kind, where it knows the name and doesn't hide it yet
+abbrev pub hiding : List ℕ → Option KindTree → Scope → Scope
+hiding x None scope = scope
+hiding x (Some K) scope = if set.contains scope.known x && not (map.contains_key scope.hidden x) then record scope { hidden = map.insert scope.hidden x K } else scope
+
+-- the innermost scope hides the name
+abbrev pub IsHiding : List ℕ → Option KindTree → List Scope → List Scope → Type 0
+IsHiding x K [] after = after ≡ []
+IsHiding x K (s ∷ ss) after = after ≡ hiding x K s ∷ ss
+
+-- a name has this kind, cut, from here to the end of the innermost scope, which hides what was known of it; a dead state stays dead
+pub record IsHidden (x : List ℕ) (K : KindTree) (before after : State) : Type 0 where
+  pub kind : KindTree
+  pub cut : IsCut K kind
+  pub scope : Scope
+  pub outer : List Scope
+  pub entered : before.scopes ≡ scope ∷ outer
+  pub scopes : after.scopes ≡ hiding x (kind_in (Name x) before.known) scope ∷ outer
+  pub known : after.known ≡ option_map (with_kind (Name x) kind) before.known

@@ -1,20 +1,17 @@
--- What std's map and set hold, with names as lists of bytes.
-use Rattle.std.specs.Prelude.{ℕ, List, map, reverse, String, string_bytes}
-use Rattle.std.specs.declared.alloc.Global.{Global}
+-- What versions of the tree stand for.
+use Rattle.std.specs.Prelude.{List}
 use Rattle.std.specs.FinMap as finite
 use Rattle.std.specs.FinSet as set
-use Rattle.vrl_kind.specs.KindTree.{KindTree}
-use Rattle.vrl_state.specs.States.{block_scope, Names, Scope, Variables}
+use Rattle.vrl_state.specs.Ordered.{Entry}
+use Rattle.vrl_state.specs.States.{Names, Scope, Variables}
 
-abbrev pub named : List (String Global × KindTree) → List (List ℕ × KindTree)
-named es = map (λ e. (string_bytes e.0, e.1)) es
+-- entries in the order of their names
+abbrev pub variables_of : List Entry → Variables
+variables_of es = finite.from_sorted es
 
-abbrev pub variables_of : List (String Global × KindTree) → Variables
-variables_of es = finite.from_entries (named es)
+abbrev pub names_of : Variables → Names
+names_of v = set.from_list (finite.keys v)
 
-abbrev pub names_of : List (String Global) → Names
-names_of ks = set.from_list (map string_bytes ks)
-
--- the scopes of blocks of which the innermost is the last, the innermost first
-abbrev pub scopes_of : List Names → List Scope
-scopes_of blocks = map block_scope (reverse blocks)
+-- a scope that knows the names of one version, and hides those of another
+abbrev pub scope_of : Variables → Variables → Scope
+scope_of known hidden = record { known = names_of known; hidden = hidden }

@@ -5,7 +5,6 @@ ghost use Rattle.vrl_state.specs.Stores.{store_back, Fits, HidesOf, HoldsNames, 
 
 use crate::known::Known;
 use crate::state::State;
-use std::alloc::Global;
 use std::marker::Model;
 use vrl_value::Memory;
 
@@ -54,7 +53,7 @@ impl Branch {
     /// Joins another branch to this one: what is known on either way. Kinds are joined and cut, those of
     /// hidden names too, a variable that only one of them knows is dropped, and a dead branch gives the other.
     /// `Memory`: want of memory; the branch stays as it was.
-    pub fn join(&mut self, alloc: Global, other: &Branch) -> Result<(), Memory>
+    pub fn join(&mut self, other: &Branch) -> Result<(), Memory>
         requires { HaveSameScopes self.old other.now }
         ensures known { OnOk result (IsJoined self.old.known other.now.known self.new.known) }
         ensures hidden { OnOk result (AreScopesJoined self.old.known other.now.known self.old.scopes other.now.scopes self.new.scopes) }
@@ -63,28 +62,28 @@ impl Branch {
         ensures second { OnOk result ((store : Store) → Fits store other.now → Fits store self.new) }
         ensures err { OnErr result (self.new ≡ self.old) }
     {
-        self.state.join(alloc, other)?;
+        self.state.join(other)?;
         Ok(())
     }
 
     /// Ends the innermost scope: the variables that were not known where it began are dropped, and hidden
     /// names have their kinds back. `Memory`: want of memory; the branch stays as it was.
-    pub fn leave(&mut self, alloc: Global) -> Result<(), Memory>
+    pub fn leave(&mut self) -> Result<(), Memory>
         requires { self.old.scopes ≢ [] }
         ensures left { OnOk result (IsLeft self.old self.new) }
         ensures fits { OnOk result ((scope : Scope) (names : List (List ℕ)) (before after : Store) → self.old.scopes ≡ scope ∷ self.new.scopes
             → HidesOf scope names → HoldsNames before scope → Fits after self.old → Fits (store_back names before after) self.new) }
         ensures err { OnErr result (self.new ≡ self.old) }
     {
-        self.state.leave(alloc)?;
+        self.state.leave()?;
         Ok(())
     }
 
     /// What is known at the end of the branch: each kind is cut, and never allows absent. `Memory`: want of memory.
-    pub fn known(&self, alloc: Global) -> Result<Known, Memory>
+    pub fn known(&self) -> Result<Known, Memory>
         ensures known { IfOk result (λ known. known ≡ known_as self.now.known) }
         ensures kinds { IfOk result HaveRootKinds }
     {
-        self.state.list(alloc)
+        self.state.list()
     }
 }

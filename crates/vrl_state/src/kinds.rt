@@ -1,29 +1,103 @@
-ghost use Rattle.std.specs.Prelude.{IfOk};
+ghost use Rattle.std.specs.Prelude.{◌≡◌, ◌↔◌, IfOk, IsTrue, option_map, unwrap_or};
 ghost use Rattle.vrl_path.specs.Steps.{IsPlain, IsWritable};
-ghost use Rattle.vrl_kind.specs.Kinds.{tags_at};
+ghost use Rattle.vrl_kind.specs.Canonical.{any_kind};
+ghost use Rattle.vrl_kind.specs.Cut.{flat, IsCut};
+ghost use Rattle.vrl_kind.specs.Kinds.{tags_at, IsWithin};
 ghost use Rattle.vrl_place.specs.Remove.{remove};
 ghost use Rattle.vrl_place.specs.Write.{write};
-ghost use Rattle.vrl_state.specs.States.{IsCutOf, IsEither};
+ghost use Rattle.vrl_state.specs.States.{IsCutOf, IsEither, IsRootKind};
 
 use std::alloc::Global;
-use vrl_kind::{Kind, cut, join, kind_is_canonical};
+use std::rc::Rc;
+use vrl_kind::{Kind, flatten, join, kind_is_canonical};
 use vrl_path::Path;
 use vrl_place::{remove_kind, write_kind};
 use vrl_value::Memory;
 
+// A kind, to be shared. `Memory`: want of memory.
+fn share(alloc: Global, kind: Kind) -> Result<Rc<Kind>, Memory>
+    ensures { IfOk result (λ shared. shared.value ≡ kind) }
+{
+    Ok(Rc::new(alloc, kind)?)
+}
+
+// The kind of every value. `Memory`: want of memory.
+pub(crate) fn any(alloc: Global) -> Result<Rc<Kind>, Memory>
+    ensures { IfOk result (λ kind. kind.value ≡ any_kind) }
+{
+    share(alloc, Kind::any(alloc)?)
+}
+
+// A kind, cut. `Memory`: want of memory.
+pub(crate) fn cut(alloc: Global, kind: &Kind) -> Result<Rc<Kind>, Memory>
+    ensures { IfOk result (λ small. IsCut kind.now small.value) }
+{
+    share(alloc, vrl_kind::cut(alloc, kind)?)
+}
+
+// The outer tags of a kind, with every value inside. `Memory`: want of memory.
+pub(crate) fn flattened(alloc: Global, kind: &Rc<Kind>) -> Result<Rc<Kind>, Memory>
+    ensures { IfOk result (λ outer. outer.value ≡ flat kind.now.value) }
+{
+    share(alloc, flatten(alloc, kind)?)
+}
+
+// Whether a kind is within another.
+pub(crate) fn within(a: &Rc<Kind>, b: &Rc<Kind>) -> bool
+    ensures { IsTrue result ↔ IsWithin a.now.value b.now.value }
+{
+    vrl_kind::within(a, b)
+}
+
 // The kind of what is of either kind, cut. `Memory`: want of memory.
-pub(crate) fn either(alloc: Global, a: &Kind, b: &Kind) -> Result<Kind, Memory>
-    ensures { IfOk result (λ kind. IsEither a.now b.now kind) }
+fn either(alloc: Global, a: &Kind, b: &Kind) -> Result<Rc<Kind>, Memory>
+    ensures { IfOk result (λ kind. IsEither a.now b.now kind.value) }
 {
     let joined = join(alloc, a, b)?;
     kind_is_canonical(&joined);
     cut(alloc, &joined)
 }
 
+// The kind of what is of either of two roots' kinds. `None`: it is the first one. `Memory`: want of memory.
+pub(crate) fn other_either(
+    alloc: Global,
+    a: &Rc<Kind>,
+    b: &Rc<Kind>,
+) -> Result<Option<Rc<Kind>>, Memory>
+    requires first { IsRootKind a.now.value }
+    requires second { IsRootKind b.now.value }
+    ensures { IfOk result (λ kind. IsEither a.now.value b.now.value (unwrap_or (option_map (λ kind. kind.value) kind) a.now.value)) }
+{
+    if within(b, a) {
+        return Ok(None);
+    }
+    if within(a, b) {
+        return Ok(Some(b.clone()?));
+    }
+    Ok(Some(either(alloc, a, b)?))
+}
+
+// The same, whether or not it is the first one.
+pub(crate) fn shared_either(alloc: Global, a: &Rc<Kind>, b: &Rc<Kind>) -> Result<Rc<Kind>, Memory>
+    requires first { IsRootKind a.now.value }
+    requires second { IsRootKind b.now.value }
+    ensures { IfOk result (λ kind. IsEither a.now.value b.now.value kind.value) }
+{
+    match other_either(alloc, a, b)? {
+        None => Ok(a.clone()?),
+        Some(kind) => Ok(kind),
+    }
+}
+
 // The kind with another written at a path, cut. `Memory`: want of memory.
-pub(crate) fn written(alloc: Global, kind: &Kind, path: &Path, new: &Kind) -> Result<Kind, Memory>
+pub(crate) fn written(
+    alloc: Global,
+    kind: &Rc<Kind>,
+    path: &Path,
+    new: &Kind,
+) -> Result<Rc<Kind>, Memory>
     requires { IsWritable path.now }
-    ensures { IfOk result (λ after. IsCutOf (write (tags_at kind.now) path.now (tags_at new.now)) after) }
+    ensures { IfOk result (λ after. IsCutOf (write (tags_at kind.now.value) path.now (tags_at new.now)) after.value) }
 {
     let written = write_kind(alloc, kind, path, new)?;
     kind_is_canonical(&written);
@@ -31,9 +105,9 @@ pub(crate) fn written(alloc: Global, kind: &Kind, path: &Path, new: &Kind) -> Re
 }
 
 // The kind without what stands at a path, cut. `Memory`: want of memory.
-pub(crate) fn taken_out(alloc: Global, kind: &Kind, path: &Path) -> Result<Kind, Memory>
+pub(crate) fn taken_out(alloc: Global, kind: &Rc<Kind>, path: &Path) -> Result<Rc<Kind>, Memory>
     requires { IsPlain path.now }
-    ensures { IfOk result (λ after. IsCutOf (remove (tags_at kind.now) path.now) after) }
+    ensures { IfOk result (λ after. IsCutOf (remove (tags_at kind.now.value) path.now) after.value) }
 {
     let left = remove_kind(alloc, kind, path)?;
     kind_is_canonical(&left);

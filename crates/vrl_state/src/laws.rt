@@ -1,4 +1,4 @@
-ghost use Rattle.vrl_state.specs.Laws.{BlocksGiveNothingBack, BlocksKeepFits, BlocksKeepHeldNames, CutsAreRootKinds, CutsHoldTheAllowed, EitherHoldsBoth, JoinsKeepFits, JoinsKeepHeldNames, JoinsKeepScopes, RemovalsKeepFits, StartsFit, WithinKeepsFits, WritesKeepFits};
+ghost use Rattle.vrl_state.specs.Laws.{BlocksGiveNothingBack, BlocksKeepFits, BlocksKeepHeldNames, CutsAreRootKinds, CutsHoldTheAllowed, EitherHoldsBoth, FlatteningKeepsFits, ForgettingKeepsFits, HidingHides, HidingKeepsFits, HidingKeepsHeldNames, JoinsKeepFits, JoinsKeepHeldNames, JoinsKeepScopes, RemovalsKeepFits, StartsFit, WithinKeepsFits, WritesKeepFits};
 
 use vrl_kind::{any_holds_all, cuts_are_wider, equal_tags_are_one_kind, wider_kinds_hold_more};
 use vrl_place::{
@@ -107,4 +107,41 @@ pub fn blocks_keep_held_names()
 /// about the definitions.
 pub fn blocks_keep_fits()
     ensures { BlocksKeepFits }
+{}
+
+/// A store that fits what is known goes on fitting it once roots are flattened. This takes no time: it is a law about the
+/// definitions.
+pub fn flattening_keeps_fits()
+    ensures { FlatteningKeepsFits }
+{
+    wider_kinds_hold_more();
+}
+
+/// A store that fits what is known goes on fitting it once roots are forgotten. This takes no time: it is a law about the
+/// definitions.
+pub fn forgetting_keeps_fits()
+    ensures { ForgettingKeepsFits }
+{
+    any_holds_all();
+}
+
+/// A store in which a closure's name is bound to a value of its kind fits the state in which the name has this kind. This
+/// takes no time: it is a law about the definitions.
+pub fn hiding_keeps_fits()
+    ensures { HidingKeepsFits }
+{
+    cuts_are_wider();
+    wider_kinds_hold_more();
+}
+
+/// A store that holds the names of a scope holds those of the scope once it hides one of them. This takes no time: it is a
+/// law about the definitions.
+pub fn hiding_keeps_held_names()
+    ensures { HidingKeepsHeldNames }
+{}
+
+/// A scope that hides some names hides one name more behind `State::hide`. This takes no time: it is a law about the
+/// definitions.
+pub fn hiding_hides()
+    ensures { HidingHides }
 {}

@@ -3,24 +3,30 @@
 //!
 //! A contract sees a [`State`] as dead, or as a map from roots to kinds, with the list of its scopes.
 //!
-//! Files: `state.rt` has the calls and `branch.rt` what marks and branches are; they stand on `roots.rt` (what is known of each root), `variables.rt`,
-//! `block.rt` and `kinds.rt` (kinds that are cut). `known.rt` tells what is known as a list, and `laws.rt` that stores go on fitting what is known.
+//! Files: `state.rt` has the calls and `branch.rt` what marks and branches are. What they know is in `roots.rt` (of each root), `variables.rt` (of the
+//! variables) and `scopes.rt` (the scopes that are open), as versions that share what they have in common: `tree.rt` has the ordered tree that a version
+//! is, and `walks.rt` what goes over its entries. `kinds.rt` makes kinds that are cut. `known.rt` tells what is known as a list, and `laws.rt` that
+//! stores go on fitting what is known.
 #![tactic(auto)]
 
-mod block;
 mod branch;
 mod kinds;
 mod known;
 mod laws;
 mod roots;
+mod scopes;
 mod state;
+mod tree;
 mod variables;
+mod walks;
 
 pub use branch::{Branch, Mark};
 pub use known::{Known, Knowns, RootKind, RootKinds};
 pub use laws::{
     blocks_give_nothing_back, blocks_keep_fits, blocks_keep_held_names, cuts_are_root_kinds,
-    cuts_hold_the_allowed, either_holds_both, joins_keep_fits, joins_keep_held_names,
-    joins_keep_scopes, removals_keep_fits, starts_fit, within_keeps_fits, writes_keep_fits,
+    cuts_hold_the_allowed, either_holds_both, flattening_keeps_fits, forgetting_keeps_fits,
+    hiding_hides, hiding_keeps_fits, hiding_keeps_held_names, joins_keep_fits,
+    joins_keep_held_names, joins_keep_scopes, removals_keep_fits, starts_fit, within_keeps_fits,
+    writes_keep_fits,
 };
 pub use state::State;

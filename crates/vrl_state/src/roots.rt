@@ -1,20 +1,23 @@
 ghost use Rattle.std.specs.Prelude.{◌≡◌, ◌↔◌, IfOk, IfSome, IsTrue, OnErr, OnOk, Some, option_map, List, ℕ};
 ghost use Rattle.std.specs.FinMap as map;
-ghost use Rattle.std.specs.FinSet as set;
 ghost use Rattle.vrl_path.specs.Steps.{IsPlain, IsWritable};
-ghost use Rattle.vrl_kind.specs.Cut.{IsCut};
+ghost use Rattle.vrl_syntax.specs.declared.root.Root.TheVariants.{Name};
+ghost use Rattle.vrl_kind.specs.Canonical.{any_kind};
+ghost use Rattle.vrl_kind.specs.Cut.{flat, IsCut};
 ghost use Rattle.vrl_kind.specs.Kinds.{tags_at};
 ghost use Rattle.vrl_place.specs.Write.{write};
 ghost use Rattle.vrl_state.specs.Known.{root_kinds};
-ghost use Rattle.vrl_state.specs.States.{block_scope, kept, kind_of, with_kind, written_from, HasRootKinds, IsCutOf, IsEitherMap, IsMapWithin, IsPresent, IsRootKind, IsTakenOut, IsWritten};
+ghost use Rattle.vrl_state.specs.Merging.{IsTurnedAt};
+ghost use Rattle.vrl_state.specs.States.{kept, kind_of, with_kind, written_from, HasRootKinds, IsCutOf, IsEitherMap, IsFlattened, IsForgotten, IsMapWithin, IsPresent, IsRootKind, IsRootKindIf, IsTakenOut, IsWritten};
+ghost use Rattle.vrl_state.specs.View.{scope_of};
 
-use crate::block::Block;
-use crate::kinds::{either, taken_out, written};
+use crate::kinds::{any, cut, flattened, shared_either, taken_out, within, written};
 use crate::known::{RootKind, RootKinds};
 use crate::variables::VariableKinds;
 use std::alloc::Global;
 use std::marker::Model;
-use vrl_kind::{Kind, cut, kind_is_canonical, within};
+use std::rc::Rc;
+use vrl_kind::{Kind, kind_is_canonical};
 use vrl_path::Path;
 use vrl_syntax::Root;
 use vrl_value::Memory;
@@ -22,7 +25,7 @@ use vrl_value::Memory;
 /// The kinds of the event and of the variables that are known.
 #[derive(Drop)]
 pub(crate) struct KnownRoots {
-    event: Kind,
+    event: Rc<Kind>,
     variables: VariableKinds,
 }
 
@@ -34,9 +37,9 @@ impl Model for KnownRoots {
 
     ghost coded = { root_map_code };
 
-    ghost view = { λ r. record { event = r.event; variables = r.variables } };
+    ghost view = { λ r. record { event = r.event.value; variables = r.variables } };
 
-    ghost invariant = { λ r. HasRootKinds (record { event = r.event; variables = r.variables }) };
+    ghost invariant = { λ r. HasRootKinds (record { event = r.event.value; variables = r.variables }) };
 }
 
 impl KnownRoots {
@@ -50,14 +53,14 @@ impl KnownRoots {
         let event = cut(alloc, event)?;
         Ok(KnownRoots {
             event,
-            variables: VariableKinds::new(alloc),
+            variables: VariableKinds::new(),
         })
     }
 
-    // The kind of a root. `None`: the variable is not known.
-    pub(crate) fn kind(&self, root: &Root) -> Option<&Kind>
-        ensures kind { option_map (λ kind. kind.now) result ≡ kind_of root.now self.now }
-        ensures root { IfSome result (λ kind. IsRootKind kind.now) }
+    // The kind of a root, shared. `None`: the variable is not known.
+    pub(crate) fn kind(&self, root: &Root) -> Option<&Rc<Kind>>
+        ensures kind { option_map (λ kind. kind.now.value) result ≡ kind_of root.now self.now }
+        ensures root { IfSome result (λ kind. IsRootKind kind.now.value) }
     {
         match root {
             Root::Event => Some(&self.event),
@@ -65,10 +68,18 @@ impl KnownRoots {
         }
     }
 
+    // The kind of the variable of a name, shared. `None`: it is not known.
+    pub(crate) fn variable(&self, name: &str) -> Option<&Rc<Kind>>
+        ensures kind { option_map (λ kind. kind.now.value) result ≡ map.get self.now.variables name.now }
+        ensures root { IfSome result (λ kind. IsRootKind kind.now.value) }
+    {
+        self.variables.get(name)
+    }
+
     // Gives a root this kind. `Memory`: want of memory; the kinds stay as they were.
-    fn put(&mut self, alloc: Global, root: &Root, kind: Kind) -> Result<(), Memory>
-        requires { IsRootKind kind }
-        ensures ok { OnOk result (self.new ≡ with_kind root.now kind self.old) }
+    fn put(&mut self, alloc: Global, root: &Root, kind: Rc<Kind>) -> Result<(), Memory>
+        requires { IsRootKind kind.value }
+        ensures ok { OnOk result (self.new ≡ with_kind root.now kind.value self.old) }
         ensures err { OnErr result (self.new ≡ self.old) }
     {
         match root {
@@ -84,13 +95,19 @@ impl KnownRoots {
     }
 
     // The kind of a root with another written at a path. `Memory`: want of memory.
-    fn written(&self, alloc: Global, root: &Root, path: &Path, new: &Kind) -> Result<Kind, Memory>
+    fn written(
+        &self,
+        alloc: Global,
+        root: &Root,
+        path: &Path,
+        new: &Kind,
+    ) -> Result<Rc<Kind>, Memory>
         requires { IsWritable path.now }
-        ensures { IfOk result (λ after. IsCutOf (write (tags_at (written_from (kind_of root.now self.now))) path.now (tags_at new.now)) after) }
+        ensures { IfOk result (λ after. IsCutOf (write (tags_at (written_from (kind_of root.now self.now))) path.now (tags_at new.now)) after.value) }
     {
         match self.kind(root) {
             Some(kind) => written(alloc, kind, path, new),
-            None => written(alloc, &Kind::any(alloc)?, path, new),
+            None => written(alloc, &any(alloc)?, path, new),
         }
     }
 
@@ -129,13 +146,13 @@ impl KnownRoots {
         }
     }
 
-    // The same roots with equal kinds. `Memory`: want of memory.
-    pub(crate) fn copy(&self, alloc: Global) -> Result<KnownRoots, Memory>
+    // The same roots and kinds again, shared. `Memory`: want of memory.
+    pub(crate) fn copy(&self) -> Result<KnownRoots, Memory>
         ensures { IfOk result (λ copy. copy ≡ self.now) }
     {
         Ok(KnownRoots {
-            event: self.event.copy(alloc)?,
-            variables: self.variables.copy(alloc)?,
+            event: self.event.clone()?,
+            variables: self.variables.copy()?,
         })
     }
 
@@ -143,7 +160,7 @@ impl KnownRoots {
     pub(crate) fn joined(&self, alloc: Global, other: &KnownRoots) -> Result<KnownRoots, Memory>
         ensures { IfOk result (λ joined. IsEitherMap self.now other.now joined) }
     {
-        let event = either(alloc, &self.event, &other.event)?;
+        let event = shared_either(alloc, &self.event, &other.event)?;
         let variables = self.variables.joined(alloc, &other.variables)?;
         Ok(KnownRoots { event, variables })
     }
@@ -158,22 +175,90 @@ impl KnownRoots {
         self.variables.within(&other.variables)
     }
 
-    // Drops the variables that were not known where a block began. `Memory`: want of memory; the kinds stay
-    // as they were.
-    pub(crate) fn leave(&mut self, alloc: Global, block: &Block) -> Result<(), Memory>
-        ensures ok { OnOk result (self.new ≡ kept (block_scope block.now) self.old) }
+    // Drops the variables that were not known where a scope began, and gives the names that it hides their kinds
+    // back. `Memory`: want of memory; the kinds stay as they were.
+    pub(crate) fn leave(
+        &mut self,
+        alloc: Global,
+        names: &VariableKinds,
+        hidden: &VariableKinds,
+    ) -> Result<(), Memory>
+        requires { (x : List ℕ) → IsRootKindIf (map.get hidden.now x) }
+        ensures ok { OnOk result (self.new ≡ kept (scope_of names.now hidden.now) self.old) }
         ensures err { OnErr result (self.new ≡ self.old) }
     {
-        let variables = self.variables.kept(alloc, block)?;
+        let kept = self.variables.kept(alloc, names)?;
+        let variables = kept.with_all(alloc, hidden)?;
         self.variables = variables;
         Ok(())
     }
 
-    // A block that begins where these are known. `Memory`: want of memory.
-    pub(crate) fn block(&self, alloc: Global) -> Result<Block, Memory>
-        ensures { IfOk result (λ block. (x : List ℕ) → set.contains block x ≡ map.contains_key self.now.variables x) }
+    // The version of the variables. `Memory`: want of memory.
+    pub(crate) fn names(&self) -> Result<VariableKinds, Memory>
+        ensures { IfOk result (λ names. names ≡ self.now.variables) }
     {
-        self.variables.block(alloc)
+        self.variables.copy()
+    }
+
+    // These, where each of the roots that is known has its outer tags alone, with every value inside. `Memory`:
+    // want of memory.
+    pub(crate) fn flattened_at(&self, alloc: Global, roots: &[Root]) -> Result<KnownRoots, Memory>
+        ensures { IfOk result (λ turned. IsFlattened roots.now (Some self.now) (Some turned)) }
+    {
+        let mut turned = self.copy()?;
+        for root in roots {
+            turned.flatten(alloc, root)?;
+        }
+        Ok(turned)
+    }
+
+    // The same of one root, in place.
+    fn flatten(&mut self, alloc: Global, root: &Root) -> Result<(), Memory>
+        ensures { OnOk result (IsTurnedAt flat root.now self.old self.new) }
+    {
+        match self.kind(root) {
+            None => Ok(()),
+            Some(kind) => {
+                let outer = flattened(alloc, kind)?;
+                self.put(alloc, root, outer)?;
+                Ok(())
+            }
+        }
+    }
+
+    // These, where each of the roots that is known has the kind of every value. `Memory`: want of memory.
+    pub(crate) fn forgotten_at(&self, alloc: Global, roots: &[Root]) -> Result<KnownRoots, Memory>
+        ensures { IfOk result (λ left. IsForgotten roots.now (Some self.now) (Some left)) }
+    {
+        let mut left = self.copy()?;
+        for root in roots {
+            left.forget(alloc, root)?;
+        }
+        Ok(left)
+    }
+
+    // The same of one root, in place.
+    fn forget(&mut self, alloc: Global, root: &Root) -> Result<(), Memory>
+        ensures { OnOk result (IsTurnedAt (λ K. any_kind) root.now self.old self.new) }
+    {
+        match self.kind(root) {
+            None => Ok(()),
+            Some(_kind) => {
+                let every = any(alloc)?;
+                self.put(alloc, root, every)?;
+                Ok(())
+            }
+        }
+    }
+
+    // Gives a name the kind of what is bound to it. `Memory`: want of memory; the kinds stay as they were.
+    pub(crate) fn bind(&mut self, alloc: Global, name: &str, kind: Rc<Kind>) -> Result<(), Memory>
+        requires { IsRootKind kind.value }
+        ensures ok { OnOk result (self.new ≡ with_kind (Name name.now) kind.value self.old) }
+        ensures err { OnErr result (self.new ≡ self.old) }
+    {
+        self.variables.insert(alloc, name, kind)?;
+        Ok(())
     }
 
     // Each kind is one of a root. This changes nothing: it is a law of the type.

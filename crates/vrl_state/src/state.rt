@@ -1,42 +1,51 @@
 ghost use Rattle.std.specs.Prelude.{◌≡◌, ◌≢◌, ◌↔◌, ◌∷◌, [], ℕ, IfOk, IfSome, IsTrue, List, None, OnErr, OnOk, Some, option_map};
+ghost use Rattle.std.specs.FinMap as map;
 ghost use Rattle.std.specs.FinSet as set;
 ghost use Rattle.vrl_value.specs.Tree.{Tree};
 ghost use Rattle.vrl_path.specs.Steps.{IsPlain, IsWritable};
 ghost use Rattle.vrl_kind.specs.Kinds.{Inhabits};
+ghost use Rattle.vrl_syntax.specs.declared.root.Root.TheVariants.{Name};
+ghost use Rattle.vrl_kind.specs.Cut.{IsCut};
+ghost use Rattle.vrl_kind.specs.KindTree.{KindTree};
 ghost use Rattle.vrl_state.specs.Known.{known_as, HaveRootKinds};
-ghost use Rattle.vrl_state.specs.States.{block_scope, kept, kind_in, knows, AreScopesJoined, HaveSameScopes, IsEntered, IsJoined, IsKnownWithin, IsLeft, IsPresent, IsRootKind, IsStart, IsTakenOut, IsWritten, Scope};
-ghost use Rattle.vrl_state.specs.Stores.{store_back, Fits, HidesOf, HoldsNames, IsStoreTakenOut, IsStoreWritten, Store};
-ghost use Rattle.vrl_state.specs.View.{scopes_of};
+ghost use Rattle.vrl_state.specs.States.{kept, kind_in, knows, with_kind, AreScopesJoined, HaveSameScopes, IsEntered, IsFlattened, IsForgotten, IsHidden, IsHiding, IsJoined, IsKnownWithin, IsLeft, IsPresent, IsRootKind, IsRootKindIf, IsStart, IsTakenOut, IsWritten, Scope};
+ghost use Rattle.vrl_state.specs.Stores.{store_back, with_value, Fits, HidesOf, HoldsNames, IsStoreTakenOut, IsStoreWritten, Store};
+ghost use Rattle.vrl_state.specs.View.{names_of, scope_of};
 
-use crate::block::Block;
 use crate::branch::{Branch, Mark};
+use crate::kinds::cut;
 use crate::known::Known;
 use crate::laws::{
-    blocks_keep_fits, joins_keep_fits, removals_keep_fits, starts_fit, writes_keep_fits,
+    blocks_keep_fits, flattening_keeps_fits, forgetting_keeps_fits, hiding_keeps_fits,
+    joins_keep_fits, joins_keep_scopes, removals_keep_fits, starts_fit, writes_keep_fits,
 };
 use crate::roots::KnownRoots;
+use crate::scopes::{Scopes, open};
+use crate::variables::VariableKinds;
 use std::alloc::Global;
 use std::marker::Model;
 use std::mem;
-use vrl_kind::Kind;
+use std::rc::Rc;
+use vrl_kind::{Kind, kind_is_canonical};
 use vrl_path::Path;
-use vrl_syntax::Root;
-use vrl_value::Memory;
+use vrl_syntax::{Root, Roots};
+use vrl_value::{Chars, Memory};
 
 /// What is known at a place of a script: the kinds of the event and of the variables, and the blocks that are
 /// open there; or that no way leads there, which is a dead state. Each kind is cut, and none allows absent.
 pub struct State {
+    alloc: Global,
     known: Option<KnownRoots>,
-    // The innermost block last.
-    blocks: Vec<Block>,
+    scopes: Scopes,
 }
 
 // Written out, so that a state is let go by one call.
 impl Drop for State {
     fn drop(self) {
         let State {
+            alloc: _,
             known: _,
-            blocks: _,
+            scopes: _,
         } = self;
     }
 }
@@ -49,9 +58,7 @@ impl Model for State {
 
     ghost coded = { state_code };
 
-    ghost use Rattle.vrl_state.specs.View.{scopes_of};
-
-    ghost view = { λ s. record { known = s.known; scopes = scopes_of s.blocks.items } };
+    ghost view = { λ s. record { known = s.known; scopes = s.scopes } };
 }
 
 impl State {
@@ -65,8 +72,9 @@ impl State {
         starts_fit();
         let known = KnownRoots::start(alloc, event)?;
         Ok(State {
+            alloc,
             known: Some(known),
-            blocks: Vec::new(alloc),
+            scopes: Scopes::new(),
         })
     }
 
@@ -77,7 +85,25 @@ impl State {
     {
         match &self.known {
             None => None,
-            Some(known) => known.kind(root),
+            Some(known) => match known.kind(root) {
+                None => None,
+                Some(kind) => Some(kind),
+            },
+        }
+    }
+
+    /// The kind of a root, shared with the state. `None`: the state is dead, or does not know the variable.
+    /// `Memory`: want of memory.
+    pub fn shared(&self, root: &Root) -> Result<Option<Rc<Kind>>, Memory>
+        ensures kind { IfOk result (λ kind. option_map (λ kind. kind.value) kind ≡ kind_in root.now self.now.known) }
+        ensures root { IfOk result (λ kind. IfSome kind (λ kind. IsRootKind kind.value)) }
+    {
+        match &self.known {
+            None => Ok(None),
+            Some(known) => match known.kind(root) {
+                None => Ok(None),
+                Some(kind) => Ok(Some(kind.clone()?)),
+            },
         }
     }
 
@@ -98,13 +124,7 @@ impl State {
     /// Writes a kind at a path of a root, which then has the kind of what stands there, cut. A variable that
     /// is not known may hold any value, from a way that a join dropped, so a write to it starts from `any`.
     /// `Memory`: want of memory; the state stays as it was.
-    pub fn assign(
-        &mut self,
-        alloc: Global,
-        root: &Root,
-        path: &Path,
-        new: &Kind,
-    ) -> Result<(), Memory>
+    pub fn assign(&mut self, root: &Root, path: &Path, new: &Kind) -> Result<(), Memory>
         requires writable { IsWritable path.now }
         requires present { IsPresent new.now }
         ensures written { OnOk result (IsWritten root.now path.now new.now self.old.known self.new.known) }
@@ -114,13 +134,13 @@ impl State {
         ensures err { OnErr result (self.new ≡ self.old) }
     {
         writes_keep_fits();
-        assign(alloc, &mut self.known, root, path, new)?;
+        assign(self.alloc, &mut self.known, root, path, new)?;
         Ok(())
     }
 
     /// Takes out what stands at a path of a root, whose kind is then cut; a root that is not known is passed
     /// over. `Memory`: want of memory; the state stays as it was.
-    pub fn remove(&mut self, alloc: Global, root: &Root, path: &Path) -> Result<(), Memory>
+    pub fn remove(&mut self, root: &Root, path: &Path) -> Result<(), Memory>
         requires { IsPlain path.now }
         ensures removed { OnOk result (IsTakenOut root.now path.now self.old.known self.new.known) }
         ensures scopes { self.new.scopes ≡ self.old.scopes }
@@ -129,14 +149,56 @@ impl State {
         ensures err { OnErr result (self.new ≡ self.old) }
     {
         removals_keep_fits();
-        remove(alloc, &mut self.known, root, path)?;
+        remove(self.alloc, &mut self.known, root, path)?;
+        Ok(())
+    }
+
+    /// Gives each of these roots that is known its outer tags alone, with every value inside its arrays and objects;
+    /// roots that are not known are passed over. `Memory`: want of memory; the state stays as it was.
+    pub fn flatten(&mut self, roots: &Roots) -> Result<(), Memory>
+        ensures flat { OnOk result (IsFlattened roots.now self.old.known self.new.known) }
+        ensures scopes { self.new.scopes ≡ self.old.scopes }
+        ensures fits { OnOk result ((store : Store) → Fits store self.old → Fits store self.new) }
+        ensures err { OnErr result (self.new ≡ self.old) }
+    {
+        flattening_keeps_fits();
+        flatten(self.alloc, &mut self.known, roots.as_slice())?;
+        Ok(())
+    }
+
+    /// Gives each of these roots that is known the kind of every value; roots that are not known are passed over.
+    /// `Memory`: want of memory; the state stays as it was.
+    pub fn forget(&mut self, roots: &Roots) -> Result<(), Memory>
+        ensures forgotten { OnOk result (IsForgotten roots.now self.old.known self.new.known) }
+        ensures scopes { self.new.scopes ≡ self.old.scopes }
+        ensures fits { OnOk result ((store : Store) → Fits store self.old → Fits store self.new) }
+        ensures err { OnErr result (self.new ≡ self.old) }
+    {
+        forgetting_keeps_fits();
+        forget(self.alloc, &mut self.known, roots.as_slice())?;
+        Ok(())
+    }
+
+    /// Gives a closure's name its kind, cut, in the innermost scope, which hides what was known of a variable of that
+    /// name. `Memory`: want of memory; the state stays as it was.
+    pub fn hide(&mut self, name: &Chars, new: &Kind) -> Result<(), Memory>
+        requires entered { self.old.scopes ≢ [] }
+        requires present { IsPresent new.now }
+        ensures hidden { OnOk result (IsHidden name.now new.now self.old self.new) }
+        ensures fits { OnOk result ((value : Tree) (store : Store) → Fits store self.old → Inhabits value new.now
+            → Fits (with_value (Name name.now) value store) self.new) }
+        ensures err { OnErr result (self.new ≡ self.old) }
+    {
+        hiding_keeps_fits();
+        let name = name.as_str();
+        hide(self.alloc, &mut self.known, &mut self.scopes, name, new)?;
         Ok(())
     }
 
     /// Joins a branch to the state: what is known on either way. Kinds are joined and cut, those of hidden
     /// names too, a variable that only one of them knows is dropped, and a dead side gives the other.
     /// `Memory`: want of memory; the state stays as it was.
-    pub fn join(&mut self, alloc: Global, other: &Branch) -> Result<(), Memory>
+    pub fn join(&mut self, other: &Branch) -> Result<(), Memory>
         requires { HaveSameScopes self.old other.now }
         ensures known { OnOk result (IsJoined self.old.known other.now.known self.new.known) }
         ensures hidden { OnOk result (AreScopesJoined self.old.known other.now.known self.old.scopes other.now.scopes self.new.scopes) }
@@ -146,23 +208,27 @@ impl State {
         ensures err { OnErr result (self.new ≡ self.old) }
     {
         joins_keep_fits();
-        let known = joined(alloc, &self.known, &other.state.known)?;
+        joins_keep_scopes();
+        self.scopes.hide_root_kinds();
+        let known = joined(self.alloc, &self.known, &other.state.known)?;
+        let scopes = joined_scopes(self.alloc, self, &other.state)?;
         self.known = known;
+        self.scopes = scopes;
         Ok(())
     }
 
     /// Opens a block. `Memory`: want of memory; the state stays as it was.
-    pub fn enter(&mut self, alloc: Global) -> Result<(), Memory>
+    pub fn enter(&mut self) -> Result<(), Memory>
         ensures entered { OnOk result (IsEntered self.old self.new) }
         ensures fits { (store : Store) → Fits store self.old → Fits store self.new }
         ensures err { OnErr result (self.new ≡ self.old) }
     {
-        enter(alloc, &self.known, &mut self.blocks)
+        enter(self.alloc, &self.known, &mut self.scopes)
     }
 
     /// Ends the innermost scope: the variables that were not known where it began are dropped, and hidden
     /// names have their kinds back. `Memory`: want of memory; the state stays as it was.
-    pub fn leave(&mut self, alloc: Global) -> Result<(), Memory>
+    pub fn leave(&mut self) -> Result<(), Memory>
         requires { self.old.scopes ≢ [] }
         ensures left { OnOk result (IsLeft self.old self.new) }
         ensures fits { OnOk result ((scope : Scope) (names : List (List ℕ)) (before after : Store) → self.old.scopes ≡ scope ∷ self.new.scopes
@@ -170,17 +236,17 @@ impl State {
         ensures err { OnErr result (self.new ≡ self.old) }
     {
         blocks_keep_fits();
-        leave(alloc, &mut self.known, &mut self.blocks)?;
+        leave(self.alloc, &mut self.known, &mut self.scopes)?;
         Ok(())
     }
 
     /// A copy of the state, to come back to. `Memory`: want of memory.
-    pub fn mark(&mut self, alloc: Global) -> Result<Mark, Memory>
+    pub fn mark(&mut self) -> Result<Mark, Memory>
         ensures mark { IfOk result (λ mark. mark ≡ self.old) }
         ensures state { self.new ≡ self.old }
     {
         Ok(Mark {
-            state: self.copy(alloc)?,
+            state: self.copy()?,
         })
     }
 
@@ -204,18 +270,19 @@ impl State {
         known_within(&self.known, &other.state.known)
     }
 
-    // An equal state. `Memory`: want of memory.
-    fn copy(&self, alloc: Global) -> Result<State, Memory>
+    // The state again, shared. `Memory`: want of memory.
+    fn copy(&self) -> Result<State, Memory>
         ensures { IfOk result (λ copy. copy ≡ self.now) }
     {
         Ok(State {
-            known: copy_known(alloc, &self.known)?,
-            blocks: copy_blocks(alloc, &self.blocks)?,
+            alloc: self.alloc,
+            known: copy_known(&self.known)?,
+            scopes: self.scopes.copy()?,
         })
     }
 
     // What is known, as a list. `Memory`: want of memory.
-    pub(crate) fn list(&self, alloc: Global) -> Result<Known, Memory>
+    pub(crate) fn list(&self) -> Result<Known, Memory>
         ensures known { IfOk result (λ known. known ≡ known_as self.now.known) }
         ensures kinds { IfOk result HaveRootKinds }
     {
@@ -223,7 +290,7 @@ impl State {
             None => Ok(Known::Dead),
             Some(known) => {
                 known.have_root_kinds();
-                Ok(Known::Alive(known.list(alloc)?))
+                Ok(Known::Alive(known.list(self.alloc)?))
             }
         }
     }
@@ -276,8 +343,8 @@ fn joined(
     ensures { IfOk result (λ joined. IsJoined a.now b.now joined) }
 {
     match (a, b) {
-        (None, _) => copy_known(alloc, b),
-        (Some(_), None) => copy_known(alloc, a),
+        (None, _) => copy_known(b),
+        (Some(_), None) => copy_known(a),
         (Some(a), Some(b)) => Ok(Some(a.joined(alloc, b)?)),
     }
 }
@@ -292,74 +359,158 @@ fn known_within(a: &Option<KnownRoots>, b: &Option<KnownRoots>) -> bool
     }
 }
 
-fn copy_known(alloc: Global, known: &Option<KnownRoots>) -> Result<Option<KnownRoots>, Memory>
+fn copy_known(known: &Option<KnownRoots>) -> Result<Option<KnownRoots>, Memory>
     ensures { IfOk result (λ copy. copy ≡ known.now) }
 {
     match known {
         None => Ok(None),
-        Some(known) => Ok(Some(known.copy(alloc)?)),
+        Some(known) => Ok(Some(known.copy()?)),
     }
 }
 
-fn copy_blocks(alloc: Global, blocks: &[Block]) -> Result<Vec<Block>, Memory>
-    ensures { IfOk result (λ copies. copies.items ≡ blocks.now) }
+// The scopes of what is known on either way; a dead side gives the other's. `Memory`: want of memory.
+fn joined_scopes(alloc: Global, a: &State, b: &State) -> Result<Scopes, Memory>
+    requires { HaveSameScopes a.now b.now }
+    ensures { IfOk result (λ scopes. AreScopesJoined a.now.known b.now.known a.now.scopes b.now.scopes scopes) }
 {
-    let mut copies = Vec::with_capacity(alloc, blocks.len())?;
-    for block in blocks {
-        copies.push(block.copy(alloc)?)?;
+    match (&a.known, &b.known) {
+        (None, _) => b.scopes.copy(),
+        (Some(_), None) => a.scopes.copy(),
+        (Some(_), Some(_)) => a.scopes.joined(alloc, &b.scopes),
     }
-    Ok(copies)
 }
 
-// A block that begins here. `Memory`: want of memory.
-fn block(alloc: Global, known: &Option<KnownRoots>) -> Result<Block, Memory>
-    ensures { IfOk result (λ block. (x : List ℕ) → set.contains block x ≡ knows known.now x) }
+// The version of the variables that are known. `Memory`: want of memory.
+fn known_names(known: &Option<KnownRoots>) -> Result<VariableKinds, Memory>
+    ensures { IfOk result (λ names. (x : List ℕ) → set.contains (names_of names) x ≡ knows known.now x) }
 {
     match known {
-        None => Ok(Block::new(alloc)),
-        Some(known) => known.block(alloc),
+        None => Ok(VariableKinds::new()),
+        Some(known) => known.names(),
     }
 }
 
-// Opens a block. `Memory`: want of memory; the blocks stay as they were.
-fn enter(alloc: Global, known: &Option<KnownRoots>, blocks: &mut Vec<Block>) -> Result<(), Memory>
-    ensures entered { OnOk result (IsEntered (record { known = known.now; scopes = scopes_of blocks.old.items })
-        (record { known = known.now; scopes = scopes_of blocks.new.items })) }
-    ensures err { OnErr result (blocks.new.items ≡ blocks.old.items) }
+// Opens a block. `Memory`: want of memory; the scopes stay as they were.
+fn enter(alloc: Global, known: &Option<KnownRoots>, scopes: &mut Scopes) -> Result<(), Memory>
+    ensures entered { OnOk result (IsEntered (record { known = known.now; scopes = scopes.old })
+        (record { known = known.now; scopes = scopes.new })) }
+    ensures err { OnErr result (scopes.new ≡ scopes.old) }
 {
-    let block = block(alloc, known)?;
-    blocks.push(block)?;
+    let names = known_names(known)?;
+    let opened = open(alloc, &names, &VariableKinds::new(), scopes)?;
+    *scopes = opened;
     Ok(())
 }
 
-// Ends the innermost block. `Memory`: want of memory; nothing is changed.
-fn leave(
-    alloc: Global,
-    known: &mut Option<KnownRoots>,
-    blocks: &mut Vec<Block>,
-) -> Result<(), Memory>
-    requires { scopes_of blocks.old.items ≢ [] }
-    ensures left { OnOk result (IsLeft (record { known = known.old; scopes = scopes_of blocks.old.items })
-        (record { known = known.new; scopes = scopes_of blocks.new.items })) }
+// Ends the innermost scope. `Memory`: want of memory; nothing is changed.
+fn leave(alloc: Global, known: &mut Option<KnownRoots>, scopes: &mut Scopes) -> Result<(), Memory>
+    requires { scopes.old ≢ [] }
+    ensures left { OnOk result (IsLeft (record { known = known.old; scopes = scopes.old })
+        (record { known = known.new; scopes = scopes.new })) }
     ensures known_err { OnErr result (known.new ≡ known.old) }
-    ensures blocks_err { OnErr result (blocks.new.items ≡ blocks.old.items) }
+    ensures scopes_err { OnErr result (scopes.new ≡ scopes.old) }
 {
-    let Some((block, _outer)) = blocks.split_last() else {
+    let Some(scope) = &scopes.innermost else {
         return Ok(());
     };
-    leave_block(alloc, known, block)?;
-    drop(blocks.pop());
+    let outer = scope.outer.copy()?;
+    leave_scope(alloc, known, &scope.known, &scope.hidden)?;
+    *scopes = outer;
     Ok(())
 }
 
-// Drops the variables that were not known where a block began. `Memory`: want of memory; what is known stays
-// as it was.
-fn leave_block(alloc: Global, known: &mut Option<KnownRoots>, block: &Block) -> Result<(), Memory>
-    ensures ok { OnOk result (known.new ≡ option_map (kept (block_scope block.now)) known.old) }
+// Drops the variables that were not known where a scope began, and gives hidden names their kinds back.
+// `Memory`: want of memory; what is known stays as it was.
+fn leave_scope(
+    alloc: Global,
+    known: &mut Option<KnownRoots>,
+    names: &VariableKinds,
+    hidden: &VariableKinds,
+) -> Result<(), Memory>
+    requires { (x : List ℕ) → IsRootKindIf (map.get hidden.now x) }
+    ensures ok { OnOk result (known.new ≡ option_map (kept (scope_of names.now hidden.now)) known.old) }
     ensures err { OnErr result (known.new ≡ known.old) }
 {
     match known {
         None => Ok(()),
-        Some(known) => known.leave(alloc, block),
+        Some(known) => known.leave(alloc, names, hidden),
     }
+}
+
+// Flattens roots, unless the state is dead.
+fn flatten(alloc: Global, known: &mut Option<KnownRoots>, roots: &[Root]) -> Result<(), Memory>
+    ensures flat { OnOk result (IsFlattened roots.now known.old known.new) }
+    ensures err { OnErr result (known.new ≡ known.old) }
+{
+    let Some(known) = known else {
+        return Ok(());
+    };
+    let flat = known.flattened_at(alloc, roots)?;
+    *known = flat;
+    Ok(())
+}
+
+// Forgets roots, unless the state is dead.
+fn forget(alloc: Global, known: &mut Option<KnownRoots>, roots: &[Root]) -> Result<(), Memory>
+    ensures forgotten { OnOk result (IsForgotten roots.now known.old known.new) }
+    ensures err { OnErr result (known.new ≡ known.old) }
+{
+    let Some(known) = known else {
+        return Ok(());
+    };
+    let left = known.forgotten_at(alloc, roots)?;
+    *known = left;
+    Ok(())
+}
+
+// Gives a name the kind of what is bound to it, and hides what was known of it. `Memory`: want of memory; nothing
+// is changed.
+fn hide(
+    alloc: Global,
+    known: &mut Option<KnownRoots>,
+    scopes: &mut Scopes,
+    name: &str,
+    new: &Kind,
+) -> Result<(), Memory>
+    requires entered { scopes.old ≢ [] }
+    requires present { IsPresent new.now }
+    ensures hidden { OnOk result (IsHidden name.now new.now (record { known = known.old; scopes = scopes.old })
+        (record { known = known.new; scopes = scopes.new })) }
+    ensures known_err { OnErr result (known.new ≡ known.old) }
+    ensures scopes_err { OnErr result (scopes.new ≡ scopes.old) }
+{
+    let inner = hidden(alloc, known, scopes, name)?;
+    bind(alloc, known, name, new)?;
+    *scopes = inner;
+    Ok(())
+}
+
+// The scopes, the innermost of which hides a name that is known. `Memory`: want of memory.
+fn hidden(
+    alloc: Global,
+    known: &Option<KnownRoots>,
+    scopes: &Scopes,
+    name: &str,
+) -> Result<Scopes, Memory>
+    ensures { IfOk result (λ hidden. IsHiding name.now (kind_in (Name name.now) known.now) scopes.now hidden) }
+{
+    match known {
+        None => scopes.hiding(alloc, name, None),
+        Some(known) => scopes.hiding(alloc, name, known.variable(name)),
+    }
+}
+
+// Gives a name the kind of what is bound to it, cut, unless the state is dead.
+fn bind(alloc: Global, known: &mut Option<KnownRoots>, name: &str, new: &Kind) -> Result<(), Memory>
+    requires { IsPresent new.now }
+    ensures bound { OnOk result ((kind : KindTree) × IsCut new.now kind × (known.new ≡ option_map (with_kind (Name name.now) kind) known.old)) }
+    ensures err { OnErr result (known.new ≡ known.old) }
+{
+    kind_is_canonical(new);
+    let kind = cut(alloc, new)?;
+    let Some(known) = known else {
+        return Ok(());
+    };
+    known.bind(alloc, name, kind)?;
+    Ok(())
 }

@@ -1,4 +1,4 @@
-use Rattle.vrl_state.proofs.Scopes.{same_scopes_stay}
+use Rattle.vrl_state.proofs.JoinedScopes.{same_scopes_stay}
 use Rattle.vrl_state.proofs.laws.joins_keep_scopes.Goals as goal
 
 pub returns : goal.returns

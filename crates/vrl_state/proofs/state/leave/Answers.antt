@@ -1,11 +1,11 @@
-use Rattle.std.proofs.Common.{sym, ◌∙◌, ◌<◌, subst}
-use Rattle.vrl_state.specs.States.{block_scope}
-use Rattle.vrl_state.proofs.Stack.{popped}
+use Rattle.std.proofs.Common.{◌≡◌, ◌∷◌, option_map, rules, sym, ap, ◌∙◌}
+use Rattle.vrl_state.specs.States.{kept}
+use Rattle.vrl_state.specs.View.{scope_of}
 use Rattle.vrl_state.proofs.state.leave.Goals as goal
 
 pub returns-clause-left : goal.returns-clause-left
-returns-clause-left c = record {
-  scope = block_scope c.in-Some.block.now;
-  scopes = popped _ _ _ _ _ (sym c.deref.ensures.value ∙ c.in-Some.ensures.cases.0) c.pop.ensures.items (λ some. c.pop.ensures.variant.1 (subst (λ n. 0 < n) (sym c.args.blocks.now.ok.0) some));
-  known = c.in_ok-leave_block.ensures.ok;
-}
+returns-clause-left c =
+    let n = c.in-Some.scope.value in
+    let known : c.leave_scope.new.known ≡ option_map (kept (scope_of n.known n.hidden)) c.args.known.now = search rules in
+    let scopes : c.args.scopes.now ≡ scope_of n.known n.hidden ∷ c.in_ok-outer.outer = search rules in
+    record { scope = scope_of n.known n.hidden; scopes = scopes ∙ ap (λ ss. scope_of n.known n.hidden ∷ ss) (sym c.outer.view_is); known = known }

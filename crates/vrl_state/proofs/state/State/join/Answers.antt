@@ -1,6 +1,5 @@
-use Rattle.std.proofs.Common.{ap, inl, inr, subst, sym, ◌∙◌}
+use Rattle.std.proofs.Common.{inl, inr, subst, sym}
 use Rattle.vrl_state.specs.Stores.{Fits}
-use Rattle.vrl_state.proofs.Scopes.{scopes_stay}
 use Rattle.vrl_state.proofs.state.State.join.Goals as goal
 
 pub returns-clause-first : goal.returns-clause-first
@@ -9,6 +8,3 @@ returns-clause-first c = λ store fits. c.joins_keep_fits.ensures _ _ _ store c.
 pub returns-clause-second : goal.returns-clause-second
 returns-clause-second c = λ store fits.
     c.joins_keep_fits.ensures _ _ _ store c.in_ok-known.ensures (inr (subst (λ m. Fits store m.state) (sym c.other-inside.view_is) (subst (Fits store) (sym c.other.view_is) fits)))
-
-pub returns-clause-hidden : goal.returns-clause-hidden
-returns-clause-hidden c = scopes_stay _ _ _ _ c.self.inside.blocks.items c.other-inside.inside.0.0.blocks.items c.self.view_is (ap (λ m. m.state) c.other-inside.view_is ∙ c.other.view_is) c.requires

@@ -1,6 +1,6 @@
 use Rattle.std.proofs.Common.{subst, sym, ap, ◌∙◌}
 use Rattle.vrl_state.specs.Stores.{store_back, Fits, FitsKnown, HidesOf, HoldsNames}
-use Rattle.vrl_state.proofs.Stack.{same_first}
+use Rattle.vrl_state.proofs.JoinedScopes.{same_first}
 use Rattle.vrl_state.proofs.state.State.leave.Goals as goal
 
 pub returns-clause-fits : goal.returns-clause-fits

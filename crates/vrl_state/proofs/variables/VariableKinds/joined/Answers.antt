@@ -1,17 +1,20 @@
-use Rattle.std.proofs.Common.{◌∙◌, ap}
-use Rattle.std.specs.FinMap as map
-use Rattle.vrl_state.proofs.Along.{along_first, along_next, along_end}
-use Rattle.vrl_state.proofs.Steps.{IsJoinedSoFar, adds_as, joined_first, joined_next}
+use Rattle.std.proofs.Common.{◌≡◌, rules}
+use Rattle.vrl_state.specs.States.{IsRootKindIf}
+use Rattle.vrl_state.proofs.Versions.{all_joined, at_each, whole_is_part}
 use Rattle.vrl_state.proofs.variables.VariableKinds.joined.Goals as goal
 
-pub loop-name-init : goal.loop-name-init
-loop-name-init c = along_first (IsJoinedSoFar c.args.other.now c.new-joined.result) _ _ _ (c.into_iter-name-iterator.ensures.into_iter_gives ∙ c.iter-name-items.ensures.rest) c.iter-name-items.ensures.ordered c.self.view_is (joined_first c.args.other.now c.new-joined.result c.new-joined.ensures)
+pub join_into-requires-clause-kinds : goal.join_into-requires-clause-kinds
+join_into-requires-clause-kinds c = at_each (λ x K. IsRootKindIf K) c.self.inside.tree.entries c.args.self.now c.self.invariant c.self.view_is c.requires.first
 
-pub loop-name-preserved : goal.loop-name-preserved
-loop-name-preserved c =
-    along_next (IsJoinedSoFar c.args.other.now c.loop-name.joined) (IsJoinedSoFar c.args.other.now c.add_either.new.self) _ _ (c.in-Some.name.now, c.in-Some.kind.now) c.next.new.self c.loop-name.invariant c.in-Some.ensures.steps
-    (λ v new far. joined_next c.args.other.now c.loop-name.joined c.add_either.new.self v _ c.in-Some.kind.now new far
-    (adds_as _ _ _ _ _ _ _ c.in_ok-add_either.ensures c.as_str-name.ensures.value (c.get.ensures ∙ ap (map.get c.args.other.now) c.as_str-name.ensures.value)))
+pub join_into-requires-clause-others : goal.join_into-requires-clause-others
+join_into-requires-clause-others c = at_each (λ x K. IsRootKindIf K) c.other.inside.tree.entries c.args.other.now c.other.invariant c.other.view_is c.requires.second
+
+pub join_into-requires-clause-part : goal.join_into-requires-clause-part
+join_into-requires-clause-part c =
+    let same : c.in_ok-tree.tree.entries ≡ c.self.inside.tree.entries = search rules in
+    whole_is_part c.self.inside.tree.entries c.in_ok-tree.tree.entries same
 
 pub returns : goal.returns
-returns c = along_end (IsJoinedSoFar c.args.other.now c.loop-name.joined) _ _ c.loop-name.invariant c.in-None.ensures.steps.0
+returns c =
+    let same : c.in_ok-tree.tree.entries ≡ c.self.inside.tree.entries = search rules in
+    all_joined c.self.inside.tree.entries c.other.inside.tree.entries c.in_ok-tree.tree.entries c.join_into.new.joined.entries c.args.self.now c.args.other.now c.self.invariant c.other.invariant c.names_rise.ensures c.self.view_is c.other.view_is same c.in_ok-join_into.ensures
