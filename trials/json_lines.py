@@ -1,10 +1,11 @@
 """Random trial of lines: what each line of JSON must give.
 
-    python3 trials/json_lines.py [--seed N] [--count N] [--program PATH] [--show N]
+    python3 trials/json_lines.py [--seed N] [--count N] [--program PATH [--calls]] [--show N]
 
 Lines are made at random and by a list of hard cases. For each, Python's own JSON reader and the rules below
 say what the script `.x = 1` must write for it, or why the line is refused. With --program the lines go through
-`PATH SCRIPTFILE`, and output, report lines and status are compared. Without it only the program's own rows run.
+`PATH SCRIPTFILE`, and output, report lines and status are compared. Without it only the program's own rows run. With
+--calls each line that is UTF-8 is a text in an event in its place, which `parse_json` reads and `encode_json` writes.
 
 The rules:
 - A line of spaces, tabs and carriage returns alone is counted and skipped, whatever its length.
@@ -27,6 +28,10 @@ import subprocess
 import sys
 import tempfile
 from fractions import Fraction
+
+sys.dont_write_bytecode = True
+
+import programs
 
 LONGEST = 1048576
 DEEPEST = 127
@@ -397,17 +402,58 @@ def compare(program, lines, show):
     return len(differences)
 
 
+CALLS = b"x, e = parse_json(string!(.t))\n. = {\"e\": e}\nif e == null { .w = encode_json(x) }\n"
+
+
+def answer_of_calls(text):
+    try:
+        return {"e": None, "w": write(read(text.encode()))}
+    except NotJson:
+        return {"e": "parse_json: not JSON"}
+    except NotWhole:
+        return {"e": "parse_json: not whole numbers"}
+
+
+def compare_calls(program, lines, show):
+    texts = []
+    for line in lines:
+        try:
+            texts.append(line.decode())
+        except UnicodeDecodeError:
+            continue
+    # (an event of a longer text may be too long for a line)
+    texts = [one for one in texts if len(one) < LONGEST // 8]
+    with programs.Program(program) as ran:
+        output, report, status = ran.run(CALLS, programs.joined(json.dumps({"t": one}) for one in texts))
+    told, differences = output.decode().split("\n")[:-1], 0
+    if (report, status, len(told)) != (b"", 0, len(texts)):
+        print("difference: status", status, report[:300], len(told), "events of", len(texts))
+        return len(texts), 1
+    for text, got in zip(texts, told):
+        want = answer_of_calls(text)
+        if json.loads(got) != want:
+            differences += 1
+            if differences <= show:
+                print("difference on", repr(text)[:200], "wanted", repr(want)[:200], "got", got[:200])
+    return len(texts), differences
+
+
 def main():
     words = argparse.ArgumentParser(description="random lines of JSON against an outside reader")
     words.add_argument("--seed", type=int, default=1)
     words.add_argument("--count", type=int, default=6000)
     words.add_argument("--program")
+    words.add_argument("--calls", action="store_true")
     words.add_argument("--show", type=int, default=10)
     given = words.parse_args()
     rows = self_check()
     rng = random.Random(given.seed)
     lines = list(hard_lines()) + [Maker(rng).line() for _ in range(given.count)]
     rng.shuffle(lines)
+    if given.calls:
+        count, differences = compare_calls(given.program, lines, given.show)
+        print(f"json_lines: seed {given.seed}, {rows} rows, {count} texts by calls: {differences} differences")
+        return 1 if differences else 0
     met = {}
     for line in lines:
         want = answer(line)

@@ -85,6 +85,19 @@ ROWS = [
     ("a script that is refused", b".x = y\n.a + 1\nz", b"{}\n"),
     ("warnings and reports", b'x, e = to_int(.a)\n.n = x ?? 1\nif .b == true { abort "no" }\n.m = mod!(.c, 7)\n. = [{"n": .n}, .a]',
      b'{"a":"12","b":true}\n{"a":[1,{"k":"v"}],"c":5}\n{"c":"q"}\nno\n{"a":{}}\n'),
+    ("patterns", b't = string(.t) ?? ""\n.m = match(t, r\'(a+)+$\')\n.a = match_any(t, [r\'x\', r\'[b-d]\'])\n.p, e = parse_regex(t, r\'(?P<k>[a-z])=(?P<v>[0-9])\')\n.e = e\n'
+     b".l = parse_regex_all(t, r'(?P<c>[=0])')\n.s = split(t, r'[0-9]')\n.r = replace(t, r'([a-z])=', \"[$1]\")\n.f = find(t, \"b\")\n.c = replace(t, \"a\", \"\")\n",
+     b'{"t":"a=1 b=20"}\n{"t":"aaa"}\n{"t":7}\n'),
+    ("parsers", b'v, e = parse_json(.t)\n.v = v\n.e = e\n.w = encode_json(v)\n.k = parse_key_value(string(.t) ?? "") ?? {}\n.x = encode_key_value({"a": 1, "b": "x y"}) ?? ""\n'
+     b'.c = parse_csv(string(.t) ?? "") ?? []\n.q = parse_query_string(string(.t) ?? "")\n.u, e = parse_url(string(.l) ?? "")\n',
+     b'{"t":"{\\"a\\":[1,null]}","l":"http://u:p@h:81/p?q=1&q=2#f"}\n{"t":"a=1 b=\\"x y\\" c,d","l":"h"}\n{"t":"[1.5]"}\n'),
+    ("moments and codes", b'm, e = parse_timestamp(string(.t) ?? "", "%Y-%m-%d %H:%M:%S %z")\n.m = m\n.e = e\n.f = format_timestamp(m, "%d.%m.%Y")\n.n = to_unix_timestamp(m)\n.o = from_unix_timestamp(1) ?? m\n'
+     b'.b = decode_base64(encode_base64(string(.t) ?? "")) ?? ""\n.h = decode_base16(encode_base16(string(.t) ?? "")) ?? ""\n.p = decode_percent(encode_percent(string(.t) ?? ""))\n'
+     b'.d = [md5(""), sha1(""), sha2("")]\n', b'{"t":"2024-01-02 03:04:05 +0100"}\n{"t":"a b"}\n'),
+    ("texts, lists and objects", b'a = array(.a) ?? []\n.u = unique(a)\n.f = flatten(a)\n.c = compact(a)\n.z = zip(a, [1])\n.p = append(push(a, 1), a)\n.i = includes(a, 1)\n.t = tally(["a", "b", "a"])\n.j = join(["a", "b"], "-") ?? ""\n'
+     b'o = object(.o) ?? {}\n.k = keys(o)\n.v = values(o)\n.m = merge(o, {"b": {"c": 1}}, deep: true)\n.n = unflatten({"x.y": o})\n.g = get(o, ["b"]) ?? 0\n.s = set(o, ["b", "d"], 1) ?? {}\n.r = remove(o, ["b"]) ?? {}\n'
+     b'.x = object_from_array([["k", a]]) ?? {}\n.y = slice("abcd", 1, -1) ?? ""\n.w = [upcase("a"), truncate("abc", 2, ".."), strip_whitespace(" a "), replace("aaa", "a", "b")]\n.q = chunks("abcde", 2) ?? []\n',
+     b'{"a":[1,[2,null],1],"o":{"a":"t","b":{"e":2}}}\n{}\n'),
     ("many lines", b".k = {}\n.k.l = [.a, .a]\ndel(.a)", b'{"a":{"b":[1,2,"three"]},"m":"text"}\n' * 60),
 ]
 KINDS = {"allocation": WANT_OF_MEMORY, "read": READ_FAULT, "write": WRITE_FAULT}

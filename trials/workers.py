@@ -1,11 +1,12 @@
 """Random trial of batches and workers: the same bytes for every number of them, however the input comes.
 
-    python3 trials/workers.py --program PATH [--seed N] [--count N] [--seconds N] [--show N]
+    python3 trials/workers.py --program PATH [--seed N] [--count N] [--inputs N] [--seconds N] [--show N]
 
 Makes accepted scripts of the functions that are built, and lines at random: a few, or some hundreds, so that there are several batches. What the program
 writes, reports and ends with over a file of them, with one worker, must come again with 1, 2, 3, 4, 8 and 32 workers over a pipe into which the lines go in
 pieces of random lengths. Few lines are held against the outside reading of the meaning, too. In some cases the pipe of the output is closed after a few bytes, of
-so many lines that not all of them can be there already: the program must end with 4. In some the input ends in the middle of a line. It ends after --count scripts, or --seconds.
+so many lines that not all of them can be there already: the program must end with 4. In some the input ends in the middle of a line. It ends after --count scripts, each
+over --inputs inputs (one where none is given), or --seconds.
 """
 
 import argparse
@@ -23,6 +24,7 @@ import judgement
 import meaning
 import programs
 import some_calls
+import urls
 
 JOBS = (1, 2, 3, 4, 8, 32)
 SECONDS = 120
@@ -83,12 +85,13 @@ def main():
     words.add_argument("--program", required=True)
     words.add_argument("--seed", type=int, default=1)
     words.add_argument("--count", type=int, default=1000)
+    words.add_argument("--inputs", type=int, default=1)
     words.add_argument("--seconds", type=float, default=float("inf"))
     words.add_argument("--show", type=int, default=10)
     given = words.parse_args()
     rng = random.Random(given.seed)
     maker = judgement.Maker(rng, some_calls)
-    made = several = closed = lines = differences = 0
+    made = inputs = several = closed = lines = differences = 0
     end = time.monotonic() + given.seconds
     with programs.Program(given.program) as program:
         maker.built = [name for name in judgement.built_by(program) if name != "now"]
@@ -99,22 +102,27 @@ def main():
             if not found.accepted:
                 continue
             made += 1
-            data, is_few = many_lines(rng, start)
-            lines += len(data.split(b"\n"))
-            several += not is_few
-            options = {"drop": rng.random() < 0.3, "keep": rng.random() < 0.3}
-            wanted = meaning.told_by(program, script, file, data, options)
             wrong = []
-            if is_few:
-                read = meaning.run_lines(found, start, data, watch=lambda *_: None, **options)
-                if wanted != (programs.joined(read[0]), programs.joined(read[1]), read[2]):
-                    wrong.append(("the outside reading", read))
-            more = ["--kind", os.path.join(program.folder.name, "kind.json")] if file is not None else []
-            more += [word for word, on in (("--drop-on-error", options["drop"]), ("--keep-on-abort", options["keep"])) if on]
-            for jobs in JOBS:
-                told = over_pipe(program, ["--jobs", str(jobs), *more], data, rng)
-                if told != wanted:
-                    wrong.append((f"{jobs} workers", told))
+            for _ in range(given.inputs):
+                data, is_few = many_lines(rng, start)
+                lines += len(data.split(b"\n"))
+                inputs += 1
+                several += not is_few
+                options = {"drop": rng.random() < 0.3, "keep": rng.random() < 0.3}
+                wanted = meaning.told_by(program, script, file, data, options)
+                differ = []
+                with contextlib.suppress(urls.Unknown):
+                    if is_few:
+                        read = meaning.run_lines(found, start, data, watch=lambda *_: None, **options)
+                        if wanted != (programs.joined(read[0]), programs.joined(read[1]), read[2]):
+                            differ.append(("the outside reading", read))
+                more = ["--kind", os.path.join(program.folder.name, "kind.json")] if file is not None else []
+                more += [word for word, on in (("--drop-on-error", options["drop"]), ("--keep-on-abort", options["keep"])) if on]
+                for jobs in JOBS:
+                    told = over_pipe(program, ["--jobs", str(jobs), *more], data, rng)
+                    if told != wanted:
+                        differ.append((f"{jobs} workers", told))
+                wrong += [(f"{who} on {script!r} kind {file} options {options} lines {data[:600]}", wanted, told) for who, told in differ]
             if made % 20 == 0:
                 # A line is at least 100 bytes, and a pipe holds 64 KiB.
                 closed += 1
@@ -122,12 +130,12 @@ def main():
                 long = b'{"a":"' + b"z" * 100 + b'"}\n'
                 told = over_pipe(program, ["--jobs", "8"], long * 5000, rng, 1)
                 if told != (b"{", b"", 4):
-                    wrong.append(("a closed output", told))
-            for who, told in wrong:
+                    wrong.append(("a closed output", (b"{", b"", 4), told))
+            for what, wanted, told in wrong:
                 differences += 1
                 if differences <= given.show:
-                    print("difference at", who, "on", repr(script), "kind", file, "options", options, "lines", data[:600], "\n  wanted", wanted, "\n  got", told)
-    print(f"workers: seed {given.seed}, {made} scripts over {lines} lines, {several} of several batches or about one, each with {len(JOBS)} numbers of workers over a pipe, {closed} closed outputs: {differences} differences")
+                    print("difference at", what, "\n  wanted", wanted, "\n  got", told, flush=True)
+    print(f"workers: seed {given.seed}, {made} scripts over {inputs} inputs of {lines} lines, {several} of several batches or about one, each with {len(JOBS)} numbers of workers over a pipe, {closed} closed outputs: {differences} differences")
     return 1 if differences else 0
 
 
