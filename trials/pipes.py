@@ -135,6 +135,12 @@ def run_killed(program, rng, tell):
     tell(f"{how} gone, {len(data)} bytes, {most}", right, (ended, status, len(told["output"]), len(output)))
 
 
+def most_memory(pid):
+    """The most memory that a process had so far; what the system tells at its end has that of this program in it."""
+    with open(f"/proc/{pid}/status") as file:
+        return next((int(line.split()[1]) << 10 for line in file if line.startswith("VmHWM")), 0)
+
+
 def run_long(program, gigabytes, jobs, tell):
     """So many gigabytes of one line through the program."""
     lines = (gigabytes * 1_000_000_000) // len(LINE)
@@ -151,16 +157,18 @@ def run_long(program, gigabytes, jobs, tell):
     thread = threading.Thread(target=give)
     begun = time.perf_counter()
     thread.start()
-    events = taken = 0
+    events = taken = reads = kept = 0
     while True:
         read = os.read(started.stdout.fileno(), 1 << 20)
         if not read:
             break
         events += read.count(b"\n")
         taken += len(read)
+        if reads % 256 == 0:
+            kept = max(kept, most_memory(started.pid))
+        reads += 1
     thread.join()
-    _, status, usage = os.wait4(started.pid, 0)
-    kept = usage.ru_maxrss * 1024
+    status = started.wait()
     right = status == 0 and events == lines and taken == lines * (len(LINE) + 6) and kept <= MEMORY * (1 if jobs == 1 else 2)
     tell(f"{gigabytes} GB with {jobs} workers: {events} events, {taken} bytes, {kept >> 20} MB of memory, {time.perf_counter() - begun:.0f} s", right, status)
 
