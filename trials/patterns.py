@@ -35,6 +35,7 @@ class Outside:
 
 
 OUTSIDE = None
+WANT_OF_MEMORY = 5
 
 
 def ask(path):
@@ -155,8 +156,9 @@ class Maker:
         one, empty = self.atom(depth)
         if self.rng.random() < 0.6 or one in ("^", "$", r"\b", r"\A", r"\z", r"\B") or (empty and not self.wild):
             return one, empty
-        # The crate drops the groups of what is repeated no times.
-        sign = self.rng.choice(["*", "+", "?", "{2}", "{1,2}", "{0,3}", "{2,}"] + ["{0}"] * (self.wild or "(" not in one))
+        # The crate drops the groups of what is repeated no times. Its editions differ where what may match no text is repeated without end.
+        signs = ["?", "{2}", "{1,2}", "{0,3}"] if empty else ["*", "+", "?", "{2}", "{1,2}", "{0,3}", "{2,}"]
+        sign = self.rng.choice(signs + ["{0}"] * (self.wild or "(" not in one))
         return one + sign + self.rng.choice(["", "", "?"]), empty or sign in ("*", "?", "{0,3}", "{0}")
 
     def atom(self, depth):
@@ -173,8 +175,9 @@ class Maker:
         if how < 0.7:
             return pick([".", r"\d", r"\w", r"\s", r"\W", r"\D", r"\S"]), False
         if self.wild and how < 0.8:
-            return pick([r"\pL", r"\p{Greek}", r"[[:alpha:]]", "(?i:a)", "(?i:É)", "(?s:.)", r"[a-z&&[^b]]", "[a[bc]]", r"\x61", r"\u{e9}", r"(?x: a b # c" + "\n)", "(?U:a+)", r"\B",
-                         "(?-u:a)", r"[\d--1]", "(?m:^)", "(?m:$)", r"\t", "[^\x00-\x7f]", r"\PN"]), True
+            one = pick([r"\pL", r"\p{Greek}", r"[[:alpha:]]", "(?i:a)", "(?i:É)", "(?s:.)", r"[a-z&&[^b]]", "[a[bc]]", r"\x61", r"\u{e9}", r"(?x: a b # c" + "\n)", "(?U:a+)", r"\B",
+                        "(?-u:a)", r"[\d--1]", "(?m:^)", "(?m:$)", r"\t", "[^\x00-\x7f]", r"\PN"])
+            return one, one in (r"\B", "(?m:^)", "(?m:$)")
         return pick(["a", "a", "b", "c", "é", ",", "=", "1", r"\.", "中", " "]), False
 
 
@@ -195,9 +198,21 @@ def spoilt(rng, maker):
     return source
 
 
+def malformed(program, sources):
+    """The numbers of the literals that the program calls malformed, from 1, and of those that want more memory than a pattern may."""
+    output, report, status = program.run("".join(f"x = r'{one}'\n" for one in sources).encode())
+    if status != WANT_OF_MEMORY:
+        return {int(line.split(":")[0].rsplit(" ", 1)[1]) for line in report.decode().splitlines() if line.startswith("error[E101]")}, set()
+    if len(sources) == 1:
+        return {1}, {1}
+    half = len(sources) // 2
+    parts = malformed(program, sources[:half]), malformed(program, sources[half:])
+    return tuple(one | {number + half for number in other} for one, other in zip(*parts))
+
+
 def literals(program, outside, rng, count, show):
-    """Scripts of literals that may be malformed: how many were tried, were malformed, were passed over, differed."""
-    tried, bad, spared, differences = 0, 0, 0, 0
+    """Scripts of literals that may be malformed: how many were tried, were malformed, want too much memory, were passed over, differed."""
+    tried, bad, large, spared, differences = 0, 0, 0, 0, 0
     maker = Maker(rng, True)
     while tried < count:
         sources = []
@@ -206,11 +221,10 @@ def literals(program, outside, rng, count, show):
             # A quote would end the literal, and a backslash at its end would escape that.
             if "'" not in one and "\n" not in one and (len(one) - len(one.rstrip("\\"))) % 2 == 0:
                 sources.append(one)
-        script = "".join(f"x = r'{one}'\n" for one in sources)
-        if len(script.encode()) > 65536:
+        if sum(len(one.encode()) + 8 for one in sources) > 65536:
             continue
-        output, report, status = program.run(script.encode())
-        told = {int(line.split(":")[0].rsplit(" ", 1)[1]) for line in report.decode().splitlines() if line.startswith("error[E101]")}
+        told, too_large = malformed(program, sources)
+        large += len(too_large)
         for number, one in enumerate(sources, 1):
             tried += 1
             if LATER.search(one):
@@ -222,7 +236,7 @@ def literals(program, outside, rng, count, show):
                 differences += 1
                 if differences <= show:
                     print("difference on", repr(one), "malformed there:", wanted, "by the program:", number in told)
-    return tried, bad, spared, differences
+    return tried, bad, large, spared, differences
 
 
 def main():
@@ -237,8 +251,8 @@ def main():
     outside, maker = Outside(given.outside), Maker(rng)
     if given.program:
         with programs.Program(given.program) as program:
-            tried, bad, spared, differences = literals(program, outside, rng, given.count, given.show)
-        print(f"patterns: seed {given.seed}, {tried} literals, {bad} of them malformed, {spared} passed over, {differences} differences")
+            tried, bad, large, spared, differences = literals(program, outside, rng, given.count, given.show)
+        print(f"patterns: seed {given.seed}, {tried} literals, {bad} of them malformed, {large} over the crate's budget, {spared} passed over, {differences} differences")
         return 1 if differences else 0
     differences, found = 0, 0
     for _ in range(given.count):
