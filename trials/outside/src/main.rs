@@ -15,7 +15,7 @@ fn option(one: Option<&str>) -> String { one.map_or("-".into(), |s| hex(s.as_byt
 
 fn regexes(words: &[&str]) -> String {
     let pattern = text(words[1]);
-    let re = match regex::Regex::new(&pattern) { Ok(re) => re, Err(_) => return "bad".into() };
+    let re = match regex::Regex::new(&pattern) { Ok(re) => re, Err(regex::Error::CompiledTooBig(_)) => return "large".into(), Err(_) => return "bad".into() };
     let value = text(words[2]);
     match words[0] {
         "matches" => {
