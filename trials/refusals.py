@@ -4,8 +4,8 @@
     python3 trials/refusals.py --tests PATH .. [--only WORD] [--most N]
 
 Each row is a script with its lines. It is run once as it is, and then once for each allocation that this run made, which is refused: the program must end with
-the status of want of memory, and leave a front of the output and of the report that it left before, or give the whole answer all the same, as where a regex goes without a table that
-would only speed it up. In the same way each read fails, and each write: then the status is that of a fault of reading or of writing. The status is 1 at a difference.
+the status of want of memory, and leave a front of the output and of the report that it left before, or give the whole answer all the same, as where a search by a regex
+goes another way. In the same way each read fails, and each write: then the status is that of a fault of reading or of writing. The status is 1 at a difference.
 
 With --tests each test of a crate of tests, as `rt test` builds it, is run so, where it makes at most N allocations (5,000 where none is
 given): it must go well, tell want of memory, or stop at an assertion. Which assertions these were is told; that a call with memory succeeds, and no other
