@@ -1,21 +1,19 @@
 """Random trial of the judgement: kinds, states and codes of scripts.
 
-    python3 trials/judgement.py [--seed N] [--count N] [--no-calls] [--hard] [--out FILE] [--program PATH [--built] [--words]] [--show N]
+    python3 trials/judgement.py [--seed N] [--count N] [--no-calls] [--hard] [--out FILE] [--program PATH [--words]] [--show N]
     python3 trials/judgement.py --text FILE [--kind FILE]
 
 The second form prints the diagnostics of a script, or its warnings and then its kinds as `--check` prints them. The
 first makes scripts at random. With --program each goes through `PATH SCRIPTFILE`, and the diagnostics on standard
-error are compared; a script for which the program says 1099 is counted and passed over. With --words, too, the
-program takes `--check` and `--kind FILE`, and the kinds that it prints are compared. With --out the scripts go to FILE,
-a JSON object a line:
+error are compared. With --words, too, the program takes `--check` and `--kind FILE`, and the kinds that it prints are
+compared. With --out the scripts go to FILE, a JSON object a line:
 
     script, kind (a kind file's value), diagnostics (their lines), result (the joined kind), end (lines `. KIND`,
     `NAME KIND` of the joined state), ok, ret (such lines, or null where dead), empties (the tag of each error
     assignment's empty value, an outer one before those in it), loops (the state that each closure was judged in last)
 
 where result and end are null for a refused script. Calls are judged by the rows in `functions.py`; --no-calls makes
-scripts without them, --built makes those with calls of the functions that the program has, --hard adds scripts about the
-limits of nodes and levels.
+scripts without them, --hard adds scripts about the limits of nodes and levels.
 
 A state is None where it is dead, else a map from roots to kinds; the event's root is ".".
 """
@@ -48,7 +46,6 @@ TITLES = {
     1013: "literal or path argument wanted", 1014: "malformed timestamp literal", 1015: "closure result of the wrong kind",
     1016: "string template or too many regex literals",
 }
-NOT_BUILT = b"error[E1099] 1:1 form not built yet\n"
 COMPARISONS = {"==", "!=", "<", "<=", ">", ">="}
 PAIRS = {"+": {("integer", "integer"): "integer", ("string", "string"): "string", ("string", "null"): "string", ("null", "string"): "string"},
          "-": {("integer", "integer"): "integer"}, "*": {("integer", "integer"): "integer"}}
@@ -491,9 +488,9 @@ class Maker:
     LITERALS = ["1", '"s"', "true", "null", "t'2024-01-02T03:04:05Z'", "r'a'", "-2", '""', "false"]
     SIGNS = ["+", "+", "+", "-", "*", "==", "!=", "<", ">=", "|", "|", "&&", "&&", "||", "||", "??", "??", "??"]
 
-    def __init__(self, rng, calls=None, built=None):
-        """built: the names that calls are made of, all where there are none."""
-        self.rng, self.calls, self.built = rng, calls, built
+    def __init__(self, rng, calls=None, names=None):
+        """names: those that calls are made of, all where there are none."""
+        self.rng, self.calls, self.names = rng, calls, names
 
     def pick(self, *weighted):
         return self.rng.choices([w[0] for w in weighted], [w[1] for w in weighted])[0]
@@ -580,7 +577,7 @@ class Maker:
             lines.append("x = " + self.rng.choice(["1", '"s"', "{}", '{"a": 1}', "[1]", "null", ".a", "true", "."]))
         if self.rng.random() < 0.5:
             lines.append("y = " + self.rng.choice(["1", '"s"', "{}", '{"a": "s"}', "[]", "null", ".b", "x"]))
-        if self.calls and not (self.built and "for_each" not in self.built) and self.rng.random() < 0.1:
+        if self.calls and self.rng.random() < 0.1:
             lines.append(self.calls.loop(self))
         if self.rng.random() < 0.08:
             lines.append(self.rng.choice(["x = {\"a\": [.]}", ".c.a.b = .", "x = [[.a]]", ".b[1].a = .a", ". = {\"a\": {\"a\": .}}", "y = [[[.c]]]"]))
@@ -713,17 +710,6 @@ def start_of(file):
     return EVENT if file is None else kinds.kind_file(json.dumps(file).encode())
 
 
-def built_by(program):
-    """The names that the program calls, closures' too; the two that take a path are left out."""
-    found = []
-    for name, row in functions.ROWS.items():
-        names = ", ".join("kv"[:row.names or 0])
-        call = f"x = {name}({', '.join(['1'] * len(row.parameters))})" + (f" -> |{names}| {{ 1 }}" if row.names else "")
-        if not row.path and program.run(call.encode())[1] != NOT_BUILT:
-            found.append(name)
-    return found
-
-
 def told_by(program, script, file, words):
     """Kinds and diagnostics as the program prints them, and its status."""
     more = ["--check"] if words else []
@@ -740,7 +726,6 @@ def main():
     words.add_argument("--program")
     words.add_argument("--words", action="store_true")
     words.add_argument("--no-calls", action="store_true")
-    words.add_argument("--built", action="store_true")
     words.add_argument("--hard", action="store_true")
     words.add_argument("--text")
     words.add_argument("--kind")
@@ -761,10 +746,9 @@ def main():
     rows = self_check()
     rng = random.Random(given.seed)
     maker = Maker(rng, None if given.no_calls else some_calls)
-    met, differences, accepted, passed = {}, 0, 0, 0
+    met, differences, accepted = {}, 0, 0
     out = open(given.out, "w") if given.out else None
     with programs.Program(given.program) if given.program else contextlib.nullcontext() as program:
-        maker.built = built_by(program) if given.built else None
         made, hard = 0, list(hard_scripts()) if given.hard else []
         while made < given.count or hard:
             script, file = (hard.pop(), None) if hard else (maker.script(), maker.kind_file())
@@ -784,16 +768,14 @@ def main():
                 printed = ["result " + found.result] + found.end if found.accepted and given.words else []
                 wanted = programs.joined(printed), programs.joined(found.diagnostics), 0 if found.accepted else 1
                 told = told_by(program, script, file, given.words)
-                if told[1] == NOT_BUILT:
-                    passed += 1
-                elif told != wanted:
+                if told != wanted:
                     differences += 1
                     if differences <= given.show:
                         print("difference on", repr(script), "kind", json.dumps(file), "\n  wanted", wanted, "\n  got", told)
     if out:
         out.close()
     codes = ", ".join(f"{met[code]} of {code}" for code in sorted(met))
-    compared = f"{differences} differences, {passed} not built" if given.program else "no program given"
+    compared = f"{differences} differences" if given.program else "no program given"
     print(f"judgement: seed {given.seed}, {rows} rows, {made} scripts ({accepted} accepted; {codes}): {compared}")
     return 1 if differences else 0
 

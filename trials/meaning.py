@@ -1,6 +1,6 @@
 """Random trial of the meaning: what accepted scripts do to lines.
 
-    python3 trials/meaning.py [--seed N] [--count N] [--seconds N] [--no-calls] [--program PATH [--built] [--words] [--refused]] [--show N]
+    python3 trials/meaning.py [--seed N] [--count N] [--seconds N] [--no-calls] [--program PATH [--words] [--refused]] [--show N]
     python3 trials/meaning.py --text FILE [--kind FILE] [--drop-on-error] [--keep-on-abort] < LINES
     python3 trials/meaning.py --text FILE --generate COUNT:SEED
 
@@ -8,12 +8,10 @@ The second form runs a script over the lines of standard input and prints what i
 runs it over made lines and prints the summary. The first
 makes accepted scripts and lines at random. Each run is held against the judgement of its script: it must not end with
 an error that nothing handles, its value must inhabit the script's kind, and its event and variables those of the
-joined state. With --program the bytes and the status of `PATH SCRIPTFILE < LINES` are compared; a script for which
-the program says 1099 is counted and passed over. Then the script is made to write its value, the event and the variables
+joined state. With --program the bytes and the status of `PATH SCRIPTFILE < LINES` are compared. Then the script is made to write its value, the event and the variables
 into the event, at its end and at each `return`, and what the program leaves so is held against the kinds that were judged
 for the script. With --words, too, the program takes `--kind FILE` and both flags. With --refused the scripts that are
-refused go through the program as well. It ends after --count accepted scripts, or --seconds. --built makes scripts with calls of the functions that the program
-has. Where there is a program, `now` isn't called: `generate.py` does that.
+refused go through the program as well. It ends after --count accepted scripts, or --seconds. Where there is a program, `now` isn't called: `generate.py` does that.
 """
 
 import argparse
@@ -579,7 +577,6 @@ def main():
     words.add_argument("--program")
     words.add_argument("--words", action="store_true")
     words.add_argument("--no-calls", action="store_true")
-    words.add_argument("--built", action="store_true")
     words.add_argument("--refused", action="store_true")
     words.add_argument("--text")
     words.add_argument("--kind")
@@ -609,10 +606,10 @@ def main():
     rows = self_check()
     rng = random.Random(given.seed)
     maker = judgement.Maker(rng, None if given.no_calls else some_calls)
-    met, differences, passed, made, refused, lines, left = {}, 0, 0, 0, 0, 0, 0
+    met, differences, made, refused, lines, left = {}, 0, 0, 0, 0, 0
     with programs.Program(given.program) if given.program else contextlib.nullcontext() as program:
         if program:
-            maker.built = [name for name in (judgement.built_by(program) if given.built else sorted(functions.ROWS)) if name != "now"]
+            maker.names = [name for name in sorted(functions.ROWS) if name != "now"]
         end = time.monotonic() + given.seconds
         while made < given.count and time.monotonic() < end:
             script, file = maker.script(), maker.kind_file()
@@ -624,7 +621,7 @@ def main():
                 if given.refused:
                     refused += 1
                     told = told_by(program, script, file, b"", {})
-                    if told != (b"", programs.joined(found.diagnostics), 1) and told[1] != judgement.NOT_BUILT:
+                    if told != (b"", programs.joined(found.diagnostics), 1):
                         differences += 1
                         if differences <= given.show:
                             print("difference on", repr(script), "\n  wanted", found.diagnostics, "\n  got", told)
@@ -649,9 +646,6 @@ def main():
             lines += len(data.split(b"\n"))
             if given.program:
                 told = told_by(program, script, file, data, options)
-                if told[1] == judgement.NOT_BUILT:
-                    passed += 1
-                    continue
                 if told != (programs.joined(wanted[0]), programs.joined(wanted[1]), wanted[2]):
                     differences += 1
                     if differences <= given.show:
@@ -663,7 +657,7 @@ def main():
                     if wrong and differences <= given.show:
                         print("difference in what is left:", wrong)
     ends = ", ".join(f"{met[word]} {word}" for word in sorted(met))
-    compared = f"{differences} differences, {passed} not built, {left} ends held against their kinds, {refused} refused" if given.program else f"{differences} not sound"
+    compared = f"{differences} differences, {left} ends held against their kinds, {refused} refused" if given.program else f"{differences} not sound"
     print(f"meaning: seed {given.seed}, {rows} rows, {made} scripts over {lines} lines (ends: {ends}): {compared}")
     return 1 if differences else 0
 

@@ -346,7 +346,7 @@ def main():
         patterns.ask(given.outside)
     began = time.monotonic()
     with programs.Program(given.program) as program:
-        names = given.only.split(",") if given.only else [name for name in judgement.built_by(program) if functions.ROWS[name].apply]
+        names = given.only.split(",") if given.only else [name for name in sorted(functions.ROWS) if functions.ROWS[name].apply]
         trial = None
         differences = 0
         every = {}

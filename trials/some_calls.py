@@ -26,7 +26,7 @@ def fitting(maker, parameter, depth):
 
 def call(maker, depth):
     rng = maker.rng
-    every = maker.built or sorted(ROWS)
+    every = maker.names or sorted(ROWS)
     name = maker.pick((rng.choice(every), 6), ("del", 1.5), ("exists", 1), (rng.choice(CLOSED), 3 if "for_each" in every else 0),
                       (rng.choice(["to_int", "to_string", "push" if "push" in every else "mod"]), 2))
     row = ROWS[name]

@@ -2,7 +2,7 @@
 
     python3 trials/workers.py --program PATH [--seed N] [--count N] [--inputs N] [--seconds N] [--show N]
 
-Makes accepted scripts of the functions that are built, and lines at random: a few, or some hundreds, so that there are several batches. What the program
+Makes accepted scripts, and lines at random: a few, or some hundreds, so that there are several batches. What the program
 writes, reports and ends with over a file of them, with one worker, must come again with 1, 2, 3, 4, 8 and 32 workers over a pipe into which the lines go in
 pieces of random lengths. Few lines are held against the outside reading of the meaning, too. In some cases the pipe of the output is closed after a few bytes, of
 so many lines that not all of them can be there already: the program must end with 4. In some the input ends in the middle of a line. It ends after --count scripts, each
@@ -20,6 +20,7 @@ import time
 
 sys.dont_write_bytecode = True
 
+import functions
 import judgement
 import meaning
 import programs
@@ -94,7 +95,7 @@ def main():
     made = inputs = several = closed = lines = differences = 0
     end = time.monotonic() + given.seconds
     with programs.Program(given.program) as program:
-        maker.built = [name for name in judgement.built_by(program) if name != "now"]
+        maker.names = [name for name in sorted(functions.ROWS) if name != "now"]
         while made < given.count and time.monotonic() < end:
             script, file = maker.script(), maker.kind_file()
             start = judgement.start_of(file)

@@ -18,12 +18,10 @@ use Rattle.vrl_check.specs.Judgement.{JudgesScript}
 use Rattle.vrl_check.specs.OpenRules.{language_rules}
 use Rattle.vrl_compile.specs.Answer.{AreDiagnostics, judged, of_script}
 use Rattle.vrl_compile.specs.Program.{program_for}
-use Rattle.vrl_compile.specs.Reading.{AreAlike, same as same_list, both_unread}
-use Rattle.vrl_run.specs.Answer.{answer_to}
 use Rattle.vrl_run.specs.Request.{MayCome, Request, ScriptRun, bad_kind, bad_script, bad_words, map_lines, map_made, tell_kinds}
 use Rattle.vrl_run.specs.declared.status.Status.{Status}
 use Rattle.remap_call.specs.Laws.{Laws}
-use Rattle.remap_call.specs.OneAnswer.{AreAnsweredAlike, HasOneAnswer, same as same_answer, both_unread as both_unread_answers}
+use Rattle.remap_call.specs.OneAnswer.{HasOneAnswer}
 use Rattle.remap_call.specs.Request.{Asks, AsksByScript, IsAccepted, IsDeclaredKind, IsKindRefused, IsKnown, IsRefused, IsRun, Texts, has_error, no_text}
 use Rattle.remap_words.specs.Words.{Invocation, Mode, check, generate, lines}
 
@@ -68,35 +66,26 @@ same_fault files (Some name) (Some bytes) f g one two = one_fault files bytes f 
 accepted_diagnostics : {declared : KindTree} {text : List ℕ} {script : Script} {judgement : Judgement} {warnings : List Diagnostic} → IsAccepted declared text script judgement warnings → AreDiagnostics declared text warnings
 accepted_diagnostics {script = script} {judgement = judgement} is = let accepted = is.accepted in of_script accepted.tokens script accepted.is_script (judged accepted.can_be_judged judgement accepted.judges is.ordered)
 
--- warnings alone aren't an unread text's
+-- what is accepted has no error
 no_warning : {declared : KindTree} {text : List ℕ} {script : Script} {judgement : Judgement} {warnings : List Diagnostic} → IsAccepted declared text script judgement warnings → list_any is_error warnings ≡ false
 no_warning {judgement = judgement} {warnings = warnings} is = sym (list_any-IsPermutation is_error judgement.codes warnings is.ordered.same) ∙ is.accepted.no_error
 
-not_alike : (text : List ℕ) (ds es : List Diagnostic) → list_any is_error ds ≡ true → list_any is_error es ≡ false → ¬ AreAlike text ds es
-not_alike text ds es error none (same_list is) = let wrong : true ≡ false = sym error ∙ ap (list_any is_error) is ∙ none in cc
-not_alike text ds es error none (both_unread unread s t one two) = let wrong : true ≡ false = ap (list_any is_error) (sym two) ∙ none in cc
+not_alike : (ds es : List Diagnostic) → list_any is_error ds ≡ true → list_any is_error es ≡ false → ¬ (ds ≡ es)
+not_alike ds es error none is = let wrong : true ≡ false = sym error ∙ ap (list_any is_error) is ∙ none in cc
 
 not_refused_and_accepted : Laws → (name file : Option (List ℕ)) {K : KindTree} {text : List ℕ} {ds : List Diagnostic} {script : Script} {judgement : Judgement} {warnings : List Diagnostic}
     → IsDeclaredKind name file K → IsRefused name file text ds → ¬ IsAccepted K text script judgement warnings
 not_refused_and_accepted laws name file declared (no_text none is) accepted = accepted.is_text none
 not_refused_and_accepted laws name file {K} {text} {ds} {script} {judgement} {warnings} declared (has_error is L too refused) accepted =
     let same : L ≡ K = same_kind laws.kind_files name file L K too declared in
-    not_alike text ds warnings refused.error (no_warning accepted) (laws.diagnostics K text ds warnings (subst (λ M. AreDiagnostics M text ds) same refused.are) (accepted_diagnostics accepted))
+    not_alike ds warnings refused.error (no_warning accepted) (laws.diagnostics K text ds warnings (subst (λ M. AreDiagnostics M text ds) same refused.are) (accepted_diagnostics accepted))
 
-told_alike : (text : List ℕ) (ds es : List Diagnostic) → AreAlike text ds es → AreAnsweredAlike (bad_script text ds) (bad_script text es)
-told_alike text ds es (same_list is) = same_answer (λ input moments. ap (λ x. answer_to (bad_script text x) input moments) is)
-told_alike text ds es (both_unread unread s t one two) = both_unread_answers text unread s t (ap (bad_script text) one) (ap (bad_script text) two)
-
-refused_alike : Laws → (name file : Option (List ℕ)) (text : List ℕ) (ds es : List Diagnostic) → IsRefused name file text ds → IsRefused name file text es → AreAnsweredAlike (bad_script text ds) (bad_script text es)
-refused_alike laws name file text ds es (no_text none one) (no_text too two) = told_alike text ds es (same_list (one ∙ sym two))
-refused_alike laws name file text ds es (no_text none one) (has_error is K declared two) = absurd (is none)
-refused_alike laws name file text ds es (has_error is K declared one) (no_text none two) = absurd (is none)
-refused_alike laws name file text ds es (has_error is K declared one) (has_error too L also two) =
-    told_alike text ds es (laws.diagnostics L text ds es (subst (λ M. AreDiagnostics M text ds) (same_kind laws.kind_files name file K L declared also) one.are) two.are)
-
-same_warnings : (text : List ℕ) (ds es : List Diagnostic) → list_any is_error ds ≡ false → AreAlike text ds es → ds ≡ es
-same_warnings text ds es none (same_list is) = is
-same_warnings text ds es none (both_unread unread s t one two) = let wrong : true ≡ false = ap (list_any is_error) (sym one) ∙ none in absurd (cc)
+one_refusal : Laws → (name file : Option (List ℕ)) (text : List ℕ) (ds es : List Diagnostic) → IsRefused name file text ds → IsRefused name file text es → ds ≡ es
+one_refusal laws name file text ds es (no_text none one) (no_text too two) = one ∙ sym two
+one_refusal laws name file text ds es (no_text none one) (has_error is K declared two) = absurd (is none)
+one_refusal laws name file text ds es (has_error is K declared one) (no_text none two) = absurd (is none)
+one_refusal laws name file text ds es (has_error is K declared one) (has_error too L also two) =
+    laws.diagnostics L text ds es (subst (λ M. AreDiagnostics M text ds) (same_kind laws.kind_files name file K L declared also) one.are) two.are
 
 -- what two acceptances of a text have in common
 record AreOne (script other : Script) (judgement judged : Judgement) (warnings warned : List Diagnostic) : Type 0 where
@@ -112,7 +101,7 @@ accepted_once laws {K} {text} {script} {other} {judgement} {judged} {warnings} {
     record {
       scripts = scripts;
       judgements = laws.judgements.script (language_rules sources) (laws.judgements.language sources) K other.items judgement judged judges two.accepted.judges;
-      warnings_are = same_warnings text warnings warned (no_warning one) (laws.diagnostics K text warnings warned (accepted_diagnostics one) (accepted_diagnostics two));
+      warnings_are = laws.diagnostics K text warnings warned (accepted_diagnostics one) (accepted_diagnostics two);
     }
 
 -- a text is run in one way
@@ -139,14 +128,6 @@ one_telling laws i file text warnings warned K L known other one two =
     λ n. tell_kinds text (both.warnings_are n) (kind n) (states n)
 
 -- ---- requests
-
--- two requests are answered alike, and the same may come of them
-record AreAlikeRequests (a b : Request) : Type 0 where
-  pub answers : AreAnsweredAlike a b
-  pub statuses : (s : Status) → MayCome a s → MayCome b s
-
-same_requests : (a b : Request) → a ≡ b → AreAlikeRequests a b
-same_requests a b is = record { answers = same_answer (λ input moments. ap (λ r. answer_to r input moments) is); statuses = λ s comes. subst (λ r. MayCome r s) is comes }
 
 -- a kind file that is refused leaves nothing else to be asked
 kind_alone : Laws → (i : Invocation) (file : Option (List ℕ)) (text : List ℕ) (f : KindFault) (b : Request) → AsksByScript i file text (bad_kind f) → AsksByScript i file text b → b ≡ bad_kind f
@@ -183,52 +164,51 @@ same_made laws i file text run other count seed number start one two =
     let runs = one_run laws i file text run other one.1 two.1 in
     λ n. map_made (runs n) (counts n) (seeds n)
 
-refused_requests : Laws → (i : Invocation) (file : Option (List ℕ)) (text told too : List ℕ) (ds es : List Diagnostic) → AsksByScript i file text (bad_script told ds) → AsksByScript i file text (bad_script too es) → AreAlikeRequests (bad_script told ds) (bad_script too es)
+refused_requests : Laws → (i : Invocation) (file : Option (List ℕ)) (text told too : List ℕ) (ds es : List Diagnostic) → AsksByScript i file text (bad_script told ds) → AsksByScript i file text (bad_script too es) → bad_script told ds ≡ bad_script too es
 refused_requests laws i file text told too ds es one two =
-    subst (λ t. AreAlikeRequests (bad_script t ds) (bad_script too es)) (sym one.0)
-    (subst (λ t. AreAlikeRequests (bad_script text ds) (bad_script t es)) (sym two.0) (record { answers = refused_alike laws i.kind file text ds es one.1 two.1; statuses = λ s comes. comes }))
+    ap (λ t. bad_script t ds) (one.0 ∙ sym two.0) ∙ ap (bad_script too) (one_refusal laws i.kind file text ds es one.1 two.1)
 
 same_tellings : Laws → (i : Invocation) (file : Option (List ℕ)) (text told too : List ℕ) (warnings warned : List Diagnostic) (K L : KindTree) (known other : Known)
     → AsksByScript i file text (tell_kinds told warnings K known) → AsksByScript i file text (tell_kinds too warned L other) → tell_kinds told warnings K known ≡ tell_kinds too warned L other
 same_tellings laws i file text told too warnings warned K L known other one two =
     ap (λ t. tell_kinds t warnings K known) one.1 ∙ one_telling laws i file text warnings warned K L known other one.2 two.2 ∙ ap (λ t. tell_kinds t warned L other) (sym two.1)
 
-alike : Laws → (i : Invocation) (file : Option (List ℕ)) (text : List ℕ) (a b : Request) → AsksByScript i file text a → AsksByScript i file text b → AreAlikeRequests a b
+alike : Laws → (i : Invocation) (file : Option (List ℕ)) (text : List ℕ) (a b : Request) → AsksByScript i file text a → AsksByScript i file text b → a ≡ b
 alike laws i file text bad_words b one two = absurd one
-alike laws i file text (bad_kind f) b one two = same_requests _ _ (sym (kind_alone laws i file text f b one two))
+alike laws i file text (bad_kind f) b one two = sym (kind_alone laws i file text f b one two)
 alike laws i file text (bad_script told ds) bad_words one two = absurd two
-alike laws i file text (bad_script told ds) (bad_kind f) one two = same_requests _ _ (kind_alone laws i file text f (bad_script told ds) two one)
+alike laws i file text (bad_script told ds) (bad_kind f) one two = kind_alone laws i file text f (bad_script told ds) two one
 alike laws i file text (bad_script told ds) (bad_script too es) one two = refused_requests laws i file text told too ds es one two
 alike laws i file text (bad_script told ds) (map_lines run) one two = absurd (run_not_refused laws i file text ds run one.1 two.1)
 alike laws i file text (bad_script told ds) (map_made run count seed) one two = absurd (run_not_refused laws i file text ds run one.1 two.1)
 alike laws i file text (bad_script told ds) (tell_kinds too warnings K known) one two = absurd (telling_not_refused laws i file text ds warnings K known one.1 two.2)
 alike laws i file text (map_lines run) bad_words one two = absurd two
-alike laws i file text (map_lines run) (bad_kind f) one two = same_requests _ _ (kind_alone laws i file text f (map_lines run) two one)
+alike laws i file text (map_lines run) (bad_kind f) one two = kind_alone laws i file text f (map_lines run) two one
 alike laws i file text (map_lines run) (bad_script told ds) one two = absurd (run_not_refused laws i file text ds run two.1 one.1)
-alike laws i file text (map_lines run) (map_lines other) one two = same_requests _ _ (ap map_lines (one_run laws i file text run other one.1 two.1))
+alike laws i file text (map_lines run) (map_lines other) one two = ap map_lines (one_run laws i file text run other one.1 two.1)
 alike laws i file text (map_lines run) (map_made other count seed) one two = absurd (lines_not_generate one.0 two.0)
 alike laws i file text (map_lines run) (tell_kinds too warnings K known) one two = absurd (lines_not_check one.0 two.0)
 alike laws i file text (map_made run count seed) bad_words one two = absurd two
-alike laws i file text (map_made run count seed) (bad_kind f) one two = same_requests _ _ (kind_alone laws i file text f (map_made run count seed) two one)
+alike laws i file text (map_made run count seed) (bad_kind f) one two = kind_alone laws i file text f (map_made run count seed) two one
 alike laws i file text (map_made run count seed) (bad_script told ds) one two = absurd (run_not_refused laws i file text ds run two.1 one.1)
 alike laws i file text (map_made run count seed) (map_lines other) one two = absurd (lines_not_generate two.0 one.0)
-alike laws i file text (map_made run count seed) (map_made other number start) one two = same_requests _ _ (same_made laws i file text run other count seed number start one two)
+alike laws i file text (map_made run count seed) (map_made other number start) one two = same_made laws i file text run other count seed number start one two
 alike laws i file text (map_made run count seed) (tell_kinds too warnings K known) one two = absurd (check_not_generate two.0 one.0)
 alike laws i file text (tell_kinds told warnings K known) bad_words one two = absurd two
-alike laws i file text (tell_kinds told warnings K known) (bad_kind f) one two = same_requests _ _ (kind_alone laws i file text f (tell_kinds told warnings K known) two one)
+alike laws i file text (tell_kinds told warnings K known) (bad_kind f) one two = kind_alone laws i file text f (tell_kinds told warnings K known) two one
 alike laws i file text (tell_kinds told warnings K known) (bad_script too ds) one two = absurd (telling_not_refused laws i file text ds warnings K known two.1 one.2)
 alike laws i file text (tell_kinds told warnings K known) (map_lines run) one two = absurd (lines_not_check two.0 one.0)
 alike laws i file text (tell_kinds told warnings K known) (map_made run count seed) one two = absurd (check_not_generate one.0 two.0)
-alike laws i file text (tell_kinds told warnings K known) (tell_kinds too warned L other) one two = same_requests _ _ (same_tellings laws i file text told too warnings warned K L known other one two)
+alike laws i file text (tell_kinds told warnings K known) (tell_kinds too warned L other) one two = same_tellings laws i file text told too warnings warned K L known other one two
 
-alike_asked : Laws → (invocation : Option Invocation) (text file : Option (List ℕ)) (a b : Request) → Asks invocation (record { script = text; kind_file = file }) a → Asks invocation (record { script = text; kind_file = file }) b → AreAlikeRequests a b
-alike_asked laws None text file a b one two = same_requests a b (one ∙ sym two)
+alike_asked : Laws → (invocation : Option Invocation) (text file : Option (List ℕ)) (a b : Request) → Asks invocation (record { script = text; kind_file = file }) a → Asks invocation (record { script = text; kind_file = file }) b → a ≡ b
+alike_asked laws None text file a b one two = one ∙ sym two
 alike_asked laws (Some i) None file a b one two = absurd one
 alike_asked laws (Some i) (Some text) file a b one two = alike laws i file text a b one two
 
 pub one_answer : Laws → (invocation : Option Invocation) (texts : Texts) → HasOneAnswer (Asks invocation texts)
-one_answer laws invocation texts a b one two = (alike_asked laws invocation texts.script texts.kind_file a b one two).answers
+one_answer laws invocation texts a b one two = alike_asked laws invocation texts.script texts.kind_file a b one two
 
 -- what may come of one request that is asked may come of each
 pub comes_of_each : Laws → (invocation : Option Invocation) (texts : Texts) (a b : Request) (s : Status) → Asks invocation texts a → MayCome a s → Asks invocation texts b → MayCome b s
-comes_of_each laws invocation texts a b s one comes two = (alike_asked laws invocation texts.script texts.kind_file a b one two).statuses s comes
+comes_of_each laws invocation texts a b s one comes two = subst (λ r. MayCome r s) (one_answer laws invocation texts a b one two) comes

@@ -17,7 +17,7 @@ pub record IsCall (held : Held) (invocation : Option Invocation) (failures failu
   -- An answer comes with all its bytes, and is the answer to what was asked. Whatever the status, nothing is written but a front of that answer, and no more of the
   -- input is taken than may be.
   pub leaves : LeavesDevices (Asks invocation texts) status before after
-  -- One answer fits what is asked, but for the place where the grammar reads no script.
+  -- One answer fits what is asked.
   pub one_answer : HasOneAnswer (Asks invocation texts)
   -- No diagnostic of a script is told twice.
   pub once : AreToldOnce (Asks invocation texts)

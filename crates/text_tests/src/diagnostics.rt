@@ -59,7 +59,10 @@ fn lines_of_a_script(rt: HostRuntime) -> Result<(), Memory> {
         severity(code::UNNECESSARY_ERROR_COALESCING),
         Severity::Warning
     );
-    assert_eq!(rt; title(code::FORM_NOT_BUILT), "form not built yet");
+    assert_eq!(rt;
+        title(code::METADATA_ASSIGNED_NO_OBJECT),
+        "metadata assigned no object"
+    );
     assert!(rt; list.into_vec().len() == 2);
     Ok(())
 }

@@ -1,17 +1,15 @@
-ghost use Rattle.std.specs.Prelude.{◌≡◌, false, IfOk, IfSome};
+ghost use Rattle.std.specs.Prelude.{◌≡◌, IfOk, IfSome};
 ghost use Rattle.vrl_kind.specs.KindTree.{no_fields, json_rest};
 ghost use Rattle.vrl_kind.specs.Make.{object_kind};
 ghost use Rattle.vrl_syntax.specs.Limits.{KeepsLimits};
-ghost use Rattle.vrl_syntax.specs.Tree.{Exprs as Items};
 ghost use Rattle.vrl_syntax.specs.View.{exprs_of};
 ghost use Rattle.vrl_check.specs.Answer.{IsJudged};
-ghost use Rattle.vrl_check.specs.Calls.{exprs_hold_closure_call};
 ghost use Rattle.vrl_judge.specs.Rules.{Judgement};
 
 // Scripts without calls: what is wrong with them, the kind of what they give, and what is known then.
 use std::alloc::Global;
 use std::process::Abort;
-use vrl_check::{Judged, check, ending, holds_closure_call};
+use vrl_check::{Judged, check, ending};
 use vrl_diag::{Diagnostic, render};
 use vrl_kind::{Kind, Rest, equal_tags_are_one_kind, kind_is_canonical, print};
 use vrl_parse::parse;
@@ -57,10 +55,10 @@ fn event_kind(alloc: Global) -> Result<Kind, Memory>
 
 // What a script is judged to be over objects of JSON. `None`: it isn't judged.
 fn judged_script(alloc: Global, script: &Script) -> Result<Option<Judged>, Memory>
-    ensures { IfOk result (λ found. IfSome found (λ judged. (items : Items) × (j : Judgement) × IsJudged items j judged)) }
+    ensures { IfOk result (λ found. IfSome found (λ judged. (j : Judgement) × IsJudged j judged)) }
 {
     let faults = limit_faults(alloc, &script.items)?;
-    if !faults.as_slice().is_empty() || holds_closure_call(&script.items) {
+    if !faults.as_slice().is_empty() {
         return Ok(None);
     }
     match Patterns::build(alloc, &script.patterns) {
@@ -76,10 +74,9 @@ fn judged_beside(
     script: &Script,
     patterns: &Patterns,
 ) -> Result<Option<Judged>, Memory>
-    requires calls { exprs_hold_closure_call (exprs_of script.now.items) ≡ false }
     requires limits { KeepsLimits (exprs_of script.now.items) }
     requires patterns { patterns.now ≡ script.now.patterns }
-    ensures { IfOk result (λ found. IfSome found (λ judged. (items : Items) × (j : Judgement) × IsJudged items j judged)) }
+    ensures { IfOk result (λ found. IfSome found (λ judged. (j : Judgement) × IsJudged j judged)) }
 {
     if !regexes_below(&script.items, patterns.sources().len()) {
         return Ok(None);
@@ -91,7 +88,7 @@ fn judged_beside(
 
 // The same of a text.
 fn judged(alloc: Global, text: &str) -> Result<Option<Judged>, Memory>
-    ensures { IfOk result (λ found. IfSome found (λ judged. (items : Items) × (j : Judgement) × IsJudged items j judged)) }
+    ensures { IfOk result (λ found. IfSome found (λ judged. (j : Judgement) × IsJudged j judged)) }
 {
     match script_of(alloc, text)? {
         Some(script) => judged_script(alloc, &script),
@@ -150,7 +147,7 @@ fn push_known(alloc: Global, known: &Known, told: &mut String) -> Result<(), Mem
 
 // The kind of what a script gives, and what is known then.
 fn end_of(alloc: Global, judged: &Judged) -> Result<String, Memory>
-    requires { (items : Items) × (j : Judgement) × IsJudged items j judged.now }
+    requires { (j : Judgement) × IsJudged j judged.now }
 {
     let end = ending(alloc, judged)?;
     let mut told = String::from_str(alloc, print(alloc, &end.kind)?.as_str())?;
@@ -470,8 +467,19 @@ fn empty_values(rt: HostRuntime) -> Result<(), Memory> {
     expect(&rt, rt.alloc(), Asked::Empties, &EMPTIES)
 }
 
-const LOOPS: [(&str, &str); 4] = [
+const LOOPS: [(&str, &str); 8] = [
     ("1", ""),
+    ("for_each([1]) -> |i, v| { v }", "alive,"),
+    // A collection without parts, and a closure that isn't one for the function.
+    (
+        "for_each([]) -> |i, v| { for_each([1]) -> |j, w| { w } }",
+        "alive,dead,",
+    ),
+    ("for_each([1]) -> |i| { i }", "dead,"),
+    (
+        "filter(map_values([1]) -> |v| { v }) -> |i, v| { true }",
+        "alive,alive,",
+    ),
     ("abs(1) -> |v| { v }", "dead,"),
     ("abs(abs(1) -> |v| { v }) -> |w| { w }", "dead,dead,"),
     (

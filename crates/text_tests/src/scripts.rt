@@ -97,7 +97,7 @@ fn built_scripts_are_accepted(rt: HostRuntime) -> Result<(), Memory> {
 /// 65 brackets, each in the one before it.
 const NESTED: &str = "(((((((((((((((((((((((((((((((((((((((((((((((((((((((((((((((((";
 
-const REFUSED: [(&str, u16, u32, u32); 37] = [
+const REFUSED: [(&str, u16, u32, u32); 34] = [
     // Spellings at fault.
     (".x = \"a", 203, 5, 7),
     (".x = \"{{ a }}\"", 1016, 5, 14),
@@ -119,10 +119,6 @@ const REFUSED: [(&str, u16, u32, u32); 37] = [
     (".a[65536] = 1", 1012, 0, 9),
     (".a[65536] = 1; .a[-1] = 2", 1012, 0, 9),
     ("del(.a[-1])", 1007, 4, 10),
-    // Functions that aren't built.
-    (".x = filter({}) -> |k, v| { true }", 1099, 0, 0),
-    ("map_keys!(r'(')", 1099, 0, 0),
-    ("for_each({}) -> |k, v| { k }", 1099, 0, 0),
     // Regex literals that are malformed.
     (".x = r'('", 101, 5, 9),
     ("f(r'a', r'[')", 101, 8, 12),

@@ -1,14 +1,18 @@
 -- What is answered of a script that was judged.
-use Rattle.std.proofs.Common.{◌≡◌, [], ◌++◌, Option, Some, None, unwrap_or, refl, sym, ap, ap₂, ◌∙◌, subst}
+use Rattle.std.proofs.Common.{◌≡◌, List, [], ◌∷◌, ◌++◌, map, All, Option, Some, None, unwrap_or, refl, sym, ap, ap₂, ◌∙◌, subst, append_assoc, append-nil}
+use Rattle.std.proofs.lemmas.List.Elements.{All-append, All-cons, All-nil}
 use Rattle.vrl_kind.specs.KindTree.{KindTree}
 use Rattle.vrl_state.specs.Known.{known_as, HaveRootKinds}
 use Rattle.vrl_state.specs.States.{IsEither, IsJoined, IsRootKind, IsStart, RootMap, State}
+use Rattle.vrl_state.specs.declared.known.Known.{Known}
+use Rattle.vrl_state.specs.declared.known.Known.TheVariants.{Dead}
 use Rattle.vrl_syntax.specs.Tree.{Exprs}
 use Rattle.vrl_check.specs.Answer.{outside, IsEnding, IsJudged}
 use Rattle.vrl_judge.specs.Returns.{return_kind, return_state, returning}
-use Rattle.vrl_judge.specs.Rules.{Judgement, settle}
+use Rattle.vrl_judge.specs.Closures.{loops_told}
+use Rattle.vrl_judge.specs.Rules.{Judgement, Loop, settle}
 use Rattle.vrl_check.specs.Judgement.{JudgesScript, a_script}
-use Rattle.vrl_judge.specs.Judging.{known_on, AreEnds, IsWay}
+use Rattle.vrl_judge.specs.Judging.{branches_known, known_on, loops_known, AreEnds, IsWay}
 use Rattle.vrl_check.specs.Walking.{IsScriptAs}
 use Rattle.vrl_judge.specs.Ordered.{AreOrdered}
 use Rattle.vrl_judge.specs.declared.checker.Checker.{Checker}
@@ -18,7 +22,6 @@ use Rattle.vrl_check.specs.declared.judged.Judged.{Judged}
 use Rattle.vrl_judge.specs.declared.outcome.Outcome.{Outcome}
 use Rattle.vrl_state.proofs.Limits.{either_root}
 use Rattle.vrl_judge.proofs.Joining.{way_known}
-use Rattle.vrl_check.specs.Loops.{closures_in_exprs, deads}
 use Rattle.vrl_check.specs.OpenRules.{language_rules}
 
 -- the ends of a script as they are answered: without an error a dead state stands for it
@@ -35,9 +38,39 @@ fail_outside (Some b) is = let found = way_known [] b is in found.1 ∙ ap outsi
 state_outside : (s : State) (known : Option RootMap) → s.known ≡ known → s.scopes ≡ [] → s ≡ outside known
 state_outside s known is none = λ i. record { known = is i; scopes = none i }
 
-pub script_judged : (start : KindTree) (es : Exprs) (before after : Checker) (outcome : Outcome) (judged : Judged) → IsStart start before.state → before.diagnostics.items ≡ [] → before.empties.items ≡ [] → IsScriptAs es before after outcome
-    → AreAnswered after.state outcome judged → judged.empties ≡ after.empties.items → judged.loops ≡ deads (closures_in_exprs es) → AreOrdered after.diagnostics.items judged.diagnostics → (j : Judgement) × JudgesScript (language_rules before.patterns.now) start es j × IsJudged es j judged
-script_judged start es before after outcome judged starts no_codes no_tags is answered empties loops ordered =
+-- ---- closures as they are answered
+
+-- those that were listed so far, with those that are left, are all
+pub record AreListed (known : List Known) (left all : List (Option State)) : Type 0 where
+  pub is : known ++ map known_as (branches_known left) ≡ map known_as (branches_known all)
+  pub roots : All HaveRootKinds known
+
+pub none_listed : (left all : List (Option State)) (known : List Known) → left ≡ all → known ≡ [] → AreListed known left all
+none_listed left all known same none = record { is = ap (λ ks. ks ++ map known_as (branches_known left)) none ∙ ap (λ bs. map known_as (branches_known bs)) same; roots = subst (All HaveRootKinds) (sym none) (All-nil HaveRootKinds) }
+
+pub listed_next : (known more : List Known) (k : Known) (b : Option State) (left rest all : List (Option State)) → left ≡ b ∷ rest → more ≡ known ++ (k ∷ []) → k ≡ known_as (known_on b) → HaveRootKinds k → AreListed known left all → AreListed more rest all
+listed_next known more k b left rest all is pushed told root so_far = record {
+  is = ap (λ ks. ks ++ map known_as (branches_known rest)) pushed
+      ∙ append_assoc known (k ∷ []) (map known_as (branches_known rest))
+      ∙ ap (λ x. known ++ (x ∷ map known_as (branches_known rest))) told
+      ∙ ap (λ bs. known ++ map known_as (branches_known bs)) (sym is)
+      ∙ so_far.is;
+  roots = subst (All HaveRootKinds) (sym pushed) (All-append HaveRootKinds known (k ∷ []) so_far.roots (All-cons HaveRootKinds k [] root (All-nil HaveRootKinds)));
+}
+
+pub all_listed : (known : List Known) (left all : List (Option State)) → left ≡ [] → AreListed known left all → known ≡ map known_as (branches_known all)
+all_listed known left all none so_far = sym (append-nil known) ∙ ap (λ bs. known ++ map known_as (branches_known bs)) (sym none) ∙ so_far.is
+
+-- they are those that are told
+told_as : (loops : List (Option Loop)) → map known_as (loops_known loops) ≡ loops_told loops
+told_as [] = refl
+told_as (None ∷ loops) = ap (λ ls. Dead ∷ ls) (told_as loops)
+told_as (Some loop ∷ loops) = ap (λ ls. known_as loop.known ∷ ls) (told_as loops)
+
+pub script_judged : (start : KindTree) (es : Exprs) (before after : Checker) (outcome : Outcome) (judged : Judged) → IsStart start before.state → before.diagnostics.items ≡ [] → before.empties.items ≡ [] → before.loops.items ≡ [] → IsScriptAs es before after outcome
+    → AreAnswered after.state outcome judged → judged.empties ≡ after.empties.items → judged.loops ≡ map known_as (branches_known after.loops.items) → All HaveRootKinds judged.loops → AreOrdered after.diagnostics.items judged.diagnostics
+    → (j : Judgement) × JudgesScript (language_rules before.patterns.now) start es j × IsJudged j judged
+script_judged start es before after outcome judged starts no_codes no_tags no_loops is answered empties loops roots ordered =
     let j = settle is.1 in
     let has = is.4 in
     let are : AreEnds [] outcome.ends = subst (λ scopes. AreEnds scopes outcome.ends) starts.scopes has.ends.are in
@@ -54,15 +87,16 @@ script_judged start es before after outcome judged starts no_codes no_tags is an
         returned = ap return_kind answered.ret ∙ has.ends.returned;
         returned_root = subst IsRootKind has.ends.returned are.ret.kind;
         empties = empties ∙ has.gathered.empties ∙ ap (λ ts. ts ++ j.empties) no_tags;
-        loops = loops;
+        loops = loops ∙ ap (map known_as) (has.gathered.loops ∙ ap (λ bs. branches_known bs ++ loops_known j.loops) no_loops) ∙ told_as j.loops;
+        loop_roots = roots;
         diagnostics = subst (λ codes. AreOrdered codes judged.diagnostics) (has.gathered.diagnostics ∙ ap (λ ds. ds ++ j.codes) no_codes) ordered;
       },
     )
 
 -- to a dead state the script's end is joined, and then its return
-pub ended : (judged : Judged) (start first known : Option RootMap) (r : Option Returned) (K : KindTree) (items : Exprs) (j : Judgement) → IsJudged items j judged → start ≡ None → IsJoined start judged.ok.known first → judged.ret ≡ r → IsJoined first (return_state r) known → IsEither judged.kind (return_kind r) K
+pub ended : (judged : Judged) (start first known : Option RootMap) (r : Option Returned) (K : KindTree) (j : Judgement) → IsJudged j judged → start ≡ None → IsJoined start judged.ok.known first → judged.ret ≡ r → IsJoined first (return_state r) known → IsEither judged.kind (return_kind r) K
     → (end : Ending) → end ≡ record { kind = K; state = known_as known } → HaveRootKinds end.state → IsEnding judged end
-ended judged start first known r K items j told dead one ret two either end is roots =
+ended judged start first known r K j told dead one ret two either end is roots =
     let first_is : first ≡ judged.ok.known = subst (λ s. IsJoined s judged.ok.known first) dead one in
     let kind = subst (λ x. IsEither judged.kind (return_kind x) end.kind) (sym ret) (subst (IsEither judged.kind (return_kind r)) (sym (ap (λ e. e.kind) is)) either) in
     record {

@@ -5,6 +5,7 @@ use Rattle.std.specs.List.{list_any}
 use Rattle.std.proofs.lemmas.Bool.{true≢false}
 use Rattle.vrl_diag.specs.declared.diagnostic.Diagnostic.{Diagnostic}
 use Rattle.vrl_diag.specs.declared.diagnostic.Span.{Span}
+use Rattle.vrl_kind.specs.Canonical.{any_kind}
 use Rattle.vrl_kind.specs.KindTree.{KindTree}
 use Rattle.vrl_state.specs.States.{RootMap}
 use Rattle.vrl_syntax.specs.Tree.{Args, Arms, Closure, Else, Expr, expr, Exprs, Form, Message, Pairs, no_args, arg, no_arms, arm, no_closure, closure, no_else, else_block, no_exprs, exprs, no_message, message, no_pairs, pair, literal, array, object, read, query, group, block, conditional, negation, binary, assign, merge, both, call, return_of, abort_with, span_of}
@@ -13,12 +14,13 @@ use Rattle.vrl_syntax.specs.declared.root.Target.{Target}
 use Rattle.vrl_syntax.specs.declared.root.Target.TheVariants.{Nowhere, Place}
 use Rattle.vrl_table.specs.Binding.{path_parameters}
 use Rattle.vrl_table.specs.Table.{row_of, ParametersAreToldApart}
-use Rattle.vrl_judge.specs.Rules.{Argument, Judgement, is_alive, is_comparison, is_compared, is_event, is_fallible, is_known, is_message_wrong, is_needless, is_no_event, is_nowhere, is_other, is_equality, at, chained, no_objects, of_assignment, of_error_assignment, of_message, of_predicate, when}
-use Rattle.vrl_check.specs.Apart.{arguments_at, at_place, expressions_at, names_at, nowhere, one_if, same_span, weigh_args, weigh_arms, weigh_closure, weigh_else, weigh_expr, weigh_exprs, weigh_form, weigh_message, weigh_pairs, weigh_target, AreApart, NoCodeStandsTwice, Weights}
-use Rattle.vrl_check.specs.Judgement.{deleted_kind, of_item, pair_values, table_of, wants_literal, wants_path}
-use Rattle.vrl_check.specs.Judgement.{Judges, unreached, reached, Gives, a_literal, an_array, an_object, a_known_root, an_unknown_root, a_query, a_group, a_block, a_conditional, a_negation, an_equality, of_table, a_merge, a_conjunction, a_disjunction, a_coalescing, an_assignment, a_merge_into_nothing, a_merge_assignment, an_error_assignment, a_call_of_nothing, a_call, a_deletion, an_existence, a_return, an_abort, an_abort_with, JudgesBoth, operands, JudgesAll, no_more, one_more, JudgesArguments, no_more_arguments, one_more_argument, JudgesBlock, unreached_block, reached_block, JudgesArms, an_arm, an_else, a_missing_else, JudgesItems, no_more_items, one_more_item, JudgesScript, a_script}
+use Rattle.vrl_judge.specs.Closures.{ClosureBody, Try, of_body}
+use Rattle.vrl_judge.specs.Rules.{Argument, Judgement, Loop, is_alive, is_comparison, is_compared, is_event, is_fallible, is_known, is_message_wrong, is_needless, is_no_event, is_nowhere, is_other, is_equality, at, chained, no_objects, of_assignment, of_error_assignment, of_message, of_predicate, when, with_codes}
+use Rattle.vrl_check.specs.Apart.{arguments_at, at_place, closure_blocks_at, expressions_at, names_at, nothing_weighs, one_if, same_span, weigh_args, weigh_arms, weigh_closure, weigh_else, weigh_expr, weigh_exprs, weigh_form, weigh_message, weigh_pairs, weigh_target, AreApart, NoCodeStandsTwice, Weights}
+use Rattle.vrl_check.specs.Judgement.{deleted_kind, of_item, pair_values, passing_closure, table_of, wants_literal, wants_path}
+use Rattle.vrl_check.specs.Judgement.{Judges, unreached, reached, Gives, a_literal, an_array, an_object, a_known_root, an_unknown_root, a_query, a_group, a_block, a_conditional, a_negation, an_equality, of_table, a_merge, a_conjunction, a_disjunction, a_coalescing, an_assignment, a_merge_into_nothing, a_merge_assignment, an_error_assignment, a_call_of_nothing, a_call, a_deletion, an_existence, a_wrong_closure_call, a_closure_call, a_return, an_abort, an_abort_with, JudgesBoth, operands, JudgesAll, no_more, one_more, JudgesArguments, no_more_arguments, one_more_argument, JudgesBlock, unreached_block, reached_block, JudgesArms, an_arm, an_else, a_missing_else, JudgesBody, unreached_body, reached_body, JudgesTries, a_stable_try, an_unstable_try, JudgesRuns, by_tries, by_what_is_given, JudgesItems, no_more_items, one_more_item, JudgesScript, a_script}
 use Rattle.vrl_check.specs.OpenRules.{OpenRules}
-use Rattle.vrl_check.proofs.CountedCodes.{assigned, behind_counted, both_assigned, both_counted, call_counted, counted, none_counted, one, one_counted, own, own_640, own_650, own_651, own_660, own_701, part, part_100, part_652, part_1011, predicate, spans, three_counted, two_counted, values, weights, when_counted}
+use Rattle.vrl_check.proofs.CountedCodes.{assigned, behind_counted, both_assigned, both_counted, call_counted, counted, none_counted, one, one_counted, own, own_640, own_650, own_651, own_660, own_701, own_1004, part, part_100, part_652, part_1011, predicate, run_counted, spans, three_counted, two_counted, values, weights, when_counted, wrong_counted}
 use Rattle.vrl_value.specs.declared.value.Tag.TheVariants as tag
 use Rattle.vrl_syntax.specs.declared.root.Op.TheVariants as op
 
@@ -88,11 +90,11 @@ module _ (rules : OpenRules) (names_apart : ParametersAreToldApart) (code : ℕ)
   unreached_light (expr span f) = let none = none_counted code here in omega (arith, none)
 
   mutual
-    judges_light : {known : Option RootMap} {e : Expr} {j : Judgement} → Judges rules known e j → count j.codes + at_part (span_of e) ≤ weigh_expr w e
+    judges_light : {inside : Bool} {known : Option RootMap} {e : Expr} {j : Judgement} → Judges rules inside known e j → count j.codes + at_part (span_of e) ≤ weigh_expr w e
     judges_light (unreached {e = e}) = unreached_light e
     judges_light (reached {span = span} {f = f} {j = j} gives) = let few = gives_light gives in omega (arith, few)
 
-    gives_light : {known : RootMap} {span : Span} {f : Form} {j : Judgement} → Gives rules known span f j → count j.codes ≤ at_own span + weigh_form w f
+    gives_light : {inside : Bool} {known : RootMap} {span : Span} {f : Form} {j : Judgement} → Gives rules inside known span f j → count j.codes ≤ at_own span + weigh_form w f
     gives_light (a_literal {span = span} cut) = let none = none_counted code here in omega (arith, none)
     gives_light (an_array {span = span} {es = es} {j = j} all cut) = let few = all_light all in let none = none_counted code here in omega (arith, few, none)
     gives_light (an_object {span = span} {ps = ps} {j = j} all cut) = let few = all_light all in let none = none_counted code here in let same = pair_weights w ps in omega (arith, few, none, same)
@@ -168,7 +170,20 @@ module _ (rules : OpenRules) (names_apart : ParametersAreToldApart) (code : ℕ)
         let few = from_nothing js j gs (arguments_light arguments) in
         let all = call_counted code here wants_path path_parameters span bang gs c js j whole (record whole { kind = K }) (weigh_args w gs) refl few is refl in
         omega (arith, all)
-    gives_light (a_return {span = span} {e = e} {j = j} judged joins either) = let few = judges_light judged in omega (arith, few)
+    gives_light (a_wrong_closure_call {span = span} {s = s} f {bang = bang} {gs = gs} {c = c} {js = js} {j = j} first others named runs arguments is) =
+        let few = from_nothing js j gs (arguments_light arguments) in
+        let all = wrong_counted code here f span bang gs c js j (with_codes (first ∷ others) (passing_closure c (record j { kind = any_kind }))) (first ∷ others) (weigh_args w gs) few is refl in
+        omega (arith, all)
+    gives_light (a_closure_call {span = span} {s = s} f {bang = bang} {gs = gs} {es = es} {t = t} {g = g} {j = j} C key value loop {k = k} {whole = whole} K fail named runs arguments no_codes cut_down key_cut value_cut all_runs next cut joins) =
+        let few = from_nothing (g ∷ []) j gs (arguments_light arguments) in
+        let all = run_counted code here f span t bang (g ∷ []) j k whole (with_codes (of_body f t k) (record whole { kind = K; fail = fail })) (weigh_args w gs) (weigh_exprs w es) few (runs_light all_runs) next.behind.codes refl in
+        omega (arith, all)
+    gives_light (a_return {inside = inside} {span = span} {e = e} {j = j} judged joins either) =
+        let few = judges_light judged in
+        let all = both_counted code here j.codes (when inside (at 1004 span)) in
+        let more = when_counted code here inside 1004 span in
+        let its = own_1004 code here span in
+        omega (arith, few, all, more, its)
     gives_light (an_abort {span = span}) = let none = none_counted code here in omega (arith, none)
     gives_light (an_abort_with {span = span} {e = e} {j = j} judged) =
         let few = judges_light judged in
@@ -178,7 +193,7 @@ module _ (rules : OpenRules) (names_apart : ParametersAreToldApart) (code : ℕ)
         omega (arith, few, all, more, its)
 
     -- a merge gives no code at its own place
-    merge_light : {known : RootMap} {span : Span} {o : Op} {l r : Expr} {j : Judgement} → o ≡ op.Merge → Gives rules known span (binary o l r) j → count j.codes ≤ weigh_expr w l + weigh_expr w r
+    merge_light : {inside : Bool} {known : RootMap} {span : Span} {o : Op} {l r : Expr} {j : Judgement} → o ≡ op.Merge → Gives rules inside known span (binary o l r) j → count j.codes ≤ weigh_expr w l + weigh_expr w r
     merge_light is (a_merge {l = l} {r = r} {j = j} {k = k} {whole = whole} parts merged) = merged_light l r j k whole (operands_light parts)
     merge_light is (an_equality equal parts scalar) = absurd (true≢false (sym equal ∙ ap is_equality is))
     merge_light is (of_table {table = table} from parts cut fails) = absurd (Some≢None (sym from ∙ ap table_of is))
@@ -186,18 +201,18 @@ module _ (rules : OpenRules) (names_apart : ParametersAreToldApart) (code : ℕ)
     merge_light is (a_disjunction left right next cut ok) = absurd (no_merge_or is)
     merge_light is (a_coalescing left right in_order either ok) = absurd (no_merge_coalesce is)
 
-    merge_of : {known : Option RootMap} {span : Span} {l r : Expr} {j : Judgement} → Judges rules known (expr span (binary op.Merge l r)) j → count j.codes ≤ weigh_expr w l + weigh_expr w r
+    merge_of : {inside : Bool} {known : Option RootMap} {span : Span} {l r : Expr} {j : Judgement} → Judges rules inside known (expr span (binary op.Merge l r)) j → count j.codes ≤ weigh_expr w l + weigh_expr w r
     merge_of unreached = let none = none_counted code here in omega (arith, none)
     merge_of (reached gives) = merge_light refl gives
 
-    operands_light : {known : RootMap} {l r : Expr} {j k whole : Judgement} → JudgesBoth rules known l r j k whole → count whole.codes + (at_part (span_of l) + at_part (span_of r)) ≤ weigh_expr w l + weigh_expr w r
+    operands_light : {inside : Bool} {known : RootMap} {l r : Expr} {j k whole : Judgement} → JudgesBoth rules inside known l r j k whole → count whole.codes + (at_part (span_of l) + at_part (span_of r)) ≤ weigh_expr w l + weigh_expr w r
     operands_light (operands {l = l} {r = r} {j = j} {k = k} {whole = whole} left right next) =
         let first = judges_light left in
         let second = judges_light right in
         let codes = behind_counted code here j k whole next.behind in
         omega (arith, first, second, codes)
 
-    all_light : {before after : Judgement} {es : Exprs} {Ks : List KindTree} → JudgesAll rules before es Ks after → count after.codes ≤ count before.codes + weigh_exprs w es
+    all_light : {inside : Bool} {before after : Judgement} {es : Exprs} {Ks : List KindTree} → JudgesAll rules inside before es Ks after → count after.codes ≤ count before.codes + weigh_exprs w es
     all_light (no_more {before = before}) = omega arith
     all_light (one_more {before = before} {j = j} {middle = middle} {after = after} {e = e} {es = es} judged next rest) =
         let first = judges_light judged in
@@ -205,7 +220,7 @@ module _ (rules : OpenRules) (names_apart : ParametersAreToldApart) (code : ℕ)
         let others = all_light rest in
         omega (arith, first, codes, others)
 
-    arguments_light : {before after : Judgement} {gs : Args} {js : List Argument} → JudgesArguments rules before gs js after → count after.codes + (values code here js + spans code here js) ≤ count before.codes + weigh_args w gs
+    arguments_light : {inside : Bool} {before after : Judgement} {gs : Args} {js : List Argument} → JudgesArguments rules inside before gs js after → count after.codes + (values code here js + spans code here js) ≤ count before.codes + weigh_args w gs
     arguments_light (no_more_arguments {before = before}) = omega arith
     arguments_light (one_more_argument {before = before} {j = j} {middle = middle} {after = after} {span = span} {e = e} {gs = gs} {js = js} judged next rest) =
         let first = judges_light judged in
@@ -213,11 +228,11 @@ module _ (rules : OpenRules) (names_apart : ParametersAreToldApart) (code : ℕ)
         let others = arguments_light rest in
         omega (arith, first, codes, others)
 
-    block_light : {known : Option RootMap} {es : Exprs} {j : Judgement} → JudgesBlock rules known es j → count j.codes ≤ weigh_exprs w es
+    block_light : {inside : Bool} {known : Option RootMap} {es : Exprs} {j : Judgement} → JudgesBlock rules inside known es j → count j.codes ≤ weigh_exprs w es
     block_light (unreached_block {es = es}) = let none = none_counted code here in omega (arith, none)
     block_light (reached_block {es = es} {j = j} null all) = let few = all_light all in let none = none_counted code here in omega (arith, few, none)
 
-    arms_light : {state : Option RootMap} {ways all : Judgement} {gs : Arms} {otherwise : Else} → JudgesArms rules state ways gs otherwise all → count all.codes ≤ count ways.codes + (weigh_arms w gs + weigh_else w otherwise)
+    arms_light : {inside : Bool} {state : Option RootMap} {ways all : Judgement} {gs : Arms} {otherwise : Else} → JudgesArms rules inside state ways gs otherwise all → count all.codes ≤ count ways.codes + (weigh_arms w gs + weigh_else w otherwise)
     arms_light (an_arm {ways = ways} {j = j} {with_predicate = with_predicate} {k = k} {with_branch = with_branch} {all = all} {p = p} {es = es} {gs = gs} {otherwise = otherwise} judged beside branch besides rest) =
         let first = judges_light judged in
         let outer = ap count beside.codes ∙ both_counted code here ways.codes (j.codes ++ of_predicate (span_of p) j) in
@@ -236,6 +251,18 @@ module _ (rules : OpenRules) (names_apart : ParametersAreToldApart) (code : ℕ)
         let next = ap count beside.codes ∙ both_counted code here ways.codes [] in
         omega (arith, none, next)
 
+    body_light : {b : ClosureBody} {known : Option RootMap} {j : Judgement} → JudgesBody rules b known j → count j.codes ≤ weigh_exprs w b.items
+    body_light (unreached_body {b = b}) = let none = none_counted code here in omega (arith, none)
+    body_light (reached_body branch) = block_light branch
+
+    tries_light : {b : ClosureBody} {try : Try} {known last : Option RootMap} {k : Judgement} → JudgesTries rules b try known last k → count k.codes ≤ weigh_exprs w b.items
+    tries_light (a_stable_try body within) = body_light body
+    tries_light (an_unstable_try body unstable next tries) = tries_light tries
+
+    runs_light : {b : ClosureBody} {known : Option RootMap} {loop : Loop} {k : Judgement} → JudgesRuns rules b known loop k → count k.codes ≤ weigh_exprs w b.items
+    runs_light (by_tries tries) = tries_light tries
+    runs_light (by_what_is_given may body begins goes_on) = body_light body
+
   items_light : {before after : Judgement} {es : Exprs} → JudgesItems rules before es after → count after.codes ≤ count before.codes + weigh_exprs w es
   items_light (no_more_items {before = before}) = omega arith
   items_light (one_more_item {before = before} {j = j} {middle = middle} {after = after} {e = e} {es = es} judged next rest) =
@@ -252,7 +279,7 @@ module _ (rules : OpenRules) (names_apart : ParametersAreToldApart) (code : ℕ)
 
 -- ---- what weighs less at each place weighs less
 
-module _ (u v : Weights) (at_expressions : (span : Span) → u.expression span ≤ v.expression span) (at_names : (span : Span) → u.name span ≤ v.name span) (at_arguments : (span : Span) → u.argument span ≤ v.argument span) where
+module _ (u v : Weights) (at_expressions : (span : Span) → u.expression span ≤ v.expression span) (at_names : (span : Span) → u.name span ≤ v.name span) (at_arguments : (span : Span) → u.argument span ≤ v.argument span) (at_closure_blocks : (span : Span) → u.closure_block span ≤ v.closure_block span) where
   target_less : (t : Target) → weigh_target u t ≤ weigh_target v t
   target_less Nowhere = omega arith
   target_less (Place span root path) = at_expressions span
@@ -301,7 +328,7 @@ module _ (u v : Weights) (at_expressions : (span : Span) → u.expression span �
 
     closure_less : (c : Closure) → weigh_closure u c ≤ weigh_closure v c
     closure_less no_closure = omega arith
-    closure_less (closure names es span) = exprs_less es
+    closure_less (closure names es span) = let one = at_closure_blocks span in let more = exprs_less es in omega (arith, one, more)
 
     message_less : (m : Message) → weigh_message u m ≤ weigh_message v m
     message_less no_message = omega arith
@@ -369,36 +396,43 @@ module _ (code : ℕ) (here : Span) where
   at_one_place : (span : Span) → own code here span + part code here span ≤ one_if (same_span span here)
   unfolding own part
   at_one_place span =
-      let all = one_of_them (100 ∷ 102 ∷ 103 ∷ 104 ∷ 106 ∷ 107 ∷ 110 ∷ 620 ∷ 630 ∷ 640 ∷ 650 ∷ 651 ∷ 652 ∷ 660 ∷ 701 ∷ 1005 ∷ 1006 ∷ 1010 ∷ 1011 ∷ 1013 ∷ []) span refl in
+      let all = one_of_them (100 ∷ 102 ∷ 103 ∷ 104 ∷ 106 ∷ 107 ∷ 110 ∷ 620 ∷ 630 ∷ 640 ∷ 650 ∷ 651 ∷ 652 ∷ 660 ∷ 701 ∷ 1004 ∷ 1005 ∷ 1006 ∷ 1010 ∷ 1011 ∷ 1013 ∷ []) span refl in
       omega (arith, all)
 
--- 105 stands at the name of a call alone, and 108 at an argument
+-- 105 stands at the name of a call alone, 108 at an argument, and 1015 at the block of a closure
 no_more_than : (n : ℕ) → n ≤ n
 no_more_than n = omega arith
 
 name_codes : (here : Span) (items : Exprs) → names_at here items ≤ 1 → weigh_exprs (weights 105 here) items ≤ 1
 unfolding own part one
 name_codes here items apart =
-    let less = exprs_less (weights 105 here) (record { expression = nowhere; name = at_place here; argument = nowhere }) (λ span. no_more_than 0) (λ span. no_more_than (one_if (same_span span here))) (λ span. no_more_than 0) items in
+    let less = exprs_less (weights 105 here) (record nothing_weighs { name = at_place here }) (λ span. no_more_than 0) (λ span. no_more_than (one_if (same_span span here))) (λ span. no_more_than 0) (λ span. no_more_than 0) items in
     omega (arith, less, apart)
 
 argument_codes : (here : Span) (items : Exprs) → arguments_at here items ≤ 1 → weigh_exprs (weights 108 here) items ≤ 1
 unfolding own part one
 argument_codes here items apart =
-    let less = exprs_less (weights 108 here) (record { expression = nowhere; name = nowhere; argument = at_place here }) (λ span. no_more_than 0) (λ span. no_more_than 0) (λ span. no_more_than (one_if (same_span span here))) items in
+    let less = exprs_less (weights 108 here) (record nothing_weighs { argument = at_place here }) (λ span. no_more_than 0) (λ span. no_more_than 0) (λ span. no_more_than (one_if (same_span span here))) (λ span. no_more_than 0) items in
     omega (arith, less, apart)
 
-other_codes : (code : ℕ) (here : Span) (items : Exprs) → expressions_at here items ≤ 1 → nat_eq 105 code ≡ false → nat_eq 108 code ≡ false → weigh_exprs (weights code here) items ≤ 1
-other_codes code here items apart no_name no_argument =
-    let less = exprs_less (weights code here) (record { expression = at_place here; name = nowhere; argument = nowhere }) (at_one_place code here) (λ span. other_code code here 105 span no_name) (λ span. other_code code here 108 span no_argument) items in
+closure_codes : (here : Span) (items : Exprs) → closure_blocks_at here items ≤ 1 → weigh_exprs (weights 1015 here) items ≤ 1
+unfolding own part one
+closure_codes here items apart =
+    let less = exprs_less (weights 1015 here) (record nothing_weighs { closure_block = at_place here }) (λ span. no_more_than 0) (λ span. no_more_than 0) (λ span. no_more_than 0) (λ span. no_more_than (one_if (same_span span here))) items in
+    omega (arith, less, apart)
+
+other_codes : (code : ℕ) (here : Span) (items : Exprs) → expressions_at here items ≤ 1 → nat_eq 105 code ≡ false → nat_eq 108 code ≡ false → nat_eq 1015 code ≡ false → weigh_exprs (weights code here) items ≤ 1
+other_codes code here items apart no_name no_argument no_block =
+    let less = exprs_less (weights code here) (record nothing_weighs { expression = at_place here }) (at_one_place code here) (λ span. other_code code here 105 span no_name) (λ span. other_code code here 108 span no_argument) (λ span. other_code code here 1015 span no_block) items in
     omega (arith, less, apart)
 
 light : (code : ℕ) (here : Span) (items : Exprs) → AreApart items → weigh_exprs (weights code here) items ≤ 1
-light code here items apart = by (nat_eq 105 code) (nat_eq 108 code) refl refl where
-  by : (name argument : Bool) → nat_eq 105 code ≡ name → nat_eq 108 code ≡ argument → weigh_exprs (weights code here) items ≤ 1
-  by true argument is other = subst (λ k. weigh_exprs (weights k here) items ≤ 1) (eqb-true 105 code is) (name_codes here items (apart.names here))
-  by false true is other = subst (λ k. weigh_exprs (weights k here) items ≤ 1) (eqb-true 108 code other) (argument_codes here items (apart.arguments here))
-  by false false is other = other_codes code here items (apart.expressions here) is other
+light code here items apart = by (nat_eq 105 code) (nat_eq 108 code) (nat_eq 1015 code) refl refl refl where
+  by : (name argument closures : Bool) → nat_eq 105 code ≡ name → nat_eq 108 code ≡ argument → nat_eq 1015 code ≡ closures → weigh_exprs (weights code here) items ≤ 1
+  by true argument closures is other last = subst (λ k. weigh_exprs (weights k here) items ≤ 1) (eqb-true 105 code is) (name_codes here items (apart.names here))
+  by false true closures is other last = subst (λ k. weigh_exprs (weights k here) items ≤ 1) (eqb-true 108 code other) (argument_codes here items (apart.arguments here))
+  by false false true is other last = subst (λ k. weigh_exprs (weights k here) items ≤ 1) (eqb-true 1015 code last) (closure_codes here items (apart.closure_blocks here))
+  by false false false is other last = other_codes code here items (apart.expressions here) is other last
 
 pub no_code_twice : ParametersAreToldApart → NoCodeStandsTwice
 unfolding counted

@@ -43,7 +43,7 @@ no_arg_left all i end = at_drop_all args_view all i end
 pub record IsArgumentsPartway (before now : Checker) (whole left : Args) (parts : List CodeArgument) (ends : Ends) : Type 0 where
   pub js : List Argument
   pub j : Judgement
-  pub leads : (more : List Argument) (k : Judgement) → JudgesArguments (language_rules before.patterns.now) j left more k → JudgesArguments (language_rules before.patterns.now) (gives never_kind before.state.known) whole (js ++ more) k
+  pub leads : (more : List Argument) (k : Judgement) → JudgesArguments (language_rules before.patterns.now) before.inside j left more k → JudgesArguments (language_rules before.patterns.now) before.inside (gives never_kind before.state.known) whole (js ++ more) k
   pub has_ends : HasEnds before.state.scopes ends j
   pub gathered : HasGathered before now j
   pub can : ArgumentsCanBeJudged before.patterns.now left
@@ -112,15 +112,15 @@ arguments_next before now after whole left rest name span e parts more_parts arg
     let g : Argument = record { span = span; value = e; judged = p } in
     let both = are so_far.has_ends.are (part_are before now after part so_far.j p so_far.gathered judged.2) in
     let all = part_then before now after ends next part so_far.j p so_far.has_ends so_far.gathered judged.2 joined both in
-    let from : Judges (language_rules before.patterns.now) so_far.j.ok e p = judges_at before now so_far.j.ok e p so_far.gathered.patterns so_far.gathered.ok judged.1 in
+    let from : Judges (language_rules before.patterns.now) before.inside so_far.j.ok e p = judges_at before now so_far.j.ok e p so_far.gathered.patterns so_far.gathered.inside so_far.gathered.ok judged.1 in
     let fewer : args_size (arg name span e rest) ≤ args_size whole = subst (λ l. args_size l ≤ args_size whole) is so_far.fewer in
     let last : argument ≡ part_of g = argument_is ∙ argument_told now after part span e p judged.2 in
     record {
       js = so_far.js ++ (g ∷ []);
       j = behind_with next so_far.j p;
       leads = λ ks k others.
-          subst (λ gs. JudgesArguments (language_rules before.patterns.now) (gives never_kind before.state.known) whole gs k) (sym (append_assoc so_far.js (g ∷ []) ks))
-          (so_far.leads (g ∷ ks) k (subst (λ l. JudgesArguments (language_rules before.patterns.now) so_far.j l (g ∷ ks) k) (sym is) (one_more_argument from all.in_order others)));
+          subst (λ gs. JudgesArguments (language_rules before.patterns.now) before.inside (gives never_kind before.state.known) whole gs k) (sym (append_assoc so_far.js (g ∷ []) ks))
+          (so_far.leads (g ∷ ks) k (subst (λ l. JudgesArguments (language_rules before.patterns.now) before.inside so_far.j l (g ∷ ks) k) (sym is) (one_more_argument from all.in_order others)));
       has_ends = all.ends;
       gathered = all.gathered;
       can = other_arguments_can name span e rest (subst (ArgumentsCanBeJudged before.patterns.now) is so_far.can);
@@ -135,8 +135,8 @@ pub arguments_given : (before now : Checker) (whole left : Args) (arguments : Ar
 arguments_given before now whole left arguments is so_far = (
   so_far.js,
   so_far.j,
-  subst (λ gs. JudgesArguments (language_rules before.patterns.now) (gives never_kind before.state.known) whole gs so_far.j) (append-nil so_far.js)
-      (so_far.leads [] so_far.j (subst (λ l. JudgesArguments (language_rules before.patterns.now) so_far.j l [] so_far.j) (sym is) no_more_arguments)),
+  subst (λ gs. JudgesArguments (language_rules before.patterns.now) before.inside (gives never_kind before.state.known) whole gs so_far.j) (append-nil so_far.js)
+      (so_far.leads [] so_far.j (subst (λ l. JudgesArguments (language_rules before.patterns.now) before.inside so_far.j l [] so_far.j) (sym is) no_more_arguments)),
   record {
     told = record { parts_are = so_far.parts_are; written_are = so_far.written_are ∙ ap (λ l. map place_of so_far.js ++ written l) is ∙ append-nil (map place_of so_far.js) };
     roots = so_far.roots;
@@ -157,4 +157,4 @@ arguments_told gs before now arguments are = (are.0, are.3.told)
 
 pub call_given : (span : Span) (f : Form) (gs : Args) (before now after : Checker) (arguments : Arguments) (outcome : Outcome) → AreArgumentsAs gs before now arguments → IsCalledAs span f gs arguments now after outcome → IsGivenAs span f before after outcome
 call_given span f gs before now after arguments outcome are called known alive =
-    called before known are.0 are.1 alive (subst (λ s. JudgesArguments (language_rules before.patterns.now) (gives never_kind s) gs are.0 are.1) alive are.2) are.3
+    called before known are.0 are.1 alive (subst (λ s. JudgesArguments (language_rules before.patterns.now) before.inside (gives never_kind s) gs are.0 are.1) alive are.2) are.3

@@ -1,6 +1,6 @@
 -- The ways of an `if`, one beside another.
 use Rattle.std.proofs.lemmas.Bool.{and_parts}
-use Rattle.std.proofs.Common.{◌≡◌, ◌≤◌, ◌<◌, ◌+◌, ℕ, suc, false, ◌||◌, List, [], ◌∷◌, ◌++◌, length, drop, get_or, drop-cons, add-one, None, refl, sym, ap, ◌∙◌, subst, append-nil, arith}
+use Rattle.std.proofs.Common.{◌≡◌, ◌≤◌, ◌<◌, ◌+◌, ℕ, suc, ◌||◌, List, [], ◌∷◌, ◌++◌, length, drop, get_or, drop-cons, add-one, Option, None, refl, sym, ap, ◌∙◌, subst, append-nil, arith}
 use Rattle.std.proofs.lemmas.List.{drop_all}
 use Rattle.std.specs.List.{list_any}
 use Rattle.vrl_value.specs.declared.value.Tag.{Tag}
@@ -11,12 +11,11 @@ use Rattle.vrl_syntax.specs.Tree.{Expr, Exprs, Arms, no_arms, arm, Else, no_else
 use Rattle.vrl_syntax.specs.View.{ArmTree, arm_of, arms_view}
 use Rattle.vrl_syntax.specs.declared.tree.Arm.{Arm as CodeArm}
 use Rattle.vrl_kind.specs.Canonical.{never_kind}
-use Rattle.vrl_state.specs.States.{IsEither, IsJoined, IsRootKind, Scope, State}
+use Rattle.vrl_state.specs.States.{IsEither, IsJoined, IsRootKind, RootMap, Scope, State}
 use Rattle.vrl_judge.specs.Returns.{return_kind, return_state}
 use Rattle.vrl_judge.specs.Branching.{no_ways, AreWays, IsBlockBeside, IsLastBeside, IsPredicateBeside}
-use Rattle.vrl_check.specs.Calls.{arms_hold_closure_call, expr_holds_closure_call, exprs_hold_closure_call}
 use Rattle.vrl_diag.specs.Refusal.{is_error}
-use Rattle.vrl_judge.specs.Rules.{Judgement, gives, nothing, of_predicate, settle}
+use Rattle.vrl_judge.specs.Rules.{Judgement, Loop, gives, nothing, of_predicate, settle}
 use Rattle.vrl_check.specs.Judgement.{predicate_of, IsBeside}
 use Rattle.vrl_check.specs.Judgement.{JudgesArms, JudgesBlock, a_conditional, a_missing_else, an_arm, an_else, Judges}
 use Rattle.vrl_judge.specs.Judging.{known_on, AreEnds, AreJoinedEnds, HasJudged, IsReported}
@@ -27,7 +26,8 @@ use Rattle.vrl_judge.specs.declared.branches.Ways.{Ways}
 use Rattle.vrl_judge.specs.declared.checker.Checker.{Checker}
 use Rattle.vrl_judge.specs.declared.ends.Ends.{Ends}
 use Rattle.vrl_judge.specs.declared.outcome.Outcome.{Outcome}
-use Rattle.vrl_check.proofs.Capable.{neither, none_of_both}
+use Rattle.vrl_check.proofs.Capable.{none_of_both}
+use Rattle.vrl_judge.proofs.Parts.{no_loops}
 use Rattle.vrl_state.proofs.Limits.{either_root}
 use Rattle.vrl_judge.proofs.RootKinds.{never_either, never_root}
 use Rattle.vrl_syntax.proofs.PartSizes.{arms_size}
@@ -39,8 +39,8 @@ use Rattle.vrl_check.specs.OpenRules.{language_rules}
 -- ---- ways as they were told
 
 -- the ways of an `if`, taken as a judgement
-abbrev seen_ways : Ways → List Diagnostic → List Tag → Judgement
-seen_ways ways codes tags = record {
+abbrev seen_ways : Ways → List Diagnostic → List Tag → List (Option Loop) → Judgement
+seen_ways ways codes tags loops = record {
   kind = ways.kind;
   ok = known_on ways.ok;
   fail = known_on ways.ends.fail;
@@ -49,9 +49,10 @@ seen_ways ways codes tags = record {
   poisoned = ways.ends.poisoned;
   codes = codes;
   empties = tags;
+  loops = loops;
 }
 
-as_seen_ways : (before now : Checker) (ways : Ways) (w : Judgement) → HasWays before now ways w → w ≡ seen_ways ways w.codes w.empties
+as_seen_ways : (before now : Checker) (ways : Ways) (w : Judgement) → HasWays before now ways w → w ≡ seen_ways ways w.codes w.empties w.loops
 as_seen_ways before now ways w has = λ i. record {
   kind = sym has.kind i;
   ok = sym has.ok i;
@@ -61,22 +62,23 @@ as_seen_ways before now ways w has = λ i. record {
   poisoned = sym has.ends.poisoned i;
   codes = w.codes;
   empties = w.empties;
+  loops = w.loops;
 }
 
-record AreTold (before now : Checker) (ways : Ways) (ds : List Diagnostic) (ts : List Tag) : Type 0 where
+record AreTold (before now : Checker) (ways : Ways) (ds : List Diagnostic) (ts : List Tag) (ls : List (Option Loop)) : Type 0 where
   pub root : IsRootKind ways.kind
   pub are : AreWays before.state.scopes ways
-  pub gathers : Gathers before now ds ts
+  pub gathers : Gathers before now ds ts ls
 
-ways_told_of : (before now : Checker) (ways : Ways) (w : Judgement) → HasWays before now ways w → AreTold before now ways w.codes w.empties
+ways_told_of : (before now : Checker) (ways : Ways) (w : Judgement) → HasWays before now ways w → AreTold before now ways w.codes w.empties w.loops
 ways_told_of before now ways w has = record {
   root = subst IsRootKind (sym has.kind) has.root;
   are = record { ok = has.alive; ends = has.ends.are };
-  gathers = record { scopes = has.scopes; diagnostics = has.diagnostics; empties = has.empties; patterns = has.patterns };
+  gathers = record { scopes = has.scopes; diagnostics = has.diagnostics; empties = has.empties; loops = has.loops; patterns = has.patterns; inside = has.inside };
 }
 
-ways_told : (before now : Checker) (ways : Ways) (ds : List Diagnostic) (ts : List Tag) → AreTold before now ways ds ts → HasWays before now ways (seen_ways ways ds ts)
-ways_told before now ways ds ts is = record {
+ways_told : (before now : Checker) (ways : Ways) (ds : List Diagnostic) (ts : List Tag) (ls : List (Option Loop)) → AreTold before now ways ds ts ls → HasWays before now ways (seen_ways ways ds ts ls)
+ways_told before now ways ds ts ls is = record {
   kind = refl;
   root = is.root;
   alive = is.are.ok;
@@ -85,7 +87,9 @@ ways_told before now ways ds ts is = record {
   scopes = is.gathers.scopes;
   diagnostics = is.gathers.diagnostics;
   empties = is.gathers.empties;
+  loops = is.gathers.loops;
   patterns = is.gathers.patterns;
+  inside = is.gathers.inside;
 }
 
 pub ways_in : (ways : Ways) (scopes scopes' : List Scope) → scopes ≡ scopes' → AreWays scopes ways → AreWays scopes' ways
@@ -97,11 +101,11 @@ ways_here before now ways w has = ways_in ways before.state.scopes now.state.sco
 
 -- ---- one arm
 
-beside_predicate : (p : Expr) (ways middle : Ways) (b c : Checker) (part : Outcome) (ds es : List Diagnostic) (ts us : List Tag) → IsRootKind ways.kind
+beside_predicate : (p : Expr) (ways middle : Ways) (b c : Checker) (part : Outcome) (ds es : List Diagnostic) (ts us : List Tag) (ls ms : List (Option Loop)) → IsRootKind ways.kind
     → IsPredicateBeside (span_of p) part ways b c middle
-    → IsBeside (seen_ways ways ds ts) (record (predicate_of p (seen part b es us)) { kind = never_kind; ok = None }) (seen_ways middle (ds ++ (es ++ of_predicate (span_of p) (seen part b [] []))) (ts ++ us))
-beside_predicate p ways middle b c part ds es ts us root is =
-    let joined : AreJoinedEnds ways.ends (record part.ends { poisoned = part.ends.poisoned || list_any is_error (of_predicate (span_of p) (seen part b [] [])) }) middle.ends =
+    → IsBeside (seen_ways ways ds ts ls) (record (predicate_of p (seen part b es us ms)) { kind = never_kind; ok = None }) (seen_ways middle (ds ++ (es ++ of_predicate (span_of p) (seen part b [] [] []))) (ts ++ us) (ls ++ ms))
+beside_predicate p ways middle b c part ds es ts us ls ms root is =
+    let joined : AreJoinedEnds ways.ends (record part.ends { poisoned = part.ends.poisoned || list_any is_error (of_predicate (span_of p) (seen part b [] [] [])) }) middle.ends =
     subst (λ ends. AreJoinedEnds ways.ends ends middle.ends) is.reported.ends is.ends
     in
     record {
@@ -113,11 +117,12 @@ beside_predicate p ways middle b c part ds es ts us root is =
       poisoned = joined.poisoned;
       codes = refl;
       empties = refl;
+      loops = refl;
     }
 
-beside_block : (middle all : Ways) (e f : Checker) (mark : State) (block : Outcome) (ds es : List Diagnostic) (ts us : List Tag) → IsBlockBeside mark block middle e f all
-    → IsBeside (seen_ways middle ds ts) (seen block e es us) (seen_ways all (ds ++ es) (ts ++ us))
-beside_block middle all e f mark block ds es ts us is = record {
+beside_block : (middle all : Ways) (e f : Checker) (mark : State) (block : Outcome) (ds es : List Diagnostic) (ts us : List Tag) (ls ms : List (Option Loop)) → IsBlockBeside mark block middle e f all
+    → IsBeside (seen_ways middle ds ts ls) (seen block e es us ms) (seen_ways all (ds ++ es) (ts ++ us) (ls ++ ms))
+beside_block middle all e f mark block ds es ts us ls ms is = record {
   kind = is.kind;
   ok = is.ok;
   fail = is.ends.fail;
@@ -126,39 +131,41 @@ beside_block middle all e f mark block ds es ts us is = record {
   poisoned = is.ends.poisoned;
   codes = refl;
   empties = refl;
+  loops = refl;
 }
 
 -- the state that was marked, and the one behind the predicate
-gathers_arm : (before a b c e : Checker) (s mark : State) (part block : Outcome) (old new : Ends) (ds es ps qs : List Diagnostic) (ts us vs : List Tag) → Gathers before a ds ts → Gathers a b es us → IsReported ps b c old new → s ≡ c.state → Gathers (record c { state = s }) e qs vs → mark ≡ c.state
-    → Gathers before (record e { state = mark }) ((ds ++ (es ++ ps)) ++ qs) ((ts ++ us) ++ vs)
-gathers_arm before a b c e s mark part block old new ds es ps qs ts us vs first second reported same third marked =
-    let here = gathers_both before a c ds (es ++ ps) ts us first (gathers_reported a b c es ps us old new second reported) in
-    let there = gathers_both before c e (ds ++ (es ++ ps)) qs (ts ++ us) vs here (record { scopes = third.scopes ∙ ap (λ x. x.scopes) same; diagnostics = third.diagnostics; empties = third.empties; patterns = third.patterns }) in
-    record { scopes = ap (λ x. x.scopes) marked ∙ here.scopes; diagnostics = there.diagnostics; empties = there.empties; patterns = there.patterns }
+gathers_arm : (before a b c e : Checker) (s mark : State) (part block : Outcome) (old new : Ends) (ds es ps qs : List Diagnostic) (ts us vs : List Tag) (ls ms ns : List (Option Loop)) → Gathers before a ds ts ls → Gathers a b es us ms → IsReported ps b c old new → s ≡ c.state → Gathers (record c { state = s }) e qs vs ns → mark ≡ c.state
+    → Gathers before (record e { state = mark }) ((ds ++ (es ++ ps)) ++ qs) ((ts ++ us) ++ vs) ((ls ++ ms) ++ ns)
+gathers_arm before a b c e s mark part block old new ds es ps qs ts us vs ls ms ns first second reported same third marked =
+    let here = gathers_both before a c ds (es ++ ps) ts us ls ms first (gathers_reported a b c es ps us ms old new second reported) in
+    let back : Gathers c e qs vs ns = record { scopes = third.scopes ∙ ap (λ x. x.scopes) same; diagnostics = third.diagnostics; empties = third.empties; loops = third.loops; patterns = third.patterns; inside = third.inside } in
+    let there = gathers_both before c e (ds ++ (es ++ ps)) qs (ts ++ us) vs (ls ++ ms) ns here back in
+    record { scopes = ap (λ x. x.scopes) marked ∙ here.scopes; diagnostics = there.diagnostics; empties = there.empties; loops = there.loops; patterns = there.patterns; inside = there.inside }
 
-arm_told : (t : ArmTree) (before a b c e f : Checker) (s mark : State) (ways middle all : Ways) (part block : Outcome) (ds : List Diagnostic) (ts : List Tag) → AreTold before a ways ds ts → IsToldExpr t.0 a b part
+arm_told : (t : ArmTree) (before a b c e f : Checker) (s mark : State) (ways middle all : Ways) (part block : Outcome) (ds : List Diagnostic) (ts : List Tag) (ls : List (Option Loop)) → AreTold before a ways ds ts ls → IsToldExpr t.0 a b part
     → IsPredicateBeside (span_of t.0) part ways b c middle → s ≡ c.state → mark ≡ c.state → IsToldBlock t.1 (record c { state = s }) e block → IsBlockBeside mark block middle e f all
-    → IsArmAs t (seen_ways ways ds ts) before a f all
-arm_told t before a b c e f s mark ways middle all part block ds ts w x predicate same marked y behind =
-    let ps = of_predicate (span_of t.0) (seen part b [] []) in
-    let gone : Gathers before (record e { state = mark }) ((ds ++ (x.codes ++ ps)) ++ y.codes) ((ts ++ x.tags) ++ y.tags) =
-    gathers_arm before a b c e s mark part block part.ends predicate.predicate ds x.codes ps y.codes ts x.tags y.tags w.gathers x.ended.gathers predicate.reported same y.ended.gathers marked
+    → IsArmAs t (seen_ways ways ds ts ls) before a f all
+arm_told t before a b c e f s mark ways middle all part block ds ts ls w x predicate same marked y behind =
+    let ps = of_predicate (span_of t.0) (seen part b [] [] []) in
+    let gone : Gathers before (record e { state = mark }) ((ds ++ (x.codes ++ ps)) ++ y.codes) ((ts ++ x.tags) ++ y.tags) ((ls ++ x.loops) ++ y.loops) =
+    gathers_arm before a b c e s mark part block part.ends predicate.predicate ds x.codes ps y.codes ts x.tags y.tags ls x.loops y.loops w.gathers x.ended.gathers predicate.reported same y.ended.gathers marked
     in
     let scopes : e.state.scopes ≡ before.state.scopes = y.ended.gathers.scopes ∙ ap (λ x. x.scopes) same ∙ ap (λ x. x.scopes) predicate.reported.state ∙ x.ended.gathers.scopes ∙ w.gathers.scopes in
     record {
-      j = seen part b x.codes x.tags;
-      k = seen block e y.codes y.tags;
-      with_predicate = seen_ways middle (ds ++ (x.codes ++ ps)) (ts ++ x.tags);
-      all = seen_ways all ((ds ++ (x.codes ++ ps)) ++ y.codes) ((ts ++ x.tags) ++ y.tags);
+      j = seen part b x.codes x.tags x.loops;
+      k = seen block e y.codes y.tags y.loops;
+      with_predicate = seen_ways middle (ds ++ (x.codes ++ ps)) (ts ++ x.tags) (ls ++ x.loops);
+      all = seen_ways all ((ds ++ (x.codes ++ ps)) ++ y.codes) ((ts ++ x.tags) ++ y.tags) ((ls ++ x.loops) ++ y.loops);
       predicate = x.judges;
-      first = beside_predicate t.0 ways middle b c part ds x.codes ts x.tags w.root predicate;
-      block = block_at a (record c { state = s }) b.state.known t.1 (seen block e y.codes y.tags) (predicate.reported.patterns ∙ x.ended.gathers.patterns) (ap (λ x. x.known) (same ∙ predicate.reported.state)) y.judges;
-      second = beside_block middle all e f mark block (ds ++ (x.codes ++ ps)) y.codes (ts ++ x.tags) y.tags behind;
+      first = beside_predicate t.0 ways middle b c part ds x.codes ts x.tags ls x.loops w.root predicate;
+      block = block_at a (record c { state = s }) b.state.known t.1 (seen block e y.codes y.tags y.loops) (predicate.reported.patterns ∙ x.ended.gathers.patterns) (predicate.reported.inside ∙ x.ended.gathers.inside) (ap (λ x. x.known) (same ∙ predicate.reported.state)) y.judges;
+      second = beside_block middle all e f mark block (ds ++ (x.codes ++ ps)) y.codes (ts ++ x.tags) y.tags (ls ++ x.loops) y.loops behind;
       known = ap (λ x. x.state.known) behind.back ∙ ap (λ x. x.known) (marked ∙ predicate.reported.state);
-      told = ways_told before f all ((ds ++ (x.codes ++ ps)) ++ y.codes) ((ts ++ x.tags) ++ y.tags) (record {
+      told = ways_told before f all ((ds ++ (x.codes ++ ps)) ++ y.codes) ((ts ++ x.tags) ++ y.tags) ((ls ++ x.loops) ++ y.loops) (record {
         root = either_root middle.kind block.kind all.kind (subst IsRootKind (sym predicate.kind) w.root) y.ended.root behind.kind;
         are = ways_in all e.state.scopes before.state.scopes scopes behind.are;
-        gathers = subst (λ z. Gathers before z ((ds ++ (x.codes ++ ps)) ++ y.codes) ((ts ++ x.tags) ++ y.tags)) (sym behind.back) gone;
+        gathers = subst (λ z. Gathers before z ((ds ++ (x.codes ++ ps)) ++ y.codes) ((ts ++ x.tags) ++ y.tags) ((ls ++ x.loops) ++ y.loops)) (sym behind.back) gone;
       });
     }
 
@@ -167,7 +174,7 @@ pub arm_judged : (t : ArmTree) (span : Span) (a b c e f : Checker) (s mark : Sta
     → IsArmBehind t ways a f all
 arm_judged t span a b c e f s mark ways middle all part block first spans predicate same marked second behind = λ before w has.
     subst (λ v. IsArmAs t v before a f all) (sym (as_seen_ways before a ways w has))
-    (arm_told t before a b c e f s mark ways middle all part block w.codes w.empties (ways_told_of before a ways w has) (told_expr t.0 a b part first)
+    (arm_told t before a b c e f s mark ways middle all part block w.codes w.empties w.loops (ways_told_of before a ways w has) (told_expr t.0 a b part first)
     (subst (λ s. IsPredicateBeside s part ways b c middle) spans predicate) same marked (told_block t.1 (record c { state = s }) e block second) behind)
 
 -- where the ways with the predicate stand behind the block
@@ -179,27 +186,16 @@ middle_here p es span a b c e s ways middle part block predicate same second =
 -- ---- what can be judged
 
 pub predicate_can : {sources : List (List ℕ)} (p : Expr) (es : Exprs) (gs : Arms) → ArmsCanBeJudged sources (arm p es gs) → ExprCanBeJudged sources p
-predicate_can p es gs can = record {
-  calls = (neither (expr_holds_closure_call p) (exprs_hold_closure_call es || arms_hold_closure_call gs) can.calls).0;
-  limits = (none_of_both (expr_faults p) (exprs_faults es ++ arms_faults gs) can.limits).0;
-  regexes = (and_parts _ _ can.regexes).0;
-}
+predicate_can p es gs can = record { limits = (none_of_both (expr_faults p) (exprs_faults es ++ arms_faults gs) can.limits).0; regexes = (and_parts _ _ can.regexes).0 }
 
-behind_predicate : {sources : List (List ℕ)} (p : Expr) (es : Exprs) (gs : Arms) → ArmsCanBeJudged sources (arm p es gs) → ((exprs_hold_closure_call es || arms_hold_closure_call gs) ≡ false) × (exprs_faults es ++ arms_faults gs ≡ [])
-behind_predicate p es gs can = (
-  (neither (expr_holds_closure_call p) (exprs_hold_closure_call es || arms_hold_closure_call gs) can.calls).1,
-  (none_of_both (expr_faults p) (exprs_faults es ++ arms_faults gs) can.limits).1,
-)
+behind_predicate : {sources : List (List ℕ)} (p : Expr) (es : Exprs) (gs : Arms) → ArmsCanBeJudged sources (arm p es gs) → exprs_faults es ++ arms_faults gs ≡ []
+behind_predicate p es gs can = (none_of_both (expr_faults p) (exprs_faults es ++ arms_faults gs) can.limits).1
 
 pub items_can : {sources : List (List ℕ)} (p : Expr) (es : Exprs) (gs : Arms) → ArmsCanBeJudged sources (arm p es gs) → ItemsCanBeJudged sources es
-items_can p es gs can =
-    let rest = behind_predicate p es gs can in
-    record { calls = (neither (exprs_hold_closure_call es) (arms_hold_closure_call gs) rest.0).0; limits = (none_of_both (exprs_faults es) (arms_faults gs) rest.1).0; regexes = (and_parts _ _ (and_parts _ _ can.regexes).1).0 }
+items_can p es gs can = record { limits = (none_of_both (exprs_faults es) (arms_faults gs) (behind_predicate p es gs can)).0; regexes = (and_parts _ _ (and_parts _ _ can.regexes).1).0 }
 
 pub arms_can : {sources : List (List ℕ)} (p : Expr) (es : Exprs) (gs : Arms) → ArmsCanBeJudged sources (arm p es gs) → ArmsCanBeJudged sources gs
-arms_can p es gs can =
-    let rest = behind_predicate p es gs can in
-    record { calls = (neither (exprs_hold_closure_call es) (arms_hold_closure_call gs) rest.0).1; limits = (none_of_both (exprs_faults es) (arms_faults gs) rest.1).1; regexes = (and_parts _ _ (and_parts _ _ can.regexes).1).1 }
+arms_can p es gs can = record { limits = (none_of_both (exprs_faults es) (arms_faults gs) (behind_predicate p es gs can)).1; regexes = (and_parts _ _ (and_parts _ _ can.regexes).1).1 }
 
 -- ---- all arms
 
@@ -209,7 +205,7 @@ pub record AreJudged (whole : Arms) (otherwise : Else) (rest : Arms) (start now 
   pub told : HasWays start now ways w
   pub can : ArmsCanBeJudged start.patterns.now rest
   pub size : arms_size rest ≤ arms_size whole
-  pub judges : (all : Judgement) → JudgesArms (language_rules start.patterns.now) now.state.known w rest otherwise all → JudgesArms (language_rules start.patterns.now) start.state.known (nothing []) whole otherwise all
+  pub judges : (all : Judgement) → JudgesArms (language_rules start.patterns.now) start.inside now.state.known w rest otherwise all → JudgesArms (language_rules start.patterns.now) start.inside start.state.known (nothing []) whole otherwise all
 
 pub none_judged : (whole : Arms) (otherwise : Else) (start : Checker) (ways : Ways) → ways ≡ no_ways → ArmsCanBeJudged start.patterns.now whole → AreJudged whole otherwise whole start start ways
 none_judged whole otherwise start ways none can = subst (AreJudged whole otherwise whole start start) (sym none) (record {
@@ -223,12 +219,26 @@ none_judged whole otherwise start ways none can = subst (AreJudged whole otherwi
     scopes = refl;
     diagnostics = sym (append-nil start.diagnostics.items);
     empties = sym (append-nil start.empties.items);
+    loops = no_loops start;
     patterns = refl;
+    inside = refl;
   };
   can = can;
   size = omega arith;
   judges = λ all is. is;
 })
+
+-- what was judged at one place was judged so at another
+expr_here : (start now : Checker) (known : Option RootMap) (e : Expr) (j : Judgement) → now.patterns ≡ start.patterns → now.inside ≡ start.inside → Judges (language_rules now.patterns.now) now.inside known e j → Judges (language_rules start.patterns.now) start.inside known e j
+expr_here start now known e j same inside judges = subst (λ b. Judges (language_rules start.patterns.now) b known e j) inside (subst (λ ps. Judges (language_rules ps.now) now.inside known e j) same judges)
+
+block_here : (start now : Checker) (known : Option RootMap) (es : Exprs) (j : Judgement) → now.patterns ≡ start.patterns → now.inside ≡ start.inside → JudgesBlock (language_rules now.patterns.now) now.inside known es j → JudgesBlock (language_rules start.patterns.now) start.inside known es j
+block_here start now known es j same inside judges = subst (λ b. JudgesBlock (language_rules start.patterns.now) b known es j) inside (subst (λ ps. JudgesBlock (language_rules ps.now) now.inside known es j) same judges)
+
+arms_here : (start now : Checker) (known : Option RootMap) (ways : Judgement) (gs : Arms) (otherwise : Else) (j : Judgement) → now.patterns ≡ start.patterns → now.inside ≡ start.inside
+    → JudgesArms (language_rules now.patterns.now) now.inside known ways gs otherwise j → JudgesArms (language_rules start.patterns.now) start.inside known ways gs otherwise j
+arms_here start now known ways gs otherwise j same inside judges =
+    subst (λ b. JudgesArms (language_rules start.patterns.now) b known ways gs otherwise j) inside (subst (λ ps. JudgesArms (language_rules ps.now) now.inside known ways gs otherwise j) same judges)
 
 pub one_judged : (whole : Arms) (otherwise : Else) (t : ArmTree) (rest : Arms) (start now after : Checker) (ways all : Ways) → AreJudged whole otherwise (arm t.0 t.1 rest) start now ways → IsArmBehind t ways now after all
     → AreJudged whole otherwise rest start after all
@@ -239,8 +249,9 @@ one_judged whole otherwise t rest start now after ways all so_far next =
       told = is.told;
       can = arms_can t.0 t.1 rest so_far.can;
       size = omega (arith, so_far.size);
-      judges = λ end more. so_far.judges end (an_arm (subst (λ ps. Judges (language_rules ps.now) now.state.known t.0 is.j) so_far.told.patterns is.predicate) is.first (subst (λ ps. JudgesBlock (language_rules ps.now) is.j.ok t.1 is.k) so_far.told.patterns is.block) is.second
-          (subst (λ known. JudgesArms (language_rules start.patterns.now) known is.all rest otherwise end) is.known more));
+      judges = λ end more. so_far.judges end
+          (an_arm (expr_here start now now.state.known t.0 is.j so_far.told.patterns so_far.told.inside is.predicate) is.first (block_here start now is.j.ok t.1 is.k so_far.told.patterns so_far.told.inside is.block) is.second
+          (subst (λ known. JudgesArms (language_rules start.patterns.now) start.inside known is.all rest otherwise end) is.known more));
     }
 
 -- ---- a list of arms
@@ -272,7 +283,7 @@ next_can whole rest otherwise t left start now ways is so_far =
 record IsLast (w : Judgement) (otherwise : Else) (now after : Checker) (last : Outcome) : Type 0 where
   pub k : Judgement
   pub judged : HasJudged now after last k
-  pub judges : (all : Judgement) → IsBeside w k all → JudgesArms (language_rules now.patterns.now) now.state.known w no_arms otherwise all
+  pub judges : (all : Judgement) → IsBeside w k all → JudgesArms (language_rules now.patterns.now) now.inside now.state.known w no_arms otherwise all
 
 is_last : (w : Judgement) (otherwise : Else) (now after : Checker) (last : Outcome) → IsElseAs otherwise now after last → IsLast w otherwise now after last
 is_last w (else_block es) now after last is = record { k = is.0; judged = is.2; judges = λ all beside. an_else is.1 beside }
@@ -289,9 +300,9 @@ pub ways_behind : (otherwise : Else) (start now after : Checker) (ways : Ways) (
 ways_behind otherwise start now after ways w last has is =
     ways_in ways now.state.scopes after.state.scopes (sym (is_last w otherwise now after last is).judged.gathered.scopes) (ways_here start now ways w has)
 
-beside_last : (ways : Ways) (last outcome : Outcome) (after end : Checker) (ds es : List Diagnostic) (ts us : List Tag) → IsLastBeside ways last after end outcome
-    → IsBeside (seen_ways ways ds ts) (seen last after es us) (seen outcome end (ds ++ es) (ts ++ us))
-beside_last ways last outcome after end ds es ts us is = record {
+beside_last : (ways : Ways) (last outcome : Outcome) (after end : Checker) (ds es : List Diagnostic) (ts us : List Tag) (ls ms : List (Option Loop)) → IsLastBeside ways last after end outcome
+    → IsBeside (seen_ways ways ds ts ls) (seen last after es us ms) (seen outcome end (ds ++ es) (ts ++ us) (ls ++ ms))
+beside_last ways last outcome after end ds es ts us ls ms is = record {
   kind = is.kind;
   ok = is.known;
   fail = is.ends.fail;
@@ -300,20 +311,23 @@ beside_last ways last outcome after end ds es ts us is = record {
   poisoned = is.ends.poisoned;
   codes = refl;
   empties = refl;
+  loops = refl;
 }
 
-last_told : (otherwise : Else) (start now after end : Checker) (ways : Ways) (last outcome : Outcome) (ds : List Diagnostic) (ts : List Tag) → AreTold start now ways ds ts → IsLast (seen_ways ways ds ts) otherwise now after last → IsLastBeside ways last after end outcome
-    → (j : Judgement) × JudgesArms (language_rules now.patterns.now) now.state.known (seen_ways ways ds ts) no_arms otherwise j × HasJudged start end outcome j
-last_told otherwise start now after end ways last outcome ds ts w is behind =
+last_told : (otherwise : Else) (start now after end : Checker) (ways : Ways) (last outcome : Outcome) (ds : List Diagnostic) (ts : List Tag) (ls : List (Option Loop)) → AreTold start now ways ds ts ls → IsLast (seen_ways ways ds ts ls) otherwise now after last
+    → IsLastBeside ways last after end outcome → (j : Judgement) × JudgesArms (language_rules now.patterns.now) now.inside now.state.known (seen_ways ways ds ts ls) no_arms otherwise j × HasJudged start end outcome j
+last_told otherwise start now after end ways last outcome ds ts ls w is behind =
     let es = is.k.codes in
     let us = is.k.empties in
-    let x : IsTold now after last es us = told_of now after last is.k is.judged in (
-      seen outcome end (ds ++ es) (ts ++ us),
-      is.judges (seen outcome end (ds ++ es) (ts ++ us)) (subst (λ k. IsBeside (seen_ways ways ds ts) k (seen outcome end (ds ++ es) (ts ++ us))) (sym (as_seen now after last is.k is.judged)) (beside_last ways last outcome after end ds es ts us behind)),
-      told start end outcome (ds ++ es) (ts ++ us) (record {
+    let ms = is.k.loops in
+    let all = seen outcome end (ds ++ es) (ts ++ us) (ls ++ ms) in
+    let x : IsTold now after last es us ms = told_of now after last is.k is.judged in (
+      all,
+      is.judges all (subst (λ k. IsBeside (seen_ways ways ds ts ls) k all) (sym (as_seen now after last is.k is.judged)) (beside_last ways last outcome after end ds es ts us ls ms behind)),
+      told start end outcome (ds ++ es) (ts ++ us) (ls ++ ms) (record {
         root = either_root ways.kind last.kind outcome.kind w.root x.root behind.kind;
         are = subst (λ scopes. AreEnds scopes outcome.ends) (x.gathers.scopes ∙ w.gathers.scopes) behind.are;
-        gathers = gathers_moved start after end (ds ++ es) (ts ++ us) (gathers_both start now after ds es ts us w.gathers x.gathers) behind.moved;
+        gathers = gathers_moved start after end (ds ++ es) (ts ++ us) (ls ++ ms) (gathers_both start now after ds es ts us ls ms w.gathers x.gathers) behind.moved;
       }),
     )
 
@@ -321,10 +335,11 @@ pub conditional_judged : (whole : Arms) (otherwise : Else) (start now after end 
     → IsAnywhereAs (conditional whole otherwise) start end outcome
 conditional_judged whole otherwise start now after end ways last outcome so_far is behind = λ span known alive.
     let same = as_seen_ways start now ways so_far.w so_far.told in
-    let v = seen_ways ways so_far.w.codes so_far.w.empties in
-    let ended = last_told otherwise start now after end ways last outcome so_far.w.codes so_far.w.empties (ways_told_of start now ways so_far.w so_far.told) (is_last v otherwise now after last is) behind in (
+    let v = seen_ways ways so_far.w.codes so_far.w.empties so_far.w.loops in
+    let ended = last_told otherwise start now after end ways last outcome so_far.w.codes so_far.w.empties so_far.w.loops (ways_told_of start now ways so_far.w so_far.told) (is_last v otherwise now after last is) behind in (
       ended.0,
-      a_conditional (subst (λ s. JudgesArms (language_rules start.patterns.now) s (nothing []) whole otherwise ended.0) alive
-          (so_far.judges ended.0 (subst (λ ps. JudgesArms (language_rules ps.now) now.state.known so_far.w no_arms otherwise ended.0) so_far.told.patterns (subst (λ u. JudgesArms (language_rules now.patterns.now) now.state.known u no_arms otherwise ended.0) (sym same) ended.1)))),
+      a_conditional (subst (λ s. JudgesArms (language_rules start.patterns.now) start.inside s (nothing []) whole otherwise ended.0) alive
+          (so_far.judges ended.0 (arms_here start now now.state.known so_far.w no_arms otherwise ended.0 so_far.told.patterns so_far.told.inside
+          (subst (λ u. JudgesArms (language_rules now.patterns.now) now.inside now.state.known u no_arms otherwise ended.0) (sym same) ended.1)))),
       ended.2,
     )

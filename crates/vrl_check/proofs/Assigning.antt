@@ -17,7 +17,7 @@ use Rattle.vrl_syntax.specs.ErrorAssignments.{empty_value}
 use Rattle.vrl_kind.specs.Tags.{same_tag}
 use Rattle.vrl_judge.specs.Rules.{Judgement, at, empty_tag, of_assignment, of_error_assignment, settle, with_codes}
 use Rattle.vrl_check.specs.Judgement.{Judges, a_merge_assignment, a_merge_into_nothing, an_assignment, an_error_assignment, reached}
-use Rattle.vrl_judge.specs.Judging.{known_on, HasJudged, IsAssignedAs, IsReported, IsReturnIn, IsSettledAs, IsWay}
+use Rattle.vrl_judge.specs.Judging.{branches_known, known_on, loops_known, HasJudged, IsAssignedAs, IsReported, IsReturnIn, IsSettledAs, IsWay}
 use Rattle.vrl_check.specs.Walking.{IsAnywhereAs, IsGivenAs, IsJudgedAs}
 use Rattle.vrl_judge.specs.Seen.{seen}
 use Rattle.vrl_judge.specs.declared.checker.Checker.{Checker}
@@ -37,7 +37,7 @@ use Rattle.vrl_check.specs.OpenRules.{language_rules}
 pub assignment_judged : (span : Span) (target : Target) (e : Expr) (a b c : Checker) (part outcome : Outcome) → IsJudgedAs e a b part → IsAssignedAs span target part b c outcome → IsGivenAs span (assign target e) a c outcome
 assignment_judged span target e a b c part outcome first assigned = λ known alive.
     let is = assigned a first.0 first.2 in
-    (with_codes (of_assignment span target first.0) (record first.0 { ok = is.0 }), an_assignment (subst (λ s. Judges (language_rules a.patterns.now) s e first.0) alive first.1) is.1, is.2)
+    (with_codes (of_assignment span target first.0) (record first.0 { ok = is.0 }), an_assignment (subst (λ s. Judges (language_rules a.patterns.now) a.inside s e first.0) alive first.1) is.1, is.2)
 
 -- ---- merges
 
@@ -45,7 +45,7 @@ pub nowhere_judged : (span : Span) (target : Target) (e : Expr) (a b c : Checker
     → IsGivenAs span (merge target e) a c (record { kind = part.kind; ends = ends })
 nowhere_judged span target e a b c part ends is first reported = subst (λ t. IsGivenAs span (merge t e) a c (record { kind = part.kind; ends = ends })) (sym is) (λ known alive. (
   with_codes (at 640 span) first.0,
-  a_merge_into_nothing (subst (λ s. Judges (language_rules a.patterns.now) s e first.0) alive first.1),
+  a_merge_into_nothing (subst (λ s. Judges (language_rules a.patterns.now) a.inside s e first.0) alive first.1),
   reported_judged (at 640 span) a b c part (record { kind = part.kind; ends = ends }) first.0 reported refl first.2,
 ))
 
@@ -95,15 +95,15 @@ same_tag-itself tag.List = refl
 same_tag-itself tag.Object = refl
 same_tag-itself tag.Absent = refl
 
-error_told : (span : Span) (t u : Target) (e : Expr) (a kept b c : Checker) (place : ℕ) (part outcome : Outcome) → kept.state ≡ a.state → kept.diagnostics ≡ a.diagnostics → kept.patterns ≡ a.patterns → kept.empties.items ≡ a.empties.items ++ (tag.Null ∷ [])
+error_told : (span : Span) (t u : Target) (e : Expr) (a kept b c : Checker) (place : ℕ) (part outcome : Outcome) → kept.state ≡ a.state → kept.diagnostics ≡ a.diagnostics → kept.loops ≡ a.loops → kept.patterns ≡ a.patterns → kept.inside ≡ a.inside → kept.empties.items ≡ a.empties.items ++ (tag.Null ∷ [])
     → place ≡ length a.empties.items → IsToldExpr e kept b part → AreAssigned span t u place part b c outcome → IsGivenAs span (both t u e) a c outcome
-error_told span t u e a kept b c place part outcome state diagnostics patterns empties at_place x last = λ known alive.
-    let j = seen part b x.codes x.tags in
+error_told span t u e a kept b c place part outcome state diagnostics loops patterns inside empties at_place x last = λ known alive.
+    let j = seen part b x.codes x.tags x.loops in
     let ds = of_error_assignment span t u j outcome.kind in
     let w = last.written in (
       with_codes ds (record j { kind = outcome.kind; ok = c.state.known; fail = None; empties = empty_tag part.kind ∷ x.tags }),
       an_error_assignment (empty_tag part.kind) w.behind_value.between w.given w.behind_error.written.between w.behind_error.failed
-          (judges_at a kept (Some known) e j patterns (ap (λ s. s.known) state ∙ alive) x.judges) (same_tag-itself (empty_tag part.kind)) last.empty last.kind w.null w.text
+          (judges_at a kept (Some known) e j patterns inside (ap (λ s. s.known) state ∙ alive) x.judges) (same_tag-itself (empty_tag part.kind)) last.empty last.kind w.null w.text
           w.behind_value.first w.behind_value.second w.behind_error.written.first w.behind_error.written.second w.behind_error.joined,
       record {
         kind = refl;
@@ -123,12 +123,14 @@ error_told span t u e a kept b c place part outcome state diagnostics patterns e
           scopes = last.scopes ∙ x.ended.gathers.scopes ∙ ap (λ s. s.scopes) state;
           diagnostics = last.diagnostics ∙ ap (λ y. y ++ ds) (x.ended.gathers.diagnostics ∙ ap (λ v. v.items ++ x.codes) diagnostics) ∙ append_assoc a.diagnostics.items x.codes ds;
           empties = put_behind (empty_tag part.kind) place a.empties.items kept.empties.items b.empties.items c.empties.items x.tags at_place empties x.ended.gathers.empties last.empties;
+          loops = ap (λ v. branches_known v.items) last.loops ∙ x.ended.gathers.loops ∙ ap (λ v. branches_known v.items ++ loops_known x.loops) loops;
           patterns = last.patterns ∙ x.ended.gathers.patterns ∙ patterns;
+          inside = last.inside ∙ x.ended.gathers.inside ∙ inside;
         };
       },
     )
 
-pub error_judged : (span : Span) (t u : Target) (e : Expr) (a kept b c : Checker) (place : ℕ) (part outcome : Outcome) → kept.state ≡ a.state → kept.diagnostics ≡ a.diagnostics → kept.patterns ≡ a.patterns → kept.empties.items ≡ a.empties.items ++ (tag.Null ∷ [])
+pub error_judged : (span : Span) (t u : Target) (e : Expr) (a kept b c : Checker) (place : ℕ) (part outcome : Outcome) → kept.state ≡ a.state → kept.diagnostics ≡ a.diagnostics → kept.loops ≡ a.loops → kept.patterns ≡ a.patterns → kept.inside ≡ a.inside → kept.empties.items ≡ a.empties.items ++ (tag.Null ∷ [])
     → place ≡ length a.empties.items → IsJudgedAs e kept b part → AreAssigned span t u place part b c outcome → IsGivenAs span (both t u e) a c outcome
-error_judged span t u e a kept b c place part outcome state diagnostics patterns empties at_place first last =
-    error_told span t u e a kept b c place part outcome state diagnostics patterns empties at_place (told_expr e kept b part first) last
+error_judged span t u e a kept b c place part outcome state diagnostics loops patterns inside empties at_place first last =
+    error_told span t u e a kept b c place part outcome state diagnostics loops patterns inside empties at_place (told_expr e kept b part first) last

@@ -1,5 +1,6 @@
 -- The branching forms behind their parts.
-use Rattle.std.proofs.Common.{◌≡◌, Bool, not, ◌||◌, List, [], Option, None, is_some, refl, sym, ap, ◌∙◌, subst, append-nil}
+use Rattle.std.proofs.Common.{◌≡◌, Bool, not, ◌||◌, List, [], ◌++◌, Option, None, is_some, refl, sym, ap, ◌∙◌, subst, append-nil}
+use Rattle.std.specs.List.{list_any}
 use Rattle.vrl_value.specs.declared.value.Tag.{Tag}
 use Rattle.vrl_diag.specs.declared.diagnostic.Diagnostic.{Diagnostic}
 use Rattle.vrl_diag.specs.declared.diagnostic.Span.{Span}
@@ -10,7 +11,8 @@ use Rattle.vrl_place.specs.Sets.{is_alone}
 use Rattle.vrl_state.specs.States.{IsCutOf, IsEither, IsJoined, RootMap, State}
 use Rattle.vrl_judge.specs.Returns.{return_kind, return_state}
 use Rattle.vrl_judge.specs.Branching.{AreBothSides, IsAborted, IsConjoined, IsLeftSide, IsOrFail, IsReturned, StandsIn}
-use Rattle.vrl_judge.specs.Rules.{Judgement, at, if_state, is_alive, may_be_no_truth, may_be_truth, nothing, of_message, or_else_at, when, with_codes, IsBehind, IsThen}
+use Rattle.vrl_diag.specs.Refusal.{is_error}
+use Rattle.vrl_judge.specs.Rules.{Judgement, Loop, at, if_state, is_alive, may_be_no_truth, may_be_truth, nothing, of_message, or_else_at, when, with_codes, IsBehind, IsThen}
 use Rattle.vrl_check.specs.Judgement.{Judges, a_conjunction, a_disjunction, a_coalescing, a_return, an_abort, an_abort_with}
 use Rattle.vrl_judge.specs.Judging.{known_on, no_ends, AreEnds, AreJoinedEnds, IsMoved, IsReported}
 use Rattle.vrl_check.specs.Walking.{IsAnywhereAs, IsGivenAs, IsJudgedAs}
@@ -19,10 +21,10 @@ use Rattle.vrl_judge.specs.declared.branches.LeftSide.{LeftSide}
 use Rattle.vrl_judge.specs.declared.checker.Checker.{Checker}
 use Rattle.vrl_judge.specs.declared.ends.Ends.{Ends}
 use Rattle.vrl_judge.specs.declared.outcome.Outcome.{Outcome}
-use Rattle.vrl_judge.proofs.Parts.{are_ends_of, behind_with, is_behind, reported_judged, returns_but_fail}
+use Rattle.vrl_judge.proofs.Parts.{are_ends_of, behind_with, is_behind, no_loops, reported_judged, returns_but_fail}
 use Rattle.vrl_state.proofs.Limits.{either_root}
 use Rattle.vrl_judge.proofs.RootKinds.{never_root, or_else_root, scalar_root}
-use Rattle.vrl_judge.proofs.Told.{gathers_codes, gathers_moved, gathers_two, has_gathered, IsTold}
+use Rattle.vrl_judge.proofs.Told.{gathers_codes, gathers_two, has_gathered, IsTold}
 use Rattle.vrl_check.proofs.Told.{judges_at, told_expr, IsToldExpr}
 use Rattle.vrl_judge.proofs.Joining.{branch_alive, no_ends_are}
 use Rattle.vrl_value.specs.declared.value.Tag.TheVariants as tag
@@ -32,8 +34,8 @@ use Rattle.vrl_check.specs.OpenRules.{language_rules}
 -- ---- two sides
 
 -- where the right one's scopes are those of the whole
-scopes_of_two : (a b c d : Checker) (part other : Outcome) (ds es : List Diagnostic) (ts us : List Tag) → IsTold a b part ds ts → IsMoved b c → IsTold c d other es us → d.state.scopes ≡ a.state.scopes
-scopes_of_two a b c d part other ds es ts us first moved second = second.gathers.scopes ∙ moved.scopes ∙ first.gathers.scopes
+scopes_of_two : (a b c d : Checker) (part other : Outcome) (ds es : List Diagnostic) (ts us : List Tag) (ls ms : List (Option Loop)) → IsTold a b part ds ts ls → IsMoved b c → IsTold c d other es us ms → d.state.scopes ≡ a.state.scopes
+scopes_of_two a b c d part other ds es ts us ls ms first moved second = second.gathers.scopes ∙ moved.scopes ∙ first.gathers.scopes
 
 -- where the left side stands behind the right one, for a call behind it
 pub stands_here : (r : Expr) (start beside : Option RootMap) (b c d : Checker) (side : LeftSide) (other : Outcome) → IsLeftSide start beside b c side → IsJudgedAs r c d other → StandsIn d.state.scopes side
@@ -45,25 +47,25 @@ conjunction_told : (l r : Expr) (a b c d e : Checker) (part other outcome : Outc
     → IsToldExpr r c d other → IsConjoined side other d e outcome
     → IsAnywhereAs (binary op.And l r) a e outcome
 conjunction_told l r a b c d e part other outcome side x step or_fail y last = λ span known alive.
-    let j = seen part b x.codes x.tags in
-    let k = seen other d y.codes y.tags in
+    let j = seen part b x.codes x.tags x.loops in
+    let k = seen other d y.codes y.tags y.loops in
     let behind : IsBehind j k (behind_with last.both j k) = is_behind side.part.ends other.ends last.both j k (returns_but_fail part.ends side.part.ends j or_fail.others (refl, refl, refl)) (refl, refl, refl) last.ends in (
       record (behind_with last.both j k) { kind = outcome.kind; ok = e.state.known; fail = known_on outcome.ends.fail },
       a_conjunction (known_on side.part.ends.fail) (known_on last.both.fail)
-          (subst (λ s. Judges (language_rules a.patterns.now) s l j) alive x.judges) (judges_at a c _ r k (step.moved.patterns ∙ x.ended.gathers.patterns) step.known y.judges) behind last.kind
+          (subst (λ s. Judges (language_rules a.patterns.now) a.inside s l j) alive x.judges) (judges_at a c _ r k (step.moved.patterns ∙ x.ended.gathers.patterns) (step.moved.inside ∙ x.ended.gathers.inside) step.known y.judges) behind last.kind
           (subst (λ s. IsJoined s (if_state (may_be_truth other.kind) d.state.known) e.state.known) step.beside last.known)
           or_fail.fail last.ends.fail last.or_fail.fail,
       record {
         kind = refl;
         root = scalar_root tag.Bool outcome.kind last.kind refl;
         ends = record {
-          are = subst (λ s. AreEnds s outcome.ends) (scopes_of_two a b c d part other x.codes y.codes x.tags y.tags x.ended step.moved y.ended) last.are;
+          are = subst (λ s. AreEnds s outcome.ends) (scopes_of_two a b c d part other x.codes y.codes x.tags y.tags x.loops y.loops x.ended step.moved y.ended) last.are;
           fail = refl;
           ret = ap (λ x. return_state x.ret) last.or_fail.others;
           returned = ap (λ x. return_kind x.ret) last.or_fail.others;
           poisoned = ap (λ x. x.poisoned) last.or_fail.others;
         };
-        gathered = has_gathered a e _ (gathers_two a b c d e x.codes y.codes x.tags y.tags x.ended.gathers step.moved y.ended.gathers last.moved) refl;
+        gathered = has_gathered a e _ (gathers_two a b c d e x.codes y.codes x.tags y.tags x.loops y.loops x.ended.gathers step.moved y.ended.gathers last.moved) refl;
       },
     )
 
@@ -80,23 +82,23 @@ disjunction_told : (l r : Expr) (a b c d e : Checker) (part other outcome : Outc
     → IsToldExpr r c d other → IsCutOf (or_else_at part.kind other.kind) outcome.kind → AreJoinedEnds part.ends other.ends outcome.ends → AreBothSides side other.ends d e outcome.ends
     → IsAnywhereAs (binary op.Or l r) a e outcome
 disjunction_told l r a b c d e part other outcome side x step y kind joined last = λ span known alive.
-    let j = seen part b x.codes x.tags in
-    let k = seen other d y.codes y.tags in
+    let j = seen part b x.codes x.tags x.loops in
+    let k = seen other d y.codes y.tags y.loops in
     let both : IsThen j k (behind_with outcome.ends j k) = record { behind = is_behind part.ends other.ends outcome.ends j k (refl, refl, refl) (refl, refl, refl) joined; fail = joined.fail } in (
       record (behind_with outcome.ends j k) { kind = outcome.kind; ok = e.state.known },
-      a_disjunction (subst (λ s. Judges (language_rules a.patterns.now) s l j) alive x.judges) (judges_at a c _ r k (step.moved.patterns ∙ x.ended.gathers.patterns) step.known y.judges) both kind
+      a_disjunction (subst (λ s. Judges (language_rules a.patterns.now) a.inside s l j) alive x.judges) (judges_at a c _ r k (step.moved.patterns ∙ x.ended.gathers.patterns) (step.moved.inside ∙ x.ended.gathers.inside) step.known y.judges) both kind
           (subst (λ s. IsJoined s d.state.known e.state.known) step.beside last.known),
       record {
         kind = refl;
         root = or_else_root part.kind other.kind outcome.kind x.ended.root y.ended.root kind;
         ends = record {
-          are = subst (λ s. AreEnds s outcome.ends) (scopes_of_two a b c d part other x.codes y.codes x.tags y.tags x.ended step.moved y.ended) last.are;
+          are = subst (λ s. AreEnds s outcome.ends) (scopes_of_two a b c d part other x.codes y.codes x.tags y.tags x.loops y.loops x.ended step.moved y.ended) last.are;
           fail = refl;
           ret = refl;
           returned = refl;
           poisoned = refl;
         };
-        gathered = has_gathered a e _ (gathers_two a b c d e x.codes y.codes x.tags y.tags x.ended.gathers step.moved y.ended.gathers last.moved) refl;
+        gathered = has_gathered a e _ (gathers_two a b c d e x.codes y.codes x.tags y.tags x.loops y.loops x.ended.gathers step.moved y.ended.gathers last.moved) refl;
       },
     )
 
@@ -116,25 +118,25 @@ coalescing_told : (span : Span) (l r : Expr) (a b c d e f : Checker) (part other
     → IsReported (when (not (part.ends.poisoned || is_alive (known_on part.ends.fail))) (at 651 span)) e f middle.ends ends
     → IsGivenAs span (binary op.Coalesce l r) a f (record { kind = middle.kind; ends = ends })
 coalescing_told span l r a b c d e f part other middle side ends x step y kind joined last reported = λ known alive.
-    let j = seen part b x.codes x.tags in
-    let k = seen other d y.codes y.tags in
+    let j = seen part b x.codes x.tags x.loops in
+    let k = seen other d y.codes y.tags y.loops in
     let ds = when (not (part.ends.poisoned || is_alive (known_on part.ends.fail))) (at 651 span) in
     let whole : Judgement = record (behind_with middle.ends j k) { kind = middle.kind; ok = e.state.known; fail = known_on other.ends.fail } in (
       with_codes ds whole,
-      a_coalescing (subst (λ s. Judges (language_rules a.patterns.now) s l j) alive x.judges) (judges_at a c _ r k (step.moved.patterns ∙ x.ended.gathers.patterns) step.known y.judges)
+      a_coalescing (subst (λ s. Judges (language_rules a.patterns.now) a.inside s l j) alive x.judges) (judges_at a c _ r k (step.moved.patterns ∙ x.ended.gathers.patterns) (step.moved.inside ∙ x.ended.gathers.inside) step.known y.judges)
           (is_behind (record part.ends { fail = None }) other.ends middle.ends j k (refl, refl, refl) (refl, refl, refl) joined) kind
           (subst (λ s. IsJoined s d.state.known e.state.known) step.beside last.known),
       reported_judged ds a e f middle (record { kind = middle.kind; ends = ends }) whole reported refl (record {
         kind = refl;
         root = either_root part.kind other.kind middle.kind x.ended.root y.ended.root kind;
         ends = record {
-          are = subst (λ s. AreEnds s middle.ends) (scopes_of_two a b c d part other x.codes y.codes x.tags y.tags x.ended step.moved y.ended) last.are;
+          are = subst (λ s. AreEnds s middle.ends) (scopes_of_two a b c d part other x.codes y.codes x.tags y.tags x.loops y.loops x.ended step.moved y.ended) last.are;
           fail = joined.fail;
           ret = refl;
           returned = refl;
           poisoned = refl;
         };
-        gathered = has_gathered a e whole (gathers_two a b c d e x.codes y.codes x.tags y.tags x.ended.gathers step.moved y.ended.gathers last.moved) refl;
+        gathered = has_gathered a e whole (gathers_two a b c d e x.codes y.codes x.tags y.tags x.loops y.loops x.ended.gathers step.moved y.ended.gathers last.moved) refl;
       }),
     )
 
@@ -154,27 +156,32 @@ coalescing_judged span l r a b c d e f part other middle side ends needless firs
 
 -- ---- ends of the script
 
-return_told : (v : Expr) (a b c : Checker) (part outcome : Outcome) → IsToldExpr v a b part → IsReturned part b c outcome → IsAnywhereAs (return_of v) a c outcome
-return_told v a b c part outcome x last = λ span known alive.
-    let j = seen part b x.codes x.tags in (
-      record j { kind = never_kind; ok = None; ret = return_state outcome.ends.ret; returned = return_kind outcome.ends.ret },
-      a_return (subst (λ s. Judges (language_rules a.patterns.now) s v j) alive x.judges) last.ret last.returned,
+-- a return, which in a closure is 1004 and goes on
+return_told : (span : Span) (v : Expr) (a b c : Checker) (part outcome : Outcome) → IsToldExpr v a b part → IsReturned span part b c outcome → IsGivenAs span (return_of v) a c outcome
+return_told span v a b c part outcome x last = λ known alive.
+    let j = seen part b x.codes x.tags x.loops in
+    let ds = when a.inside (at 1004 span) in
+    let same : when b.inside (at 1004 span) ≡ ds = ap (λ i. when i (at 1004 span)) x.ended.gathers.inside in (
+      with_codes ds (record j { kind = never_kind; ok = if_state a.inside j.ok; ret = return_state outcome.ends.ret; returned = return_kind outcome.ends.ret }),
+      a_return (subst (λ s. Judges (language_rules a.patterns.now) a.inside s v j) alive x.judges) last.ret last.returned,
       record {
         kind = last.kind;
         root = never_root;
         ends = record {
           are = subst (λ s. AreEnds s outcome.ends) x.ended.gathers.scopes last.are;
-          fail = ap (λ x. known_on x.fail) last.others;
+          fail = ap (λ y. known_on y.fail) last.ends;
           ret = refl;
           returned = refl;
-          poisoned = ap (λ x. x.poisoned) last.others;
+          poisoned = ap (λ y. y.poisoned) last.ends ∙ ap (λ es. part.ends.poisoned || list_any is_error es) same;
         };
-        gathered = has_gathered a c _ (gathers_moved a b c x.codes x.tags x.ended.gathers last.moved) last.known;
+        gathered = has_gathered a c _
+            (gathers_codes a b c x.codes ds x.tags x.loops x.ended.gathers last.scopes (last.diagnostics ∙ ap (λ es. b.diagnostics.items ++ es) same) last.empties last.loops last.patterns last.inside)
+            (last.known ∙ ap (λ i. if_state i b.state.known) x.ended.gathers.inside);
       },
     )
 
-pub return_judged : (v : Expr) (a b c : Checker) (part outcome : Outcome) → IsJudgedAs v a b part → IsReturned part b c outcome → IsAnywhereAs (return_of v) a c outcome
-return_judged v a b c part outcome first last = return_told v a b c part outcome (told_expr v a b part first) last
+pub return_judged : (span : Span) (v : Expr) (a b c : Checker) (part outcome : Outcome) → IsJudgedAs v a b part → IsReturned span part b c outcome → IsGivenAs span (return_of v) a c outcome
+return_judged span v a b c part outcome first last = return_told span v a b c part outcome (told_expr v a b part first) last
 
 -- without a message
 pub abort_alone : (a : Checker) (s : State) (outcome : Outcome) → s ≡ record a.state { known = None } → outcome.kind ≡ never_kind → outcome.ends ≡ no_ends → IsAnywhereAs (abort_with no_message) a (record a { state = s }) outcome
@@ -191,16 +198,16 @@ abort_alone a s outcome dead kind ends = λ span known alive. (
       returned = ap (λ y. return_kind y.ret) ends;
       poisoned = ap (λ y. y.poisoned) ends;
     };
-    gathered = record { ok = ap (λ t. t.known) dead; scopes = ap (λ t. t.scopes) dead; diagnostics = sym (append-nil a.diagnostics.items); empties = sym (append-nil a.empties.items); patterns = refl };
+    gathered = record { ok = ap (λ t. t.known) dead; scopes = ap (λ t. t.scopes) dead; diagnostics = sym (append-nil a.diagnostics.items); empties = sym (append-nil a.empties.items); loops = no_loops a; patterns = refl; inside = refl };
   },
 )
 
-abort_told : (m : Expr) (a b c : Checker) (part outcome : Outcome) → IsToldExpr m a b part → IsAborted (of_message (span_of m) (seen part b [] [])) part b c outcome → IsAnywhereAs (abort_with (message m)) a c outcome
+abort_told : (m : Expr) (a b c : Checker) (part outcome : Outcome) → IsToldExpr m a b part → IsAborted (of_message (span_of m) (seen part b [] [] [])) part b c outcome → IsAnywhereAs (abort_with (message m)) a c outcome
 abort_told m a b c part outcome x last = λ span known alive.
-    let j = seen part b x.codes x.tags in
+    let j = seen part b x.codes x.tags x.loops in
     let ds = of_message (span_of m) j in (
       with_codes ds (record j { kind = never_kind; ok = None }),
-      an_abort_with (subst (λ s. Judges (language_rules a.patterns.now) s m j) alive x.judges),
+      an_abort_with (subst (λ s. Judges (language_rules a.patterns.now) a.inside s m j) alive x.judges),
       record {
         kind = last.kind;
         root = never_root;
@@ -211,10 +218,10 @@ abort_told m a b c part outcome x last = λ span known alive.
           returned = ap (λ x. return_kind x.ret) last.ends;
           poisoned = ap (λ x. x.poisoned) last.ends;
         };
-        gathered = has_gathered a c _ (gathers_codes a b c x.codes ds x.tags x.ended.gathers last.scopes last.diagnostics last.empties last.patterns) last.known;
+        gathered = has_gathered a c _ (gathers_codes a b c x.codes ds x.tags x.loops x.ended.gathers last.scopes last.diagnostics last.empties last.loops last.patterns last.inside) last.known;
       },
     )
 
-pub abort_judged : (m : Expr) (span : Span) (a b c : Checker) (part outcome : Outcome) → span ≡ span_of m → IsJudgedAs m a b part → IsAborted (of_message span (seen part b [] [])) part b c outcome → IsAnywhereAs (abort_with (message m)) a c outcome
+pub abort_judged : (m : Expr) (span : Span) (a b c : Checker) (part outcome : Outcome) → span ≡ span_of m → IsJudgedAs m a b part → IsAborted (of_message span (seen part b [] [] [])) part b c outcome → IsAnywhereAs (abort_with (message m)) a c outcome
 abort_judged m span a b c part outcome same first last =
-    abort_told m a b c part outcome (told_expr m a b part first) (subst (λ s. IsAborted (of_message s (seen part b [] [])) part b c outcome) same last)
+    abort_told m a b c part outcome (told_expr m a b part first) (subst (λ s. IsAborted (of_message s (seen part b [] [] [])) part b c outcome) same last)

@@ -143,7 +143,7 @@ allowed_from r place (p ∷ ps) (q ∷ places) js all (given ∷ givens) same wi
 
 -- ---- what is bound
 
-abbrev outcome : Bool → Option ℕ → Option ℕ → List (Option ℕ) → Result (List (Option ℕ)) BindFault
+abbrev pub outcome : Bool → Option ℕ → Option ℕ → List (Option ℕ) → Result (List (Option ℕ)) BindFault
 outcome wrong unknown missing places = if wrong then Err fault.Number else bound_or_unknown unknown (bound_or_missing missing places)
 
 places_found : (wrong : Bool) (unknown missing : Option ℕ) (places found : List (Option ℕ)) → outcome wrong unknown missing places ≡ Ok found → (missing ≡ None) × (found ≡ places)
@@ -152,13 +152,13 @@ places_found false (Some u) missing places found is = absurd cc
 places_found false None (Some m) places found is = absurd cc
 places_found false None None places found is = (refl, cc)
 
-unknown_found : (wrong : Bool) (unknown missing : Option ℕ) (places : List (Option ℕ)) (i : ℕ) → outcome wrong unknown missing places ≡ Err (fault.Unknown i) → unknown ≡ Some i
+pub unknown_found : (wrong : Bool) (unknown missing : Option ℕ) (places : List (Option ℕ)) (i : ℕ) → outcome wrong unknown missing places ≡ Err (fault.Unknown i) → unknown ≡ Some i
 unknown_found true unknown missing places i is = absurd cc
 unknown_found false (Some u) missing places i is = cc
 unknown_found false None (Some m) places i is = absurd cc
 unknown_found false None None places i is = absurd cc
 
-no_memory_found : (wrong : Bool) (unknown missing : Option ℕ) (places : List (Option ℕ)) → outcome wrong unknown missing places ≡ Err fault.Memory → ⊥
+pub no_memory_found : (wrong : Bool) (unknown missing : Option ℕ) (places : List (Option ℕ)) → outcome wrong unknown missing places ≡ Err fault.Memory → ⊥
 no_memory_found true unknown missing places is = cc
 no_memory_found false (Some u) missing places is = cc
 no_memory_found false None (Some m) places is = cc
@@ -168,11 +168,11 @@ keywords_written : (gs : Args) → length (keywords_of gs) ≡ length (written g
 keywords_written no_args = refl
 keywords_written (arg name span e gs) = ap suc (keywords_written gs)
 
-keywords_told : (gs : Args) (js : List Argument) → written gs ≡ map (λ g. (g.span, g.value)) js → length (keywords_of gs) ≡ length js
+pub keywords_told : (gs : Args) (js : List Argument) → written gs ≡ map (λ g. (g.span, g.value)) js → length (keywords_of gs) ≡ length js
 keywords_told gs js is = keywords_written gs ∙ ap length is ∙ length-map js (λ g. (g.span, g.value))
 
 -- a keyword that is no parameter's name has its code
-unknown_told : (js : List Argument) (i : ℕ) → i < length js → list_any is_error (of_unknown (slice_get js i)) ≡ true
+pub unknown_told : (js : List Argument) (i : ℕ) → i < length js → list_any is_error (of_unknown (slice_get js i)) ≡ true
 unknown_told [] i is = absurd (omega arith)
 unknown_told (g ∷ js) zero is = refl
 unknown_told (g ∷ js) (suc i) is = unknown_told js i (omega arith)

@@ -1,19 +1,18 @@
 -- Calls and their arguments as they are in memory, and as they are seen.
-use Rattle.std.proofs.Common.{◌≡◌, ℕ, zero, suc, Bool, true, false, ◌&&◌, List, [], ◌∷◌, map, Option, Some, None, is_some, option_map, slice_get, refl, sym, ap, ap₂, ◌∙◌, subst, rules}
+use Rattle.std.proofs.Common.{◌≡◌, ℕ, zero, suc, Bool, true, false, ◌&&◌, List, [], ◌∷◌, map, Option, Some, None, option_map, slice_get, refl, sym, ap, ap₂, ◌∙◌, subst, rules}
 use Rattle.std.proofs.lemmas.Option.{slice_get-map}
 use Rattle.std.specs.Option.{option_map_or}
 use Rattle.vrl_diag.specs.declared.diagnostic.Span.{Span}
 use Rattle.vrl_syntax.specs.Regexes.{args_regexes_below, expr_regexes_below}
 use Rattle.vrl_syntax.specs.Tree.{Expr, call}
-use Rattle.vrl_syntax.specs.View.{arg_of, args_view, call_of, closure_in, closure_of, expr_of}
+use Rattle.vrl_syntax.specs.View.{arg_of, args_view, call_of, expr_of}
 use Rattle.vrl_syntax.specs.declared.tree.Arg.{Arg as CodeArg}
 use Rattle.vrl_syntax.specs.declared.tree.Call.{Call as CodeCall, out-Call}
-use Rattle.vrl_syntax.specs.declared.tree.Closure.{Closure as CodeClosure}
 use Rattle.vrl_syntax.specs.declared.tree.Form.{the_lemmas}
 use Rattle.vrl_check.specs.Calling.{call_args, call_bang, call_closure, call_name, written, AreTold, IsFound}
 use Rattle.vrl_judge.specs.Calling.{part_of}
-use Rattle.vrl_judge.specs.Rules.{Argument, argument_at, at, when}
-use Rattle.vrl_check.specs.Judgement.{of_closure, of_unknown}
+use Rattle.vrl_judge.specs.Rules.{Argument, argument_at, at}
+use Rattle.vrl_check.specs.Judgement.{of_unknown}
 use Rattle.vrl_judge.specs.declared.calls.Argument.{Argument as CodeArgument}
 
 -- ---- what is seen
@@ -26,14 +25,6 @@ value_seen a = search (rules, the_lemmas)
 
 pub call_seen : (c : CodeCall) → call_of c ≡ call (call_name c) (out-Call c).name_span (call_bang c) (call_args c) (call_closure c)
 call_seen c = search (rules, the_lemmas)
-
-closure_code : (c : CodeClosure) (span : Span) → at 1010 span ≡ of_closure span (closure_of c)
-closure_code c span = search (rules, the_lemmas)
-
--- the code of a closure stands where there is one
-pub closure_told : (c : Option CodeClosure) (span : Span) → when (is_some c) (at 1010 span) ≡ of_closure span (closure_in (option_map closure_of c))
-closure_told None span = refl
-closure_told (Some c) span = closure_code c span
 
 -- ---- the argument at a place
 

@@ -1,5 +1,5 @@
 -- The judgement of a call, step by step behind its arguments.
-use Rattle.std.proofs.Common.{◌≡◌, ℕ, Bool, true, false, ◌||◌, List, [], ◌∷◌, ◌++◌, Option, Some, refl, sym, ap, ◌∙◌, subst, append_assoc}
+use Rattle.std.proofs.Common.{◌≡◌, ℕ, Bool, true, false, ◌||◌, List, [], ◌∷◌, ◌++◌, Option, Some, refl, sym, ap, ◌∙◌, subst}
 use Rattle.std.proofs.lemmas.Bool.{or_parts, or_from}
 use Rattle.std.specs.List.{list_any}
 use Rattle.vrl_diag.specs.declared.diagnostic.Diagnostic.{Diagnostic}
@@ -15,19 +15,20 @@ use Rattle.vrl_table.specs.Table.{row_of}
 use Rattle.vrl_table.specs.declared.function.Fun.{Fun}
 use Rattle.vrl_check.specs.Calling.{callee_codes, callee_parameters, with_call_codes, AreRootKinds, AreTold, HasArguments, HasCodes, IsAnsweredAs, IsBoundCallAs, IsDeletedAs, IsPassed, IsTold, IsUnknown}
 use Rattle.vrl_syntax.specs.Calls.{is_exists, is_del}
-use Rattle.vrl_check.specs.Calls.{args_hold_closure_call, closure_holds_closure_call, form_holds_closure_call}
 use Rattle.vrl_syntax.specs.Calls.{takes_closure}
 use Rattle.vrl_diag.specs.Refusal.{is_error}
 use Rattle.vrl_judge.specs.Rules.{Argument, Judgement, at, gives, if_state, with_codes, IsScalar}
-use Rattle.vrl_check.specs.Judgement.{Gives, JudgesArguments, a_call, a_call_of_nothing, a_deletion, an_existence, bound, deleted_kind, deleted_path, nulls, places_in, IsAnsweredUnless, IsDeletedAt}
+use Rattle.vrl_check.specs.Judgement.{Gives, JudgesArguments, a_call, a_call_of_nothing, a_deletion, an_existence, bound, deleted_kind, deleted_path, nulls, passing_closure, places_in, IsAnsweredUnless, IsDeletedAt}
 use Rattle.vrl_judge.specs.Judging.{known_on, AreEnds, HasEnds, HasGathered, HasJudged, IsReported}
-use Rattle.vrl_check.specs.Walking.{FormCanBeJudged}
+use Rattle.vrl_check.specs.Loops.{closures_in_closure, unjudged}
+use Rattle.vrl_check.specs.Walking.{passed_states, FormCanBeJudged}
 use Rattle.vrl_check.specs.declared.calls.Arguments.{Arguments}
 use Rattle.vrl_check.specs.declared.calls.Callee.{Callee}
 use Rattle.vrl_judge.specs.declared.checker.Checker.{Checker}
 use Rattle.vrl_judge.specs.declared.ends.Ends.{Ends}
 use Rattle.vrl_judge.specs.declared.outcome.Outcome.{Outcome}
-use Rattle.vrl_judge.proofs.Parts.{are_ends_of, ends_of, ends_or_fail, gathered_moved, gathered_of, reported_ends, reported_gathered}
+use Rattle.vrl_check.proofs.Passed.{loops_passed}
+use Rattle.vrl_judge.proofs.Parts.{added, loops_added, are_ends_of, ends_of, ends_or_fail, gathered_moved, gathered_of, reported_ends, reported_gathered}
 use Rattle.vrl_judge.proofs.RootKinds.{any_root, scalar_root}
 use Rattle.vrl_judge.proofs.Joining.{join_of}
 use Rattle.vrl_value.specs.declared.value.Tag.TheVariants as tag
@@ -36,19 +37,26 @@ use Rattle.vrl_check.specs.OpenRules.{language_rules}
 
 -- ---- behind the closure
 
-pub closure_passed : (before now passed : Checker) (gs : Args) (c : Closure) (arguments : Arguments) (js : List Argument) (j : Judgement) → HasArguments before now gs arguments js j → passed.empties.items ≡ now.empties.items ++ nulls (in_closure c) → passed ≡ record now { empties = passed.empties }
+pub closure_gathered : (before now passed : Checker) (c : Closure) (j : Judgement) → HasGathered before now j → passed.empties.items ≡ now.empties.items ++ nulls (in_closure c) → passed.loops.items ≡ now.loops.items ++ passed_states (closures_in_closure c)
+    → passed ≡ record now { empties = passed.empties; loops = passed.loops } → HasGathered before passed (passing_closure c j)
+closure_gathered before now passed c j has empties loops others = record {
+  ok = ap (λ (x : Checker). x.state.known) others ∙ has.ok;
+  scopes = ap (λ (x : Checker). x.state.scopes) others ∙ has.scopes;
+  diagnostics = ap (λ (x : Checker). x.diagnostics.items) others ∙ has.diagnostics;
+  empties = added before.empties.items now.empties.items passed.empties.items j.empties (nulls (in_closure c)) has.empties empties;
+  loops = loops_added before now passed j.loops (unjudged (closures_in_closure c)) has.loops (loops_passed now.loops.items passed.loops.items (closures_in_closure c) loops);
+  patterns = ap (λ (x : Checker). x.patterns) others ∙ has.patterns;
+  inside = ap (λ (x : Checker). x.inside) others ∙ has.inside;
+}
+
+pub closure_passed : (before now passed : Checker) (gs : Args) (c : Closure) (arguments : Arguments) (js : List Argument) (j : Judgement) → HasArguments before now gs arguments js j → passed.empties.items ≡ now.empties.items ++ nulls (in_closure c)
+    → passed.loops.items ≡ now.loops.items ++ passed_states (closures_in_closure c) → passed ≡ record now { empties = passed.empties; loops = passed.loops }
     → IsPassed before passed gs c arguments js j
-closure_passed before now passed gs c arguments js j has empties others = record {
+closure_passed before now passed gs c arguments js j has empties loops others = record {
   told = has.told;
   roots = has.roots;
-  ends = ends_of before.state.scopes arguments.ends j (record j { empties = j.empties ++ nulls (in_closure c) }) has.ends refl refl refl refl;
-  gathered = record {
-    ok = ap (λ (x : Checker). x.state.known) others ∙ has.gathered.ok;
-    scopes = ap (λ (x : Checker). x.state.scopes) others ∙ has.gathered.scopes;
-    diagnostics = ap (λ (x : Checker). x.diagnostics.items) others ∙ has.gathered.diagnostics;
-    empties = empties ∙ ap (λ ts. ts ++ nulls (in_closure c)) has.gathered.empties ∙ append_assoc before.empties.items j.empties (nulls (in_closure c));
-    patterns = ap (λ (x : Checker). x.patterns) others ∙ has.gathered.patterns;
-  };
+  ends = ends_of before.state.scopes arguments.ends j (passing_closure c j) has.ends refl refl refl refl;
+  gathered = closure_gathered before now passed c j has.gathered empties loops others;
 }
 
 -- ---- a call of nothing
@@ -58,24 +66,18 @@ unknown_name name unknown none =
     let paths = or_parts (is_del name) (is_exists name) unknown.paths in
     or_from (is_del name) (is_exists name || takes_closure name) paths.0 (or_from (is_exists name) (takes_closure name) paths.1 none)
 
--- what can be judged takes no closure
-pub takes_none : {sources : List (List ℕ)} (f : Form) (name : List ℕ) (s : Span) (bang : Bool) (gs : Args) (c : Closure) → f ≡ call name s bang gs c → FormCanBeJudged sources f → takes_closure name ≡ false
-takes_none f name s bang gs c is can =
-    let parts = or_parts (takes_closure name) (args_hold_closure_call gs || closure_holds_closure_call c) (sym (ap form_holds_closure_call is) ∙ can.calls) in
-    parts.0
-
 pub nothing_judged : (name : List ℕ) (s span : Span) (bang : Bool) (gs : Args) (c : Closure) (before now after : Checker) (known : RootMap) (js : List Argument) (j : Judgement) (arguments : Arguments) (outcome : Outcome)
-    → IsUnknown name → takes_closure name ≡ false → JudgesArguments (language_rules before.patterns.now) (gives never_kind (Some known)) gs js j → IsPassed before now gs c arguments js j → outcome.kind ≡ any_kind → IsReported (at 105 s) now after arguments.ends outcome.ends
-    → (k : Judgement) × Gives (language_rules before.patterns.now) known span (call name s bang gs c) k × HasJudged before after outcome k
+    → IsUnknown name → takes_closure name ≡ false → JudgesArguments (language_rules before.patterns.now) before.inside (gives never_kind (Some known)) gs js j → IsPassed before now gs c arguments js j → outcome.kind ≡ any_kind → IsReported (at 105 s) now after arguments.ends outcome.ends
+    → (k : Judgement) × Gives (language_rules before.patterns.now) before.inside known span (call name s bang gs c) k × HasJudged before after outcome k
 nothing_judged name s span bang gs c before now after known js j arguments outcome unknown none judged passed any reported =
-    let whole : Judgement = record j { kind = any_kind; empties = j.empties ++ nulls (in_closure c) } in (
+    let whole : Judgement = passing_closure c (record j { kind = any_kind }) in (
       with_codes (at 105 s) whole,
       a_call_of_nothing unknown.functions (unknown_name name unknown none) judged,
       record {
         kind = any;
         root = any_root;
-        ends = reported_ends before.state.scopes (at 105 s) now after arguments.ends outcome.ends whole reported (ends_of before.state.scopes arguments.ends (record j { empties = j.empties ++ nulls (in_closure c) }) whole passed.ends refl refl refl refl);
-        gathered = reported_gathered (at 105 s) before now after arguments.ends outcome.ends whole reported (gathered_of before now (record j { empties = j.empties ++ nulls (in_closure c) }) whole passed.gathered refl refl refl);
+        ends = reported_ends before.state.scopes (at 105 s) now after arguments.ends outcome.ends whole reported (ends_of before.state.scopes arguments.ends (passing_closure c j) whole passed.ends refl refl refl refl);
+        gathered = reported_gathered (at 105 s) before now after arguments.ends outcome.ends whole reported (gathered_of before now (passing_closure c j) whole passed.gathered refl refl refl refl);
       },
     )
 
@@ -84,7 +86,7 @@ nothing_judged name s span bang gs c before now after known js j arguments outco
 pub call_bound : (named : Callee) (span : Span) (before now after : Checker) (gs : Args) (c : Closure) (arguments next : Arguments) (js : List Argument) (j : Judgement) → IsPassed before now gs c arguments js j
     → IsReported (callee_codes named span gs c js) now after arguments.ends next.ends → next.parts ≡ arguments.parts → HasArguments before after gs next js (with_call_codes named span gs c js j)
 call_bound named span before now after gs c arguments next js j passed reported same =
-    let whole : Judgement = record j { empties = j.empties ++ nulls (in_closure c) } in
+    let whole = passing_closure c j in
     record {
       told = subst (λ ps. AreTold gs ps.items js) (sym same) passed.told;
       roots = passed.roots;
@@ -144,7 +146,7 @@ function_judged function name s span bang gs c arguments places now after outcom
         kind = refl;
         root = answer.root;
         ends = ends_of scopes outcome.ends (record whole { fail = fail }) (record whole { kind = outcome.kind; fail = fail }) (ends_or_fail scopes arguments.ends outcome.ends whole ready.ends answer.or_fail.others are) refl refl refl refl;
-        gathered = subst (λ x. HasGathered before x (record whole { kind = outcome.kind; fail = fail })) (sym same) (gathered_of before now whole (record whole { kind = outcome.kind; fail = fail }) ready.gathered refl refl refl);
+        gathered = subst (λ x. HasGathered before x (record whole { kind = outcome.kind; fail = fail })) (sym same) (gathered_of before now whole (record whole { kind = outcome.kind; fail = fail }) ready.gathered refl refl refl refl);
       },
     )
 
@@ -183,7 +185,7 @@ deletion_judged name s span bang gs c arguments now after outcome is deletes = �
         kind = deleted.kind ∙ ap (λ b. deleted_kind b js) ready.ends.poisoned;
         root = deleted_root whole.poisoned js ready.roots;
         ends = subst (λ e. HasEnds before.state.scopes e last) (sym deleted.same) (ends_of before.state.scopes arguments.ends whole last ready.ends refl refl refl refl);
-        gathered = gathered_of before after (record whole { ok = after.state.known }) last (gathered_moved before now after whole ready.gathered deleted.moved) refl refl refl;
+        gathered = gathered_of before after (record whole { ok = after.state.known }) last (gathered_moved before now after whole ready.gathered deleted.moved) refl refl refl refl;
       },
     )
 
@@ -200,6 +202,6 @@ existence_judged name s span bang gs c arguments now outcome is scalar same = λ
         kind = refl;
         root = scalar_root tag.Bool outcome.kind scalar refl;
         ends = subst (λ e. HasEnds before.state.scopes e last) (sym same) (ends_of before.state.scopes arguments.ends whole last ready.ends refl refl refl refl);
-        gathered = gathered_of before now whole last ready.gathered refl refl refl;
+        gathered = gathered_of before now whole last ready.gathered refl refl refl refl;
       },
     )

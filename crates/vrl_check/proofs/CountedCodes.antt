@@ -1,16 +1,19 @@
 -- How often one code at one place stands among the codes of each form.
-use Rattle.std.proofs.Common.{◌≡◌, ℕ, zero, suc, ◌+◌, ◌≤◌, arith, Bool, true, false, ◌&&◌, List, [], ◌∷◌, ◌++◌, Option, Some, None, nat_eq, slice_get, if◌then◌else◌, refl, ap, ◌∙◌}
+use Rattle.std.proofs.Common.{◌≡◌, ℕ, zero, suc, ◌+◌, ◌≤◌, arith, Bool, true, false, ◌&&◌, List, [], ◌∷◌, ◌++◌, Option, Some, None, nat_eq, not, slice_get, if◌then◌else◌, refl, sym, ap, ◌∙◌}
 use Rattle.std.specs.declared.result.Result.TheVariants.{Ok, Err}
 use Rattle.vrl_diag.specs.declared.diagnostic.Diagnostic.{Diagnostic}
 use Rattle.vrl_diag.specs.declared.diagnostic.Span.{Span}
 use Rattle.vrl_syntax.specs.Tree.{Args, Closure, Expr, no_closure, closure, span_of}
+use Rattle.vrl_syntax.specs.Calls.{has_shape}
+use Rattle.vrl_syntax.specs.declared.call_form.CallForm.{CallForm}
 use Rattle.vrl_builtin.specs.Rows.{ParameterRow}
-use Rattle.vrl_table.specs.Binding.{binding, bound_from, bound_or_missing, bound_or_unknown, first_missing, first_unknown, is_wrong_number, keywords_of, Keywords}
+use Rattle.vrl_table.specs.Binding.{binding, bound_from, bound_or_missing, bound_or_unknown, collection_parameters, first_missing, first_unknown, is_wrong_number, keywords_of, Keywords}
 use Rattle.vrl_table.specs.Table.{has_name_twice}
 use Rattle.vrl_table.specs.declared.binding.BindFault.{BindFault}
+use Rattle.vrl_judge.specs.Closures.{is_wrong_body, of_body, of_wanted_closure}
 use Rattle.vrl_judge.specs.Rules.{Argument, Judgement, at, banged, is_disjoint, is_fallible, is_known, is_needless, when, IsBehind}
 use Rattle.vrl_check.specs.Apart.{one_if, same_span, times, Weights}
-use Rattle.vrl_check.specs.Judgement.{behind_arguments, bound, of_arguments, of_call, of_closure, of_found, of_unknown}
+use Rattle.vrl_check.specs.Judgement.{behind_arguments, bound, of_arguments, of_closure, of_closure_call, of_found, of_unknown, own_codes}
 use Rattle.vrl_check.proofs.BoundOnce.{bound_once, hits}
 use Rattle.vrl_table.specs.declared.binding.BindFault.TheVariants as fault
 
@@ -21,13 +24,13 @@ module _ (code : ℕ) (here : Span) where
 
   -- the codes that a form gives at its own place, and those that it gives at the place of a part
   unfoldable pub own : Span → ℕ
-  own span = one 103 span + (one 104 span + (one 106 span + (one 107 span + (one 620 span + (one 640 span + (one 650 span + (one 651 span + (one 660 span + (one 701 span + (one 1006 span + one 1010 span))))))))))
+  own span = one 103 span + (one 104 span + (one 106 span + (one 107 span + (one 620 span + (one 640 span + (one 650 span + (one 651 span + (one 660 span + (one 701 span + (one 1004 span + (one 1006 span + one 1010 span)))))))))))
 
   unfoldable pub part : Span → ℕ
   part span = one 100 span + (one 102 span + (one 110 span + (one 630 span + (one 652 span + (one 1005 span + (one 1011 span + one 1013 span))))))
 
   abbrev pub weights : Weights
-  weights = record { expression = λ span. own span + part span; name = one 105; argument = one 108 }
+  weights = record { expression = λ span. own span + part span; name = one 105; argument = one 108; closure_block = one 1015 }
 
   unfoldable pub counted : List Diagnostic → ℕ
   counted ds = times code here ds
@@ -95,6 +98,10 @@ module _ (code : ℕ) (here : Span) where
   pub own_701 : (span : Span) → one 701 span ≤ own span
   unfolding own
   own_701 span = omega arith
+
+  pub own_1004 : (span : Span) → one 1004 span ≤ own span
+  unfolding own
+  own_1004 span = omega arith
 
   pub own_call : (span : Span) → (one 106 span + (one 107 span + one 1010 span)) + one 620 span ≤ own span
   unfolding own
@@ -218,6 +225,10 @@ module _ (code : ℕ) (here : Span) where
   closure_counted span no_closure = let none = none_counted in omega (arith, none)
   closure_counted span (closure names es s) = one_counted 1010 span
 
+  wanted_counted : (f : CallForm) (span : Span) (c : Closure) → counted (of_wanted_closure f span c) ≤ one 1010 span
+  wanted_counted f span no_closure = one_counted 1010 span
+  wanted_counted f span (closure names es s) = when_counted (not (has_shape f names)) 1010 span
+
   unknown_counted : (i : ℕ) (js : List Argument) → counted (of_unknown (slice_get js i)) ≤ spans js
   unknown_counted i [] = let none = none_counted in omega (arith, none)
   unknown_counted zero (g ∷ js) = let first = one_counted 108 g.span in omega (arith, first)
@@ -226,32 +237,32 @@ module _ (code : ℕ) (here : Span) where
   abbrev most : Span → List Argument → ℕ
   most span js = (one 106 span + (one 107 span + one 1010 span)) + (values js + spans js)
 
-  fits_counted : (wants : ℕ → ParameterRow → Expr → Bool) (ps : List ParameterRow) (span : Span) (c : Closure) (js : List Argument) (places : List (Option ℕ)) → ((n : ℕ) → hits n places ≤ 1) →
-      counted (of_call wants ps span c js (Ok places)) ≤ most span js
-  fits_counted wants ps span c js places once =
-      let both = both_counted (of_arguments wants 0 ps (bound places js)) (of_closure span c) in
+  -- the codes of its arguments, and those of its closure, which are one 1010 at most
+  fits_counted : (wants : ℕ → ParameterRow → Expr → Bool) (ps : List ParameterRow) (span : Span) (ds : List Diagnostic) (js : List Argument) (places : List (Option ℕ)) → ((n : ℕ) → hits n places ≤ 1) → counted ds ≤ one 1010 span →
+      counted (own_codes wants ps span ds js (Ok places)) ≤ most span js
+  fits_counted wants ps span ds js places once few =
+      let both = both_counted (of_arguments wants 0 ps (bound places js)) ds in
       let first = arguments_counted wants 0 ps (bound places js) in
       let found = found_once js places once in
-      let second = closure_counted span c in
-      omega (arith, both, first, found, second)
+      omega (arith, both, first, found, few)
 
-  fault_counted : (wants : ℕ → ParameterRow → Expr → Bool) (ps : List ParameterRow) (span : Span) (c : Closure) (js : List Argument) (f : BindFault) → counted (of_call wants ps span c js (Err f)) ≤ most span js
-  fault_counted wants ps span c js fault.Number = let first = one_counted 106 span in omega (arith, first)
-  fault_counted wants ps span c js (fault.Unknown i) = let first = unknown_counted i js in omega (arith, first)
-  fault_counted wants ps span c js (fault.Missing i) = let first = one_counted 107 span in omega (arith, first)
-  fault_counted wants ps span c js fault.Memory = let none = none_counted in omega (arith, none)
+  fault_counted : (wants : ℕ → ParameterRow → Expr → Bool) (ps : List ParameterRow) (span : Span) (ds : List Diagnostic) (js : List Argument) (f : BindFault) → counted (own_codes wants ps span ds js (Err f)) ≤ most span js
+  fault_counted wants ps span ds js fault.Number = let first = one_counted 106 span in omega (arith, first)
+  fault_counted wants ps span ds js (fault.Unknown i) = let first = unknown_counted i js in omega (arith, first)
+  fault_counted wants ps span ds js (fault.Missing i) = let first = one_counted 107 span in omega (arith, first)
+  fault_counted wants ps span ds js fault.Memory = let none = none_counted in omega (arith, none)
 
-  answer_counted : (wants : ℕ → ParameterRow → Expr → Bool) (ps : List ParameterRow) (span : Span) (c : Closure) (js : List Argument) (wrong : Bool) (unknown missing : Option ℕ) (places : List (Option ℕ)) → ((n : ℕ) → hits n places ≤ 1) →
-      counted (of_call wants ps span c js (if wrong then Err fault.Number else bound_or_unknown unknown (bound_or_missing missing places))) ≤ most span js
-  answer_counted wants ps span c js true unknown missing places once = fault_counted wants ps span c js fault.Number
-  answer_counted wants ps span c js false (Some i) missing places once = fault_counted wants ps span c js (fault.Unknown i)
-  answer_counted wants ps span c js false None (Some i) places once = fault_counted wants ps span c js (fault.Missing i)
-  answer_counted wants ps span c js false None None places once = fits_counted wants ps span c js places once
+  answer_counted : (wants : ℕ → ParameterRow → Expr → Bool) (ps : List ParameterRow) (span : Span) (ds : List Diagnostic) (js : List Argument) (wrong : Bool) (unknown missing : Option ℕ) (places : List (Option ℕ)) → ((n : ℕ) → hits n places ≤ 1) → counted ds ≤ one 1010 span →
+      counted (own_codes wants ps span ds js (if wrong then Err fault.Number else bound_or_unknown unknown (bound_or_missing missing places))) ≤ most span js
+  answer_counted wants ps span ds js true unknown missing places once few = fault_counted wants ps span ds js fault.Number
+  answer_counted wants ps span ds js false (Some i) missing places once few = fault_counted wants ps span ds js (fault.Unknown i)
+  answer_counted wants ps span ds js false None (Some i) places once few = fault_counted wants ps span ds js (fault.Missing i)
+  answer_counted wants ps span ds js false None None places once few = fits_counted wants ps span ds js places once few
 
-  binding_counted : (wants : ℕ → ParameterRow → Expr → Bool) (ps : List ParameterRow) (span : Span) (c : Closure) (js : List Argument) (ks : Keywords) → has_name_twice ps ≡ false →
-      counted (of_call wants ps span c js (binding ps ks)) ≤ most span js
-  binding_counted wants ps span c js ks apart =
-      answer_counted wants ps span c js (is_wrong_number ps ks) (first_unknown ps ks) (first_missing ps (bound_from 0 ps ks)) (bound_from 0 ps ks) (bound_once ps ks apart)
+  binding_counted : (wants : ℕ → ParameterRow → Expr → Bool) (ps : List ParameterRow) (span : Span) (ds : List Diagnostic) (js : List Argument) (ks : Keywords) → has_name_twice ps ≡ false → counted ds ≤ one 1010 span →
+      counted (own_codes wants ps span ds js (binding ps ks)) ≤ most span js
+  binding_counted wants ps span ds js ks apart few =
+      answer_counted wants ps span ds js (is_wrong_number ps ks) (first_unknown ps ks) (first_missing ps (bound_from 0 ps ks)) (bound_from 0 ps ks) (bound_once ps ks apart) few
 
   banged_counted : (span : Span) (bang : Bool) (j : Judgement) → counted (banged span bang j).codes ≤ counted j.codes + one 620 span
   banged_counted span false j = omega arith
@@ -260,13 +271,34 @@ module _ (code : ℕ) (here : Span) where
       let more = when_counted (is_needless j) 620 span in
       omega (arith, both, more)
 
-  -- a call behind its arguments
+  -- a call behind its arguments, by its own codes
+  own_counted : (wants : ℕ → ParameterRow → Expr → Bool) (ps : List ParameterRow) (span : Span) (bang : Bool) (gs : Args) (ds : List Diagnostic) (js : List Argument) (j shown : Judgement) (weight : ℕ) → has_name_twice ps ≡ false → counted ds ≤ one 1010 span →
+      counted j.codes + (values js + spans js) ≤ weight → counted shown.codes ≡ counted (j.codes ++ own_codes wants ps span ds js (binding ps (keywords_of gs))) → counted (banged span bang shown).codes ≤ own span + weight
+  own_counted wants ps span bang gs ds js j shown weight apart few arguments codes =
+      let both = both_counted j.codes (own_codes wants ps span ds js (binding ps (keywords_of gs))) in
+      let its = binding_counted wants ps span ds js (keywords_of gs) apart few in
+      let more = banged_counted span bang shown in
+      let all = own_call span in
+      omega (arith, codes, both, its, more, all, arguments)
+
   pub call_counted : (wants : ℕ → ParameterRow → Expr → Bool) (ps : List ParameterRow) (span : Span) (bang : Bool) (gs : Args) (c : Closure) (js : List Argument) (j whole shown : Judgement) (weight : ℕ) → has_name_twice ps ≡ false →
       counted j.codes + (values js + spans js) ≤ weight → whole ≡ behind_arguments wants ps span gs c js j → shown.codes ≡ whole.codes → counted (banged span bang shown).codes ≤ own span + weight
   call_counted wants ps span bang gs c js j whole shown weight apart arguments is same =
-      let codes : counted shown.codes ≡ counted (j.codes ++ of_call wants ps span c js (binding ps (keywords_of gs))) = ap counted (same ∙ ap (λ w. w.codes) is) in
-      let both = both_counted j.codes (of_call wants ps span c js (binding ps (keywords_of gs))) in
-      let own_codes = binding_counted wants ps span c js (keywords_of gs) apart in
+      own_counted wants ps span bang gs (of_closure span c) js j shown weight apart (closure_counted span c) arguments (ap counted (same ∙ ap (λ w. w.codes) is))
+
+  -- a call of a function that takes a closure, with codes of its own
+  pub wrong_counted : (f : CallForm) (span : Span) (bang : Bool) (gs : Args) (c : Closure) (js : List Argument) (j shown : Judgement) (ds : List Diagnostic) (weight : ℕ) →
+      counted j.codes + (values js + spans js) ≤ weight → of_closure_call f span gs c js ≡ ds → shown.codes ≡ j.codes ++ ds → counted (banged span bang shown).codes ≤ own span + weight
+  wrong_counted f span bang gs c js j shown ds weight arguments is same =
+      own_counted (λ i p e. false) (collection_parameters f) span bang gs (of_wanted_closure f span c) js j shown weight refl (wanted_counted f span c) arguments (ap counted (same ∙ ap (λ es. j.codes ++ es) (sym is)))
+
+  -- and one without, behind its body
+  pub run_counted : (f : CallForm) (span s : Span) (bang : Bool) (js : List Argument) (j k whole shown : Judgement) (weight within : ℕ) → counted j.codes + (values js + spans js) ≤ weight → counted k.codes ≤ within →
+      whole.codes ≡ j.codes ++ k.codes → shown.codes ≡ whole.codes ++ of_body f s k → counted (banged span bang shown).codes ≤ own span + (weight + (one 1015 s + within))
+  run_counted f span s bang js j k whole shown weight within arguments body codes same =
+      let inner = ap counted codes ∙ both_counted j.codes k.codes in
+      let outer = ap counted same ∙ both_counted whole.codes (of_body f s k) in
+      let its = when_counted (is_wrong_body f k) 1015 s in
       let more = banged_counted span bang shown in
       let all = own_call span in
-      omega (arith, codes, both, own_codes, more, all, arguments)
+      omega (arith, inner, outer, its, more, all, arguments, body)

@@ -12,8 +12,9 @@ use Rattle.vrl_syntax.specs.Tree.{Expr, expr, Form, literal, read, query, group,
 use Rattle.vrl_syntax.specs.declared.root.Op.{Op}
 use Rattle.vrl_syntax.specs.declared.root.Root.{Root}
 use Rattle.vrl_value.specs.Tree.{Tree}
-use Rattle.vrl_judge.specs.Rules.{Judgement, IsReadAt, at, chained, gives, is_alive, is_compared, is_comparison, is_equality, is_other, left, no_objects, nothing, of_pairs, settle, with_codes, when}
-use Rattle.vrl_check.specs.Judgement.{nulls, of_item, table_of}
+use Rattle.vrl_judge.specs.Rules.{Judgement, IsReadAt, at, chained, gives, is_alive, is_compared, is_comparison, is_equality, is_other, left, no_objects, of_pairs, settle, with_codes, when}
+use Rattle.vrl_check.specs.Judgement.{of_item, table_of, unreached_parts}
+use Rattle.vrl_check.specs.Loops.{closures_in_expr, closures_in_exprs}
 use Rattle.vrl_check.specs.Judgement.{Judges, unreached, reached, a_literal, a_known_root, an_unknown_root, a_query, a_group, a_block, a_negation, an_equality, of_table, a_merge, JudgesBoth, operands, JudgesBlock, unreached_block, reached_block, JudgesAll}
 use Rattle.vrl_check.specs.Walking.{AreBoth, IsAnywhereAs, IsBesideAs, IsBlockAs, IsGivenAs, IsItemAs, IsJudgedAs, IsSequenceAs}
 use Rattle.vrl_judge.specs.Judging.{AreEnds, ArePairedAs, HasEnds, HasJudged, HaveCommonScopes, IsBlockEndAs, IsCombinedAs, IsEquatedAs, IsInBlock, IsMergedAs, IsNegatedAs, IsReadOffAs, IsReported, IsSettledAs, no_ends, table_rule}
@@ -43,9 +44,10 @@ here_are before after part j has = subst (λ s. AreEnds s part.ends) (sym has.ga
 -- ---- an expression
 
 -- where no way leads to it
-pub expr_passed : (e : Expr) (before after : Checker) (outcome : Outcome) → before.state.known ≡ None → HasJudged before after outcome (record (nothing (nulls (in_expr e))) { ok = before.state.known }) → IsJudgedAs e before after outcome
+pub expr_passed : (e : Expr) (before after : Checker) (outcome : Outcome) → before.state.known ≡ None → HasJudged before after outcome (record (unreached_parts (in_expr e) (closures_in_expr e)) { ok = before.state.known }) → IsJudgedAs e before after outcome
 expr_passed e before after outcome dead has =
-    (nothing (nulls (in_expr e)), subst (λ k. Judges (language_rules before.patterns.now) k e (nothing (nulls (in_expr e)))) (sym dead) unreached, subst (λ k. HasJudged before after outcome (record (nothing (nulls (in_expr e))) { ok = k })) dead has)
+    let j = unreached_parts (in_expr e) (closures_in_expr e) in
+    (j, subst (λ k. Judges (language_rules before.patterns.now) before.inside k e j) (sym dead) unreached, subst (λ k. HasJudged before after outcome (record j { ok = k })) dead has)
 
 -- where one does
 pub expr_reached : (e : Expr) (span : Span) (f : Form) (before after : Checker) (part outcome : Outcome) → e ≡ expr span f → before.state.known ≢ None → IsGivenAs span f before after part → IsSettledAs part after outcome → IsJudgedAs e before after outcome
@@ -54,7 +56,7 @@ expr_reached e span f before after part outcome is alive given settles = by befo
   by None dead = absurd (alive dead)
   by (Some known) here =
       let form = given known here in
-      (settle form.0, subst (λ k. Judges (language_rules before.patterns.now) k e (settle form.0)) (sym here) (subst (λ x. Judges (language_rules before.patterns.now) (Some known) x (settle form.0)) (sym is) (reached form.1)), settles before form.0 form.2)
+      (settle form.0, subst (λ k. Judges (language_rules before.patterns.now) before.inside k e (settle form.0)) (sym here) (subst (λ x. Judges (language_rules before.patterns.now) before.inside (Some known) x (settle form.0)) (sym is) (reached form.1)), settles before form.0 form.2)
 
 -- ---- values
 
@@ -96,28 +98,33 @@ read_judged path before outcome K M root_kind at_path is none = (
 pub query_given : (e : Expr) (path : List Step) (before after : Checker) (part outcome : Outcome) → IsJudgedAs e before after part → IsReadOffAs path part after outcome → IsAnywhereAs (query e path) before after outcome
 query_given e path before after part outcome judged off span known alive =
     let whole = off before judged.0 judged.2 in
-    (record judged.0 { kind = whole.0 }, a_query (subst (λ k. Judges (language_rules before.patterns.now) k e judged.0) alive judged.1) whole.1, whole.2)
+    (record judged.0 { kind = whole.0 }, a_query (subst (λ k. Judges (language_rules before.patterns.now) before.inside k e judged.0) alive judged.1) whole.1, whole.2)
 
 pub group_given : (e : Expr) (before after : Checker) (outcome : Outcome) → IsJudgedAs e before after outcome → IsAnywhereAs (group e) before after outcome
-group_given e before after outcome judged span known alive = (judged.0, a_group (subst (λ k. Judges (language_rules before.patterns.now) k e judged.0) alive judged.1), judged.2)
+group_given e before after outcome judged span known alive = (judged.0, a_group (subst (λ k. Judges (language_rules before.patterns.now) before.inside k e judged.0) alive judged.1), judged.2)
 
 -- ---- blocks
 
 pub block_given : (es : Exprs) (before after : Checker) (outcome : Outcome) → IsBlockAs es before after outcome → IsAnywhereAs (block es) before after outcome
-block_given es before after outcome judged span known alive = (judged.0, a_block (subst (λ k. JudgesBlock (language_rules before.patterns.now) k es judged.0) alive judged.1), judged.2)
+block_given es before after outcome judged span known alive = (judged.0, a_block (subst (λ k. JudgesBlock (language_rules before.patterns.now) before.inside k es judged.0) alive judged.1), judged.2)
 
-pub block_passed : (es : Exprs) (before after : Checker) (outcome : Outcome) → before.state.known ≡ None → HasJudged before after outcome (record (nothing (nulls (in_exprs es))) { ok = before.state.known }) → IsBlockAs es before after outcome
+pub block_passed : (es : Exprs) (before after : Checker) (outcome : Outcome) → before.state.known ≡ None → HasJudged before after outcome (record (unreached_parts (in_exprs es) (closures_in_exprs es)) { ok = before.state.known }) → IsBlockAs es before after outcome
 block_passed es before after outcome dead has =
-    (nothing (nulls (in_exprs es)), subst (λ k. JudgesBlock (language_rules before.patterns.now) k es (nothing (nulls (in_exprs es)))) (sym dead) unreached_block, subst (λ k. HasJudged before after outcome (record (nothing (nulls (in_exprs es))) { ok = k })) dead has)
+    let j = unreached_parts (in_exprs es) (closures_in_exprs es) in
+    (j, subst (λ k. JudgesBlock (language_rules before.patterns.now) before.inside k es j) (sym dead) unreached_block, subst (λ k. HasJudged before after outcome (record j { ok = k })) dead has)
 
-pub block_reached : (es : Exprs) (before entered now after : Checker) (part outcome : Outcome) → before.state.known ≢ None → IsEntered before.state entered.state → entered.diagnostics ≡ before.diagnostics → entered.empties ≡ before.empties → entered.patterns ≡ before.patterns
+pub block_reached : (es : Exprs) (before entered now after : Checker) (part outcome : Outcome) → before.state.known ≢ None → IsEntered before.state entered.state → entered.diagnostics ≡ before.diagnostics → entered.empties ≡ before.empties → entered.loops ≡ before.loops → entered.patterns ≡ before.patterns → entered.inside ≡ before.inside
     → IsSequenceAs es entered now part → IsBlockEndAs part now after outcome → IsBlockAs es before after outcome
-block_reached es before entered now after part outcome alive enters same_codes same_empties same_patterns sequence ends_block = by before.state.known refl where
+block_reached es before entered now after part outcome alive enters same_codes same_empties same_loops same_patterns same_inside sequence ends_block = by before.state.known refl where
   by : (known : Option RootMap) → before.state.known ≡ known → IsBlockAs es before after outcome
   by None dead = absurd (alive dead)
   by (Some known) here =
       let all = sequence known (enters.known ∙ here) in
-      (settle (left known all.2), subst (λ k. JudgesBlock (language_rules before.patterns.now) k es (settle (left known all.2))) (sym here) (reached_block all.3 (subst (λ ps. JudgesAll (language_rules ps.now) (gives all.0 (Some known)) es all.1 all.2) same_patterns all.4)), ends_block before entered known all.2 here enters same_codes same_empties same_patterns all.5)
+      let judged = subst (λ b. JudgesAll (language_rules before.patterns.now) b (gives all.0 (Some known)) es all.1 all.2) same_inside (subst (λ ps. JudgesAll (language_rules ps.now) entered.inside (gives all.0 (Some known)) es all.1 all.2) same_patterns all.4) in (
+        settle (left known all.2),
+        subst (λ k. JudgesBlock (language_rules before.patterns.now) before.inside k es (settle (left known all.2))) (sym here) (reached_block all.3 judged),
+        ends_block before entered known all.2 here enters same_codes same_empties same_loops same_patterns same_inside all.5,
+      )
 
 -- the items of an open block
 pub in_block : (es : Exprs) (before entered now : Checker) (part : Outcome) → before.state.known ≢ None → IsEntered before.state entered.state → IsSequenceAs es entered now part → IsInBlock now part
@@ -138,22 +145,22 @@ in_block es before entered now part alive enters sequence = by before.state.know
 pub negation_given : (span : Span) (e : Expr) (before now after : Checker) (part outcome : Outcome) → IsJudgedAs e before now part → IsNegatedAs span part now after outcome → IsGivenAs span (negation e) before after outcome
 negation_given span e before now after part outcome judged negates known alive =
     let whole = negates before judged.0 judged.2 in
-    (with_codes (when (is_other tag.Bool judged.0) (at 660 span)) (record judged.0 { kind = whole.0 }), a_negation (subst (λ k. Judges (language_rules before.patterns.now) k e judged.0) alive judged.1) whole.1, whole.2)
+    (with_codes (when (is_other tag.Bool judged.0) (at 660 span)) (record judged.0 { kind = whole.0 }), a_negation (subst (λ k. Judges (language_rules before.patterns.now) before.inside k e judged.0) alive judged.1) whole.1, whole.2)
 
 -- two operands
 pub operands_given : (l r : Expr) (before now after : Checker) (first : Outcome) (parts : Operands) → IsJudgedAs l before now first → IsBesideAs r first now after parts → AreBoth l r before after parts
 operands_given l r before now after first parts judged beside =
     let both = beside before judged.0 judged.2 in
-    (judged.0, both.0, both.1, judged.1, subst (λ k. Judges (language_rules before.patterns.now) k r both.0) judged.2.gathered.ok both.2, both.3, both.4)
+    (judged.0, both.0, both.1, judged.1, subst (λ k. Judges (language_rules before.patterns.now) before.inside k r both.0) judged.2.gathered.ok both.2, both.3, both.4)
 
-both_judged : (l r : Expr) (before after : Checker) (parts : Operands) (known : RootMap) (both : AreBoth l r before after parts) → before.state.known ≡ Some known → JudgesBoth (language_rules before.patterns.now) known l r both.0 both.1 both.2
-both_judged l r before after parts known both alive = operands (subst (λ k. Judges (language_rules before.patterns.now) k l both.0) alive both.3) both.4 both.5
+both_judged : (l r : Expr) (before after : Checker) (parts : Operands) (known : RootMap) (both : AreBoth l r before after parts) → before.state.known ≡ Some known → JudgesBoth (language_rules before.patterns.now) before.inside known l r both.0 both.1 both.2
+both_judged l r before after parts known both alive = operands (subst (λ k. Judges (language_rules before.patterns.now) before.inside k l both.0) alive both.3) both.4 both.5
 
 pub beside_given : (r : Expr) (now after : Checker) (first second : Outcome) (other : Bool) (parts : Operands) → other ≡ (is_some now.state.known && not first.ends.poisoned && not (is_alone (root_tags first.kind) tag.Object))
     → IsJudgedAs r now after second → ArePairedAs first other second after parts → IsBesideAs r first now after parts
 beside_given r now after first second other parts is judged paired before j has =
     let both = paired before now j judged.0 has (other_of tag.Object before now first j other has is) judged.2 in
-    (judged.0, both.0, judges_at before now now.state.known r judged.0 has.gathered.patterns refl judged.1, both.1, both.2)
+    (judged.0, both.0, judges_at before now now.state.known r judged.0 has.gathered.patterns has.gathered.inside refl judged.1, both.1, both.2)
 
 pub both_common : (now after : Checker) (first second : Outcome) (r : Expr) → AreEnds now.state.scopes first.ends → IsJudgedAs r now after second → HaveCommonScopes first.ends second.ends
 both_common now after first second r are judged = common now.state.scopes first.ends second.ends are judged.2.ends.are

@@ -1,5 +1,5 @@
 -- Parts of a list that were judged so far.
-use Rattle.std.proofs.Common.{◌≡◌, ◌≤◌, ◌+◌, ◌<◌, ℕ, List, [], ◌∷◌, ◌++◌, length, drop, get_or, refl, sym, ap, ap₂, ◌∙◌, subst, append_assoc, append-nil, arith}
+use Rattle.std.proofs.Common.{◌≡◌, ◌≤◌, ◌+◌, ◌<◌, ℕ, false, List, [], ◌∷◌, ◌++◌, length, drop, get_or, refl, sym, ap, ap₂, ◌∙◌, subst, append_assoc, append-nil, arith}
 use Rattle.std.proofs.lemmas.List.{at_drop_all, at_drop_more, map-append}
 use Rattle.vrl_kind.specs.Canonical.{never_kind}
 use Rattle.vrl_kind.specs.KindTree.{KindTree}
@@ -48,7 +48,7 @@ else_at before now otherwise same can = subst (λ ps. ElseCanBeJudged ps.now oth
 
 -- what is judged of what is left, behind what was judged so far, is judged of the whole
 pub record IsPartway (before now : Checker) (K : KindTree) (whole left : Exprs) (ends : Ends) (Ks : List KindTree) (j : Judgement) : Type 0 where
-  pub leads : (more : List KindTree) (k : Judgement) → JudgesAll (language_rules before.patterns.now) j left more k → JudgesAll (language_rules before.patterns.now) (gives K before.state.known) whole (Ks ++ more) k
+  pub leads : (more : List KindTree) (k : Judgement) → JudgesAll (language_rules before.patterns.now) before.inside j left more k → JudgesAll (language_rules before.patterns.now) before.inside (gives K before.state.known) whole (Ks ++ more) k
   pub has_ends : HasEnds before.state.scopes ends j
   pub gathered : HasGathered before now j
   pub can : ItemsCanBeJudged before.patterns.now left
@@ -59,24 +59,24 @@ partway_first before K whole can = record { leads = λ more k all. all; has_ends
 
 -- one more part
 partway_next : (before now after : Checker) (K : KindTree) (whole rest : Exprs) (e : Expr) (ends next : Ends) (part : Outcome) (Ks : List KindTree) (j p : Judgement)
-    → IsPartway before now K whole (exprs e rest) ends Ks j → Judges (language_rules now.patterns.now) now.state.known e p → HasJudged now after part p → AreJoinedEnds ends part.ends next → AreEnds before.state.scopes next
+    → IsPartway before now K whole (exprs e rest) ends Ks j → Judges (language_rules now.patterns.now) now.inside now.state.known e p → HasJudged now after part p → AreJoinedEnds ends part.ends next → AreEnds before.state.scopes next
     → IsPartway before after K whole rest next (Ks ++ (part.kind ∷ [])) (behind_with next j p)
 partway_next before now after K whole rest e ends next part Ks j p so_far judges has joined are =
     let all = part_then before now after ends next part j p so_far.has_ends so_far.gathered has joined are in
-    let from : Judges (language_rules before.patterns.now) j.ok e p = judges_at before now j.ok e p so_far.gathered.patterns so_far.gathered.ok judges in
+    let from : Judges (language_rules before.patterns.now) before.inside j.ok e p = judges_at before now j.ok e p so_far.gathered.patterns so_far.gathered.inside so_far.gathered.ok judges in
     let fewer = so_far.fewer in
     record {
       leads = λ more k rest_all.
           let kinds : Ks ++ (p.kind ∷ more) ≡ (Ks ++ (part.kind ∷ [])) ++ more = ap (λ L. Ks ++ (L ∷ more)) (sym has.kind) ∙ sym (append_assoc Ks (part.kind ∷ []) more) in
-          subst (λ Ls. JudgesAll (language_rules before.patterns.now) (gives K before.state.known) whole Ls k) kinds (so_far.leads (p.kind ∷ more) k (one_more from all.in_order rest_all));
+          subst (λ Ls. JudgesAll (language_rules before.patterns.now) before.inside (gives K before.state.known) whole Ls k) kinds (so_far.leads (p.kind ∷ more) k (one_more from all.in_order rest_all));
       has_ends = all.ends;
       gathered = all.gathered;
       can = rest_can e rest so_far.can;
       fewer = omega (arith, fewer);
     }
 
-partway_end : (before now : Checker) (K : KindTree) (whole : Exprs) (ends : Ends) (Ks : List KindTree) (j : Judgement) → IsPartway before now K whole no_exprs ends Ks j → JudgesAll (language_rules before.patterns.now) (gives K before.state.known) whole Ks j
-partway_end before now K whole ends Ks j so_far = subst (λ Ls. JudgesAll (language_rules before.patterns.now) (gives K before.state.known) whole Ls j) (append-nil Ks) (so_far.leads [] j no_more)
+partway_end : (before now : Checker) (K : KindTree) (whole : Exprs) (ends : Ends) (Ks : List KindTree) (j : Judgement) → IsPartway before now K whole no_exprs ends Ks j → JudgesAll (language_rules before.patterns.now) before.inside (gives K before.state.known) whole Ks j
+partway_end before now K whole ends Ks j so_far = subst (λ Ls. JudgesAll (language_rules before.patterns.now) before.inside (gives K before.state.known) whole Ls j) (append-nil Ks) (so_far.leads [] j no_more)
 
 -- the next of the items that are left, and their end
 pub next_item : (all : List CodeExpr) (i : ℕ) (e : CodeExpr) → i < length all → e ≡ get_or all i e → exprs_view (drop i all) ≡ exprs (expr_of e) (exprs_view (drop (i + 1) all))
@@ -127,7 +127,7 @@ array_next before now after whole left rest e ends next part Ks Ls is more so_fa
 pub array_given : (before now : Checker) (whole left : Exprs) (ends : Ends) (Ks : List KindTree) (K : KindTree) → left ≡ no_exprs → IsArrayPartway before now whole left ends Ks → IsCutOf (array_at Ks) K → IsAnywhereAs (array whole) before now (record { kind = K; ends = ends })
 array_given before now whole left ends Ks K is so_far cut span known alive =
     let here = subst (λ l. IsPartway before now never_kind whole l ends Ks so_far.j) is so_far.so_far in
-    let all = subst (λ k. JudgesAll (language_rules before.patterns.now) (gives never_kind k) whole Ks so_far.j) alive (partway_end before now never_kind whole ends Ks so_far.j here) in
+    let all = subst (λ k. JudgesAll (language_rules before.patterns.now) before.inside (gives never_kind k) whole Ks so_far.j) alive (partway_end before now never_kind whole ends Ks so_far.j here) in
     (record so_far.j { kind = K }, an_array all cut, with_kind_of before now ends so_far.j K here.has_ends here.gathered (array_root Ks K cut))
 
 -- ---- objects
@@ -171,7 +171,7 @@ object_given before now whole left ends es K is so_far cut span known alive =
     let Ks = kinds_in es in
     let j = so_far.values.j in
     let here = subst (λ l. IsPartway before now never_kind (pair_values whole) (pair_values l) ends Ks j) is so_far.values.so_far in
-    let all = subst (λ k. JudgesAll (language_rules before.patterns.now) (gives never_kind k) (pair_values whole) Ks j) alive (partway_end before now never_kind (pair_values whole) ends Ks j here) in
+    let all = subst (λ k. JudgesAll (language_rules before.patterns.now) before.inside (gives never_kind k) (pair_values whole) Ks j) alive (partway_end before now never_kind (pair_values whole) ends Ks j here) in
     let names : names_in es ≡ pair_names whole = sym (append-nil (names_in es)) ∙ ap (λ ps. names_in es ++ pair_names ps) (sym is) ∙ so_far.names in
     let named = subst (λ ns. IsCutOf (object_at ns Ks) K) names cut in
     (record j { kind = K }, an_object all named, with_kind_of before now ends j K here.has_ends here.gathered (object_root (names_in es) Ks K cut))
@@ -227,7 +227,7 @@ sequence_next before now after whole left rest e last next part is so_far judged
 pub sequence_end : (before now : Checker) (whole left : Exprs) (last : Outcome) → left ≡ no_exprs → IsSequencePartway before now whole left last → IsSequenceAs whole before now last
 sequence_end before now whole left last is so_far known alive =
     let here = subst (λ l. IsPartway before now so_far.N whole l last.ends so_far.Ks so_far.j) is so_far.so_far in
-    let all = subst (λ k. JudgesAll (language_rules before.patterns.now) (gives so_far.N k) whole so_far.Ks so_far.j) alive (partway_end before now so_far.N whole last.ends so_far.Ks so_far.j here) in
+    let all = subst (λ k. JudgesAll (language_rules before.patterns.now) before.inside (gives so_far.N k) whole so_far.Ks so_far.j) alive (partway_end before now so_far.N whole last.ends so_far.Ks so_far.j here) in
     (so_far.N, so_far.Ks, so_far.j, so_far.null, all, record { kind = so_far.kind; root = so_far.root; ends = here.has_ends; gathered = here.gathered })
 
 -- ---- items of a script
@@ -239,9 +239,10 @@ pub record IsScriptPartway (before now : Checker) (whole left : Exprs) (last : O
   pub leads : (k : Judgement) → JudgesItems (language_rules before.patterns.now) j left k → JudgesItems (language_rules before.patterns.now) (gives N before.state.known) whole k
   pub has : HasJudged before now last j
   pub can : ItemsCanBeJudged before.patterns.now left
+  pub outside : before.inside ≡ false
 
-pub script_first : (before : Checker) (whole left : Exprs) (last : Outcome) (N : KindTree) → left ≡ whole → last.kind ≡ N → last.ends ≡ no_ends → IsScalar tag.Null N → ItemsCanBeJudged before.patterns.now whole → IsScriptPartway before before whole left last
-script_first before whole left last N all is none null can =
+pub script_first : (before : Checker) (whole left : Exprs) (last : Outcome) (N : KindTree) → left ≡ whole → last.kind ≡ N → last.ends ≡ no_ends → IsScalar tag.Null N → ItemsCanBeJudged before.patterns.now whole → before.inside ≡ false → IsScriptPartway before before whole left last
+script_first before whole left last N all is none null can outside =
     let first : IsScriptPartway before before whole whole last = record {
       N = N;
       j = gives N before.state.known;
@@ -254,6 +255,7 @@ script_first before whole left last N all is none null can =
         gathered = value_gathered before N;
       };
       can = can;
+      outside = outside;
     } in
     subst (λ l. IsScriptPartway before before whole l last) (sym all) first
 
@@ -271,7 +273,9 @@ script_next before now after whole left rest e last next part is so_far item sam
     let told = with_codes (of_item (span_of e) item.0) item.0 in
     let both = are so_far.has.ends.are (part_are before now after part so_far.j told so_far.has.gathered item.2) in
     let all = part_then before now after last.ends next.ends part so_far.j told so_far.has.ends so_far.has.gathered item.2 joined both in
-    let from : Judges (language_rules before.patterns.now) so_far.j.ok e item.0 = judges_at before now so_far.j.ok e item.0 so_far.has.gathered.patterns so_far.has.gathered.ok item.1 in
+    let from : Judges (language_rules before.patterns.now) false so_far.j.ok e item.0 =
+    subst (λ b. Judges (language_rules before.patterns.now) b so_far.j.ok e item.0) so_far.outside (judges_at before now so_far.j.ok e item.0 so_far.has.gathered.patterns so_far.has.gathered.inside so_far.has.gathered.ok item.1)
+    in
     record {
       N = so_far.N;
       j = behind_with next.ends so_far.j told;
@@ -279,6 +283,7 @@ script_next before now after whole left rest e last next part is so_far item sam
       leads = λ k items. so_far.leads k (subst (λ l. JudgesItems (language_rules before.patterns.now) so_far.j l k) (sym is) (one_more_item from all.in_order items));
       has = record { kind = same ∙ item.2.kind; root = item.2.root; ends = all.ends; gathered = all.gathered };
       can = rest_can e rest (subst (ItemsCanBeJudged before.patterns.now) is so_far.can);
+      outside = so_far.outside;
     }
 
 pub script_end : (before now : Checker) (whole left : Exprs) (last outcome : Outcome) → left ≡ no_exprs → IsScriptPartway before now whole left last → IsSettledAs last now outcome → IsScriptAs whole before now outcome

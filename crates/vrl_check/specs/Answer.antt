@@ -1,11 +1,10 @@
 -- What `check` and `ending` answer.
-use Rattle.std.specs.Prelude.{◌≡◌, [], Option}
+use Rattle.std.specs.Prelude.{◌≡◌, [], All, Option}
 use Rattle.vrl_state.specs.Known.{known_as, HaveRootKinds}
 use Rattle.vrl_state.specs.States.{IsEither, IsJoined, IsRootKind, RootMap, State}
-use Rattle.vrl_syntax.specs.Tree.{Exprs}
 use Rattle.vrl_judge.specs.Rules.{Judgement}
 use Rattle.vrl_judge.specs.Ordered.{AreOrdered}
-use Rattle.vrl_check.specs.Loops.{closures_in_exprs, deads}
+use Rattle.vrl_judge.specs.Closures.{loops_told}
 use Rattle.vrl_check.specs.declared.judged.Ending.{Ending}
 use Rattle.vrl_check.specs.declared.judged.Judged.{Judged}
 use Rattle.vrl_judge.specs.Returns.{return_state, return_kind, returning}
@@ -14,8 +13,8 @@ use Rattle.vrl_judge.specs.Returns.{return_state, return_kind, returning}
 abbrev pub outside : Option RootMap → State
 outside known = record { known = known; scopes = [] }
 
--- the answer tells this judgement of a script's items, whose ends stand outside all blocks
-pub record IsJudged (items : Exprs) (j : Judgement) (judged : Judged) : Type 0 where
+-- the answer tells this judgement of a script, whose ends stand outside all blocks
+pub record IsJudged (j : Judgement) (judged : Judged) : Type 0 where
   pub kind : judged.kind ≡ j.kind
   pub root : IsRootKind judged.kind
   pub ok : judged.ok ≡ outside j.ok
@@ -24,8 +23,8 @@ pub record IsJudged (items : Exprs) (j : Judgement) (judged : Judged) : Type 0 w
   pub returned : return_kind judged.ret ≡ j.returned
   pub returned_root : IsRootKind j.returned
   pub empties : judged.empties ≡ j.empties
-  -- no closure is judged so far
-  pub loops : judged.loops ≡ deads (closures_in_exprs items)
+  pub loops : judged.loops ≡ loops_told j.loops
+  pub loop_roots : All HaveRootKinds judged.loops
   pub diagnostics : AreOrdered j.codes judged.diagnostics
 
 -- the kind of a script's value, from its end or from a return, and what is known there

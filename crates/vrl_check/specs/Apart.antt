@@ -22,11 +22,12 @@ abbrev pub times : ℕ → Span → List Diagnostic → ℕ
 times code span [] = 0
 times code span (d ∷ ds) = one_if (nat_eq d.code code && same_span d.span span) + times code span ds
 
--- what each expression, each name of a call, and each argument counts, by its place
+-- what each expression, each name of a call, each argument, and each closure's block counts, by its place
 pub record Weights : Type 0 where
   pub expression : Span → ℕ
   pub name : Span → ℕ
   pub argument : Span → ℕ
+  pub closure_block : Span → ℕ
 
 -- the target of `t |= e` is read, and so counts as an expression
 abbrev pub weigh_target : Weights → Target → ℕ
@@ -78,7 +79,7 @@ abbrev mutual
 
   pub weigh_closure : Weights → Closure → ℕ
   weigh_closure w no_closure = 0
-  weigh_closure w (closure names es span) = weigh_exprs w es
+  weigh_closure w (closure names es span) = w.closure_block span + weigh_exprs w es
 
   pub weigh_message : Weights → Message → ℕ
   weigh_message w no_message = 0
@@ -90,21 +91,29 @@ at_place span s = one_if (same_span s span)
 abbrev pub nowhere : Span → ℕ
 nowhere s = 0
 
--- how many expressions stand at a place, how many calls have their name there, and how many arguments stand there, from their keyword on
+-- how many expressions stand at a place, how many calls have their name there, how many arguments stand there, from their keyword on, and how many
+-- blocks of closures
+abbrev pub nothing_weighs : Weights
+nothing_weighs = record { expression = nowhere; name = nowhere; argument = nowhere; closure_block = nowhere }
+
 abbrev pub expressions_at : Span → Exprs → ℕ
-expressions_at span es = weigh_exprs (record { expression = at_place span; name = nowhere; argument = nowhere }) es
+expressions_at span es = weigh_exprs (record nothing_weighs { expression = at_place span }) es
 
 abbrev pub names_at : Span → Exprs → ℕ
-names_at span es = weigh_exprs (record { expression = nowhere; name = at_place span; argument = nowhere }) es
+names_at span es = weigh_exprs (record nothing_weighs { name = at_place span }) es
 
 abbrev pub arguments_at : Span → Exprs → ℕ
-arguments_at span es = weigh_exprs (record { expression = nowhere; name = nowhere; argument = at_place span }) es
+arguments_at span es = weigh_exprs (record nothing_weighs { argument = at_place span }) es
 
--- no two expressions stand at one place, nor two names of calls, nor two arguments
+abbrev pub closure_blocks_at : Span → Exprs → ℕ
+closure_blocks_at span es = weigh_exprs (record nothing_weighs { closure_block = at_place span }) es
+
+-- no two expressions stand at one place, nor two names of calls, nor two arguments, nor two blocks of closures
 pub record AreApart (items : Exprs) : Type 0 where
   pub expressions : (span : Span) → expressions_at span items ≤ 1
   pub names : (span : Span) → names_at span items ≤ 1
   pub arguments : (span : Span) → arguments_at span items ≤ 1
+  pub closure_blocks : (span : Span) → closure_blocks_at span items ≤ 1
 
 -- in a judgement of a script whose parts stand apart no code stands twice at one place, whatever the open rules are
 abbrev pub NoCodeStandsTwice : Type 0

@@ -1,10 +1,9 @@
 -- What the walk keeps of the arguments of a call, and what a call gives behind them.
-use Rattle.std.specs.Prelude.{◌≡◌, ◌≢◌, ◌||◌, ℕ, Bool, true, false, List, [], ◌∷◌, ◌++◌, map, Option, Some, None, option_map, IsSomeAnd, zero, suc, ⊤}
+use Rattle.std.specs.Prelude.{◌≡◌, ◌≢◌, ◌||◌, ℕ, Bool, true, false, List, [], ◌∷◌, map, Option, Some, None, option_map, IsSomeAnd, zero, suc, ⊤}
 use Rattle.std.specs.List.{list_any}
 use Rattle.vrl_value.specs.Tree.{Tree}
 use Rattle.vrl_diag.specs.declared.diagnostic.Diagnostic.{Diagnostic}
 use Rattle.vrl_diag.specs.declared.diagnostic.Span.{Span}
-use Rattle.vrl_syntax.specs.ErrorAssignments.{in_closure}
 use Rattle.vrl_syntax.specs.Tree.{Expr, Form, Args, no_args, arg, Closure}
 use Rattle.vrl_syntax.specs.View.{args_of, closure_in, closure_of, expr_of}
 use Rattle.vrl_syntax.specs.declared.tree.Arg.{Arg as CodeArg}
@@ -13,14 +12,15 @@ use Rattle.vrl_kind.specs.Canonical.{never_kind}
 use Rattle.vrl_builtin.specs.Conditions.{AreGiven}
 use Rattle.vrl_builtin.specs.Rows.{GivenTree, ParameterRow, Row}
 use Rattle.vrl_state.specs.States.{IsRootKind, RootMap}
-use Rattle.vrl_table.specs.Binding.{binding, keywords_of, path_parameters}
+use Rattle.vrl_table.specs.Binding.{binding, collection_parameters, keywords_of, path_parameters}
 use Rattle.vrl_table.specs.Table.{row_of}
 use Rattle.vrl_table.specs.declared.function.Fun.{Fun}
 use Rattle.vrl_judge.specs.Branching.{IsOrFail}
+use Rattle.vrl_judge.specs.Closures.{of_wanted_closure}
 use Rattle.vrl_syntax.specs.Calls.{is_exists, is_del}
 use Rattle.vrl_diag.specs.Refusal.{is_error}
-use Rattle.vrl_judge.specs.Rules.{Argument, Judgement, at, banged, gives, if_state}
-use Rattle.vrl_check.specs.Judgement.{AreAskedAbout, Gives, JudgesArguments, IsAnsweredUnless, IsDeletedAt, behind_arguments, bound, deleted_kind, deleted_path, nulls, of_call, places_in, wants_literal, wants_path}
+use Rattle.vrl_judge.specs.Rules.{Argument, Judgement, at, banged, gives, if_state, with_codes}
+use Rattle.vrl_check.specs.Judgement.{AreAskedAbout, Gives, JudgesArguments, IsAnsweredUnless, IsDeletedAt, bound, deleted_kind, deleted_path, of_closure, own_codes, passing_closure, places_in, wants_literal, wants_path}
 use Rattle.vrl_judge.specs.Judging.{AreEnds, HasEnds, HasGathered, HasJudged, IsMoved}
 use Rattle.vrl_judge.specs.declared.calls.Argument.{Argument as CodeArgument}
 use Rattle.vrl_check.specs.declared.calls.Arguments.{Arguments}
@@ -47,11 +47,12 @@ call_args c = args_of (out-Call c).args
 abbrev pub call_closure : CodeCall → Closure
 call_closure c = closure_in (option_map closure_of (out-Call c).closure)
 
--- what it names
+-- what it names, but for the functions that take a closure, whose calls have a step of their own
 abbrev pub IsNamed : List ℕ → Callee → Type 0
 IsNamed name (callee.Function function) = (row_of function).name ≡ name
 IsNamed name callee.Deletion = is_del name ≡ true
 IsNamed name callee.Existence = is_exists name ≡ true
+IsNamed name (callee.Iteration f) = ⊥
 
 -- no function has the name, nor have `del` and `exists`
 pub record IsUnknown (name : List ℕ) : Type 0 where
@@ -63,11 +64,20 @@ abbrev pub callee_parameters : Callee → List ParameterRow
 callee_parameters (callee.Function function) = (row_of function).parameters
 callee_parameters callee.Deletion = path_parameters
 callee_parameters callee.Existence = path_parameters
+callee_parameters (callee.Iteration f) = collection_parameters f
 
 abbrev pub callee_wants : Callee → ℕ → ParameterRow → Expr → Bool
 callee_wants (callee.Function function) = wants_literal (row_of function)
 callee_wants callee.Deletion = wants_path
 callee_wants callee.Existence = wants_path
+callee_wants (callee.Iteration f) = λ i p e. false
+
+-- the code of its closure, or of none
+abbrev pub callee_closure : Callee → Span → Closure → List Diagnostic
+callee_closure (callee.Function function) = of_closure
+callee_closure callee.Deletion = of_closure
+callee_closure callee.Existence = of_closure
+callee_closure (callee.Iteration f) = of_wanted_closure f
 
 -- ---- arguments that were judged
 
@@ -97,23 +107,23 @@ pub record HasArguments (before after : Checker) (gs : Args) (arguments : Argume
   pub gathered : HasGathered before after j
 
 abbrev pub AreArgumentsAs : Args → Checker → Checker → Arguments → Type 0
-AreArgumentsAs gs before after arguments = (js : List Argument) × (j : Judgement) × JudgesArguments (language_rules before.patterns.now) (gives never_kind before.state.known) gs js j × HasArguments before after gs arguments js j
+AreArgumentsAs gs before after arguments = (js : List Argument) × (j : Judgement) × JudgesArguments (language_rules before.patterns.now) before.inside (gives never_kind before.state.known) gs js j × HasArguments before after gs arguments js j
 
 -- ---- the call, behind them
 
 abbrev pub IsCalledAs : Span → Form → Args → Arguments → Checker → Checker → Outcome → Type 0
 IsCalledAs span f gs arguments now after outcome = (before : Checker) (known : RootMap) (js : List Argument) (j : Judgement)
-    → before.state.known ≡ Some known → JudgesArguments (language_rules before.patterns.now) (gives never_kind (Some known)) gs js j → HasArguments before now gs arguments js j
-    → (k : Judgement) × Gives (language_rules before.patterns.now) known span f k × HasJudged before after outcome k
+    → before.state.known ≡ Some known → JudgesArguments (language_rules before.patterns.now) before.inside (gives never_kind (Some known)) gs js j → HasArguments before now gs arguments js j
+    → (k : Judgement) × Gives (language_rules before.patterns.now) before.inside known span f k × HasJudged before after outcome k
 
 -- behind its closure, which isn't judged
 abbrev pub IsPassed : Checker → Checker → Args → Closure → Arguments → List Argument → Judgement → Type 0
-IsPassed before now gs c arguments js j = HasArguments before now gs arguments js (record j { empties = j.empties ++ nulls (in_closure c) })
+IsPassed before now gs c arguments js j = HasArguments before now gs arguments js (passing_closure c j)
 
 abbrev pub IsPassedCallAs : Span → Form → Args → Closure → Arguments → Checker → Checker → Outcome → Type 0
 IsPassedCallAs span f gs c arguments now after outcome = (before : Checker) (known : RootMap) (js : List Argument) (j : Judgement)
-    → before.state.known ≡ Some known → JudgesArguments (language_rules before.patterns.now) (gives never_kind (Some known)) gs js j → IsPassed before now gs c arguments js j
-    → (k : Judgement) × Gives (language_rules before.patterns.now) known span f k × HasJudged before after outcome k
+    → before.state.known ≡ Some known → JudgesArguments (language_rules before.patterns.now) before.inside (gives never_kind (Some known)) gs js j → IsPassed before now gs c arguments js j
+    → (k : Judgement) × Gives (language_rules before.patterns.now) before.inside known span f k × HasJudged before after outcome k
 
 -- ---- its codes
 
@@ -124,17 +134,17 @@ of_code (Some code) span = at code span
 
 -- the call's own codes
 abbrev pub callee_codes : Callee → Span → Args → Closure → List Argument → List Diagnostic
-callee_codes f span gs c js = of_call (callee_wants f) (callee_parameters f) span c js (binding (callee_parameters f) (keywords_of gs))
+callee_codes f span gs c js = own_codes (callee_wants f) (callee_parameters f) span (callee_closure f span c) js (binding (callee_parameters f) (keywords_of gs))
 
 -- the arguments with the call's own codes
 abbrev pub with_call_codes : Callee → Span → Args → Closure → List Argument → Judgement → Judgement
-with_call_codes f = behind_arguments (callee_wants f) (callee_parameters f)
+with_call_codes f span gs c js j = with_codes (callee_codes f span gs c js) (passing_closure c j)
 
 -- what the call gives then, but for its `!`
 abbrev pub IsBoundCallAs : Callee → Span → Form → Bool → Args → Closure → Arguments → Checker → Checker → Outcome → Type 0
 IsBoundCallAs named span f bang gs c arguments now after outcome = (before : Checker) (known : RootMap) (js : List Argument) (j : Judgement)
-    → before.state.known ≡ Some known → JudgesArguments (language_rules before.patterns.now) (gives never_kind (Some known)) gs js j → HasArguments before now gs arguments js (with_call_codes named span gs c js j)
-    → (k : Judgement) × Gives (language_rules before.patterns.now) known span f (banged span bang k) × HasJudged before after outcome k
+    → before.state.known ≡ Some known → JudgesArguments (language_rules before.patterns.now) before.inside (gives never_kind (Some known)) gs js j → HasArguments before now gs arguments js (with_call_codes named span gs c js j)
+    → (k : Judgement) × Gives (language_rules before.patterns.now) before.inside known span f (banged span bang k) × HasJudged before after outcome k
 
 -- arguments that are bound so were judged in some way, and where no error code stands on the call, none of its own does
 pub record HasCodes (named : Callee) (gs : Args) (c : Closure) (arguments : Arguments) (places : List (Option ℕ)) : Type 0 where

@@ -1,8 +1,8 @@
 pub mod Answer
 pub mod Apart
 pub mod Calling
-pub mod Calls
 pub mod Determined
+pub mod Iterating
 pub mod Judgement
 pub mod Loops
 pub mod OpenRules

@@ -1,8 +1,6 @@
--- The closures of a script, and what is known where each of them was judged last. A walk of the tree as written meets them in order, an outer
--- one before those in it. None is judged so far, so each is in a dead state.
-use Rattle.std.specs.Prelude.{ℕ, suc, ◌+◌, List, replicate}
-use Rattle.vrl_state.specs.declared.known.Known.{Known}
-use Rattle.vrl_state.specs.declared.known.Known.TheVariants.{Dead}
+-- The closures of a script. A walk of the tree as written meets them in order, an outer one before those in it.
+use Rattle.std.specs.Prelude.{ℕ, suc, ◌+◌, List, replicate, Option, None}
+use Rattle.vrl_judge.specs.Rules.{Loop}
 use Rattle.vrl_syntax.specs.Tree.{Expr, expr, Form, literal, array, object, read, query, group, block, conditional, negation, binary, assign, merge, both, call, return_of, abort_with, Exprs, no_exprs, exprs, Pairs, no_pairs, pair, Arms, no_arms, arm, Else, no_else, else_block, Args, no_args, arg, Closure, no_closure, closure, Message, no_message, message}
 
 -- how many there are in each part
@@ -56,6 +54,6 @@ abbrev mutual
   closures_in_message no_message = 0
   closures_in_message (message e) = closures_in_expr e
 
--- so many dead states, one for each closure
-abbrev pub deads : ℕ → List Known
-deads n = replicate n Dead
+-- so many of which none is judged
+abbrev pub unjudged : ℕ → List (Option Loop)
+unjudged n = replicate n None

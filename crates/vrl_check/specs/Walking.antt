@@ -1,5 +1,5 @@
 -- What the walk over a script is asked, and what it gives.
-use Rattle.std.specs.Prelude.{◌≡◌, ℕ, Bool, true, false, List, [], Some, None, length, ◌++◌}
+use Rattle.std.specs.Prelude.{◌≡◌, ℕ, Bool, true, false, List, [], Option, Some, None, length, replicate, ◌++◌}
 use Rattle.vrl_diag.specs.declared.diagnostic.Diagnostic.{Diagnostic}
 use Rattle.vrl_diag.specs.declared.diagnostic.Span.{Span}
 use Rattle.vrl_syntax.specs.Limits.{args_faults, expr_faults, form_faults, exprs_faults, pairs_faults, arms_faults, else_faults}
@@ -8,8 +8,7 @@ use Rattle.vrl_syntax.specs.Tree.{Args, Expr, Form, Exprs, Pairs, Arms, Else, no
 use Rattle.vrl_syntax.specs.View.{ArmTree}
 use Rattle.vrl_kind.specs.Canonical.{never_kind}
 use Rattle.vrl_kind.specs.KindTree.{KindTree}
-use Rattle.vrl_state.specs.States.{RootMap, IsRootKind}
-use Rattle.vrl_check.specs.Calls.{args_hold_closure_call, arms_hold_closure_call, else_holds_closure_call, expr_holds_closure_call, exprs_hold_closure_call, form_holds_closure_call, pairs_hold_closure_call}
+use Rattle.vrl_state.specs.States.{RootMap, State, IsRootKind}
 use Rattle.vrl_judge.specs.Rules.{Judgement, IsScalar, IsThen, gives, settle, with_codes}
 use Rattle.vrl_check.specs.Judgement.{IsBeside, of_item, predicate_of}
 use Rattle.vrl_check.specs.Judgement.{Judges, Gives, JudgesAll, JudgesBlock, JudgesItems}
@@ -17,77 +16,79 @@ use Rattle.vrl_judge.specs.declared.branches.Ways.{Ways}
 use Rattle.vrl_judge.specs.declared.checker.Checker.{Checker}
 use Rattle.vrl_judge.specs.declared.operators.Operands.{Operands}
 use Rattle.vrl_judge.specs.declared.outcome.Outcome.{Outcome}
-use Rattle.vrl_judge.specs.Judging.{HasJudged, HasOperands, known_on, IsWay, HasEnds}
+use Rattle.vrl_judge.specs.Judging.{branches_known, known_on, loops_known, HasEnds, HasJudged, HasOperands, IsWay}
 use Rattle.vrl_value.specs.declared.value.Tag.TheVariants as tag
 use Rattle.vrl_check.specs.OpenRules.{language_rules}
 
 -- ---- what can be judged
 
--- A part can be judged where, as these functions tell, it calls no function that takes a closure, its paths keep their limits, and each of its
--- regexes has a source.
-pub record IsJudgeable {A : Type 0} (holds_closure_call : A → Bool) (faults : A → List Diagnostic) (regexes_below : ℕ → A → Bool) (sources : List (List ℕ)) (part : A) : Type 0 where
-  pub calls : holds_closure_call part ≡ false
+-- A part can be judged where, as these functions tell, its paths keep their limits, and each of its regexes has a source.
+pub record IsJudgeable {A : Type 0} (faults : A → List Diagnostic) (regexes_below : ℕ → A → Bool) (sources : List (List ℕ)) (part : A) : Type 0 where
   pub limits : faults part ≡ []
   pub regexes : regexes_below (length sources) part ≡ true
 
 abbrev pub ExprCanBeJudged : List (List ℕ) → Expr → Type 0
-ExprCanBeJudged = IsJudgeable expr_holds_closure_call expr_faults expr_regexes_below
+ExprCanBeJudged = IsJudgeable expr_faults expr_regexes_below
 
 abbrev pub FormCanBeJudged : List (List ℕ) → Form → Type 0
-FormCanBeJudged = IsJudgeable form_holds_closure_call form_faults form_regexes_below
+FormCanBeJudged = IsJudgeable form_faults form_regexes_below
 
 abbrev pub ItemsCanBeJudged : List (List ℕ) → Exprs → Type 0
-ItemsCanBeJudged = IsJudgeable exprs_hold_closure_call exprs_faults exprs_regexes_below
+ItemsCanBeJudged = IsJudgeable exprs_faults exprs_regexes_below
 
 abbrev pub PairsCanBeJudged : List (List ℕ) → Pairs → Type 0
-PairsCanBeJudged = IsJudgeable pairs_hold_closure_call pairs_faults pairs_regexes_below
+PairsCanBeJudged = IsJudgeable pairs_faults pairs_regexes_below
 
 abbrev pub ArmsCanBeJudged : List (List ℕ) → Arms → Type 0
-ArmsCanBeJudged = IsJudgeable arms_hold_closure_call arms_faults arms_regexes_below
+ArmsCanBeJudged = IsJudgeable arms_faults arms_regexes_below
 
 abbrev pub ElseCanBeJudged : List (List ℕ) → Else → Type 0
-ElseCanBeJudged = IsJudgeable else_holds_closure_call else_faults else_regexes_below
+ElseCanBeJudged = IsJudgeable else_faults else_regexes_below
 
 -- arguments, whose paths are deleted or not
 abbrev pub ArgumentsCanBeJudged : List (List ℕ) → Args → Type 0
-ArgumentsCanBeJudged = IsJudgeable args_hold_closure_call (args_faults false) args_regexes_below
+ArgumentsCanBeJudged = IsJudgeable (args_faults false) args_regexes_below
 
 -- ---- what the walk gives
 
+-- the states of closures that it passes by: none is kept of any
+abbrev pub passed_states : ℕ → List (Option State)
+passed_states n = replicate n None
+
 -- an expression, a form where a way leads to it, items of a block, items before their block ends
 abbrev pub IsJudgedAs : Expr → Checker → Checker → Outcome → Type 0
-IsJudgedAs e before after outcome = (j : Judgement) × Judges (language_rules before.patterns.now) before.state.known e j × HasJudged before after outcome j
+IsJudgedAs e before after outcome = (j : Judgement) × Judges (language_rules before.patterns.now) before.inside before.state.known e j × HasJudged before after outcome j
 
 abbrev pub IsGivenAs : Span → Form → Checker → Checker → Outcome → Type 0
-IsGivenAs span f before after outcome = (known : RootMap) → before.state.known ≡ Some known → (j : Judgement) × Gives (language_rules before.patterns.now) known span f j × HasJudged before after outcome j
+IsGivenAs span f before after outcome = (known : RootMap) → before.state.known ≡ Some known → (j : Judgement) × Gives (language_rules before.patterns.now) before.inside known span f j × HasJudged before after outcome j
 
 -- the same wherever it stands
 abbrev pub IsAnywhereAs : Form → Checker → Checker → Outcome → Type 0
 IsAnywhereAs f before after outcome = (span : Span) → IsGivenAs span f before after outcome
 
 abbrev pub IsBlockAs : Exprs → Checker → Checker → Outcome → Type 0
-IsBlockAs es before after outcome = (j : Judgement) × JudgesBlock (language_rules before.patterns.now) before.state.known es j × HasJudged before after outcome j
+IsBlockAs es before after outcome = (j : Judgement) × JudgesBlock (language_rules before.patterns.now) before.inside before.state.known es j × HasJudged before after outcome j
 
 abbrev pub IsSequenceAs : Exprs → Checker → Checker → Outcome → Type 0
 IsSequenceAs es before after outcome = (known : RootMap) → before.state.known ≡ Some known
-    → (N : KindTree) × (Ks : List KindTree) × (j : Judgement) × IsScalar tag.Null N × JudgesAll (language_rules before.patterns.now) (gives N (Some known)) es Ks j × HasJudged before after outcome j
+    → (N : KindTree) × (Ks : List KindTree) × (j : Judgement) × IsScalar tag.Null N × JudgesAll (language_rules before.patterns.now) before.inside (gives N (Some known)) es Ks j × HasJudged before after outcome j
 
 -- items of a script, and one of them
 abbrev pub IsScriptAs : Exprs → Checker → Checker → Outcome → Type 0
 IsScriptAs es before after outcome = (N : KindTree) × (j : Judgement) × IsScalar tag.Null N × JudgesItems (language_rules before.patterns.now) (gives N before.state.known) es j × HasJudged before after outcome (settle j)
 
 abbrev pub IsItemAs : Expr → Checker → Checker → Outcome → Type 0
-IsItemAs e before after outcome = (j : Judgement) × Judges (language_rules before.patterns.now) before.state.known e j × HasJudged before after outcome (with_codes (of_item (span_of e) j) j)
+IsItemAs e before after outcome = (j : Judgement) × Judges (language_rules before.patterns.now) before.inside before.state.known e j × HasJudged before after outcome (with_codes (of_item (span_of e) j) j)
 
 -- ---- steps of the walk
 
 abbrev pub AreBoth : Expr → Expr → Checker → Checker → Operands → Type 0
-AreBoth l r before after parts = (j : Judgement) × (k : Judgement) × (whole : Judgement) × Judges (language_rules before.patterns.now) before.state.known l j × Judges (language_rules before.patterns.now) j.ok r k × IsThen j k whole × HasOperands before after parts j k whole
+AreBoth l r before after parts = (j : Judgement) × (k : Judgement) × (whole : Judgement) × Judges (language_rules before.patterns.now) before.inside before.state.known l j × Judges (language_rules before.patterns.now) before.inside j.ok r k × IsThen j k whole × HasOperands before after parts j k whole
 
 -- the right one, behind the left one
 abbrev pub IsBesideAs : Expr → Outcome → Checker → Checker → Operands → Type 0
 IsBesideAs r left now after parts = (before : Checker) (j : Judgement) → HasJudged before now left j
-    → (k : Judgement) × (whole : Judgement) × Judges (language_rules before.patterns.now) now.state.known r k × IsThen j k whole × HasOperands before after parts j k whole
+    → (k : Judgement) × (whole : Judgement) × Judges (language_rules before.patterns.now) before.inside now.state.known r k × IsThen j k whole × HasOperands before after parts j k whole
 
 -- the ways of an `if` that were judged so far
 pub record HasWays (before now : Checker) (ways : Ways) (w : Judgement) : Type 0 where
@@ -99,7 +100,9 @@ pub record HasWays (before now : Checker) (ways : Ways) (w : Judgement) : Type 0
   pub scopes : now.state.scopes ≡ before.state.scopes
   pub diagnostics : now.diagnostics.items ≡ before.diagnostics.items ++ w.codes
   pub empties : now.empties.items ≡ before.empties.items ++ w.empties
+  pub loops : branches_known now.loops.items ≡ branches_known before.loops.items ++ loops_known w.loops
   pub patterns : now.patterns ≡ before.patterns
+  pub inside : now.inside ≡ before.inside
 
 -- a predicate and its block, beside the ways before them
 pub record IsArmAs (a : ArmTree) (w : Judgement) (before now after : Checker) (ways : Ways) : Type 0 where
@@ -107,9 +110,9 @@ pub record IsArmAs (a : ArmTree) (w : Judgement) (before now after : Checker) (w
   pub k : Judgement
   pub with_predicate : Judgement
   pub all : Judgement
-  pub predicate : Judges (language_rules now.patterns.now) now.state.known a.0 j
+  pub predicate : Judges (language_rules now.patterns.now) now.inside now.state.known a.0 j
   pub first : IsBeside w (record (predicate_of a.0 j) { kind = never_kind; ok = None }) with_predicate
-  pub block : JudgesBlock (language_rules now.patterns.now) j.ok a.1 k
+  pub block : JudgesBlock (language_rules now.patterns.now) now.inside j.ok a.1 k
   pub second : IsBeside with_predicate k all
   pub known : after.state.known ≡ j.ok
   pub told : HasWays before after ways all

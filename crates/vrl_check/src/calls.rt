@@ -1,41 +1,45 @@
 ghost use Rattle.std.specs.Option.{option_map_or};
-ghost use Rattle.std.specs.Prelude.{[], false, is_some, length, map, not, option_map, slice_get, true, ◌++◌, ◌≡◌, ◌≢◌, IfOk, IfSome, IsSomeAnd, IsTrue, List, MatchOption, OnOk, Option, Some, ℕ};
+ghost use Rattle.std.specs.Prelude.{[], false, is_some, length, map, nat_lt, not, option_map, slice_get, true, ◌++◌, ◌≡◌, ◌≢◌, IfOk, IfSome, IsSomeAnd, IsTrue, List, MatchOption, OnOk, Option, Some, ℕ};
 ghost use Rattle.vrl_builtin.specs.Conditions.{below_if, literals_below, AreGiven};
 ghost use Rattle.vrl_builtin.specs.Rows.{literal_at};
 ghost use Rattle.vrl_builtin.specs.View.{given_tree, givens_of as trees_of_givens, parameter_row};
-ghost use Rattle.vrl_check.specs.Calling.{alone_at, call_args, call_bang, call_closure, call_name, callee_codes, callee_parameters, callee_wants, of_code, written, AreTold, HasCodes, IsAnsweredAs, IsBoundCallAs, IsCalledAs, IsDeletedAs, IsFound, IsNamed, IsPassedCallAs, IsTold, IsUnknown, MayBeAsked};
-ghost use Rattle.vrl_check.specs.Judgement.{bound as bound_at, deleted_kind, deleted_path, of_argument, of_arguments, of_closure, of_fault, of_found, places_in, some_has_others as some_have_others, AreAskedAbout, IsAnswered, IsDeletedAt, IsAskedAbout};
+ghost use Rattle.std.specs.List.{list_any};
+ghost use Rattle.vrl_check.specs.Calling.{alone_at, call_args, call_bang, call_closure, call_name, callee_closure, callee_codes, callee_parameters, callee_wants, of_code, written, AreTold, HasCodes, IsAnsweredAs, IsBoundCallAs, IsCalledAs, IsDeletedAs, IsFound, IsNamed, IsPassedCallAs, IsTold, IsUnknown, MayBeAsked};
+ghost use Rattle.vrl_check.specs.Judgement.{bound as bound_at, deleted_kind, deleted_path, of_argument, of_arguments, of_closure_call, of_fault, of_found, passing_closure, places_in, some_has_others as some_have_others, AreAskedAbout, IsAnswered, IsDeletedAt, IsAskedAbout};
 ghost use Rattle.vrl_check.specs.Walking.{FormCanBeJudged};
 ghost use Rattle.vrl_diag.specs.declared.diagnostic.Span.{Span as SpecSpan};
+ghost use Rattle.vrl_judge.specs.declared.checker.Checker.{Checker as SpecChecker};
 ghost use Rattle.vrl_judge.specs.Calling.{part_of};
-ghost use Rattle.vrl_judge.specs.Judging.{AreEnds, IsMoved, IsReported};
-ghost use Rattle.vrl_judge.specs.Rules.{argument_at as argument_of, at, Argument as JudgedArgument, IsScalar};
+ghost use Rattle.vrl_judge.specs.Closures.{of_wanted_closure};
+ghost use Rattle.vrl_judge.specs.Judging.{AreEnds, HasEnds, HasGathered, HasJudged, IsMoved, IsReported};
+ghost use Rattle.vrl_judge.specs.Rules.{argument_at as argument_of, at, banged as banged_as, when, Argument as JudgedArgument, IsScalar, Judgement};
 ghost use Rattle.vrl_kind.specs.Canonical.{any_kind};
 ghost use Rattle.vrl_state.specs.States.{IsCutOf, IsRootKind};
-ghost use Rattle.vrl_syntax.specs.Calls.{literal_of, path_of};
+ghost use Rattle.vrl_syntax.specs.Calls.{literal_of, path_of, takes_closure};
 ghost use Rattle.vrl_syntax.specs.Limits.{args_faults};
 ghost use Rattle.vrl_syntax.specs.Regexes.{args_regexes_below, expr_regexes_below};
-ghost use Rattle.vrl_syntax.specs.View.{args_of, args_view, call_of, expr_of};
+ghost use Rattle.vrl_syntax.specs.View.{args_of, args_view, call_of, closure_in, closure_of, expr_of};
 ghost use Rattle.vrl_table.specs.Binding.{binding, keywords_of};
 ghost use Rattle.vrl_table.specs.Table.{row_of};
 ghost use Rattle.vrl_value.specs.View.{tree_of};
 ghost use Rattle.vrl_table.specs.declared.binding.BindFault.TheVariants as faults;
 ghost use Rattle.vrl_value.specs.declared.value.Tag.TheVariants as tags;
 
-use crate::empties::pass_closure;
+use crate::passing::pass_closure;
 use std::alloc::Global;
 use vrl_builtin::{Given, Givens, Parameter, Tags, cut_down};
 use vrl_diag::{Span, code};
 use vrl_judge::{
-    Argument, Checker, Ends, Outcome, either_of, is_disjoint, part_has_others, scalar,
+    Argument, Checker, Ends, Outcome, SharedKind, cut, either_of, is_disjoint, part_has_others,
+    scalar,
 };
-use vrl_kind::{Kind, cut, kind_is_canonical};
+use vrl_kind::kind_is_canonical;
 use vrl_path::Path;
 use vrl_pattern::Patterns;
-use vrl_syntax::{Arg, Args, Call, CallForm, Expr, Root};
+use vrl_syntax::{Arg, Args, Call, CallForm, Closure, Expr, Root, has_shape};
 use vrl_table::{
-    BindFault, Bound, Fun, bind_to, functions_keep_law, lookup, may_fail, parameters, result_kind,
-    wrong_literal,
+    BindFault, Bound, Fun, bind_to, collection_parameters, functions_keep_law, lookup, may_fail,
+    parameters, result_kind, wrong_literal,
 };
 use vrl_value::{Memory, Tag, Value};
 
@@ -48,6 +52,8 @@ pub(crate) enum Callee {
     Deletion,
     // `exists`
     Existence,
+    // A function that takes a closure.
+    Iteration(CallForm),
 }
 
 // The arguments of a call that were judged in order.
@@ -60,7 +66,7 @@ pub(crate) struct Arguments {
 // What a function says of its result before it is called.
 #[derive(Drop)]
 struct Answer {
-    kind: Kind,
+    kind: SharedKind,
     // The call may end with an error.
     fails: bool,
 }
@@ -74,7 +80,7 @@ const PATH_PARAMETERS: [Parameter; 1] = [Parameter {
 }];
 
 impl Callee {
-    // What a name calls. None: nothing has it.
+    // What a name calls, but for the functions that take a closure. None: nothing has it.
     fn of(name: &str) -> Option<Callee>
         ensures { MatchOption result (IsUnknown name.now) (IsNamed name.now) }
     {
@@ -94,6 +100,17 @@ impl Callee {
         match self {
             Callee::Function(function) => parameters(function),
             Callee::Deletion | Callee::Existence => &PATH_PARAMETERS,
+            Callee::Iteration(form) => collection_parameters(form),
+        }
+    }
+
+    // Whether a call has a closure that isn't wanted, or none that is: 1010.
+    fn is_wrong_closure(self, closure: &Option<Closure>) -> bool
+        ensures { (span : SpecSpan) → when result (at 1010 span) ≡ callee_closure self span (closure_in (option_map closure_of closure.now)) }
+    {
+        match self {
+            Callee::Function(_) | Callee::Deletion | Callee::Existence => closure.is_some(),
+            Callee::Iteration(form) => is_other_closure(form, closure),
         }
     }
 
@@ -116,6 +133,7 @@ impl Callee {
                 is_no_literal(alloc, function, place, value)
             }
             Callee::Deletion | Callee::Existence => Ok(!is_path(value)),
+            Callee::Iteration(_) => Ok(false),
         }
     }
 
@@ -145,7 +163,7 @@ impl Callee {
     }
 }
 
-// A call, behind its arguments. Its closure isn't judged. `Memory`: want of memory.
+// A call of what takes no closure, behind its arguments. Its closure isn't judged. `Memory`: want of memory.
 pub(crate) fn called(
     checker: &mut Checker<'_>,
     span: Span,
@@ -153,6 +171,7 @@ pub(crate) fn called(
     arguments: Arguments,
 ) -> Result<Outcome, Memory>
     requires form { FormCanBeJudged checker.old.patterns.now (call_of call.now) }
+    requires name { takes_closure (call_name call.now) ≡ false }
     requires told { IsTold (call_args call.now) arguments.parts.items }
     requires ends { AreEnds checker.old.state.scopes arguments.ends }
     ensures { IfOk result (λ outcome. IsCalledAs span (call_of call.now) (call_args call.now) arguments checker.old checker.new outcome) }
@@ -161,6 +180,58 @@ pub(crate) fn called(
     match Callee::of(call.name.as_str()) {
         Some(callee) => call_of(checker, span, callee, call, arguments),
         None => call_of_nothing(checker, call.name_span, arguments),
+    }
+}
+
+// The own codes of a call of a function that takes a closure, behind its arguments, and whether it has one. `Memory`: want of memory.
+pub(crate) fn is_wrong_call(
+    checker: &mut Checker<'_>,
+    span: Span,
+    form: CallForm,
+    call: &Call,
+    arguments: &mut Arguments,
+) -> Result<bool, Memory>
+    ensures reported { OnOk result ((js : List JudgedArgument) → AreTold (call_args call.now) arguments.old.parts.items js
+        → IsReported (of_closure_call form span (call_args call.now) (call_closure call.now) js) checker.old checker.new arguments.old.ends arguments.new.ends) }
+    ensures wrong { IfOk result (λ wrong. (js : List JudgedArgument) → AreTold (call_args call.now) arguments.old.parts.items js
+        → wrong ≡ list_any (λ d. true) (of_closure_call form span (call_args call.now) (call_closure call.now) js)) }
+    ensures parts { arguments.new.parts ≡ arguments.old.parts }
+{
+    let count = checker.diagnostics.len();
+    let _bound = bound(checker, span, Callee::Iteration(form), call, arguments)?;
+    Ok(is_more(count, checker.diagnostics.len()))
+}
+
+// Whether the second number is above the first.
+fn is_more(before: usize, after: usize) -> bool
+    ensures { result ≡ nat_lt before after }
+{
+    before < after
+}
+
+// The same call where it has a code of its own, so its closure isn't judged. `Memory`: want of memory.
+pub(crate) fn passed_call(
+    checker: &mut Checker<'_>,
+    span: Span,
+    call: &Call,
+    arguments: Arguments,
+) -> Result<Outcome, Memory>
+    ensures { IfOk result (λ outcome. (before : SpecChecker) (j : Judgement) → HasEnds before.state.scopes arguments.ends j → HasGathered before checker.old j
+        → HasJudged before checker.new outcome (banged_as span (call_bang call.now) (passing_closure (call_closure call.now) (record j { kind = any_kind })))) }
+{
+    pass_closure(checker, &call.closure)?;
+    let kind = SharedKind::any(checker.alloc)?;
+    let ends = arguments.ends;
+    checker.banged(span, call.bang, Outcome { kind, ends })
+}
+
+// Whether a closure isn't one for the function, or there is none.
+fn is_other_closure(form: CallForm, closure: &Option<Closure>) -> bool
+    ensures { (span : SpecSpan) → when result (at 1010 span) ≡ of_wanted_closure form span (closure_in (option_map closure_of closure.now)) }
+{
+    match closure {
+        Some(closure) => !has_shape(form, &closure.names),
+        None => true,
     }
 }
 
@@ -175,7 +246,7 @@ fn call_of_nothing(
 {
     let mut ends = arguments.ends;
     checker.report(&mut ends, true, code::UNDEFINED_FUNCTION, name)?;
-    let kind = Kind::any(checker.alloc)?;
+    let kind = SharedKind::any(checker.alloc)?;
     Ok(Outcome { kind, ends })
 }
 
@@ -236,7 +307,7 @@ fn bound_codes(
     arguments: &mut Arguments,
 ) -> Result<(), Memory>
     ensures reported { OnOk result ((js : List JudgedArgument) → AreTold (call_args call.now) arguments.old.parts.items js
-        → IsReported (of_arguments (callee_wants callee) 0 (callee_parameters callee) (bound_at places.now js) ++ of_closure span (call_closure call.now))
+        → IsReported (of_arguments (callee_wants callee) 0 (callee_parameters callee) (bound_at places.now js) ++ callee_closure callee span (call_closure call.now))
         checker.old checker.new arguments.old.ends arguments.new.ends) }
     ensures parts { arguments.new.parts ≡ arguments.old.parts }
 {
@@ -250,7 +321,7 @@ fn bound_codes(
     )?;
     checker.report(
         &mut arguments.ends,
-        call.closure.is_some(),
+        callee.is_wrong_closure(&call.closure),
         code::WRONG_CLOSURE,
         span,
     )
@@ -374,6 +445,7 @@ fn answer_call(
         Callee::Function(function) => answered(checker, function, &call.args, bound, arguments),
         Callee::Deletion => deleted(checker, &call.args, arguments),
         Callee::Existence => existing(checker, arguments),
+        Callee::Iteration(_) => unreachable!(),
     }
 }
 
@@ -395,7 +467,7 @@ fn answered(
 {
     let Arguments { parts, mut ends } = arguments;
     if ends.poisoned {
-        let kind = Kind::any(checker.alloc)?;
+        let kind = SharedKind::any(checker.alloc)?;
         return Ok(Outcome { kind, ends });
     }
     let Answer { kind, fails } = ask(
@@ -418,7 +490,7 @@ fn deleted(checker: &mut Checker<'_>, args: &Args, arguments: Arguments) -> Resu
 {
     let Arguments { parts, ends } = arguments;
     if ends.poisoned {
-        let kind = Kind::any(checker.alloc)?;
+        let kind = SharedKind::any(checker.alloc)?;
         return Ok(Outcome { kind, ends });
     }
     take_out_at(checker, args.as_slice())?;
@@ -456,15 +528,15 @@ fn existing(checker: &Checker<'_>, arguments: Arguments) -> Result<Outcome, Memo
 }
 
 // The kind of the one argument; any where there is another number. `Memory`: want of memory.
-fn only_kind(alloc: Global, parts: Vec<Argument>) -> Result<Kind, Memory>
+pub(crate) fn only_kind(alloc: Global, parts: Vec<Argument>) -> Result<SharedKind, Memory>
     ensures { IfOk result (λ kind. (js : List JudgedArgument) → parts.items ≡ map part_of js → kind ≡ deleted_kind false js) }
 {
     let mut parts = parts;
     let Some(part) = parts.pop() else {
-        return Kind::any(alloc);
+        return SharedKind::any(alloc);
     };
     if !parts.is_empty() {
-        return Kind::any(alloc);
+        return SharedKind::any(alloc);
     }
     Ok(part.kind)
 }
@@ -553,7 +625,7 @@ fn given_of(
             literal: None,
         });
     };
-    let kind = cut_down(alloc, &part.kind, &parameter.allowed)?;
+    let kind = cut_down(alloc, part.kind.as_kind(), &parameter.allowed)?;
     kind_is_canonical(&kind);
     let literal = copy_literal(alloc, &arg.value)?;
     Ok(Given {
@@ -632,7 +704,7 @@ fn answer_kind(
     function: Fun,
     givens: &Givens,
     patterns: &Patterns,
-) -> Result<Kind, Memory>
+) -> Result<SharedKind, Memory>
     requires given { AreGiven (row_of function) (trees_of_givens givens.now) }
     requires regexes { IsTrue (literals_below (length patterns.now) (trees_of_givens givens.now)) }
     ensures kind { IfOk result (IsCutOf ((row_of function).kind (trees_of_givens givens.now) patterns.now)) }
@@ -641,5 +713,5 @@ fn answer_kind(
     functions_keep_law();
     let whole = result_kind(alloc, function, givens, patterns)?;
     kind_is_canonical(&whole);
-    cut(alloc, &whole)
+    cut(alloc, whole)
 }

@@ -1,47 +1,14 @@
-ghost use Rattle.std.specs.Prelude.{option_map, ◌++◌, ◌≡◌, IfOk, OnOk};
+ghost use Rattle.std.specs.Prelude.{option_map, ◌++◌, ◌≡◌, OnOk};
 ghost use Rattle.vrl_check.specs.Judgement.{nulls};
-ghost use Rattle.vrl_judge.specs.Judging.{HasJudged};
-ghost use Rattle.vrl_judge.specs.Rules.{nothing};
 ghost use Rattle.vrl_syntax.specs.ErrorAssignments.{in_args, in_arms, in_closure, in_expr, in_exprs, in_form, in_pairs};
 ghost use Rattle.vrl_syntax.specs.View.{args_of, arms_of, call_of, closure_in, closure_of, expr_of, exprs_of, pairs_of};
 
-use vrl_judge::{Checker, Outcome};
 use vrl_syntax::{Args, Arms, Call, Closure, Expr, Exprs, Form, Pairs};
 use vrl_value::{Memory, Tag};
 
-// What isn't judged gives nothing but its empty values, and the state stays. `Memory`: want of memory.
-pub(crate) fn pass(checker: &mut Checker<'_>, expr: &Expr) -> Result<Outcome, Memory>
-    ensures { IfOk result (λ outcome. HasJudged checker.old checker.new outcome (record (nothing (nulls (in_expr (expr_of expr.now)))) { ok = checker.old.state.known })) }
-{
-    add_expr(expr, &mut checker.empties)?;
-    Outcome::nothing(checker.alloc)
-}
-
-// The same of items. `Memory`: want of memory.
-pub(crate) fn pass_items(checker: &mut Checker<'_>, items: &Exprs) -> Result<Outcome, Memory>
-    ensures { IfOk result (λ outcome. HasJudged checker.old checker.new outcome (record (nothing (nulls (in_exprs (exprs_of items.now)))) { ok = checker.old.state.known })) }
-{
-    add_exprs(items, &mut checker.empties)?;
-    Outcome::nothing(checker.alloc)
-}
-
-// The same of a closure that isn't judged. `Memory`: want of memory.
-pub(crate) fn pass_closure(
-    checker: &mut Checker<'_>,
-    closure: &Option<Closure>,
-) -> Result<(), Memory>
-    ensures empties { OnOk result (checker.new.empties.items ≡ checker.old.empties.items ++ nulls (in_closure (closure_in (option_map closure_of closure.now)))) }
-    ensures others { OnOk result (checker.new ≡ record checker.old { empties = checker.new.empties }) }
-{
-    match closure {
-        Some(closure) => add_exprs(&closure.body, &mut checker.empties),
-        None => Ok(()),
-    }
-}
-
 // Adds null for each error assignment of an expression.
 #[cycle(empties)]
-fn add_expr(expr: &Expr, empties: &mut Vec<Tag>) -> Result<(), Memory>
+pub(crate) fn add_expr(expr: &Expr, empties: &mut Vec<Tag>) -> Result<(), Memory>
     ensures { OnOk result (empties.new.items ≡ empties.old.items ++ nulls (in_expr (expr_of expr.now))) }
 {
     match &expr.form {
@@ -80,7 +47,15 @@ fn add_call(call: &Call, empties: &mut Vec<Tag>) -> Result<(), Memory>
     ensures { OnOk result (empties.new.items ≡ empties.old.items ++ nulls (in_form (call_of call.now))) }
 {
     add_args(&call.args, empties)?;
-    match &call.closure {
+    add_closure(&call.closure, empties)
+}
+
+// Adds those of a closure.
+#[cycle(empties)]
+pub(crate) fn add_closure(closure: &Option<Closure>, empties: &mut Vec<Tag>) -> Result<(), Memory>
+    ensures { OnOk result (empties.new.items ≡ empties.old.items ++ nulls (in_closure (closure_in (option_map closure_of closure.now)))) }
+{
+    match closure {
         Some(closure) => add_exprs(&closure.body, empties),
         None => Ok(()),
     }
@@ -88,7 +63,7 @@ fn add_call(call: &Call, empties: &mut Vec<Tag>) -> Result<(), Memory>
 
 // Adds those of expressions.
 #[cycle(empties)]
-fn add_exprs(exprs: &Exprs, empties: &mut Vec<Tag>) -> Result<(), Memory>
+pub(crate) fn add_exprs(exprs: &Exprs, empties: &mut Vec<Tag>) -> Result<(), Memory>
     ensures { OnOk result (empties.new.items ≡ empties.old.items ++ nulls (in_exprs (exprs_of exprs.now))) }
 {
     for expr in exprs.as_slice() {

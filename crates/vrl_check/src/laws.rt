@@ -1,21 +1,30 @@
 ghost use Rattle.vrl_check.specs.Apart.{NoCodeStandsTwice};
-ghost use Rattle.vrl_check.specs.Determined.{EmptiesAreCounted, JudgementsAreDetermined, PoisonsHaveCauses};
+ghost use Rattle.vrl_check.specs.Determined.{EmptiesAreCounted, JudgementsAreDetermined, LoopsAreCounted, PoisonsHaveCauses, ThirdTriesAreStable};
 
 use vrl_kind::equal_tags_are_one_kind;
-use vrl_table::{functions_are_found, parameters_are_told_apart};
+use vrl_state::{forgetting_widens, root_kinds_join_themselves};
+use vrl_table::{
+    forms_are_no_functions, functions_are_found, parameters_are_told_apart, results_are_present,
+};
 
-/// A script has at most one judgement over events of a kind, where the open rules leave one tag for the empty value of each kind, as those of
-/// the language do. This takes no time: it is a law about the definitions.
+/// A script has at most one judgement over events of a kind, where the rules leave nothing open, as those of the language do. This takes no
+/// time: it is a law about the definitions.
 pub fn judgements_are_determined()
     ensures { JudgementsAreDetermined }
 {
     equal_tags_are_one_kind();
     functions_are_found();
+    forms_are_no_functions();
 }
 
 /// A judgement has one empty value for each error assignment of what is judged, whatever the open rules are. This takes no time: it is a law about the definitions.
 pub fn empties_are_counted()
     ensures { EmptiesAreCounted }
+{}
+
+/// A judgement tells of each closure of what is judged, whatever the open rules are. This takes no time: it is a law about the definitions.
+pub fn loops_are_counted()
+    ensures { LoopsAreCounted }
 {}
 
 /// A judgement is poisoned exactly where one of its codes is an error, whatever the open rules are. This takes no time: it is a law about the
@@ -24,8 +33,17 @@ pub fn poisons_have_causes()
     ensures { PoisonsHaveCauses }
 {}
 
-/// In a judgement of a script whose expressions, names of calls and arguments stand at places of their own, no code stands twice at one place,
-/// whatever the open rules are. This takes no time: it is a law about the definitions.
+/// The third try at a closure is stable, where no closure has a state that no try gave. This takes no time: it is a law about the definitions.
+pub fn third_tries_are_stable()
+    ensures { ThirdTriesAreStable }
+{
+    root_kinds_join_themselves();
+    forgetting_widens();
+    results_are_present();
+}
+
+/// In a judgement of a script whose expressions, names of calls, arguments and blocks of closures stand at places of their own, no code stands
+/// twice at one place, whatever the open rules are. This takes no time: it is a law about the definitions.
 pub fn no_code_stands_twice()
     ensures { NoCodeStandsTwice }
 {

@@ -5,23 +5,24 @@
 //! codes in their order. Within a script the judgement of an expression is `Judges`.
 //!
 //! Files: `script.rt` has `check` and `ending`. `walk.rt` judges the forms: each part by the walk itself, and what is made of the parts by a function of
-//! `vrl_judge`. `calls.rt` has what comes behind the arguments of a call, and asks `vrl_table` and no function by name; `empties.rt` has the empty
-//! values of what isn't judged, `loops.rt` what is known of its closures, `closures.rt` whether a script calls a function that takes a closure,
-//! `judged.rt` the answer, and `laws.rt` the laws.
+//! `vrl_judge`. `calls.rt` has what comes behind the arguments of a call, and asks `vrl_table` and no function by name; `iteration.rt` has what comes
+//! before the runs of a closure, between its tries and behind them. `passing.rt` has what isn't judged, of which `empties.rt` gathers the empty values and
+//! `loops.rt` the closures. `judged.rt` has the answer, and `laws.rt` the laws.
 #![tactic(auto)]
 
 mod calls;
-mod closures;
 mod empties;
+mod iteration;
 mod judged;
 mod laws;
 mod loops;
+mod passing;
 mod script;
 mod walk;
 
-pub use closures::holds_closure_call;
 pub use judged::{Ending, Judged};
 pub use laws::{
-    empties_are_counted, judgements_are_determined, no_code_stands_twice, poisons_have_causes,
+    empties_are_counted, judgements_are_determined, loops_are_counted, no_code_stands_twice,
+    poisons_have_causes, third_tries_are_stable,
 };
 pub use script::{check, ending};

@@ -1,25 +1,16 @@
-ghost use Rattle.std.specs.Prelude.{option_map, ◌++◌, ◌≡◌, IfOk, OnOk};
-ghost use Rattle.vrl_check.specs.Loops.{closures_in_args, closures_in_arms, closures_in_closure, closures_in_expr, closures_in_exprs, closures_in_form, closures_in_pairs, deads};
+ghost use Rattle.std.specs.Prelude.{option_map, ◌++◌, ◌≡◌, OnOk};
+ghost use Rattle.vrl_check.specs.Loops.{closures_in_args, closures_in_arms, closures_in_closure, closures_in_expr, closures_in_exprs, closures_in_form, closures_in_pairs};
+ghost use Rattle.vrl_check.specs.Walking.{passed_states};
 ghost use Rattle.vrl_syntax.specs.View.{args_of, arms_of, call_of, closure_in, closure_of, expr_of, exprs_of, pairs_of};
 
-use std::alloc::Global;
-use vrl_state::{Known, Knowns};
+use vrl_state::Branch;
 use vrl_syntax::{Args, Arms, Call, Closure, Expr, Exprs, Form, Pairs};
 use vrl_value::Memory;
 
-// What is known where each closure of items was judged last: nothing, since none is judged. `Memory`: want of memory.
-pub(crate) fn dead_loops(alloc: Global, items: &Exprs) -> Result<Knowns, Memory>
-    ensures { IfOk result (λ loops. loops ≡ deads (closures_in_exprs (exprs_of items.now))) }
-{
-    let mut loops = Vec::new(alloc);
-    add_exprs(items, &mut loops)?;
-    Ok(Knowns::new(loops))
-}
-
-// Adds a dead state for each closure of an expression.
+// Adds none for each closure of an expression, since it isn't judged.
 #[cycle(loops)]
-fn add_expr(expr: &Expr, loops: &mut Vec<Known>) -> Result<(), Memory>
-    ensures { OnOk result (loops.new.items ≡ loops.old.items ++ deads (closures_in_expr (expr_of expr.now))) }
+pub(crate) fn add_expr(expr: &Expr, loops: &mut Vec<Option<Branch>>) -> Result<(), Memory>
+    ensures { OnOk result (loops.new.items ≡ loops.old.items ++ passed_states (closures_in_expr (expr_of expr.now))) }
 {
     match &expr.form {
         Form::Literal(_) | Form::Read(..) | Form::Abort(None) => Ok(()),
@@ -50,21 +41,24 @@ fn add_expr(expr: &Expr, loops: &mut Vec<Known>) -> Result<(), Memory>
 
 // Adds those of a call.
 #[cycle(loops)]
-fn add_call(call: &Call, loops: &mut Vec<Known>) -> Result<(), Memory>
-    ensures { OnOk result (loops.new.items ≡ loops.old.items ++ deads (closures_in_form (call_of call.now))) }
+fn add_call(call: &Call, loops: &mut Vec<Option<Branch>>) -> Result<(), Memory>
+    ensures { OnOk result (loops.new.items ≡ loops.old.items ++ passed_states (closures_in_form (call_of call.now))) }
 {
     add_args(&call.args, loops)?;
     add_closure(&call.closure, loops)
 }
 
-// Adds a dead state for a closure, and for each in it.
+// Adds none for a closure, and for each in it.
 #[cycle(loops)]
-fn add_closure(closure: &Option<Closure>, loops: &mut Vec<Known>) -> Result<(), Memory>
-    ensures { OnOk result (loops.new.items ≡ loops.old.items ++ deads (closures_in_closure (closure_in (option_map closure_of closure.now)))) }
+pub(crate) fn add_closure(
+    closure: &Option<Closure>,
+    loops: &mut Vec<Option<Branch>>,
+) -> Result<(), Memory>
+    ensures { OnOk result (loops.new.items ≡ loops.old.items ++ passed_states (closures_in_closure (closure_in (option_map closure_of closure.now)))) }
 {
     match closure {
         Some(closure) => {
-            loops.push(Known::Dead)?;
+            loops.push(None)?;
             add_exprs(&closure.body, loops)
         }
         None => Ok(()),
@@ -73,8 +67,8 @@ fn add_closure(closure: &Option<Closure>, loops: &mut Vec<Known>) -> Result<(), 
 
 // Adds those of expressions.
 #[cycle(loops)]
-fn add_exprs(exprs: &Exprs, loops: &mut Vec<Known>) -> Result<(), Memory>
-    ensures { OnOk result (loops.new.items ≡ loops.old.items ++ deads (closures_in_exprs (exprs_of exprs.now))) }
+pub(crate) fn add_exprs(exprs: &Exprs, loops: &mut Vec<Option<Branch>>) -> Result<(), Memory>
+    ensures { OnOk result (loops.new.items ≡ loops.old.items ++ passed_states (closures_in_exprs (exprs_of exprs.now))) }
 {
     for expr in exprs.as_slice() {
         add_expr(expr, loops)?;
@@ -84,8 +78,8 @@ fn add_exprs(exprs: &Exprs, loops: &mut Vec<Known>) -> Result<(), Memory>
 
 // Adds those of the values of an object.
 #[cycle(loops)]
-fn add_pairs(pairs: &Pairs, loops: &mut Vec<Known>) -> Result<(), Memory>
-    ensures { OnOk result (loops.new.items ≡ loops.old.items ++ deads (closures_in_pairs (pairs_of pairs.now))) }
+fn add_pairs(pairs: &Pairs, loops: &mut Vec<Option<Branch>>) -> Result<(), Memory>
+    ensures { OnOk result (loops.new.items ≡ loops.old.items ++ passed_states (closures_in_pairs (pairs_of pairs.now))) }
 {
     for (_, value) in pairs.as_slice() {
         add_expr(value, loops)?;
@@ -95,8 +89,8 @@ fn add_pairs(pairs: &Pairs, loops: &mut Vec<Known>) -> Result<(), Memory>
 
 // Adds those of predicates and their blocks.
 #[cycle(loops)]
-fn add_arms(arms: &Arms, loops: &mut Vec<Known>) -> Result<(), Memory>
-    ensures { OnOk result (loops.new.items ≡ loops.old.items ++ deads (closures_in_arms (arms_of arms.now))) }
+fn add_arms(arms: &Arms, loops: &mut Vec<Option<Branch>>) -> Result<(), Memory>
+    ensures { OnOk result (loops.new.items ≡ loops.old.items ++ passed_states (closures_in_arms (arms_of arms.now))) }
 {
     for arm in arms.as_slice() {
         add_expr(&arm.predicate, loops)?;
@@ -107,8 +101,8 @@ fn add_arms(arms: &Arms, loops: &mut Vec<Known>) -> Result<(), Memory>
 
 // Adds those of the arguments of a call.
 #[cycle(loops)]
-fn add_args(args: &Args, loops: &mut Vec<Known>) -> Result<(), Memory>
-    ensures { OnOk result (loops.new.items ≡ loops.old.items ++ deads (closures_in_args (args_of args.now))) }
+fn add_args(args: &Args, loops: &mut Vec<Option<Branch>>) -> Result<(), Memory>
+    ensures { OnOk result (loops.new.items ≡ loops.old.items ++ passed_states (closures_in_args (args_of args.now))) }
 {
     for arg in args.as_slice() {
         add_expr(&arg.value, loops)?;

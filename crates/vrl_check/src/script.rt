@@ -1,44 +1,41 @@
-ghost use Rattle.std.specs.Prelude.{false, length, true, unwrap_or, ◌≡◌, IfOk, None};
+ghost use Rattle.std.specs.Prelude.{false, length, map, true, unwrap_or, ◌≡◌, All, IfOk, None};
 ghost use Rattle.vrl_check.specs.Answer.{outside, IsEnding, IsJudged};
-ghost use Rattle.vrl_check.specs.Calls.{exprs_hold_closure_call};
 ghost use Rattle.vrl_check.specs.Judgement.{JudgesScript};
 ghost use Rattle.vrl_check.specs.Walking.{ExprCanBeJudged, IsItemAs, IsScriptAs, ItemsCanBeJudged};
+ghost use Rattle.vrl_judge.specs.Judging.{branches_known, known_on};
 ghost use Rattle.vrl_judge.specs.Rules.{Judgement};
 ghost use Rattle.vrl_kind.specs.Canonical.{allows_absent};
 ghost use Rattle.vrl_state.specs.Known.{known_as, HaveRootKinds};
 ghost use Rattle.vrl_syntax.specs.Limits.{KeepsLimits};
 ghost use Rattle.vrl_syntax.specs.Regexes.{exprs_regexes_below};
-ghost use Rattle.vrl_syntax.specs.Tree.{Exprs as Items};
 ghost use Rattle.vrl_syntax.specs.View.{expr_of, exprs_of};
 ghost use Rattle.vrl_check.specs.OpenRules.{language_rules};
 
 use crate::judged::{Ending, Judged};
-use crate::loops::dead_loops;
 use crate::walk::expr;
 use std::alloc::Global;
 use vrl_diag::{Diagnostics, code};
-use vrl_judge::{Checker, Ends, Outcome, either, ordered, scalar};
+use vrl_judge::{Checker, Ends, Outcome, SharedKind, either, ordered, scalar};
 use vrl_kind::Kind;
 use vrl_pattern::Patterns;
-use vrl_state::{Branch, State};
+use vrl_state::{Branch, Known, Knowns, State};
 use vrl_syntax::{Empties, Expr, Exprs, Script};
 use vrl_value::{Memory, Tag};
 
 /// Judges a script over events of a kind. `patterns` are its regex literals, one for each of its sources, and each regex in it is one of
-/// them. It calls no function that takes a closure, which [`holds_closure_call`](crate::holds_closure_call) tells. It walks the script
-/// once. `Memory`: want of memory.
+/// them. It walks the script once, but for the bodies of closures: each is walked up to three times for each time that the body around it is.
+/// `Memory`: want of memory.
 pub fn check(
     alloc: Global,
     script: &Script,
     start: &Kind,
     patterns: &Patterns,
 ) -> Result<Judged, Memory>
-    requires calls { exprs_hold_closure_call (exprs_of script.now.items) ≡ false }
     requires limits { KeepsLimits (exprs_of script.now.items) }
     requires patterns { patterns.now ≡ script.now.patterns }
     requires regexes { exprs_regexes_below (length patterns.now) (exprs_of script.now.items) ≡ true }
     requires present { allows_absent start.now ≡ false }
-    ensures { IfOk result (λ judged. (j : Judgement) × JudgesScript (language_rules patterns.now) start.now (exprs_of script.now.items) j × IsJudged (exprs_of script.now.items) j judged) }
+    ensures { IfOk result (λ judged. (j : Judgement) × JudgesScript (language_rules patterns.now) start.now (exprs_of script.now.items) j × IsJudged j judged) }
 {
     let state = State::start(alloc, start)?;
     let mut checker = Checker {
@@ -47,9 +44,11 @@ pub fn check(
         state,
         diagnostics: Vec::new(alloc),
         empties: Vec::new(alloc),
+        loops: Vec::new(alloc),
+        inside: false,
     };
     let outcome = script_items(&mut checker, &script.items)?;
-    let loops = dead_loops(alloc, &script.items)?;
+    let loops = listed(alloc, &checker.loops)?;
     let diagnostics = ordered(checker.diagnostics)?;
     let ok = branch_of(alloc, checker.state)?;
     let Outcome { kind, ends } = outcome;
@@ -59,6 +58,7 @@ pub fn check(
         poisoned: _,
     } = ends;
     let fail = or_dead(alloc, fail)?;
+    let kind = kind.into_kind(alloc)?;
     Ok(Judged {
         kind,
         ok,
@@ -72,7 +72,8 @@ pub fn check(
 
 // Judges the items of a script. `Memory`: want of memory.
 fn script_items(checker: &mut Checker<'_>, items: &Exprs) -> Result<Outcome, Memory>
-    requires { ItemsCanBeJudged checker.old.patterns.now (exprs_of items.now) }
+    requires items { ItemsCanBeJudged checker.old.patterns.now (exprs_of items.now) }
+    requires outside { checker.old.inside ≡ false }
     ensures { IfOk result (λ outcome. IsScriptAs (exprs_of items.now) checker.old checker.new outcome) }
 {
     let mut last = Outcome::value(scalar(checker.alloc, Tag::Null)?);
@@ -91,6 +92,30 @@ fn script_item(checker: &mut Checker<'_>, item: &Expr) -> Result<Outcome, Memory
     let part = expr(checker, item)?;
     let fallible = part.is_fallible();
     checker.reported(part, fallible, code::UNHANDLED_ERROR, item.span)
+}
+
+// What is known before the runs of each closure, as lists. `Memory`: want of memory.
+fn listed(alloc: Global, loops: &[Option<Branch>]) -> Result<Knowns, Memory>
+    ensures loops { IfOk result (λ knowns. knowns ≡ map known_as (branches_known loops.now)) }
+    ensures roots { IfOk result (All HaveRootKinds) }
+{
+    let mut knowns = Vec::with_capacity(alloc, loops.len())?;
+    for branch in loops {
+        let known = known_at(branch)?;
+        knowns.push(known)?;
+    }
+    Ok(Knowns::new(knowns))
+}
+
+// What is known at a branch, as a list; nothing where there is none. `Memory`: want of memory.
+fn known_at(branch: &Option<Branch>) -> Result<Known, Memory>
+    ensures known { IfOk result (λ known. known ≡ known_as (known_on branch.now)) }
+    ensures roots { IfOk result HaveRootKinds }
+{
+    match branch {
+        Some(branch) => branch.known(),
+        None => Ok(Known::Dead),
+    }
 }
 
 // A dead state, outside all blocks. `Memory`: want of memory.
@@ -125,7 +150,7 @@ fn or_dead(alloc: Global, branch: Option<Branch>) -> Result<Branch, Memory>
 /// The kind of a script's value, from its end or from a return, and what is known there. `Memory`: want of
 /// memory.
 pub fn ending(alloc: Global, judged: &Judged) -> Result<Ending, Memory>
-    requires { (items : Items) × (j : Judgement) × IsJudged items j judged.now }
+    requires { (j : Judgement) × IsJudged j judged.now }
     ensures { IfOk result (λ ending. IsEnding judged.now ending) }
 {
     let mut state = dead(alloc)?;
@@ -143,11 +168,12 @@ pub fn ending(alloc: Global, judged: &Judged) -> Result<Ending, Memory>
     }
 }
 
-fn end(alloc: Global, state: State, kind: Kind) -> Result<Ending, Memory>
+fn end(alloc: Global, state: State, kind: SharedKind) -> Result<Ending, Memory>
     ensures same { IfOk result (λ ending. ending ≡ record { kind = kind; state = known_as state.known }) }
     ensures roots { IfOk result (λ ending. HaveRootKinds ending.state) }
 {
     let branch = branch_of(alloc, state)?;
     let state = branch.known()?;
+    let kind = kind.into_kind(alloc)?;
     Ok(Ending { kind, state })
 }

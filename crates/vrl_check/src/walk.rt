@@ -1,25 +1,38 @@
-ghost use Rattle.std.specs.Prelude.{[], option_map, true, ◌≡◌, IfOk, OnOk, Some};
-ghost use Rattle.vrl_check.specs.Calling.{AreArgumentsAs};
+ghost use Rattle.std.specs.Prelude.{[], option_map, true, ◌≡◌, Bool, IfOk, OnOk, Some};
+ghost use Rattle.vrl_check.specs.Calling.{call_args, call_name, AreArgumentsAs, IsCalledAs, IsTold};
+ghost use Rattle.vrl_check.specs.Iterating.{body_in, closure_items, closure_names, AreRuns, AreTries, AreTriesBehind, BodyCanBeJudged, IsBodyAs, IsIteratedAs, IsLastTry, IsTriedAs};
 ghost use Rattle.vrl_check.specs.Walking.{AreBoth, ArgumentsCanBeJudged, ArmsCanBeJudged, ExprCanBeJudged, ElseCanBeJudged, FormCanBeJudged, IsAnywhereAs, IsArmBehind, IsBesideAs, IsBlockAs, IsElseAs, IsGivenAs, IsJudgedAs, IsSequenceAs, ItemsCanBeJudged, PairsCanBeJudged};
 ghost use Rattle.vrl_judge.specs.Branching.{AreWays};
+ghost use Rattle.vrl_judge.specs.Closures.{first_try as first};
 ghost use Rattle.vrl_judge.specs.Judging.{table_rule, AreEnds, HasJudged};
 ghost use Rattle.vrl_judge.specs.Rules.{is_equality, Judgement};
 ghost use Rattle.vrl_check.specs.Judgement.{table_of};
+ghost use Rattle.vrl_syntax.specs.Calls.{form_named, has_shape, is_closure_form};
 ghost use Rattle.vrl_syntax.specs.Limits.{target_faults};
 ghost use Rattle.vrl_syntax.specs.Tree.{abort_with as abort_form, array as array_form, assign as assign_form, binary as binary_form, both as both_form, conditional as conditional_form, expr as expr_form, literal as literal_form, merge as merge_form, message as message_form, negation as negation_form, no_else, no_message, object as object_form, query as query_form, read as read_form, return_of as return_form};
+ghost use Rattle.vrl_syntax.specs.Written.{exprs_write};
 ghost use Rattle.vrl_syntax.specs.View.{args_of, arm_of, arms_of, call_of, else_of, expr_of, exprs_of, form_of, pairs_of};
 ghost use Rattle.vrl_value.specs.View.{tree_of};
 ghost use Rattle.vrl_syntax.specs.declared.root.Op.TheVariants as ops;
 
-use crate::calls::{Arguments, called};
-use crate::empties::{pass, pass_items};
+use crate::calls::{Arguments, called, is_wrong_call, passed_call};
+use crate::iteration::{
+    Run, Tried, closure_form, collection_of, end_try, here, keep_loop, made_of, name_kinds,
+    right_closure,
+};
+use crate::laws::third_tries_are_stable;
+use crate::passing::{pass, pass_items};
 use vrl_diag::{Span, code};
 use vrl_judge::{
-    Checker, Ends, Operands, Outcome, Table, Ways, add_field, array_kind, cut_kind_of, is_chained,
-    object_kind, read_cut, scalar,
+    Checker, Ends, Operands, Outcome, SharedKind, Table, Ways, add_field, array_kind, cut_kind_of,
+    is_chained, object_kind, read_root, scalar,
 };
 use vrl_path::Path;
-use vrl_syntax::{Args, Arm, Arms, Call, Expr, Exprs, Form, Op, Pairs, Root, Target};
+use vrl_state::Branch;
+use vrl_syntax::{
+    Args, Arm, Arms, Call, CallForm, Closure, Expr, Exprs, Form, Op, Pairs, Root, Roots, Target,
+    written_roots,
+};
 use vrl_value::{Memory, Tag, Value};
 
 // Judges an expression. `Memory`: want of memory.
@@ -56,7 +69,7 @@ fn form(checker: &mut Checker<'_>, span: Span, form: &Form) -> Result<Outcome, M
         Form::Merge(target, value) => merge_assignment(checker, span, target, value),
         Form::Both(ok, err, value) => error_assignment(checker, span, ok, err, value),
         Form::Call(inner) => call(checker, span, inner),
-        Form::Return(value) => return_with(checker, value),
+        Form::Return(value) => return_with(checker, span, value),
         Form::Abort(None) => abort(checker),
         Form::Abort(Some(message)) => abort_with(checker, message),
     }
@@ -77,7 +90,7 @@ fn array(checker: &mut Checker<'_>, exprs: &Exprs) -> Result<Outcome, Memory>
     let mut ends = Ends::none();
     for item in exprs.as_slice() {
         let part = expr(checker, item)?;
-        let inner = ends.absorb(checker.alloc, part)?;
+        let inner = ends.absorb_inner(checker.alloc, part)?;
         kinds.push(inner)?;
     }
     let kind = array_kind(checker.alloc, kinds)?;
@@ -93,7 +106,7 @@ fn object(checker: &mut Checker<'_>, pairs: &Pairs) -> Result<Outcome, Memory>
     let mut ends = Ends::none();
     for (name, value) in pairs.as_slice() {
         let part = expr(checker, value)?;
-        let inner = ends.absorb(checker.alloc, part)?;
+        let inner = ends.absorb_inner(checker.alloc, part)?;
         add_field(&mut fields, checker.alloc, name, inner)?;
     }
     let kind = object_kind(checker.alloc, fields)?;
@@ -105,8 +118,9 @@ fn read(checker: &mut Checker<'_>, span: Span, root: &Root, path: &Path) -> Resu
     ensures given { IfOk result (λ outcome. IsGivenAs span (read_form root.now path.now) checker.old checker.new outcome) }
     ensures judged { IfOk result (λ outcome. (j : Judgement) × HasJudged checker.old checker.new outcome j) }
 {
-    match checker.state.kind(root) {
-        Some(kind) => Ok(Outcome::value(read_cut(checker.alloc, kind, path)?)),
+    let found = checker.state.shared(root)?;
+    match found {
+        Some(kind) => Ok(Outcome::value(read_root(checker.alloc, kind, path)?)),
         None => checker.unknown(span),
     }
 }
@@ -440,7 +454,10 @@ fn call(checker: &mut Checker<'_>, span: Span, call: &Call) -> Result<Outcome, M
     ensures { IfOk result (λ outcome. IsGivenAs span (call_of call.now) checker.old checker.new outcome) }
 {
     let arguments = arguments(checker, &call.args)?;
-    called(checker, span, call, arguments)
+    match closure_form(call.name.as_str()) {
+        Some(form) => closure_call(checker, span, form, call, arguments),
+        None => called(checker, span, call, arguments),
+    }
 }
 
 // Judges the arguments of a call in order. `Memory`: want of memory.
@@ -459,13 +476,188 @@ fn arguments(checker: &mut Checker<'_>, args: &Args) -> Result<Arguments, Memory
     Ok(Arguments { parts, ends })
 }
 
+// A call of a function that takes a closure, behind its arguments. Where it has a code of its own the closure isn't judged. `Memory`: want of
+// memory.
 #[cycle(judge)]
-fn return_with(checker: &mut Checker<'_>, value: &Expr) -> Result<Outcome, Memory>
+fn closure_call(
+    checker: &mut Checker<'_>,
+    span: Span,
+    form: CallForm,
+    call: &Call,
+    arguments: Arguments,
+) -> Result<Outcome, Memory>
+    requires form { form_named (call_name call.now) ≡ Some form }
+    requires four { is_closure_form (Some form) ≡ true }
+    requires can { FormCanBeJudged checker.old.patterns.now (call_of call.now) }
+    requires told { IsTold (call_args call.now) arguments.parts.items }
+    requires ends { AreEnds checker.old.state.scopes arguments.ends }
+    ensures { IfOk result (λ outcome. IsCalledAs span (call_of call.now) (call_args call.now) arguments checker.old checker.new outcome) }
+{
+    let mut arguments = arguments;
+    let wrong = is_wrong_call(checker, span, form, call, &mut arguments)?;
+    match right_closure(call, wrong) {
+        Some(closure) => {
+            let outcome = iterated(checker, form, closure, arguments)?;
+            checker.banged(span, call.bang, outcome)
+        }
+        None => passed_call(checker, span, call, arguments),
+    }
+}
+
+// A closure that has the shape which the function asks for, behind the one argument of its call. `Memory`: want of memory.
+#[cycle(judge)]
+fn iterated(
+    checker: &mut Checker<'_>,
+    form: CallForm,
+    closure: &Closure,
+    arguments: Arguments,
+) -> Result<Outcome, Memory>
+    requires shape { has_shape form (closure_names closure.now) ≡ true }
+    requires items { ItemsCanBeJudged checker.old.patterns.now (closure_items closure.now) }
+    requires ends { AreEnds checker.old.state.scopes arguments.ends }
+    ensures { IfOk result (λ outcome. IsIteratedAs form closure.now arguments checker.old checker.new outcome) }
+{
+    let collection = collection_of(checker, form, arguments)?;
+    let names = name_kinds(checker.alloc, form, &collection.kind)?;
+    let run = all_runs(checker, form, closure, &names.kinds, names.runs)?;
+    made_of(checker, form, closure.span, collection, run)
+}
+
+// All runs of the body of a closure, whose names have these kinds, from what is known here. The closure stands at this place among those that
+// are judged. `Memory`: want of memory.
+#[cycle(judge)]
+fn all_runs(
+    checker: &mut Checker<'_>,
+    form: CallForm,
+    closure: &Closure,
+    kinds: &[SharedKind],
+    runs: bool,
+) -> Result<Run, Memory>
+    requires { BodyCanBeJudged checker.old.patterns.now closure.now kinds.now }
+    ensures { IfOk result (λ run. AreRuns form (body_in closure.now kinds.now runs) checker.old checker.new run) }
+{
+    let place = checker.loops.len();
+    checker.loops.push(None)?;
+    let run = first_try(checker, form, closure, kinds, runs)?;
+    keep_loop(checker, place)?;
+    Ok(run)
+}
+
+// The tries at a body, from the first one on; what is known at the last one is known again. `Memory`: want of memory.
+#[cycle(judge)]
+fn first_try(
+    checker: &mut Checker<'_>,
+    form: CallForm,
+    closure: &Closure,
+    kinds: &[SharedKind],
+    runs: bool,
+) -> Result<Run, Memory>
+    requires { BodyCanBeJudged checker.old.patterns.now closure.now kinds.now }
+    ensures { IfOk result (λ run. AreTries form (body_in closure.now kinds.now runs) first checker.old.state.known checker.old checker.new run) }
+{
+    let attempt = one_try(checker, form, closure, kinds, runs)?;
+    match attempt {
+        Tried::Stable(run) => Ok(run),
+        Tried::Unstable(behind) => second_try(checker, form, closure, kinds, runs, behind),
+    }
+}
+
+// The second one, from what was known at the first or behind it, where each root that the body writes keeps its outer tags alone.
+#[cycle(judge)]
+fn second_try(
+    checker: &mut Checker<'_>,
+    form: CallForm,
+    closure: &Closure,
+    kinds: &[SharedKind],
+    runs: bool,
+    behind: Branch,
+) -> Result<Run, Memory>
+    requires body { BodyCanBeJudged checker.old.patterns.now closure.now kinds.now }
+    requires behind { behind.scopes ≡ checker.old.state.scopes }
+    ensures { IfOk result (λ run. AreTriesBehind form (body_in closure.now kinds.now runs) behind.known checker.old checker.new run) }
+{
+    let roots = written_roots(checker.alloc, &closure.body)?;
+    checker.widened(behind, &roots)?;
+    let attempt = one_try(checker, form, closure, kinds, runs)?;
+    match attempt {
+        Tried::Stable(run) => Ok(run),
+        Tried::Unstable(_behind) => third_try(checker, form, closure, kinds, runs, &roots),
+    }
+}
+
+// The third one, where of each of these roots nothing is known but that it is there. It always is stable.
+#[cycle(judge)]
+fn third_try(
+    checker: &mut Checker<'_>,
+    form: CallForm,
+    closure: &Closure,
+    kinds: &[SharedKind],
+    runs: bool,
+    roots: &Roots,
+) -> Result<Run, Memory>
+    requires body { BodyCanBeJudged checker.old.patterns.now closure.now kinds.now }
+    requires roots { roots.now ≡ exprs_write (closure_items closure.now) }
+    ensures { IfOk result (λ run. IsLastTry form (body_in closure.now kinds.now runs) checker.old checker.new run) }
+{
+    checker.forgotten(roots)?;
+    checker.state.have_root_kinds();
+    third_tries_are_stable();
+    let attempt = one_try(checker, form, closure, kinds, runs)?;
+    match attempt {
+        Tried::Stable(run) => Ok(run),
+        Tried::Unstable(_behind) => unreachable!(),
+    }
+}
+
+// One try at a body, from what is known here. Where it isn't stable, what was gathered in it is let go. `Memory`: want of memory.
+#[cycle(judge)]
+fn one_try(
+    checker: &mut Checker<'_>,
+    form: CallForm,
+    closure: &Closure,
+    kinds: &[SharedKind],
+    runs: bool,
+) -> Result<Tried, Memory>
+    requires { BodyCanBeJudged checker.old.patterns.now closure.now kinds.now }
+    ensures { IfOk result (λ tried. IsTriedAs form (body_in closure.now kinds.now runs) checker.old checker.new tried) }
+{
+    let held = checker.held();
+    let start = here(checker)?;
+    checker.go_on_if(runs);
+    let part = body(checker, closure, kinds)?;
+    Ok(end_try(checker, form, held, start, part))
+}
+
+// The body of a closure once, from what is known here. `Memory`: want of memory.
+#[cycle(judge)]
+fn body(
+    checker: &mut Checker<'_>,
+    closure: &Closure,
+    kinds: &[SharedKind],
+) -> Result<Outcome, Memory>
+    requires { BodyCanBeJudged checker.old.patterns.now closure.now kinds.now }
+    ensures { IfOk result (λ outcome. (runs : Bool) → IsBodyAs (body_in closure.now kinds.now runs) checker.old checker.new outcome) }
+{
+    if checker.state.is_dead() {
+        return pass_items(checker, &closure.body);
+    }
+    let inside = checker.inside;
+    checker.inside = true;
+    checker.enter_body(&closure.names, kinds)?;
+    let part = block(checker, &closure.body)?;
+    let outcome = checker.end_body(part)?;
+    checker.inside = inside;
+    Ok(outcome)
+}
+
+// A return in a closure is 1004.
+#[cycle(judge)]
+fn return_with(checker: &mut Checker<'_>, span: Span, value: &Expr) -> Result<Outcome, Memory>
     requires { ExprCanBeJudged checker.old.patterns.now (expr_of value.now) }
-    ensures { IfOk result (λ outcome. IsAnywhereAs (return_form (expr_of value.now)) checker.old checker.new outcome) }
+    ensures { IfOk result (λ outcome. IsGivenAs span (return_form (expr_of value.now)) checker.old checker.new outcome) }
 {
     let part = expr(checker, value)?;
-    checker.returned(part)
+    checker.returned(part, span)
 }
 
 fn abort(checker: &mut Checker<'_>) -> Result<Outcome, Memory>

@@ -14,7 +14,7 @@ use Rattle.vrl_token.specs.Placing.{InOrderFrom, spans_of}
 use Rattle.vrl_word.specs.Words.{Word, name_span, over, regex_of, target_at, words_from}
 use Rattle.vrl_parse.specs.Grammar.{IsScript, no_items, separator, last_item, more_items, IsItem, both_targets, single as single_item, IsSingle, assigned, merged, returned, aborted, aborted_with, coalesce, IsLevel, tighter, joined, tightest, IsUnary, negated, primary, IsPrimary, a_literal, a_path, without_suffix, with_suffix, with_closure, an_object, a_block, an_if, MayHaveSuffix, a_call, an_array, a_group, IsCall, called, AreArgs, no_arguments, last_argument, more_arguments, IsArg, named, unnamed, IsClosure, a_closure, AreSingles, no_singles, last_single, more_singles, ArePairs, no_parts, last_pair, more_pairs, IsBlock, a_script, AreArms, last_arm, with_else, more_arms}
 use Rattle.vrl_parse.specs.Reading.{Reads}
-use Rattle.vrl_check.specs.Apart.{at_place, nowhere, one_if, same_span, weigh_args, weigh_arms, weigh_closure, weigh_else, weigh_expr, weigh_exprs, weigh_form, weigh_pairs, weigh_target, AreApart, Weights}
+use Rattle.vrl_check.specs.Apart.{at_place, nothing_weighs, one_if, same_span, weigh_args, weigh_arms, weigh_closure, weigh_else, weigh_expr, weigh_exprs, weigh_form, weigh_pairs, weigh_target, AreApart, Weights}
 use Rattle.vrl_compile.proofs.Regions.{Count, none, single, nothing, fewer, widened, beside, at_most_one, Inside, no_part, part, inside, two_inside}
 
 -- ---- words in order
@@ -103,11 +103,12 @@ record HoldsArms (x y : ℕ) (w : Weights) (low high : ℕ) (gs : Arms) (es : El
   count : Count x y (weigh_arms w gs + weigh_else w es) low span.end
 
 -- What is counted stands from `x` to `y`. An expression counts so at its own place beside what is inside it, a name beside what stands behind it,
--- and an argument beside its value.
+-- an argument beside its value, and the block of a closure beside its items.
 module _ (x y a : ℕ) (w : Weights) (small : a ≤ 1)
     (own : (span : Span) (n : ℕ) → span.start < span.end → Inside x y a n span.start span.end → Count x y (w.expression span + n) (span.start + a) span.end)
     (naming : (span : Span) (bang : Bool) (n from to : ℕ) → span.start < span.end → span.end ≤ from → from ≤ to → Count x y n from to → Count x y (w.name (name_span span bang) + n) (span.start + a) to)
-    (arguing : (span : Span) (n from to : ℕ) → span.start < span.end → span.start + a ≤ from → to ≤ span.end → Count x y n from to → Count x y (w.argument span + n) span.start span.end) where
+    (arguing : (span : Span) (n from to : ℕ) → span.start < span.end → span.start + a ≤ from → to ≤ span.end → Count x y n from to → Count x y (w.argument span + n) span.start span.end)
+    (blocking : (span : Span) (n last : ℕ) → span.start < last → Count x y n (suc span.start) last → Count x y (w.closure_block span + n) span.start last) where
   abbrev Fits : ℕ → ℕ → Expr → Type 0
   Fits low high e = Holds x y a w low high e
 
@@ -344,7 +345,7 @@ module _ (x y a : ℕ) (w : Weights) (small : a ≤ 1)
         let from = one.from in
         let above = one.above in
         let start : low ≤ span.start = omega (arith, one_starts, one_ends, two_starts, two_ends, names_ascend, three_starts, three_ends, from) in
-        record { last = one.last; above = omega (arith, start, above); below = one.below; to = one.to; count = widened low one.last (omega (arith, start)) (omega arith) one.count }
+        record { last = one.last; above = omega (arith, start, above); below = one.below; to = one.to; count = widened low one.last (omega (arith, start)) (omega arith) (blocking span (weigh_exprs w es) one.last one.above one.count) }
 
     singles_fit : (low high : ℕ) {ws : List Word} {es : Exprs} → AreSingles ws es → Stand low ws high → Count x y (weigh_exprs w es) low high
     singles_fit low high no_singles stand = nothing low high
@@ -441,7 +442,7 @@ module _ (x y a : ℕ) (w : Weights) (small : a ≤ 1)
           count = fewer ((weigh_expr w e + (weigh_exprs w es + weigh_arms w gs)) + weigh_else w fs) (omega arith) (then_more low parts.mid parts.mid t.end (weigh_exprs w es + (weigh_arms w gs + weigh_else w fs)) e one (omega arith) (omega (arith, next, at, size, at_too, size_too, above)) others);
         }
 
--- ---- expressions, names and arguments
+-- ---- expressions, names, arguments and blocks of closures
 
 -- two places are one, or nothing is counted
 abbrev SameOr : Span → Span → (ℕ → Type 0) → Type 0
@@ -464,12 +465,16 @@ own_here here span some start stop (part one at more up free) = absurd (omega (a
 behind_none : {x y n from to : ℕ} (start : ℕ) → start ≤ from → Count x y n from to → Count x y (0 + n) start to
 behind_none {n = n} {to = to} start less count = fewer (0 + n) (omega arith) (widened start to less (omega arith) count)
 
-expressions_apart : (total : ℕ) (ts : List Spanned) (s : Script) → InOrderFrom 0 total (spans_of ts) → Reads ts s → (here : Span) → weigh_exprs (record { expression = at_place here; name = nowhere; argument = nowhere }) s.items ≤ 1
+block_none : {x y : ℕ} (span : Span) (n last : ℕ) → Count x y n (suc span.start) last → Count x y (0 + n) span.start last
+block_none span n last count = behind_none span.start (omega arith) count
+
+expressions_apart : (total : ℕ) (ts : List Spanned) (s : Script) → InOrderFrom 0 total (spans_of ts) → Reads ts s → (here : Span) → weigh_exprs (record nothing_weighs { expression = at_place here }) s.items ≤ 1
 expressions_apart total ts s ordered reads here =
-    at_most_one (script_fits here.start here.end 0 (record { expression = at_place here; name = nowhere; argument = nowhere }) (omega arith)
+    at_most_one (script_fits here.start here.end 0 (record nothing_weighs { expression = at_place here }) (omega arith)
     (λ span n some within. same_or span here (λ k. Count here.start here.end (k + n) (span.start + 0) span.end) (λ start stop. own_here here span some start stop within) (own_none span within))
     (λ span bang n from to some behind order count. behind_none (span.start + 0) (omega (arith, some, behind)) count)
     (λ span n from to some at up count. behind_none span.start (omega (arith, at)) (widened from span.end (omega arith) up count))
+    (λ span n last above count. block_none span n last count)
     0 total reads.items (words_stand 0 0 total ts ordered))
 
 name_here : {n from to : ℕ} (here span : Span) → span.start < span.end → span.end ≤ from → from ≤ to → span.start ≡ here.start → Count here.start (suc here.start) n from to → Count here.start (suc here.start) (1 + n) (span.start + 0) to
@@ -480,24 +485,40 @@ same_start : (span : Span) (bang : Bool) → (name_span span bang).start ≡ spa
 same_start span true = refl
 same_start span false = refl
 
-names_apart : (total : ℕ) (ts : List Spanned) (s : Script) → InOrderFrom 0 total (spans_of ts) → Reads ts s → (here : Span) → weigh_exprs (record { expression = nowhere; name = at_place here; argument = nowhere }) s.items ≤ 1
+names_apart : (total : ℕ) (ts : List Spanned) (s : Script) → InOrderFrom 0 total (spans_of ts) → Reads ts s → (here : Span) → weigh_exprs (record nothing_weighs { name = at_place here }) s.items ≤ 1
 names_apart total ts s ordered reads here =
-    at_most_one (script_fits here.start (suc here.start) 0 (record { expression = nowhere; name = at_place here; argument = nowhere }) (omega arith)
+    at_most_one (script_fits here.start (suc here.start) 0 (record nothing_weighs { name = at_place here }) (omega arith)
     (λ span n some within. own_none span within)
     (λ span bang n from to some behind order count. same_or (name_span span bang) here (λ k. Count here.start (suc here.start) (k + n) (span.start + 0) to) (λ start stop. name_here here span some behind order (sym (same_start span bang) ∙ start) count) (behind_none (span.start + 0) (omega (arith, some, behind)) count))
     (λ span n from to some at up count. behind_none span.start (omega (arith, at)) (widened from span.end (omega arith) up count))
+    (λ span n last above count. block_none span n last count)
     0 total reads.items (words_stand 0 0 total ts ordered))
 
 argument_here : {n from to : ℕ} (here span : Span) → span.start < span.end → span.start + 1 ≤ from → to ≤ span.end → span.start ≡ here.start → span.end ≡ here.end → Count here.start here.end n from to → Count here.start here.end (1 + n) span.start span.end
 argument_here here span some at up start stop (none zero) = single (omega (arith, zero)) (omega (arith, start)) (omega (arith, some, start, stop)) (omega (arith, stop))
 argument_here here span some at up start stop (single one first more last) = absurd (omega (arith, at, start, first))
 
-arguments_apart : (total : ℕ) (ts : List Spanned) (s : Script) → InOrderFrom 0 total (spans_of ts) → Reads ts s → (here : Span) → weigh_exprs (record { expression = nowhere; name = nowhere; argument = at_place here }) s.items ≤ 1
+arguments_apart : (total : ℕ) (ts : List Spanned) (s : Script) → InOrderFrom 0 total (spans_of ts) → Reads ts s → (here : Span) → weigh_exprs (record nothing_weighs { argument = at_place here }) s.items ≤ 1
 arguments_apart total ts s ordered reads here =
-    at_most_one (script_fits here.start here.end 1 (record { expression = nowhere; name = nowhere; argument = at_place here }) (omega arith)
+    at_most_one (script_fits here.start here.end 1 (record nothing_weighs { argument = at_place here }) (omega arith)
     (λ span n some within. own_none span within)
     (λ span bang n from to some behind order count. behind_none (span.start + 1) (omega (arith, some, behind)) count)
     (λ span n from to some at up count. same_or span here (λ k. Count here.start here.end (k + n) span.start span.end) (λ start stop. argument_here here span some at up start stop count) (behind_none span.start (omega (arith, at)) (widened from span.end (omega arith) up count)))
+    (λ span n last above count. block_none span n last count)
+    0 total reads.items (words_stand 0 0 total ts ordered))
+
+-- a block counts where it begins
+block_here : {n last : ℕ} (here span : Span) → span.start < last → span.start ≡ here.start → Count here.start (suc here.start) n (suc span.start) last → Count here.start (suc here.start) (1 + n) span.start last
+block_here here span above start (none zero) = single (omega (arith, zero)) (omega (arith, start)) (omega arith) (omega (arith, start, above))
+block_here here span above start (single one at more up) = absurd (omega (arith, start, at))
+
+closure_blocks_apart : (total : ℕ) (ts : List Spanned) (s : Script) → InOrderFrom 0 total (spans_of ts) → Reads ts s → (here : Span) → weigh_exprs (record nothing_weighs { closure_block = at_place here }) s.items ≤ 1
+closure_blocks_apart total ts s ordered reads here =
+    at_most_one (script_fits here.start (suc here.start) 0 (record nothing_weighs { closure_block = at_place here }) (omega arith)
+    (λ span n some within. own_none span within)
+    (λ span bang n from to some behind order count. behind_none (span.start + 0) (omega (arith, some, behind)) count)
+    (λ span n from to some at up count. behind_none span.start (omega (arith, at)) (widened from span.end (omega arith) up count))
+    (λ span n last above count. same_or span here (λ k. Count here.start (suc here.start) (k + n) span.start last) (λ start stop. block_here here span above start count) (block_none span n last count))
     0 total reads.items (words_stand 0 0 total ts ordered))
 
 pub parts_apart : (total : ℕ) (ts : List Spanned) (s : Script) → InOrderFrom 0 total (spans_of ts) → Reads ts s → AreApart s.items
@@ -505,4 +526,5 @@ parts_apart total ts s ordered reads = record {
   expressions = expressions_apart total ts s ordered reads;
   names = names_apart total ts s ordered reads;
   arguments = arguments_apart total ts s ordered reads;
+  closure_blocks = closure_blocks_apart total ts s ordered reads;
 }

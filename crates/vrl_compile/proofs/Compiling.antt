@@ -1,5 +1,5 @@
 -- What `compile` answers, by what was read and judged.
-use Rattle.std.proofs.Common.{◌≡◌, ◌==◌, not, ℕ, Bool, true, false, List, [], ◌∷◌, ◌++◌, if◌then◌else◌, ◌≢◌, Result, Ok, Err, IfOk, IfErr, IsErrAnd, refl, sym, ap, ◌∙◌, subst}
+use Rattle.std.proofs.Common.{◌≡◌, ◌==◌, not, ℕ, Bool, true, false, List, [], ◌∷◌, ◌++◌, if◌then◌else◌, length, ◌≢◌, Result, Ok, Err, IfOk, IfErr, IsErrAnd, refl, sym, ap, ◌∙◌, subst}
 use Rattle.std.specs.List.{Contains, list_all, list_any}
 use Rattle.std.proofs.lemmas.Bool.{or_left}
 use Rattle.std.proofs.lemmas.List.Sorted.{list_any-IsPermutation}
@@ -11,12 +11,13 @@ use Rattle.vrl_syntax.specs.Limits.{KeepsLimits}
 use Rattle.vrl_syntax.specs.Tree.{Script}
 use Rattle.vrl_token.specs.Reading.{IsTokenized, IsTextFault, lexical_codes}
 use Rattle.vrl_token.specs.OnFault.{OnFault}
+use Rattle.vrl_token.specs.TokenList.{TokenList}
 use Rattle.vrl_token.specs.declared.fault.SyntaxFault.{SyntaxFault}
 use Rattle.vrl_token.specs.declared.fault.SyntaxFault.TheVariants.{Fault, Memory}
 use Rattle.vrl_token.specs.declared.token.Spanned.{Spanned}
 use Rattle.vrl_pattern.specs.Malformed.{is_malformed}
 use Rattle.vrl_word.specs.Words.{regex_of}
-use Rattle.vrl_parse.specs.Reading.{IsScriptFault, no_script, parse_codes, path_fault}
+use Rattle.vrl_parse.specs.Reading.{IsErrorPlace, IsScriptFault, no_script, parse_codes, path_fault}
 use Rattle.vrl_diag.specs.Refusal.{is_error}
 use Rattle.vrl_judge.specs.Rules.{Judgement}
 use Rattle.vrl_check.specs.Judgement.{JudgesScript}
@@ -27,8 +28,7 @@ use Rattle.vrl_compile.specs.declared.literals.LiteralFault.{LiteralFault}
 use Rattle.vrl_compile.specs.declared.literals.LiteralFault.TheVariants as literals
 use Rattle.vrl_compile.specs.declared.script.Compiled.{Compiled}
 use Rattle.vrl_compile.specs.Literals.{IsRefusedFor, OnMalformed}
-use Rattle.vrl_compile.specs.Answer.{CanBeJudged, IsAccepted, IsAnswer, IsRefused, IsScript, beyond, judged, malformed, malformed_at, malformed_literals, not_built, of_script, unbuilt, unread, unread_at, wrong}
-use Rattle.vrl_word.specs.Built.{are_built}
+use Rattle.vrl_compile.specs.Answer.{CanBeJudged, IsAccepted, IsAnswer, IsRefused, IsScript, IsUngrammatical, beyond, judged, malformed, malformed_at, malformed_literals, of_script, unread, unread_at, wrong}
 
 -- ---- refusals before the judgement
 
@@ -44,20 +44,23 @@ unread_diagnostic fault is =
     let made : ℕ → Diagnostic = λ code. record { code = code; span = fault.span } in
     ap (λ code. made code ∷ []) is
 
-refused_tokens : (text : List ℕ) (tokens : List Spanned) (fault : Diagnostic) → IsTokenized text tokens → IsScriptFault tokens fault → Contains parse_codes fault.code → (declared : KindTree) → IsRefused declared text (fault ∷ [])
-refused_tokens text tokens fault tokenized (no_script is none) among declared =
-    record { are = unread fault.span (record { tokens = tokens; tokenized = tokenized; unread = none }) (unread_diagnostic fault is); error = listed_is_error parse_codes fault refl among }
-refused_tokens text tokens fault tokenized (path_fault {s} {ds} reads faults) among declared =
-    record { are = of_script tokens s (record { tokenized = tokenized; reads = reads }) (beyond fault ds faults refl); error = listed_is_error parse_codes fault refl among }
+refused_tokens : (text : List ℕ) (tokens : TokenList) (fault : Diagnostic) → IsTokenized text tokens.tokens → tokens.«end» ≡ length text → IsScriptFault tokens fault → Contains parse_codes fault.code → (declared : KindTree) → IsRefused declared text (fault ∷ [])
+refused_tokens text tokens fault tokenized ends (no_script is none place) among declared =
+    let before : ℕ → TokenList = λ n. record { tokens = tokens.tokens; «end» = n } in
+    let unread_text : IsUngrammatical text fault.span = record { tokens = tokens.tokens; tokenized = tokenized; unread = none; place = subst (λ n. IsErrorPlace (before n) fault.span) ends place } in
+    record { are = unread fault.span unread_text (unread_diagnostic fault is); error = listed_is_error parse_codes fault refl among }
+refused_tokens text tokens fault tokenized ends (path_fault {s} {ds} reads faults) among declared =
+    record { are = of_script tokens.tokens s (record { tokenized = tokenized; reads = reads }) (beyond fault ds faults refl); error = listed_is_error parse_codes fault refl among }
 
 -- the same of a fault that is handed on
 pub text_fault : (text : List ℕ) (f : SyntaxFault) → OnFault (IsTextFault text) f → OnFault (λ d. Contains lexical_codes d.code) f → OnFault (λ d. (declared : KindTree) → IsRefused declared text (d ∷ [])) f
 text_fault text (Fault d) is among = refused_text text d is among
 text_fault text Memory is among = tt
 
-pub tokens_fault : (text : List ℕ) (tokens : List Spanned) (f : SyntaxFault) → IsTokenized text tokens → OnFault (IsScriptFault tokens) f → OnFault (λ d. Contains parse_codes d.code) f → OnFault (λ d. (declared : KindTree) → IsRefused declared text (d ∷ [])) f
-tokens_fault text tokens (Fault d) tokenized is among = refused_tokens text tokens d tokenized is among
-tokens_fault text tokens Memory tokenized is among = tt
+pub tokens_fault : (text : List ℕ) (tokens : TokenList) (f : SyntaxFault) → IsTokenized text tokens.tokens → tokens.«end» ≡ length text → OnFault (IsScriptFault tokens) f → OnFault (λ d. Contains parse_codes d.code) f
+    → OnFault (λ d. (declared : KindTree) → IsRefused declared text (d ∷ [])) f
+tokens_fault text tokens (Fault d) tokenized ends is among = refused_tokens text tokens d tokenized ends is among
+tokens_fault text tokens Memory tokenized ends is among = tt
 
 pub handed_on : {X : Type 0} (result : Result X SyntaxFault) (f : SyntaxFault) (P : SyntaxFault → Type 0) → IsErrAnd result (λ g. g ≡ f) → P f → IfErr result P
 handed_on (Ok x) f P is holds = tt
@@ -81,23 +84,19 @@ malformed_is_error : (tokens : List Spanned) (first : Diagnostic) (others : List
 malformed_is_error [] first others is = cc
 malformed_is_error (t ∷ ts) first others is = at_is_error t.span (regex_of t.token) (malformed_literals ts) first others is (malformed_is_error ts first others)
 
-pub refused_unbuilt : (declared : KindTree) (text : List ℕ) (tokens : List Spanned) (script : Script) (shown : List Diagnostic) → IsScript text tokens script → KeepsLimits script.items → are_built tokens ≡ false → shown ≡ not_built
-    → IsRefused declared text shown
-refused_unbuilt declared text tokens script shown is limits built same = record { are = of_script tokens script is (unbuilt limits built same); error = ap (list_any is_error) same }
-
-pub refused_malformed : (declared : KindTree) (text : List ℕ) (tokens : List Spanned) (script : Script) (found : List Diagnostic) → IsScript text tokens script → KeepsLimits script.items → are_built tokens ≡ true → found ≡ malformed_literals tokens
+pub refused_malformed : (declared : KindTree) (text : List ℕ) (tokens : List Spanned) (script : Script) (found : List Diagnostic) → IsScript text tokens script → KeepsLimits script.items → found ≡ malformed_literals tokens
     → found ≢ [] → IsRefused declared text found
-refused_malformed declared text tokens script [] is limits built found some = absurd (some refl)
-refused_malformed declared text tokens script (first ∷ others) is limits built found some =
-    record { are = of_script tokens script is (malformed limits built first others (sym found) refl); error = or_left _ _ (malformed_is_error tokens first others (sym found)) }
+refused_malformed declared text tokens script [] is limits found some = absurd (some refl)
+refused_malformed declared text tokens script (first ∷ others) is limits found some =
+    record { are = of_script tokens script is (malformed limits first others (sym found) refl); error = or_left _ _ (malformed_is_error tokens first others (sym found)) }
 
 -- and what is answered for a fault of literals is that
 pub refused_for : (declared : KindTree) (text : List ℕ) (tokens : List Spanned) (script : Script) (fault : LiteralFault) (result : Result Compiled WantOfMemory) → IsRefusedFor fault result → OnMalformed (λ found. (found ≡ malformed_literals tokens) × (found ≢ [])) fault
-    → IsScript text tokens script → KeepsLimits script.items → are_built tokens ≡ true → IfOk result (IsAnswer declared text)
-refused_for declared text tokens script (literals.Malformed found) result answered told is limits built =
-    subst (λ r. IfOk r (IsAnswer declared text)) (sym answered) (refused_malformed declared text tokens script found.items is limits built told.0 told.1)
-refused_for declared text tokens script literals.Memory (Ok compiled) answered told is limits built = absurd answered
-refused_for declared text tokens script literals.Memory (Err refused) answered told is limits built = tt
+    → IsScript text tokens script → KeepsLimits script.items → IfOk result (IsAnswer declared text)
+refused_for declared text tokens script (literals.Malformed found) result answered told is limits =
+    subst (λ r. IfOk r (IsAnswer declared text)) (sym answered) (refused_malformed declared text tokens script found.items is limits told.0 told.1)
+refused_for declared text tokens script literals.Memory (Ok compiled) answered told is limits = absurd answered
+refused_for declared text tokens script literals.Memory (Err refused) answered told is limits = tt
 
 pub refused : (declared : KindTree) (text : List ℕ) (tokens : List Spanned) (script : Script) (j : Judgement) (shown : List Diagnostic) → IsScript text tokens script → CanBeJudged tokens script → JudgesScript (language_rules script.patterns) declared script.items j → AreOrdered j.codes shown
     → list_any is_error shown ≡ true → IsRefused declared text shown

@@ -1,6 +1,5 @@
 -- A text has one reading, and its diagnostics are one list.
-use Rattle.std.proofs.Common.{◌≡◌, ℕ, true, false, List, [], ◌∷◌, refl, sym, ap, ◌∙◌, subst, arith}
-use Rattle.std.proofs.lemmas.Bool.{true≢false}
+use Rattle.std.proofs.Common.{◌≡◌, ℕ, List, [], ◌∷◌, length, refl, sym, ap, ◌∙◌, subst, arith}
 use Rattle.std.specs.Cmp.{IsTotalOrder}
 use Rattle.std.specs.Ordering.{nat_cmp, ordering_then}
 use Rattle.std.specs.declared.cmp.Ordering.{Ordering}
@@ -12,14 +11,14 @@ use Rattle.vrl_kind.specs.KindTree.{KindTree}
 use Rattle.vrl_syntax.specs.Limits.{exprs_faults}
 use Rattle.vrl_syntax.specs.Tree.{Script}
 use Rattle.vrl_token.specs.Laws.{TokensAreDetermined}
+use Rattle.vrl_token.specs.TokenList.{TokenList}
 use Rattle.vrl_token.specs.declared.token.Spanned.{Spanned}
-use Rattle.vrl_parse.specs.Reading.{Reads, ScriptsAreDetermined}
+use Rattle.vrl_parse.specs.Reading.{ErrorPlacesAreDetermined, IsErrorPlace, Reads, ScriptsAreDetermined}
 use Rattle.vrl_check.specs.Determined.{JudgementsAreDetermined}
 use Rattle.vrl_check.specs.OpenRules.{language_rules}
 use Rattle.vrl_judge.specs.Ordered.{AreOrdered, diagnostic_cmp}
-use Rattle.vrl_compile.specs.Answer.{AreOfScript, IsScript, IsUngrammatical, beyond, judged, malformed, malformed_literals, of_script, unbuilt, unread, wrong}
-use Rattle.vrl_word.specs.Built.{are_built}
-use Rattle.vrl_compile.specs.Reading.{DiagnosticsAreDetermined, ScriptsHaveOneReading, same as one_list, both_unread}
+use Rattle.vrl_compile.specs.Answer.{AreOfScript, IsScript, IsUngrammatical, beyond, judged, malformed, malformed_literals, of_script, unread, unread_at, wrong}
+use Rattle.vrl_compile.specs.Reading.{DiagnosticsAreDetermined, ScriptsHaveOneReading}
 use Rattle.vrl_compile.proofs.Sorting.{one_order}
 
 -- ---- readings
@@ -30,9 +29,16 @@ one_reading tokens scripts text ts us s t one two =
     record { tokens_are = lists; script_is = scripts us s t (subst (λ xs. Reads xs s) lists one.reads) two.reads }
 
 -- tokens in which no script is read are no script's
-read_and_unread : TokensAreDetermined → (text : List ℕ) (ts : List Spanned) (s : Script) → IsScript text ts s → ¬ IsUngrammatical text
-read_and_unread tokens text ts s is none =
+read_and_unread : TokensAreDetermined → (text : List ℕ) (ts : List Spanned) (s : Script) (span : Span) → IsScript text ts s → ¬ IsUngrammatical text span
+read_and_unread tokens text ts s span is none =
     none.unread s (subst (λ xs. Reads xs s) (tokens.one_list text ts none.tokens is.tokenized none.tokenized) is.reads)
+
+-- and they go wrong at one place
+one_error_place : TokensAreDetermined → ErrorPlacesAreDetermined → (text : List ℕ) (s t : Span) → IsUngrammatical text s → IsUngrammatical text t → s ≡ t
+one_error_place tokens places text s t one two =
+    let of_text : List Spanned → TokenList = λ ts. record { tokens = ts; «end» = length text } in
+    let lists = tokens.one_list text one.tokens two.tokens one.tokenized two.tokenized in
+    places (of_text two.tokens) s t (subst (λ ts. IsErrorPlace (of_text ts) s) lists one.place) two.place
 
 -- ---- the order of diagnostics
 
@@ -76,38 +82,27 @@ one_first faults ds es xs ys d e one two first second =
 nothing_first : {P : Type 0} (faults ds : List Diagnostic) (d : Diagnostic) → faults ≡ d ∷ ds → faults ≡ [] → P
 nothing_first faults ds d some none = let wrong : d ∷ ds ≡ [] = sym some ∙ none in cc
 
--- all is built, or it isn't
-built_or_not : {P : Type 0} (tokens : List Spanned) → are_built tokens ≡ true → are_built tokens ≡ false → P
-built_or_not tokens built unbuilt_too = absurd (true≢false (sym built ∙ unbuilt_too))
-
 of_one_script : JudgementsAreDetermined → (declared : KindTree) (ts : List Spanned) (s : Script) (xs ys : List Diagnostic) → AreOfScript declared ts s xs → AreOfScript declared ts s ys → xs ≡ ys
 of_one_script one declared ts s xs ys (beyond d ds is first) (beyond e es too second) = one_first (exprs_faults s.items) ds es xs ys d e is too first second
-of_one_script one declared ts s xs ys (beyond d ds is first) (unbuilt limits built second) = nothing_first (exprs_faults s.items) ds d is limits
-of_one_script one declared ts s xs ys (beyond d ds is first) (malformed limits built e es some second) = nothing_first (exprs_faults s.items) ds d is limits
+of_one_script one declared ts s xs ys (beyond d ds is first) (malformed limits e es some second) = nothing_first (exprs_faults s.items) ds d is limits
 of_one_script one declared ts s xs ys (beyond d ds is first) (judged can j judges ordered) = nothing_first (exprs_faults s.items) ds d is can.limits
-of_one_script one declared ts s xs ys (unbuilt limits built first) (beyond e es too second) = nothing_first (exprs_faults s.items) es e too limits
-of_one_script one declared ts s xs ys (unbuilt limits built first) (unbuilt limits_too built_too second) = first ∙ sym second
-of_one_script one declared ts s xs ys (unbuilt limits built first) (malformed limits_too built_too e es some second) = built_or_not ts built_too built
-of_one_script one declared ts s xs ys (unbuilt limits built first) (judged can j judges ordered) = built_or_not ts can.built built
-of_one_script one declared ts s xs ys (malformed limits built d ds some first) (beyond e es too second) = nothing_first (exprs_faults s.items) es e too limits
-of_one_script one declared ts s xs ys (malformed limits built d ds some first) (unbuilt limits_too built_too second) = built_or_not ts built built_too
-of_one_script one declared ts s xs ys (malformed limits built d ds some first) (malformed limits_too built_too e es too second) = first ∙ sym some ∙ too ∙ sym second
-of_one_script one declared ts s xs ys (malformed limits built d ds some first) (judged can j judges ordered) = nothing_first (malformed_literals ts) ds d some can.well_formed
+of_one_script one declared ts s xs ys (malformed limits d ds some first) (beyond e es too second) = nothing_first (exprs_faults s.items) es e too limits
+of_one_script one declared ts s xs ys (malformed limits d ds some first) (malformed limits_too e es too second) = first ∙ sym some ∙ too ∙ sym second
+of_one_script one declared ts s xs ys (malformed limits d ds some first) (judged can j judges ordered) = nothing_first (malformed_literals ts) ds d some can.well_formed
 of_one_script one declared ts s xs ys (judged can j judges ordered) (beyond e es too second) = nothing_first (exprs_faults s.items) es e too can.limits
-of_one_script one declared ts s xs ys (judged can j judges ordered) (unbuilt limits built second) = built_or_not ts can.built built
-of_one_script one declared ts s xs ys (judged can j judges ordered) (malformed limits built e es some second) = nothing_first (malformed_literals ts) es e some can.well_formed
+of_one_script one declared ts s xs ys (judged can j judges ordered) (malformed limits e es some second) = nothing_first (malformed_literals ts) es e some can.well_formed
 of_one_script one declared ts s xs ys (judged can j judges ordered) (judged can_too k judges_too ordered_too) =
     one_order_of k.codes xs ys (subst (λ x. AreOrdered x.codes xs) (one.script (language_rules s.patterns) (one.language s.patterns) declared s.items j k judges judges_too) ordered) ordered_too
 
-pub determined : TokensAreDetermined → ScriptsAreDetermined → JudgementsAreDetermined → DiagnosticsAreDetermined
-determined tokens scripts one declared text xs ys (wrong d is first) (wrong e too second) = one_list (first ∙ ap (λ x. x ∷ []) (tokens.one_fault text d e is too) ∙ sym second)
-determined tokens scripts one declared text xs ys (wrong d is first) (unread span none also) = absurd (tokens.not_both text none.tokens d none.tokenized is)
-determined tokens scripts one declared text xs ys (wrong d is first) (of_script ts s has of) = absurd (tokens.not_both text ts d has.tokenized is)
-determined tokens scripts one declared text xs ys (unread span none is) (wrong e too second) = absurd (tokens.not_both text none.tokens e none.tokenized too)
-determined tokens scripts one declared text xs ys (unread span none is) (unread place too also) = both_unread none span place is also
-determined tokens scripts one declared text xs ys (unread span none is) (of_script ts s has of) = absurd (read_and_unread tokens text ts s has none)
-determined tokens scripts one declared text xs ys (of_script ts s has of) (wrong e too second) = absurd (tokens.not_both text ts e has.tokenized too)
-determined tokens scripts one declared text xs ys (of_script ts s has of) (unread span none is) = absurd (read_and_unread tokens text ts s has none)
-determined tokens scripts one declared text xs ys (of_script ts s has of) (of_script us t too also) =
+pub determined : TokensAreDetermined → ScriptsAreDetermined → ErrorPlacesAreDetermined → JudgementsAreDetermined → DiagnosticsAreDetermined
+determined tokens scripts places one declared text xs ys (wrong d is first) (wrong e too second) = first ∙ ap (λ x. x ∷ []) (tokens.one_fault text d e is too) ∙ sym second
+determined tokens scripts places one declared text xs ys (wrong d is first) (unread span none also) = absurd (tokens.not_both text none.tokens d none.tokenized is)
+determined tokens scripts places one declared text xs ys (wrong d is first) (of_script ts s has of) = absurd (tokens.not_both text ts d has.tokenized is)
+determined tokens scripts places one declared text xs ys (unread span none is) (wrong e too second) = absurd (tokens.not_both text none.tokens e none.tokenized too)
+determined tokens scripts places one declared text xs ys (unread span none is) (unread place too also) = is ∙ ap unread_at (one_error_place tokens places text span place none too) ∙ sym also
+determined tokens scripts places one declared text xs ys (unread span none is) (of_script ts s has of) = absurd (read_and_unread tokens text ts s span has none)
+determined tokens scripts places one declared text xs ys (of_script ts s has of) (wrong e too second) = absurd (tokens.not_both text ts e has.tokenized too)
+determined tokens scripts places one declared text xs ys (of_script ts s has of) (unread span none is) = absurd (read_and_unread tokens text ts s span has none)
+determined tokens scripts places one declared text xs ys (of_script ts s has of) (of_script us t too also) =
     let same = one_reading tokens scripts text us ts t s too has in
-    one_list (of_one_script one declared ts s xs ys of (subst (λ x. AreOfScript declared ts x ys) same.script_is (subst (λ x. AreOfScript declared x t ys) same.tokens_are also)))
+    of_one_script one declared ts s xs ys of (subst (λ x. AreOfScript declared ts x ys) same.script_is (subst (λ x. AreOfScript declared x t ys) same.tokens_are also))

@@ -1,15 +1,15 @@
 -- What soundness says of the answers of `compile`.
 use Rattle.std.proofs.Common.{◌≡◌, ℕ, List, [], Option, Some, None, Result, Ok, Err, IfOk, inl, inr, length, refl, sym, ap, ◌∙◌, subst}
+use Rattle.std.proofs.lemmas.Bool.{false≢true}
 use Rattle.vrl_value.specs.declared.memory.Memory.{Memory as WantOfMemory}
 use Rattle.vrl_kind.specs.KindTree.{KindTree}
-use Rattle.vrl_syntax.specs.Tree.{Exprs}
 use Rattle.vrl_state.specs.Laws.{EitherHoldsBoth, JoinsKeepFits}
 use Rattle.vrl_state.specs.States.{IsEither, IsJoined, RootMap}
 use Rattle.vrl_state.specs.Stores.{Store}
 use Rattle.vrl_store.specs.Outcomes.{Ended, Outcome, value, error, returned}
 use Rattle.vrl_store.specs.WellFormed.{IsWellFormed}
 use Rattle.vrl_check.specs.Answer.{IsJudged}
-use Rattle.vrl_check.specs.OpenRules.{language_rules}
+use Rattle.vrl_check.specs.OpenRules.{GiveWhatHolds, language_rules}
 use Rattle.vrl_judge.specs.Returns.{return_state, returning}
 use Rattle.vrl_judge.specs.Rules.{Judgement}
 use Rattle.vrl_check.specs.declared.judged.Judged.{Judged}
@@ -43,7 +43,8 @@ soundly_ended either joins ends ended came =
 pub accepted_scripts_are_sound : ScriptsAreSound → EitherHoldsBoth → JoinsKeepFits → AcceptedScriptsAreSound
 accepted_scripts_are_sound sound either joins declared text script j is moment event of_kind formed =
     let formed_items = literals_are_well_formed is.tokens script is.is_script.reads in
-    soundly_ended either joins (ends_of j) (ended_over (program_for script j) moment event) (sound moment (language_rules script.patterns) declared script.items j is.judges is.no_error formed_items event of_kind formed)
+    let nothing_given : GiveWhatHolds (language_rules script.patterns) = λ loop given. absurd (false≢true given) in
+    soundly_ended either joins (ends_of j) (ended_over (program_for script j) moment event) (sound moment (language_rules script.patterns) nothing_given declared script.items j is.judges is.no_error formed_items event of_kind formed)
 
 -- ---- what `compile` answers
 
@@ -52,8 +53,8 @@ returned_state K None = refl
 returned_state K (Some roots) = refl
 
 -- the answer tells the ends of the judgement
-told_ends : (items : Exprs) (j : Judgement) (judged : Judged) → IsJudged items j judged → ends_told judged ≡ ends_of j
-told_ends items j judged is =
+told_ends : (j : Judgement) (judged : Judged) → IsJudged j judged → ends_told judged ≡ ends_of j
+told_ends j judged is =
     let ok : judged.ok.known ≡ j.ok = ap (λ s. s.known) is.ok in
     let ret : return_state judged.ret ≡ j.ret = ap return_state is.ret ∙ returned_state j.returned j.ret in
     λ i. record { kind = is.kind i; ok = ok i; returned = is.returned i; ret = ret i }
@@ -63,5 +64,5 @@ sound_answer sound declared text (Err e) is = is
 sound_answer sound declared text (Ok (compiled.Refused diagnostics)) is = tt
 sound_answer sound declared text (Ok (compiled.Accepted answer)) is = λ moment event of_kind formed.
     let ended = sound declared text is.script is.judgement is.accepted moment event of_kind (subst (λ sources. IsWellFormed (length sources) event) is.sources formed) in
-    let same_ends = subst (λ ends. IsSoundlyEnded ends (ended_over (program_for is.script is.judgement) moment event)) (sym (told_ends is.script.items is.judgement answer.judged is.judged)) ended in
+    let same_ends = subst (λ ends. IsSoundlyEnded ends (ended_over (program_for is.script is.judgement) moment event)) (sym (told_ends is.judgement answer.judged is.judged)) ended in
     subst (λ program. IsSoundlyEnded (ends_told answer.judged) (ended_over program moment event)) (sym is.program) same_ends

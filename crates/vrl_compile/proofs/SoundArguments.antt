@@ -1,12 +1,14 @@
 -- The arguments of a call, run in the order in which they are written: each is of the kind that was judged, and equals the literal that is
 -- written.
-use Rattle.std.proofs.Common.{◌≡◌, ℕ, suc, List, [], ◌∷◌, ◌++◌, append_assoc, append-nil, Option, Some, None, IfSome, length, map, refl, sym, ap, ◌∙◌, subst}
+use Rattle.std.proofs.Common.{◌≡◌, ℕ, suc, ◌+◌, List, [], ◌∷◌, ◌++◌, append_assoc, append-nil, Option, Some, None, IfSome, drop, length, map, refl, sym, ap, ◌∙◌, subst}
 use Rattle.std.specs.Bool.{⊤}
+use Rattle.std.proofs.Math.Seq.{drop-append_seam}
+use Rattle.std.proofs.lemmas.List.{length-append}
 use Rattle.vrl_value.specs.Tree.{Tree, array as items}
 use Rattle.vrl_value.specs.View.{items_of_trees}
 use Rattle.vrl_value.specs.declared.value.Tag.{Tag}
 use Rattle.vrl_syntax.specs.Calls.{literal_of}
-use Rattle.vrl_syntax.specs.ErrorAssignments.{behind}
+use Rattle.vrl_syntax.specs.ErrorAssignments.{behind, behind_args, in_args, in_expr}
 use Rattle.vrl_syntax.specs.Tree.{Expr, expr, literal, Args, arg}
 use Rattle.vrl_kind.specs.Kinds.{Inhabits}
 use Rattle.vrl_state.specs.Stores.{FitsKnown, Store}
@@ -34,6 +36,16 @@ pub arguments_empties : {setting : SettingTree} {before after : Judgement} {gs :
 arguments_empties (no_more_sound {before = before}) = sym (append-nil before.empties)
 arguments_empties (one_more_sound {before = before} {j = j} {js = js} told sound then more) =
     arguments_empties more ∙ ap (λ ts. ts ++ own_empties js) then.behind.empties ∙ append_assoc before.empties j.empties (own_empties js)
+
+arguments_told : {setting : SettingTree} {before after : Judgement} {gs : Args} {js : List Argument} → AreSoundArguments setting before gs js after → length (own_empties js) ≡ in_args gs
+arguments_told no_more_sound = refl
+arguments_told (one_more_sound {j = j} {e = e} {gs = gs} {js = js} told sound then more) =
+    let sum : length j.empties + length (own_empties js) ≡ in_expr e + in_args gs = λ i. told.counted i + arguments_told more i in
+    length-append j.empties (own_empties js) ∙ sum
+
+-- the tags that are left behind them are those behind their own
+pub arguments_behind : {setting : SettingTree} {before after : Judgement} {gs : Args} {js : List Argument} → AreSoundArguments setting before gs js after → (rest : List Tag) → behind_args gs (own_empties js ++ rest) ≡ rest
+arguments_behind {js = js} arguments rest = ap (λ n. drop n (own_empties js ++ rest)) (sym (arguments_told arguments)) ∙ drop-append_seam (own_empties js) rest
 
 -- they are those that are written
 pub arguments_written : {setting : SettingTree} {before after : Judgement} {gs : Args} {js : List Argument} → AreSoundArguments setting before gs js after → values_of gs ≡ map (λ g. g.value) js
@@ -69,6 +81,7 @@ pub record AreAllValues (count : ℕ) (before : List Tree) (js : List Argument) 
   pub all : w ≡ items (items_of_trees (before ++ values))
   pub each : AreValuesOf count js values
   pub ok : FitsKnown after j.ok
+  pub stored : IsWellFormedStore count after
 
 -- a literal is its value
 literal_is_value : (setting : SettingTree) (tags : List Tag) (e : Expr) (store : Store) → IfSome (literal_of e) (λ w. (eval setting tags e store).outcome ≡ value w)
@@ -92,6 +105,7 @@ one_more_value count before g js j v w after is more = record {
   all = more.all ∙ ap (λ vs. items (items_of_trees vs)) (append_assoc before (v ∷ []) more.values);
   each = (is, more.each);
   ok = more.ok;
+  stored = more.stored;
 }
 
 -- ---- all of them
@@ -100,7 +114,7 @@ one_more_value count before g js j v w after is more = record {
 pub argument_values : Laws → (setting : SettingTree) {before after : Judgement} {gs : Args} {js : List Argument} → AreSoundArguments setting before gs js after → HasNoError after.codes → AreWellFormedArgs (length setting.sources) gs
     → (rest : List Tag) (run : List Tree) (store : Store) → IsWellFormedStore (length setting.sources) store → FitsKnown store before.ok
     → IsSoundAs (AreAllValues (length setting.sources) run js after) after (eval_args setting (own_empties js ++ rest) gs run store)
-argument_values laws setting (no_more_sound {before = before}) none well rest run store stored fits = record { values = []; all = ap (λ vs. items (items_of_trees vs)) (sym (append-nil run)); each = tt; ok = fits }
+argument_values laws setting (no_more_sound {before = before}) none well rest run store stored fits = record { values = []; all = ap (λ vs. items (items_of_trees vs)) (sym (append-nil run)); each = tt; ok = fits; stored = stored }
 argument_values laws setting (one_more_sound {before = before} {j = j} {middle = middle} {after = after} {name = name} {span = span} {e = e} {gs = gs} {js = js} told sound then more) none well rest run store stored fits =
     let count = length setting.sources in
     let g : Argument = record { span = span; value = e; judged = j } in

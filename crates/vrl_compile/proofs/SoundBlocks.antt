@@ -46,7 +46,7 @@ kept_kind v K true true holds fits = fits
 kept_kind v K false true holds fits = absurd (false≢true (holds refl))
 
 module _ {X : Type 0} where
-  at_kept : (m : map.FinMap (slice_cmp nat_cmp) X) (test : List ℕ → Bool) (x : List ℕ) → map.get (map.retain_keys m test) x ≡ cond (test x) (map.get m x) None
+  pub at_kept : (m : map.FinMap (slice_cmp nat_cmp) X) (test : List ℕ → Bool) (x : List ℕ) → map.get (map.retain_keys m test) x ≡ cond (test x) (map.get m x) None
   at_kept m test x = map.get-retain_keys m test x (λ y tie. ap test (sym (slice_cmp-IsAntisymmetric nat_cmp-IsAntisymmetric x y tie)))
 
 -- what was known before is known behind the block, of the store that held it before

@@ -1,10 +1,11 @@
--- The arguments of a call on which no error code stands: they are bound, each required one is there, each is written as its parameter
--- wants it, and the call has no closure.
+-- The arguments of a call on which no error code stands: they are bound, each required one is there, and each is written as its parameter
+-- wants it.
 use Rattle.std.proofs.Common.{◌≡◌, ℕ, zero, suc, ◌<◌, ◌≤◌, Bool, true, false, ◌&&◌, ◌||◌, nat_lt, List, [], ◌∷◌, length, Option, Some, None, IfSome, Result, Ok, Err, option_map, is_none, slice_get, refl, sym, ap, ◌∙◌, subst, if◌then◌else◌, arith}
 use Rattle.std.proofs.lemmas.Bool.{ltb-false, or_parts, true≢false}
 use Rattle.std.proofs.lemmas.List.Quantifiers.{position-Some}
 use Rattle.std.specs.Option.{option_map_or}
 use Rattle.std.specs.Bool.{⊤}
+use Rattle.vrl_diag.specs.declared.diagnostic.Diagnostic.{Diagnostic}
 use Rattle.vrl_diag.specs.declared.diagnostic.Span.{Span}
 use Rattle.vrl_syntax.specs.Tree.{Expr, Closure, no_closure, closure, span_of}
 use Rattle.vrl_builtin.specs.Rows.{ParameterRow}
@@ -13,7 +14,7 @@ use Rattle.vrl_table.specs.Binding.{binding, bound_from, bound_or_missing, bound
 use Rattle.vrl_table.specs.declared.binding.BindFault.{BindFault}
 use Rattle.vrl_table.specs.declared.binding.BindFault.TheVariants as fault
 use Rattle.vrl_judge.specs.Rules.{Argument, argument_at, at, is_disjoint, is_fallible, is_known, when}
-use Rattle.vrl_check.specs.Judgement.{bound, of_argument, of_arguments, of_call, of_closure, of_unknown}
+use Rattle.vrl_check.specs.Judgement.{bound, of_argument, of_arguments, of_closure, of_unknown, own_codes}
 use Rattle.vrl_compile.specs.Sound.{HasNoError}
 use Rattle.vrl_compile.proofs.SoundEnds.{no_error_parts}
 
@@ -140,11 +141,13 @@ unknown_told [] i is none = omega arith
 unknown_told (g ∷ js) zero is none = true≢false none
 unknown_told (g ∷ js) (suc i) is none = unknown_told js i (omega arith) none
 
-closure_told : (span : Span) (c : Closure) → HasNoError (of_closure span c) → c ≡ no_closure
+-- a function that takes no closure has none
+pub closure_told : (span : Span) (c : Closure) → HasNoError (of_closure span c) → c ≡ no_closure
 closure_told span no_closure none = refl
 closure_told span (closure names es s) none = absurd (true≢false none)
 
-pub record IsBoundCall (wants : ℕ → ParameterRow → Expr → Bool) (ps : List ParameterRow) (ks : Keywords) (c : Closure) (js : List Argument) : Type 0 where
+-- `closure_codes` are those of its closure
+pub record IsBoundCall (wants : ℕ → ParameterRow → Expr → Bool) (ps : List ParameterRow) (ks : Keywords) (closure_codes : List Diagnostic) (js : List Argument) : Type 0 where
   pub places : List (Option ℕ)
   pub found : binding ps ks ≡ Ok places
   pub counted : length places ≡ length ps
@@ -152,17 +155,17 @@ pub record IsBoundCall (wants : ℕ → ParameterRow → Expr → Bool) (ps : Li
   pub few : length js ≤ length ps
   pub present : ArePresent ps (bound places js)
   pub written : AreWritten wants 0 ps (bound places js)
-  pub lacks_closure : c ≡ no_closure
+  pub closure : HasNoError closure_codes
 
 few_arguments : (n m k : ℕ) (twice : Bool) → n ≡ k → (nat_lt m n || twice) ≡ false → k ≤ m
 few_arguments n m k twice same is = subst (λ x. x ≤ m) same (ltb-false m n (or_parts (nat_lt m n) twice is).0)
 
-pub call_is_bound : (wants : ℕ → ParameterRow → Expr → Bool) (ps : List ParameterRow) (ks : Keywords) (span : Span) (c : Closure) (js : List Argument) (b : Result (List (Option ℕ)) BindFault) → binding ps ks ≡ b → length ks ≡ length js
-    → HasNoError (of_call wants ps span c js b) → IsBoundCall wants ps ks c js
-call_is_bound wants ps ks span c js (Ok found) is same none =
+pub call_is_bound : (wants : ℕ → ParameterRow → Expr → Bool) (ps : List ParameterRow) (ks : Keywords) (span : Span) (closure_codes : List Diagnostic) (js : List Argument) (b : Result (List (Option ℕ)) BindFault) → binding ps ks ≡ b → length ks ≡ length js
+    → HasNoError (own_codes wants ps span closure_codes js b) → IsBoundCall wants ps ks closure_codes js
+call_is_bound wants ps ks span closure_codes js (Ok found) is same none =
     let told = places_found (is_wrong_number ps ks) (first_unknown ps ks) (first_missing ps (bound_from 0 ps ks)) (bound_from 0 ps ks) found is in
     let all : AreOf (length js) (length ps) found = subst (λ n. AreOf n (length ps) found) same (subst (AreOf (length ks) (length ps)) (sym told.same) (places_of 0 ps ks)) in
-    let codes = no_error_parts (of_arguments wants 0 ps (bound found js)) (of_closure span c) none in
+    let codes = no_error_parts (of_arguments wants 0 ps (bound found js)) closure_codes none in
     record {
       places = found;
       found = is;
@@ -170,13 +173,13 @@ call_is_bound wants ps ks span c js (Ok found) is same none =
       few = few_arguments (length ks) (length ps) (length js) (has_twice ks) same told.right;
       present = all_present ps found js all.within (ap (first_missing ps) told.same ∙ told.whole);
       written = all_written wants 0 ps (bound found js) codes.0;
-      lacks_closure = closure_told span c codes.1;
+      closure = codes.1;
     }
-call_is_bound wants ps ks span c js (Err fault.Number) is same none = absurd (true≢false none)
-call_is_bound wants ps ks span c js (Err (fault.Unknown i)) is same none =
+call_is_bound wants ps ks span closure_codes js (Err fault.Number) is same none = absurd (true≢false none)
+call_is_bound wants ps ks span closure_codes js (Err (fault.Unknown i)) is same none =
     let unknown = unknown_found (is_wrong_number ps ks) (first_unknown ps ks) (first_missing ps (bound_from 0 ps ks)) (bound_from 0 ps ks) i is in
     let found = position-Some (is_unknown ps) ks i None unknown in
     let below : i < length js = omega (arith, found.0) in
     absurd (unknown_told js i below none)
-call_is_bound wants ps ks span c js (Err (fault.Missing i)) is same none = absurd (true≢false none)
-call_is_bound wants ps ks span c js (Err fault.Memory) is same none = absurd (no_memory_found (is_wrong_number ps ks) (first_unknown ps ks) (first_missing ps (bound_from 0 ps ks)) (bound_from 0 ps ks) is)
+call_is_bound wants ps ks span closure_codes js (Err (fault.Missing i)) is same none = absurd (true≢false none)
+call_is_bound wants ps ks span closure_codes js (Err fault.Memory) is same none = absurd (no_memory_found (is_wrong_number ps ks) (first_unknown ps ks) (first_missing ps (bound_from 0 ps ks)) (bound_from 0 ps ks) is)

@@ -37,13 +37,17 @@ pub sound_banged : (span : Span) (bang : Bool) (j : Judgement) (ended : Ended) �
 sound_banged span true j ended sound = banged_outcome span j ended.outcome ended.store sound
 sound_banged span false j ended sound = sound
 
+pub banged_codes : (span : Span) (bang : Bool) (j : Judgement) → HasNoError (banged span bang j).codes → HasNoError j.codes
+banged_codes span true j none = (no_error_parts j.codes _ none).0
+banged_codes span false j none = none
+
 -- what is known of the call with it is known without it
 pub record IsCleanCall (j : Judgement) : Type 0 where
   pub codes : HasNoError j.codes
   pub sound : j.poisoned ≡ false
 
 pub clean_call : (span : Span) (bang : Bool) (j : Judgement) → HasNoError (banged span bang j).codes → (banged span bang j).poisoned ≡ false → IsCleanCall j
-clean_call span true j none sound = record { codes = (no_error_parts j.codes _ none).0; sound = (or_parts j.poisoned _ sound).0 }
+clean_call span true j none sound = record { codes = banged_codes span true j none; sound = (or_parts j.poisoned _ sound).0 }
 clean_call span false j none sound = record { codes = none; sound = sound }
 
 pub banged_empties : (span : Span) (bang : Bool) (j : Judgement) → (banged span bang j).empties ≡ j.empties

@@ -6,6 +6,7 @@ use Rattle.std.proofs.lemmas.List.{length-map}
 use Rattle.vrl_value.specs.Tree.{Tree}
 use Rattle.vrl_value.specs.View.{items_of_trees}
 use Rattle.vrl_value.specs.declared.value.Tag.{Tag}
+use Rattle.vrl_diag.specs.declared.diagnostic.Diagnostic.{Diagnostic}
 use Rattle.vrl_diag.specs.declared.diagnostic.Span.{Span}
 use Rattle.vrl_syntax.specs.ErrorAssignments.{behind_args, in_closure}
 use Rattle.vrl_syntax.specs.Tree.{Args, Closure, call}
@@ -25,12 +26,12 @@ use Rattle.vrl_store.specs.Places.{is_within}
 use Rattle.vrl_store.specs.WellFormed.{AreWellFormedArgs, IsWellFormedStore}
 use Rattle.vrl_judge.specs.Rules.{Argument, Judgement, at, banged, gives, if_state, with_codes}
 use Rattle.vrl_check.specs.Determined.{HasCause}
-use Rattle.vrl_check.specs.Judgement.{IsAnswered, IsAnsweredUnless, behind_arguments, bound, nulls, of_call, places_in, some_has_others, wants_literal}
-use Rattle.vrl_resolve.specs.Calls.{Body, acts, answer_outcome, argument_in, called, callee_of, first_unfit, fit_or_else, items_in, within_limit}
+use Rattle.vrl_check.specs.Judgement.{IsAnswered, IsAnsweredUnless, behind_arguments, bound, nulls, of_call, of_closure, places_in, some_has_others, wants_literal}
+use Rattle.vrl_resolve.specs.Calls.{acts, answer_outcome, argument_in, called, callee_of, first_unfit, fit_or_else, items_in, within_limit}
 use Rattle.vrl_resolve.specs.Meaning.{eval_args, eval_body, eval_form}
 use Rattle.vrl_compile.specs.Sound.{HasNoError, IsSoundEnd, IsSoundOutcome}
-use Rattle.vrl_compile.proofs.SoundArguments.{AreAllValues, AreValuesOf, argument_values, arguments_counted, arguments_empties, arguments_written, own_empties}
-use Rattle.vrl_compile.proofs.SoundBound.{IsBoundCall, call_is_bound}
+use Rattle.vrl_compile.proofs.SoundArguments.{AreAllValues, AreValuesOf, argument_values, arguments_behind, arguments_counted, arguments_empties, arguments_written, own_empties}
+use Rattle.vrl_compile.proofs.SoundBound.{IsBoundCall, call_is_bound, closure_told}
 use Rattle.vrl_compile.proofs.SoundCallees.{banged_empties, clean_call, function_called, sound_banged}
 use Rattle.vrl_compile.proofs.SoundEnds.{EndsAs, IsSoundForm, left_joins, no_error_parts, possible_state, returns_alike, right_joins, sound_behind}
 use Rattle.vrl_compile.specs.SoundLaws.{Laws}
@@ -47,7 +48,7 @@ within_is_sound j v store sound = by (is_within v) where
   by false = tt
 
 -- a failure is told where the call may fail
-may_fail : Laws → (known before fail : Option RootMap) (fails : Bool) (store : Store) → IsJoined before (if_state fails known) fail → FitsKnown store known → fails ≡ true → FitsKnown store fail
+pub may_fail : Laws → (known before fail : Option RootMap) (fails : Bool) (store : Store) → IsJoined before (if_state fails known) fail → FitsKnown store known → fails ≡ true → FitsKnown store fail
 may_fail laws known before fail fails store joined fits is = right_joins laws before (if_state fails known) fail joined store (possible_state fails known store is fits)
 
 module _ (laws : Laws) (whole : Judgement) (K : KindTree) (fails : Bool) (fail : Option RootMap) (joined : IsJoined whole.fail (if_state fails whole.ok) fail) where
@@ -60,10 +61,10 @@ module _ (laws : Laws) (whole : Judgement) (K : KindTree) (fails : Bool) (fail :
   answer_is_sound A others may arguments (failure text) store lawful cut is fits = may_fail laws whole.ok whole.fail fail fails store joined fits (is ∙ or_right others may lawful)
 
   -- what comes of the values of arguments: an error where one has a tag that its parameter doesn't allow, else what the function answers
-  called_is_sound : (setting : SettingTree) (f : Fun) (js : List Argument) (vs : List Tree) (c : Closure) (ks : List (Option (List ℕ))) (b : IsBoundCall (wants_literal (row_of f)) (row_of f).parameters ks c js)
+  called_is_sound : (setting : SettingTree) (f : Fun) (js : List Argument) (vs : List Tree) (closure_codes : List Diagnostic) (ks : List (Option (List ℕ))) (b : IsBoundCall (wants_literal (row_of f)) (row_of f).parameters ks closure_codes js)
       → IsAnswered setting.sources (row_of f) (bound b.places js) K fails → AreValuesOf (length setting.sources) js vs → (store : Store) → FitsKnown store whole.ok
       → IsSoundOutcome made (called setting (row_of f) (map (argument_in (items_of_trees vs)) b.places)) store
-  called_is_sound setting f js vs c ks b told are store fits = by (first_unfit 0 r.parameters ws) refl where
+  called_is_sound setting f js vs closure_codes ks b told are store fits = by (first_unfit 0 r.parameters ws) refl where
     r : Row
     r = row_of f
 
@@ -89,28 +90,32 @@ module _ (laws : Laws) (whole : Judgement) (K : KindTree) (fails : Bool) (fail :
 
 -- ---- a call behind its arguments
 
--- the tags that a call is run with begin with those of its arguments; those of its closure, which is never run, stand behind them
-call_tags : (c : Closure) (js : List Argument) (j whole : Judgement) (span : Span) (bang : Bool) (rest : List Tag) → j.empties ≡ own_empties js → whole.empties ≡ j.empties ++ nulls (in_closure c)
-    → own_empties js ++ (nulls (in_closure c) ++ rest) ≡ (banged span bang whole).empties ++ rest
-call_tags c js j whole span bang rest own is =
-    ap (λ ts. ts ++ (nulls (in_closure c) ++ rest)) (sym own) ∙ sym (append_assoc j.empties (nulls (in_closure c)) rest) ∙ ap (λ ts. ts ++ rest) (sym is ∙ sym (banged_empties span bang whole))
+-- the tags that a call is run with begin with those of its arguments; those of its closure stand behind them
+call_tags : (tags : List Tag) (js : List Argument) (j whole : Judgement) (span : Span) (bang : Bool) (rest : List Tag) → j.empties ≡ own_empties js → whole.empties ≡ j.empties ++ tags
+    → own_empties js ++ (tags ++ rest) ≡ (banged span bang whole).empties ++ rest
+call_tags tags js j whole span bang rest own is =
+    ap (λ ts. ts ++ (tags ++ rest)) (sym own) ∙ sym (append_assoc j.empties tags rest) ∙ ap (λ ts. ts ++ rest) (sym is ∙ sym (banged_empties span bang whole))
 
--- where what comes of each list of values, whatever the closure's body does, is an end of the call, the call ends as it was judged
-sound_call : Laws → (setting : SettingTree) (known : RootMap) (span s : Span) (name : List ℕ) (bang : Bool) (gs : Args) (c : Closure) (js : List Argument) (j whole : Judgement) → AreSoundArguments setting (gives never_kind (Some known)) gs js j
-    → HasNoError j.codes → AreWellFormedArgs (length setting.sources) gs → EndsAs j whole → whole.empties ≡ j.empties ++ nulls (in_closure c)
-    → ((body : Body) (vs : List Tree) (store : Store) → AreValuesOf (length setting.sources) js vs → FitsKnown store j.ok → IsSoundEnd whole (acts setting (callee_of name gs c) body (items_of_trees vs) store))
-    → (rest : List Tag) (store : Store) → IsWellFormedStore (length setting.sources) store → FitsKnown store (Some known)
+-- where what comes of each list of values is an end of the call, the call ends as it was judged. The closure's body is run with the tags of the closure
+pub sound_call : Laws → (setting : SettingTree) (known : RootMap) (span s : Span) (name : List ℕ) (bang : Bool) (gs : Args) (c : Closure) (js : List Argument) (j whole : Judgement) (tags rest : List Tag) → AreSoundArguments setting (gives never_kind (Some known)) gs js j
+    → HasNoError j.codes → AreWellFormedArgs (length setting.sources) gs → EndsAs j whole → whole.empties ≡ j.empties ++ tags
+    → ((vs : List Tree) (store : Store) → AreValuesOf (length setting.sources) js vs → FitsKnown store j.ok → IsWellFormedStore (length setting.sources) store → IsSoundEnd whole (acts setting (callee_of name gs c) (eval_body setting (tags ++ rest) c) (items_of_trees vs) store))
+    → (store : Store) → IsWellFormedStore (length setting.sources) store → FitsKnown store (Some known)
     → IsSoundEnd (banged span bang whole) (eval_form setting ((banged span bang whole).empties ++ rest) (call name s bang gs c) store)
-sound_call laws setting known span s name bang gs c js j whole arguments none well as_whole empties acts_sound rest store stored fits =
+sound_call laws setting known span s name bang gs c js j whole tags rest arguments none well as_whole empties acts_sound store stored fits =
     let count = length setting.sources in
-    let tags = own_empties js ++ (nulls (in_closure c) ++ rest) in
-    let body = eval_body setting (behind_args gs tags) c in
-    let values = argument_values laws setting arguments none well (nulls (in_closure c) ++ rest) [] store stored fits in
-    let acted = sound_behind (AreAllValues count [] js j) j whole (eval_args setting tags gs [] store) (λ w end. acts setting (callee_of name gs c) body (items_in w) end) as_whole values
-    (λ w end are. subst (λ x. IsSoundEnd whole (acts setting (callee_of name gs c) body (items_in x) end)) (sym are.all) (acts_sound body are.values end are.each are.ok))
+    let left = tags ++ rest in
+    let all = own_empties js ++ left in
+    let callee = callee_of name gs c in
+    let body = eval_body setting (behind_args gs all) c in
+    let values = argument_values laws setting arguments none well left [] store stored fits in
+    let acted = sound_behind (AreAllValues count [] js j) j whole (eval_args setting all gs [] store) (λ w end. acts setting callee body (items_in w) end) as_whole values
+    (λ w end are.
+    subst (λ x. IsSoundEnd whole (acts setting callee body (items_in x) end)) (sym are.all)
+    (subst (λ ts. IsSoundEnd whole (acts setting callee (eval_body setting ts c) (items_of_trees are.values) end)) (sym (arguments_behind arguments left)) (acts_sound are.values end are.each are.ok are.stored)))
     in
-    subst (λ ts. IsSoundEnd (banged span bang whole) (eval_form setting ts (call name s bang gs c) store)) (call_tags c js j whole span bang rest (arguments_empties arguments) empties)
-    (sound_banged span bang whole (on_value (eval_args setting tags gs [] store) (λ w end. acts setting (callee_of name gs c) body (items_in w) end)) acted)
+    subst (λ ts. IsSoundEnd (banged span bang whole) (eval_form setting ts (call name s bang gs c) store)) (call_tags tags js j whole span bang rest (arguments_empties arguments) empties)
+    (sound_banged span bang whole (on_value (eval_args setting all gs [] store) (λ w end. acts setting callee body (items_in w) end)) acted)
 
 -- ---- a call of a function
 
@@ -133,13 +138,14 @@ module _ (laws : Laws) (setting : SettingTree) (known : RootMap) (span s : Span)
       let whole = record behind_them { kind = K; fail = fail } in
       let clean = clean_call span bang whole none (cause ∙ none) in
       let codes = no_error_parts j.codes (of_call (wants_literal (row_of f)) (row_of f).parameters span c js (binding (row_of f).parameters (keywords_of gs))) clean.codes in
-      let b = call_is_bound (wants_literal (row_of f)) (row_of f).parameters (keywords_of gs) span c js (binding (row_of f).parameters (keywords_of gs)) refl (arguments_counted arguments) codes.1 in
+      let b = call_is_bound (wants_literal (row_of f)) (row_of f).parameters (keywords_of gs) span (of_closure span c) js (binding (row_of f).parameters (keywords_of gs)) refl (arguments_counted arguments) codes.1 in
       let answered : IsAnswered setting.sources (row_of f) (bound b.places js) K fails = as_answered setting.sources (row_of f) js K fails behind_them.poisoned (binding (row_of f).parameters (keywords_of gs)) b.places clean.sound b.found told in
-      sound_call laws setting known span s name bang gs c js j whole arguments codes.0 well.0 (record { fail = left_joins laws j.fail (if_state fails j.ok) fail joined; returns = returns_alike j whole refl refl }) refl
-      (λ body vs end are there.
-      subst (λ callee. IsSoundEnd whole (acts setting callee body (items_of_trees vs) end)) (sym (ap (callee_of name gs) b.lacks_closure ∙ function_called laws f name gs js b.places named (arguments_written arguments) b.found b.written))
-      (called_is_sound laws behind_them K fails fail joined setting f js vs c (keywords_of gs) b answered are end there))
-      rest store stored fits
+      let tags = nulls (in_closure c) in
+      sound_call laws setting known span s name bang gs c js j whole tags rest arguments codes.0 well.0 (record { fail = left_joins laws j.fail (if_state fails j.ok) fail joined; returns = returns_alike j whole refl refl }) refl
+      (λ vs end are there formed.
+      subst (λ callee. IsSoundEnd whole (acts setting callee (eval_body setting (tags ++ rest) c) (items_of_trees vs) end)) (sym (ap (callee_of name gs) (closure_told span c b.closure) ∙ function_called laws f name gs js b.places named (arguments_written arguments) b.found b.written))
+      (called_is_sound laws behind_them K fails fail joined setting f js vs (of_closure span c) (keywords_of gs) b answered are end there))
+      store stored fits
 
 pub call_is_sound : Laws → (setting : SettingTree) (known : RootMap) (span s : Span) (f : Fun) (name : List ℕ) (bang : Bool) (gs : Args) (c : Closure) (js : List Argument) (j whole : Judgement) (K : KindTree) (fails : Bool) (fail : Option RootMap)
     → (row_of f).name ≡ name → AreSoundArguments setting (gives never_kind (Some known)) gs js j → whole ≡ behind_arguments (wants_literal (row_of f)) (row_of f).parameters span gs c js j

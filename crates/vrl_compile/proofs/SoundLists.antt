@@ -1,6 +1,5 @@
 -- Expressions in order, as items of an array or a block and as arguments: each is judged and run behind those before it.
 use Rattle.std.proofs.Common.{◌≡◌, ℕ, length, List, [], ◌∷◌, ◌++◌, append_assoc, append-nil, Option, sym, ap, ◌∙◌, subst}
-use Rattle.std.specs.Prelude.{⊤}
 use Rattle.std.proofs.lemmas.List.{append_cancel_left}
 use Rattle.vrl_value.specs.Tree.{Tree, array as items}
 use Rattle.vrl_value.specs.View.{items_of_trees}
@@ -10,7 +9,7 @@ use Rattle.vrl_syntax.specs.ErrorAssignments.{behind, in_expr}
 use Rattle.vrl_syntax.specs.Tree.{Expr, Exprs, no_exprs, exprs, Args, no_args, arg}
 use Rattle.vrl_kind.specs.KindTree.{KindTree}
 use Rattle.vrl_kind.specs.Kinds.{Inhabits}
-use Rattle.vrl_state.specs.Stores.{FitsKnown, Store}
+use Rattle.vrl_state.specs.Stores.{AreOfKinds, FitsKnown, Store}
 use Rattle.vrl_builtin.specs.Rows.{SettingTree}
 use Rattle.vrl_store.specs.Outcomes.{on_value, Ended}
 use Rattle.vrl_store.specs.WellFormed.{AreWellFormed, AreWellFormedExprs, IsWellFormed, IsWellFormedExpr, IsWellFormedStore}
@@ -102,12 +101,6 @@ next_sound laws setting Q before j middle after e rest tags store next counted s
       given = eval setting (j.empties ++ mine.0) e store
 
 -- ---- values in order
-
-abbrev pub AreOfKinds : List Tree → List KindTree → Type 0
-AreOfKinds [] [] = ⊤
-AreOfKinds [] (K ∷ Ks) = ⊥
-AreOfKinds (v ∷ vs) [] = ⊥
-AreOfKinds (v ∷ vs) (K ∷ Ks) = Inhabits v K × AreOfKinds vs Ks
 
 -- the array of these values and of values of these kinds, and the store that they left
 pub record AreValues (count : ℕ) (before : List Tree) (Ks : List KindTree) (j : Judgement) (v : Tree) (after : Store) : Type 0 where

@@ -60,7 +60,7 @@ container (array ts) (place i) = inr refl
 container v s = inl refl
 
 -- a value of a kind whose tag is among some is of the kind cut down to these
-inhabits_cut : (T : TagSet) (K L : KindTree) (v : Tree) → IsCutDown T K L → Inhabits v K → allows T (tag_of v) ≡ true → Inhabits v L
+pub inhabits_cut : (T : TagSet) (K L : KindTree) (v : Tree) → IsCutDown T K L → Inhabits v K → allows T (tag_of v) ≡ true → Inhabits v L
 inhabits_cut T K L v cut of_kind allowed [] = cut.tags [] (tag_of v) ∙ and_from _ _ (of_kind []) allowed
 inhabits_cut T K L v cut of_kind allowed (s ∷ p) = by (container v s) where
   by : (part_at v s ≡ no_place) ⊎ (tag_of v ≡ step_tag s) → IfSome (tag_found (raw_at v (s ∷ p))) (λ t. IsTrue (tags_at L (s ∷ p) t))
@@ -77,7 +77,7 @@ fails_test test K v none of_kind = by (test (tag_of v)) refl where
   by false is = is
 
 -- a value of a kind within a parameter's tags has one of these
-within_tags : (T : TagSet) (K : KindTree) (v : Tree) → has_others T K ≡ false → Inhabits v K → allows T (tag_of v) ≡ true
+pub within_tags : (T : TagSet) (K : KindTree) (v : Tree) → has_others T K ≡ false → Inhabits v K → allows T (tag_of v) ≡ true
 unfolding some_tag
 within_tags T K v none of_kind = not-false (allows T (tag_of v)) (fails_test (λ t. not (allows T t)) K v none of_kind)
 

@@ -23,13 +23,13 @@ use Rattle.vrl_store.specs.WellFormed.{AreWellFormedArgs, IsWellFormedStore}
 use Rattle.vrl_diag.specs.Refusal.{is_error}
 use Rattle.vrl_judge.specs.Rules.{Argument, IsScalar, IsThen, Judgement, argument_at, banged, gives}
 use Rattle.vrl_check.specs.Determined.{HasCause}
-use Rattle.vrl_check.specs.Judgement.{IsDeletedAt, behind_arguments, bound, deleted_kind, deleted_path, of_call, wants_path}
+use Rattle.vrl_check.specs.Judgement.{IsDeletedAt, behind_arguments, bound, deleted_kind, deleted_path, of_call, of_closure, wants_path}
 use Rattle.vrl_resolve.specs.Calls.{acts, callee_of, items_in}
 use Rattle.vrl_resolve.specs.Meaning.{eval, eval_args, eval_body}
 use Rattle.vrl_compile.specs.Sound.{HasNoError, IsSoundEnd}
 use Rattle.vrl_compile.proofs.SoundValues.{of_scalars}
 use Rattle.vrl_compile.proofs.SoundArguments.{arguments_counted}
-use Rattle.vrl_compile.proofs.SoundBound.{ArePresent, AreWritten, IsBoundCall, call_is_bound}
+use Rattle.vrl_compile.proofs.SoundBound.{ArePresent, AreWritten, IsBoundCall, call_is_bound, closure_told}
 use Rattle.vrl_compile.proofs.SoundCallees.{clean_call, deletion_called, existence_called, sound_banged}
 use Rattle.vrl_compile.proofs.SoundCalls.{within_is_sound}
 use Rattle.vrl_compile.proofs.SoundEnds.{IsSoundForm, IsSoundPart, no_error_behind, no_error_parts}
@@ -81,13 +81,13 @@ record IsPathCall (setting : SettingTree) (known : RootMap) (gs : Args) (c : Clo
   ok : j.ok ≡ one.k.ok
   holds : AreWellFormedArgs (length setting.sources) gs → (store : Store) → IsWellFormedStore (length setting.sources) store → FitsKnown store (Some known) → IsSoundEnd one.k (eval setting (one.k.empties ++ []) one.e store)
 
-bound_path_call : (setting : SettingTree) (known : RootMap) (gs : Args) (c : Closure) (js : List Argument) (j : Judgement) → HasNoError j.codes → IsBoundCall wants_path path_parameters (keywords_of gs) c js → IsOnePath setting (gives never_kind (Some known)) j gs js
+bound_path_call : (setting : SettingTree) (known : RootMap) (span : Span) (gs : Args) (c : Closure) (js : List Argument) (j : Judgement) → HasNoError j.codes → IsBoundCall wants_path path_parameters (keywords_of gs) (of_closure span c) js → IsOnePath setting (gives never_kind (Some known)) j gs js
     → IsPathCall setting known gs c js j
-bound_path_call setting known gs c js j none b one = record {
+bound_path_call setting known span gs c js j none b one = record {
   one = one;
   places = b.places;
   found = sym (ap (λ hs. binding path_parameters (keywords_of hs)) one.gs_are) ∙ b.found;
-  lacks_closure = b.lacks_closure;
+  lacks_closure = closure_told span c b.closure;
   ok = one.then.behind.ok;
   holds = λ well store stored fits. one.sound (no_error_behind (gives never_kind (Some known)) one.k j one.then.behind none).1 (subst (AreWellFormedArgs (length setting.sources)) one.gs_are well).0 [] store stored fits;
 }
@@ -96,9 +96,9 @@ path_call : (setting : SettingTree) (known : RootMap) (span : Span) (gs : Args) 
     → HasNoError (behind_arguments wants_path path_parameters span gs c js j).codes → IsPathCall setting known gs c js j
 path_call setting known span gs c js j arguments none =
     let codes = no_error_parts j.codes (of_call wants_path path_parameters span c js (binding path_parameters (keywords_of gs))) none in
-    let b = call_is_bound wants_path path_parameters (keywords_of gs) span c js (binding path_parameters (keywords_of gs)) refl (arguments_counted arguments) codes.1 in
+    let b = call_is_bound wants_path path_parameters (keywords_of gs) span (of_closure span c) js (binding path_parameters (keywords_of gs)) refl (arguments_counted arguments) codes.1 in
     let the_one = one_bound b.places js b.counted b.few b.present b.written in
-    bound_path_call setting known gs c js j codes.0 b (one_path arguments the_one.0 the_one.1 the_one.2)
+    bound_path_call setting known span gs c js j codes.0 b (one_path arguments the_one.0 the_one.1 the_one.2)
 
 -- the call of such an argument, as it is run
 abbrev run_call : SettingTree → List Tag → List ℕ → Args → Closure → Store → Ended

@@ -1,10 +1,11 @@
 -- `return` and `abort`.
-use Rattle.std.proofs.Common.{◌≡◌, false, ◌||◌, List, ◌++◌, Option, Some, None, inr, length, refl, ◌∙◌}
+use Rattle.std.proofs.Common.{◌≡◌, Bool, false, ◌||◌, List, ◌++◌, Option, Some, None, inr, length, refl, ◌∙◌}
 use Rattle.std.proofs.lemmas.Bool.{or_parts}
 use Rattle.vrl_value.specs.Tag.{tag_of}
 use Rattle.vrl_value.specs.Tree.{Tree, string}
 use Rattle.vrl_value.specs.declared.value.Tag.{Tag}
 use Rattle.vrl_value.specs.declared.value.Tag.TheVariants as tag
+use Rattle.vrl_diag.specs.declared.diagnostic.Span.{Span}
 use Rattle.vrl_syntax.specs.Tree.{Expr, return_of, abort_with, no_message, message, span_of}
 use Rattle.vrl_kind.specs.Canonical.{never_kind}
 use Rattle.vrl_kind.specs.KindTree.{KindTree}
@@ -13,7 +14,7 @@ use Rattle.vrl_state.specs.States.{IsEither, IsJoined, RootMap}
 use Rattle.vrl_state.specs.Stores.{FitsKnown, Store}
 use Rattle.vrl_builtin.specs.Rows.{SettingTree}
 use Rattle.vrl_store.specs.Outcomes.{returned, ends}
-use Rattle.vrl_judge.specs.Rules.{Judgement, at, is_alive, is_fallible, is_other, nothing, settled_kind, when, with_codes}
+use Rattle.vrl_judge.specs.Rules.{Judgement, at, if_state, is_alive, is_fallible, is_other, nothing, settled_kind, when, with_codes}
 use Rattle.vrl_resolve.specs.Meaning.{aborted_with, eval}
 use Rattle.vrl_compile.specs.Sound.{IsSoundEnd}
 use Rattle.vrl_compile.proofs.SoundCounts.{IsToldOf}
@@ -28,11 +29,13 @@ alive_kind : (ok : Option RootMap) (K : KindTree) (v : Tree) (store : Store) →
 alive_kind None K v store fits of_kind = absurd fits
 alive_kind (Some known) K v store fits of_kind = of_kind
 
-pub return_is_sound : Laws → (setting : SettingTree) (known : RootMap) (e : Expr) (j : Judgement) (ret : Option RootMap) (R : KindTree) → IsJoined j.ret j.ok ret → IsEither j.returned (settled_kind false (is_alive j.ok) j.kind) R
-    → IsSoundPart setting (Some known) e j → IsSoundForm setting known (return_of e) (record j { kind = never_kind; ok = None; ret = ret; returned = R })
-return_is_sound laws setting known e j ret R joined either part none well rest store stored fits =
-    let run = as_run laws setting (Some known) e j rest well (part none well) in
-    let whole = record j { kind = never_kind; ok = None; ret = ret; returned = R } in
+-- in a closure it has an error code
+pub return_is_sound : Laws → (setting : SettingTree) (inside : Bool) (known : RootMap) (span : Span) (e : Expr) (j : Judgement) (ret : Option RootMap) (R : KindTree) → IsJoined j.ret j.ok ret → IsEither j.returned (settled_kind false (is_alive j.ok) j.kind) R
+    → IsSoundPart setting (Some known) e j → IsSoundForm setting known (return_of e) (with_codes (when inside (at 1004 span)) (record j { kind = never_kind; ok = if_state inside j.ok; ret = ret; returned = R }))
+return_is_sound laws setting inside known span e j ret R joined either part none well rest store stored fits =
+    let ds = when inside (at 1004 span) in
+    let run = as_run laws setting (Some known) e j rest well (part (no_error_parts j.codes ds none).0 well) in
+    let whole = with_codes ds (record j { kind = never_kind; ok = if_state inside j.ok; ret = ret; returned = R }) in
     let kind = settled_kind false (is_alive j.ok) j.kind in
     sound_on_value (length setting.sources) j whole (eval setting (j.empties ++ rest) e store) (λ v after. ends (returned v) after)
     (record { fail = λ end fits. fits; returns = record { ret = left_joins laws j.ret j.ok ret joined; returned = left_either laws j.returned kind R either } })

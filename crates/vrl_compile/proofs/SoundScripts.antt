@@ -21,7 +21,7 @@ use Rattle.vrl_check.specs.Judgement.{JudgesItems, no_more_items, one_more_item,
 use Rattle.vrl_resolve.specs.Meaning.{run_script}
 use Rattle.vrl_compile.specs.Sound.{ComesTo, ExpressionsAreSound, HasNoError, IsSoundOutcome, ScriptsAreSound, ends_of, setting_of}
 use Rattle.vrl_check.specs.Determined.{EmptiesAreCounted}
-use Rattle.vrl_check.specs.OpenRules.{OpenRules}
+use Rattle.vrl_check.specs.OpenRules.{GiveWhatHolds, OpenRules}
 use Rattle.vrl_compile.proofs.SoundEnds.{no_error_behind, no_error_parts, sound_settled, sound_told, IsSoundPart}
 use Rattle.vrl_compile.specs.SoundLaws.{Laws}
 use Rattle.vrl_compile.proofs.SoundLists.{items_sound, no_more_sound, one_more_sound, AreSound}
@@ -34,11 +34,11 @@ part_with_codes : (setting : SettingTree) (known : Option RootMap) (e : Expr) (j
 part_with_codes setting known e j ds sound none well = sound (no_error_parts j.codes ds none).0 well
 
 -- items are judged in order
-items_in_order : EmptiesAreCounted → ExpressionsAreSound → (moment : ℤ) (rules : OpenRules) {before after : Judgement} {es : Exprs} → JudgesItems rules before es after → (Ks : List KindTree) × AreSound (setting_of moment rules) before es Ks after
-items_in_order counted each moment rules no_more_items = ([], no_more_sound)
-items_in_order counted each moment rules (one_more_item {before = before} {j = j} {e = e} judges in_order more) =
-    let others = items_in_order counted each moment rules more in
-    (j.kind ∷ others.0, one_more_sound {j = with_codes (of_item (span_of e) j) j} (counted.expression _ _ _ _ judges) (part_with_codes (setting_of moment rules) before.ok e j (of_item (span_of e) j) (each moment rules before.ok e j judges)) in_order others.1)
+items_in_order : EmptiesAreCounted → ExpressionsAreSound → (moment : ℤ) (rules : OpenRules) → GiveWhatHolds rules → {before after : Judgement} {es : Exprs} → JudgesItems rules before es after → (Ks : List KindTree) × AreSound (setting_of moment rules) before es Ks after
+items_in_order counted each moment rules holds no_more_items = ([], no_more_sound)
+items_in_order counted each moment rules holds (one_more_item {before = before} {j = j} {e = e} judges in_order more) =
+    let others = items_in_order counted each moment rules holds more in
+    (j.kind ∷ others.0, one_more_sound {j = with_codes (of_item (span_of e) j) j} (counted.expression _ _ _ _ _ judges) (part_with_codes (setting_of moment rules) before.ok e j (of_item (span_of e) j) (each moment rules holds false before.ok e j judges)) in_order others.1)
 
 -- an item that may fail has a code
 can_not_fail : (fail : Option RootMap) (span : Span) → HasNoError (when (is_some fail) (at 100 span)) → fail ≡ None
@@ -79,10 +79,10 @@ still_dead true known is = is
 still_dead false known is = refl
 
 pub script_is_sound : Laws → ExpressionsAreSound → ScriptsAreSound
-script_is_sound laws each moment rules declared items j (a_script {N = N} {state = state} {j = k} start null_kind judges) none well event of_kind well_event =
+script_is_sound laws each moment rules holds declared items j (a_script {N = N} {state = state} {j = k} start null_kind judges) none well event of_kind well_event =
     run_outcome (settle k) ended.outcome ended.store (still_dead (not k.poisoned) k.fail (items_never_fail judges refl none))
     (sound_settled k ended (laws.causes.items _ _ _ _ judges refl ∙ none)
-    ((sound_told k ended).1 (items_sound laws setting (items_in_order laws.counted each moment rules judges).1 none well [] k.empties (sym (append-nil k.empties)) null (store_of event)
+    ((sound_told k ended).1 (items_sound laws setting (items_in_order laws.counted each moment rules holds judges).1 none well [] k.empties (sym (append-nil k.empties)) null (store_of event)
     (start_is_well_formed (length rules.sources) event well_event) (laws.starts declared state (store_of event) start of_kind) (scalar_is laws.cuts null N (λ s. refl) null_kind)))) where
       setting : SettingTree
       setting = setting_of moment rules

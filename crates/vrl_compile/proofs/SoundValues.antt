@@ -24,7 +24,7 @@ use Rattle.vrl_kind.specs.Sets.{IsAllowed}
 use Rattle.vrl_kind.specs.Tags.{Tags, only, same_tag}
 use Rattle.vrl_state.specs.Laws.{CutsHoldTheAllowed}
 use Rattle.vrl_state.specs.States.{kind_of, IsCutOf, RootMap}
-use Rattle.vrl_state.specs.Stores.{FitsKind, FitsKnown, FitsMap, Store}
+use Rattle.vrl_state.specs.Stores.{AreOfKinds, FitsKind, FitsKnown, FitsMap, Store}
 use Rattle.vrl_builtin.specs.Rows.{SettingTree}
 use Rattle.vrl_store.specs.Outcomes.{ends, value, Ended}
 use Rattle.vrl_store.specs.Places.{part_of, root_value}
@@ -35,7 +35,7 @@ use Rattle.vrl_resolve.specs.Meaning.{eval, eval_all, eval_pairs}
 use Rattle.vrl_compile.specs.Sound.{HasNoError}
 use Rattle.vrl_compile.proofs.SoundEnds.{as_weaker, ends_alike, sound_on_value, sound_told, IsSoundAs, IsSoundForm, IsSoundPart, IsValueOf}
 use Rattle.vrl_compile.specs.SoundLaws.{Laws}
-use Rattle.vrl_compile.proofs.SoundLists.{all_begin, all_clean, all_end, all_sound, next_sound, no_more_sound, one_more_sound, AreOfKinds, AreSound, AreTagsOf, AreValues}
+use Rattle.vrl_compile.proofs.SoundLists.{all_begin, all_clean, all_end, all_sound, next_sound, no_more_sound, one_more_sound, AreSound, AreTagsOf, AreValues}
 
 -- ---- literals
 

@@ -8,7 +8,7 @@ use Rattle.vrl_token.specs.declared.token.Spanned.{Spanned}
 use Rattle.vrl_value.specs.declared.memory.Memory.{Memory as WantOfMemory}
 use Rattle.vrl_check.specs.Apart.{NoCodeStandsTwice}
 use Rattle.vrl_check.specs.OpenRules.{language_rules}
-use Rattle.vrl_compile.specs.Answer.{AreOfScript, IsAnswer, IsScript, beyond, judged, malformed, of_script, unbuilt, unread, wrong}
+use Rattle.vrl_compile.specs.Answer.{AreOfScript, IsAnswer, IsScript, beyond, judged, malformed, of_script, unread, wrong}
 use Rattle.vrl_compile.specs.Once.{CodesStandOnce, DiagnosticsStandOnce, StandOnce, TellsOnce}
 use Rattle.vrl_compile.specs.declared.script.Compiled.{Compiled}
 use Rattle.vrl_compile.specs.declared.script.Compiled.TheVariants.{Accepted, Refused}
@@ -24,8 +24,7 @@ alone_once diagnostics d is = subst StandOnce (sym is) (one_alone d)
 
 of_script_once : NoCodeStandsTwice → (text : List ℕ) (tokens : List Spanned) (script : Script) → IsScript text tokens script → (declared : KindTree) (diagnostics : List Diagnostic) → AreOfScript declared tokens script diagnostics → StandOnce diagnostics
 of_script_once law text tokens script is declared diagnostics (beyond d others some first) = alone_once diagnostics d first
-of_script_once law text tokens script is declared diagnostics (unbuilt limits built first) = alone_once diagnostics (record { code = 1099; span = record { start = 0; end = 0 } }) first
-of_script_once law text tokens script is declared diagnostics (malformed limits built d others some first) = subst StandOnce (some ∙ sym first) (literals_strictly (length text) tokens (tokens_in_order text tokens is.tokenized.has))
+of_script_once law text tokens script is declared diagnostics (malformed limits d others some first) = subst StandOnce (some ∙ sym first) (literals_strictly (length text) tokens (tokens_in_order text tokens is.tokenized.has))
 of_script_once law text tokens script is declared diagnostics (judged can j judges ordered) =
     ordered_strictly j.codes diagnostics ordered (codes_once law text tokens script is (language_rules script.patterns) declared j judges)
 

@@ -1,6 +1,6 @@
 -- What `compile` answers: the diagnostics of a text under a declared kind, by the first step that gives any. The numbers of
 -- diagnostics are those of the Vector Remap Language's error reference, but for those from 1000 on, which are this compiler's.
-use Rattle.std.specs.Prelude.{◌≡◌, ℕ, ℤ, true, false, List, [], ◌∷◌, ◌++◌, length, Option, if◌then◌else◌, ⊤}
+use Rattle.std.specs.Prelude.{◌≡◌, ℕ, ℤ, true, List, [], ◌∷◌, ◌++◌, length, Option, if◌then◌else◌, ⊤}
 use Rattle.std.specs.List.{list_any}
 use Rattle.vrl_value.specs.Tree.{Tree}
 use Rattle.vrl_diag.specs.declared.diagnostic.Diagnostic.{Diagnostic}
@@ -9,7 +9,7 @@ use Rattle.vrl_syntax.specs.Tree.{Script}
 use Rattle.vrl_syntax.specs.Limits.{exprs_faults, KeepsLimits}
 use Rattle.vrl_token.specs.Reading.{IsTokenized, IsTextFault}
 use Rattle.vrl_token.specs.declared.token.Spanned.{Spanned}
-use Rattle.vrl_parse.specs.Reading.{Reads}
+use Rattle.vrl_parse.specs.Reading.{IsErrorPlace, Reads}
 use Rattle.vrl_word.specs.Words.{regex_of}
 use Rattle.vrl_kind.specs.KindTree.{KindTree}
 use Rattle.vrl_kind.specs.Kinds.{Inhabits}
@@ -27,7 +27,6 @@ use Rattle.vrl_judge.specs.Ordered.{AreOrdered}
 use Rattle.vrl_check.specs.declared.judged.Judged.{Judged}
 use Rattle.vrl_resolve.specs.Meaning.{IsUnhandled}
 use Rattle.vrl_resolve.specs.Program.{ended_over, program_of}
-use Rattle.vrl_word.specs.Built.{are_built}
 use Rattle.vrl_compile.specs.Program.{program_for}
 use Rattle.vrl_compile.specs.Sound.{ComesTo, Ends, HasNoError, ends_of}
 use Rattle.vrl_compile.specs.declared.script.Accepted.{Accepted as AcceptedScript}
@@ -41,21 +40,18 @@ pub record IsScript (text : List ℕ) (tokens : List Spanned) (script : Script) 
   pub tokenized : IsTokenized text tokens
   pub reads : Reads tokens script
 
--- the text has tokens, in which the grammar reads no script
-pub record IsUngrammatical (text : List ℕ) : Type 0 where
+-- the text has tokens, in which the grammar reads no script, and which go wrong at this place
+pub record IsUngrammatical (text : List ℕ) (span : Span) : Type 0 where
   pub tokens : List Spanned
   pub tokenized : IsTokenized text tokens
   pub unread : (script : Script) → ¬ Reads tokens script
+  pub place : IsErrorPlace (record { tokens = tokens; «end» = length text }) span
 
 -- ---- diagnostics
 
 -- 203, unrecognized token
 abbrev pub unread_at : Span → List Diagnostic
 unread_at span = record { code = 203; span = span } ∷ []
-
--- 1099, form not built yet, at the start of the text
-abbrev pub not_built : List Diagnostic
-not_built = record { code = 1099; span = record { start = 0; end = 0 } } ∷ []
 
 -- 101, malformed regex literal, where the token has a source, as a regex literal has, and that isn't well formed
 abbrev pub malformed_at : Span → List (List ℕ) → List Diagnostic
@@ -67,21 +63,17 @@ abbrev pub malformed_literals : List Spanned → List Diagnostic
 malformed_literals [] = []
 malformed_literals (t ∷ ts) = malformed_at t.span (regex_of t.token) ++ malformed_literals ts
 
--- nothing is wrong with a script before it is judged: its paths keep the limits, the functions that it calls are built, and its regex
--- literals are well formed
+-- nothing is wrong with a script before it is judged: its paths keep the limits, and its regex literals are well formed
 pub record CanBeJudged (tokens : List Spanned) (script : Script) : Type 0 where
   pub limits : KeepsLimits script.items
-  pub built : are_built tokens ≡ true
   pub well_formed : malformed_literals tokens ≡ []
 
 -- the diagnostics of a script over events of a kind
 pub data AreOfScript (declared : KindTree) (tokens : List Spanned) (script : Script) (diagnostics : List Diagnostic) : Type 0 where
   -- the first path that is written or deleted beyond the limits (1007, 1012)
   beyond : (first : Diagnostic) (others : List Diagnostic) → exprs_faults script.items ≡ first ∷ others → diagnostics ≡ first ∷ [] → AreOfScript declared tokens script diagnostics
-  -- it calls a function that is not built
-  unbuilt : KeepsLimits script.items → are_built tokens ≡ false → diagnostics ≡ not_built → AreOfScript declared tokens script diagnostics
   -- regex literals are malformed
-  malformed : KeepsLimits script.items → are_built tokens ≡ true → (first : Diagnostic) (others : List Diagnostic) → malformed_literals tokens ≡ first ∷ others → diagnostics ≡ first ∷ others → AreOfScript declared tokens script diagnostics
+  malformed : KeepsLimits script.items → (first : Diagnostic) (others : List Diagnostic) → malformed_literals tokens ≡ first ∷ others → diagnostics ≡ first ∷ others → AreOfScript declared tokens script diagnostics
   -- those of the judgement
   judged : CanBeJudged tokens script → (j : Judgement) → JudgesScript (language_rules script.patterns) declared script.items j → AreOrdered j.codes diagnostics → AreOfScript declared tokens script diagnostics
 
@@ -89,8 +81,8 @@ pub data AreOfScript (declared : KindTree) (tokens : List Spanned) (script : Scr
 pub data AreDiagnostics (declared : KindTree) (text : List ℕ) (diagnostics : List Diagnostic) : Type 0 where
   -- a spelling is at fault, or tokens are nested too deeply (1008)
   wrong : (fault : Diagnostic) → IsTextFault text fault → diagnostics ≡ fault ∷ [] → AreDiagnostics declared text diagnostics
-  -- the grammar reads no script. Of this one diagnostic the place isn't told
-  unread : (span : Span) → IsUngrammatical text → diagnostics ≡ unread_at span → AreDiagnostics declared text diagnostics
+  -- the grammar reads no script
+  unread : (span : Span) → IsUngrammatical text span → diagnostics ≡ unread_at span → AreDiagnostics declared text diagnostics
   of_script : (tokens : List Spanned) (script : Script) → IsScript text tokens script → AreOfScript declared tokens script diagnostics → AreDiagnostics declared text diagnostics
 
 -- ---- answers
@@ -109,7 +101,7 @@ pub record IsAcceptedAs (declared : KindTree) (text : List ℕ) (answer : Accept
   pub script : Script
   pub judgement : Judgement
   pub accepted : IsAccepted declared text script judgement
-  pub judged : IsJudged script.items judgement answer.judged
+  pub judged : IsJudged judgement answer.judged
   pub program : program_of answer.program ≡ program_for script judgement
   pub sources : answer.sources ≡ script.patterns
 

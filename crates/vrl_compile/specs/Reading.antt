@@ -1,11 +1,10 @@
 -- A text has one reading and one list of diagnostics.
 use Rattle.std.specs.Prelude.{◌≡◌, ℕ, List}
 use Rattle.vrl_diag.specs.declared.diagnostic.Diagnostic.{Diagnostic}
-use Rattle.vrl_diag.specs.declared.diagnostic.Span.{Span}
 use Rattle.vrl_kind.specs.KindTree.{KindTree}
 use Rattle.vrl_syntax.specs.Tree.{Script}
 use Rattle.vrl_token.specs.declared.token.Spanned.{Spanned}
-use Rattle.vrl_compile.specs.Answer.{AreDiagnostics, IsScript, IsUngrammatical, unread_at}
+use Rattle.vrl_compile.specs.Answer.{AreDiagnostics, IsScript}
 
 -- two readings of a text are the same
 pub record AreOneReading (tokens others : List Spanned) (script other : Script) : Type 0 where
@@ -16,11 +15,6 @@ pub record AreOneReading (tokens others : List Spanned) (script other : Script) 
 abbrev pub ScriptsHaveOneReading : Type 0
 ScriptsHaveOneReading = (text : List ℕ) (tokens others : List Spanned) (script other : Script) → IsScript text tokens script → IsScript text others other → AreOneReading tokens others script other
 
--- the same list, or two that tell at two places that the grammar reads no script
-pub data AreAlike (text : List ℕ) (a b : List Diagnostic) : Type 0 where
-  same : a ≡ b → AreAlike text a b
-  both_unread : IsUngrammatical text → (s t : Span) → a ≡ unread_at s → b ≡ unread_at t → AreAlike text a b
-
--- so the diagnostics of a text under a kind are one list, but for that place
+-- so the diagnostics of a text under a kind are one list
 abbrev pub DiagnosticsAreDetermined : Type 0
-DiagnosticsAreDetermined = (declared : KindTree) (text : List ℕ) (a b : List Diagnostic) → AreDiagnostics declared text a → AreDiagnostics declared text b → AreAlike text a b
+DiagnosticsAreDetermined = (declared : KindTree) (text : List ℕ) (a b : List Diagnostic) → AreDiagnostics declared text a → AreDiagnostics declared text b → a ≡ b

@@ -1,23 +1,26 @@
 -- Soundness: what the judgement says holds of the meaning. This is the Vector Remap Language's claim that a program that compiles
 -- handles each of its errors.
-use Rattle.std.specs.Prelude.{◌≡◌, ℤ, false, List, ◌++◌, Option, ⊤, length}
+use Rattle.std.specs.Prelude.{◌≡◌, ◌≢◌, ℤ, Bool, true, false, List, [], ◌∷◌, ◌++◌, All, Option, ⊤, length}
 use Rattle.std.specs.List.{list_any}
 use Rattle.vrl_value.specs.Tree.{Tree}
 use Rattle.vrl_value.specs.declared.value.Tag.{Tag}
 use Rattle.vrl_diag.specs.declared.diagnostic.Diagnostic.{Diagnostic}
-use Rattle.vrl_syntax.specs.Tree.{Expr, Exprs}
+use Rattle.vrl_diag.specs.declared.diagnostic.Span.{Span}
+use Rattle.vrl_syntax.specs.Tree.{closure, Expr, Exprs}
 use Rattle.vrl_kind.specs.KindTree.{KindTree}
 use Rattle.vrl_kind.specs.Kinds.{Inhabits}
 use Rattle.vrl_state.specs.States.{RootMap}
-use Rattle.vrl_state.specs.Stores.{FitsKnown, Store}
+use Rattle.vrl_state.specs.Stores.{AreOfKinds, FitsKnown, Store}
 use Rattle.vrl_builtin.specs.Rows.{SettingTree}
 use Rattle.vrl_store.specs.Outcomes.{Outcome, value, error, returned, Ended}
-use Rattle.vrl_store.specs.WellFormed.{IsWellFormed, IsWellFormedExpr, AreWellFormedExprs, IsWellFormedStore}
+use Rattle.vrl_store.specs.WellFormed.{AreWellFormed, IsWellFormed, IsWellFormedExpr, AreWellFormedExprs, IsWellFormedStore}
 use Rattle.vrl_diag.specs.Refusal.{is_error}
-use Rattle.vrl_judge.specs.Rules.{Judgement}
-use Rattle.vrl_check.specs.Judgement.{Judges, JudgesScript}
-use Rattle.vrl_check.specs.OpenRules.{OpenRules}
-use Rattle.vrl_resolve.specs.Meaning.{eval, run_script}
+use Rattle.vrl_judge.specs.Closures.{ClosureBody}
+use Rattle.vrl_judge.specs.Rules.{Judgement, Loop}
+use Rattle.vrl_check.specs.Judgement.{Judges, JudgesRuns, JudgesScript}
+use Rattle.vrl_check.specs.OpenRules.{GiveWhatHolds, OpenRules}
+use Rattle.vrl_resolve.specs.Calls.{Body}
+use Rattle.vrl_resolve.specs.Meaning.{eval, eval_body, run_script}
 
 -- none of the codes is an error
 abbrev pub HasNoError : List Diagnostic → Type 0
@@ -45,10 +48,28 @@ IsSoundFrom setting known e j = (rest : List Tag) (store : Store) → IsWellForm
 abbrev pub setting_of : ℤ → OpenRules → SettingTree
 setting_of moment rules = record { moment = moment; sources = rules.sources }
 
--- so it is of every expression of well-formed literals, wherever it is judged without an error code, by whatever the rules leave open
+-- so it is of every expression of well-formed literals, wherever it is judged without an error code, by whatever the rules leave open, where each state of a
+-- closure that they give holds
 abbrev pub ExpressionsAreSound : Type 0
-ExpressionsAreSound = (moment : ℤ) (rules : OpenRules) (known : Option RootMap) (e : Expr) (j : Judgement) → Judges rules known e j → HasNoError j.codes → IsWellFormedExpr (length rules.sources) e
+ExpressionsAreSound = (moment : ℤ) (rules : OpenRules) → GiveWhatHolds rules → (inside : Bool) (known : Option RootMap) (e : Expr) (j : Judgement) → Judges rules inside known e j → HasNoError j.codes → IsWellFormedExpr (length rules.sources) e
     → IsSoundFrom (setting_of moment rules) known e j
+
+-- ---- closures
+
+-- a closure's body runs over values for its names, one list of them behind the other, from the first store to the second: each of these runs ends with a value
+pub data RunsTo (body : Body) : List (List Tree) → Store → Store → Type 0 where
+  not_yet : {store : Store} → RunsTo body [] store store
+  once_more : {vs : List Tree} {vss : List (List Tree)} {v : Tree} {store between after : Store}
+      → body vs store ≡ record { outcome = value v; store = between } → RunsTo body vss between after
+      → RunsTo body (vs ∷ vss) store after
+
+-- The store before each run of a closure's body fits what is known there, however many runs there were. It is run for parts that the collection may have, with
+-- values of the kinds of its names, and with the tags of its own empty values. So it is of whatever is known that what is known where the call begins to run
+-- the body is within, and that the body keeps: whether a try gave it, or the rules allow it.
+abbrev pub ClosuresAreSound : Type 0
+ClosuresAreSound = (moment : ℤ) (rules : OpenRules) → GiveWhatHolds rules → (b : ClosureBody) (span : Span) (begin : Option RootMap) (loop : Loop) (j : Judgement) → JudgesRuns rules b begin loop j → HasNoError j.codes → AreWellFormedExprs (length rules.sources) b.items
+    → (rest : List Tag) (vss : List (List Tree)) (store after : Store) → (vss ≢ [] → b.runs ≡ true) → All (λ vs. AreOfKinds vs b.kinds) vss → All (AreWellFormed (length rules.sources)) vss → IsWellFormedStore (length rules.sources) store → FitsKnown store begin
+    → RunsTo (eval_body (setting_of moment rules) (j.empties ++ rest) (closure b.names b.items span)) vss store after → FitsKnown after loop.known
 
 -- ---- scripts
 
@@ -75,8 +96,8 @@ ComesTo ends other store = ⊤
 abbrev pub IsSoundOver : SettingTree → Judgement → Exprs → Tree → Type 0
 IsSoundOver setting j items event = let ended = run_script setting j.empties items event in ComesTo (ends_of j) ended.outcome ended.store
 
--- so it is of every script of well-formed literals that is judged without an error code, by whatever the rules leave open, over every well-formed
--- event of the declared kind
+-- so it is of every script of well-formed literals that is judged without an error code, by whatever the rules leave open, where each state of a closure that
+-- they give holds, over every well-formed event of the declared kind
 abbrev pub ScriptsAreSound : Type 0
-ScriptsAreSound = (moment : ℤ) (rules : OpenRules) (declared : KindTree) (items : Exprs) (j : Judgement) → JudgesScript rules declared items j → HasNoError j.codes → AreWellFormedExprs (length rules.sources) items
+ScriptsAreSound = (moment : ℤ) (rules : OpenRules) → GiveWhatHolds rules → (declared : KindTree) (items : Exprs) (j : Judgement) → JudgesScript rules declared items j → HasNoError j.codes → AreWellFormedExprs (length rules.sources) items
     → (event : Tree) → Inhabits event declared → IsWellFormed (length rules.sources) event → IsSoundOver (setting_of moment rules) j items event

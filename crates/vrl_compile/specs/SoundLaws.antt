@@ -1,8 +1,9 @@
 -- What soundness rests on: laws of the crates below. No public function cites them.
 use Rattle.vrl_value.specs.Laws.{MembersAreMaps}
 use Rattle.vrl_path.specs.Laws.{RemovedTreesAreRemovals, SetTreesAreSets}
+use Rattle.vrl_kind.specs.PartSets.{PartsAreAllowed}
 use Rattle.vrl_place.specs.Laws.{ReadsAreOfTheirCut}
-use Rattle.vrl_state.specs.Laws.{CutsHoldTheAllowed, EitherHoldsBoth, JoinsKeepFits, RemovalsKeepFits, StartsFit, WritesKeepFits}
+use Rattle.vrl_state.specs.Laws.{BodiesKeepFits, CutsHoldTheAllowed, EitherHoldsBoth, FlatteningKeepsFits, ForgettingKeepsFits, JoinsKeepFits, NamesKeepFits, RemovalsKeepFits, StartsFit, WithinKeepsFits, WritesKeepFits}
 use Rattle.vrl_check.specs.Determined.{EmptiesAreCounted, PoisonsHaveCauses}
 use Rattle.vrl_table.specs.Table.{FunctionsAreFound, FunctionsKeepLaw}
 use Rattle.vrl_resolve.specs.Laws.{EvaluationsStayWellFormed}
@@ -20,6 +21,13 @@ pub record Laws : Type 0 where
   pub writes : WritesKeepFits
   pub removals : RemovalsKeepFits
   pub joins : JoinsKeepFits
+  -- closures
+  pub parts : PartsAreAllowed
+  pub within : WithinKeepsFits
+  pub flattening : FlatteningKeepsFits
+  pub forgetting : ForgettingKeepsFits
+  pub names : NamesKeepFits
+  pub bodies : BodiesKeepFits
   -- functions
   pub found : FunctionsAreFound
   pub lawful : FunctionsKeepLaw

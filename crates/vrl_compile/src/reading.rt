@@ -2,7 +2,7 @@ ghost use Rattle.vrl_compile.specs.Once.{CodesStandOnce, DiagnosticsStandOnce};
 ghost use Rattle.vrl_compile.specs.Reading.{DiagnosticsAreDetermined, ScriptsHaveOneReading};
 
 use vrl_check::{judgements_are_determined, no_code_stands_twice};
-use vrl_parse::scripts_are_determined;
+use vrl_parse::{error_places_are_determined, scripts_are_determined};
 use vrl_token::tokens_are_determined;
 
 /// A text has one reading as a script. This takes no time: it is a law about the definitions.
@@ -13,13 +13,13 @@ pub fn scripts_have_one_reading()
     scripts_are_determined();
 }
 
-/// The diagnostics of a text under a kind are one list, but for the place where the grammar reads no script. This takes no time:
-/// it is a law about the definitions.
+/// The diagnostics of a text under a kind are one list. This takes no time: it is a law about the definitions.
 pub fn diagnostics_are_determined()
     ensures { DiagnosticsAreDetermined }
 {
     tokens_are_determined();
     scripts_are_determined();
+    error_places_are_determined();
     judgements_are_determined();
 }
 

@@ -6,12 +6,12 @@ ghost use Rattle.vrl_syntax.specs.Regexes.{IsNumbered};
 ghost use Rattle.vrl_syntax.specs.View.{exprs_of, script_of};
 ghost use Rattle.vrl_token.specs.OnFault.{OnFault};
 ghost use Rattle.vrl_token.specs.declared.token.Spanned.{Spanned as SpecSpanned};
-ghost use Rattle.vrl_parse.specs.Reading.{sources_of, Reads};
+ghost use Rattle.vrl_parse.specs.Reading.{sources_of};
 ghost use Rattle.vrl_check.specs.Answer.{IsJudged};
 ghost use Rattle.vrl_judge.specs.Rules.{Judgement};
 ghost use Rattle.vrl_check.specs.Judgement.{JudgesScript};
 ghost use Rattle.vrl_check.specs.OpenRules.{language_rules};
-ghost use Rattle.vrl_compile.specs.Answer.{CanBeJudged, IsAnswer, IsRefused, IsScript, IsSoundAnswer, not_built};
+ghost use Rattle.vrl_compile.specs.Answer.{CanBeJudged, IsAnswer, IsRefused, IsScript, IsSoundAnswer};
 ghost use Rattle.vrl_compile.specs.Literals.{IsRefusedFor};
 ghost use Rattle.vrl_compile.specs.Once.{TellsOnce};
 
@@ -20,7 +20,7 @@ use crate::reading::diagnostics_stand_once;
 use crate::soundness::accepted_scripts_are_sound;
 use std::alloc::Global;
 use vrl_check::{Judged, check};
-use vrl_diag::{Diagnostic, Diagnostics, Span, code};
+use vrl_diag::{Diagnostic, Diagnostics};
 use vrl_kind::Kind;
 use vrl_parse::parse;
 use vrl_pattern::Patterns;
@@ -28,7 +28,6 @@ use vrl_resolve::Program;
 use vrl_syntax::Script;
 use vrl_token::{SyntaxFault, Tokens, tokens};
 use vrl_value::{Memory, Names};
-use vrl_word::are_built;
 
 /// An accepted script, and what was found out about it.
 #[derive(Drop)]
@@ -53,10 +52,10 @@ pub enum Compiled {
 /// Reads a script of at most 65,536 bytes and judges it over events of the declared kind, which isn't absent,
 /// before any event is there.
 ///
-/// The first of these steps that finds something wrong gives all the diagnostics, and each of the first five
+/// The first of these steps that finds something wrong gives all the diagnostics, and each of the first four
 /// gives one: the first spelling at fault; tokens that are nested too deeply (1008); tokens in which the grammar
-/// reads no script (203); the first path that is written or deleted beyond the limits (1007, 1012); a call of a
-/// function that isn't built yet (1099, at the start of the text); the regex literals that are malformed (101); the judgement.
+/// reads no script (203); the first path that is written or deleted beyond the limits (1007, 1012); the regex
+/// literals that are malformed (101); the judgement.
 /// Diagnostics stand in the order of their starts, those of one start in the order of their ends, and those of
 /// one span in the order of their codes; none stands twice.
 ///
@@ -124,15 +123,11 @@ fn compile_parsed(alloc: Global, parsed: Parsed, declared: &Kind) -> Result<Comp
     requires limits { KeepsLimits (exprs_of parsed.script.items) }
     requires regexes { IsNumbered (script_of parsed.script) }
     requires sources { parsed.script.patterns ≡ sources_of parsed.tokens.tokens }
-    requires reads { Reads parsed.tokens.tokens (script_of parsed.script) }
     requires present { allows_absent declared.now ≡ false }
     ensures { (text : List ℕ) → IsScript text parsed.tokens.tokens (script_of parsed.script)
         → IfOk result (IsAnswer declared.now text) }
 {
     let Parsed { tokens, script } = parsed;
-    if !are_built(tokens.as_slice()) {
-        return Ok(Compiled::Refused(not_built(alloc)?));
-    }
     match build_literals(alloc, &tokens, &script.patterns) {
         Ok(patterns) => {
             let judged = check(alloc, &script, declared, &patterns)?;
@@ -164,7 +159,7 @@ fn decided(
     requires patterns { patterns ≡ script.patterns }
     ensures { (declared : KindTree) (text : List ℕ) (tokens : List SpecSpanned) (judgement : Judgement)
         → IsScript text tokens (script_of script) → CanBeJudged tokens (script_of script)
-        → JudgesScript (language_rules script.patterns) declared (exprs_of script.items) judgement → IsJudged (exprs_of script.items) judgement judged
+        → JudgesScript (language_rules script.patterns) declared (exprs_of script.items) judgement → IsJudged judgement judged
         → IfOk result (IsAnswer declared text) }
 {
     if judged.diagnostics.has_error() {
@@ -177,15 +172,6 @@ fn decided(
         judged,
         sources,
     }))
-}
-
-// What is wrong with a text that calls a function which isn't built.
-fn not_built(alloc: Global) -> Result<Diagnostics, Memory>
-    ensures { IfOk result (λ diagnostics. diagnostics ≡ not_built) }
-{
-    let span = Span { start: 0, end: 0 };
-    let code = code::FORM_NOT_BUILT;
-    alone(alloc, Diagnostic { code, span })
 }
 
 // One diagnostic.

@@ -1,14 +1,16 @@
 ghost use Rattle.vrl_compile.specs.Answer.{AcceptedScriptsAreSound};
-ghost use Rattle.vrl_compile.specs.Sound.{ExpressionsAreSound, ScriptsAreSound};
+ghost use Rattle.vrl_compile.specs.Sound.{ClosuresAreSound, ExpressionsAreSound, ScriptsAreSound};
 ghost use Rattle.vrl_compile.specs.SoundLaws.{Laws};
 
 use vrl_check::{empties_are_counted, poisons_have_causes};
+use vrl_kind::parts_are_allowed;
 use vrl_path::{removed_trees_are_removals, set_trees_are_sets};
 use vrl_place::reads_are_of_their_cut;
 use vrl_resolve::evaluations_stay_well_formed;
 use vrl_state::{
-    cuts_hold_the_allowed, either_holds_both, joins_keep_fits, removals_keep_fits, starts_fit,
-    writes_keep_fits,
+    bodies_keep_fits, cuts_hold_the_allowed, either_holds_both, flattening_keeps_fits,
+    forgetting_keeps_fits, joins_keep_fits, names_keep_fits, removals_keep_fits, starts_fit,
+    within_keeps_fits, writes_keep_fits,
 };
 use vrl_table::{functions_are_found, functions_keep_law};
 use vrl_value::members_are_maps;
@@ -27,6 +29,12 @@ fn lower_laws()
     writes_keep_fits();
     removals_keep_fits();
     joins_keep_fits();
+    parts_are_allowed();
+    within_keeps_fits();
+    flattening_keeps_fits();
+    forgetting_keeps_fits();
+    names_keep_fits();
+    bodies_keep_fits();
     functions_are_found();
     functions_keep_law();
     empties_are_counted();
@@ -37,6 +45,14 @@ fn lower_laws()
 /// What the judgement says of expressions holds of their meaning. This takes no time: it is a law about the definitions.
 pub fn expressions_are_sound()
     ensures { ExpressionsAreSound }
+{
+    lower_laws();
+}
+
+/// What is known before each run of a closure's body holds there, however many runs there were. This takes no time: it is a law about the
+/// definitions.
+pub fn closures_are_sound()
+    ensures { ClosuresAreSound }
 {
     lower_laws();
 }

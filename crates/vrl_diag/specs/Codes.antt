@@ -49,7 +49,6 @@ rows =
     row 1015 (codes "closure result of the wrong kind") ∷
     row 1016 (codes "string template or too many regex literals") ∷
     row 1017 (codes "metadata assigned no object") ∷
-    row 1099 (codes "form not built yet") ∷
     []
 
 -- the row of a code

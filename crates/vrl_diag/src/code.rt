@@ -73,5 +73,3 @@ pub const WRONG_CLOSURE_RESULT: u16 = 1015;
 pub const TEMPLATE_OR_TOO_MANY_REGEXES: u16 = 1016;
 /// metadata assigned no object
 pub const METADATA_ASSIGNED_NO_OBJECT: u16 = 1017;
-/// form not built yet
-pub const FORM_NOT_BUILT: u16 = 1099;

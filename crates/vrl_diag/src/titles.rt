@@ -14,7 +14,7 @@ struct Row {
 }
 
 // The codes, in ascending order.
-static ROWS: [Row; 37] = [
+static ROWS: [Row; 36] = [
     Row {
         code: code::UNHANDLED_ERROR,
         title: "unhandled error",
@@ -158,10 +158,6 @@ static ROWS: [Row; 37] = [
     Row {
         code: code::METADATA_ASSIGNED_NO_OBJECT,
         title: "metadata assigned no object",
-    },
-    Row {
-        code: code::FORM_NOT_BUILT,
-        title: "form not built yet",
     },
 ];
 

@@ -84,14 +84,14 @@ assigned_judged span target now b c told after part first second ends fallible n
 
 -- the walk's steps: the tag is put, the codes are told, both targets are written
 pub are_assigned : (span : Span) (ok err : Target) (place : ℕ) (part : Outcome) (a b c d : Checker) (ends : Ends) (t : Tag) (E K : KindTree) → t ≡ empty_tag part.kind → AreEnds a.state.scopes part.ends
-    → b.state ≡ a.state → b.diagnostics ≡ a.diagnostics → b.patterns ≡ a.patterns → b.empties.items ≡ slice_set a.empties.items place t
+    → b.state ≡ a.state → b.diagnostics ≡ a.diagnostics → b.patterns ≡ a.patterns → b.loops ≡ a.loops → b.inside ≡ a.inside → b.empties.items ≡ slice_set a.empties.items place t
     → IsCutOf (found_at (empty_value (empty_tag part.kind))) E → IsEither part.kind E K
     → ((j : Judgement) → b.state.known ≡ j.ok → HasEnds b.state.scopes part.ends j → IsReported (of_error_assignment span ok err j K) b c part.ends ends)
     → AreBothWritten ok err part.kind E c.state.known (known_on ends.fail) d.state.known → IsMoved c d
     → AreAssigned span ok err place part a d (record { kind = K; ends = record ends { fail = None } })
-are_assigned span ok err place part a b c d ends t E K tag_is are state diagnostics patterns put empty kind codes written moved =
-    let ds = of_error_assignment span ok err (seen part a [] []) K in
-    let reported : IsReported ds b c part.ends ends = codes (seen part a [] []) (ap (λ s. s.known) state) (seen_ends b.state.scopes part a [] [] (subst (λ s. AreEnds s.scopes part.ends) (sym state) are)) in
+are_assigned span ok err place part a b c d ends t E K tag_is are state diagnostics patterns loops inside put empty kind codes written moved =
+    let ds = of_error_assignment span ok err (seen part a [] [] []) K in
+    let reported : IsReported ds b c part.ends ends = codes (seen part a [] [] []) (ap (λ s. s.known) state) (seen_ends b.state.scopes part a [] [] [] (subst (λ s. AreEnds s.scopes part.ends) (sym state) are)) in
     let without : Ends → Ends = λ y. record y { fail = None } in
     let ends_are : without ends ≡ without (record part.ends { poisoned = part.ends.poisoned || list_any is_error ds }) = ap without reported.ends in
     record {
@@ -103,7 +103,9 @@ are_assigned span ok err place part a b c d ends t E K tag_is are state diagnost
       scopes = moved.scopes ∙ ap (λ s. s.scopes) (reported.state ∙ state);
       diagnostics = ap (λ v. v.items) moved.diagnostics ∙ reported.diagnostics ∙ ap (λ v. v.items ++ ds) diagnostics;
       empties = ap (λ v. v.items) (moved.empties ∙ reported.empties) ∙ put ∙ ap (slice_set a.empties.items place) tag_is;
+      loops = moved.loops ∙ reported.loops ∙ loops;
       patterns = moved.patterns ∙ reported.patterns ∙ patterns;
+      inside = moved.inside ∙ reported.inside ∙ inside;
       ends = ends_are;
     }
 
@@ -115,7 +117,7 @@ empty_present v E cut = not_absent E (value_root v E cut).present
 pub fail_behind : (span : Span) (ok err : Target) (part : Outcome) (a b c : Checker) (ends : Ends) (K : KindTree) → AreEnds a.state.scopes part.ends → b.state ≡ a.state
     → ((j : Judgement) → b.state.known ≡ j.ok → HasEnds b.state.scopes part.ends j → IsReported (of_error_assignment span ok err j K) b c part.ends ends) → IsWay c.state.scopes ends.fail
 fail_behind span ok err part a b c ends K are state codes =
-    let reported : IsReported (of_error_assignment span ok err (seen part a [] []) K) b c part.ends ends =
-    codes (seen part a [] []) (ap (λ s. s.known) state) (seen_ends b.state.scopes part a [] [] (subst (λ s. AreEnds s.scopes part.ends) (sym state) are))
+    let reported : IsReported (of_error_assignment span ok err (seen part a [] [] []) K) b c part.ends ends =
+    codes (seen part a [] [] []) (ap (λ s. s.known) state) (seen_ends b.state.scopes part a [] [] [] (subst (λ s. AreEnds s.scopes part.ends) (sym state) are))
     in
     subst (λ s. IsWay s.scopes ends.fail) (sym (reported.state ∙ state)) (subst (IsWay a.state.scopes) (sym (ap (λ y. y.fail) reported.ends)) are.fail)

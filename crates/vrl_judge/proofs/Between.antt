@@ -1,6 +1,8 @@
 -- The steps between the parts of a branching form.
-use Rattle.std.proofs.Common.{◌≡◌, Bool, true, false, ◌||◌, List, [], Option, Some, None, IfSome, is_some, if◌then◌else◌, refl, sym, ap, ◌∙◌, subst}
+use Rattle.std.proofs.Common.{◌≡◌, Bool, true, false, ◌||◌, List, [], ◌++◌, Option, Some, None, IfSome, is_some, if◌then◌else◌, refl, sym, ap, ◌∙◌, subst}
+use Rattle.std.specs.List.{list_any}
 use Rattle.vrl_value.specs.Look.{Step}
+use Rattle.vrl_diag.specs.Refusal.{is_error}
 use Rattle.vrl_diag.specs.declared.diagnostic.Diagnostic.{Diagnostic}
 use Rattle.vrl_diag.specs.declared.diagnostic.Span.{Span}
 use Rattle.vrl_kind.specs.Canonical.{never_kind}
@@ -9,7 +11,7 @@ use Rattle.vrl_kind.specs.Kinds.{tags_at, without_at}
 use Rattle.vrl_state.specs.States.{IsCutOf, IsEither, IsJoined, IsRootKind, RootMap, Scope, State}
 use Rattle.vrl_judge.specs.Returns.{return_kind, return_state, returning}
 use Rattle.vrl_judge.specs.Branching.{AreBothSides, AreWays, IsAborted, IsBlockBeside, IsConjoined, IsLastBeside, IsLeftSide, IsOrFail, IsPredicateBeside, IsReturned, StandsIn}
-use Rattle.vrl_judge.specs.Rules.{at, if_state, is_fallible, is_message_wrong, is_other, may_be_no_truth, may_be_truth, of_message, of_predicate, or_else_at, when, IsScalar}
+use Rattle.vrl_judge.specs.Rules.{at, if_state, is_alive, is_fallible, is_message_wrong, is_other, may_be_no_truth, may_be_truth, of_message, of_predicate, or_else_at, settled_kind, when, IsScalar}
 use Rattle.vrl_judge.specs.Judging.{known_on, no_ends, way, AreEnds, AreJoinedEnds, AreJoinedReturns, HaveCommonScopes, IsMoved, IsReported, IsReturnIn, IsWay}
 use Rattle.vrl_judge.specs.Seen.{seen}
 use Rattle.vrl_judge.specs.declared.branches.LeftSide.{LeftSide}
@@ -69,7 +71,14 @@ pub ends_here : (scopes scopes' : List Scope) (ends : Ends) → scopes' ≡ scop
 ends_here scopes scopes' ends same are = subst (λ s. AreEnds s ends) (sym same) are
 
 pub moved_twice : (a b c : Checker) → IsMoved a b → IsMoved b c → IsMoved a c
-moved_twice a b c first second = record { scopes = second.scopes ∙ first.scopes; diagnostics = second.diagnostics ∙ first.diagnostics; empties = second.empties ∙ first.empties; patterns = second.patterns ∙ first.patterns }
+moved_twice a b c first second = record {
+  scopes = second.scopes ∙ first.scopes;
+  diagnostics = second.diagnostics ∙ first.diagnostics;
+  empties = second.empties ∙ first.empties;
+  loops = second.loops ∙ first.loops;
+  patterns = second.patterns ∙ first.patterns;
+  inside = second.inside ∙ first.inside;
+}
 
 pub are_conjoined : (left : LeftSide) (right : Outcome) (a b c d : Checker) (refused : Option State) (both ends : Ends) (K : KindTree) (wanted holds : Bool) → b ≡ a → refused ≡ way a.state.scopes (if_state wanted a.state.known) → wanted ≡ may_be_no_truth right.kind
     → c.state.known ≡ if_state holds b.state.known → holds ≡ may_be_truth right.kind → IsMoved b c → AreBothSides left right.ends c d both
@@ -98,12 +107,12 @@ or_else_cut L R rest K less is = record {
 
 -- ---- codes of a part
 
-pub alive_fail : (scopes : List Scope) (part : Outcome) (now : Checker) (fallible : Bool) → AreEnds scopes part.ends → is_some part.ends.fail ≡ fallible → is_fallible (seen part now [] []) ≡ fallible
+pub alive_fail : (scopes : List Scope) (part : Outcome) (now : Checker) (fallible : Bool) → AreEnds scopes part.ends → is_some part.ends.fail ≡ fallible → is_fallible (seen part now [] [] []) ≡ fallible
 alive_fail scopes part now fallible are is = sym (branch_alive scopes part.ends.fail are.fail) ∙ is
 
-pub sure_predicate : (scopes : List Scope) (span : Span) (part : Outcome) (now : Checker) (other : Bool) → AreEnds scopes part.ends → is_some part.ends.fail ≡ false → other ≡ is_other tag.Bool (seen part now [] []) → when other (at 102 span) ≡ of_predicate span (seen part now [] [])
+pub sure_predicate : (scopes : List Scope) (span : Span) (part : Outcome) (now : Checker) (other : Bool) → AreEnds scopes part.ends → is_some part.ends.fail ≡ false → other ≡ is_other tag.Bool (seen part now [] [] []) → when other (at 102 span) ≡ of_predicate span (seen part now [] [] [])
 sure_predicate scopes span part now other are is same =
-    ap (λ b. when b (at 102 span)) same ∙ sym (ap (λ b. if b then at 1005 span else when (is_other tag.Bool (seen part now [] [])) (at 102 span)) (alive_fail scopes part now false are is))
+    ap (λ b. when b (at 102 span)) same ∙ sym (ap (λ b. if b then at 1005 span else when (is_other tag.Bool (seen part now [] [] [])) (at 102 span)) (alive_fail scopes part now false are is))
 
 -- ends with codes stand where those without do
 pub reported_are : (scopes : List Scope) (ds : List Diagnostic) (a b : Checker) (old new : Ends) → IsReported ds a b old new → AreEnds scopes old → AreEnds scopes new
@@ -111,7 +120,7 @@ reported_are scopes ds a b old new reported are = are_ends_of scopes old new (sy
 
 -- ---- ways
 
-pub predicate_beside : (span : Span) (part : Outcome) (ways : Ways) (a b : Checker) (predicate ends : Ends) → AreWays a.state.scopes ways → AreEnds a.state.scopes part.ends → IsReported (of_predicate span (seen part a [] [])) a b part.ends predicate
+pub predicate_beside : (span : Span) (part : Outcome) (ways : Ways) (a b : Checker) (predicate ends : Ends) → AreWays a.state.scopes ways → AreEnds a.state.scopes part.ends → IsReported (of_predicate span (seen part a [] [] [])) a b part.ends predicate
     → AreJoinedEnds ways.ends predicate ends → ((scopes : List Scope) → AreEnds scopes ways.ends → AreEnds scopes predicate → AreEnds scopes ends)
     → IsPredicateBeside span part ways a b (record ways { ends = ends })
 predicate_beside span part ways a b predicate ends here are reported joined stand = record {
@@ -120,7 +129,7 @@ predicate_beside span part ways a b predicate ends here are reported joined stan
   kind = refl;
   ok = refl;
   ends = joined;
-  are = record { ok = here.ok; ends = stand a.state.scopes here.ends (reported_are a.state.scopes (of_predicate span (seen part a [] [])) a b part.ends predicate reported are) };
+  are = record { ok = here.ok; ends = stand a.state.scopes here.ends (reported_are a.state.scopes (of_predicate span (seen part a [] [] [])) a b part.ends predicate reported are) };
 }
 
 pub block_beside : (mark : State) (block : Outcome) (ways all : Ways) (a b : Checker) (left : Option State) → AreWays a.state.scopes ways → AreEnds a.state.scopes block.ends → b ≡ record a { state = mark } → left ≡ way a.state.scopes a.state.known
@@ -147,33 +156,46 @@ last_beside ways last outcome a b here are kind ends stand known moved = record 
 
 -- ---- ends of the script
 
--- a dead state, with nothing else changed
-pub killed : (a b : Checker) (s : State) → b ≡ a → s ≡ record b.state { known = None } → IsMoved a (record b { state = s })
-killed a b s still dead = record { scopes = ap (λ t. t.scopes) dead ∙ ap (λ x. x.state.scopes) still; diagnostics = ap (λ x. x.diagnostics) still; empties = ap (λ x. x.empties) still; patterns = ap (λ x. x.patterns) still }
+-- these ends with another return, and poisoned if this holds
+abbrev returning_so : Option Returned → Bool → Ends → Ends
+returning_so ret poisons ends = record ends { ret = ret; poisoned = ends.poisoned || poisons }
 
-pub is_returned : (part : Outcome) (a b : Checker) (s : State) (here : Option Returned) (ends : Ends) (K : KindTree) → AreEnds a.state.scopes part.ends → IsRootKind part.kind → b ≡ a → s ≡ record b.state { known = None } → here ≡ returning a.state.scopes part.kind a.state.known
-    → AreJoinedReturns part.ends.ret here ends.ret → ends ≡ record part.ends { ret = ends.ret } → ((scopes : List Scope) → AreEnds scopes part.ends → IsReturnIn scopes here → AreEnds scopes ends) → K ≡ never_kind
-    → IsReturned part a (record b { state = s }) (record { kind = K; ends = ends })
-is_returned part a b s here ends K are root still dead here_is joined others stand kind = record {
-  moved = killed a b s still dead;
-  known = ap (λ t. t.known) dead;
-  kind = kind;
-  ret = subst (λ k. IsJoined (return_state part.ends.ret) k (return_state ends.ret)) (ap return_state here_is ∙ state_of_return a.state.scopes part.kind a.state.known) joined.state;
-  returned = subst (λ k. IsEither (return_kind part.ends.ret) k (return_kind ends.ret)) (ap return_kind here_is ∙ kind_of_return a.state.scopes part.kind a.state.known) joined.kind;
-  others = others;
-  are = stand a.state.scopes are (subst (IsReturnIn a.state.scopes) (sym here_is) (kept_return a.state.scopes part.kind a.state.known root));
-}
+pub is_returned : (span : Span) (part : Outcome) (a b c d : Checker) (here : Option Returned) (all ends : Ends) (K : KindTree) → AreEnds a.state.scopes part.ends → IsRootKind part.kind → b ≡ a → here ≡ returning a.state.scopes part.kind a.state.known
+    → AreJoinedReturns part.ends.ret here all.ret → all ≡ record part.ends { ret = all.ret } → ((scopes : List Scope) → AreEnds scopes part.ends → IsReturnIn scopes here → AreEnds scopes all)
+    → IsReported (when a.inside (at 1004 span)) b c all ends → d.state.known ≡ if_state a.inside c.state.known → IsMoved c d → K ≡ never_kind
+    → IsReturned span part a d (record { kind = K; ends = ends })
+is_returned span part a b c d here all ends K are root still here_is joined others stand told known moved kind =
+    let ds = when a.inside (at 1004 span) in
+    let same : ends.ret ≡ all.ret = ap (λ e. e.ret) told.ends in
+    record {
+      scopes = moved.scopes ∙ ap (λ s. s.scopes) told.state ∙ ap (λ x. x.state.scopes) still;
+      known = known ∙ ap (λ s. if_state a.inside s.known) told.state ∙ ap (λ x. if_state a.inside x.state.known) still;
+      kind = kind;
+      ret = subst (λ r. IsJoined (return_state part.ends.ret) a.state.known (return_state r)) (sym same)
+          (subst (λ k. IsJoined (return_state part.ends.ret) k (return_state all.ret)) (ap return_state here_is ∙ state_of_return a.state.scopes part.kind a.state.known) joined.state);
+      returned = subst (λ r. IsEither (return_kind part.ends.ret) (settled_kind false (is_alive a.state.known) part.kind) (return_kind r)) (sym same)
+          (subst (λ k. IsEither (return_kind part.ends.ret) k (return_kind all.ret)) (ap return_kind here_is ∙ kind_of_return a.state.scopes part.kind a.state.known) joined.kind);
+      diagnostics = ap (λ v. v.items) moved.diagnostics ∙ told.diagnostics ∙ ap (λ x. x.diagnostics.items ++ ds) still;
+      empties = moved.empties ∙ told.empties ∙ ap (λ x. x.empties) still;
+      loops = moved.loops ∙ told.loops ∙ ap (λ x. x.loops) still;
+      patterns = moved.patterns ∙ told.patterns ∙ ap (λ x. x.patterns) still;
+      inside = moved.inside ∙ told.inside ∙ ap (λ x. x.inside) still;
+      ends = told.ends ∙ ap (returning_so all.ret (list_any is_error ds)) others ∙ ap (λ r. returning_so r (list_any is_error ds) part.ends) (sym same);
+      are = reported_are a.state.scopes ds b c all ends told (stand a.state.scopes are (subst (IsReturnIn a.state.scopes) (sym here_is) (kept_return a.state.scopes part.kind a.state.known root)));
+    }
 
-pub is_aborted : (part : Outcome) (span : Span) (a b : Checker) (s : State) (ends : Ends) (K : KindTree) (wrong : Bool) → wrong ≡ is_message_wrong (seen part a [] []) → IsReported (when wrong (at 1011 span)) a b part.ends ends → s ≡ record b.state { known = None } → K ≡ never_kind
-    → IsAborted (of_message span (seen part a [] [])) part a (record b { state = s }) (record { kind = K; ends = ends })
+pub is_aborted : (part : Outcome) (span : Span) (a b : Checker) (s : State) (ends : Ends) (K : KindTree) (wrong : Bool) → wrong ≡ is_message_wrong (seen part a [] [] []) → IsReported (when wrong (at 1011 span)) a b part.ends ends → s ≡ record b.state { known = None } → K ≡ never_kind
+    → IsAborted (of_message span (seen part a [] [] [])) part a (record b { state = s }) (record { kind = K; ends = ends })
 is_aborted part span a b s ends K wrong is told dead kind =
-    let reported : IsReported (of_message span (seen part a [] [])) a b part.ends ends = subst (λ w. IsReported (when w (at 1011 span)) a b part.ends ends) is told in
+    let reported : IsReported (of_message span (seen part a [] [] [])) a b part.ends ends = subst (λ w. IsReported (when w (at 1011 span)) a b part.ends ends) is told in
     record {
       scopes = ap (λ t. t.scopes) dead ∙ ap (λ t. t.scopes) reported.state;
       known = ap (λ t. t.known) dead;
       diagnostics = reported.diagnostics;
       empties = reported.empties;
+      loops = reported.loops;
       patterns = reported.patterns;
+      inside = reported.inside;
       kind = kind;
       ends = reported.ends;
     }

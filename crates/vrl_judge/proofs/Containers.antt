@@ -1,5 +1,5 @@
 -- The tags of the arrays and objects that hold parts of these kinds.
-use Rattle.std.proofs.Common.{◌≡◌, ℕ, zero, suc, Bool, List, [], ◌∷◌, map, Option, Some, None, Ordering, Less, Equal, Greater, is_eq, nat_cmp, bytes_eq, if◌then◌else◌, refl, ap, ◌∙◌}
+use Rattle.std.proofs.Common.{◌≡◌, ℕ, zero, suc, Bool, true, false, List, [], ◌∷◌, map, Option, Some, None, Ordering, Less, Equal, Greater, is_eq, nat_cmp, bytes_eq, if◌then◌else◌, refl, sym, ap, ◌∙◌, subst}
 use Rattle.std.proofs.lemmas.Map.Text.{is_eq-slice_cmp}
 use Rattle.std.specs.Cmp.Lexicographic.{slice_cmp, nat_list_eq_equiv}
 use Rattle.std.specs.Ordering.{match_ordering}
@@ -12,24 +12,25 @@ use Rattle.vrl_kind.specs.Kinds.{fields_at, is_absence, places_at, rest_at, root
 use Rattle.vrl_kind.specs.Make.{array_kind, last_first, named_view, object_kind}
 use Rattle.vrl_kind.specs.Tags.{Tags, only, same_tag}
 use Rattle.vrl_kind.specs.View.{places_view}
+use Rattle.vrl_place.proofs.Tags.{one_tag, same_itself}
 use Rattle.vrl_state.specs.States.{IsCutOf}
 use Rattle.vrl_judge.specs.Rules.{array_at, field_of, items_at, last_or, named_at, object_at}
 use Rattle.vrl_value.specs.declared.value.Tag.TheVariants as tag
 
-pub absent_turned : (t : Tag) → same_tag tag.Absent t ≡ same_tag t tag.Absent
-absent_turned tag.Text = refl
-absent_turned tag.Int = refl
-absent_turned tag.Bool = refl
-absent_turned tag.Null = refl
-absent_turned tag.Time = refl
-absent_turned tag.Pattern = refl
-absent_turned tag.List = refl
-absent_turned tag.Object = refl
-absent_turned tag.Absent = refl
+same_test : (a b : Bool) → (a ≡ true → b ≡ true) → (b ≡ true → a ≡ true) → a ≡ b
+same_test true b to from = sym (to refl)
+same_test false true to from = from refl
+same_test false false to from = refl
+
+turn : (t u : Tag) → same_tag t u ≡ true → same_tag u t ≡ true
+turn t u same = subst (λ x. same_tag x t ≡ true) (one_tag t u same) (same_itself t)
+
+pub same_turned : (t u : Tag) → same_tag t u ≡ same_tag u t
+same_turned t u = same_test (same_tag t u) (same_tag u t) (turn t u) (turn u t)
 
 -- where nothing else can stand, a part is absent
 pub none_there : (p : List Step) (t : Tag) → rest_at nothing p t ≡ is_absence p t
-none_there [] t = absent_turned t
+none_there [] t = same_turned tag.Absent t
 none_there (s ∷ p) t = refl
 
 -- ---- arrays

@@ -1,5 +1,5 @@
 -- The judgement of a form, from what its parts were judged to be.
-use Rattle.std.proofs.Common.{◌≡◌, Bool, true, false, ◌||◌, ◌&&◌, not, ℕ, List, ◌∷◌, ◌++◌, Option, Some, None, is_some, option_map, refl, sym, ap, ap₂, ◌∙◌, subst}
+use Rattle.std.proofs.Common.{◌≡◌, Bool, true, false, ◌||◌, ◌&&◌, not, ℕ, List, ◌∷◌, ◌++◌, is_some, option_map, refl, sym, ap, ap₂, ◌∙◌, subst}
 use Rattle.vrl_diag.specs.declared.diagnostic.Diagnostic.{Diagnostic}
 use Rattle.vrl_diag.specs.declared.diagnostic.Span.{Span}
 use Rattle.vrl_kind.specs.Canonical.{any_kind}
@@ -8,22 +8,20 @@ use Rattle.vrl_kind.specs.Kinds.{root_tags}
 use Rattle.vrl_place.specs.Sets.{is_alone}
 use Rattle.vrl_kind.specs.Overlay.{overlaid_at}
 use Rattle.vrl_path.specs.declared.path.Step.{Step}
-use Rattle.vrl_state.specs.States.{kept as kept_by, knows, IsCutOf, IsLeft, IsRootKind, RootMap, Scope}
+use Rattle.vrl_state.specs.States.{kept as kept_by, knows, IsCutOf, IsLeft, IsRootKind, Scope}
 use Rattle.vrl_value.specs.declared.value.Tag.{Tag}
 use Rattle.vrl_judge.specs.Branching.{IsOrFail}
-use Rattle.vrl_judge.specs.Rules.{Judgement, IsMerged, IsMergedIf, IsReadAt, IsScalar, at, gives, if_state, is_other, without_new_names, left, no_objects, of_pairs, scalars_at, settled_kind, some_pair, table_tags, with_codes, when}
-use Rattle.vrl_judge.specs.Judging.{AreEnds, AreJoinedEnds, AreLeftEnds, ArePairedAs, HasEnds, HasGathered, HasJudged, IsBlockEndAs, IsCombinedAs, IsEquatedAs, IsMergedAs, IsMoved, IsNegatedAs, IsReadOffAs, IsReported, IsSettledAs, known_on, no_ends, settled_ends, table_rule}
+use Rattle.vrl_judge.specs.Rules.{Judgement, IsMerged, IsMergedIf, IsReadAt, IsScalar, at, gives, if_state, is_other, left, no_objects, of_pairs, scalars_at, settled_kind, some_pair, table_tags, with_codes, when}
+use Rattle.vrl_judge.specs.Judging.{branches_known, loops_known, AreEnds, AreJoinedEnds, AreLeftEnds, ArePairedAs, HasEnds, HasGathered, HasJudged, IsBlockEndAs, IsCombinedAs, IsEquatedAs, IsMergedAs, IsMoved, IsNegatedAs, IsReadOffAs, IsReported, IsSettledAs, known_on, no_ends, settled_ends, table_rule}
 use Rattle.vrl_judge.specs.declared.checker.Checker.{Checker}
 use Rattle.vrl_judge.specs.declared.ends.Ends.{Ends}
 use Rattle.vrl_judge.specs.declared.operators.Operands.{Operands}
 use Rattle.vrl_judge.specs.declared.outcome.Outcome.{Outcome}
 use Rattle.vrl_judge.specs.declared.tables.Table.{Table}
-use Rattle.vrl_judge.proofs.Parts.{are_ends_of, behind_with, ends_in, ends_of, ends_or_fail, gathered_moved, gathered_of, kept_is, left_ends, reported_ends, reported_gathered, reported_more, settled_judged}
+use Rattle.vrl_judge.proofs.Parts.{are_ends_of, behind_with, ends_in, ends_of, ends_or_fail, gathered_moved, gathered_of, kept_all, left_ends, reported_ends, reported_gathered, reported_more, settled_judged}
 use Rattle.vrl_judge.proofs.Gathering.{part_are, part_then, value_ends, value_gathered, with_kind_of}
 use Rattle.vrl_judge.proofs.RootKinds.{any_root, merged_root, read_root, scalar_root, table_root}
 use Rattle.vrl_judge.proofs.Joining.{join_of}
-use Rattle.std.specs.FinMap as map
-use Rattle.std.specs.FinSet as set
 use Rattle.vrl_value.specs.declared.value.Tag.TheVariants as tag
 
 -- ---- an expression
@@ -41,7 +39,7 @@ told_judged ds start before after old new j K told has_ends gathered root = reco
   kind = refl;
   root = root;
   ends = reported_ends start.state.scopes ds before after old new (record j { kind = K }) told (ends_of start.state.scopes old j (record j { kind = K }) has_ends refl refl refl refl);
-  gathered = reported_gathered ds start before after old new (record j { kind = K }) told (gathered_of start before j (record j { kind = K }) gathered refl refl refl);
+  gathered = reported_gathered ds start before after old new (record j { kind = K }) told (gathered_of start before j (record j { kind = K }) gathered refl refl refl refl);
 }
 
 pub unknown_judged : (span : Span) (before after : Checker) (part : Outcome) (K : KindTree) (new : Ends) → K ≡ any_kind → part.kind ≡ K → part.ends ≡ no_ends → IsReported (when true (at 701 span)) before after part.ends new
@@ -58,15 +56,10 @@ read_off path part now K at_path before j has =
 
 -- ---- blocks
 
--- what a block keeps is told alike
-pub kept_all : (scope : Scope) (known : RootMap) (there : Option RootMap) → scope.hidden ≡ map.empty → ((x : List ℕ) → set.contains scope.known x ≡ knows (Some known) x) → option_map (kept_by scope) there ≡ option_map (without_new_names known) there
-kept_all scope known None none names = refl
-kept_all scope known (Some roots) none names = ap Some (kept_is scope known roots none names)
-
 -- the end of an open block
-pub block_ended : (now after : Checker) (part outcome : Outcome) (ends : Ends) → IsLeft now.state after.state → after.diagnostics ≡ now.diagnostics → after.empties ≡ now.empties → after.patterns ≡ now.patterns
+pub block_ended : (now after : Checker) (part outcome : Outcome) (ends : Ends) → IsLeft now.state after.state → after.diagnostics ≡ now.diagnostics → after.empties ≡ now.empties → after.loops ≡ now.loops → after.patterns ≡ now.patterns → after.inside ≡ now.inside
     → ((scope : Scope) (scopes : List Scope) → AreEnds (scope ∷ scopes) part.ends → AreLeftEnds scope scopes part.ends ends) → IsSettledAs (record { kind = part.kind; ends = ends }) after outcome → IsBlockEndAs part now after outcome
-block_ended now after part outcome ends leaves same_codes same_empties same_patterns left_so settles before entered known j here enters entered_codes entered_empties entered_patterns has =
+block_ended now after part outcome ends leaves same_codes same_empties same_loops same_patterns same_inside left_so settles before entered known j here enters entered_codes entered_empties entered_loops entered_patterns entered_inside has =
     let lists : leaves.scope ∷ after.state.scopes ≡ enters.scope ∷ before.state.scopes = sym leaves.scopes ∙ has.gathered.scopes ∙ enters.scopes in
     let one : leaves.scope ≡ enters.scope = cc in
     let rest : after.state.scopes ≡ before.state.scopes = cc in
@@ -82,7 +75,9 @@ block_ended now after part outcome ends leaves same_codes same_empties same_patt
         scopes = rest;
         diagnostics = ap (λ ds. ds.items) same_codes ∙ has.gathered.diagnostics ∙ ap (λ ds. ds.items ++ j.codes) entered_codes;
         empties = ap (λ ts. ts.items) same_empties ∙ has.gathered.empties ∙ ap (λ ts. ts.items ++ j.empties) entered_empties;
+        loops = ap (λ ls. branches_known ls.items) same_loops ∙ has.gathered.loops ∙ ap (λ ls. branches_known ls.items ++ loops_known j.loops) entered_loops;
         patterns = same_patterns ∙ has.gathered.patterns ∙ entered_patterns;
+        inside = same_inside ∙ has.gathered.inside ∙ entered_inside;
       };
     })
 
@@ -156,7 +151,7 @@ combined span t stands refuses takes goes now told_at marked after parts next ne
         kind = refl;
         root = table_root t j.kind k.kind K cut_so;
         ends = ends_of scopes new (record told_all { fail = known_on new.fail }) (of_pairs rule j k told_all K (known_on new.fail)) (ends_or_fail scopes next new told_all has_told or_fail.others both) refl refl refl refl;
-        gathered = gathered_of before after (record told_all { ok = after.state.known }) (of_pairs rule j k told_all K (known_on new.fail)) all ok refl refl;
+        gathered = gathered_of before after (record told_all { ok = after.state.known }) (of_pairs rule j k told_all K (known_on new.fail)) all ok refl refl refl;
       },
     )
 

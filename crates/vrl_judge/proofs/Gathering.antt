@@ -37,7 +37,7 @@ pub value_ends : (before : Checker) (K : KindTree) → HasEnds before.state.scop
 value_ends before K = record { are = no_ends_are before.state.scopes; fail = refl; ret = refl; returned = refl; poisoned = refl }
 
 pub value_gathered : (before : Checker) (K : KindTree) → HasGathered before before (gives K before.state.known)
-value_gathered before K = gathered_none before (gives K before.state.known) refl refl refl
+value_gathered before K = gathered_none before (gives K before.state.known) refl refl refl refl
 
 -- ---- items
 
@@ -47,5 +47,5 @@ with_kind_of before after ends j K has_ends gathered root = record {
   kind = refl;
   root = root;
   ends = ends_of before.state.scopes ends j (record j { kind = K }) has_ends refl refl refl refl;
-  gathered = gathered_of before after j (record j { kind = K }) gathered refl refl refl;
+  gathered = gathered_of before after j (record j { kind = K }) gathered refl refl refl refl;
 }

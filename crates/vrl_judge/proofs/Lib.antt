@@ -1,5 +1,7 @@
 pub mod Assigning
 pub mod Between
+pub mod Bodies
+pub mod CollectionKinds
 pub mod Containers
 pub mod Deleted
 pub mod Forms

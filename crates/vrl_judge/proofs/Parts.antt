@@ -1,5 +1,6 @@
 -- Judgements of parts, in order or beside each other, and what the walk has of them.
 use Rattle.std.proofs.Common.{◌≡◌, Bool, true, false, not, ◌||◌, ℕ, List, [], ◌∷◌, ◌++◌, Option, Some, None, is_some, option_map, refl, sym, ap, ap₂, ◌∙◌, subst, append_assoc, append-nil}
+use Rattle.std.proofs.lemmas.List.{map-append}
 use Rattle.std.proofs.Math.Bool.{or-false, or_assoc}
 use Rattle.std.proofs.Math.Path.{fun_ext}
 use Rattle.std.proofs.lemmas.List.Folds.{list_any-append}
@@ -10,8 +11,8 @@ use Rattle.vrl_state.specs.States.{kept as kept_by, knows, IsEither, IsJoined, R
 use Rattle.vrl_state.proofs.Behind.{nothing_back}
 use Rattle.vrl_judge.specs.Returns.{return_kind, return_state, returning}
 use Rattle.vrl_diag.specs.Refusal.{is_error}
-use Rattle.vrl_judge.specs.Rules.{Judgement, IsBehind, IsThen, if_state, is_alive, without_new_names, left, settle, settled_kind, with_codes}
-use Rattle.vrl_judge.specs.Judging.{known_on, settled_ends, AreEnds, AreJoinedEnds, AreLeftEnds, HasEnds, HasGathered, HasJudged, IsMoved, IsReported, IsReturnIn, IsWay}
+use Rattle.vrl_judge.specs.Rules.{Judgement, Loop, IsBehind, IsThen, if_state, is_alive, without_new_names, left, settle, settled_kind, with_codes}
+use Rattle.vrl_judge.specs.Judging.{branches_known, known_on, loop_known, loops_known, settled_ends, AreEnds, AreJoinedEnds, AreLeftEnds, HasEnds, HasGathered, HasJudged, IsMoved, IsReported, IsReturnIn, IsWay}
 use Rattle.vrl_judge.specs.declared.checker.Checker.{Checker}
 use Rattle.vrl_judge.specs.declared.ends.Ends.{Ends}
 use Rattle.vrl_judge.specs.declared.ends.Returned.{Returned}
@@ -68,6 +69,7 @@ behind_with ends before part = record {
   poisoned = ends.poisoned;
   codes = before.codes ++ part.codes;
   empties = before.empties ++ part.empties;
+  loops = before.loops ++ part.loops;
 }
 
 pub ends_behind : (scopes : List Scope) (ends : Ends) (before part : Judgement) → AreEnds scopes ends → HasEnds scopes ends (behind_with ends before part)
@@ -92,6 +94,7 @@ is_behind a b c j k first second joined = record {
   poisoned = joined_poison a b c j.poisoned k.poisoned joined first.2 second.2;
   codes = refl;
   empties = refl;
+  loops = refl;
 }
 
 pub is_then : (scopes : List Scope) (a b c : Ends) (j k : Judgement) → HasEnds scopes a j → HasEnds scopes b k → AreJoinedEnds a b c → IsThen j k (behind_with c j k)
@@ -106,13 +109,27 @@ is_then scopes a b c j k first second joined = record {
 pub added : {X : Type 0} (before middle after first second : List X) → middle ≡ before ++ first → after ≡ middle ++ second → after ≡ before ++ (first ++ second)
 added before middle after first second one two = two ∙ ap (λ xs. xs ++ second) one ∙ append_assoc before first second
 
-pub gathered_of : (before after : Checker) (j k : Judgement) → HasGathered before after j → j.ok ≡ k.ok → j.codes ≡ k.codes → j.empties ≡ k.empties → HasGathered before after k
-gathered_of before after j k has ok codes empties = record {
+-- the same of closures
+pub loops_added : (before middle after : Checker) (first second : List (Option Loop))
+    → branches_known middle.loops.items ≡ branches_known before.loops.items ++ loops_known first → branches_known after.loops.items ≡ branches_known middle.loops.items ++ loops_known second
+    → branches_known after.loops.items ≡ branches_known before.loops.items ++ loops_known (first ++ second)
+loops_added before middle after first second one two =
+    added (branches_known before.loops.items) (branches_known middle.loops.items) (branches_known after.loops.items) (loops_known first) (loops_known second) one two
+    ∙ ap (λ ks. branches_known before.loops.items ++ ks) (sym (map-append loop_known first second))
+
+-- none
+pub no_loops : (now : Checker) → branches_known now.loops.items ≡ branches_known now.loops.items ++ loops_known []
+no_loops now = sym (append-nil (branches_known now.loops.items))
+
+pub gathered_of : (before after : Checker) (j k : Judgement) → HasGathered before after j → j.ok ≡ k.ok → j.codes ≡ k.codes → j.empties ≡ k.empties → j.loops ≡ k.loops → HasGathered before after k
+gathered_of before after j k has ok codes empties loops = record {
   ok = has.ok ∙ ok;
   scopes = has.scopes;
   diagnostics = has.diagnostics ∙ ap (λ ds. before.diagnostics.items ++ ds) codes;
   empties = has.empties ∙ ap (λ ts. before.empties.items ++ ts) empties;
+  loops = has.loops ∙ ap (λ ls. branches_known before.loops.items ++ loops_known ls) loops;
   patterns = has.patterns;
+  inside = has.inside;
 }
 
 -- parts in order gather what both do
@@ -122,7 +139,9 @@ gathered_behind before middle after j k whole first second behind = record {
   scopes = second.scopes ∙ first.scopes;
   diagnostics = added before.diagnostics.items middle.diagnostics.items after.diagnostics.items j.codes k.codes first.diagnostics second.diagnostics ∙ ap (λ ds. before.diagnostics.items ++ ds) (sym behind.codes);
   empties = added before.empties.items middle.empties.items after.empties.items j.empties k.empties first.empties second.empties ∙ ap (λ ts. before.empties.items ++ ts) (sym behind.empties);
+  loops = loops_added before middle after j.loops k.loops first.loops second.loops ∙ ap (λ ls. branches_known before.loops.items ++ loops_known ls) (sym behind.loops);
   patterns = second.patterns ∙ first.patterns;
+  inside = second.inside ∙ first.inside;
 }
 
 -- where only the state goes on, that is what is known
@@ -132,17 +151,21 @@ gathered_moved before middle after j has moved = record {
   scopes = moved.scopes ∙ has.scopes;
   diagnostics = ap (λ ds. ds.items) moved.diagnostics ∙ has.diagnostics;
   empties = ap (λ ts. ts.items) moved.empties ∙ has.empties;
+  loops = ap (λ ls. branches_known ls.items) moved.loops ∙ has.loops;
   patterns = moved.patterns ∙ has.patterns;
+  inside = moved.inside ∙ has.inside;
 }
 
 -- nothing is gathered where nothing is done
-pub gathered_none : (now : Checker) (j : Judgement) → now.state.known ≡ j.ok → j.codes ≡ [] → j.empties ≡ [] → HasGathered now now j
-gathered_none now j ok codes empties = record {
+pub gathered_none : (now : Checker) (j : Judgement) → now.state.known ≡ j.ok → j.codes ≡ [] → j.empties ≡ [] → j.loops ≡ [] → HasGathered now now j
+gathered_none now j ok codes empties loops = record {
   ok = ok;
   scopes = refl;
   diagnostics = sym (append-nil now.diagnostics.items) ∙ ap (λ ds. now.diagnostics.items ++ ds) (sym codes);
   empties = sym (append-nil now.empties.items) ∙ ap (λ ts. now.empties.items ++ ts) (sym empties);
+  loops = no_loops now ∙ ap (λ ls. branches_known now.loops.items ++ loops_known ls) (sym loops);
   patterns = refl;
+  inside = refl;
 }
 
 -- ---- codes
@@ -165,7 +188,9 @@ reported_gathered ds start before after old new j told has = record {
   scopes = ap (λ s. s.scopes) told.state ∙ has.scopes;
   diagnostics = added start.diagnostics.items before.diagnostics.items after.diagnostics.items j.codes ds has.diagnostics told.diagnostics;
   empties = ap (λ ts. ts.items) told.empties ∙ has.empties;
+  loops = ap (λ ls. branches_known ls.items) told.loops ∙ has.loops;
   patterns = told.patterns ∙ has.patterns;
+  inside = told.inside ∙ has.inside;
 }
 
 -- a code that doesn't stand
@@ -174,7 +199,9 @@ reported_none now ends = record {
   diagnostics = sym (append-nil now.diagnostics.items);
   state = refl;
   empties = refl;
+  loops = refl;
   patterns = refl;
+  inside = refl;
   ends = ap {A = Bool} (λ b. record ends { poisoned = b }) (sym (or-false ends.poisoned));
 }
 
@@ -187,7 +214,9 @@ reported_more ds es before middle after old next new first second = record {
   diagnostics = added before.diagnostics.items middle.diagnostics.items after.diagnostics.items ds es first.diagnostics second.diagnostics;
   state = second.state ∙ first.state;
   empties = second.empties ∙ first.empties;
+  loops = second.loops ∙ first.loops;
   patterns = second.patterns ∙ first.patterns;
+  inside = second.inside ∙ first.inside;
   ends = second.ends
       ∙ ap (with_error_of es) first.ends
       ∙ ap {A = Bool} (λ b. record old { poisoned = b }) (or_assoc old.poisoned (list_any is_error ds) (list_any is_error es) ∙ ap (λ b. old.poisoned || b) (sym (list_any-append is_error ds es)));
@@ -224,7 +253,7 @@ settled_judged before after part settled alive j has reached kind ends = record 
   kind = kind ∙ ap (λ p. settled_kind p alive part.kind) has.ends.poisoned ∙ ap₂ (λ a K. settled_kind j.poisoned a K) (reached ∙ ap is_some has.gathered.ok) has.kind;
   root = settled_root j.poisoned (is_alive j.ok) j.kind has.root;
   ends = subst (λ e. HasEnds before.state.scopes e (settle j)) (sym ends) (settled_ends_have before.state.scopes part.ends j has.ends);
-  gathered = gathered_of before after j (settle j) has.gathered refl refl refl;
+  gathered = gathered_of before after j (settle j) has.gathered refl refl refl refl;
 }
 
 -- ---- blocks
@@ -233,29 +262,37 @@ settled_judged before after part settled alive j has reached kind ends = record 
 pub kept_is : (scope : Scope) (known roots : RootMap) → scope.hidden ≡ map.empty → ((x : List ℕ) → set.contains scope.known x ≡ knows (Some known) x) → kept_by scope roots ≡ without_new_names known roots
 kept_is scope known roots none names = nothing_back scope roots none ∙ ap (λ test. record roots { variables = map.retain_keys roots.variables test }) (fun_ext names)
 
--- a block ends at all ends
-pub left_ends : (scope : Scope) (scopes : List Scope) (known : RootMap) (before after : Ends) (j : Judgement) → scope.hidden ≡ map.empty → ((x : List ℕ) → set.contains scope.known x ≡ knows (Some known) x)
-    → HasEnds (scope ∷ scopes) before j → AreLeftEnds scope scopes before after → HasEnds scopes after (left known j)
-left_ends scope scopes known before after j none names has gone =
-    let same : (known_there : Option RootMap) → option_map (kept_by scope) known_there ≡ option_map (without_new_names known) known_there = same_there in
+-- what a block keeps is told alike
+pub kept_all : (scope : Scope) (known : RootMap) (there : Option RootMap) → scope.hidden ≡ map.empty → ((x : List ℕ) → set.contains scope.known x ≡ knows (Some known) x) → option_map (kept_by scope) there ≡ option_map (without_new_names known) there
+kept_all scope known None none names = refl
+kept_all scope known (Some roots) none names = ap Some (kept_is scope known roots none names)
+
+-- what is left where a scope ends at all ends
+abbrev pub left_by : Scope → Judgement → Judgement
+left_by scope j = record j { ok = option_map (kept_by scope) j.ok; fail = option_map (kept_by scope) j.fail; ret = option_map (kept_by scope) j.ret }
+
+pub ends_left : (scope : Scope) (scopes : List Scope) (before after : Ends) (j : Judgement) → HasEnds (scope ∷ scopes) before j → AreLeftEnds scope scopes before after → HasEnds scopes after (left_by scope j)
+ends_left scope scopes before after j has gone =
     record {
       are = record {
         fail = kept_way scopes (option_map (kept_by scope) (known_on before.fail)) after.fail gone.fail;
         ret = subst (IsReturnIn scopes) (sym gone.ret) (kept_return scopes (return_kind before.ret) (option_map (kept_by scope) (return_state before.ret)) has.are.ret.kind);
       };
-      fail = ap known_on gone.fail ∙ known_way scopes (option_map (kept_by scope) (known_on before.fail)) ∙ ap (option_map (kept_by scope)) has.fail ∙ same j.fail;
-      ret = ap return_state gone.ret ∙ state_of_return scopes (return_kind before.ret) (option_map (kept_by scope) (return_state before.ret)) ∙ ap (option_map (kept_by scope)) has.ret ∙ same j.ret;
+      fail = ap known_on gone.fail ∙ known_way scopes (option_map (kept_by scope) (known_on before.fail)) ∙ ap (option_map (kept_by scope)) has.fail;
+      ret = ap return_state gone.ret ∙ state_of_return scopes (return_kind before.ret) (option_map (kept_by scope) (return_state before.ret)) ∙ ap (option_map (kept_by scope)) has.ret;
       returned = ap return_kind gone.ret ∙ left_kind before.ret has.are.ret.alive ∙ has.returned;
       poisoned = gone.poisoned ∙ has.poisoned;
     }
   where
-    same_there : (known_there : Option RootMap) → option_map (kept_by scope) known_there ≡ option_map (without_new_names known) known_there
-    same_there None = refl
-    same_there (Some roots) = ap Some (kept_is scope known roots none names)
-
     kind_left : (K : KindTree) (state : Option RootMap) → K ≡ return_kind (returning (scope ∷ scopes) K state) → return_kind (returning scopes K (option_map (kept_by scope) state)) ≡ K
     kind_left K None is = sym is
     kind_left K (Some roots) is = refl
 
     left_kind : (ret : Option Returned) → ret ≡ returning (scope ∷ scopes) (return_kind ret) (return_state ret) → return_kind (returning scopes (return_kind ret) (option_map (kept_by scope) (return_state ret))) ≡ return_kind ret
     left_kind ret is = kind_left (return_kind ret) (return_state ret) (ap return_kind is)
+
+-- a block ends at all ends
+pub left_ends : (scope : Scope) (scopes : List Scope) (known : RootMap) (before after : Ends) (j : Judgement) → scope.hidden ≡ map.empty → ((x : List ℕ) → set.contains scope.known x ≡ knows (Some known) x)
+    → HasEnds (scope ∷ scopes) before j → AreLeftEnds scope scopes before after → HasEnds scopes after (left known j)
+left_ends scope scopes known before after j none names has gone =
+    ends_of scopes after (left_by scope j) (left known j) (ends_left scope scopes before after j has gone) (kept_all scope known j.fail none names) (kept_all scope known j.ret none names) refl refl

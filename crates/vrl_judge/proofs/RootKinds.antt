@@ -105,6 +105,10 @@ pub not_true : (b : Bool) → (b ≡ true → ⊥) → b ≡ false
 not_true true h = absurd (h refl)
 not_true false h = refl
 
+-- what is read at no path of a root's kind is that kind
+pub read_whole : (K : KindTree) → IsRootKind K → IsReadAt K [] K
+read_whole K is = record { whole = K; canonical = is.canonical; tags = λ p t. (λ h. h, λ h. h); is_cut = kept_root K is }
+
 -- what is read of what is never absent is never absent
 pub read_root : (K : KindTree) (path : List steps.Step) (M : KindTree) → IsReadAt K path M → IsPresent K → IsRootKind M
 read_root K path M is present =

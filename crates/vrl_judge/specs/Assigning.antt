@@ -21,7 +21,9 @@ pub record AreAssigned (span : Span) (ok err : Target) (place : ℕ) (part : Out
   pub kind : IsEither part.kind E outcome.kind
   pub written : AreBothWritten ok err part.kind E before.state.known (known_on part.ends.fail) after.state.known
   pub scopes : after.state.scopes ≡ before.state.scopes
-  pub diagnostics : after.diagnostics.items ≡ before.diagnostics.items ++ of_error_assignment span ok err (seen part before [] []) outcome.kind
+  pub diagnostics : after.diagnostics.items ≡ before.diagnostics.items ++ of_error_assignment span ok err (seen part before [] [] []) outcome.kind
+  pub loops : after.loops ≡ before.loops
   pub patterns : after.patterns ≡ before.patterns
+  pub inside : after.inside ≡ before.inside
   pub empties : after.empties.items ≡ slice_set before.empties.items place (empty_tag part.kind)
-  pub ends : outcome.ends ≡ record part.ends { fail = None; poisoned = part.ends.poisoned || list_any is_error (of_error_assignment span ok err (seen part before [] []) outcome.kind) }
+  pub ends : outcome.ends ≡ record part.ends { fail = None; poisoned = part.ends.poisoned || list_any is_error (of_error_assignment span ok err (seen part before [] [] []) outcome.kind) }

@@ -7,7 +7,7 @@ use Rattle.vrl_kind.specs.Canonical.{never_kind}
 use Rattle.vrl_state.specs.States.{IsEither, IsJoined, RootMap, Scope, State}
 use Rattle.vrl_judge.specs.Returns.{return_kind, return_state}
 use Rattle.vrl_diag.specs.Refusal.{is_error}
-use Rattle.vrl_judge.specs.Rules.{if_state, is_alive, may_be_no_truth, may_be_truth, of_predicate, settled_kind, IsScalar}
+use Rattle.vrl_judge.specs.Rules.{at, if_state, is_alive, may_be_no_truth, may_be_truth, of_predicate, settled_kind, when, IsScalar}
 use Rattle.vrl_judge.specs.Judging.{known_on, no_ends, AreEnds, AreJoinedEnds, IsMoved, IsReported, IsWay}
 use Rattle.vrl_judge.specs.Seen.{seen}
 use Rattle.vrl_judge.specs.declared.branches.LeftSide.{LeftSide}
@@ -66,7 +66,7 @@ pub record AreWays (scopes : List Scope) (ways : Ways) : Type 0 where
 -- a predicate, with its own codes, beside the ways before it
 pub record IsPredicateBeside (span : Span) (part : Outcome) (ways : Ways) (before after : Checker) (all : Ways) : Type 0 where
   pub predicate : Ends
-  pub reported : IsReported (of_predicate span (seen part before [] [])) before after part.ends predicate
+  pub reported : IsReported (of_predicate span (seen part before [] [] [])) before after part.ends predicate
   pub kind : all.kind ≡ ways.kind
   pub ok : all.ok ≡ ways.ok
   pub ends : AreJoinedEnds ways.ends predicate all.ends
@@ -90,14 +90,19 @@ pub record IsLastBeside (ways : Ways) (last : Outcome) (before after : Checker) 
 
 -- ---- ends of the script
 
--- it returns with the part's value, and no way leads on
-pub record IsReturned (part : Outcome) (before after : Checker) (outcome : Outcome) : Type 0 where
-  pub moved : IsMoved before after
-  pub known : after.state.known ≡ None
+-- It returns with the part's value, and no way leads on. In a closure it is 1004, and goes on behind the part
+pub record IsReturned (span : Span) (part : Outcome) (before after : Checker) (outcome : Outcome) : Type 0 where
+  pub scopes : after.state.scopes ≡ before.state.scopes
+  pub known : after.state.known ≡ if_state before.inside before.state.known
   pub kind : outcome.kind ≡ never_kind
   pub ret : IsJoined (return_state part.ends.ret) before.state.known (return_state outcome.ends.ret)
   pub returned : IsEither (return_kind part.ends.ret) (settled_kind false (is_alive before.state.known) part.kind) (return_kind outcome.ends.ret)
-  pub others : outcome.ends ≡ record part.ends { ret = outcome.ends.ret }
+  pub diagnostics : after.diagnostics.items ≡ before.diagnostics.items ++ when before.inside (at 1004 span)
+  pub empties : after.empties ≡ before.empties
+  pub loops : after.loops ≡ before.loops
+  pub patterns : after.patterns ≡ before.patterns
+  pub inside : after.inside ≡ before.inside
+  pub ends : outcome.ends ≡ record part.ends { ret = outcome.ends.ret; poisoned = part.ends.poisoned || list_any is_error (when before.inside (at 1004 span)) }
   pub are : AreEnds before.state.scopes outcome.ends
 
 -- behind the part and these codes no way leads on
@@ -106,6 +111,8 @@ pub record IsAborted (ds : List Diagnostic) (part : Outcome) (before after : Che
   pub known : after.state.known ≡ None
   pub diagnostics : after.diagnostics.items ≡ before.diagnostics.items ++ ds
   pub empties : after.empties ≡ before.empties
+  pub loops : after.loops ≡ before.loops
   pub patterns : after.patterns ≡ before.patterns
+  pub inside : after.inside ≡ before.inside
   pub kind : outcome.kind ≡ never_kind
   pub ends : outcome.ends ≡ record part.ends { poisoned = part.ends.poisoned || list_any is_error ds }

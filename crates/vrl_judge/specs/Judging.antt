@@ -1,5 +1,5 @@
 -- What was judged of a part and gathered in it, told as a judgement, and what each plain form makes of such parts.
-use Rattle.std.specs.Prelude.{◌≡◌, ◌||◌, not, Bool, false, List, ◌∷◌, ◌++◌, Option, Some, None, is_some, option_map}
+use Rattle.std.specs.Prelude.{◌≡◌, ◌||◌, not, Bool, false, List, ◌∷◌, ◌++◌, map, Option, Some, None, is_some, option_map}
 use Rattle.std.specs.List.{list_any}
 use Rattle.vrl_value.specs.declared.value.Tag.{Tag}
 use Rattle.vrl_path.specs.declared.path.Step.{Step}
@@ -10,7 +10,7 @@ use Rattle.vrl_kind.specs.KindTree.{KindTree}
 use Rattle.vrl_state.specs.States.{IsCutOf, IsEither, IsEntered, IsJoined, IsRootKind, kept as kept_by, RootMap, Scope, State}
 use Rattle.vrl_judge.specs.Returns.{return_kind, return_state, returning}
 use Rattle.vrl_diag.specs.Refusal.{is_error}
-use Rattle.vrl_judge.specs.Rules.{Judgement, IsMerged, IsReadAt, IsScalar, IsThen, IsTargetWritten, at, if_state, is_other, left as left_behind, no_objects, number_tag, of_assignment, of_pairs, order_tag, scalars_at, settle, some_pair, sum_tag, table_tags, when, with_codes}
+use Rattle.vrl_judge.specs.Rules.{Judgement, Loop, IsMerged, IsReadAt, IsScalar, IsThen, IsTargetWritten, at, if_state, is_other, left as left_behind, no_objects, number_tag, of_assignment, of_pairs, order_tag, scalars_at, settle, some_pair, sum_tag, table_tags, when, with_codes}
 use Rattle.vrl_judge.specs.declared.checker.Checker.{Checker}
 use Rattle.vrl_judge.specs.declared.ends.Ends.{Ends}
 use Rattle.vrl_judge.specs.declared.ends.Returned.{Returned}
@@ -26,6 +26,10 @@ use Rattle.vrl_judge.specs.declared.tables.Table.TheVariants as table
 abbrev pub known_on : Option State → Option RootMap
 known_on None = None
 known_on (Some s) = s.known
+
+-- what is known on each of several ways
+abbrev pub branches_known : List (Option State) → List (Option RootMap)
+branches_known branches = map known_on branches
 
 -- a way on which this is known, in these scopes
 abbrev pub way : List Scope → Option RootMap → Option State
@@ -81,6 +85,14 @@ settled_ends ends = record ends { fail = if_state (not ends.poisoned) ends.fail 
 
 -- ---- what was judged
 
+-- what is known before each run of a closure; one that isn't judged is dead
+abbrev pub loop_known : Option Loop → Option RootMap
+loop_known None = None
+loop_known (Some loop) = loop.known
+
+abbrev pub loops_known : List (Option Loop) → List (Option RootMap)
+loops_known loops = map loop_known loops
+
 -- the ends but for that with a value
 pub record HasEnds (scopes : List Scope) (ends : Ends) (j : Judgement) : Type 0 where
   pub are : AreEnds scopes ends
@@ -95,7 +107,9 @@ pub record HasGathered (before after : Checker) (j : Judgement) : Type 0 where
   pub scopes : after.state.scopes ≡ before.state.scopes
   pub diagnostics : after.diagnostics.items ≡ before.diagnostics.items ++ j.codes
   pub empties : after.empties.items ≡ before.empties.items ++ j.empties
+  pub loops : branches_known after.loops.items ≡ branches_known before.loops.items ++ loops_known j.loops
   pub patterns : after.patterns ≡ before.patterns
+  pub inside : after.inside ≡ before.inside
 
 pub record HasJudged (before after : Checker) (outcome : Outcome) (j : Judgement) : Type 0 where
   pub kind : outcome.kind ≡ j.kind
@@ -116,14 +130,18 @@ pub record IsMoved (before after : Checker) : Type 0 where
   pub scopes : after.state.scopes ≡ before.state.scopes
   pub diagnostics : after.diagnostics ≡ before.diagnostics
   pub empties : after.empties ≡ before.empties
+  pub loops : after.loops ≡ before.loops
   pub patterns : after.patterns ≡ before.patterns
+  pub inside : after.inside ≡ before.inside
 
 -- codes stand behind what was told before, and poison the ends if one of them refuses the script
 pub record IsReported (ds : List Diagnostic) (before after : Checker) (old new : Ends) : Type 0 where
   pub diagnostics : after.diagnostics.items ≡ before.diagnostics.items ++ ds
   pub state : after.state ≡ before.state
   pub empties : after.empties ≡ before.empties
+  pub loops : after.loops ≡ before.loops
   pub patterns : after.patterns ≡ before.patterns
+  pub inside : after.inside ≡ before.inside
   pub ends : new ≡ record old { poisoned = old.poisoned || list_any is_error ds }
 
 -- what is settled
@@ -150,7 +168,8 @@ pub record IsInBlock (now : Checker) (part : Outcome) : Type 0 where
 -- the block ends, behind its items
 abbrev pub IsBlockEndAs : Outcome → Checker → Checker → Outcome → Type 0
 IsBlockEndAs part now after outcome = (before entered : Checker) (known : RootMap) (j : Judgement)
-    → before.state.known ≡ Some known → IsEntered before.state entered.state → entered.diagnostics ≡ before.diagnostics → entered.empties ≡ before.empties → entered.patterns ≡ before.patterns
+    → before.state.known ≡ Some known → IsEntered before.state entered.state → entered.diagnostics ≡ before.diagnostics → entered.empties ≡ before.empties → entered.loops ≡ before.loops
+    → entered.patterns ≡ before.patterns → entered.inside ≡ before.inside
     → HasJudged entered now part j → HasJudged before after outcome (settle (left_behind known j))
 
 -- two operands

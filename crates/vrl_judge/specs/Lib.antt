@@ -1,6 +1,9 @@
 pub mod Assigning
+pub mod Bodies
 pub mod Branching
 pub mod Calling
+pub mod ChangedParts
+pub mod Closures
 pub mod Judging
 pub mod Ordered
 pub mod Partners

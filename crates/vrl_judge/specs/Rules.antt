@@ -86,6 +86,13 @@ object_at ms Ks (place i ∷ p) = never
 
 -- ---- judgements
 
+-- Of a closure that is judged: what is known before each run of its body; whether what is known where the call begins to run it is within that, and
+-- whether what is known behind a run is. By the rules of the language both are.
+pub record Loop : Type 0 where
+  pub known : Option RootMap
+  pub begins : Bool
+  pub goes_on : Bool
+
 pub record Judgement : Type 0 where
   -- the kind of its value; never where it can't end with one, and any where it is poisoned
   pub kind : KindTree
@@ -100,6 +107,8 @@ pub record Judgement : Type 0 where
   pub codes : List Diagnostic
   -- the tag of the empty value of each error assignment in it, as they stand in the text, an outer one before those in it
   pub empties : List Tag
+  -- each closure in it, as they stand in the text, an outer one before those in it; none for one that isn't judged
+  pub loops : List (Option Loop)
 
 abbrev pub is_alive : Option RootMap → Bool
 is_alive known = is_some known
@@ -111,7 +120,7 @@ if_state false state = None
 
 -- nothing can happen: no value, no error, no return
 abbrev pub nothing : List Tag → Judgement
-nothing tags = record { kind = never_kind; ok = None; fail = None; ret = None; returned = never_kind; poisoned = false; codes = []; empties = tags }
+nothing tags = record { kind = never_kind; ok = None; fail = None; ret = None; returned = never_kind; poisoned = false; codes = []; empties = tags; loops = [] }
 
 -- what gives a value of this kind, and does nothing else
 abbrev pub gives : KindTree → Option RootMap → Judgement
@@ -174,6 +183,7 @@ pub record IsBehind (before part after : Judgement) : Type 0 where
   pub poisoned : after.poisoned ≡ (before.poisoned || part.poisoned)
   pub codes : after.codes ≡ before.codes ++ part.codes
   pub empties : after.empties ≡ before.empties ++ part.empties
+  pub loops : after.loops ≡ before.loops ++ part.loops
 
 -- the same, and the whole ends with an error where any of them does
 pub record IsThen (before part after : Judgement) : Type 0 where

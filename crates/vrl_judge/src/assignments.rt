@@ -12,16 +12,16 @@ use crate::checker::Checker;
 use crate::ends::Ends;
 use crate::kinds::{cut_kind_of, either, empty_tag, may_be_event, scalar};
 use crate::outcome::Outcome;
+use crate::shared_kind::SharedKind;
 use std::alloc::Global;
 use vrl_diag::{Span, code};
-use vrl_kind::Kind;
 use vrl_state::Branch;
 use vrl_syntax::{Root, Target, empty_value};
 use vrl_value::{Memory, Tag};
 
 impl Checker<'_> {
     // Writes a kind where a target says; one that takes nothing changes nothing. `Memory`: want of memory.
-    fn write(&mut self, target: &Target, kind: &Kind) -> Result<(), Memory>
+    fn write(&mut self, target: &Target, kind: &SharedKind) -> Result<(), Memory>
         requires target { target_faults target.now ≡ [] }
         requires present { allows_absent kind.now ≡ false }
         ensures written { OnOk result (IsTargetWritten target.now kind.now self.old.state.known self.new.state.known) }
@@ -29,7 +29,7 @@ impl Checker<'_> {
     {
         match target {
             Target::Nowhere => Ok(()),
-            Target::Place(_, root, path) => self.state.assign(root, path, kind),
+            Target::Place(_, root, path) => self.state.assign(root, path, kind.as_kind()),
         }
     }
 
@@ -98,7 +98,7 @@ impl Checker<'_> {
         let tag = empty_tag(&part.kind);
         self.put_empty(place, tag);
         let empty = empty_kind(self.alloc, tag)?;
-        let whole = either(self.alloc, &part.kind, &empty)?;
+        let whole = either(self.alloc, part.kind.as_kind(), empty.as_kind())?;
         self.error_codes(span, ok, err, &mut part.ends, &whole)?;
         let fail = part.ends.fail.take();
         self.write_both(ok, err, &part.kind, &empty, fail)?;
@@ -112,7 +112,9 @@ impl Checker<'_> {
         ensures empties { self.new.empties.items ≡ slice_set self.old.empties.items place tag }
         ensures state { self.new.state ≡ self.old.state }
         ensures diagnostics { self.new.diagnostics ≡ self.old.diagnostics }
+        ensures loops { self.new.loops ≡ self.old.loops }
         ensures patterns { self.new.patterns ≡ self.old.patterns }
+        ensures inside { self.new.inside ≡ self.old.inside }
     {
         self.empties[place] = tag;
     }
@@ -125,7 +127,7 @@ impl Checker<'_> {
         ok: &Target,
         err: &Target,
         ends: &mut Ends,
-        kind: &Kind,
+        kind: &SharedKind,
     ) -> Result<(), Memory>
         ensures { OnOk result ((j : Judgement) → self.old.state.known ≡ j.ok → HasEnds self.old.state.scopes ends.old j
             → IsReported (of_error_assignment span ok.now err.now j kind.now) self.old self.new ends.old ends.new) }
@@ -138,7 +140,7 @@ impl Checker<'_> {
     }
 
     // Whether the event may get a value that can't stand there, where the assignment is reached.
-    fn writes_no_event(&self, ok: &Target, err: &Target, ends: &Ends, kind: &Kind) -> bool
+    fn writes_no_event(&self, ok: &Target, err: &Target, ends: &Ends, kind: &SharedKind) -> bool
         ensures { result ≡ ((is_some self.now.state.known || is_some ends.now.fail)
             && ((not ends.now.poisoned && is_no_event_at ok.now kind.now) || is_event_itself err.now)) }
     {
@@ -152,8 +154,8 @@ impl Checker<'_> {
         &mut self,
         ok: &Target,
         err: &Target,
-        kind: &Kind,
-        empty: &Kind,
+        kind: &SharedKind,
+        empty: &SharedKind,
         fail: Option<Branch>,
     ) -> Result<(), Memory>
         requires ok { target_faults ok.now ≡ [] }
@@ -175,8 +177,8 @@ impl Checker<'_> {
         &mut self,
         ok: &Target,
         err: &Target,
-        empty: &Kind,
-        text: &Kind,
+        empty: &SharedKind,
+        text: &SharedKind,
         fail: Option<Branch>,
     ) -> Result<(), Memory>
         requires ok { target_faults ok.now ≡ [] }
@@ -201,8 +203,8 @@ impl Checker<'_> {
         &mut self,
         ok: &Target,
         err: &Target,
-        first: &Kind,
-        second: &Kind,
+        first: &SharedKind,
+        second: &SharedKind,
     ) -> Result<(), Memory>
         requires ok { target_faults ok.now ≡ [] }
         requires err { target_faults err.now ≡ [] }
@@ -217,7 +219,7 @@ impl Checker<'_> {
 }
 
 // The kind of the empty value of a tag, cut. `Memory`: want of memory.
-fn empty_kind(alloc: Global, tag: Tag) -> Result<Kind, Memory>
+fn empty_kind(alloc: Global, tag: Tag) -> Result<SharedKind, Memory>
     ensures { IfOk result (IsCutOf (found_at (empty_value_of tag))) }
 {
     let value = empty_value(alloc, tag);
@@ -247,7 +249,7 @@ fn is_event(target: &Target) -> bool
 }
 
 // Whether a target is the event itself, and the kind neither an array nor an object.
-fn is_no_event(target: &Target, kind: &Kind) -> bool
+fn is_no_event(target: &Target, kind: &SharedKind) -> bool
     ensures { result ≡ is_no_event_at target.now kind.now }
 {
     is_event(target) && !may_be_event(kind)

@@ -12,9 +12,10 @@ use crate::checker::Checker;
 use crate::ends::{Ends, add_way};
 use crate::kinds::{either, is_exactly, may_be_no_truth, may_be_truth, scalar, widen};
 use crate::outcome::Outcome;
+use crate::shared_kind::SharedKind;
 use std::alloc::Global;
 use vrl_diag::{Span, code};
-use vrl_kind::{Kind, has, without};
+use vrl_kind::{has, without};
 use vrl_state::{Branch, Mark};
 use vrl_value::{Memory, Tag};
 
@@ -31,7 +32,7 @@ pub struct LeftSide {
 #[derive(Drop)]
 pub struct Ways {
     /// The kind of what they give.
-    pub kind: Kind,
+    pub kind: SharedKind,
     /// What is known where they end with a value. `None`: none of them does.
     pub ok: Option<Branch>,
     /// Their other ends.
@@ -76,7 +77,7 @@ impl Checker<'_> {
         let refuses = may_be_no_truth(&part.kind);
         self.fail_if(&mut part.ends, refuses)?;
         let beside = self.mark_if(may_be_truth(&part.kind))?;
-        self.go_on_if(has(&part.kind, Tag::Bool));
+        self.go_on_if(has(part.kind.as_kind(), Tag::Bool));
         Ok(LeftSide { part, beside })
     }
 
@@ -177,7 +178,7 @@ impl Checker<'_> {
     // A predicate that may fail is 1005, and one that isn't exactly a boolean 102.
     fn predicate(&mut self, part: Outcome, span: Span) -> Result<Ends, Memory>
         requires { AreEnds self.old.state.scopes part.ends }
-        ensures { IfOk result (IsReported (of_predicate span (seen part self.old [] [])) self.old self.new part.ends) }
+        ensures { IfOk result (IsReported (of_predicate span (seen part self.old [] [] [])) self.old self.new part.ends) }
     {
         let mut part = part;
         if part.is_fallible() {
@@ -216,37 +217,40 @@ impl Checker<'_> {
         Ok(all)
     }
 
-    /// A return, behind its expression: no way leads on. `Memory`: want of memory.
-    pub fn returned(&mut self, part: Outcome) -> Result<Outcome, Memory>
+    /// A return, behind its expression: no way leads on. In the body of a closure it is 1004, and goes on behind the expression. `Memory`: want of
+    /// memory.
+    pub fn returned(&mut self, part: Outcome, span: Span) -> Result<Outcome, Memory>
         requires ends { AreEnds self.old.state.scopes part.ends }
         requires kind { IsRootKind part.kind }
-        ensures { IfOk result (IsReturned part self.old self.new) }
+        ensures { IfOk result (IsReturned span part self.old self.new) }
     {
+        let inside = self.inside;
         let Outcome { kind, mut ends } = part;
         let here = self.return_of(kind)?;
         ends.add_return(self.alloc, here)?;
-        self.state.kill();
-        let kind = Kind::never(self.alloc)?;
+        self.report(&mut ends, inside, code::RETURN_IN_CLOSURE, span)?;
+        self.go_on_if(inside);
+        let kind = SharedKind::never(self.alloc)?;
         Ok(Outcome { kind, ends })
     }
 
     /// An abort, behind its message: one that may fail, or isn't exactly a text, is 1011. `Memory`: want of memory.
     pub fn aborted(&mut self, part: Outcome, span: Span) -> Result<Outcome, Memory>
         requires { AreEnds self.old.state.scopes part.ends }
-        ensures { IfOk result (IsAborted (of_message span (seen part self.old [] [])) part self.old self.new) }
+        ensures { IfOk result (IsAborted (of_message span (seen part self.old [] [] [])) part self.old self.new) }
     {
         let mut part = part;
         let wrong = self.is_no_message(&part);
         self.report(&mut part.ends, wrong, code::WRONG_ABORT_MESSAGE, span)?;
         self.state.kill();
-        part.kind = Kind::never(self.alloc)?;
+        part.kind = SharedKind::never(self.alloc)?;
         Ok(part)
     }
 
     // Whether it may fail, or isn't exactly a text.
     fn is_no_message(&self, part: &Outcome) -> bool
         requires { AreEnds self.now.state.scopes part.now.ends }
-        ensures { result ≡ is_message_wrong (seen part.now self.now [] []) }
+        ensures { result ≡ is_message_wrong (seen part.now self.now [] [] []) }
     {
         part.is_fallible() || self.is_other(Tag::Text, part)
     }
@@ -258,7 +262,7 @@ impl Ways {
         ensures { IfOk result (λ ways. ways ≡ no_ways) }
     {
         Ok(Ways {
-            kind: Kind::never(alloc)?,
+            kind: SharedKind::never(alloc)?,
             ok: None,
             ends: Ends::none(),
         })
@@ -266,9 +270,9 @@ impl Ways {
 }
 
 // The kind of a value of the first, but for null, or of the second, cut. `Memory`: want of memory.
-fn or_else(alloc: Global, first: &Kind, second: &Kind) -> Result<Kind, Memory>
+fn or_else(alloc: Global, first: &SharedKind, second: &SharedKind) -> Result<SharedKind, Memory>
     ensures { IfOk result (λ kind. IsCutOf (or_else_at first.now second.now) kind) }
 {
-    let rest = without(alloc, first, Tag::Null)?;
-    either(alloc, &rest, second)
+    let rest = without(alloc, first.as_kind(), Tag::Null)?;
+    either(alloc, &rest, second.as_kind())
 }

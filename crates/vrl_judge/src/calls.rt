@@ -14,6 +14,7 @@ ghost use Rattle.vrl_value.specs.declared.value.Tag.TheVariants as tags;
 use crate::checker::Checker;
 use crate::ends::Ends;
 use crate::outcome::Outcome;
+use crate::shared_kind::SharedKind;
 use vrl_builtin::{Parameter, Tags};
 use vrl_diag::{Span, code};
 use vrl_kind::{Kind, TAGS, has, kind_is_canonical, kind_of};
@@ -25,7 +26,7 @@ use vrl_value::{Memory, Tag};
 #[derive(Drop)]
 pub struct Argument {
     /// The kind of its value.
-    pub kind: Kind,
+    pub kind: SharedKind,
     /// It may end with an error.
     pub fallible: bool,
     /// It can end with a value and has no error of its own.
@@ -100,10 +101,10 @@ fn left_tag(root: &Root) -> Tag
 }
 
 /// Whether no tag of the kind is one of these.
-pub fn is_disjoint(tags: &Tags, kind: &Kind) -> bool
+pub fn is_disjoint(tags: &Tags, kind: &SharedKind) -> bool
     ensures { result ≡ has_no_tag tags.now kind.now }
 {
-    !has_some(tags, kind)
+    !has_some(tags, kind.as_kind())
 }
 
 // Whether some tag of the kind is one of these.
@@ -115,9 +116,9 @@ fn has_some(tags: &Tags, kind: &Kind) -> bool
         .any(|tag| has(kind, *tag) && tags.contains(*tag))
 }
 
-// Whether some tag of the kind is none of these.
+/// Whether some tag of the kind is none of these.
 #[tactic(auto, unfolding(crate::specs::Rules::some_tag))]
-fn has_others(tags: &Tags, kind: &Kind) -> bool
+pub fn has_others(tags: &Tags, kind: &Kind) -> bool
     ensures { result ≡ has_tags_beside tags.now kind.now }
 {
     TAGS.iter()
@@ -131,7 +132,7 @@ pub fn part_has_others(parameter: &Parameter, place: Option<usize>, parts: &[Arg
 {
     match place {
         Some(place) => match parts.get(place) {
-            Some(part) => has_others(&parameter.allowed, &part.kind),
+            Some(part) => has_others(&parameter.allowed, part.kind.as_kind()),
             None => false,
         },
         None => false,

@@ -10,9 +10,9 @@ ghost use Rattle.vrl_state.specs.States.{IsJoined};
 use crate::ends::{Ends, Returned};
 use crate::kinds::is_exactly;
 use crate::outcome::Outcome;
+use crate::shared_kind::SharedKind;
 use std::alloc::Global;
 use vrl_diag::{Diagnostic, Span};
-use vrl_kind::Kind;
 use vrl_pattern::Patterns;
 use vrl_state::{Branch, Mark, State};
 use vrl_value::{Memory, Tag};
@@ -30,6 +30,10 @@ pub struct Checker<'a> {
     pub diagnostics: Vec<Diagnostic>,
     /// The tag of the empty value of each error assignment so far.
     pub empties: Vec<Tag>,
+    /// What is known before each run of each closure so far. `None`: it isn't judged.
+    pub loops: Vec<Option<Branch>>,
+    /// Whether the walk stands in the body of a closure.
+    pub inside: bool,
 }
 
 impl Checker<'_> {
@@ -89,9 +93,8 @@ impl Checker<'_> {
         Ok(part)
     }
 
-    // What is known here, as a branch; the state stays. `None`: no way leads here, or it isn't wanted.
-    // `Memory`: want of memory.
-    pub(crate) fn branch_if(&mut self, wanted: bool) -> Result<Option<Branch>, Memory>
+    /// What is known here, as a branch; the state stays. `None`: no way leads here, or it isn't wanted. `Memory`: want of memory.
+    pub fn branch_if(&mut self, wanted: bool) -> Result<Option<Branch>, Memory>
         ensures branch { IfOk result (λ branch. branch ≡ way self.old.state.scopes (if_state wanted self.old.state.known)) }
         ensures checker { self.new ≡ self.old }
     {
@@ -115,18 +118,21 @@ impl Checker<'_> {
     }
 
     // A return from here with a value of this kind. `None`: no way leads here. `Memory`: want of memory.
-    pub(crate) fn return_of(&mut self, kind: Kind) -> Result<Option<Returned>, Memory>
+    pub(crate) fn return_of(&mut self, kind: SharedKind) -> Result<Option<Returned>, Memory>
         ensures returned { IfOk result (λ returned. returned ≡ returning self.old.state.scopes kind self.old.state.known) }
         ensures checker { self.new ≡ self.old }
     {
         match self.branch_if(true)? {
             None => Ok(None),
-            Some(state) => Ok(Some(Returned { kind, state })),
+            Some(state) => Ok(Some(Returned {
+                kind: kind.into_kind(self.alloc)?,
+                state,
+            })),
         }
     }
 
-    // Goes back to a state, and gives the one that was left. `None`: no way led there.
-    pub(crate) fn back(&mut self, mark: Mark) -> Option<Branch>
+    /// Goes back to a state, and gives the one that was left. `None`: no way led there.
+    pub fn back(&mut self, mark: Mark) -> Option<Branch>
         ensures branch { result ≡ way self.old.state.scopes self.old.state.known }
         ensures checker { self.new ≡ record self.old { state = mark } }
     {
@@ -135,8 +141,8 @@ impl Checker<'_> {
         if alive { Some(branch) } else { None }
     }
 
-    // No way leads on, unless this holds.
-    pub(crate) fn go_on_if(&mut self, holds: bool)
+    /// No way leads on, unless this holds.
+    pub fn go_on_if(&mut self, holds: bool)
         ensures known { self.new.state.known ≡ if_state holds self.old.state.known }
         ensures others { IsMoved self.old self.new }
     {
@@ -145,8 +151,8 @@ impl Checker<'_> {
         }
     }
 
-    // What is known here or on another way. `Memory`: want of memory.
-    pub(crate) fn join(&mut self, branch: Option<Branch>) -> Result<(), Memory>
+    /// What is known here or on another way. `Memory`: want of memory.
+    pub fn join(&mut self, branch: Option<Branch>) -> Result<(), Memory>
         requires { IsWay self.old.state.scopes branch }
         ensures known { OnOk result (IsJoined self.old.state.known (known_on branch) self.new.state.known) }
         ensures others { IsMoved self.old self.new }

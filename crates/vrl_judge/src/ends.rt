@@ -2,8 +2,9 @@ ghost use Rattle.std.specs.Prelude.{is_some, not, ◌||◌, ◌∷◌, ◌≡◌
 ghost use Rattle.vrl_judge.specs.Judging.{known_on, no_ends, settled_ends, AreEnds, AreJoinedEnds, AreJoinedReturns, AreLeftEnds, HaveCommonScopes, IsLeftReturn, IsLeftWay, IsReturnIn, IsWay};
 ghost use Rattle.vrl_state.specs.States.{IsEither, IsJoined, Scope};
 
-use crate::kinds::widen;
+use crate::kinds::either;
 use crate::outcome::Outcome;
+use crate::shared_kind::SharedKind;
 use std::alloc::Global;
 use vrl_kind::Kind;
 use vrl_state::Branch;
@@ -61,7 +62,7 @@ impl Ends {
     }
 
     /// Adds the ends of a part beside or behind these, and gives the kind of its value. `Memory`: want of memory.
-    pub fn absorb(&mut self, alloc: Global, part: Outcome) -> Result<Kind, Memory>
+    pub fn absorb(&mut self, alloc: Global, part: Outcome) -> Result<SharedKind, Memory>
         requires { HaveCommonScopes self.old part.ends }
         ensures kind { IfOk result (λ kind. kind ≡ part.kind) }
         ensures joined { OnOk result (AreJoinedEnds self.old part.ends self.new) }
@@ -71,8 +72,19 @@ impl Ends {
         Ok(part.kind)
     }
 
-    // Adds one more way to end with an error. `Memory`: want of memory.
-    pub(crate) fn add_fail(&mut self, point: Option<Branch>) -> Result<(), Memory>
+    /// The same of a part that a container is made of, whose kind becomes one of its parts. `Memory`: want of memory.
+    pub fn absorb_inner(&mut self, alloc: Global, part: Outcome) -> Result<Kind, Memory>
+        requires { HaveCommonScopes self.old part.ends }
+        ensures kind { IfOk result (λ kind. kind ≡ part.kind) }
+        ensures joined { OnOk result (AreJoinedEnds self.old part.ends self.new) }
+        ensures scopes { OnOk result ((scopes : List Scope) → AreEnds scopes self.old → AreEnds scopes part.ends → AreEnds scopes self.new) }
+    {
+        self.add(alloc, part.ends)?;
+        part.kind.into_kind(alloc)
+    }
+
+    /// Adds one more way to end with an error. `Memory`: want of memory.
+    pub fn add_fail(&mut self, point: Option<Branch>) -> Result<(), Memory>
         requires { HaveCommonScopes self.old (record no_ends { fail = point }) }
         ensures joined { OnOk result (IsJoined (known_on self.old.fail) (known_on point) (known_on self.new.fail)) }
         ensures others { OnOk result (self.new ≡ record self.old { fail = self.new.fail }) }
@@ -178,7 +190,7 @@ impl Returned {
         ensures known { OnOk result (IsJoined self.old.state.known other.now.state.known self.new.state.known) }
         ensures scopes { self.new.state.scopes ≡ self.old.state.scopes }
     {
-        widen(&mut self.kind, alloc, &other.kind)?;
+        self.kind = either(alloc, &self.kind, &other.kind)?.into_kind(alloc)?;
         self.state.join(&other.state)?;
         Ok(())
     }

@@ -4,20 +4,21 @@ ghost use Rattle.vrl_judge.specs.Rules.{IsMerged};
 
 use crate::checker::Checker;
 use crate::ends::{Ends, either_of};
-use crate::kinds::{is_exactly, scalar};
+use crate::kinds::{cut, is_exactly, scalar};
 use crate::outcome::Outcome;
+use crate::shared_kind::SharedKind;
 use crate::tables::Table;
 use vrl_diag::{Span, code};
-use vrl_kind::{Kind, cut, kind_is_canonical, overlaid};
+use vrl_kind::{kind_is_canonical, overlaid};
 use vrl_value::{Memory, Tag};
 
 /// Two operands that were judged in order.
 #[derive(Drop)]
 pub struct Operands {
     /// The kind of the left one.
-    pub left: Kind,
+    pub left: SharedKind,
     /// The kind of the right one.
-    pub right: Kind,
+    pub right: SharedKind,
     /// The left one is known not to be exactly an object.
     pub left_no_object: bool,
     /// The right one is known not to be exactly an object.
@@ -86,11 +87,12 @@ impl Checker<'_> {
     {
         let mut parts = parts;
         self.report(&mut parts.ends, chained, code::CHAINED_COMPARISON, span)?;
-        let refuses = table.may_refuse(&parts.left, &parts.right);
+        let (left, right) = (parts.left.as_kind(), parts.right.as_kind());
+        let refuses = table.may_refuse(left, right);
         self.fail_if(&mut parts.ends, refuses)?;
-        let takes = table.may_take(&parts.left, &parts.right);
+        let takes = table.may_take(left, right);
         self.go_on_if(either_of(parts.ends.poisoned, takes));
-        let kind = table.kind(self.alloc, &parts.left, &parts.right)?;
+        let kind = table.kind(self.alloc, left, right)?;
         let ends = parts.ends;
         Ok(Outcome { kind, ends })
     }
@@ -123,17 +125,17 @@ impl Checker<'_> {
     }
 
     // The kind of a merge; any where a side isn't exactly an object, which is poisoned or gives no value.
-    fn merged_kind(&self, left: &Kind, right: &Kind) -> Result<Kind, Memory>
+    fn merged_kind(&self, left: &SharedKind, right: &SharedKind) -> Result<SharedKind, Memory>
         ensures { IfOk result (λ kind. IsMerged left.now right.now kind) }
     {
         if !is_exactly(left, Tag::Object) {
-            return Kind::any(self.alloc);
+            return SharedKind::any(self.alloc);
         }
         if !is_exactly(right, Tag::Object) {
-            return Kind::any(self.alloc);
+            return SharedKind::any(self.alloc);
         }
-        let whole = overlaid(self.alloc, left, right)?;
+        let whole = overlaid(self.alloc, left.as_kind(), right.as_kind())?;
         kind_is_canonical(&whole);
-        cut(self.alloc, &whole)
+        cut(self.alloc, whole)
     }
 }

@@ -4,22 +4,22 @@ ghost use Rattle.vrl_judge.specs.Rules.{settled_kind as kind_settled};
 ghost use Rattle.vrl_kind.specs.Canonical.{never_kind};
 
 use crate::ends::Ends;
+use crate::shared_kind::SharedKind;
 use std::alloc::Global;
-use vrl_kind::Kind;
 use vrl_value::Memory;
 
 /// What an expression was judged to be.
 #[derive(Drop)]
 pub struct Outcome {
     /// The kind of its value; never where it can't end with one, and any where it is poisoned.
-    pub kind: Kind,
+    pub kind: SharedKind,
     /// Its other ends.
     pub ends: Ends,
 }
 
 impl Outcome {
     /// A value of this kind, and nothing else.
-    pub fn value(kind: Kind) -> Outcome
+    pub fn value(kind: SharedKind) -> Outcome
         ensures kind { result.kind ≡ kind }
         ensures ends { result.ends ≡ no_ends }
     {
@@ -32,7 +32,7 @@ impl Outcome {
         ensures kind { IfOk result (λ outcome. outcome.kind ≡ never_kind) }
         ensures ends { IfOk result (λ outcome. outcome.ends ≡ no_ends) }
     {
-        Ok(Outcome::value(Kind::never(alloc)?))
+        Ok(Outcome::value(SharedKind::never(alloc)?))
     }
 
     /// Whether it may end with an error.
@@ -54,15 +54,20 @@ impl Outcome {
     }
 }
 
-fn settle_kind(kind: &mut Kind, alloc: Global, poisoned: bool, alive: bool) -> Result<(), Memory>
+fn settle_kind(
+    kind: &mut SharedKind,
+    alloc: Global,
+    poisoned: bool,
+    alive: bool,
+) -> Result<(), Memory>
     ensures { OnOk result (kind.new ≡ kind_settled poisoned alive kind.old) }
 {
     if poisoned {
-        *kind = Kind::any(alloc)?;
+        *kind = SharedKind::any(alloc)?;
         return Ok(());
     }
     if !alive {
-        *kind = Kind::never(alloc)?;
+        *kind = SharedKind::never(alloc)?;
     }
     Ok(())
 }

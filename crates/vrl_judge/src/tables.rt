@@ -9,8 +9,10 @@ ghost use Rattle.vrl_state.specs.States.{IsCutOf};
 ghost use Rattle.vrl_syntax.specs.View.{expr_of};
 ghost use Rattle.vrl_value.specs.declared.value.Tag.TheVariants as tags;
 
+use crate::kinds::cut;
+use crate::shared_kind::SharedKind;
 use std::alloc::Global;
-use vrl_kind::{Kind, TAGS, cut, has, join, kind_is_canonical};
+use vrl_kind::{Kind, TAGS, has, join, kind_is_canonical};
 use vrl_syntax::{Expr, Form, Op};
 use vrl_value::{Memory, Tag};
 
@@ -97,7 +99,7 @@ impl Table {
     }
 
     // The kind of what it gives for the pairs that the kinds allow, cut. `Memory`: want of memory.
-    pub(crate) fn kind(self, alloc: Global, left: &Kind, right: &Kind) -> Result<Kind, Memory>
+    pub(crate) fn kind(self, alloc: Global, left: &Kind, right: &Kind) -> Result<SharedKind, Memory>
         ensures { IfOk result (λ kind. IsCutOf (scalars_at (table_tags (table_rule self) left.now right.now)) kind) }
     {
         let text = kind_where(alloc, self.gives(left, right, Tag::Text), Tag::Text)?;
@@ -106,12 +108,12 @@ impl Table {
         let first = join(alloc, &text, &integer)?;
         let kind = join(alloc, &first, &boolean)?;
         kind_is_canonical(&kind);
-        cut(alloc, &kind)
+        cut(alloc, kind)
     }
 }
 
 // The kind of a scalar's tag, or of no value. `Memory`: want of memory.
-fn kind_where(alloc: Global, given: bool, tag: Tag) -> Result<Kind, Memory>
+pub(crate) fn kind_where(alloc: Global, given: bool, tag: Tag) -> Result<Kind, Memory>
     requires { (same_tag tag tags.List || same_tag tag tags.Object) ≡ false }
     ensures { IfOk result (λ kind. SameSets (tags_at kind) (scalars_at (only_where given tag))) }
 {

@@ -5,11 +5,12 @@ ghost use Rattle.vrl_kind.specs.Canonical.{any_kind};
 ghost use Rattle.vrl_state.specs.States.{IsCutOf};
 
 use crate::checker::Checker;
-use crate::kinds::read_cut;
+use crate::kinds::{cut, read_cut};
 use crate::outcome::Outcome;
+use crate::shared_kind::SharedKind;
 use std::alloc::Global;
 use vrl_diag::{Span, code};
-use vrl_kind::{Kind, Rest, cut, kind_is_canonical};
+use vrl_kind::{Kind, Rest, kind_is_canonical};
 use vrl_path::Path;
 use vrl_value::{Chars, Memory};
 
@@ -28,7 +29,7 @@ impl Checker<'_> {
     pub fn unknown(&mut self, span: Span) -> Result<Outcome, Memory>
         ensures { IfOk result (λ outcome. HasJudged self.old self.new outcome (with_codes (at 701 span) (gives any_kind self.old.state.known))) }
     {
-        let part = Outcome::value(Kind::any(self.alloc)?);
+        let part = Outcome::value(SharedKind::any(self.alloc)?);
         self.reported(part, true, code::UNDEFINED_VARIABLE, span)
     }
 
@@ -37,18 +38,18 @@ impl Checker<'_> {
         ensures { IfOk result (λ outcome. IsReadOffAs path.now part self.now outcome) }
     {
         let mut part = part;
-        part.kind = read_cut(self.alloc, &part.kind, path)?;
+        part.kind = read_cut(self.alloc, part.kind.as_kind(), path)?;
         Ok(part)
     }
 }
 
 /// The kind of arrays with these kinds at their places, cut. `Memory`: want of memory.
-pub fn array_kind(alloc: Global, kinds: Vec<Kind>) -> Result<Kind, Memory>
+pub fn array_kind(alloc: Global, kinds: Vec<Kind>) -> Result<SharedKind, Memory>
     ensures { IfOk result (λ kind. IsCutOf (array_at kinds.items) kind) }
 {
     let whole = Kind::list(alloc, kinds, Rest::Nothing)?;
     kind_is_canonical(&whole);
-    cut(alloc, &whole)
+    cut(alloc, whole)
 }
 
 /// Adds a field of this name and kind. `Memory`: want of memory.
@@ -66,10 +67,10 @@ pub fn add_field(
 }
 
 /// The kind of objects with these kinds at their fields, cut. `Memory`: want of memory.
-pub fn object_kind(alloc: Global, fields: Vec<(Chars, Kind)>) -> Result<Kind, Memory>
+pub fn object_kind(alloc: Global, fields: Vec<(Chars, Kind)>) -> Result<SharedKind, Memory>
     ensures { IfOk result (λ kind. IsCutOf (object_at (map (λ e. e.0) fields.items) (map (λ e. e.1) fields.items)) kind) }
 {
     let whole = Kind::object(alloc, fields, Rest::Nothing)?;
     kind_is_canonical(&whole);
-    cut(alloc, &whole)
+    cut(alloc, whole)
 }

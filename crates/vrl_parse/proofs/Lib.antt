@@ -1,8 +1,11 @@
+mod Ahead
 mod Beginnings
+mod Completions
 mod Descended
 mod LimitCodes
 mod Numbered
 mod OneOutcome
+mod Places
 mod Scripts
 mod Spelled
 pub mod Ends

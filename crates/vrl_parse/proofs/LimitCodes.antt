@@ -1,5 +1,5 @@
 -- The codes of what is wrong with tokens.
-use Rattle.std.proofs.Common.{◌≡◌, ◌⊎◌, inl, inr, ℕ, Bool, true, false, ◌&&◌, ◌||◌, ◌==◌, List, [], ◌∷◌, ◌++◌, if◌then◌else◌, Some, None, option_to_list, refl, sym, ap, ◌∙◌, subst, arith}
+use Rattle.std.proofs.Common.{◌≡◌, ◌⊎◌, inl, inr, ℕ, Bool, true, false, ◌&&◌, ◌||◌, ◌==◌, List, [], ◌∷◌, ◌++◌, if◌then◌else◌, Some, None, option_to_list, refl, sym, ◌∙◌, subst, arith}
 use Rattle.std.specs.List.{Contains, list_all}
 use Rattle.std.proofs.lemmas.Bool.{and_from, and_parts, eqb-true, or_cases}
 use Rattle.std.proofs.lemmas.List.Folds.{list_all-append}
@@ -10,7 +10,7 @@ use Rattle.vrl_syntax.specs.Tree.{Expr, expr, Form, literal, array, object, read
 use Rattle.vrl_syntax.specs.Calls.{is_del}
 use Rattle.vrl_syntax.specs.declared.root.Target.{Target}
 use Rattle.vrl_syntax.specs.declared.root.Target.TheVariants as target
-use Rattle.vrl_token.specs.declared.token.Spanned.{Spanned}
+use Rattle.vrl_token.specs.TokenList.{TokenList}
 use Rattle.vrl_parse.specs.Reading.{IsScriptFault, no_script, path_fault, parse_codes}
 
 abbrev is_limit : Diagnostic → Bool
@@ -104,6 +104,6 @@ first_code ds d es all is =
     let each : (is_limit d && list_all is_limit es) ≡ true = subst AreLimits is all in
     limit_code d.code (which_limit d.code (or_cases (d.code == 1007) (d.code == 1012) (and_parts (is_limit d) (list_all is_limit es) each).0))
 
-pub wrong_code : (ts : List Spanned) (d : Diagnostic) → IsScriptFault ts d → Contains parse_codes d.code
-wrong_code ts d (no_script is none) = (0, omega arith, sym is)
-wrong_code ts d (path_fault {s = s} {ds = ds} reads faults) = first_code (exprs_faults s.items) d ds (exprs_limits s.items) faults
+pub wrong_code : (tokens : TokenList) (d : Diagnostic) → IsScriptFault tokens d → Contains parse_codes d.code
+wrong_code tokens d (no_script is none place) = (0, omega arith, sym is)
+wrong_code tokens d (path_fault {s = s} {ds = ds} reads faults) = first_code (exprs_faults s.items) d ds (exprs_limits s.items) faults

@@ -14,7 +14,7 @@ use Rattle.vrl_parse.proofs.Walks.{answered}
 -- what is read from here on, with what was read before, is what the rule reads from the start
 pub record Leads (r q : Rule) (f : Meaning q → Meaning r) (start now : List Word) : Type 0 where
   pub takes : (x : Meaning q) (vs : List Word) → RuleTakes q now x vs → RuleTakes r start (f x) vs
-  pub refuses : RuleRefuses q now → RuleRefuses r start
+  pub refuses : (vs : List Word) → RuleRefuses q now vs → RuleRefuses r start vs
 
 -- ---- what was read, before what is read from here on
 
@@ -68,10 +68,10 @@ arms_onto-all (y ∷ xs) = ap (arm (arm_of y).0 (arm_of y).1) (arms_onto-all xs)
 
 -- ---- how a loop goes on, and how it ends
 
-pub leads-more : {r q p : Rule} {f : Meaning q → Meaning r} {start now next : List Word} (g : Meaning p → Meaning q) (h : Meaning p → Meaning r) → Leads r q f start now → ((x : Meaning p) → h x ≡ f (g x)) → ((x : Meaning p) (vs : List Word) → RuleTakes p next x vs → RuleTakes q now (g x) vs) → (RuleRefuses p next → RuleRefuses q now) → Leads r p h start next
+pub leads-more : {r q p : Rule} {f : Meaning q → Meaning r} {start now next : List Word} (g : Meaning p → Meaning q) (h : Meaning p → Meaning r) → Leads r q f start now → ((x : Meaning p) → h x ≡ f (g x)) → ((x : Meaning p) (vs : List Word) → RuleTakes p next x vs → RuleTakes q now (g x) vs) → ((vs : List Word) → RuleRefuses p next vs → RuleRefuses q now vs) → Leads r p h start next
 leads-more {r} {q} {p} {f} {start} g h leads same step fails = record {
   takes = λ x vs run. subst (λ y. RuleTakes r start y vs) (sym (same x)) (leads.takes (g x) vs (step x vs run));
-  refuses = λ run. leads.refuses (fails run);
+  refuses = λ vs run. leads.refuses vs (fails vs run);
 }
 
 pub leads-end : {r q : Rule} {f : Meaning q → Meaning r} {start now vs : List Word} {y : Meaning r} (x : Meaning q) → Leads r q f start now → y ≡ f x → RuleTakes q now x vs → RuleTakes r start y vs
@@ -105,7 +105,7 @@ arms_onto-last {new} old x pushed tree view = view ∙ sym (arms_onto-all new) �
 pub names-begin : {start now : List Word} {n : List ℕ} {s : Span} {items : List (List ℕ)} → Takes name_word start n s now → items ≡ n ∷ [] → Leads names more_names (λ ns. items ++ ns) start now
 names-begin first one = record {
   takes = λ x vs run. taken first (gone run (answered (ap (λ l. l ++ x) one)));
-  refuses = λ run. taken first (not_gone run);
+  refuses = λ vs run. taken first (not_gone run);
 }
 
 pub names-more : {new : List (List ℕ)} (old : List (List ℕ)) (n : List ℕ) → new ≡ old ++ n ∷ [] → (ns : List (List ℕ)) → new ++ ns ≡ old ++ n ∷ ns

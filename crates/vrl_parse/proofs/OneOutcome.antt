@@ -3,7 +3,7 @@ use Rattle.std.proofs.Common.{◌≡◌, ℕ, Option, Some, List, refl, sym, ap,
 use Rattle.vrl_diag.specs.declared.diagnostic.Span.{Span}
 use Rattle.vrl_syntax.specs.declared.root.Op.{Op}
 use Rattle.vrl_word.specs.Words.{Word}
-use Rattle.vrl_parse.specs.Descent.{Piece, sign_word, target_word, name_word, key_word, function_word, path_word, literal_word, suffix_word, operator_word, Said, Says, Takes, takes, Lacks, Rule, Meaning, Program, Outcome, took, Runs, ran, refuses, taken, untaken, seen, unseen, chosen, gone, not_gone}
+use Rattle.vrl_parse.specs.Descent.{Piece, sign_word, target_word, name_word, key_word, function_word, path_word, literal_word, suffix_word, operator_word, Said, Says, Takes, takes, Lacks, Rule, Meaning, Program, Outcome, took, refused, Runs, ran, refuses, taken, untaken, seen, unseen, chosen, gone, not_gone}
 
 one_operator : {a : Option (ℕ × Op)} {n : ℕ} {v u : Op} → a ≡ Some (n, v) → a ≡ Some (n, u) → v ≡ u
 one_operator {n = n} {v = v} {u = u} f g =
@@ -55,4 +55,7 @@ one_outcome (gone inner one) (not_gone other) =
 one_outcome (not_gone inner) (gone other two) =
     let same = one_outcome inner other in
     cc
-one_outcome (not_gone inner) (not_gone other) = refl
+one_outcome (not_gone {vs = vs} inner) (not_gone {vs = us} other) =
+    let same = one_outcome inner other in
+    let rests : vs ≡ us = cc in
+    ap (λ ts. refused ts) rests

@@ -35,7 +35,7 @@ unread_rest ts es w ws run s reads =
     cc
 
 -- the words are refused
-pub unread_refusal : (ts : List Spanned) → RuleRefuses script (words_from 0 ts) → (s : Script) → ¬ Reads ts s
-unread_refusal ts run s reads =
+pub unread_refusal : (ts : List Spanned) (vs : List Word) → RuleRefuses script (words_from 0 ts) vs → (s : Script) → ¬ Reads ts s
+unread_refusal ts vs run s reads =
     let same = one_outcome run (script_is_taken reads.items) in
     cc

@@ -8,7 +8,7 @@ use Rattle.vrl_parse.specs.Grammar.{Is, AreNames, one_name, more_names as more_t
 use Rattle.vrl_parse.specs.Descent.{Said, Says, takes, Sees, Operand, a_negation, a_call, an_array, a_group, an_object, a_block, an_if, a_path, a_literal, operand_program, Rule, script, item, single, level, chain, operand, parts, pairs, arguments, argument, closing, names, more_names, braces, arms, Meaning, Program, done, refuse, take, look, by_operand, go, program_of, took, Runs, ran, taken, untaken, seen, unseen, chosen, gone, RuleTakes}
 
 -- what the grammar says of the words that a rule took
-abbrev Spells : (r : Rule) → List Word → Meaning r → Type 0
+abbrev pub Spells : (r : Rule) → List Word → Meaning r → Type 0
 Spells script ws x = IsScript ws x
 Spells item ws x = IsItem ws x
 Spells single ws x = IsSingle ws x
@@ -26,7 +26,7 @@ Spells braces ws x = IsBlock ws x.0 x.1
 Spells arms ws x = AreArms ws x.0 x.1 x.2
 
 -- whatever the program answers is so with the words that it takes
-abbrev Keeps : {A : Type 0} → Program A → (List Word → A → Type 0) → Type 0
+abbrev pub Keeps : {A : Type 0} → Program A → (List Word → A → Type 0) → Type 0
 Keeps (done x) holds = holds [] x
 Keeps refuse holds = Unit {0}
 Keeps (take k p q) holds = ((w : Word) (v : Said k) → Says k w v → Keeps (p v w.span) (λ ts. holds (w ∷ ts))) × Keeps q holds
@@ -40,13 +40,13 @@ pub record Front (ws rest : List Word) (holds : List Word → Type 0) : Type 0 w
   pub parts : ws ≡ words ++ rest
   pub told : holds words
 
-add_word : {w : Word} {ws rest : List Word} {P : List Word → Type 0} → Front ws rest (λ ts. P (w ∷ ts)) → Front (w ∷ ws) rest P
+pub add_word : {w : Word} {ws rest : List Word} {P : List Word → Type 0} → Front ws rest (λ ts. P (w ∷ ts)) → Front (w ∷ ws) rest P
 add_word {w = w} f = record { words = w ∷ f.words; parts = ap (λ ts. w ∷ ts) f.parts; told = f.told }
 
 add_words : (us : List Word) {ws rest : List Word} {P : List Word → Type 0} → Front ws rest (λ ts. P (us ++ ts)) → Front (us ++ ws) rest P
 add_words us {rest = rest} f = record { words = us ++ f.words; parts = ap (λ ts. us ++ ts) f.parts ∙ sym (append_assoc us f.words rest); told = f.told }
 
-kept : ((q : Rule) → Keeps (program_of q) (Spells q)) → {r : Rule} {p : Program (Meaning r)} {ws vs : List Word} {x : Meaning r} → (holds : List Word → Meaning r → Type 0) → Keeps p holds → Runs r p ws (took x vs) → Front ws vs (λ ts. holds ts x)
+pub kept : ((q : Rule) → Keeps (program_of q) (Spells q)) → {r : Rule} {p : Program (Meaning r)} {ws vs : List Word} {x : Meaning r} → (holds : List Word → Meaning r → Type 0) → Keeps p holds → Runs r p ws (took x vs) → Front ws vs (λ ts. holds ts x)
 kept law holds h ran = record { words = []; parts = refl; told = h }
 kept law holds h (taken (takes {w} v f) run) = add_word (kept law (λ ts. holds (w ∷ ts)) (h.0 w v f) run)
 kept law holds h (untaken lack run) = kept law holds h.1 run
@@ -104,7 +104,7 @@ operand_keeps an_if = ((λ w _ is. λ us a h. rw append-nil (primary (if_operand
 operand_keeps a_path = ((λ w p is. primary (path_operand is)), tt)
 operand_keeps a_literal = ((λ w v is. primary (literal_operand is)), tt)
 
-rule_keeps : (r : Rule) → Keeps (program_of r) (Spells r)
+pub rule_keeps : (r : Rule) → Keeps (program_of r) (Spells r)
 rule_keeps script = (
   (λ w _ is us es h. rw append-nil (separator is h)),
   (

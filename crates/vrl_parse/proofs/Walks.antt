@@ -2,15 +2,13 @@
 use Rattle.std.proofs.Common.{◌≡◌, ℕ, suc, ◌+◌, add-one, Bool, true, false, List, Result, Ok, Err, sym, subst}
 use Rattle.std.specs.Result.{IfErr, IfOk, IsErr, IsErrAnd}
 use Rattle.std.proofs.lemmas.Result.{IfOk-weaker}
-use Rattle.vrl_diag.specs.declared.diagnostic.Diagnostic.{Diagnostic}
 use Rattle.vrl_diag.specs.declared.diagnostic.Span.{Span}
-use Rattle.vrl_token.specs.declared.fault.SyntaxFault.{SyntaxFault}
-use Rattle.vrl_token.specs.declared.fault.SyntaxFault.TheVariants.{Fault, Memory}
 use Rattle.vrl_word.specs.Words.{Word}
 use Rattle.vrl_syntax.specs.Tree.{Expr}
 use Rattle.vrl_parse.specs.Descent.{chain, level, operand, program_of, suffixed, Look, Meaning, Outcome, Piece, Program, Rule, Runs, Said, done, look, ran, refuse, refused, refuses, seen, take, took, unseen, untaken}
-use Rattle.vrl_parse.specs.FirstWords.{Missing, Tells, Without}
-use Rattle.vrl_token.specs.OnFault.{OnFault}
+use Rattle.vrl_parse.specs.FirstWords.{Missing, OnRefusal, Tells, Without}
+use Rattle.vrl_parse.specs.declared.stop.Stop.{Stop}
+use Rattle.vrl_parse.specs.declared.stop.Stop.TheVariants as stop
 
 -- an answer that is the same
 pub answered : {r : Rule} {x y : Meaning r} {ws : List Word} → y ≡ x → Runs r (done x) ws (took y ws)
@@ -25,23 +23,23 @@ saw test holds run = seen (test.yes holds) run
 pub saw_not : {r : Rule} {b : Bool} {l : Look} {p q : Program (Meaning r)} {ws : List Word} {o : Outcome (Meaning r)} → Tells b l ws → b ≡ false → Runs r q ws o → Runs r (look l p q) ws o
 saw_not test fails run = unseen (test.no fails) run
 
-pub missed : {r : Rule} {k : Piece} {p : Said k → Span → Program (Meaning r)} {ws : List Word} {d : Diagnostic} → Missing k ws d → Runs r (take k p refuse) ws refused
-missed none = untaken none.lacks refuses
+pub missed : {r : Rule} {k : Piece} {p : Said k → Span → Program (Meaning r)} {ws vs : List Word} → Missing k ws vs → Runs r (take k p refuse) ws (refused vs)
+missed {r} {k} {p} {ws} {vs} none = subst (λ us. Runs r (take k p refuse) ws (refused us)) (sym none.stays) (untaken none.lacks refuses)
 
--- the exit of a `?`, where the callee's fault means that of the caller
-pub weaker : (P Q : Diagnostic → Type 0) (f : SyntaxFault) → ((d : Diagnostic) → P d → Q d) → OnFault P f → OnFault Q f
-weaker P Q (Fault d) step h = step d h
-weaker P Q Memory step h = tt
+-- the exit of a `?`, where the callee's refusal is that of the caller
+pub weaker : (P Q : Type 0) (f : Stop) → (P → Q) → OnRefusal P f → OnRefusal Q f
+weaker P Q stop.Refused step h = step h
+weaker P Q stop.Memory step h = tt
 
-pub leave : {T : Type 0} (r : Result T SyntaxFault) (f : SyntaxFault) (P Q : Diagnostic → Type 0) → IsErr r × IsErrAnd r (λ g. g ≡ f) → OnFault P f → ((d : Diagnostic) → P d → Q d) → IfErr r (OnFault Q)
+pub leave : {T : Type 0} (r : Result T Stop) (f : Stop) (P Q : Type 0) → IsErr r × IsErrAnd r (λ g. g ≡ f) → OnRefusal P f → (P → Q) → IfErr r (OnRefusal Q)
 leave (Ok x) f P Q is h step = tt
-leave (Err g) f P Q is h step = weaker P Q g step (subst (OnFault P) (sym is.1) h)
+leave (Err g) f P Q is h step = weaker P Q g step (subst (OnRefusal P) (sym is.1) h)
 
 -- a call whose answer is returned as it is
-pub same_takes : {T : Type 0} (r : Result T SyntaxFault) (P Q : T → Type 0) → ((x : T) → P x → Q x) → IfOk r P → IfOk r Q
+pub same_takes : {T : Type 0} (r : Result T Stop) (P Q : T → Type 0) → ((x : T) → P x → Q x) → IfOk r P → IfOk r Q
 same_takes r P Q step h = IfOk-weaker r P Q step h
 
-pub same_refuses : {T : Type 0} (r : Result T SyntaxFault) (P Q : Diagnostic → Type 0) → ((d : Diagnostic) → P d → Q d) → IfErr r (OnFault P) → IfErr r (OnFault Q)
+pub same_refuses : {T : Type 0} (r : Result T Stop) (P Q : Type 0) → (P → Q) → IfErr r (OnRefusal P) → IfErr r (OnRefusal Q)
 same_refuses (Ok x) P Q step h = tt
 same_refuses (Err f) P Q step h = weaker P Q f step h
 

@@ -1,10 +1,14 @@
 -- What the parser's functions promise of the words before it.
-use Rattle.std.specs.Prelude.{◌≡◌, Bool, true, false, List, [], ◌∷◌}
-use Rattle.vrl_diag.specs.declared.diagnostic.Diagnostic.{Diagnostic}
+use Rattle.std.specs.Prelude.{◌≡◌, ℕ, Bool, true, false, List, [], ◌∷◌}
+use Rattle.vrl_diag.specs.declared.diagnostic.Span.{Span}
 use Rattle.vrl_parse.specs.declared.parser.Operand.{Operand as CodeOperand}
 use Rattle.vrl_parse.specs.declared.parser.Operand.TheVariants as code
 use Rattle.vrl_parse.specs.declared.parser.Parser.{Parser}
-use Rattle.vrl_parse.specs.Descent.{a_block, a_call, a_group, a_literal, a_negation, a_path, an_array, an_if, an_object, Lacks, Look, Meaning, Operand, Piece, Program, Rule, Runs, Said, Says, Sees, refused}
+use Rattle.vrl_parse.specs.declared.stop.Stop.{Stop}
+use Rattle.vrl_parse.specs.declared.stop.Stop.TheVariants as stop
+use Rattle.vrl_parse.specs.Descent.{a_block, a_call, a_group, a_literal, a_negation, a_path, an_array, an_if, an_object, Lacks, Look, Operand, Piece, Said, Says, Sees}
+use Rattle.vrl_token.specs.declared.fault.SyntaxFault.{SyntaxFault}
+use Rattle.vrl_token.specs.declared.fault.SyntaxFault.TheVariants.{Fault, Memory}
 use Rattle.vrl_word.specs.Words.{Word, words_from}
 
 -- the words that a parser has before it
@@ -25,15 +29,25 @@ abbrev pub Holds : Piece → List Word → Type 0
 Holds k [] = ⊥
 Holds k (w ∷ ws) = (v : Said k) × Says k w v
 
--- the fault is that there is none
-pub record Missing (k : Piece) (ws : List Word) (d : Diagnostic) : Type 0 where
-  pub code : d.code ≡ 203
+-- there is no first word that can be taken so, and none was taken
+pub record Missing (k : Piece) (ws left : List Word) : Type 0 where
   pub lacks : Lacks k ws
+  pub stays : left ≡ ws
 
--- the fault is that the program finds no script
-pub record Refused (r : Rule) (p : Program (Meaning r)) (ws : List Word) (d : Diagnostic) : Type 0 where
-  pub code : d.code ≡ 203
-  pub runs : Runs r p ws refused
+-- this holds where the parser stops for what the words are, and not for want of memory
+abbrev pub OnRefusal : Type 0 → Stop → Type 0
+OnRefusal P stop.Refused = P
+OnRefusal P stop.Memory = Unit {0}
+
+-- what is told of a stop at this place
+abbrev pub fault_of : Stop → Span → SyntaxFault
+fault_of stop.Refused span = Fault (record { code = 203; span = span })
+fault_of stop.Memory span = Memory
+
+-- the place of the first word, or that where the text ends
+abbrev pub place_at : List Word → ℕ → Span
+place_at [] ends = record { start = ends; end = ends }
+place_at (w ∷ ws) ends = w.span
 
 -- the operand that the parser tells
 abbrev pub told_operand : CodeOperand → Operand

@@ -1,21 +1,20 @@
 ghost use Rattle.std.specs.Prelude.{◌<◌, ◌≤◌, IfErr, IfOk, OnOk, length};
 ghost use Rattle.vrl_syntax.specs.View.{expr_of, exprs_of};
-ghost use Rattle.vrl_parse.specs.Descent.{aborting, assignment as assigning, item as item_rule, merging, program_of, Runs, script as script_rule, single as single_rule, took};
-ghost use Rattle.vrl_parse.specs.FirstWords.{Refused, words_left};
-ghost use Rattle.vrl_token.specs.OnFault.{OnFault};
+ghost use Rattle.vrl_parse.specs.Descent.{aborting, assignment as assigning, item as item_rule, merging, program_of, refused, Runs, script as script_rule, single as single_rule, took};
+ghost use Rattle.vrl_parse.specs.FirstWords.{OnRefusal, words_left};
 
 use crate::parser::Parser;
+use crate::stop::Stop;
 use vrl_diag::Span;
 use vrl_syntax::{Expr, Exprs};
-use vrl_token::SyntaxFault;
 use vrl_word::{Sign, forms};
 
 impl<'a> Parser<'a> {
     // Takes items, and the separators before, between and behind them.
     #[cycle(parser)]
-    pub(crate) fn script(&mut self) -> Result<Exprs, SyntaxFault>
+    pub(crate) fn script(&mut self) -> Result<Exprs, Stop>
         ensures takes { IfOk result (λ x. Runs script_rule (program_of script_rule) (words_left self.old) (took (exprs_of x) (words_left self.new))) }
-        ensures refuses { IfErr result (OnFault (Refused script_rule (program_of script_rule) (words_left self.old))) }
+        ensures refuses { IfErr result (OnRefusal (Runs script_rule (program_of script_rule) (words_left self.old) (refused (words_left self.new)))) }
         ensures shorter { OnOk result (length self.new.rest.now ≤ length self.old.rest.now) }
     {
         let mut items = Vec::new(self.alloc);
@@ -38,9 +37,9 @@ impl<'a> Parser<'a> {
 
     // Takes an item.
     #[cycle(parser)]
-    pub(crate) fn item(&mut self) -> Result<Expr, SyntaxFault>
+    pub(crate) fn item(&mut self) -> Result<Expr, Stop>
         ensures takes { IfOk result (λ x. Runs item_rule (program_of item_rule) (words_left self.old) (took (expr_of x) (words_left self.new))) }
-        ensures refuses { IfErr result (OnFault (Refused item_rule (program_of item_rule) (words_left self.old))) }
+        ensures refuses { IfErr result (OnRefusal (Runs item_rule (program_of item_rule) (words_left self.old) (refused (words_left self.new)))) }
         ensures shorter { OnOk result (length self.new.rest.now < length self.old.rest.now) }
     {
         if !self.is_path_before(Sign::Comma) {
@@ -56,9 +55,9 @@ impl<'a> Parser<'a> {
 
     // Takes an expression that may be an argument.
     #[cycle(parser)]
-    pub(crate) fn single(&mut self) -> Result<Expr, SyntaxFault>
+    pub(crate) fn single(&mut self) -> Result<Expr, Stop>
         ensures takes { IfOk result (λ x. Runs single_rule (program_of single_rule) (words_left self.old) (took (expr_of x) (words_left self.new))) }
-        ensures refuses { IfErr result (OnFault (Refused single_rule (program_of single_rule) (words_left self.old))) }
+        ensures refuses { IfErr result (OnRefusal (Runs single_rule (program_of single_rule) (words_left self.old) (refused (words_left self.new)))) }
         ensures shorter { OnOk result (length self.new.rest.now < length self.old.rest.now) }
     {
         if self.is_path_before(Sign::Assign) {
@@ -79,9 +78,9 @@ impl<'a> Parser<'a> {
 
     // Takes an assignment.
     #[cycle(parser)]
-    fn assignment(&mut self) -> Result<Expr, SyntaxFault>
+    fn assignment(&mut self) -> Result<Expr, Stop>
         ensures takes { IfOk result (λ x. Runs single_rule assigning (words_left self.old) (took (expr_of x) (words_left self.new))) }
-        ensures refuses { IfErr result (OnFault (Refused single_rule assigning (words_left self.old))) }
+        ensures refuses { IfErr result (OnRefusal (Runs single_rule assigning (words_left self.old) (refused (words_left self.new)))) }
         ensures shorter { OnOk result (length self.new.rest.now < length self.old.rest.now) }
     {
         let (target, start) = self.target()?;
@@ -92,9 +91,9 @@ impl<'a> Parser<'a> {
 
     // Takes an assignment that merges.
     #[cycle(parser)]
-    fn merge(&mut self) -> Result<Expr, SyntaxFault>
+    fn merge(&mut self) -> Result<Expr, Stop>
         ensures takes { IfOk result (λ x. Runs single_rule merging (words_left self.old) (took (expr_of x) (words_left self.new))) }
-        ensures refuses { IfErr result (OnFault (Refused single_rule merging (words_left self.old))) }
+        ensures refuses { IfErr result (OnRefusal (Runs single_rule merging (words_left self.old) (refused (words_left self.new)))) }
         ensures shorter { OnOk result (length self.new.rest.now < length self.old.rest.now) }
     {
         let (target, start) = self.target()?;
@@ -105,9 +104,9 @@ impl<'a> Parser<'a> {
 
     // Takes the message of an `abort` that stands there, where there is one.
     #[cycle(parser)]
-    fn abort(&mut self, start: Span) -> Result<Expr, SyntaxFault>
+    fn abort(&mut self, start: Span) -> Result<Expr, Stop>
         ensures takes { IfOk result (λ x. Runs single_rule (aborting start) (words_left self.old) (took (expr_of x) (words_left self.new))) }
-        ensures refuses { IfErr result (OnFault (Refused single_rule (aborting start) (words_left self.old))) }
+        ensures refuses { IfErr result (OnRefusal (Runs single_rule (aborting start) (words_left self.old) (refused (words_left self.new)))) }
         ensures shorter { OnOk result (length self.new.rest.now ≤ length self.old.rest.now) }
     {
         if self.ends_expression() {

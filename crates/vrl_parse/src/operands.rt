@@ -1,21 +1,20 @@
 ghost use Rattle.std.specs.Prelude.{◌<◌, ◌≤◌, IfErr, IfOk, OnOk, length};
 ghost use Rattle.vrl_syntax.specs.View.{expr_of};
-ghost use Rattle.vrl_parse.specs.Descent.{a_block, a_group, a_literal, a_negation, a_path, an_array, an_object, operand as operand_rule, operand_program, program_of, Runs, suffixed, took};
-ghost use Rattle.vrl_parse.specs.FirstWords.{Refused, words_left};
-ghost use Rattle.vrl_token.specs.OnFault.{OnFault};
+ghost use Rattle.vrl_parse.specs.Descent.{a_block, a_group, a_literal, a_negation, a_path, an_array, an_object, operand as operand_rule, operand_program, program_of, refused, Runs, suffixed, took};
+ghost use Rattle.vrl_parse.specs.FirstWords.{OnRefusal, words_left};
 
 use crate::parser::{Operand, Parser};
+use crate::stop::Stop;
 use vrl_syntax::Expr;
-use vrl_token::SyntaxFault;
 use vrl_value::Memory;
 use vrl_word::{Sign, forms};
 
 impl<'a> Parser<'a> {
     // Takes an operand.
     #[cycle(parser)]
-    pub(crate) fn operand(&mut self) -> Result<Expr, SyntaxFault>
+    pub(crate) fn operand(&mut self) -> Result<Expr, Stop>
         ensures takes { IfOk result (λ x. Runs operand_rule (program_of operand_rule) (words_left self.old) (took (expr_of x) (words_left self.new))) }
-        ensures refuses { IfErr result (OnFault (Refused operand_rule (program_of operand_rule) (words_left self.old))) }
+        ensures refuses { IfErr result (OnRefusal (Runs operand_rule (program_of operand_rule) (words_left self.old) (refused (words_left self.new)))) }
         ensures shorter { OnOk result (length self.new.rest.now < length self.old.rest.now) }
     {
         match self.next_operand() {
@@ -33,9 +32,9 @@ impl<'a> Parser<'a> {
 
     // Takes a negation.
     #[cycle(parser)]
-    fn negation(&mut self) -> Result<Expr, SyntaxFault>
+    fn negation(&mut self) -> Result<Expr, Stop>
         ensures takes { IfOk result (λ x. Runs operand_rule (operand_program a_negation) (words_left self.old) (took (expr_of x) (words_left self.new))) }
-        ensures refuses { IfErr result (OnFault (Refused operand_rule (operand_program a_negation) (words_left self.old))) }
+        ensures refuses { IfErr result (OnRefusal (Runs operand_rule (operand_program a_negation) (words_left self.old) (refused (words_left self.new)))) }
         ensures shorter { OnOk result (length self.new.rest.now < length self.old.rest.now) }
     {
         let start = self.expect(Sign::Not)?;
@@ -45,9 +44,9 @@ impl<'a> Parser<'a> {
 
     // Takes a group and its suffix.
     #[cycle(parser)]
-    fn group(&mut self) -> Result<Expr, SyntaxFault>
+    fn group(&mut self) -> Result<Expr, Stop>
         ensures takes { IfOk result (λ x. Runs operand_rule (operand_program a_group) (words_left self.old) (took (expr_of x) (words_left self.new))) }
-        ensures refuses { IfErr result (OnFault (Refused operand_rule (operand_program a_group) (words_left self.old))) }
+        ensures refuses { IfErr result (OnRefusal (Runs operand_rule (operand_program a_group) (words_left self.old) (refused (words_left self.new)))) }
         ensures shorter { OnOk result (length self.new.rest.now < length self.old.rest.now) }
     {
         let start = self.expect(Sign::OpenParenthesis)?;
@@ -59,9 +58,9 @@ impl<'a> Parser<'a> {
 
     // Takes an array and its suffix.
     #[cycle(parser)]
-    fn array(&mut self) -> Result<Expr, SyntaxFault>
+    fn array(&mut self) -> Result<Expr, Stop>
         ensures takes { IfOk result (λ x. Runs operand_rule (operand_program an_array) (words_left self.old) (took (expr_of x) (words_left self.new))) }
-        ensures refuses { IfErr result (OnFault (Refused operand_rule (operand_program an_array) (words_left self.old))) }
+        ensures refuses { IfErr result (OnRefusal (Runs operand_rule (operand_program an_array) (words_left self.old) (refused (words_left self.new)))) }
         ensures shorter { OnOk result (length self.new.rest.now < length self.old.rest.now) }
     {
         let start = self.expect(Sign::OpenBracket)?;
@@ -72,9 +71,9 @@ impl<'a> Parser<'a> {
 
     // Takes an object.
     #[cycle(parser)]
-    fn object(&mut self) -> Result<Expr, SyntaxFault>
+    fn object(&mut self) -> Result<Expr, Stop>
         ensures takes { IfOk result (λ x. Runs operand_rule (operand_program an_object) (words_left self.old) (took (expr_of x) (words_left self.new))) }
-        ensures refuses { IfErr result (OnFault (Refused operand_rule (operand_program an_object) (words_left self.old))) }
+        ensures refuses { IfErr result (OnRefusal (Runs operand_rule (operand_program an_object) (words_left self.old) (refused (words_left self.new)))) }
         ensures shorter { OnOk result (length self.new.rest.now < length self.old.rest.now) }
     {
         let start = self.expect(Sign::OpenObject)?;
@@ -85,9 +84,9 @@ impl<'a> Parser<'a> {
 
     // Takes a block that is an operand.
     #[cycle(parser)]
-    fn braced(&mut self) -> Result<Expr, SyntaxFault>
+    fn braced(&mut self) -> Result<Expr, Stop>
         ensures takes { IfOk result (λ x. Runs operand_rule (operand_program a_block) (words_left self.old) (took (expr_of x) (words_left self.new))) }
-        ensures refuses { IfErr result (OnFault (Refused operand_rule (operand_program a_block) (words_left self.old))) }
+        ensures refuses { IfErr result (OnRefusal (Runs operand_rule (operand_program a_block) (words_left self.old) (refused (words_left self.new)))) }
         ensures shorter { OnOk result (length self.new.rest.now < length self.old.rest.now) }
     {
         let (body, span) = self.block()?;
@@ -95,9 +94,9 @@ impl<'a> Parser<'a> {
     }
 
     // Takes a path or a name that is read.
-    fn read(&mut self) -> Result<Expr, SyntaxFault>
+    fn read(&mut self) -> Result<Expr, Stop>
         ensures takes { IfOk result (λ x. Runs operand_rule (operand_program a_path) (words_left self.old) (took (expr_of x) (words_left self.new))) }
-        ensures refuses { IfErr result (OnFault (Refused operand_rule (operand_program a_path) (words_left self.old))) }
+        ensures refuses { IfErr result (OnRefusal (Runs operand_rule (operand_program a_path) (words_left self.old) (refused (words_left self.new)))) }
         ensures shorter { OnOk result (length self.new.rest.now < length self.old.rest.now) }
     {
         let ((root, path), span) = self.path()?;
@@ -105,9 +104,9 @@ impl<'a> Parser<'a> {
     }
 
     // Takes a literal.
-    fn constant(&mut self) -> Result<Expr, SyntaxFault>
+    fn constant(&mut self) -> Result<Expr, Stop>
         ensures takes { IfOk result (λ x. Runs operand_rule (operand_program a_literal) (words_left self.old) (took (expr_of x) (words_left self.new))) }
-        ensures refuses { IfErr result (OnFault (Refused operand_rule (operand_program a_literal) (words_left self.old))) }
+        ensures refuses { IfErr result (OnRefusal (Runs operand_rule (operand_program a_literal) (words_left self.old) (refused (words_left self.new)))) }
         ensures shorter { OnOk result (length self.new.rest.now < length self.old.rest.now) }
     {
         let (value, span) = self.literal()?;

@@ -1,13 +1,12 @@
-ghost use Rattle.std.specs.Prelude.{◌≡◌, ◌≢◌, ◌↔◌, ℕ, IsTrue};
+ghost use Rattle.std.specs.Prelude.{◌≡◌, ◌↔◌, ℕ, IsTrue};
 ghost use Rattle.vrl_parse.specs.Descent.{at_end, before, Begins, expression_end, name_word, next, operand_at, path_word};
-ghost use Rattle.vrl_parse.specs.FirstWords.{Tells, told_operand, words_left};
-ghost use Rattle.vrl_token.specs.OnFault.{OnFault};
+ghost use Rattle.vrl_parse.specs.FirstWords.{place_at, Tells, told_operand, words_left};
 ghost use Rattle.vrl_word.specs.Signs.{token_of};
 ghost use Rattle.vrl_word.specs.Words.{words_from};
 
 use std::alloc::Global;
-use vrl_diag::{Diagnostic, Span, code};
-use vrl_token::{Spanned, SyntaxFault, Token};
+use vrl_diag::Span;
+use vrl_token::{Spanned, Token};
 use vrl_word::{Sign, is_path, is_sign};
 
 // The tokens that are left, and how many regex literals were taken.
@@ -15,20 +14,17 @@ use vrl_word::{Sign, is_path, is_sign};
 pub(crate) struct Parser<'a> {
     pub(crate) alloc: Global,
     pub(crate) rest: &'a [Spanned],
-    // The length of the text in bytes.
-    pub(crate) end: u32,
     pub(crate) patterns: u32,
 }
 
 impl<'a> Parser<'a> {
-    // Before the first token of a text that ends there.
-    pub(crate) fn new(alloc: Global, rest: &'a [Spanned], end: u32) -> Parser<'a>
+    // Before the first token.
+    pub(crate) fn new(alloc: Global, rest: &'a [Spanned]) -> Parser<'a>
         ensures { words_left result ≡ words_from 0 rest.now }
     {
         Parser {
             alloc,
             rest,
-            end,
             patterns: 0,
         }
     }
@@ -43,22 +39,14 @@ impl<'a> Parser<'a> {
         }
     }
 
-    // That no script goes on with the next token, or that none ends there.
-    pub(crate) fn fault(&self) -> SyntaxFault
-        ensures code { OnFault (λ d. d.code ≡ 203) result }
-        ensures memory { result ≢ SyntaxFault.Memory }
+    // The place of the next token, or the end of the text, given where that is.
+    pub(crate) fn place(&self, end: u32) -> Span
+        ensures { result ≡ place_at (words_left self.now) end }
     {
-        let span = match self.rest.first() {
+        match self.rest.first() {
             Some(word) => word.span,
-            None => Span {
-                start: self.end,
-                end: self.end,
-            },
-        };
-        SyntaxFault::Fault(Diagnostic {
-            code: code::UNRECOGNIZED_TOKEN,
-            span,
-        })
+            None => Span { start: end, end },
+        }
     }
 
     // Whether the next token is this sign.

@@ -5,12 +5,14 @@ ghost use Rattle.vrl_syntax.specs.Limits.{exprs_faults, KeepsLimits};
 ghost use Rattle.vrl_syntax.specs.Regexes.{IsNumbered};
 ghost use Rattle.vrl_syntax.specs.View.{exprs_of, script_of};
 ghost use Rattle.vrl_token.specs.OnFault.{OnFault};
+ghost use Rattle.vrl_parse.specs.FirstWords.{fault_of};
 ghost use Rattle.vrl_parse.specs.Reading.{parse_codes, IsScriptFault, Reads, sources_of};
 ghost use Rattle.vrl_word.specs.Words.{regex_of};
 
 use crate::parser::Parser;
+use crate::stop::Stop;
 use std::alloc::Global;
-use vrl_diag::Diagnostic;
+use vrl_diag::{Diagnostic, Span, code};
 use vrl_syntax::{Exprs, Script, limit_faults};
 use vrl_token::{Spanned, SyntaxFault, Token, Tokens};
 use vrl_value::{Chars, Memory, Names};
@@ -19,27 +21,44 @@ use vrl_value::{Chars, Memory, Names};
 ///
 /// # Errors
 ///
-/// `Fault`: 203 where no script is read, at the first token with which none goes on, or at the end of the text; else
-/// the first, by place, of the paths that are written or deleted and have a negative index (1007), or an index above
-/// 65,535 or more than 128 steps (1012). `Memory`: want of memory.
+/// `Fault`: 203 where no script is read, at the first token such that none begins with the tokens up to and with it, or,
+/// where there is no such token, at the end of the text; else the first, by place, of the paths that are written or
+/// deleted and have a negative index (1007), or an index above 65,535 or more than 128 steps (1012). `Memory`: want of
+/// memory.
 pub fn parse(alloc: Global, tokens: &Tokens) -> Result<Script, SyntaxFault>
     ensures script { IfOk result (λ script. Reads tokens.now.tokens (script_of script)) }
     ensures limits { IfOk result (λ script. KeepsLimits (exprs_of script.items)) }
     ensures regexes { IfOk result (λ script. IsNumbered (script_of script)) }
-    ensures fault { IfErr result (OnFault (IsScriptFault tokens.now.tokens)) }
+    ensures fault { IfErr result (OnFault (IsScriptFault tokens.now)) }
     ensures codes { IfErr result (OnFault (λ fault. Contains parse_codes fault.code)) }
 {
     let words = tokens.as_slice();
-    let mut parser = Parser::new(alloc, words, tokens.end());
-    let items = parser.script()?;
+    let mut parser = Parser::new(alloc, words);
+    let items = match parser.script() {
+        Ok(items) => items,
+        Err(stop) => return Err(told(stop, parser.place(tokens.end()))),
+    };
     if !parser.is_done() {
-        return Err(parser.fault());
+        return Err(told(Stop::Refused, parser.place(tokens.end())));
     }
     if let Some(fault) = first_fault(alloc, &items)? {
         return Err(SyntaxFault::Fault(fault));
     }
     let patterns = sources(alloc, words)?;
     Ok(Script { items, patterns })
+}
+
+// What is told where the parser stops at this place.
+fn told(stop: Stop, place: Span) -> SyntaxFault
+    ensures { result ≡ fault_of stop place }
+{
+    match stop {
+        Stop::Refused => SyntaxFault::Fault(Diagnostic {
+            code: code::UNRECOGNIZED_TOKEN,
+            span: place,
+        }),
+        Stop::Memory => SyntaxFault::Memory,
+    }
 }
 
 // The first thing that is wrong with the paths that items write or delete.

@@ -1,16 +1,16 @@
 ghost use Rattle.std.specs.Prelude.{◌≡◌, ◌≢◌, ◌+◌, ◌-◌, ◌^◌, ◌<◌, ◌≤◌, Err, IfErr, IfNone, IfOk, IfSome, IsErr, OnOk, OnSome, length};
 ghost use Rattle.vrl_value.specs.View.{tree_of};
 ghost use Rattle.vrl_parse.specs.Descent.{function_word, key_word, literal_word, name_word, operator_word, path_word, sign_word, suffix_word, Takes, target_word};
-ghost use Rattle.vrl_parse.specs.FirstWords.{Holds, Missing, Without, words_left};
-ghost use Rattle.vrl_token.specs.OnFault.{OnFault};
+ghost use Rattle.vrl_parse.specs.FirstWords.{Holds, Missing, OnRefusal, Without, words_left};
 ghost use Rattle.vrl_word.specs.Signs.{token_of};
 ghost use Rattle.vrl_word.specs.Words.{regex_of};
 
 use crate::parser::Parser;
+use crate::stop::Stop;
 use vrl_diag::Span;
 use vrl_path::Path;
 use vrl_syntax::{Op, Root, Target};
-use vrl_token::{SyntaxFault, Token};
+use vrl_token::Token;
 use vrl_value::{Chars, Memory, Value};
 use vrl_word::{Sign, function_of, is_sign, literal_of, operator_of, path_of, target_of};
 
@@ -32,15 +32,15 @@ impl<'a> Parser<'a> {
     }
 
     // The same; without it there is no script.
-    pub(crate) fn expect(&mut self, sign: Sign) -> Result<Span, SyntaxFault>
+    pub(crate) fn expect(&mut self, sign: Sign) -> Result<Span, Stop>
         ensures takes { IfOk result (λ span. Takes (sign_word (token_of sign)) (words_left self.old) tt span (words_left self.new)) }
-        ensures refuses { IfErr result (OnFault (Missing (sign_word (token_of sign)) (words_left self.old))) }
-        ensures memory { result ≢ Err SyntaxFault.Memory }
+        ensures refuses { IfErr result (OnRefusal (Missing (sign_word (token_of sign)) (words_left self.old) (words_left self.new))) }
+        ensures memory { result ≢ Err Stop.Memory }
         ensures shorter { OnOk result (length self.new.rest.now < length self.old.rest.now) }
     {
         match self.take(sign) {
             Some(span) => Ok(span),
-            None => Err(self.fault()),
+            None => Err(Stop::Refused),
         }
     }
 
@@ -62,109 +62,109 @@ impl<'a> Parser<'a> {
     }
 
     // Takes the target of an assignment, and tells its place.
-    pub(crate) fn target(&mut self) -> Result<(Target, Span), SyntaxFault>
+    pub(crate) fn target(&mut self) -> Result<(Target, Span), Stop>
         ensures takes { IfOk result (λ found. Takes target_word (words_left self.old) found.0 found.1 (words_left self.new)) }
-        ensures refuses { IfErr result (OnFault (Missing target_word (words_left self.old))) }
-        ensures memory { result ≡ Err SyntaxFault.Memory → Holds target_word (words_left self.old) }
+        ensures refuses { IfErr result (OnRefusal (Missing target_word (words_left self.old) (words_left self.new))) }
+        ensures memory { result ≡ Err Stop.Memory → Holds target_word (words_left self.old) }
         ensures shorter { OnOk result (length self.new.rest.now < length self.old.rest.now) }
     {
         let Some((first, rest)) = self.rest.split_first() else {
-            return Err(self.fault());
+            return Err(Stop::Refused);
         };
         match target_of(self.alloc, first)? {
             Some(target) => {
                 self.rest = rest;
                 Ok((target, first.span))
             }
-            None => Err(self.fault()),
+            None => Err(Stop::Refused),
         }
     }
 
     // Takes a name, and tells its place.
-    pub(crate) fn name(&mut self) -> Result<(Chars, Span), SyntaxFault>
+    pub(crate) fn name(&mut self) -> Result<(Chars, Span), Stop>
         ensures takes { IfOk result (λ found. Takes name_word (words_left self.old) found.0 found.1 (words_left self.new)) }
-        ensures refuses { IfErr result (OnFault (Missing name_word (words_left self.old))) }
-        ensures memory { result ≡ Err SyntaxFault.Memory → Holds name_word (words_left self.old) }
+        ensures refuses { IfErr result (OnRefusal (Missing name_word (words_left self.old) (words_left self.new))) }
+        ensures memory { result ≡ Err Stop.Memory → Holds name_word (words_left self.old) }
         ensures shorter { OnOk result (length self.new.rest.now < length self.old.rest.now) }
     {
         let Some((first, rest)) = self.rest.split_first() else {
-            return Err(self.fault());
+            return Err(Stop::Refused);
         };
         match &first.token {
             Token::Name(name) => {
                 self.rest = rest;
                 Ok((name.copy(self.alloc)?, first.span))
             }
-            _ => Err(self.fault()),
+            _ => Err(Stop::Refused),
         }
     }
 
     // Takes the key of a part of an object, and tells its place.
-    pub(crate) fn key(&mut self) -> Result<(Chars, Span), SyntaxFault>
+    pub(crate) fn key(&mut self) -> Result<(Chars, Span), Stop>
         ensures takes { IfOk result (λ found. Takes key_word (words_left self.old) found.0 found.1 (words_left self.new)) }
-        ensures refuses { IfErr result (OnFault (Missing key_word (words_left self.old))) }
-        ensures memory { result ≡ Err SyntaxFault.Memory → Holds key_word (words_left self.old) }
+        ensures refuses { IfErr result (OnRefusal (Missing key_word (words_left self.old) (words_left self.new))) }
+        ensures memory { result ≡ Err Stop.Memory → Holds key_word (words_left self.old) }
         ensures shorter { OnOk result (length self.new.rest.now < length self.old.rest.now) }
     {
         let Some((first, rest)) = self.rest.split_first() else {
-            return Err(self.fault());
+            return Err(Stop::Refused);
         };
         match &first.token {
             Token::Text(key) => {
                 self.rest = rest;
                 Ok((key.copy(self.alloc)?, first.span))
             }
-            _ => Err(self.fault()),
+            _ => Err(Stop::Refused),
         }
     }
 
     // Takes the name of a function and whether it has a bang, and tells the place of its token.
-    pub(crate) fn function(&mut self) -> Result<((Chars, bool), Span), SyntaxFault>
+    pub(crate) fn function(&mut self) -> Result<((Chars, bool), Span), Stop>
         ensures takes { IfOk result (λ found. Takes function_word (words_left self.old) found.0 found.1 (words_left self.new)) }
-        ensures refuses { IfErr result (OnFault (Missing function_word (words_left self.old))) }
-        ensures memory { result ≡ Err SyntaxFault.Memory → Holds function_word (words_left self.old) }
+        ensures refuses { IfErr result (OnRefusal (Missing function_word (words_left self.old) (words_left self.new))) }
+        ensures memory { result ≡ Err Stop.Memory → Holds function_word (words_left self.old) }
         ensures shorter { OnOk result (length self.new.rest.now < length self.old.rest.now) }
     {
         let Some((first, rest)) = self.rest.split_first() else {
-            return Err(self.fault());
+            return Err(Stop::Refused);
         };
         match function_of(self.alloc, &first.token)? {
             Some(function) => {
                 self.rest = rest;
                 Ok((function, first.span))
             }
-            None => Err(self.fault()),
+            None => Err(Stop::Refused),
         }
     }
 
     // Takes a path or a name, and tells its place.
-    pub(crate) fn path(&mut self) -> Result<((Root, Path), Span), SyntaxFault>
+    pub(crate) fn path(&mut self) -> Result<((Root, Path), Span), Stop>
         ensures takes { IfOk result (λ found. Takes path_word (words_left self.old) found.0 found.1 (words_left self.new)) }
-        ensures refuses { IfErr result (OnFault (Missing path_word (words_left self.old))) }
-        ensures memory { result ≡ Err SyntaxFault.Memory → Holds path_word (words_left self.old) }
+        ensures refuses { IfErr result (OnRefusal (Missing path_word (words_left self.old) (words_left self.new))) }
+        ensures memory { result ≡ Err Stop.Memory → Holds path_word (words_left self.old) }
         ensures shorter { OnOk result (length self.new.rest.now < length self.old.rest.now) }
     {
         let Some((first, rest)) = self.rest.split_first() else {
-            return Err(self.fault());
+            return Err(Stop::Refused);
         };
         match path_of(self.alloc, &first.token)? {
             Some(path) => {
                 self.rest = rest;
                 Ok((path, first.span))
             }
-            None => Err(self.fault()),
+            None => Err(Stop::Refused),
         }
     }
 
     // Takes a literal, and tells its place. More regex literals than a number of 32 bits counts are want of memory.
-    pub(crate) fn literal(&mut self) -> Result<(Value, Span), SyntaxFault>
+    pub(crate) fn literal(&mut self) -> Result<(Value, Span), Stop>
         ensures takes { IfOk result (λ found. Takes literal_word (words_left self.old) (tree_of found.0) found.1 (words_left self.new)) }
-        ensures refuses { IfErr result (OnFault (Missing literal_word (words_left self.old))) }
-        ensures memory { result ≡ Err SyntaxFault.Memory → Holds literal_word (words_left self.old) }
+        ensures refuses { IfErr result (OnRefusal (Missing literal_word (words_left self.old) (words_left self.new))) }
+        ensures memory { result ≡ Err Stop.Memory → Holds literal_word (words_left self.old) }
         ensures shorter { OnOk result (length self.new.rest.now < length self.old.rest.now) }
     {
         let Some((first, rest)) = self.rest.split_first() else {
-            return Err(self.fault());
+            return Err(Stop::Refused);
         };
         match literal_of(self.alloc, &first.token, self.patterns)? {
             Some(value) => {
@@ -172,7 +172,7 @@ impl<'a> Parser<'a> {
                 self.rest = rest;
                 Ok((value, first.span))
             }
-            None => Err(self.fault()),
+            None => Err(Stop::Refused),
         }
     }
 

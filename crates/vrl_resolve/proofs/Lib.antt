@@ -1,11 +1,15 @@
 pub mod Arguments
 pub mod Asked
 pub mod Begins
+pub mod BodyNames
 pub mod BoundPlaces
 pub mod Called
+pub mod ClosureCalls
+pub mod FieldTurns
 pub mod Functions
 pub mod GivenArguments
 pub mod Gives
+pub mod IterationKept
 pub mod LawfulCalls
 pub mod LinkedCalls
 pub mod LinkedFits
@@ -17,6 +21,7 @@ pub mod Partway
 pub mod RunArguments
 pub mod RunsWellFormed
 pub mod Shared
+pub mod Turns
 pub mod WalkArms
 pub mod WalkCalls
 pub mod Walks

@@ -21,7 +21,6 @@ use Rattle.vrl_resolve.specs.Linked.{Linked, Parts}
 use Rattle.vrl_resolve.specs.Linking.{a_call, path_argument, path_called, AreArgsLinked, IsCalleeIn, IsCalleeOf, IsPathCallee, Links, LinksAny}
 use Rattle.vrl_resolve.specs.declared.link.Linker.{Linker}
 use Rattle.vrl_resolve.specs.declared.node.Callee.{Callee}
-use Rattle.vrl_resolve.specs.declared.node.Callee.TheVariants as callee
 use Rattle.vrl_resolve.proofs.Links.{any_made}
 
 pub call_seen : (c : CodeCall) → call_of c ≡ call (out-Call c).name (out-Call c).name_span (out-Call c).bang (args_of (out-Call c).args) (closure_in (option_map closure_of (out-Call c).closure))
@@ -68,10 +67,10 @@ no_closure_there : (c : Option CodeClosure) → is_some c ≡ false → closure_
 no_closure_there None none = refl
 no_closure_there (Some c) none = absurd (true≢false none)
 
-abbrev IsFormCallee : Names → CodeCall → Callee → Type 0
+abbrev pub IsFormCallee : Names → CodeCall → Callee → Type 0
 IsFormCallee names c d = IsCalleeOf names (out-Call c).name (args_of (out-Call c).args) (closure_in (option_map closure_of (out-Call c).closure)) d
 
-callee_seen : (names : Names) (c : CodeCall) (d : Callee) → IsFormCallee names c d → IsCalleeIn names (call_of c) d
+pub callee_seen : (names : Names) (c : CodeCall) (d : Callee) → IsFormCallee names c d → IsCalleeIn names (call_of c) d
 callee_seen names c d is = subst (λ f. IsCalleeIn names f d) (sym (call_seen c)) is
 
 pub deletion_called : (names : Names) (c : CodeCall) (d : Callee) → is_some (out-Call c).closure ≡ false → is_del (out-Call c).name ≡ true → IsPathCallee names called.deletion (args_of (out-Call c).args) d → IsCalleeIn names (call_of c) d
@@ -89,12 +88,6 @@ existence_called names c d none other named is =
       known = is.known;
       same = is.same ∙ sym (path_bound called.existence gs) ∙ rw (no_closure_there (out-Call c).closure none, other, named) refl;
     })
-
-pub nothing_called : (names : Names) (c : CodeCall) → is_some (out-Call c).closure ≡ true → IsCalleeIn names (call_of c) callee.Nothing
-nothing_called names c some = callee_seen names c callee.Nothing (record { known = tt; same = closed (out-Call c).closure some }) where
-  closed : (closure : Option CodeClosure) → is_some closure ≡ true → called.nothing_called ≡ called.callee_of (out-Call c).name (args_of (out-Call c).args) (closure_in (option_map closure_of closure))
-  closed None there = absurd (true≢false (sym there))
-  closed (Some there) is = search (rules, the_lemmas)
 
 -- ---- a call is linked
 

@@ -15,16 +15,17 @@ use Rattle.vrl_path.specs.declared.path.Step.{Step}
 use Rattle.vrl_path.specs.declared.path.Step.TheVariants.{Field, Place as Index}
 use Rattle.vrl_diag.specs.declared.diagnostic.Diagnostic.{Diagnostic}
 use Rattle.vrl_diag.specs.declared.diagnostic.Span.{Span}
-use Rattle.vrl_syntax.specs.Calls.{is_del, is_exists, literal_of}
+use Rattle.vrl_syntax.specs.Calls.{form_named, has_shape, is_closure_form, is_del, is_exists, literal_of}
 use Rattle.vrl_syntax.specs.Limits.{args_faults, arms_faults, else_faults, expr_faults, exprs_faults, fault_at, faults_at, form_faults, is_negative, is_too_large, pairs_faults, path_faults, target_faults}
 use Rattle.vrl_syntax.specs.Regexes.{args_regexes_below, arms_regexes_below, else_regexes_below, expr_regexes_below, exprs_regexes_below, form_regexes_below, pairs_regexes_below}
 use Rattle.vrl_syntax.specs.Tree.{Expr, expr, Form, Exprs, Pairs, Arms, Else, Args, no_args, arg, Closure, no_closure, closure, literal}
 use Rattle.vrl_syntax.specs.Tree as tree
+use Rattle.vrl_syntax.specs.declared.call_form.CallForm.{CallForm}
 use Rattle.vrl_syntax.specs.declared.root.Root.{Root}
 use Rattle.vrl_syntax.specs.declared.root.Target.{Target}
 use Rattle.vrl_syntax.specs.declared.root.Target.TheVariants as target
 use Rattle.vrl_builtin.specs.Rows.{ParameterRow}
-use Rattle.vrl_table.specs.Binding.{binding, keywords_of, path_parameters}
+use Rattle.vrl_table.specs.Binding.{binding, collection_parameters, keywords_of, path_parameters}
 use Rattle.vrl_table.specs.Table.{function_named, row_of}
 use Rattle.vrl_table.specs.declared.binding.BindFault.{BindFault}
 use Rattle.vrl_table.specs.declared.function.Fun.{Fun}
@@ -32,10 +33,11 @@ use Rattle.vrl_store.specs.StoreView.{Names}
 use Rattle.vrl_store.specs.declared.place.Place.{Place}
 use Rattle.vrl_resolve.specs.Calls as called
 use Rattle.vrl_resolve.specs.Calls.{are_written_right, is_written_right, values_of, written_at}
-use Rattle.vrl_resolve.specs.Fits.{part_at, AllFit, AreGiven, ArmsFit, ElseFits, Fits, IsAllowedPart, IsAllowedPartIf, IsCallee, IsGiven, IsTarget, PairsFit}
+use Rattle.vrl_resolve.specs.Fits.{part_at, AllFit, AreGiven, AreKnownSlots, ArmsFit, ElseFits, Fits, IsAllowedPart, IsAllowedPartIf, IsCallee, IsGiven, IsTarget, PairsFit}
 use Rattle.vrl_resolve.specs.Linked as linked
 use Rattle.vrl_resolve.specs.Linked.{Linked, Parts}
-use Rattle.vrl_resolve.specs.Linking.{AreArgsLinked, AreArmsLinked, AreItemsLinked, AreLinked, ArePairsLinked, IsCalleeOf, IsElseLinked, IsLinked, IsLinkedForm, IsTargetOf, stands, a_literal, an_array, an_object, a_read, a_query, a_group, a_block, a_conditional, a_negation, a_binary, an_assignment, a_merge, an_error_assignment, a_call, a_return, a_bare_abort, an_abort, none_linked, one_linked, no_item, one_item, no_pair, one_pair, no_arm, one_arm, no_last, a_last, no_argument, one_argument}
+use Rattle.vrl_resolve.specs.LinkedMeaning.{slots_in}
+use Rattle.vrl_resolve.specs.Linking.{AreArgsLinked, AreArmsLinked, AreItemsLinked, AreLinked, ArePairsLinked, AreSlotsOf, IsCalleeOf, IsElseLinked, IsLinked, IsLinkedForm, IsTargetOf, stands, a_literal, an_array, an_object, a_read, a_query, a_group, a_block, a_conditional, a_negation, a_binary, an_assignment, a_merge, an_error_assignment, a_call, an_iteration, a_return, a_bare_abort, an_abort, none_linked, one_linked, no_item, one_item, no_pair, one_pair, no_arm, one_arm, no_last, a_last, no_argument, one_argument}
 use Rattle.vrl_resolve.specs.declared.node.Callee.{Callee}
 use Rattle.vrl_resolve.specs.declared.node.Callee.TheVariants as callee
 use Rattle.vrl_resolve.proofs.BoundPlaces.{places_are, ArePlaced, IsPlaced}
@@ -165,6 +167,15 @@ deleted_plain (arg name at (expr span f) no_args) root path is none = absurd (tr
 deleted_plain (arg name at (expr span (tree.read r p)) (arg n u e gs)) root path is none = absurd (true≢false (ap is_deletion is))
 deleted_plain (arg name at (expr span f) (arg n u e gs)) root path is none = absurd (true≢false (ap is_deletion is))
 
+-- what runs a closure is neither
+closure_is_neither : (f : Option CallForm) (xs : List (List ℕ)) (gs : Args) → (is_deletion (called.closure_callee f xs gs) ≡ false) × (is_function (called.closure_callee f xs gs) ≡ false)
+closure_is_neither None xs gs = (refl, refl)
+closure_is_neither (Some f) xs gs = chosen (is_closure_form (Some f) && has_shape f xs) (binding (collection_parameters f) (keywords_of gs)) where
+  chosen : (b : Bool) (bound : Result (List (Option ℕ)) BindFault) → (is_deletion (if b then called.bound_iteration f bound else called.nothing_called) ≡ false) × (is_function (if b then called.bound_iteration f bound else called.nothing_called) ≡ false)
+  chosen false bound = (refl, refl)
+  chosen true (Ok places) = (refl, refl)
+  chosen true (Err fault) = (refl, refl)
+
 -- ---- functions
 
 -- the function takes the arguments as they are written, at these places
@@ -237,14 +248,22 @@ given_parts {gs = gs} i (p ∷ ps) accepts (place ∷ places) linked placed righ
 callee_fits : {names : Names} {tags : List Tag} {gs : Args} {ns : Parts} (name : List ℕ) (c : Closure) (d : Callee) → IsCalleeOf names name gs c d → AreArgsLinked names tags gs ns → args_faults (is_del name) gs ≡ [] → IsCallee (length names) ns d
 callee_fits name c callee.Nothing is linked none = tt
 callee_fits name c (callee.Existence place) is linked none = is.known
-callee_fits name (closure names es span) (callee.Deletion place) is linked none = absurd (true≢false (ap is_deletion is.same))
+callee_fits {gs = gs} name (closure xs es span) (callee.Deletion place) is linked none = absurd (true≢false (ap is_deletion is.same ∙ (closure_is_neither (form_named name) xs gs).0))
 callee_fits {gs = gs} name no_closure (callee.Deletion place) is linked none =
     let deleted = deletion_is (is_del name) (is_exists name) (binding path_parameters (keywords_of gs)) gs (function_named name) _ _ is.same in
     (is.known, deleted_plain gs _ place.path deleted.1 (ap (λ b. args_faults b gs) (sym deleted.0) ∙ none))
-callee_fits name (closure names es span) (callee.Function f places) is linked none = absurd (true≢false (ap is_function is.same))
+callee_fits {gs = gs} name (closure xs es span) (callee.Function f places) is linked none = absurd (true≢false (ap is_function is.same ∙ (closure_is_neither (form_named name) xs gs).1))
 callee_fits {gs = gs} name no_closure (callee.Function f places) is linked none =
     let bound = function_is (is_del name) (is_exists name) (binding path_parameters (keywords_of gs)) gs (function_named name) f places.items is.same in
     given_parts 0 (row_of f).parameters (row_of f).accepts places.items linked (places_are (row_of f).parameters (keywords_of gs) places.items bound.0) bound.1
+
+-- the variables of a closure's names
+slots_fit : (names : Names) (xs : List (List ℕ)) (slots : List (Option ℕ)) → AreSlotsOf names xs slots → AreKnownSlots (length names) slots
+slots_fit names [] [] are = tt
+slots_fit names [] (slot ∷ slots) are = absurd are
+slots_fit names (x ∷ xs) [] are = absurd are
+slots_fit names (x ∷ xs) (None ∷ slots) are = (tt, slots_fit names xs slots are.1)
+slots_fit names (x ∷ xs) (Some number ∷ slots) are = (are.0.1.known, slots_fit names xs slots are.1)
 
 -- ---- forms
 
@@ -281,6 +300,14 @@ mutual
   form_fits sources (a_call {name = name} {gs = gs} {c = c} {d = d} is args) none below =
       let written = no_front (args_faults (is_del name) gs) _ none in
       (callee_fits name c d is args written, args_fit sources (is_del name) args written (left_holds (args_regexes_below sources gs) _ below))
+  form_fits {names = names} sources (an_iteration {name = name} {gs = gs} {xs = xs} {f = f} is slots args items) none below =
+      let written = no_front (args_faults (is_del name) gs) _ none in (
+        slots_fit names xs (slots_in f) slots,
+        (
+          args_fit sources (is_del name) args written (left_holds (args_regexes_below sources gs) _ below),
+          items_fit sources items (no_back (args_faults (is_del name) gs) _ none) (right_holds (args_regexes_below sources gs) _ below),
+        ),
+      )
   form_fits sources (a_return part) none below = expr_fits sources part none below
   form_fits sources a_bare_abort none below = tt
   form_fits sources (an_abort part) none below = expr_fits sources part none below

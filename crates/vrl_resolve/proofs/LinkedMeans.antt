@@ -1,25 +1,28 @@
 -- What is linked means what the part of the script means that it was made of.
-use Rattle.std.proofs.Common.{◌≡◌, Bool, true, false, ◌&&◌, List, [], ◌∷◌, ◌++◌, Option, Some, None, refl, sym, ap, ap₂, ◌∙◌, if◌then◌else◌}
+use Rattle.std.proofs.Common.{◌≡◌, ℕ, Bool, true, false, ◌&&◌, List, [], ◌∷◌, ◌++◌, Option, Some, None, refl, sym, ap, ap₂, ◌∙◌, if◌then◌else◌}
 use Rattle.vrl_value.specs.Tree.{Tree, null, Items, Members, no_members, put}
 use Rattle.vrl_value.specs.declared.value.Tag.{Tag}
 use Rattle.vrl_syntax.specs.ErrorAssignments.{behind, behind_args, first_tag}
-use Rattle.vrl_syntax.specs.Stores.{Store}
-use Rattle.vrl_syntax.specs.Tree.{Expr, Form, Exprs, no_exprs, exprs, Pairs, Arms, Else, Args}
+use Rattle.vrl_syntax.specs.Stores.{Store, bound_to, hidden_by, with_value}
+use Rattle.vrl_syntax.specs.Tree.{Expr, Form, Exprs, no_exprs, exprs, Pairs, Arms, Else, Args, closure}
 use Rattle.vrl_syntax.specs.declared.root.Op.TheVariants as op
+use Rattle.vrl_syntax.specs.declared.root.Root.TheVariants.{Name}
 use Rattle.vrl_syntax.specs.declared.root.Target.{Target}
 use Rattle.vrl_syntax.specs.declared.root.Target.TheVariants as target
 use Rattle.vrl_builtin.specs.Rows.{SettingTree}
 use Rattle.vrl_store.specs.Operators.{is_true, negated}
 use Rattle.vrl_store.specs.Outcomes.{Outcome, value, error, aborted, returned, banged, deep, Ended, banged_if, ends, on_value}
 use Rattle.vrl_store.specs.Places.{part_of, read_in, target_value, writes, writes_to}
-use Rattle.vrl_store.specs.StoreView.{Names}
+use Rattle.vrl_store.specs.StoreView.{name_at, Names}
 use Rattle.vrl_store.specs.declared.place.Place.{Place}
-use Rattle.vrl_resolve.specs.Calls.{Body, Callee, function, deletion, existence, nothing_called, acts, callee_of, items_in}
+use Rattle.vrl_resolve.specs.Calls.{Body, acts, items_in}
 use Rattle.vrl_resolve.specs.Linked as linked
 use Rattle.vrl_resolve.specs.Linked.{Linked, Parts}
-use Rattle.vrl_resolve.specs.LinkedMeaning.{all_mean, arms_mean, else_means, if_asked, items_mean, means, no_body, pairs_mean, target_of}
-use Rattle.vrl_resolve.specs.Linking.{AreArgsLinked, AreArmsLinked, AreItemsLinked, AreLinked, ArePairsLinked, IsElseLinked, IsLinked, IsLinkedForm, IsTargetOf, stands, a_literal, an_array, an_object, a_read, a_query, a_group, a_block, a_conditional, a_negation, a_binary, an_assignment, a_merge, an_error_assignment, a_call, a_return, a_bare_abort, an_abort, none_linked, one_linked, no_item, one_item, no_pair, one_pair, no_arm, one_arm, no_last, a_last, no_argument, one_argument}
-use Rattle.vrl_resolve.specs.Meaning.{aborted_with, assigned, both_assigned, combined, eval, eval_all, eval_args, eval_arms, eval_body, eval_else, eval_form, eval_items, eval_pairs, written_both}
+use Rattle.vrl_resolve.specs.LinkedMeaning.{all_mean, arms_mean, body_means, bound_slots, callee_in, else_means, hidden_slots, if_asked, items_mean, means, no_body, pairs_mean, slots_in, target_of}
+use Rattle.vrl_resolve.specs.Linking.{AreArgsLinked, AreArmsLinked, AreItemsLinked, AreLinked, ArePairsLinked, AreSlotsOf, IsElseLinked, IsLinked, IsLinkedForm, IsTargetOf, stands, a_literal, an_array, an_object, a_read, a_query, a_group, a_block, a_conditional, a_negation, a_binary, an_assignment, a_merge, an_error_assignment, a_call, an_iteration, a_return, a_bare_abort, an_abort, none_linked, one_linked, no_item, one_item, no_pair, one_pair, no_arm, one_arm, no_last, a_last, no_argument, one_argument}
+use Rattle.vrl_resolve.specs.Meaning.{aborted_with, assigned, body_left, both_assigned, combined, eval, eval_all, eval_args, eval_arms, eval_body, eval_else, eval_form, eval_items, eval_pairs, written_both}
+use Rattle.vrl_resolve.specs.declared.node.Callee.{Callee}
+use Rattle.vrl_resolve.specs.declared.node.Callee.TheVariants as callee
 use Rattle.vrl_resolve.proofs.Asked.{asked_behind, asked_twice, block_same, same_value, unasked_before}
 
 -- ---- targets
@@ -85,15 +88,41 @@ branch_meant asked false m n e f first second = second
 
 -- ---- calls
 
--- nothing runs the body of a closure
-acts_alone : (setting : SettingTree) (callee : Callee) (body other : Body) (vs : Items) (store : Store) → acts setting callee body vs store ≡ acts setting callee other vs store
-acts_alone setting (function f places) body other vs store = refl
-acts_alone setting (deletion root path) body other vs store = refl
-acts_alone setting (existence root path) body other vs store = refl
-acts_alone setting nothing_called body other vs store = refl
+-- what such a call calls runs no closure
+acts_alone : (names : Names) (setting : SettingTree) (d : Callee) (body other : Body) (vs : Items) (store : Store) → acts setting (callee_in names d) body vs store ≡ acts setting (callee_in names d) other vs store
+acts_alone names setting (callee.Function f places) body other vs store = refl
+acts_alone names setting (callee.Deletion place) body other vs store = refl
+acts_alone names setting (callee.Existence place) body other vs store = refl
+acts_alone names setting callee.Nothing body other vs store = refl
 
-body_unused : (setting : SettingTree) (callee : Callee) (body other : Body) (given : Ended) → on_value given (λ vs after. acts setting callee body (items_in vs) after) ≡ on_value given (λ vs after. acts setting callee other (items_in vs) after)
-body_unused setting callee body other given = λ i. on_value given (λ vs after. acts_alone setting callee body other (items_in vs) after i)
+body_unused : (names : Names) (setting : SettingTree) (d : Callee) (body other : Body) (given : Ended) → on_value given (λ vs after. acts setting (callee_in names d) body (items_in vs) after) ≡ on_value given (λ vs after. acts setting (callee_in names d) other (items_in vs) after)
+body_unused names setting d body other given = λ i. on_value given (λ vs after. acts_alone names setting d body other (items_in vs) after i)
+
+-- ---- closures
+
+-- the names that hide others
+hidden_same : (names : Names) (xs : List (List ℕ)) (slots : List (Option ℕ)) → AreSlotsOf names xs slots → hidden_slots names slots ≡ hidden_by xs
+hidden_same names [] [] are = refl
+hidden_same names [] (slot ∷ slots) are = absurd are
+hidden_same names (x ∷ xs) [] are = absurd are
+hidden_same names (x ∷ xs) (None ∷ slots) are = hidden_same names xs slots are.1 ∙ sym (ap (λ b. if b then hidden_by xs else x ∷ hidden_by xs) are.0)
+hidden_same names (x ∷ xs) (Some number ∷ slots) are =
+    let named = are.0.1.same in
+    let one : name_at names number ≡ x = cc in
+    ap₂ (λ y ys. y ∷ ys) one (hidden_same names xs slots are.1) ∙ sym (ap (λ b. if b then hidden_by xs else x ∷ hidden_by xs) are.0.0)
+
+-- the store with the names bound
+bound_same : (names : Names) (xs : List (List ℕ)) (slots : List (Option ℕ)) → AreSlotsOf names xs slots → (vs : List Tree) (store : Store) → bound_slots names slots vs store ≡ bound_to xs vs store
+bound_same names [] [] are vs store = refl
+bound_same names [] (slot ∷ slots) are vs store = absurd are
+bound_same names (x ∷ xs) [] are vs store = absurd are
+bound_same names (x ∷ xs) (slot ∷ slots) are [] store = refl
+bound_same names (x ∷ xs) (None ∷ slots) are (v ∷ vs) store =
+    bound_same names xs slots are.1 vs store ∙ sym (ap (λ b. bound_to xs vs (if b then store else with_value (Name x) v store)) are.0)
+bound_same names (x ∷ xs) (Some number ∷ slots) are (v ∷ vs) store =
+    bound_same names xs slots are.1 vs (with_value (Name (name_at names number)) v store)
+    ∙ ap (λ root. bound_to xs vs (with_value root v store)) are.0.1.same
+    ∙ sym (ap (λ b. bound_to xs vs (if b then store else with_value (Name x) v store)) are.0.0)
 
 -- ---- forms
 
@@ -120,9 +149,16 @@ mutual
   form_means {names = names} setting (an_error_assignment {tags = tags} {asked = asked} {t = t} {u = u} {ok = ok} {err = err} is to part) store =
       asked_twice asked _
       ∙ ap (if_asked asked) (both_same names t u ok err (first_tag tags) is to _ _ ∙ ap (λ m. both_assigned t u (first_tag tags) m.outcome m.store) (expr_means setting part store))
-  form_means setting (a_call {tags = tags} {asked = asked} {name = name} {bang = bang} {gs = gs} {c = c} is args) store =
-      ap (if_asked asked) (ap (banged_if bang) ((λ i. on_value (args_mean setting args [] store i) (λ vs after. acts setting (is.same i) no_body (items_in vs) after))
-      ∙ body_unused setting (callee_of name gs c) no_body (eval_body setting (behind_args gs tags) c) (eval_args setting tags gs [] store)))
+  form_means {names = names} setting (a_call {tags = tags} {asked = asked} {name = name} {bang = bang} {gs = gs} {c = c} {d = d} {ns = ns} is args) store =
+      let body : Body = eval_body setting (behind_args gs tags) c in
+      ap (if_asked asked) (ap (banged_if bang) (body_unused names setting d no_body body (all_mean names setting ns [] store)
+      ∙ (λ i. on_value (args_mean setting args [] store i) (λ vs after. acts setting (is.same i) body (items_in vs) after))))
+  form_means {names = names} setting (an_iteration {tags = tags} {asked = asked} {name = name} {bang = bang} {gs = gs} {xs = xs} {es = es} {at = at} {f = f} {ns = ns} {body = body} is slots args items) store =
+      let same : (vs : List Tree) (after : Store) → body_means names setting (slots_in f) body vs after ≡ eval_body setting (behind_args gs tags) (closure xs es at) vs after =
+      λ vs after. ap₂ (λ hidden ended. body_left hidden after ended) (hidden_same names xs (slots_in f) slots)
+      (ap (items_mean names setting null body) (bound_same names xs (slots_in f) slots vs after) ∙ items_are_meant setting items null (bound_to xs vs after)) in
+      let called = sym is in
+      ap (if_asked asked) (ap (banged_if bang) (λ i. on_value (args_mean setting args [] store i) (λ vs after. acts setting (called i) (λ us now. same us now i) (items_in vs) after)))
   form_means setting (a_return {asked = asked} part) store = ap (if_asked asked) (ap (λ m. on_value m (λ v after. ends (returned v) after)) (expr_means setting part store))
   form_means setting a_bare_abort store = refl
   form_means setting (an_abort {asked = asked} part) store = ap (if_asked asked) (ap (λ m. on_value m (λ v after. ends (aborted_with v) after)) (expr_means setting part store))

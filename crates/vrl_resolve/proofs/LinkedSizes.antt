@@ -1,6 +1,6 @@
 -- How large a linked expression is, for the measures of the walk.
 use Rattle.std.proofs.Common.{◌≡◌, ℕ, ◌+◌, ◌<◌, ◌≤◌, List, [], ◌∷◌, ◌++◌, drop, get_or, length, map, take, sym, ap, subst, arith}
-use Rattle.vrl_resolve.specs.Linked.{ArmTree, Linked, arm_of, arms_view, linked_of, pairs_view, parts_of_list, parts_view, literal, array, object, read, query, block, conditional, negation, binary, assign, merge, both, call, return_of, abort_with, Parts, no_parts, parts, Pairs, no_pairs, pair, Arms, no_arms, arm, Else, no_else, else_block, Message, no_message, message}
+use Rattle.vrl_resolve.specs.Linked.{ArmTree, Linked, arm_of, arms_view, linked_of, pairs_view, parts_of_list, parts_view, literal, array, object, read, query, block, conditional, negation, binary, assign, merge, both, call, iterate, return_of, abort_with, Parts, no_parts, parts, Pairs, no_pairs, pair, Arms, no_arms, arm, Else, no_else, else_block, Message, no_message, message}
 use Rattle.vrl_resolve.specs.declared.node.Arm.{Arm}
 use Rattle.vrl_resolve.specs.declared.node.Node.{Node}
 use Rattle.vrl_resolve.proofs.WalkArms.{next_arm}
@@ -22,6 +22,7 @@ abbrev mutual
   linked_size (merge asked t n) = linked_size n + 1
   linked_size (both asked t u tag n) = linked_size n + 1
   linked_size (call c bang ns) = parts_size ns + 1
+  linked_size (iterate f bang ns body) = parts_size ns + parts_size body + 1
   linked_size (return_of n) = linked_size n + 1
   linked_size (abort_with m) = message_size m + 1
 

@@ -25,6 +25,21 @@ numbers_weaker follows one = record { grows = one.grows; tags = one.tags; so = �
 pub links_weaker : {a b : Linker} {count : ℕ} {P Q : Names → List Tag → Type 0} → ((names : Names) → P names a.tags.left.now → Q names a.tags.left.now) → Links a b count P → Links a b count Q
 links_weaker follows one = record { grows = one.grows; behind = one.behind; so = λ names begins. follows names (one.so names begins) }
 
+pub numbers_then : {a b c : Linker} {P Q : Names → Type 0} → Numbers a b P → Numbers b c Q → Numbers a c (λ names. P names × Q names)
+numbers_then {a} {b} {c} one two = record {
+  grows = begins_behind (names_in a) (names_in b) (names_in c) one.grows two.grows;
+  tags = two.tags ∙ one.tags;
+  so = λ names begins. (one.so names (begins_behind (names_in b) (names_in c) names two.grows begins), two.so names begins);
+}
+
+-- with what is so of all names that begin with those before
+pub links_with : {a b : Linker} {count : ℕ} {P : Names → Type 0} {Q : Names → List Tag → Type 0} → ((names : Names) → IsBeginning (names_in a) names → P names) → Links a b count Q → Links a b count (λ names tags. P names × Q names tags)
+links_with {a} {b} holds links = record {
+  grows = links.grows;
+  behind = links.behind;
+  so = λ names begins. (holds names (begins_behind (names_in a) (names_in b) names links.grows begins), links.so names begins);
+}
+
 -- nothing is done
 pub links_itself : (a : Linker) {P : Names → List Tag → Type 0} → ((names : Names) → P names a.tags.left.now) → Links a a 0 P
 links_itself a holds = record { grows = begins_itself (names_in a); behind = refl; so = λ names begins. holds names }

@@ -5,14 +5,13 @@ use Rattle.vrl_value.specs.declared.value.Tag.{Tag}
 use Rattle.vrl_syntax.specs.ErrorAssignments.{in_args, in_arms, in_expr, in_exprs, in_pairs}
 use Rattle.vrl_syntax.specs.Tree.{Expr, Exprs, exprs, no_exprs, Pairs, pair, no_pairs, Arms, arm, no_arms, Args, arg, no_args}
 use Rattle.vrl_diag.specs.declared.diagnostic.Span.{Span}
-use Rattle.vrl_syntax.specs.View.{arg_of, args_view, arm_of, arms_view, expr_of, exprs_of, exprs_view, pairs_view}
-use Rattle.vrl_syntax.specs.declared.tree.Arg.{Arg as CodeArg}
+use Rattle.vrl_syntax.specs.View.{arm_of, expr_of, exprs_of, exprs_view}
 use Rattle.vrl_syntax.specs.declared.tree.Arm.{Arm as CodeArm, out-Arm}
 use Rattle.vrl_syntax.specs.declared.tree.Expr.{Expr as CodeExpr}
 use Rattle.vrl_syntax.specs.declared.tree.Form.{the_lemmas}
 use Rattle.vrl_store.specs.Asked.{is_last}
 use Rattle.vrl_store.specs.StoreView.{Names}
-use Rattle.vrl_syntax.proofs.PartSizes.{args_size, arms_size, expr_size, exprs_size, pairs_size}
+use Rattle.vrl_syntax.proofs.PartSizes.{args_size, arms_size, exprs_size, pairs_size}
 use Rattle.vrl_resolve.specs.Linked as linked
 use Rattle.vrl_resolve.specs.Linked.{arm_of as linked_arm, Linked, Parts, parts, no_parts, linked_of, parts_of_list, pairs_of_list, arms_of_list, ArmTree}
 use Rattle.vrl_resolve.specs.Linking.{names_in, AreArgsLinked, AreArmsLinked, AreItemsLinked, AreLinked, ArePairsLinked, IsBeginning, IsLinked, Links, none_linked, one_linked, no_item, one_item, no_pair, one_pair, no_arm, one_arm, no_argument, one_argument}

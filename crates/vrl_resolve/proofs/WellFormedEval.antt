@@ -10,14 +10,15 @@ use Rattle.vrl_value.specs.Tree.{Tree, null, array as items, object as members, 
 use Rattle.vrl_value.specs.View.{items_of_trees}
 use Rattle.vrl_value.specs.declared.value.Tag.{Tag}
 use Rattle.vrl_path.specs.declared.path.Step.{Step}
-use Rattle.vrl_syntax.specs.Calls.{is_del, is_exists, literal_of}
+use Rattle.vrl_syntax.specs.Calls.{form_named, has_shape, is_closure_form, is_del, is_exists, literal_of}
 use Rattle.vrl_syntax.specs.ErrorAssignments.{behind, behind_all, behind_args, behind_arms, first_tag, other_tags}
 use Rattle.vrl_syntax.specs.Stores.{Store, bound_to, hidden_by}
 use Rattle.vrl_syntax.specs.Tree.{Expr, expr, Form, literal, array, object, read, query, group, block, conditional, negation, binary, assign, merge, both, call, return_of, abort_with, Exprs, no_exprs, exprs, Pairs, no_pairs, pair, Arms, no_arms, arm, Else, no_else, else_block, Args, no_args, arg, Closure, no_closure, closure, no_message, message}
+use Rattle.vrl_syntax.specs.declared.call_form.CallForm.{CallForm}
 use Rattle.vrl_syntax.specs.declared.root.Op.TheVariants as op
 use Rattle.vrl_syntax.specs.declared.root.Root.{Root}
 use Rattle.vrl_builtin.specs.Rows.{ParameterRow, SettingTree}
-use Rattle.vrl_table.specs.Binding.{binding, keywords_of, path_parameters}
+use Rattle.vrl_table.specs.Binding.{binding, collection_parameters, keywords_of, path_parameters}
 use Rattle.vrl_table.specs.Table.{function_named, row_of}
 use Rattle.vrl_table.specs.declared.binding.BindFault.{BindFault}
 use Rattle.vrl_table.specs.declared.function.Fun.{Fun}
@@ -25,7 +26,7 @@ use Rattle.vrl_store.specs.Operators.{is_true}
 use Rattle.vrl_store.specs.Outcomes.{Ended, ends, value}
 use Rattle.vrl_store.specs.Places.{target_value}
 use Rattle.vrl_store.specs.WellFormed.{AreWellFormed, AreWellFormedArgs, AreWellFormedArms, AreWellFormedExprs, AreWellFormedPairs, IsWellFormed, IsWellFormedClosure, IsWellFormedElse, IsWellFormedEnded, IsWellFormedExpr, IsWellFormedForm, IsWellFormedStore}
-use Rattle.vrl_resolve.specs.Calls.{Callee, function, deletion, existence, nothing_called, are_written_right, bound_function, bound_path, callee_of, is_allowed_literal, is_written_right, items_in, named_function, path_callee, values_of, written_at, written_function}
+use Rattle.vrl_resolve.specs.Calls.{Callee, function, deletion, existence, nothing_called, are_written_right, bound_function, bound_iteration, bound_path, callee_of, closure_callee, is_allowed_literal, is_written_right, items_in, named_function, path_callee, values_of, written_at, written_function}
 use Rattle.vrl_resolve.specs.Laws.{EvaluationsStayWellFormed, KeepsWellFormed}
 use Rattle.vrl_resolve.specs.Meaning.{eval, eval_all, eval_args, eval_arms, eval_body, eval_else, eval_form, eval_items, eval_pairs}
 use Rattle.vrl_resolve.proofs.BoundPlaces.{places_are, ArePlaced, IsPlaced}
@@ -99,8 +100,17 @@ takes_either : (known : List (Option Tree)) (b : Bool) (first second : Callee) �
 takes_either known true first second one other = one
 takes_either known false first second one other = other
 
+-- nor does what runs a closure
+takes_closure : (known : List (Option Tree)) (f : Option CallForm) (xs : List (List ℕ)) (gs : Args) → TakesKnown known (closure_callee f xs gs)
+takes_closure known None xs gs = tt
+takes_closure known (Some f) xs gs =
+    takes_either known (is_closure_form (Some f) && has_shape f xs) (bound_iteration f (binding (collection_parameters f) (keywords_of gs))) nothing_called (chosen (binding (collection_parameters f) (keywords_of gs))) tt where
+      chosen : (bound : Result (List (Option ℕ)) BindFault) → TakesKnown known (bound_iteration f bound)
+      chosen (Ok places) = tt
+      chosen (Err fault) = tt
+
 takes_is : (name : List ℕ) (gs : Args) (c : Closure) → TakesKnown (known_args gs) (callee_of name gs c)
-takes_is name gs (closure names es span) = tt
+takes_is name gs (closure names es span) = takes_closure (known_args gs) (form_named name) names gs
 takes_is name gs no_closure =
     takes_either (known_args gs) (is_del name) (bound_path deletion gs (binding path_parameters (keywords_of gs))) _ (takes_bound_path deletion gs (binding path_parameters (keywords_of gs)) (λ root path. tt))
     (takes_either (known_args gs) (is_exists name) (bound_path existence gs (binding path_parameters (keywords_of gs))) (named_function (function_named name) gs)

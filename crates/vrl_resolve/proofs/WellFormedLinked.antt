@@ -4,25 +4,26 @@ use Rattle.std.proofs.Common.{sym, ap, ◌∙◌, subst, append_assoc, true≢fa
 use Rattle.std.proofs.lemmas.List.{append-nil}
 use Rattle.vrl_value.specs.Tree.{Tree, null, array as items, object as members, Members, no_members, put}
 use Rattle.vrl_value.specs.View.{items_of_trees}
-use Rattle.vrl_syntax.specs.Stores.{Store}
+use Rattle.vrl_syntax.specs.Stores.{Store, with_value}
 use Rattle.vrl_syntax.specs.declared.root.Op.TheVariants as op
+use Rattle.vrl_syntax.specs.declared.root.Root.TheVariants.{Name}
 use Rattle.vrl_builtin.specs.Rows.{ParameterRow, SettingTree}
 use Rattle.vrl_table.specs.Table.{row_of}
 use Rattle.vrl_store.specs.Operators.{is_true}
 use Rattle.vrl_store.specs.Outcomes.{Ended, ends, value}
 use Rattle.vrl_store.specs.Places.{target_value}
-use Rattle.vrl_store.specs.StoreView.{root_of, Names}
+use Rattle.vrl_store.specs.StoreView.{name_at, root_of, Names}
 use Rattle.vrl_store.specs.WellFormed.{AreWellFormed, IsWellFormed, IsWellFormedEnded, IsWellFormedStore}
-use Rattle.vrl_resolve.specs.Calls.{items_in}
+use Rattle.vrl_resolve.specs.Calls.{items_in, iteration}
 use Rattle.vrl_resolve.specs.Fits.{part_at, AllFit, AreGiven, ArmsFit, ElseFits, Fits, IsAllowedPartIf, IsCallee, IsGiven, PairsFit}
-use Rattle.vrl_resolve.specs.Laws.{MeaningsStayWellFormed}
-use Rattle.vrl_resolve.specs.Linked.{Linked, literal, array, object, read, query, block, conditional, negation, binary, assign, merge, both, call, return_of, abort_with, Parts, no_parts, parts, Pairs, no_pairs, pair, Arms, no_arms, arm, Else, no_else, else_block, no_message, message}
-use Rattle.vrl_resolve.specs.LinkedMeaning.{all_mean, arms_mean, callee_in, else_means, if_asked, items_mean, means, no_body, pairs_mean, target_of}
+use Rattle.vrl_resolve.specs.Laws.{KeepsWellFormed, MeaningsStayWellFormed}
+use Rattle.vrl_resolve.specs.Linked.{Linked, literal, array, object, read, query, block, conditional, negation, binary, assign, merge, both, call, iterate, return_of, abort_with, Parts, no_parts, parts, Pairs, no_pairs, pair, Arms, no_arms, arm, Else, no_else, else_block, no_message, message}
+use Rattle.vrl_resolve.specs.LinkedMeaning.{all_mean, arms_mean, body_means, bound_slots, callee_in, else_means, form_in, hidden_slots, if_asked, items_mean, means, no_body, pairs_mean, slots_in, target_of}
 use Rattle.vrl_resolve.specs.declared.node.Callee.{Callee}
 use Rattle.vrl_resolve.specs.declared.node.Callee.TheVariants as callee
 use Rattle.vrl_resolve.proofs.GivenArguments.{AreGivenAs, AreKnownAs, IsAllowedAs, IsGivenAs, IsKnownAs}
 use Rattle.vrl_resolve.proofs.WellFormedCalls.{acts_is, items_in_is, TakesKnown}
-use Rattle.vrl_resolve.proofs.WellFormedEnds.{aborted_is, assigned_is, banged_is, block_is, both_is, combined_is, either_is, came_of, negated_is, on_value_is, on_value_known, part_of_is, read_in_is, same_value, target_is}
+use Rattle.vrl_resolve.proofs.WellFormedEnds.{aborted_is, assigned_is, banged_is, block_is, body_left_is, both_is, combined_is, either_is, came_of, negated_is, on_value_is, on_value_known, part_of_is, read_in_is, same_value, target_is, with_value_is}
 use Rattle.vrl_resolve.proofs.WellFormedValues.{Laws, array_is, no_members_is, null_is, one_more, put_is}
 
 asked_is : (count : ℕ) (asked : Bool) (ended : Ended) → IsWellFormedEnded count ended → IsWellFormedEnded count (if_asked asked ended)
@@ -80,6 +81,15 @@ known_are names setting (parts n ns) done store u came =
 pub arguments_known : (names : Names) (setting : SettingTree) (ns : Parts) (store : Store) (u : Tree) → (all_mean names setting ns [] store).outcome ≡ value u → AreKnownAs (known_parts ns) (items_in u)
 arguments_known names setting ns store u came = let all = known_are names setting ns [] store u came in subst (AreKnownAs (known_parts ns)) (ap items_in (sym all.1.0)) all.1.1
 
+-- ---- closures
+
+slots_bound : (count : ℕ) (names : Names) (slots : List (Option ℕ)) (vs : List Tree) (store : Store) → AreWellFormed count vs → IsWellFormedStore count store → IsWellFormedStore count (bound_slots names slots vs store)
+slots_bound count names [] vs store are is = is
+slots_bound count names (slot ∷ slots) [] store are is = is
+slots_bound count names (None ∷ slots) (v ∷ vs) store are is = slots_bound count names slots vs store are.1 is
+slots_bound count names (Some number ∷ slots) (v ∷ vs) store are is =
+    slots_bound count names slots vs (with_value (Name (name_at names number)) v store) are.1 (with_value_is count (Name (name_at names number)) v store are.0 is)
+
 -- ---- what an expression means
 
 module _ (laws : Laws) (names : Names) (setting : SettingTree) (variables : ℕ) where
@@ -108,6 +118,14 @@ module _ (laws : Laws) (names : Names) (setting : SettingTree) (variables : ℕ)
         banged_is count bang _ (on_value_known count (all_mean names setting ns [] store) _ given
         (λ vs came one. acts_is laws setting (known_parts ns) (callee_in names c) no_body (items_in vs) (all_mean names setting ns [] store).store
         (takes_is names variables ns c fits.0) (arguments_known names setting ns store vs came) (λ us after are formed. (null_is count, formed)) (items_in_is count vs one) given.1))
+    node_is (iterate f bang ns body) store fits is =
+        let given = parts_are ns [] store fits.1.0 tt is in
+        banged_is count bang _ (on_value_known count (all_mean names setting ns [] store) _ given
+        (λ vs came one. acts_is laws setting (known_parts ns) (iteration (form_in f)) (body_means names setting (slots_in f) body) (items_in vs) (all_mean names setting ns [] store).store
+        tt (arguments_known names setting ns store vs came)
+        (λ us now are formed. body_left_is count (hidden_slots names (slots_in f)) now _ formed
+        (items_are null body (bound_slots names (slots_in f) us now) (null_is count) fits.1.1 (slots_bound count names (slots_in f) us now are formed)))
+        (items_in_is count vs one) given.1))
     node_is (return_of n) store fits is = on_value_is count (means names setting n store) _ (node_is n store fits is) (λ v after one stored. (one, stored))
     node_is (abort_with no_message) store fits is = (tt, is)
     node_is (abort_with (message n)) store fits is = on_value_is count (means names setting n store) _ (node_is n store fits is) (λ v after one stored. (aborted_is count v, stored))
@@ -135,6 +153,10 @@ module _ (laws : Laws) (names : Names) (setting : SettingTree) (variables : ℕ)
     else_is no_else store fits is = (null_is count, is)
     else_is (else_block ns) store fits is = block_is count store _ (items_are null ns store (null_is count) fits is)
 
+  body_is : (slots : List (Option ℕ)) (ns : Parts) → AllFit variables count ns → KeepsWellFormed count (body_means names setting slots ns)
+  body_is slots ns fits vs store are is =
+      body_left_is count (hidden_slots names slots) store _ is (items_are null ns (bound_slots names slots vs store) (null_is count) fits (slots_bound count names slots vs store are is))
+
 pub meanings_stay_well_formed : Laws → MeaningsStayWellFormed
 meanings_stay_well_formed laws = record {
   node = λ names setting count n store. node_is laws names setting count n store;
@@ -142,5 +164,6 @@ meanings_stay_well_formed laws = record {
   pairs = λ names setting count ps ms store. pairs_are laws names setting count ps ms store;
   items = λ names setting count last ns store. items_are laws names setting count last ns store;
   arms = λ names setting count as_ otherwise store. arms_are laws names setting count as_ otherwise store;
+  body = λ names setting count slots ns. body_is laws names setting count slots ns;
   otherwise = λ names setting count es store. else_is laws names setting count es store;
 }

@@ -1,28 +1,31 @@
--- Calls: what a call calls, as its text says, and what comes of it once its arguments have values.
---
--- The four functions that take a closure aren't built yet: a call of one calls nothing. What a call does is given the run of its closure's body
--- already.
-use Rattle.std.specs.Prelude.{ℕ, suc, Bool, true, false, ◌&&◌, List, [], ◌∷◌, ◌++◌, map, Option, Some, None, codes, slice_get, if◌then◌else◌}
+-- Calls: what a call calls, as its text says, and what comes of it once its arguments have values. What a call does is given the run of its closure's
+-- body.
+use Rattle.std.specs.Prelude.{ℕ, suc, Bool, true, false, ◌&&◌, List, [], ◌∷◌, ◌++◌, map, Option, Some, None, codes, slice_get, unwrap_or, if◌then◌else◌}
 use Rattle.std.specs.Option.{option_map_or}
 use Rattle.std.specs.declared.result.Result.{Result}
 use Rattle.std.specs.declared.result.Result.TheVariants.{Ok, Err}
 use Rattle.vrl_value.specs.Look.{item_at}
 use Rattle.vrl_value.specs.Tag.{tag_of, word_of}
-use Rattle.vrl_value.specs.Tree.{Tree, boolean, array as items, Items, no_items}
+use Rattle.vrl_value.specs.Tree.{Tree, boolean, null, array as items, Items, no_items}
 use Rattle.vrl_value.specs.declared.value.Tag.{Tag}
 use Rattle.vrl_path.specs.declared.path.Step.{Step}
-use Rattle.vrl_syntax.specs.Calls.{is_del, is_exists, literal_of}
+use Rattle.vrl_syntax.specs.Calls.{form_name, form_named, has_shape, is_closure_form, is_del, is_exists, literal_of}
+use Rattle.vrl_syntax.specs.declared.call_form.CallForm.{CallForm}
+use Rattle.vrl_syntax.specs.declared.call_form.CallForm.TheVariants as form
 use Rattle.vrl_syntax.specs.Stores.{Store}
 use Rattle.vrl_syntax.specs.Tree.{Expr, expr, read, Args, no_args, arg, Closure, no_closure, closure}
 use Rattle.vrl_syntax.specs.declared.root.Root.{Root}
 use Rattle.vrl_builtin.specs.Rows.{Answer, value as answered, failure, ParameterRow, Row, SettingTree, argument_at}
+use Rattle.vrl_builtin.specs.Listed.{list_in}
 use Rattle.vrl_builtin.specs.TagSets.{allows}
-use Rattle.vrl_table.specs.Binding.{binding, keywords_of, path_parameters}
+use Rattle.vrl_table.specs.Binding.{binding, collection_parameters, keywords_of, path_parameters}
 use Rattle.vrl_table.specs.Table.{function_named, row_of}
 use Rattle.vrl_table.specs.declared.binding.BindFault.{BindFault}
 use Rattle.vrl_table.specs.declared.function.Fun.{Fun}
-use Rattle.vrl_store.specs.Outcomes.{Outcome, value, error, deep, Ended, ends}
+use Rattle.vrl_store.specs.Outcomes.{Outcome, value, error, deep, Ended, ends, on_value}
 use Rattle.vrl_store.specs.Places.{is_there, is_within, read_in, removed}
+pub use Rattle.vrl_resolve.specs.Iteration.{Body}
+use Rattle.vrl_resolve.specs.Iteration.{filtered, given_by, runs, with_keys, with_values}
 
 -- ---- what is called
 
@@ -32,7 +35,9 @@ pub data Callee : Type 0 where
   -- `del` of a path, and `exists` of one
   deletion : Root → List Step → Callee
   existence : Root → List Step → Callee
-  -- no function has the name, or the arguments aren't those that one takes, or a closure is given
+  -- a function that runs a closure for each part of a collection
+  iteration : CallForm → Callee
+  -- no function has the name, or the arguments aren't those that one takes, or a closure isn't
   nothing_called : Callee
 
 -- the arguments, as they are written
@@ -77,8 +82,17 @@ abbrev pub bound_path : (Root → List Step → Callee) → Args → Result (Lis
 bound_path make gs (Ok places) = path_callee make (values_of gs)
 bound_path make gs (Err fault) = nothing_called
 
+abbrev pub bound_iteration : CallForm → Result (List (Option ℕ)) BindFault → Callee
+bound_iteration f (Ok places) = iteration f
+bound_iteration f (Err fault) = nothing_called
+
+abbrev pub closure_callee : Option CallForm → List (List ℕ) → Args → Callee
+closure_callee None names gs = nothing_called
+closure_callee (Some f) names gs = if is_closure_form (Some f) && has_shape f names then bound_iteration f (binding (collection_parameters f) (keywords_of gs)) else nothing_called
+
+-- one with a closure, and one without
 abbrev pub callee_of : List ℕ → Args → Closure → Callee
-callee_of name gs (closure names es span) = nothing_called
+callee_of name gs (closure names es span) = closure_callee (form_named name) names gs
 callee_of name gs no_closure =
     if is_del name then bound_path deletion gs (binding path_parameters (keywords_of gs)) else
     (if is_exists name then bound_path existence gs (binding path_parameters (keywords_of gs)) else named_function (function_named name) gs)
@@ -123,16 +137,29 @@ abbrev pub argument_in : Items → Option ℕ → Option Tree
 argument_in vs None = None
 argument_in vs (Some place) = item_at place vs
 
--- The run of a closure's body: it is given values for the closure's names and a store, and says how it ends.
-abbrev pub Body : Type 0
-Body = List Tree → Store → Ended
+-- what a function makes of a collection and of the values that the runs gave; a name that is no text is an error of empty text, which no accepted script has
+abbrev pub renamed_or_else : Option Tree → Outcome
+renamed_or_else None = error []
+renamed_or_else (Some v) = within_limit v
 
--- A call in the store that its arguments left, with the body of its closure, which nothing runs so far. A call that calls nothing ends with
--- an error of empty text; no accepted script has one.
+abbrev pub made_of : CallForm → Tree → List Tree → Outcome
+made_of form.Filter v rs = within_limit (filtered v rs)
+made_of form.MapValues v rs = within_limit (with_values v rs)
+made_of form.MapKeys v rs = renamed_or_else (with_keys v rs)
+made_of f v rs = value null
+
+-- the body is run for each part of the collection, unless that is none
+abbrev pub iterated : CallForm → Body → Tree → Option (List ℕ × Tag) → Store → Ended
+iterated f body v (Some unfit) store = ends (error (argument_text (form_name f) unfit.0 unfit.1)) store
+iterated f body v None store = on_value (runs body (given_by f v) [] store) (λ rs after. ends (made_of f v (list_in rs)) after)
+
+-- A call in the store that its arguments left, with the run of its closure's body. A call that calls nothing ends with an error of empty text; no
+-- accepted script has one.
 abbrev pub acts : SettingTree → Callee → Body → Items → Store → Ended
 acts setting (function f places) body vs store = ends (called setting (row_of f) (map (argument_in vs) places)) store
 acts setting (deletion root path) body vs store = ends (within_limit (read_in root path store)) (removed root path store)
 acts setting (existence root path) body vs store = ends (value (boolean (is_there root path store))) store
+acts setting (iteration f) body vs store = iterated f body (unwrap_or (item_at 0 vs) null) (first_unfit 0 (collection_parameters f) (item_at 0 vs ∷ [])) store
 acts setting nothing_called body vs store = ends (error []) store
 
 -- the items of an array

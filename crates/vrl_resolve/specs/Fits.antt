@@ -1,5 +1,5 @@
 -- What is asked of a linked expression that is run with so many variables and regexes.
-use Rattle.std.specs.Prelude.{ℕ, zero, suc, Bool, true, false, List, [], ◌∷◌, Option, Some, None, IsSome, IsTrue, ⊤}
+use Rattle.std.specs.Prelude.{ℕ, zero, suc, ◌<◌, Bool, true, false, List, [], ◌∷◌, Option, Some, None, IsSome, IsTrue, ⊤}
 use Rattle.vrl_value.specs.Tree.{Tree}
 use Rattle.vrl_path.specs.Steps.{IsPlain, IsWritable}
 use Rattle.vrl_builtin.specs.Conditions.{IsThere}
@@ -8,7 +8,8 @@ use Rattle.vrl_table.specs.Table.{row_of}
 use Rattle.vrl_store.specs.StoreView.{IsKnown}
 use Rattle.vrl_store.specs.declared.place.Place.{Place}
 use Rattle.vrl_store.specs.WellFormed.{IsWellFormed}
-use Rattle.vrl_resolve.specs.Linked.{Linked, literal, array, object, read, query, block, conditional, negation, binary, assign, merge, both, call, return_of, abort_with, Parts, no_parts, parts, Pairs, no_pairs, pair, Arms, no_arms, arm, Else, no_else, else_block, Message, no_message, message}
+use Rattle.vrl_resolve.specs.Linked.{Linked, literal, array, object, read, query, block, conditional, negation, binary, assign, merge, both, call, iterate, return_of, abort_with, Parts, no_parts, parts, Pairs, no_pairs, pair, Arms, no_arms, arm, Else, no_else, else_block, Message, no_message, message}
+use Rattle.vrl_resolve.specs.LinkedMeaning.{slots_in}
 use Rattle.vrl_resolve.specs.declared.node.Callee.{Callee}
 use Rattle.vrl_resolve.specs.declared.node.Callee.TheVariants as callee
 
@@ -48,6 +49,15 @@ IsCallee count ns (callee.Deletion place) = IsKnown count place.base × IsPlain 
 IsCallee count ns (callee.Existence place) = IsKnown count place.base
 IsCallee count ns callee.Nothing = ⊤
 
+-- the variables that a closure binds are some of so many
+abbrev pub IsKnownSlot : ℕ → Option ℕ → Type 0
+IsKnownSlot count None = ⊤
+IsKnownSlot count (Some number) = number < count
+
+abbrev pub AreKnownSlots : ℕ → List (Option ℕ) → Type 0
+AreKnownSlots count [] = ⊤
+AreKnownSlots count (slot ∷ slots) = IsKnownSlot count slot × AreKnownSlots count slots
+
 abbrev mutual
   pub Fits : ℕ → ℕ → Linked → Type 0
   Fits count sources (literal v) = IsWellFormed sources v
@@ -63,6 +73,7 @@ abbrev mutual
   Fits count sources (merge asked t n) = IsTarget count t × Fits count sources n
   Fits count sources (both asked t u tag n) = IsTarget count t × (IsTarget count u × Fits count sources n)
   Fits count sources (call c bang ns) = IsCallee count ns c × AllFit count sources ns
+  Fits count sources (iterate f bang ns body) = AreKnownSlots count (slots_in f) × (AllFit count sources ns × AllFit count sources body)
   Fits count sources (return_of n) = Fits count sources n
   Fits count sources (abort_with m) = MessageFits count sources m
 

@@ -1,5 +1,5 @@
 -- Laws of the meaning.
-use Rattle.std.specs.Prelude.{◌≡◌, ℕ, List, length}
+use Rattle.std.specs.Prelude.{◌≡◌, ℕ, List, length, Option}
 use Rattle.vrl_value.specs.Tree.{Tree, null, object, Members}
 use Rattle.vrl_value.specs.declared.value.Tag.{Tag}
 use Rattle.vrl_syntax.specs.Stores.{Store, store_of}
@@ -11,7 +11,7 @@ use Rattle.vrl_store.specs.WellFormed.{AreWellFormed, AreWellFormedExprs, IsWell
 use Rattle.vrl_resolve.specs.Calls.{Body}
 use Rattle.vrl_resolve.specs.Fits.{AllFit, ArmsFit, ElseFits, Fits, PairsFit}
 use Rattle.vrl_resolve.specs.Linked.{Arms, Else, Linked, Pairs, Parts}
-use Rattle.vrl_resolve.specs.LinkedMeaning.{all_mean, arms_mean, else_means, items_mean, means, pairs_mean}
+use Rattle.vrl_resolve.specs.LinkedMeaning.{all_mean, arms_mean, body_means, else_means, items_mean, means, pairs_mean}
 use Rattle.vrl_resolve.specs.Meaning.{eval, eval_body, eval_items, run_script}
 
 -- a script without items gives null, and leaves the event as it is
@@ -46,6 +46,8 @@ pub record MeaningsStayWellFormed : Type 0 where
   pub items : (names : Names) (setting : SettingTree) (count : ℕ) (last : Tree) (ns : Parts) (store : Store) →
       IsWellFormed (length setting.sources) last → AllFit count (length setting.sources) ns → IsWellFormedStore (length setting.sources) store →
       IsWellFormedEnded (length setting.sources) (items_mean names setting last ns store)
+  -- the items of a closure, with its variables bound to such values
+  pub body : (names : Names) (setting : SettingTree) (count : ℕ) (slots : List (Option ℕ)) (ns : Parts) → AllFit count (length setting.sources) ns → KeepsWellFormed (length setting.sources) (body_means names setting slots ns)
   -- where what is otherwise done ends so in each such store
   pub arms : (names : Names) (setting : SettingTree) (count : ℕ) (as_ : Arms) (otherwise : Store → Ended) (store : Store) →
       ArmsFit count (length setting.sources) as_ →

@@ -1,5 +1,7 @@
 pub mod Calls
 pub mod Fits
+pub mod Iterating
+pub mod Iteration
 pub mod Laws
 pub mod Leaving
 pub mod Linked

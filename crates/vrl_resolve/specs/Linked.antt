@@ -14,8 +14,10 @@ use Rattle.vrl_resolve.specs.declared.node.Node.{Node}
 use Rattle.vrl_resolve.specs.declared.node.Arm.{Arm}
 use Rattle.vrl_resolve.specs.declared.node.Call.{Call}
 use Rattle.vrl_resolve.specs.declared.node.Form.{Form}
-use Rattle.vrl_resolve.specs.declared.node.Form.TheFolds.{fold-Form, fold-Arm, fold-Call, fold-Node}
-use Rattle.vrl_resolve.specs.declared.node.Form.TheOpen.{Form-F, Arm-F, Call-F, Node-F}
+use Rattle.vrl_resolve.specs.declared.node.Iteration.{Iteration}
+use Rattle.vrl_resolve.specs.declared.node.Loop.{Loop}
+use Rattle.vrl_resolve.specs.declared.node.Form.TheFolds.{fold-Form, fold-Arm, fold-Call, fold-Iteration, fold-Node}
+use Rattle.vrl_resolve.specs.declared.node.Form.TheOpen.{Form-F, Arm-F, Call-F, Iteration-F, Node-F}
 
 mutual
   pub data Linked : Type 0 where
@@ -33,6 +35,8 @@ mutual
     merge : Bool → Option Place → Linked → Linked
     both : Bool → Option Place → Option Place → Tag → Linked → Linked
     call : Callee → Bool → Parts → Linked
+    -- a call that runs a closure, with the closure's items behind its arguments
+    iterate : Loop → Bool → Parts → Parts → Linked
     return_of : Linked → Linked
     abort_with : Message → Linked
 
@@ -82,7 +86,7 @@ message_of None = no_message
 message_of (Some n) = message n
 
 -- one level, with what stands inside already seen as data
-abbrev pub form_step : Form-F Linked ArmTree Linked Linked → Linked
+abbrev pub form_step : Form-F Linked ArmTree Linked Linked Linked → Linked
 form_step (Form-F.Literal v) = literal (tree_of v)
 form_step (Form-F.Array ns) = array (parts_of_list ns.items)
 form_step (Form-F.Object ps) = object (pairs_of_list ps.items)
@@ -96,29 +100,36 @@ form_step (Form-F.Assign asked t n) = assign asked t n.value
 form_step (Form-F.Merge asked t n) = merge asked t n.value
 form_step (Form-F.Both asked t u tag n) = both asked t u tag n.value
 form_step (Form-F.Call c) = c.value
+form_step (Form-F.Iteration i) = i.value
 form_step (Form-F.Return n) = return_of n.value
 form_step (Form-F.Abort n) = abort_with (message_of (option_map (λ b. b.value) n))
 
-abbrev pub arm_step : Arm-F Linked ArmTree Linked Linked → ArmTree
+abbrev pub arm_step : Arm-F Linked ArmTree Linked Linked Linked → ArmTree
 arm_step a = (a.predicate, parts_of_list a.body.items)
 
-abbrev pub call_step : Call-F Linked ArmTree Linked Linked → Linked
+abbrev pub call_step : Call-F Linked ArmTree Linked Linked Linked → Linked
 call_step c = call c.callee c.bang (parts_of_list c.args.items)
 
-abbrev pub node_step : Node-F Linked ArmTree Linked Linked → Linked
+abbrev pub iteration_step : Iteration-F Linked ArmTree Linked Linked Linked → Linked
+iteration_step i = iterate i.function i.bang (parts_of_list i.args.items) (parts_of_list i.body.items)
+
+abbrev pub node_step : Node-F Linked ArmTree Linked Linked Linked → Linked
 node_step n = n.form
 
 abbrev pub linked_of : Node → Linked
-linked_of = fold-Node Linked ArmTree Linked Linked form_step arm_step call_step node_step
+linked_of = fold-Node Linked ArmTree Linked Linked Linked form_step arm_step call_step iteration_step node_step
 
 abbrev pub form_of : Form → Linked
-form_of = fold-Form Linked ArmTree Linked Linked form_step arm_step call_step node_step
+form_of = fold-Form Linked ArmTree Linked Linked Linked form_step arm_step call_step iteration_step node_step
 
 abbrev pub arm_of : Arm → ArmTree
-arm_of = fold-Arm Linked ArmTree Linked Linked form_step arm_step call_step node_step
+arm_of = fold-Arm Linked ArmTree Linked Linked Linked form_step arm_step call_step iteration_step node_step
 
 abbrev pub call_of : Call → Linked
-call_of = fold-Call Linked ArmTree Linked Linked form_step arm_step call_step node_step
+call_of = fold-Call Linked ArmTree Linked Linked Linked form_step arm_step call_step iteration_step node_step
+
+abbrev pub iteration_of : Iteration → Linked
+iteration_of = fold-Iteration Linked ArmTree Linked Linked Linked form_step arm_step call_step iteration_step node_step
 
 -- the same of what a vector holds
 abbrev pub parts_view : List Node → Parts

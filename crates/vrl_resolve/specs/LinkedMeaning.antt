@@ -1,23 +1,28 @@
 -- What a linked expression does: as `Meaning` has it of the expression that it was made of.
-use Rattle.std.specs.Prelude.{Bool, true, false, List, [], ◌∷◌, ◌++◌, Option, Some, None, if◌then◌else◌}
+use Rattle.std.specs.Prelude.{ℕ, Bool, true, false, List, [], ◌∷◌, ◌++◌, Option, Some, None, if◌then◌else◌}
 use Rattle.vrl_value.specs.Tree.{Tree, null, array as items, object as members, Members, no_members, put}
 use Rattle.vrl_value.specs.View.{items_of_trees}
 use Rattle.vrl_syntax.specs.Tree.{no_span}
-use Rattle.vrl_syntax.specs.Stores.{Store}
+use Rattle.vrl_syntax.specs.Stores.{Store, with_value}
+use Rattle.vrl_syntax.specs.declared.call_form.CallForm.{CallForm}
+use Rattle.vrl_syntax.specs.declared.call_form.CallForm.TheVariants as form
 use Rattle.vrl_syntax.specs.declared.root.Op.TheVariants as op
+use Rattle.vrl_syntax.specs.declared.root.Root.TheVariants.{Name}
 use Rattle.vrl_syntax.specs.declared.root.Target.{Target}
 use Rattle.vrl_syntax.specs.declared.root.Target.TheVariants as target
 use Rattle.vrl_builtin.specs.Rows.{SettingTree}
 use Rattle.vrl_store.specs.Operators.{is_true, negated}
 use Rattle.vrl_store.specs.Outcomes.{Ended, aborted, banged_if, block_left, ends, on_value, returned, value}
 use Rattle.vrl_store.specs.Places.{part_of, read_in, target_value}
-use Rattle.vrl_store.specs.StoreView.{root_of, Names}
+use Rattle.vrl_store.specs.StoreView.{name_at, root_of, Names}
 use Rattle.vrl_store.specs.declared.place.Place.{Place}
-use Rattle.vrl_resolve.specs.Calls.{acts, deletion, existence, function, items_in, nothing_called, Body, Callee}
-use Rattle.vrl_resolve.specs.Linked.{Linked, literal, array, object, read, query, block, conditional, negation, binary, assign, merge, both, call, return_of, abort_with, Parts, no_parts, parts, Pairs, no_pairs, pair, Arms, no_arms, arm, Else, no_else, else_block, no_message, message}
-use Rattle.vrl_resolve.specs.Meaning.{aborted_with, assigned, both_assigned, combined}
+use Rattle.vrl_resolve.specs.Calls.{acts, deletion, existence, function, items_in, iteration, nothing_called, Body, Callee}
+use Rattle.vrl_resolve.specs.Linked.{Linked, literal, array, object, read, query, block, conditional, negation, binary, assign, merge, both, call, iterate, return_of, abort_with, Parts, no_parts, parts, Pairs, no_pairs, pair, Arms, no_arms, arm, Else, no_else, else_block, no_message, message}
+use Rattle.vrl_resolve.specs.Meaning.{aborted_with, assigned, body_left, both_assigned, combined}
 use Rattle.vrl_resolve.specs.declared.node.Callee.{Callee as CodeCallee}
 use Rattle.vrl_resolve.specs.declared.node.Callee.TheVariants as callee
+use Rattle.vrl_resolve.specs.declared.node.Loop.{Loop}
+use Rattle.vrl_resolve.specs.declared.node.Loop.TheVariants as loops
 
 abbrev pub target_of : Names → Option Place → Target
 target_of names None = target.Nowhere
@@ -29,9 +34,40 @@ callee_in names (callee.Deletion place) = deletion (root_of names place.base) pl
 callee_in names (callee.Existence place) = existence (root_of names place.base) place.path
 callee_in names callee.Nothing = nothing_called
 
--- a node holds no closure, since nothing that it calls runs one
+-- what such a node calls runs no closure
 abbrev pub no_body : Body
 no_body vs store = ends (value null) store
+
+-- ---- closures
+
+-- the function that runs one
+abbrev pub form_in : Loop → CallForm
+form_in (loops.ForEach key v) = form.ForEach
+form_in (loops.Filter key v) = form.Filter
+form_in (loops.MapValues v) = form.MapValues
+form_in (loops.MapKeys key) = form.MapKeys
+
+-- the variables of the closure's names, in order; none of `_`
+abbrev pub slots_in : Loop → List (Option ℕ)
+slots_in (loops.ForEach key v) = key ∷ v ∷ []
+slots_in (loops.Filter key v) = key ∷ v ∷ []
+slots_in (loops.MapValues v) = v ∷ []
+slots_in (loops.MapKeys key) = key ∷ []
+
+-- the names that hide names of the store
+abbrev pub hidden_slots : Names → List (Option ℕ) → List (List ℕ)
+hidden_slots names [] = []
+hidden_slots names (None ∷ slots) = hidden_slots names slots
+hidden_slots names (Some number ∷ slots) = name_at names number ∷ hidden_slots names slots
+
+-- the store with the variables bound to values
+abbrev pub bound_slots : Names → List (Option ℕ) → List Tree → Store → Store
+bound_slots names [] vs store = store
+bound_slots names (slot ∷ slots) [] store = store
+bound_slots names (None ∷ slots) (v ∷ vs) store = bound_slots names slots vs store
+bound_slots names (Some number ∷ slots) (v ∷ vs) store = bound_slots names slots vs (with_value (Name (name_at names number)) v store)
+
+-- ---- the meaning
 
 -- a value that nobody asks for is null
 abbrev pub if_asked : Bool → Ended → Ended
@@ -53,6 +89,8 @@ abbrev mutual
   means names setting (merge asked t n) store = if_asked asked (assigned (target_of names t) (combined op.Merge (ends (value (target_value (target_of names t) store)) store) (λ after. means names setting n after)))
   means names setting (both asked t u tag n) store = let given = means names setting n store in if_asked asked (both_assigned (target_of names t) (target_of names u) tag given.outcome given.store)
   means names setting (call c bang ns) store = banged_if bang (on_value (all_mean names setting ns [] store) (λ vs after. acts setting (callee_in names c) no_body (items_in vs) after))
+  means names setting (iterate f bang ns body) store =
+      banged_if bang (on_value (all_mean names setting ns [] store) (λ vs after. acts setting (iteration (form_in f)) (λ us now. body_left (hidden_slots names (slots_in f)) now (items_mean names setting null body (bound_slots names (slots_in f) us now))) (items_in vs) after))
   means names setting (return_of n) store = on_value (means names setting n store) (λ v after. ends (returned v) after)
   means names setting (abort_with no_message) store = ends (aborted None) store
   means names setting (abort_with (message n)) store = on_value (means names setting n store) (λ v after. ends (aborted_with v) after)
@@ -78,3 +116,7 @@ abbrev mutual
   pub else_means : Names → SettingTree → Else → Store → Ended
   else_means names setting no_else store = ends (value null) store
   else_means names setting (else_block ns) store = block_left store (items_mean names setting null ns store)
+
+-- the items of a closure, with its variables bound to values
+abbrev pub body_means : Names → SettingTree → List (Option ℕ) → Parts → Body
+body_means names setting slots ns vs store = body_left (hidden_slots names slots) store (items_mean names setting null ns (bound_slots names slots vs store))

@@ -1,33 +1,36 @@
 -- What linking makes of the parts of a script, told of the names that the variables have in the end.
 --
 -- Each part has its own tags of empty values in front of those left. Whether somebody asks for a value is told of an expression and of items.
-use Rattle.std.specs.Prelude.{◌≡◌, ℕ, Bool, true, false, not, ◌&&◌, List, [], ◌∷◌, ◌++◌, length, drop, map, Option, Some, None, is_none, bytes_eq, codes, if◌then◌else◌, ⊤}
+use Rattle.std.specs.Prelude.{◌≡◌, ℕ, Bool, true, false, ◌&&◌, List, [], ◌∷◌, ◌++◌, length, drop, map, Option, Some, None, bytes_eq, codes, if◌then◌else◌, ⊤}
 use Rattle.std.specs.String.{string_bytes}
 use Rattle.vrl_value.specs.Tree.{Tree, IsOrdered}
 use Rattle.vrl_value.specs.declared.value.Tag.{Tag}
 use Rattle.vrl_path.specs.declared.path.Step.{Step}
 use Rattle.vrl_diag.specs.declared.diagnostic.Span.{Span}
-use Rattle.vrl_syntax.specs.Calls.{literal_of, path_of}
-use Rattle.vrl_syntax.specs.ErrorAssignments.{behind, behind_all, behind_arms, first_tag, in_form, other_tags}
-use Rattle.vrl_syntax.specs.Tree.{Expr, expr, Form, literal, array, object, read, query, group, block, conditional, negation, binary, assign, merge, both, call, return_of, abort_with, Exprs, no_exprs, exprs, Pairs, no_pairs, pair, Arms, no_arms, arm, Else, no_else, else_block, Args, no_args, arg, Closure, no_message, message}
+use Rattle.vrl_syntax.specs.Calls.{form_named, has_shape, is_closure_form, path_of}
+use Rattle.vrl_syntax.specs.ErrorAssignments.{behind, behind_all, behind_args, behind_arms, first_tag, in_form, other_tags}
+use Rattle.vrl_syntax.specs.Tree.{Expr, expr, Form, literal, array, object, read, query, group, block, conditional, negation, binary, assign, merge, both, call, return_of, abort_with, Exprs, no_exprs, exprs, Pairs, no_pairs, pair, Arms, no_arms, arm, Else, no_else, else_block, Args, no_args, arg, Closure, no_closure, closure, no_message, message}
 use Rattle.vrl_syntax.specs.declared.root.Op.{Op}
+use Rattle.vrl_syntax.specs.declared.call_form.CallForm.{CallForm}
 use Rattle.vrl_syntax.specs.declared.root.Root.{Root}
+use Rattle.vrl_syntax.specs.declared.root.Root.TheVariants.{Name}
 use Rattle.vrl_syntax.specs.declared.root.Target.{Target}
 use Rattle.vrl_syntax.specs.declared.root.Target.TheVariants as target
-use Rattle.vrl_builtin.specs.Rows.{ParameterRow}
 use Rattle.vrl_table.specs.declared.function.Fun.{Fun}
 use Rattle.vrl_store.specs.Asked.{is_last}
 use Rattle.vrl_store.specs.StoreView.{root_of, IsKnown, Names}
 use Rattle.vrl_store.specs.declared.place.Base.{Base}
+use Rattle.vrl_store.specs.declared.place.Base.TheVariants as base
 use Rattle.vrl_store.specs.declared.place.Place.{Place}
 use Rattle.vrl_resolve.specs.Calls as called
-use Rattle.vrl_resolve.specs.Calls.{callee_of}
+use Rattle.vrl_resolve.specs.Calls.{callee_of, closure_callee}
 use Rattle.vrl_resolve.specs.Linked as linked
 use Rattle.vrl_resolve.specs.Linked.{Linked, Parts}
-use Rattle.vrl_resolve.specs.LinkedMeaning.{callee_in}
+use Rattle.vrl_resolve.specs.LinkedMeaning.{callee_in, form_in, slots_in}
 use Rattle.vrl_resolve.specs.declared.link.Linker.{Linker}
 use Rattle.vrl_resolve.specs.declared.node.Callee.{Callee}
 use Rattle.vrl_resolve.specs.declared.node.Callee.TheVariants as callee
+use Rattle.vrl_resolve.specs.declared.node.Loop.{Loop}
 
 -- ---- places and callees
 
@@ -54,6 +57,17 @@ IsKnownCallee count other = ⊤
 pub record IsCalleeOf (names : Names) (name : List ℕ) (gs : Args) (c : Closure) (d : Callee) : Type 0 where
   pub known : IsKnownCallee (length names) d
   pub same : callee_in names d ≡ callee_of name gs c
+
+-- the variable of a name of a closure; none of `_`
+abbrev pub IsSlotOf : Names → List ℕ → Option ℕ → Type 0
+IsSlotOf names x None = bytes_eq x (codes "_") ≡ true
+IsSlotOf names x (Some number) = (bytes_eq x (codes "_") ≡ false) × IsBaseOf names (Name x) (base.Variable number)
+
+abbrev pub AreSlotsOf : Names → List (List ℕ) → List (Option ℕ) → Type 0
+AreSlotsOf names [] [] = ⊤
+AreSlotsOf names [] (slot ∷ slots) = ⊥
+AreSlotsOf names (x ∷ xs) [] = ⊥
+AreSlotsOf names (x ∷ xs) (slot ∷ slots) = IsSlotOf names x slot × AreSlotsOf names xs slots
 
 -- ---- expressions
 
@@ -106,6 +120,11 @@ mutual
     a_call : {tags : List Tag} {asked : Bool} {name : List ℕ} {span : Span} {bang : Bool} {gs : Args} {c : Closure} {d : Callee} {ns : Parts}
         → IsCalleeOf names name gs c d → AreArgsLinked names tags gs ns
         → IsLinkedForm names tags asked (call name span bang gs c) (linked.call d bang ns)
+    -- the value of a closure's last item is asked for
+    an_iteration : {tags : List Tag} {asked : Bool} {name : List ℕ} {span : Span} {bang : Bool} {gs : Args} {xs : List (List ℕ)} {es : Exprs} {at : Span} {f : Loop} {ns body : Parts}
+        → callee_of name gs (closure xs es at) ≡ called.iteration (form_in f) → AreSlotsOf names xs (slots_in f)
+        → AreArgsLinked names tags gs ns → AreItemsLinked names (behind_args gs tags) true es body
+        → IsLinkedForm names tags asked (call name span bang gs (closure xs es at)) (linked.iterate f bang ns body)
     a_return : {tags : List Tag} {asked : Bool} {e : Expr} {n : Linked}
         → IsLinked names tags true e n
         → IsLinkedForm names tags asked (return_of e) (linked.return_of n)
@@ -185,6 +204,35 @@ LinksAny before after f n = Links before after (in_form f) (λ names tags. (aske
 abbrev pub IsCalleeIn : Names → Form → Callee → Type 0
 IsCalleeIn names (call name span bang gs c) d = IsCalleeOf names name gs c d
 IsCalleeIn names f d = ⊥
+
+-- ---- the closure of a call
+
+-- the form that runs it; none where nothing does
+abbrev pub IsRunBy : Option CallForm → List (List ℕ) → Args → Option CallForm → Type 0
+IsRunBy named xs gs None = closure_callee named xs gs ≡ called.nothing_called
+IsRunBy named xs gs (Some f) = (closure_callee named xs gs ≡ called.iteration f) × ((is_closure_form (Some f) ≡ true) × (has_shape f xs ≡ true))
+
+-- the function of that form, with the variables of the closure's names
+pub record IsLoopOf (names : Names) (f : CallForm) (xs : List (List ℕ)) (function : Loop) : Type 0 where
+  pub form : form_in function ≡ f
+  pub slots : AreSlotsOf names xs (slots_in function)
+
+-- what runs a closure with such names, in a call of a name with such arguments
+abbrev pub IsLoopBy : Names → List ℕ → List (List ℕ) → Args → Option Loop → Type 0
+IsLoopBy names name xs gs None = closure_callee (form_named name) xs gs ≡ called.nothing_called
+IsLoopBy names name xs gs (Some f) = (closure_callee (form_named name) xs gs ≡ called.iteration (form_in f)) × AreSlotsOf names xs (slots_in f)
+
+-- what a call in memory runs its closure by
+abbrev pub IsLoopIn : Names → Form → Option Loop → Type 0
+IsLoopIn names (call name span bang gs (closure xs es at)) o = IsLoopBy names name xs gs o
+IsLoopIn names (call name span bang gs no_closure) None = ⊤
+IsLoopIn names (call name span bang gs no_closure) (Some f) = ⊥
+IsLoopIn names f o = ⊥
+
+-- the items of a closure, where there is one
+abbrev pub IsBodyLinked : Names → List Tag → Closure → Parts → Type 0
+IsBodyLinked names tags no_closure ns = ⊤
+IsBodyLinked names tags (closure xs es at) ns = AreItemsLinked names tags true es ns
 
 -- ---- the arguments of a call
 

@@ -16,8 +16,9 @@ use Rattle.vrl_store.specs.WellFormed.{IsWellFormed}
 use Rattle.vrl_store.specs.declared.place.Base.{Base}
 use Rattle.vrl_store.specs.declared.place.Base.TheVariants as base
 use Rattle.vrl_store.specs.declared.place.Place.{Place}
-use Rattle.vrl_resolve.specs.Fits.{part_at, AllFit, AreGiven, ArmsFit, ElseFits, Fits, IsAllowedPart, IsAllowedPartIf, IsCallee, IsGiven, IsTarget, MessageFits, PairsFit}
-use Rattle.vrl_resolve.specs.Linked.{Linked, literal, array, object, read, query, block, conditional, negation, binary, assign, merge, both, call, return_of, abort_with, Parts, no_parts, parts, Pairs, no_pairs, pair, Arms, no_arms, arm, Else, no_else, else_block, Message, no_message, message}
+use Rattle.vrl_resolve.specs.Fits.{part_at, AllFit, AreGiven, AreKnownSlots, ArmsFit, ElseFits, Fits, IsAllowedPart, IsAllowedPartIf, IsCallee, IsGiven, IsKnownSlot, IsTarget, MessageFits, PairsFit}
+use Rattle.vrl_resolve.specs.Linked.{Linked, literal, array, object, read, query, block, conditional, negation, binary, assign, merge, both, call, iterate, return_of, abort_with, Parts, no_parts, parts, Pairs, no_pairs, pair, Arms, no_arms, arm, Else, no_else, else_block, Message, no_message, message}
+use Rattle.vrl_resolve.specs.LinkedMeaning.{slots_in}
 use Rattle.vrl_resolve.specs.declared.node.Callee.{Callee}
 use Rattle.vrl_resolve.specs.declared.node.Callee.TheVariants as callee
 
@@ -113,6 +114,14 @@ callee-prop count ns (callee.Deletion place) = ×_prop (known-prop count place.b
 callee-prop count ns (callee.Existence place) = known-prop count place.base
 callee-prop count ns callee.Nothing = Unit-prop
 
+slot-prop : (count : ℕ) (slot : Option ℕ) → IsProp (IsKnownSlot count slot)
+slot-prop count None = Unit-prop
+slot-prop count (Some number) = le_prop
+
+slots-prop : (count : ℕ) (slots : List (Option ℕ)) → IsProp (AreKnownSlots count slots)
+slots-prop count [] = Unit-prop
+slots-prop count (slot ∷ slots) = ×_prop (slot-prop count slot) (slots-prop count slots)
+
 mutual
   fits-prop : (count sources : ℕ) (n : Linked) → IsProp (Fits count sources n)
   fits-prop count sources (literal v) = formed-prop sources v
@@ -128,6 +137,7 @@ mutual
   fits-prop count sources (merge asked t n) = ×_prop (target-prop count t) (fits-prop count sources n)
   fits-prop count sources (both asked t u tag n) = ×_prop (target-prop count t) (×_prop (target-prop count u) (fits-prop count sources n))
   fits-prop count sources (call c bang ns) = ×_prop (callee-prop count ns c) (all_fit-prop count sources ns)
+  fits-prop count sources (iterate f bang ns body) = ×_prop (slots-prop count (slots_in f)) (×_prop (all_fit-prop count sources ns) (all_fit-prop count sources body))
   fits-prop count sources (return_of n) = fits-prop count sources n
   fits-prop count sources (abort_with m) = message-prop count sources m
 

@@ -1,20 +1,23 @@
-ghost use Rattle.std.specs.Prelude.{◌≡◌, false, map, option_map, IfOk, IsErr, Some};
+ghost use Rattle.std.specs.Prelude.{◌≡◌, false, map, option_map, if◌then◌else◌, IfOk, IsErr, Some};
 ghost use Rattle.std.specs.Option.{option_map_or};
 ghost use Rattle.vrl_builtin.specs.View.{parameter_row};
-ghost use Rattle.vrl_syntax.specs.Calls.{literal_of};
+ghost use Rattle.vrl_syntax.specs.Calls.{form_named, literal_of};
 ghost use Rattle.vrl_syntax.specs.View.{args_of, args_view, expr_of};
-ghost use Rattle.vrl_table.specs.Binding.{binding, keywords_of, IsBound};
+ghost use Rattle.vrl_table.specs.Binding.{binding, collection_parameters, keywords_of, IsBound};
 ghost use Rattle.vrl_table.specs.Table.{function_named, row_of};
-ghost use Rattle.vrl_resolve.specs.Calls.{are_written_right as are_right, is_written_right as is_right, values_of, written_at};
-ghost use Rattle.vrl_resolve.specs.Linking.{is_value_keyword, path_argument, IsFunctionCallee, IsWrittenCallee};
+ghost use Rattle.vrl_resolve.specs.Calls.{are_written_right as are_right, bound_iteration, is_written_right as is_right, iteration, nothing_called, values_of, written_at};
+ghost use Rattle.vrl_resolve.specs.Linking.{is_value_keyword, path_argument, IsFunctionCallee, IsRunBy, IsWrittenCallee};
 
 use crate::node::Callee;
 use std::alloc::Global;
 use vrl_builtin::{Builtin, Parameter};
 use vrl_path::Path;
-use vrl_syntax::{Arg, Args, Expr, Root};
-use vrl_table::{BindFault, Bound, Fun, bind, functions_are_found, lookup, parameters};
-use vrl_value::{Chars, Memory};
+use vrl_syntax::{Arg, Args, CallForm, Expr, Root, has_shape};
+use vrl_table::{
+    BindFault, Bound, Fun, bind, bind_to, collection_parameters, functions_are_found, lookup,
+    parameters,
+};
+use vrl_value::{Chars, Memory, Names};
 
 /// The one argument of `del` or `exists`, where it is written as a path or a name.
 pub(crate) fn path_of(args: &Args) -> Option<(&Root, &Path)>
@@ -38,6 +41,58 @@ fn is_value(name: &Option<Chars>) -> bool
     match name {
         Some(keyword) => keyword.as_str() == "value",
         None => true,
+    }
+}
+
+/// The form that runs a closure with such names, of a call of a name with such arguments. `None`: nothing runs it. `Memory`: want of memory.
+pub(crate) fn iteration_form(
+    alloc: Global,
+    name: &str,
+    names: &Names,
+    args: &Args,
+) -> Result<Option<CallForm>, Memory>
+    ensures { IfOk result (IsRunBy (form_named name.now) names.now (args_of args.now)) }
+{
+    match CallForm::named(name) {
+        Some(form) => shaped_form(alloc, form, names, args),
+        None => Ok(None),
+    }
+}
+
+// The form, where it runs a closure with such names, and takes such arguments. `Memory`: want of memory.
+fn shaped_form(
+    alloc: Global,
+    form: CallForm,
+    names: &Names,
+    args: &Args,
+) -> Result<Option<CallForm>, Memory>
+    ensures { IfOk result (IsRunBy (Some form) names.now (args_of args.now)) }
+{
+    if !form.takes_closure() {
+        return Ok(None);
+    }
+    if !has_shape(form, names) {
+        return Ok(None);
+    }
+    let bound = bind_to(alloc, collection_parameters(form), args);
+    if takes(form, args, bound)? {
+        return Ok(Some(form));
+    }
+    Ok(None)
+}
+
+// Whether a form takes arguments that were bound so. `Memory`: to bind them wanted memory.
+fn takes(form: CallForm, args: &Args, bound: Result<Bound, BindFault>) -> Result<bool, Memory>
+    requires bound { IsBound (binding (collection_parameters form) (keywords_of (args_of args.now))) bound }
+    ensures takes { IfOk result (λ takes. bound_iteration form (binding (collection_parameters form) (keywords_of (args_of args.now))) ≡ (if takes then iteration form else nothing_called)) }
+    ensures want { IsErr result → bound ≡ Err BindFault.Memory }
+{
+    match bound {
+        Ok(_bound) => Ok(true),
+        Err(BindFault::Memory) => Err(Memory),
+        Err(BindFault::Number) | Err(BindFault::Unknown(_)) | Err(BindFault::Missing(_)) => {
+            Ok(false)
+        }
     }
 }
 

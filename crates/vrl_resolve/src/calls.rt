@@ -211,8 +211,13 @@ fn first_unfit(
     None
 }
 
-// The text of the error that an argument has a tag which its parameter doesn't allow. `Memory`: want of memory.
-fn argument_text(alloc: Global, name: &str, parameter: &str, tag: Tag) -> Result<Chars, Memory>
+/// The text of the error that an argument has a tag which its parameter doesn't allow. `Memory`: want of memory.
+pub(crate) fn argument_text(
+    alloc: Global,
+    name: &str,
+    parameter: &str,
+    tag: Tag,
+) -> Result<Chars, Memory>
     ensures { IfOk result (λ text. text ≡ argument_text name.now parameter.now tag) }
 {
     let word = tag.word();
@@ -220,8 +225,8 @@ fn argument_text(alloc: Global, name: &str, parameter: &str, tag: Tag) -> Result
     Ok(Chars::new(text))
 }
 
-// A call's value, unless it is nested too deeply.
-fn within_limit(value: Value) -> Result<Value, Stop>
+/// A call's value, unless it is nested too deeply.
+pub(crate) fn within_limit(value: Value) -> Result<Value, Stop>
     ensures gives { Gives (within_limit (tree_of value)) result }
     ensures no_want { result ≢ Err Stop.Memory }
 {

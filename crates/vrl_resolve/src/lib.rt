@@ -4,13 +4,15 @@
 //!
 //! Files: `program.rt` has what a program is, `linking.rt` `Program::link`, `runner.rt` `run`, and `ran.rt` what a run leaves. `link.rt` makes nodes
 //! (`node.rt`) of expressions: variables are numbers, calls are looked up and bound (`bound.rt`), and a write says whether its value is asked
-//! for. `walk.rt` runs a node over a store, `calls.rt` has what a call comes to, and `laws.rt` the laws. The meaning is told twice: of expressions
+//! for. `walk.rt` runs a node over a store, by `steps.rt`; `calls.rt` has what a call comes to, `iteration.rt` what the runs of a closure bind and what is made of
+//! them, and `laws.rt` the laws. The meaning is told twice: of expressions
 //! (`Meaning`), which is what callers see, and of nodes (`LinkedMeaning`), which the walk is held to. What a walk asks of nodes is `Fits`, and
 //! each program holds that its own are so (`Ready`).
 #![tactic(auto)]
 
 mod bound;
 mod calls;
+mod iteration;
 mod laws;
 mod link;
 mod linking;
@@ -18,6 +20,7 @@ mod node;
 mod program;
 mod ran;
 mod runner;
+mod steps;
 mod walk;
 
 pub use laws::{empty_scripts_give_null, evaluations_stay_well_formed};

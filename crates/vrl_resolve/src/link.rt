@@ -1,17 +1,18 @@
-ghost use Rattle.std.specs.Prelude.{◌≡◌, ◌&&◌, ◌==◌, [], true, map, option_map, IfOk, OnOk, ⊤};
+ghost use Rattle.std.specs.Prelude.{◌≡◌, ◌&&◌, ◌==◌, [], ◌∷◌, true, length, map, option_map, IfOk, OnOk, ⊤};
+ghost use Rattle.vrl_syntax.specs.Calls.{has_shape, is_closure_form};
 ghost use Rattle.vrl_syntax.specs.ErrorAssignments.{first_tag, in_args, in_arms, in_closure, in_else, in_expr, in_exprs, other_tags};
 ghost use Rattle.vrl_syntax.specs.Tree.{abort_with, array, assign, binary, block, both, conditional, literal, merge, negation, object, query, read, return_of};
 ghost use Rattle.vrl_syntax.specs.View.{arg_of, args_of, arms_of, call_of, closure_in, closure_of, else_of, expr_of, exprs_of, message_of, pairs_of};
 ghost use Rattle.vrl_syntax.specs.declared.root.Root.TheVariants.{Name};
 ghost use Rattle.vrl_value.specs.View.{tree_of};
-ghost use Rattle.vrl_store.specs.StoreView.{AreDistinct};
+ghost use Rattle.vrl_store.specs.StoreView.{AreDistinct, Names as VariableNames};
 ghost use Rattle.vrl_store.specs.declared.place.Base.TheVariants as base;
 ghost use Rattle.vrl_resolve.specs.Calls as called;
 ghost use Rattle.vrl_resolve.specs.Linked.{arms_view, linked_of, parts_view, else_of as linked_else};
-ghost use Rattle.vrl_resolve.specs.Linking.{names_in, AreArgsLinked, AreArmsLinked, AreItemsLinked, IsBaseOf, IsCalleeIn, IsElseLinked, IsLinked, IsPathCallee, IsPlaceOf, IsTargetOf, Links, LinksAny, LinksForm, Numbers};
+ghost use Rattle.vrl_resolve.specs.Linking.{names_in, AreArgsLinked, AreArmsLinked, AreItemsLinked, AreSlotsOf, IsBaseOf, IsBeginning, IsBodyLinked, IsCalleeIn, IsElseLinked, IsLinked, IsLoopBy, IsLoopIn, IsLoopOf, IsPathCallee, IsPlaceOf, IsSlotOf, IsTargetOf, Links, LinksAny, LinksForm, Numbers};
 
-use crate::bound::{function_callee, path_of};
-use crate::node::{Arm, Call, Callee, Form, Node};
+use crate::bound::{function_callee, iteration_form, path_of};
+use crate::node::{Arm, Call, Callee, Form, Iteration, Loop, Node};
 use indexmap::IndexSet;
 use std::alloc::Global;
 use vrl_path::Path;
@@ -379,6 +380,62 @@ impl Linker<'_> {
     fn call(&mut self, call: SyntaxCall) -> Result<Node, Memory>
         ensures { IfOk result (λ node. LinksAny self.old self.new (call_of call) (linked_of node)) }
     {
+        let function = self.function(&call)?;
+        match function {
+            Some(function) => self.iteration(call, function),
+            None => self.plain_call(call),
+        }
+    }
+
+    // A call that runs a closure by this function.
+    #[cycle(link)]
+    fn iteration(&mut self, call: SyntaxCall, function: Loop) -> Result<Node, Memory>
+        requires { (names : VariableNames) → IsBeginning (names_in self.old) names → IsLoopIn names (call_of call) (Some function) }
+        ensures { IfOk result (λ node. LinksAny self.old self.new (call_of call) (linked_of node)) }
+    {
+        let SyntaxCall {
+            name: _,
+            name_span: _,
+            bang,
+            args,
+            closure,
+        } = call;
+        let args = self.args(args)?;
+        let body = self.body(closure)?;
+        let linked = Iteration {
+            function,
+            bang,
+            args,
+            body,
+        };
+        Ok(Node::of(Form::Iteration(Box::new(self.alloc, linked)?)))
+    }
+
+    // The items of a closure.
+    #[cycle(link)]
+    fn body(&mut self, closure: Option<Closure>) -> Result<Vec<Node>, Memory>
+        ensures { IfOk result (λ nodes. Links self.old self.new (in_closure (closure_in (option_map closure_of closure)))
+            (λ names tags. IsBodyLinked names tags (closure_in (option_map closure_of closure)) (parts_view nodes.items))) }
+    {
+        match closure {
+            Some(closure) => {
+                let Closure {
+                    names: _,
+                    body,
+                    span: _,
+                } = closure;
+                self.items(body, true)
+            }
+            None => Ok(Vec::new(self.alloc)),
+        }
+    }
+
+    // A call that runs no closure.
+    #[cycle(link)]
+    fn plain_call(&mut self, call: SyntaxCall) -> Result<Node, Memory>
+        requires { (names : VariableNames) → IsBeginning (names_in self.old) names → IsLoopIn names (call_of call) None }
+        ensures { IfOk result (λ node. LinksAny self.old self.new (call_of call) (linked_of node)) }
+    {
         let callee = self.callee(&call)?;
         let SyntaxCall {
             name: _,
@@ -393,7 +450,7 @@ impl Linker<'_> {
         Ok(Node::of(Form::Call(Box::new(self.alloc, linked)?)))
     }
 
-    // Passes over the tags of the error assignments in a closure, which isn't run yet.
+    // Passes over the tags of the error assignments in a closure that nothing runs.
     fn pass_over(&mut self, closure: &Option<Closure>)
         ensures { Links self.old self.new (in_closure (closure_in (option_map closure_of closure.now))) (λ names tags. ⊤) }
     {
@@ -414,8 +471,96 @@ impl Linker<'_> {
         Ok(nodes)
     }
 
-    // What a call calls. `Memory`: want of memory.
+    // The function that runs the closure of a call, with the variables of its names. `None`: nothing runs one. `Memory`: want of memory.
+    fn function(&mut self, call: &SyntaxCall) -> Result<Option<Loop>, Memory>
+        ensures { IfOk result (λ function. Numbers self.old self.new (λ names. IsLoopIn names (call_of call.now) function)) }
+    {
+        match &call.closure {
+            Some(closure) => self.function_of(call.name.as_str(), &closure.names, &call.args),
+            None => Ok(None),
+        }
+    }
+
+    // The same of a closure with these names, in a call of this name with these arguments. `Memory`: want of memory.
+    fn function_of(
+        &mut self,
+        name: &str,
+        names: &Names,
+        args: &Args,
+    ) -> Result<Option<Loop>, Memory>
+        ensures { IfOk result (λ function. Numbers self.old self.new (λ variables. IsLoopBy variables name.now names.now (args_of args.now) function)) }
+    {
+        let form = iteration_form(self.alloc, name, names, args)?;
+        match form {
+            Some(form) => {
+                let function = self.numbered(form, names)?;
+                Ok(Some(function))
+            }
+            None => Ok(None),
+        }
+    }
+
+    // The function of a form with the variables of a closure's names. `Memory`: want of memory.
+    fn numbered(&mut self, form: CallForm, names: &Names) -> Result<Loop, Memory>
+        requires closure { is_closure_form (Some form) ≡ true }
+        requires shape { has_shape form names.now ≡ true }
+        ensures { IfOk result (λ function. Numbers self.old self.new (λ variables. IsLoopOf variables form names.now function)) }
+    {
+        let names = names.as_slice();
+        match form {
+            CallForm::ForEach => {
+                let (key, value) = self.two_slots(names)?;
+                Ok(Loop::ForEach(key, value))
+            }
+            CallForm::Filter => {
+                let (key, value) = self.two_slots(names)?;
+                Ok(Loop::Filter(key, value))
+            }
+            CallForm::MapValues => {
+                let value = self.one_slot(names)?;
+                Ok(Loop::MapValues(value))
+            }
+            CallForm::MapKeys => {
+                let key = self.one_slot(names)?;
+                Ok(Loop::MapKeys(key))
+            }
+            CallForm::Del => unreachable!(),
+            CallForm::Exists => unreachable!(),
+        }
+    }
+
+    // The variables of two names. `Memory`: want of memory.
+    fn two_slots(&mut self, names: &[Chars]) -> Result<(Option<usize>, Option<usize>), Memory>
+        requires { length names.now ≡ 2 }
+        ensures { IfOk result (λ slots. Numbers self.old self.new (λ variables. AreSlotsOf variables names.now (slots.0 ∷ slots.1 ∷ []))) }
+    {
+        let first = self.slot(names[0].as_str())?;
+        let second = self.slot(names[1].as_str())?;
+        Ok((first, second))
+    }
+
+    // The variable of one name. `Memory`: want of memory.
+    fn one_slot(&mut self, names: &[Chars]) -> Result<Option<usize>, Memory>
+        requires { length names.now ≡ 1 }
+        ensures { IfOk result (λ slot. Numbers self.old self.new (λ variables. AreSlotsOf variables names.now (slot ∷ []))) }
+    {
+        self.slot(names[0].as_str())
+    }
+
+    // The variable of a closure's name; none of `_`. `Memory`: want of memory.
+    fn slot(&mut self, name: &str) -> Result<Option<usize>, Memory>
+        ensures { IfOk result (λ slot. Numbers self.old self.new (λ variables. IsSlotOf variables name.now slot)) }
+    {
+        if name == "_" {
+            return Ok(None);
+        }
+        let number = self.number(name)?;
+        Ok(Some(number))
+    }
+
+    // What a call calls that runs no closure. `Memory`: want of memory.
     fn callee(&mut self, call: &SyntaxCall) -> Result<Callee, Memory>
+        requires { (names : VariableNames) → IsBeginning (names_in self.old) names → IsLoopIn names (call_of call.now) None }
         ensures { IfOk result (λ callee. Numbers self.old self.new (λ names. IsCalleeIn names (call_of call.now) callee)) }
     {
         if call.closure.is_some() {

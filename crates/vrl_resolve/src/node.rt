@@ -20,6 +20,19 @@ pub(crate) enum Callee {
     Nothing,
 }
 
+/// A function that runs a closure for each part of a collection, with the variables of the closure's names; none of `_`.
+#[derive(Clone, Copy)]
+pub(crate) enum Loop {
+    /// `for_each`, with the variables of the key and of the value.
+    ForEach(Option<usize>, Option<usize>),
+    /// `filter`, with the same.
+    Filter(Option<usize>, Option<usize>),
+    /// `map_values`, with the variable of the value.
+    MapValues(Option<usize>),
+    /// `map_keys`, with that of the key.
+    MapKeys(Option<usize>),
+}
+
 /// An expression that is ready to be run: variables are numbers, calls are looked up and bound, error assignments have the tags of their
 /// empty values, and parentheses are gone.
 #[cycle(node)]
@@ -100,6 +113,8 @@ pub(crate) enum Form {
     },
     /// A call.
     Call(Box<Call>),
+    /// A call that runs a closure.
+    Iteration(Box<Iteration>),
     /// `return`.
     Return(Box<Node>),
     /// `abort`, with its message where there is one.
@@ -116,6 +131,20 @@ pub(crate) struct Call {
     pub(crate) bang: bool,
     /// Its arguments, as they are written.
     pub(crate) args: Vec<Node>,
+}
+
+/// A call of a function that runs a closure for each part of a collection.
+#[cycle(node)]
+#[derive(Drop)]
+pub(crate) struct Iteration {
+    /// The function.
+    pub(crate) function: Loop,
+    /// It is written with `!`, so an error ends the program.
+    pub(crate) bang: bool,
+    /// Its arguments, as they are written: the collection.
+    pub(crate) args: Vec<Node>,
+    /// The items of the closure.
+    pub(crate) body: Vec<Node>,
 }
 
 /// A predicate of an `if` and the items behind it.

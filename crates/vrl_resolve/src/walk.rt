@@ -1,34 +1,39 @@
-ghost use Rattle.std.specs.Prelude.{◌≡◌, ◌≢◌, ◌++◌, ◌∷◌, [], length, map, if◌then◌else◌, Err, IfOk, IfSome};
-ghost use Rattle.vrl_value.specs.Tree.{null};
-ghost use Rattle.vrl_value.specs.View.{tree_of};
-ghost use Rattle.vrl_syntax.specs.Stores.{Store as StoreTree};
+ghost use Rattle.std.specs.Prelude.{◌≡◌, ◌++◌, ◌∷◌, [], length, map, true, IfOk, IfSome};
+ghost use Rattle.vrl_value.specs.Tree.{array as array_tree, null, object as object_tree};
+ghost use Rattle.vrl_value.specs.View.{items_of, members_of, tree_of};
 ghost use Rattle.vrl_syntax.specs.declared.root.Op.TheVariants as ops;
+ghost use Rattle.vrl_table.specs.Binding.{collection_parameters};
 ghost use Rattle.vrl_store.specs.Operators.{applied};
-ghost use Rattle.vrl_store.specs.Outcomes.{ends, on_value, Ended};
-ghost use Rattle.vrl_store.specs.Places as spec;
-ghost use Rattle.vrl_store.specs.StoreView.{count_of, store_in, AreNames, Names};
-ghost use Rattle.vrl_store.specs.Results.{Ends, IsStop};
-ghost use Rattle.vrl_resolve.specs.Calls.{acts, items_in};
+ghost use Rattle.vrl_store.specs.Outcomes.{ends, on_value};
+ghost use Rattle.vrl_store.specs.WellFormed.{AreWellFormed, IsWellFormed};
+ghost use Rattle.vrl_resolve.specs.Calls as called;
+ghost use Rattle.vrl_resolve.specs.Calls.{acts, first_unfit, items_in, iterated};
+ghost use Rattle.vrl_resolve.specs.Iterating.{body_in, bound_values, bound_variables, takes_arrays};
 ghost use Rattle.vrl_resolve.specs.Linked as linked;
-ghost use Rattle.vrl_resolve.specs.Linked.{arms_view, call_of, else_view, linked_of, message_view, pairs_view, parts_view};
-ghost use Rattle.vrl_resolve.specs.LinkedMeaning.{all_mean, callee_in, items_mean, means, no_body, target_of};
-ghost use Rattle.vrl_resolve.specs.Meaning.{aborted_with, both_sides};
-ghost use Rattle.vrl_resolve.specs.Fits.{IsCallee, IsTarget};
-ghost use Rattle.vrl_resolve.specs.Walking.{meant, names_in, setting_in, store_at, AllEnd, AllFitIn, ArmsFitIn, ElseFitsIn, EndsIn, EndsTrue, FitsIn, GivesBoth, IsReadyStore, MessageFitsIn, PairsFitIn, Stays, WritesTo};
+ghost use Rattle.vrl_resolve.specs.Linked.{arms_view, call_of, else_view, iteration_of, linked_of, message_view, pairs_view, parts_view};
+ghost use Rattle.vrl_resolve.specs.LinkedMeaning.{all_mean, body_means, callee_in, form_in, items_mean, means, no_body, slots_in};
+ghost use Rattle.vrl_resolve.specs.Meaning.{both_sides};
+ghost use Rattle.vrl_resolve.specs.Fits.{AreKnownSlots, IsCallee, IsKnownSlot, IsTarget};
+ghost use Rattle.vrl_resolve.specs.Walking.{meant, names_in, setting_in, store_at, AllEnd, AllFitIn, ArmsFitIn, ElseFitsIn, EndsIn, EndsTrue, FitsIn, GivesBoth, IsReadyStore, MessageFitsIn, PairsFitIn, Stays};
 
 use crate::calls::{act, peek, run_before};
+use crate::iteration::{
+    Bindings, bind, field_bindings, finish_fields, finish_items, first_of, item_bindings,
+    no_fields, push_item, put_field, refuse, takes_arrays, unbind, values_in,
+};
 use crate::laws::meanings_stay_well_formed;
-use crate::node::{Arm, Call, Callee, Form, Node};
+use crate::node::{Arm, Call, Callee, Form, Iteration, Loop, Node};
+use crate::steps::{aborted, asked_copy, at_target, both_values, part_of, write_to};
 use std::alloc::Global;
 use std::collections::BTreeMap;
 use vrl_builtin::Setting;
-use vrl_path::{Path, get};
+use vrl_path::Path;
 use vrl_store::{
     Operand, Place, Stop, Store, apply, apply_to_borrowed, banged, is_falsy, is_true, negated,
     truth, unless_error,
 };
-use vrl_syntax::{Op, empty_value};
-use vrl_value::{Chars, Fields, Items, Memory, Names, Tag, Value};
+use vrl_syntax::Op;
+use vrl_value::{Chars, Fields, Items, Names, Tag, Value};
 
 /// What stays the same while a script runs over an event.
 #[derive(Clone, Copy)]
@@ -77,6 +82,7 @@ pub(crate) fn eval(store: &mut Store, context: &Context<'_>, node: &Node) -> Res
             part,
         } => both(store, context, *is_asked, ok, err, *tag, part),
         Form::Call(called) => call(store, context, called),
+        Form::Iteration(called) => iteration(store, context, called),
         Form::Return(part) => give_back(store, context, part),
         Form::Abort(message) => abort(store, context, message),
     }
@@ -371,33 +377,6 @@ fn conjunction(
     Ok(Value::Bool(truth(context.alloc, &value)?))
 }
 
-// Writes a value where the target takes one.
-fn write_to(
-    store: &mut Store,
-    context: &Context<'_>,
-    target: &Option<Place>,
-    value: Value,
-) -> Result<(), Stop>
-    requires target { IsTarget (count_of store.old) target.now }
-    ensures written { (names : Names) → AreNames names store.old → WritesTo (target_of names target.now) (tree_of value) (store_in names store.old) (store_in names store.new) result }
-    ensures stays { Stays store.old store.new }
-{
-    if let Some(place) = target {
-        store.write(context.alloc, place, value)?;
-    }
-    Ok(())
-}
-
-// The value again, where it is asked for; else null. `Memory`: want of memory.
-fn asked_copy(alloc: Global, is_asked: bool, value: &Value) -> Result<Value, Memory>
-    ensures { IfOk result (λ copy. tree_of copy ≡ (if is_asked then tree_of value.now else null)) }
-{
-    if is_asked {
-        return value.copy(alloc);
-    }
-    Ok(Value::Null)
-}
-
 #[cycle(walk)]
 fn assign(
     store: &mut Store,
@@ -416,17 +395,6 @@ fn assign(
     let copy = asked_copy(context.alloc, is_asked, &value)?;
     write_to(store, context, target, value)?;
     Ok(copy)
-}
-
-// The value at a target; null where it takes nothing. `Memory`: want of memory.
-fn at_target(store: &Store, context: &Context<'_>, target: &Option<Place>) -> Result<Value, Memory>
-    requires target { IsTarget (count_of store.now) target.now }
-    ensures { IfOk result (λ value. (names : Names) → AreNames names store.now → tree_of value ≡ spec.target_value (target_of names target.now) (store_in names store.now)) }
-{
-    match target {
-        Some(place) => store.read(place).copy(context.alloc),
-        None => Ok(Value::Null),
-    }
 }
 
 // Writes the value at a target, null where it takes nothing, with the fields of another one over it.
@@ -525,6 +493,183 @@ fn answer(
     act(store, context, callee, run, args)
 }
 
+// A call that runs a closure.
+#[cycle(walk)]
+fn iteration(store: &mut Store, context: &Context<'_>, iteration: &Iteration) -> Result<Value, Stop>
+    requires ready { IsReadyStore context.now store.old }
+    requires fits { FitsIn context.now (iteration_of iteration.now) }
+    ensures ended { EndsIn context.now (meant context.now (iteration_of iteration.now) store.old) store.new result }
+    ensures stays { Stays store.old store.new }
+{
+    let value = iterate(
+        store,
+        context,
+        iteration.function,
+        &iteration.args,
+        &iteration.body,
+    );
+    if iteration.bang {
+        return banged(value);
+    }
+    value
+}
+
+#[cycle(walk)]
+fn iterate(
+    store: &mut Store,
+    context: &Context<'_>,
+    function: Loop,
+    args: &[Node],
+    body: &[Node],
+) -> Result<Value, Stop>
+    requires ready { IsReadyStore context.now store.old }
+    requires slots { AreKnownSlots (length (names_in context.now)) (slots_in function) }
+    requires args { AllFitIn context.now (parts_view args.now) }
+    requires body { AllFitIn context.now (parts_view body.now) }
+    ensures ended { EndsIn context.now (on_value (all_mean (names_in context.now) (setting_in context.now) (parts_view args.now) [] (store_at context.now store.old)) (λ vs after. acts (setting_in context.now) (called.iteration (form_in function)) (body_in context.now function (parts_view body.now)) (items_in vs) after)) store.new result }
+    ensures stays { Stays store.old store.new }
+{
+    meanings_stay_well_formed();
+    let run = values(store, context, args)?;
+    match first_of(run) {
+        Some(collection) => over(store, context, function, collection, body),
+        None => Ok(Value::Null),
+    }
+}
+
+// The runs of a closure for the parts of a collection, and what is made of them.
+#[cycle(walk)]
+fn over(
+    store: &mut Store,
+    context: &Context<'_>,
+    function: Loop,
+    collection: Value,
+    body: &[Node],
+) -> Result<Value, Stop>
+    requires ready { IsReadyStore context.now store.old }
+    requires slots { AreKnownSlots (length (names_in context.now)) (slots_in function) }
+    requires fits { AllFitIn context.now (parts_view body.now) }
+    requires formed { IsWellFormed (length (setting_in context.now).sources) (tree_of collection) }
+    ensures ended { EndsIn context.now (iterated (form_in function) (body_in context.now function (parts_view body.now)) (tree_of collection) (first_unfit 0 (collection_parameters (form_in function)) (Some (tree_of collection) ∷ [])) (store_at context.now store.old)) store.new result }
+    ensures stays { Stays store.old store.new }
+{
+    match collection {
+        Value::List(items) => {
+            if !takes_arrays(function) {
+                return refuse(context.alloc, function, Tag::List);
+            }
+            over_items(store, context, function, items, body)
+        }
+        Value::Object(fields) => over_fields(store, context, function, fields, body),
+        other => refuse(context.alloc, function, other.tag()),
+    }
+}
+
+#[cycle(walk)]
+fn over_items(
+    store: &mut Store,
+    context: &Context<'_>,
+    function: Loop,
+    items: Items,
+    body: &[Node],
+) -> Result<Value, Stop>
+    requires ready { IsReadyStore context.now store.old }
+    requires slots { AreKnownSlots (length (names_in context.now)) (slots_in function) }
+    requires fits { AllFitIn context.now (parts_view body.now) }
+    requires takes { takes_arrays function ≡ true }
+    requires formed { IsWellFormed (length (setting_in context.now).sources) (array_tree (items_of items)) }
+    ensures ended { EndsIn context.now (iterated (form_in function) (body_in context.now function (parts_view body.now)) (array_tree (items_of items)) None (store_at context.now store.old)) store.new result }
+    ensures stays { Stays store.old store.new }
+{
+    meanings_stay_well_formed();
+    let mut made = Vec::new(context.alloc);
+    let mut place = 0;
+    let items = values_in(items);
+    for item in items {
+        let (bindings, held) = item_bindings(context.alloc, function, place, item)?;
+        let given = run(store, context, bindings, body)?;
+        push_item(function, &mut made, held, given)?;
+        place += 1;
+    }
+    finish_items(function, made)
+}
+
+#[cycle(walk)]
+fn over_fields(
+    store: &mut Store,
+    context: &Context<'_>,
+    function: Loop,
+    fields: Fields,
+    body: &[Node],
+) -> Result<Value, Stop>
+    requires ready { IsReadyStore context.now store.old }
+    requires slots { AreKnownSlots (length (names_in context.now)) (slots_in function) }
+    requires fits { AllFitIn context.now (parts_view body.now) }
+    requires formed { IsWellFormed (length (setting_in context.now).sources) (object_tree (members_of fields)) }
+    ensures ended { EndsIn context.now (iterated (form_in function) (body_in context.now function (parts_view body.now)) (object_tree (members_of fields)) None (store_at context.now store.old)) store.new result }
+    ensures stays { Stays store.old store.new }
+{
+    meanings_stay_well_formed();
+    let mut made = no_fields(context.alloc);
+    for (name, part) in fields.into_map() {
+        let (bindings, held) = field_bindings(context.alloc, function, Chars::new(name), part)?;
+        let given = run(store, context, bindings, body)?;
+        put_field(&mut made, held, given)?;
+    }
+    finish_fields(context.alloc, function, made)
+}
+
+// Items with variables bound to values. Behind them, by whatever end, only those that were there before are there, and those that were bound
+// have the values that they had.
+#[cycle(walk)]
+fn run(
+    store: &mut Store,
+    context: &Context<'_>,
+    bindings: Bindings,
+    body: &[Node],
+) -> Result<Value, Stop>
+    requires ready { IsReadyStore context.now store.old }
+    requires slots { AreKnownSlots (length (names_in context.now)) (bound_variables bindings) }
+    requires values { AreWellFormed (length (setting_in context.now).sources) (bound_values bindings) }
+    requires fits { AllFitIn context.now (parts_view body.now) }
+    ensures ended { EndsIn context.now (body_means (names_in context.now) (setting_in context.now) (bound_variables bindings) (parts_view body.now) (bound_values bindings) (store_at context.now store.old)) store.new result }
+    ensures stays { Stays store.old store.new }
+{
+    match bindings {
+        Bindings::One(slot, value) => run_with(store, context, slot, value, body),
+        Bindings::Two(first, key, second, value) => {
+            let count = store.count();
+            let hidden = bind(store, first, key)?;
+            let given = run_with(store, context, second, value, body);
+            unbind(store, count, first, hidden);
+            given
+        }
+    }
+}
+
+// The same with one variable.
+#[cycle(walk)]
+fn run_with(
+    store: &mut Store,
+    context: &Context<'_>,
+    slot: Option<usize>,
+    value: Value,
+    body: &[Node],
+) -> Result<Value, Stop>
+    requires ready { IsReadyStore context.now store.old }
+    requires slot { IsKnownSlot (length (names_in context.now)) slot }
+    requires value { IsWellFormed (length (setting_in context.now).sources) (tree_of value) }
+    requires fits { AllFitIn context.now (parts_view body.now) }
+    ensures ended { EndsIn context.now (body_means (names_in context.now) (setting_in context.now) (slot ∷ []) (parts_view body.now) (tree_of value ∷ []) (store_at context.now store.old)) store.new result }
+    ensures stays { Stays store.old store.new }
+{
+    let count = store.count();
+    let hidden = bind(store, slot, value)?;
+    let given = items(store, context, body);
+    unbind(store, count, slot, hidden);
+    given
+}
+
 #[cycle(walk)]
 fn give_back(store: &mut Store, context: &Context<'_>, part: &Node) -> Result<Value, Stop>
     requires ready { IsReadyStore context.now store.old }
@@ -553,38 +698,5 @@ fn abort(
             Err(aborted(context.alloc, value))
         }
         None => Err(Stop::Aborted(None)),
-    }
-}
-
-// What stands at a path of a value; null where nothing does. `Memory`: want of memory.
-fn part_of(alloc: Global, value: &Value, path: &Path) -> Result<Value, Memory>
-    ensures { IfOk result (λ part. tree_of part ≡ spec.part_of (tree_of value.now) path.now) }
-{
-    match get(value, path) {
-        Some(part) => part.copy(alloc),
-        None => Ok(Value::Null),
-    }
-}
-
-// The value that a part ended with and null; at an error the empty value and the text. `Memory`: the part ended with that.
-fn both_values(alloc: Global, tag: Tag, given: Result<Value, Stop>) -> Result<(Value, Value), Stop>
-    ensures gives { (ended : Ended) (store : StoreTree) → Ends ended store given → GivesBoth tag ended store result }
-    ensures want { result ≡ Err Stop.Memory → given ≡ Err Stop.Memory }
-{
-    match given {
-        Ok(value) => Ok((value, Value::Null)),
-        Err(Stop::Error(text)) => Ok((empty_value(alloc, tag), Value::Text(text))),
-        Err(other) => Err(other),
-    }
-}
-
-// An `abort` with a message. `Error`: the message is no text.
-fn aborted(alloc: Global, message: Value) -> Stop
-    ensures stop { IsStop (aborted_with (tree_of message)) result }
-    ensures no_want { result ≢ Stop.Memory }
-{
-    match message {
-        Value::Text(text) => Stop::Aborted(Some(text)),
-        _ => Stop::Error(Chars::new(String::new(alloc))),
     }
 }

@@ -18,11 +18,11 @@ pub first_joined : (known known' mine others : Variables) (ss ts us joined : Lis
 first_joined known known' mine others ss ts us joined first rest =
     subst (IsEachScopeJoined (scope_of known mine ∷ ss) (scope_of known' others ∷ ts)) (sym first.is) (record { known = refl; hidden = first.either }, rest)
 
-abbrev others_of : {A : Type 0} → List A → List A
+abbrev pub others_of : {A : Type 0} → List A → List A
 others_of [] = []
 others_of (x ∷ xs) = xs
 
-abbrev first_or : {A : Type 0} → A → List A → A
+abbrev pub first_or : {A : Type 0} → A → List A → A
 first_or s [] = s
 first_or s (t ∷ ts) = t
 

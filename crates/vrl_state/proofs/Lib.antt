@@ -1,4 +1,6 @@
 pub mod Behind
+mod Beside
+pub mod Bodies
 mod Cutting
 pub mod Finite
 pub mod Fitting

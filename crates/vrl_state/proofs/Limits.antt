@@ -49,7 +49,7 @@ flat_canonical (kind s l o) = (list_is_canonical l, object_is_canonical o)
 flat_present : (K : KindTree) → IsPresent K → IsPresent (flat K)
 flat_present (kind s l o) present = present
 
-flat_root : (K M : KindTree) → M ≡ flat K → IsPresent K → IsRootKind M
+pub flat_root : (K M : KindTree) → M ≡ flat K → IsPresent K → IsRootKind M
 flat_root K M e present = subst IsRootKind (sym e) (record { canonical = flat_canonical K; present = flat_present K present; nodes = flat_nodes K; levels = flat_levels K })
 
 same_root : (K M : KindTree) → M ≡ K → IsCanonical K → IsPresent K → nodes K ≤ node_limit → levels K ≤ level_limit → IsRootKind M

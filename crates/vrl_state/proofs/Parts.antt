@@ -15,6 +15,7 @@ use Rattle.vrl_state.proofs.Cutting.{above_more, below, below_more, cut_at, find
 pub record IsLeft (x : List ℕ) (l : List Entry) (e : Entry) (r : List Entry) : Type 0 where
   pub whole : found x (l ++ e ∷ r) ≡ found x l
   pub right : found x r ≡ None
+  pub below : name_cmp x e.0 ≡ Less
   pub other : AreOtherNames x e.0
 
 pub record IsHere (l : List Entry) (e : Entry) (r : List Entry) : Type 0 where
@@ -25,6 +26,7 @@ pub record IsHere (l : List Entry) (e : Entry) (r : List Entry) : Type 0 where
 pub record IsRight (x : List ℕ) (l : List Entry) (e : Entry) (r : List Entry) : Type 0 where
   pub whole : found x (l ++ e ∷ r) ≡ found x r
   pub left : found x l ≡ None
+  pub above : name_cmp x e.0 ≡ Greater
   pub other : AreOtherNames x e.0
 
 pub here_at : (l : List Entry) (e : Entry) (r : List Entry) → IsSorted (l ++ e ∷ r) → IsHere l e r
@@ -36,9 +38,9 @@ pub by_side : (P : List ℕ → Type 0) (l : List Entry) (e : Entry) (r : List E
 by_side P l e r s left here right x =
     let cut = cut_at l e r s in
     elim (name_cmp x e.0) as (λ o. name_cmp x e.0 ≡ o → P x) [
-      | Less ↦ λ p. left x (record { whole = find_left x l e r s p; right = find_none x r (above_more x e.0 r p cut.above); other = ap is_eq p })
+      | Less ↦ λ p. left x (record { whole = find_left x l e r s p; right = find_none x r (above_more x e.0 r p cut.above); below = p; other = ap is_eq p })
       | Equal ↦ λ p. subst P (sym (same_name x e.0 p)) here
-      | Greater ↦ λ p. right x (record { whole = find_right x l e r s p; left = find_absent x l (below_more e.0 x l (below x e.0 p) cut.below); other = ap is_eq p })
+      | Greater ↦ λ p. right x (record { whole = find_right x l e r s p; left = find_absent x l (below_more e.0 x l (below x e.0 p) cut.below); above = p; other = ap is_eq p })
     ] refl
 
 -- ---- what holds of the kinds of a version holds of those of its parts
@@ -116,7 +118,7 @@ pub joined_stays : (e : Entry) (L : KindTree) (before after : List Entry) → fo
 joined_stays e L before after holds either is =
     (subst (IsEitherVariable (Some e.1) (Some L)) (sym (ap (found e.0) is ∙ holds)) either, λ x other. ap (found x) is)
 
-no_part : (K L M N : Option KindTree) → K ≡ None → IsJoinedIf K L M N → N ≡ M
+pub no_part : (K L M N : Option KindTree) → K ≡ None → IsJoinedIf K L M N → N ≡ M
 no_part K L M N none is = subst (λ o. IsJoinedIf o L M N) none is
 
 pub part_left : (before l : List Entry) (e : Entry) (r : List Entry) → IsSorted (l ++ e ∷ r) → IsPartOf (l ++ e ∷ r) before → IsPartOf l before

@@ -29,7 +29,7 @@ and_first : (a b : Bool) → (a && b) ≡ true → a ≡ true
 and_first true b is = refl
 and_first false b is = is
 
-or_false : (b : Bool) → (b || false) ≡ b
+pub or_false : (b : Bool) → (b || false) ≡ b
 or_false true = refl
 or_false false = refl
 
@@ -103,9 +103,9 @@ twice f idem false true K = refl
 twice f idem true true None = refl
 twice f idem true true (Some K) = ap Some (idem K)
 
-any-push : (r : Root) (done : List Root) (root : Root) → list_any (same_root r) (done ++ root ∷ []) ≡ (list_any (same_root r) done || same_root r root)
-any-push r [] root = or_false (same_root r root)
-any-push r (d ∷ done) root = ap (λ b. same_root r d || b) (any-push r done root) ∙ sym (or_assoc (same_root r d) (list_any (same_root r) done) (same_root r root))
+pub any-push : {A : Type 0} (test : A → Bool) (done : List A) (x : A) → list_any test (done ++ x ∷ []) ≡ (list_any test done || test x)
+any-push test [] x = or_false (test x)
+any-push test (d ∷ done) x = ap (λ b. test d || b) (any-push test done x) ∙ sym (or_assoc (test d) (list_any test done) (test x))
 
 pub turned_next : (f : KindTree → KindTree) → ((K : KindTree) → f (f K) ≡ f K) → (done : List Root) (root : Root) (a b c : RootMap) → IsEachTurned f done (Some a) (Some b) → IsTurnedAt f root b c → IsEachTurned f (done ++ root ∷ []) (Some a) (Some c)
 turned_next f idem done root a b c far step = record {
@@ -114,7 +114,7 @@ turned_next f idem done root a b c far step = record {
       step r
       ∙ ap (λ K. if same_root r root then option_map f K else K) (far.kinds r)
       ∙ twice f idem (list_any (same_root r) done) (same_root r root) (kind_of r a)
-      ∙ ap (λ among. if among then option_map f (kind_of r a) else kind_of r a) (sym (any-push r done root));
+      ∙ ap (λ among. if among then option_map f (kind_of r a) else kind_of r a) (sym (any-push (same_root r) done root));
 }
 
 flat_list_once : (l : ListTree) → flat_list (flat_list l) ≡ flat_list l

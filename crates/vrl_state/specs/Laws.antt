@@ -1,17 +1,18 @@
 -- Laws of states: what a store holds goes on fitting what is known of it.
-use Rattle.std.specs.Prelude.{◌≡◌, ◌⊎◌, false, [], ◌∷◌, ℕ, List, Option, option_map, IsSome, IsTrue, ⊤}
+use Rattle.std.specs.Prelude.{◌≡◌, ◌⊎◌, false, [], ◌∷◌, ℕ, List, Option, Some, IfSome, IsSome, IsTrue, option_map, ⊤}
 use Rattle.std.specs.FinMap as map
 use Rattle.std.specs.FinSet as set
 use Rattle.vrl_value.specs.Tree.{Tree}
 use Rattle.vrl_value.specs.declared.value.Tag.TheVariants as tag
 use Rattle.vrl_path.specs.declared.path.Step.{Step}
+use Rattle.vrl_syntax.specs.Stores.{bound_to}
 use Rattle.vrl_syntax.specs.declared.root.Root.{Root}
 use Rattle.vrl_syntax.specs.declared.root.Root.TheVariants.{Name}
 use Rattle.vrl_kind.specs.KindTree.{KindTree}
 use Rattle.vrl_kind.specs.Kinds.{Inhabits}
 use Rattle.vrl_kind.specs.Sets.{Sets, IsAllowed}
-use Rattle.vrl_state.specs.States.{hiding, kept, AreScopesJoined, BeginsAt, IsCutOf, IsEither, IsFlattened, IsForgotten, IsHidden, IsJoined, IsKnownWithin, IsRootKind, IsRootKindIf, IsScopeJoined, IsStart, IsTakenOut, IsWritten, RootMap, Scope, State}
-use Rattle.vrl_state.specs.Stores.{store_back, with_value, Fits, FitsKind, FitsKnown, HidesOf, HoldsNames, IsStoreTakenOut, IsStoreWritten, Store}
+use Rattle.vrl_state.specs.States.{body_scope, hiding, kept, with_names, AreScopesJoined, BeginsAt, HasRootKinds, IsCutOf, IsEither, IsFlattened, IsForgotten, IsHidden, IsJoined, IsKnownWithin, IsRootKind, IsRootKindIf, IsScopeJoined, IsStart, IsTakenOut, IsWritten, RootMap, Scope, State}
+use Rattle.vrl_state.specs.Stores.{store_back, with_value, AreOfKinds, Fits, FitsKind, FitsKnown, HidesOf, HoldsNames, IsStoreTakenOut, IsStoreWritten, Store}
 
 -- a value that the sets allow is of the kind that has them, cut
 abbrev pub CutsHoldTheAllowed : Type 0
@@ -93,3 +94,21 @@ HidingKeepsHeldNames = (x : List ℕ) (K : Option KindTree) (scope : Scope) (sto
 -- a scope that hides some names hides one name more, where the kind of what it knows is told
 abbrev pub HidingHides : Type 0
 HidingHides = (x : List ℕ) (K : Option KindTree) (scope : Scope) (names : List (List ℕ)) → HidesOf scope names → (IsTrue (set.contains scope.known x) → IsSome K) → HidesOf (hiding x K scope) (x ∷ names)
+
+-- a store whose closure's names are bound to values of their kinds fits the state in which they have these
+abbrev pub NamesKeepFits : Type 0
+NamesKeepFits = (names : List (List ℕ)) (vs : List Tree) (Ks : List KindTree) (store : Store) (roots : RootMap) → AreOfKinds vs Ks → FitsKnown store (Some roots) → FitsKnown (bound_to names vs store) (Some (with_names names Ks roots))
+
+-- a store fits what is known behind a closure's body where it fitted what was known before it, once the hidden names have their values back
+abbrev pub BodiesKeepFits : Type 0
+BodiesKeepFits = (names : List (List ℕ)) (roots : RootMap) (known : Option RootMap) (before after : Store) → FitsKnown before (Some roots) → FitsKnown after known → FitsKnown (store_back names before after) (option_map (kept (body_scope names roots)) known)
+
+-- ---- what stays in a join, where both sides have it alike, and what is wider
+
+-- a root's kind joined with itself is the same
+abbrev pub RootKindsJoinThemselves : Type 0
+RootKindsJoinThemselves = (K M : KindTree) → IsRootKind K → IsEither K K M → M ≡ K
+
+-- each kind of a root is within that of every value, so what is known is within what is left once roots are forgotten
+abbrev pub ForgettingWidens : Type 0
+ForgettingWidens = (roots : List Root) (known known' : Option RootMap) → IfSome known HasRootKinds → IsForgotten roots known known' → IsKnownWithin known known'

@@ -3,6 +3,7 @@ use Rattle.std.specs.Prelude.{◌≡◌, Bool, true, false, cond, ℕ, List, [],
 use Rattle.std.specs.Cmp.Lexicographic.{slice_cmp}
 use Rattle.std.specs.FinMap as map
 use Rattle.std.specs.Ordering.{eq_by_cmp, nat_cmp}
+use Rattle.std.specs.declared.cmp.Ordering.{Ordering}
 use Rattle.vrl_syntax.specs.declared.root.Root.{Root}
 use Rattle.vrl_kind.specs.KindTree.{KindTree}
 use Rattle.vrl_state.specs.Ordered.{found, put_entry, without_name, Entry}
@@ -22,6 +23,11 @@ HoldsIf (Some K) o = o ≡ Some K
 
 abbrev pub IsPartOf : List Entry → List Entry → Type 0
 IsPartOf part whole = (x : List ℕ) → HoldsIf (found x part) (found x whole)
+
+-- a part of a version in which each name on this side of x is found
+pub record IsBeside (o : Ordering) (x : List ℕ) (part whole : List Entry) : Type 0 where
+  pub holds : IsPartOf part whole
+  pub same : (y : List ℕ) → slice_cmp nat_cmp y x ≡ o → found y part ≡ found y whole
 
 -- the kind of one name, joined with that of another side
 abbrev pub IsJoinedAt : Entry → Option KindTree → List Entry → List Entry → Type 0

@@ -1,7 +1,7 @@
 -- What is known at a place of a script, before any event is there: the kinds of the event and of the variables, and the scopes that
 -- are open. The rules are those by which the Vector Remap Language types a script: a write changes what is known from there on, and
 -- behind branches only what each of them leaves is known.
-use Rattle.std.specs.Prelude.{◌≡◌, ◌≤◌, Bool, ◌||◌, ◌&&◌, not, true, false, bytes_eq, if◌then◌else◌, ℕ, List, [], ◌∷◌, Option, Some, None, map as each, option_map, is_some, IfSome, IsSomeAnd, MatchOption, ⊤}
+use Rattle.std.specs.Prelude.{◌≡◌, ◌≤◌, Bool, ◌||◌, ◌&&◌, not, true, false, bytes_eq, codes, if◌then◌else◌, ℕ, List, [], ◌∷◌, Option, Some, None, map as each, option_map, is_some, IfSome, IsSomeAnd, MatchOption, ⊤}
 use Rattle.std.specs.Cmp.Lexicographic.{slice_cmp}
 use Rattle.std.specs.FinMap as map
 use Rattle.std.specs.FinSet as set
@@ -268,3 +268,15 @@ pub record IsHidden (x : List ℕ) (K : KindTree) (before after : State) : Type 
   pub entered : before.scopes ≡ scope ∷ outer
   pub scopes : after.scopes ≡ hiding x (kind_in (Name x) before.known) scope ∷ outer
   pub known : after.known ≡ option_map (with_kind (Name x) kind) before.known
+
+-- ---- the body of a closure, told of what is known alone
+
+-- its names have these kinds, in order; `_` takes none
+abbrev pub with_names : List (List ℕ) → List KindTree → RootMap → RootMap
+with_names [] Ks roots = roots
+with_names (x ∷ names) [] roots = roots
+with_names (x ∷ names) (K ∷ Ks) roots = with_names names Ks (if bytes_eq x (codes "_") then roots else with_kind (Name x) K roots)
+
+-- the scope of a body that hides names and begins where this is known: it knows the names that are known, and hides those of these that are
+abbrev pub body_scope : List (List ℕ) → RootMap → Scope
+body_scope names roots = record { known = set.from_list (map.keys roots.variables); hidden = map.retain_keys roots.variables (λ x. list_any (bytes_eq x) names) }

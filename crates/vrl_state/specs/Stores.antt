@@ -1,5 +1,5 @@
 -- What stands in the event and the variables while a script runs, and how that goes with what is known of them.
-use Rattle.std.specs.Prelude.{◌≡◌, ◌&&◌, ℕ, List, Option, Some, None, MatchOption, bytes_eq, unwrap_or, ⊤, IsTrue}
+use Rattle.std.specs.Prelude.{◌≡◌, ◌&&◌, ℕ, List, [], ◌∷◌, Option, Some, None, MatchOption, bytes_eq, unwrap_or, ⊤, IsTrue}
 use Rattle.std.specs.FinMap as map
 use Rattle.std.specs.FinSet as set
 use Rattle.std.specs.List.{list_any}
@@ -20,6 +20,13 @@ abbrev pub FitsKind : Option Tree → Option KindTree → Type 0
 FitsKind v None = ⊤
 FitsKind None (Some K) = ⊥
 FitsKind (Some v) (Some K) = Inhabits v K
+
+-- values of these kinds, in order
+abbrev pub AreOfKinds : List Tree → List KindTree → Type 0
+AreOfKinds [] [] = ⊤
+AreOfKinds [] (K ∷ Ks) = ⊥
+AreOfKinds (v ∷ vs) [] = ⊥
+AreOfKinds (v ∷ vs) (K ∷ Ks) = Inhabits v K × AreOfKinds vs Ks
 
 pub record FitsMap (store : Store) (roots : RootMap) : Type 0 where
   pub event : Inhabits store.event roots.event

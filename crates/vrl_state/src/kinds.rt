@@ -9,7 +9,7 @@ ghost use Rattle.vrl_state.specs.States.{IsCutOf, IsEither, IsRootKind};
 
 use std::alloc::Global;
 use std::rc::Rc;
-use vrl_kind::{Kind, flatten, join, kind_is_canonical};
+use vrl_kind::{Kind, LEVEL_LIMIT, NODE_LIMIT, flatten, join, kind_is_canonical, levels, nodes};
 use vrl_path::Path;
 use vrl_place::{remove_kind, write_kind};
 use vrl_value::Memory;
@@ -28,8 +28,18 @@ pub(crate) fn any(alloc: Global) -> Result<Rc<Kind>, Memory>
     share(alloc, Kind::any(alloc)?)
 }
 
-// A kind, cut. `Memory`: want of memory.
-pub(crate) fn cut(alloc: Global, kind: &Kind) -> Result<Rc<Kind>, Memory>
+/// A kind, cut, to be shared. `Memory`: want of memory.
+pub fn cut(alloc: Global, kind: Kind) -> Result<Rc<Kind>, Memory>
+    ensures { IfOk result (λ small. IsCut kind small.value) }
+{
+    if nodes(&kind) > NODE_LIMIT || levels(&kind) > LEVEL_LIMIT {
+        return share(alloc, flatten(alloc, &kind)?);
+    }
+    share(alloc, kind)
+}
+
+// The same of a copy. `Memory`: want of memory.
+pub(crate) fn cut_copy(alloc: Global, kind: &Kind) -> Result<Rc<Kind>, Memory>
     ensures { IfOk result (λ small. IsCut kind.now small.value) }
 {
     share(alloc, vrl_kind::cut(alloc, kind)?)
@@ -55,7 +65,7 @@ fn either(alloc: Global, a: &Kind, b: &Kind) -> Result<Rc<Kind>, Memory>
 {
     let joined = join(alloc, a, b)?;
     kind_is_canonical(&joined);
-    cut(alloc, &joined)
+    cut(alloc, joined)
 }
 
 // The kind of what is of either of two roots' kinds. `None`: it is the first one. `Memory`: want of memory.
@@ -101,7 +111,7 @@ pub(crate) fn written(
 {
     let written = write_kind(alloc, kind, path, new)?;
     kind_is_canonical(&written);
-    cut(alloc, &written)
+    cut(alloc, written)
 }
 
 // The kind without what stands at a path, cut. `Memory`: want of memory.
@@ -111,5 +121,5 @@ pub(crate) fn taken_out(alloc: Global, kind: &Rc<Kind>, path: &Path) -> Result<R
 {
     let left = remove_kind(alloc, kind, path)?;
     kind_is_canonical(&left);
-    cut(alloc, &left)
+    cut(alloc, left)
 }

@@ -1,4 +1,4 @@
-ghost use Rattle.vrl_state.specs.Laws.{BlocksGiveNothingBack, BlocksKeepFits, BlocksKeepHeldNames, CutsAreRootKinds, CutsHoldTheAllowed, EitherHoldsBoth, FlatteningKeepsFits, ForgettingKeepsFits, HidingHides, HidingKeepsFits, HidingKeepsHeldNames, JoinsKeepFits, JoinsKeepHeldNames, JoinsKeepScopes, RemovalsKeepFits, StartsFit, WithinKeepsFits, WritesKeepFits};
+ghost use Rattle.vrl_state.specs.Laws.{BlocksGiveNothingBack, BlocksKeepFits, BlocksKeepHeldNames, BodiesKeepFits, CutsAreRootKinds, CutsHoldTheAllowed, EitherHoldsBoth, FlatteningKeepsFits, ForgettingKeepsFits, ForgettingWidens, HidingHides, HidingKeepsFits, HidingKeepsHeldNames, JoinsKeepFits, JoinsKeepHeldNames, JoinsKeepScopes, NamesKeepFits, RemovalsKeepFits, RootKindsJoinThemselves, StartsFit, WithinKeepsFits, WritesKeepFits};
 
 use vrl_kind::{any_holds_all, cuts_are_wider, equal_tags_are_one_kind, wider_kinds_hold_more};
 use vrl_place::{
@@ -144,4 +144,29 @@ pub fn hiding_keeps_held_names()
 /// definitions.
 pub fn hiding_hides()
     ensures { HidingHides }
+{}
+
+/// A store whose closure's names are bound to values of their kinds fits the state in which the names have these. This
+/// takes no time: it is a law about the definitions.
+pub fn names_keep_fits()
+    ensures { NamesKeepFits }
+{}
+
+/// A store that fitted what was known before a closure's body fits what is known behind it, once the names that the body
+/// hid have their values back. This takes no time: it is a law about the definitions.
+pub fn bodies_keep_fits()
+    ensures { BodiesKeepFits }
+{}
+
+/// The kind of a root, joined with itself, is the same. This takes no time: it is a law about the definitions.
+pub fn root_kinds_join_themselves()
+    ensures { RootKindsJoinThemselves }
+{
+    equal_tags_are_one_kind();
+}
+
+/// What is known is within what is left of it once roots are forgotten. This takes no time: it is a law about the
+/// definitions.
+pub fn forgetting_widens()
+    ensures { ForgettingWidens }
 {}

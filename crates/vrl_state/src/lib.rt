@@ -21,12 +21,14 @@ mod variables;
 mod walks;
 
 pub use branch::{Branch, Mark};
+pub use kinds::cut;
 pub use known::{Known, Knowns, RootKind, RootKinds};
 pub use laws::{
-    blocks_give_nothing_back, blocks_keep_fits, blocks_keep_held_names, cuts_are_root_kinds,
-    cuts_hold_the_allowed, either_holds_both, flattening_keeps_fits, forgetting_keeps_fits,
-    hiding_hides, hiding_keeps_fits, hiding_keeps_held_names, joins_keep_fits,
-    joins_keep_held_names, joins_keep_scopes, removals_keep_fits, starts_fit, within_keeps_fits,
+    blocks_give_nothing_back, blocks_keep_fits, blocks_keep_held_names, bodies_keep_fits,
+    cuts_are_root_kinds, cuts_hold_the_allowed, either_holds_both, flattening_keeps_fits,
+    forgetting_keeps_fits, forgetting_widens, hiding_hides, hiding_keeps_fits,
+    hiding_keeps_held_names, joins_keep_fits, joins_keep_held_names, joins_keep_scopes,
+    names_keep_fits, removals_keep_fits, root_kinds_join_themselves, starts_fit, within_keeps_fits,
     writes_keep_fits,
 };
 pub use state::State;

@@ -11,7 +11,7 @@ ghost use Rattle.vrl_state.specs.Merging.{IsTurnedAt};
 ghost use Rattle.vrl_state.specs.States.{kept, kind_of, with_kind, written_from, HasRootKinds, IsCutOf, IsEitherMap, IsFlattened, IsForgotten, IsMapWithin, IsPresent, IsRootKind, IsRootKindIf, IsTakenOut, IsWritten};
 ghost use Rattle.vrl_state.specs.View.{scope_of};
 
-use crate::kinds::{any, cut, flattened, shared_either, taken_out, within, written};
+use crate::kinds::{any, cut_copy, flattened, shared_either, taken_out, within, written};
 use crate::known::{RootKind, RootKinds};
 use crate::variables::VariableKinds;
 use std::alloc::Global;
@@ -50,7 +50,7 @@ impl KnownRoots {
         ensures variables { IfOk result (λ roots. roots.variables ≡ map.empty) }
     {
         kind_is_canonical(event);
-        let event = cut(alloc, event)?;
+        let event = cut_copy(alloc, event)?;
         Ok(KnownRoots {
             event,
             variables: VariableKinds::new(),

@@ -8,12 +8,12 @@ ghost use Rattle.vrl_syntax.specs.declared.root.Root.TheVariants.{Name};
 ghost use Rattle.vrl_kind.specs.Cut.{IsCut};
 ghost use Rattle.vrl_kind.specs.KindTree.{KindTree};
 ghost use Rattle.vrl_state.specs.Known.{known_as, HaveRootKinds};
-ghost use Rattle.vrl_state.specs.States.{kept, kind_in, knows, with_kind, AreScopesJoined, HaveSameScopes, IsEntered, IsFlattened, IsForgotten, IsHidden, IsHiding, IsJoined, IsKnownWithin, IsLeft, IsPresent, IsRootKind, IsRootKindIf, IsStart, IsTakenOut, IsWritten, Scope};
+ghost use Rattle.vrl_state.specs.States.{kept, kind_in, knows, with_kind, AreScopesJoined, HasRootKinds, HaveSameScopes, IsEntered, IsFlattened, IsForgotten, IsHidden, IsHiding, IsJoined, IsKnownWithin, IsLeft, IsPresent, IsRootKind, IsRootKindIf, IsStart, IsTakenOut, IsWritten, Scope};
 ghost use Rattle.vrl_state.specs.Stores.{store_back, with_value, Fits, HidesOf, HoldsNames, IsStoreTakenOut, IsStoreWritten, Store};
 ghost use Rattle.vrl_state.specs.View.{names_of, scope_of};
 
 use crate::branch::{Branch, Mark};
-use crate::kinds::cut;
+use crate::kinds::cut_copy;
 use crate::known::Known;
 use crate::laws::{
     blocks_keep_fits, flattening_keeps_fits, forgetting_keeps_fits, hiding_keeps_fits,
@@ -270,6 +270,16 @@ impl State {
         known_within(&self.known, &other.state.known)
     }
 
+    /// Each kind that is known is one of a root. It takes no memory and no time: it is a law of the type.
+    pub fn have_root_kinds(&self)
+        ensures { IfSome self.now.known HasRootKinds }
+    {
+        match &self.known {
+            None => {}
+            Some(known) => known.have_root_kinds(),
+        }
+    }
+
     // The state again, shared. `Memory`: want of memory.
     fn copy(&self) -> Result<State, Memory>
         ensures { IfOk result (λ copy. copy ≡ self.now) }
@@ -507,7 +517,7 @@ fn bind(alloc: Global, known: &mut Option<KnownRoots>, name: &str, new: &Kind) -
     ensures err { OnErr result (known.new ≡ known.old) }
 {
     kind_is_canonical(new);
-    let kind = cut(alloc, new)?;
+    let kind = cut_copy(alloc, new)?;
     let Some(known) = known else {
         return Ok(());
     };

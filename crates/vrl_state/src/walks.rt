@@ -2,7 +2,8 @@
 ghost use Rattle.std.specs.Prelude.{◌≡◌, ◌++◌, ◌∷◌, ◌↔◌, [], ℕ, IfOk, IsTrue, List, OnOk, Some, is_some, map, option_map};
 ghost use Rattle.vrl_state.specs.EntryView.{entry_of};
 ghost use Rattle.vrl_state.specs.Known.{variable_kind};
-ghost use Rattle.vrl_state.specs.Merging.{IsJoinedAt, IsJoinedPart, IsKeptAt, IsKeptPart, IsPartOf, puts};
+ghost use Rattle.std.specs.declared.cmp.Ordering.TheVariants.{Less, Greater};
+ghost use Rattle.vrl_state.specs.Merging.{IsBeside, IsJoinedAt, IsJoinedPart, IsKeptAt, IsKeptPart, IsPartOf, puts};
 ghost use Rattle.vrl_state.specs.Ordered.{found, put_entry, without_name};
 ghost use Rattle.vrl_state.specs.States.{IsRootKind, IsRootKindIf, IsVariableWithin};
 
@@ -10,6 +11,7 @@ use crate::kinds::{other_either, within};
 use crate::known::RootKind;
 use crate::tree::{Entry, NameTree};
 use std::alloc::Global;
+use std::cmp::Ordering;
 use std::rc::Rc;
 use vrl_kind::Kind;
 use vrl_syntax::Root;
@@ -60,14 +62,10 @@ impl NameTree {
         let Some(node) = &self.node else {
             return Ok(());
         };
-        node.left.join_into(alloc, others, joined)?;
-        join_entry(
-            alloc,
-            &node.entry,
-            others.get(node.entry.name.as_str()),
-            joined,
-        )?;
-        node.right.join_into(alloc, others, joined)?;
+        let name = node.entry.name.as_str();
+        node.left.join_into(alloc, others.left_of(name), joined)?;
+        join_entry(alloc, &node.entry, others.get(name), joined)?;
+        node.right.join_into(alloc, others.right_of(name), joined)?;
         Ok(())
     }
 
@@ -84,11 +82,37 @@ impl NameTree {
         let Some(node) = &self.node else {
             return Ok(());
         };
-        node.left.keep_into(alloc, names, kept)?;
         let name = node.entry.name.as_str();
+        node.left.keep_into(alloc, names.left_of(name), kept)?;
         keep_name(alloc, name, names.get(name), kept)?;
-        node.right.keep_into(alloc, names, kept)?;
+        node.right.keep_into(alloc, names.right_of(name), kept)?;
         Ok(())
+    }
+
+    // Where the names before this one are found: the left side of the root that has it, else the whole.
+    fn left_of(&self, name: &str) -> &NameTree
+        ensures { IsBeside Less name.now result.now.entries self.now.entries }
+    {
+        let Some(node) = &self.node else {
+            return self;
+        };
+        match name.cmp(node.entry.name.as_str()) {
+            Ordering::Equal => &node.left,
+            _ => self,
+        }
+    }
+
+    // The same of the names behind it.
+    fn right_of(&self, name: &str) -> &NameTree
+        ensures { IsBeside Greater name.now result.now.entries self.now.entries }
+    {
+        let Some(node) = &self.node else {
+            return self;
+        };
+        match name.cmp(node.entry.name.as_str()) {
+            Ordering::Equal => &node.right,
+            _ => self,
+        }
     }
 
     // Puts each entry among others, in place of that of the same name. `Memory`: want of memory.

@@ -1,6 +1,6 @@
 -- What a store keeps where a variable gets a value.
-use Rattle.std.proofs.Common.{◌≡◌, ◌⊎◌, inl, inr, ℕ, zero, suc, ◌<◌, ◌==◌, Bool, true, false, ◌||◌, List, [], ◌∷◌, ◌++◌, length, set, Option, Some, refl, sym, ap, ◌∙◌, subst, arith}
-use Rattle.std.proofs.lemmas.Bool.{or_from, or_left, or_right}
+use Rattle.std.proofs.Common.{◌≡◌, ◌⊎◌, inl, inr, ℕ, zero, suc, ◌<◌, ◌==◌, Bool, true, false, ◌||◌, ◌&&◌, List, [], ◌∷◌, ◌++◌, length, set, Option, Some, refl, sym, ap, ◌∙◌, subst, arith}
+use Rattle.std.proofs.lemmas.Bool.{and_parts, or_from, or_left, or_right}
 use Rattle.std.proofs.lemmas.List.Folds.{list_any-append}
 use Rattle.std.specs.Cmp.{unsigned_Decides}
 use Rattle.std.specs.List.{list_any}
@@ -80,25 +80,29 @@ shallow_set (w ∷ vs) (suc n) v are is = (are.0, shallow_set vs n v are.1 is)
 
 -- ---- the whole
 
--- a variable that was there gets another value
-pub kept_set : (items : List (Option Value)) (ps : List ℕ) (n : ℕ) (v : Value) → AreKept (trees_of items) ps → is_numbered (trees_of items) n ≡ true → IsShallow (tree_of v)
-    → AreKept (trees_of (set items n (Some v))) ps
-kept_set items ps n v kept there shallow =
+-- what is marked so where both are
+pub both_marked : (a b c : Bool) → c ≡ (a && b) → c ≡ true → (a ≡ true) × (b ≡ true)
+both_marked a b c both is = let parts = and_parts a b (sym both ∙ is) in (parts.0, parts.1)
+
+-- a variable that was there gets another value; where they are marked as shallow then, they were before
+pub kept_set : (before after : Bool) (items : List (Option Value)) (ps : List ℕ) (n : ℕ) (v : Value) → (after ≡ true → before ≡ true) → AreKept before (trees_of items) ps
+    → is_numbered (trees_of items) n ≡ true → (after ≡ true → IsShallow (tree_of v)) → AreKept after (trees_of (set items n (Some v))) ps
+kept_set before after items ps n v marked kept there shallow =
     let vs = trees_of items in
-    subst (λ ws. AreKept ws ps) (sym (map_set items n (Some v))) (record {
+    subst (λ ws. AreKept after ws ps) (sym (map_set items n (Some v))) (record {
       present = present_set vs n (tree_of v) ps kept.present;
       counted = counted_set vs n (tree_of v) ps there kept.counted;
-      shallow = shallow_set vs n (tree_of v) kept.shallow shallow;
+      shallow = λ is. shallow_set vs n (tree_of v) (kept.shallow (marked is)) (shallow is);
     })
 
 -- a variable that wasn't there gets a value
-pub kept_more : (items : List (Option Value)) (ps : List ℕ) (n : ℕ) (v : Value) → AreKept (trees_of items) ps → n < length items → is_numbered (trees_of items) n ≡ false → IsShallow (tree_of v)
-    → AreKept (trees_of (set items n (Some v))) (ps ++ n ∷ [])
-kept_more items ps n v kept within none shallow =
+pub kept_more : (before after : Bool) (items : List (Option Value)) (ps : List ℕ) (n : ℕ) (v : Value) → (after ≡ true → before ≡ true) → AreKept before (trees_of items) ps → n < length items
+    → is_numbered (trees_of items) n ≡ false → (after ≡ true → IsShallow (tree_of v)) → AreKept after (trees_of (set items n (Some v))) (ps ++ n ∷ [])
+kept_more before after items ps n v marked kept within none shallow =
     let vs = trees_of items in
     let as_many = length_map items in
-    subst (λ ws. AreKept ws (ps ++ n ∷ [])) (sym (map_set items n (Some v))) (record {
+    subst (λ ws. AreKept after ws (ps ++ n ∷ [])) (sym (map_set items n (Some v))) (record {
       present = present_more vs n (tree_of v) ps (omega arith) none kept.present;
       counted = counted_more vs n (tree_of v) ps kept.counted;
-      shallow = shallow_set vs n (tree_of v) kept.shallow shallow;
+      shallow = λ is. shallow_set vs n (tree_of v) (kept.shallow (marked is)) (shallow is);
     })

@@ -5,10 +5,10 @@ use Rattle.std.proofs.lemmas.List.Folds.{list_any-append}
 use Rattle.std.specs.Cmp.{unsigned_Decides}
 use Rattle.vrl_value.specs.Tree.{Tree}
 use Rattle.vrl_value.specs.declared.value.Value.{Value}
-use Rattle.vrl_store.specs.Kept.{is_numbered, trees_of, AreCounted, AreKept, ArePresent, AreShallow}
+use Rattle.vrl_store.specs.Kept.{is_numbered, is_one_of, trees_of, AreCounted, AreKept, ArePresent, AreShallow}
 use Rattle.vrl_store.specs.StoreView.{Stay}
 use Rattle.vrl_store.proofs.Kept.{itself}
-use Rattle.vrl_store.proofs.Left.{is_one_of, numbered_within, present_numbered}
+use Rattle.vrl_store.proofs.Left.{numbered_within, present_numbered}
 use Rattle.vrl_store.proofs.StoreReads.{map_set}
 use Rattle.vrl_store.proofs.Variables.{found_at}
 
@@ -86,11 +86,11 @@ shallow_ended [] n are = tt
 shallow_ended (v ∷ vs) zero are = (tt, are.1)
 shallow_ended (v ∷ vs) (suc n) are = (are.0, shallow_ended vs n are.1)
 
-pub kept_ended : (items : List (Option Value)) (ps : List ℕ) (n : ℕ) → AreKept (trees_of items) (ps ++ n ∷ []) → AreKept (trees_of (set items n None)) ps
-kept_ended items ps n kept =
+pub kept_ended : (shallow : Bool) (items : List (Option Value)) (ps : List ℕ) (n : ℕ) → AreKept shallow (trees_of items) (ps ++ n ∷ []) → AreKept shallow (trees_of (set items n None)) ps
+kept_ended shallow items ps n kept =
     let vs = trees_of items in
-    subst (λ ws. AreKept ws ps) (sym (map_set items n None)) (record {
+    subst (λ ws. AreKept shallow ws ps) (sym (map_set items n None)) (record {
       present = present_ended vs ps n kept.present;
       counted = counted_ended vs ps n kept.counted;
-      shallow = shallow_ended vs n kept.shallow;
+      shallow = λ is. shallow_ended vs n (kept.shallow is);
     })

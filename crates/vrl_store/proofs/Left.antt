@@ -3,10 +3,9 @@ use Rattle.std.proofs.Common.{◌≡◌, ℕ, zero, suc, ◌<◌, ◌==◌, Bool
 use Rattle.std.specs.Cmp.{eq_by_cmp_equiv, unsigned_Decides}
 use Rattle.std.proofs.lemmas.Cmp.{nat_list_cmp_total}
 use Rattle.std.specs.FinMap as finite
-use Rattle.std.specs.List.{list_any}
 use Rattle.vrl_value.specs.Tree.{Tree}
 use Rattle.vrl_syntax.specs.Stores.{store_kept}
-use Rattle.vrl_store.specs.Kept.{is_numbered, trees_of, AreCounted, ArePresent}
+use Rattle.vrl_store.specs.Kept.{is_numbered, is_one_of, trees_of, AreCounted, ArePresent}
 use Rattle.vrl_store.specs.StoreView.{is_among, left_with, name_at, store_in, variables_of, AreDistinct, AreNames, IsFront, Names, Stay, Variables}
 use Rattle.vrl_store.specs.declared.store.Store.{Store as CodeStore}
 use Rattle.vrl_store.proofs.StoreReads.{length_map}
@@ -49,10 +48,6 @@ tied_at (x ∷ names) (suc i) (suc j) distinct first second = tied_at names i j 
 
 -- ---- numbers that are there
 
--- the number is one of these
-abbrev pub is_one_of : ℕ → List ℕ → Bool
-is_one_of i numbers = list_any (λ n. n == i) numbers
-
 pub numbered_within : (vs : List (Option Tree)) (n : ℕ) → is_numbered vs n ≡ true → n < length vs
 numbered_within [] n is = absurd (cc)
 numbered_within (v ∷ vs) zero is = omega arith
@@ -82,7 +77,7 @@ numbered_present vs i ps false false are counted first second = refl
 
 -- ---- maps of which only some names are left
 
-retained : (m : Variables) (p : List ℕ → Bool) (x : List ℕ) → finite.get (finite.retain_keys m p) x ≡ cond (p x) (finite.get m x) None
+pub retained : (m : Variables) (p : List ℕ → Bool) (x : List ℕ) → finite.get (finite.retain_keys m p) x ≡ cond (p x) (finite.get m x) None
 retained m p x = finite.get-retain_keys m p x (λ y tie. ap p (sym (named_so x y (ap is_eq tie))))
 
 both_none : (b : Bool) (m : Option Tree) → m ≡ None → cond b m None ≡ None
@@ -90,7 +85,7 @@ both_none true m is = is
 both_none false m is = refl
 
 -- a variable that isn't there has no value
-not_found : (vs : List (Option Tree)) (i : ℕ) (v : Option Tree) → found_at vs i ≡ v → is_numbered vs i ≡ false → v ≡ None
+pub not_found : (vs : List (Option Tree)) (i : ℕ) (v : Option Tree) → found_at vs i ≡ v → is_numbered vs i ≡ false → v ≡ None
 not_found vs i None is none = refl
 not_found vs i (Some v) is none = let wrong : true ≡ false = ap is_some (sym is) ∙ none in absurd (cc)
 

@@ -1,3 +1,4 @@
+pub mod Bound
 pub mod Equality
 pub mod Kept
 pub mod LastEnded

@@ -45,9 +45,9 @@ started names event first items are one = λ i. record { event = tree_of (one i)
 pub null_tree : tree_of value.Null ≡ null
 null_tree = search (rules, the_lemmas)
 
-pub kept_started : (items : List (Option Value)) → AreNone items → AreKept (trees_of items) []
+pub kept_started : (items : List (Option Value)) → AreNone items → AreKept true (trees_of items) []
 kept_started items are = record {
   present = tt;
   counted = λ n is. let wrong : false ≡ true = sym (not_numbered items n are) ∙ is in absurd (cc);
-  shallow = none_shallow items are;
+  shallow = λ is. none_shallow items are;
 }

@@ -10,7 +10,7 @@ use Rattle.vrl_store.specs.Kept.{trees_of}
 use Rattle.vrl_store.specs.StoreView.{name_at, root_of, store_in, variables_of, AreNames, Names}
 use Rattle.vrl_store.specs.declared.place.Base.TheVariants as base
 use Rattle.vrl_store.specs.declared.store.Store.{Store as CodeStore}
-use Rattle.vrl_store.proofs.Variables.{variable_at, variables_set}
+use Rattle.vrl_store.proofs.Variables.{found_at, variable_at, variables_set}
 
 -- what is read at an index, as a tree
 pub found_map : (vs : List (Option Value)) (n : ℕ) (x : Option Value) → n < length vs → x ≡ get_or vs n x → unwrap_or (slice_get (trees_of vs) n) None ≡ option_map tree_of x
@@ -34,6 +34,12 @@ variable_value names s n x store within is =
     let as_many = store.as_many in
     let mapped = length_map s.variables.items in
     variable_at names (trees_of s.variables.items) n store.distinct (omega arith) (omega arith) ∙ found_map s.variables.items n x within is
+
+pub variable_found : (names : Names) (s : CodeStore) (n : ℕ) → AreNames names s → n < length s.variables.items → value_of (root_of names (base.Variable n)) (store_in names s) ≡ found_at (trees_of s.variables.items) n
+variable_found names s n store within =
+    let as_many = store.as_many in
+    let mapped = length_map s.variables.items in
+    variable_at names (trees_of s.variables.items) n store.distinct (omega arith) (omega arith)
 
 pub root_variable : (names : Names) (s : CodeStore) (n : ℕ) (x : Option Value) → AreNames names s → n < length s.variables.items → x ≡ get_or s.variables.items n x
     → root_value (root_of names (base.Variable n)) (store_in names s) ≡ unwrap_or (option_map tree_of x) null

@@ -1,7 +1,8 @@
 -- What stands in a store whose variable got a value at a path.
-use Rattle.std.proofs.Common.{◌≡◌, ℕ, zero, suc, ◌<◌, true, false, List, [], ◌∷◌, length, get_or, set, Option, Some, None, is_some, option_map, unwrap_or, OnOk, OnErr, refl, sym, ap, ◌∙◌, subst, arith}
+use Rattle.std.proofs.Common.{◌≡◌, ℕ, zero, suc, ◌<◌, Bool, true, false, List, [], ◌∷◌, length, get_or, set, Option, Some, None, is_some, option_map, unwrap_or, OnOk, OnErr, refl, sym, ap, ◌∙◌, subst, arith}
 use Rattle.std.proofs.lemmas.Bool.Decides.{nat_tests}
 use Rattle.std.proofs.lemmas.List.{set-get_or}
+use Rattle.std.specs.Prelude.{IfSome}
 use Rattle.std.specs.declared.result.Result.{Result}
 use Rattle.std.specs.declared.result.Result.TheVariants.{Ok, Err}
 use Rattle.vrl_value.specs.Depth.{depth_of}
@@ -34,6 +35,11 @@ shallow_at (None ∷ vs) zero v within is are = cc
 shallow_at (Some w ∷ vs) zero v within is are = subst (λ u. IsShallow (tree_of u)) (let one : w ≡ v = cc in one) are.0
 shallow_at (w ∷ vs) (suc n) v within is are = shallow_at vs n v (omega arith) is are.1
 
+-- what stood in a variable
+pub shallow_found : (vs : List (Option Value)) (n : ℕ) (x : Option Value) → n < length vs → x ≡ get_or vs n x → AreShallow (trees_of vs) → IfSome (option_map tree_of x) IsShallow
+shallow_found vs n None within is are = tt
+shallow_found vs n (Some v) within is are = shallow_at vs n v within is are
+
 is_within-true : (v : Tree) → IsShallow v → is_within v ≡ true
 is_within-true v is = grind (arith, nat_tests)
 
@@ -52,9 +58,9 @@ absent_at (Some v ∷ vs) zero within is = cc
 absent_at (v ∷ vs) (suc n) within is = absent_at vs n (omega arith) is
 
 -- a variable that was there has another value
-pub kept_there : (items : List (Option Value)) (ps : List ℕ) (n : ℕ) (w v : Value) → AreKept (trees_of items) ps → n < length items → Some w ≡ get_or items n (Some w) → IsShallow (tree_of v)
-    → AreKept (trees_of (set items n (Some v))) ps
-kept_there items ps n w v kept within is shallow = kept_set items ps n v kept (numbered_at items n (Some w) within is) shallow
+pub kept_there : (shallow : Bool) (items : List (Option Value)) (ps : List ℕ) (n : ℕ) (w v : Value) → AreKept shallow (trees_of items) ps → n < length items → Some w ≡ get_or items n (Some w)
+    → (shallow ≡ true → IsShallow (tree_of v)) → AreKept shallow (trees_of (set items n (Some v))) ps
+kept_there shallow items ps n w v kept within is within_limit = kept_set shallow shallow items ps n v (λ same. same) kept (numbered_at items n (Some w) within is) within_limit
 
 -- ---- what was written
 

@@ -32,11 +32,15 @@ ArePresent vs (number ∷ numbers) = IsTrue (is_numbered vs number) × ((list_an
 abbrev pub AreCounted : List (Option Tree) → List ℕ → Type 0
 AreCounted vs numbers = (number : ℕ) → IsTrue (is_numbered vs number) → IsTrue (list_any (λ n. n == number) numbers)
 
--- the variables that are there have these numbers, and are within the limit of depth
-pub record AreKept (vs : List (Option Tree)) (numbers : List ℕ) : Type 0 where
+-- the number is one of these
+abbrev pub is_one_of : ℕ → List ℕ → Bool
+is_one_of number numbers = list_any (λ n. n == number) numbers
+
+-- the variables that are there have these numbers, and where they are marked so, they are within the limit of depth
+pub record AreKept (are_shallow : Bool) (vs : List (Option Tree)) (numbers : List ℕ) : Type 0 where
   pub present : ArePresent vs numbers
   pub counted : AreCounted vs numbers
-  pub shallow : AreShallow vs
+  pub shallow : IsTrue are_shallow → AreShallow vs
 
 -- ---- that there is one proof
 
@@ -52,9 +56,9 @@ present-prop : (vs : List (Option Tree)) (numbers : List ℕ) → IsProp (ArePre
 present-prop vs [] = Unit-prop
 present-prop vs (number ∷ numbers) = ×_prop (one_truth _) (×_prop (Coded-set coded_bool _ false) (present-prop vs numbers))
 
-pub kept-prop : (vs : List (Option Tree)) (numbers : List ℕ) → IsProp (AreKept vs numbers)
-kept-prop vs numbers x y = λ i. record {
+pub kept-prop : (are_shallow : Bool) (vs : List (Option Tree)) (numbers : List ℕ) → IsProp (AreKept are_shallow vs numbers)
+kept-prop are_shallow vs numbers x y = λ i. record {
   present = present-prop vs numbers x.present y.present i;
   counted = λ number is. one_truth _ (x.counted number is) (y.counted number is) i;
-  shallow = shallow-prop vs x.shallow y.shallow i;
+  shallow = λ is. shallow-prop vs (x.shallow is) (y.shallow is) i;
 }

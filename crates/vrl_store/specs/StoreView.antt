@@ -16,6 +16,7 @@ use Rattle.vrl_syntax.specs.declared.root.Root.{Root}
 use Rattle.vrl_syntax.specs.declared.root.Root.TheVariants.{Event, Name}
 use Rattle.vrl_store.specs.Kept.{trees_of}
 use Rattle.vrl_store.specs.Places.{is_within, root_with}
+use Rattle.vrl_store.specs.declared.hidden_value.HiddenValue.{HiddenValue}
 use Rattle.vrl_store.specs.declared.place.Base.{Base}
 use Rattle.vrl_store.specs.declared.place.Base.TheVariants as base
 use Rattle.vrl_store.specs.declared.store.Store.{Store as CodeStore}
@@ -60,6 +61,10 @@ present_of s = s.present.items
 -- how many variables there may be
 abbrev pub count_of : CodeStore → ℕ
 count_of s = length s.variables.items
+
+-- the value that a name of a closure hides
+abbrev pub hidden_tree : HiddenValue → Tree
+hidden_tree h = tree_of h.value
 
 -- ---- names
 

@@ -4,7 +4,8 @@
 //! value, and [`EmptyTags`] hands out the tags of the empty values that error assignments write. Nothing here knows of expressions that
 //! are run, or of functions.
 //!
-//! Files: `store.rt` has the event and the variables of a run, by their numbers (`place.rt`), `naming.rt` gives the variables their names, `operators.rt`
+//! Files: `store.rt` has the event and the variables of a run, by their numbers (`place.rt`), `hidden_value.rt` the value that a closure's name hides,
+//! `naming.rt` gives the variables their names, `operators.rt`
 //! has the operators, over `operand.rt`, and `stop.rt` why an expression ends without a value. `ends.rt` has what becomes of how a part ended,
 //! `empties.rt` the order of the tags of empty values, `asked.rt` which item's value is asked for, and `laws.rt` that `==` tells equality. Of the definitions
 //! `Outcomes`, `Operators` and `Places` are words of the meaning; `StoreView` says which store of the meaning one with numbered variables
@@ -14,6 +15,7 @@
 mod asked;
 mod empties;
 mod ends;
+mod hidden_value;
 mod laws;
 mod naming;
 mod operand;
@@ -25,6 +27,7 @@ mod store;
 pub use asked::is_asked_of_item;
 pub use empties::EmptyTags;
 pub use ends::{banged, unless_error};
+pub use hidden_value::HiddenValue;
 pub use laws::equality_is_told;
 pub use operand::Operand;
 pub use operators::{apply, apply_to_borrowed, is_falsy, is_true, negated, truth};

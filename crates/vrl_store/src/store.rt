@@ -1,4 +1,4 @@
-ghost use Rattle.std.specs.Prelude.{◌≡◌, ◌+◌, ◌-◌, ◌<◌, ◌≤◌, ◌↔◌, [], false, length, map, option_map, slice_set as set, take, IfOk, IsTrue, OnErr, OnOk};
+ghost use Rattle.std.specs.Prelude.{◌≡◌, ◌+◌, ◌-◌, ◌<◌, ◌≤◌, ◌↔◌, ◌&&◌, [], false, true, length, map, option_map, slice_get, slice_set as set, take, unwrap_or, IfOk, IfSome, IsTrue, OnErr, OnOk};
 ghost use Rattle.std.specs.Coded.{Coded-set};
 ghost use Rattle.vrl_value.specs.Depth.{depth_of};
 ghost use Rattle.vrl_value.specs.Tree.{null, IsOrdered};
@@ -7,10 +7,12 @@ ghost use Rattle.vrl_value.specs.declared.value.Value.TheVariants as value;
 ghost use Rattle.vrl_path.specs.Steps.{IsPlain, IsWritable};
 ghost use Rattle.vrl_path.specs.Trees.{remove_tree, set_tree};
 ghost use Rattle.vrl_path.specs.Write.{depth_limit};
-ghost use Rattle.vrl_syntax.specs.Stores.{store_of};
-ghost use Rattle.vrl_store.specs.Kept.{kept-prop, is_numbered, trees_of, AreKept, IsShallow};
+ghost use Rattle.vrl_syntax.specs.Stores.{store_of, value_of, with_value};
+ghost use Rattle.vrl_syntax.specs.declared.root.Root.TheVariants.{Name};
+ghost use Rattle.vrl_store.specs.Kept.{kept-prop, is_numbered, is_one_of, trees_of, AreKept, IsShallow};
 ghost use Rattle.vrl_store.specs.Places as spec;
 
+use crate::hidden_value::HiddenValue;
 use crate::naming::named;
 use crate::place::{Base, Place};
 use std::alloc::Global;
@@ -25,22 +27,24 @@ use vrl_value::{Fields, Memory, Names, Value};
 #[derive(Drop)]
 pub struct Store {
     event: Value,
-    // The event is known to be within the limit of depth, as each variable is.
+    // The event is known to be within the limit of depth.
     is_shallow: bool,
     variables: Vec<Option<Value>>,
+    // Each variable is known to be within it.
+    are_shallow: bool,
     // The numbers of the variables that are there, in the order in which they came.
     present: Vec<usize>,
     // Null, which is lent where nothing stands.
     null: Value,
-    // The variables that are there have these numbers, each once, and are within the limit of depth.
-    ghost kept: { AreKept (trees_of variables.items) present.items } by { kept-prop (trees_of variables.items) present.items },
+    // The variables that are there have these numbers, each once, and where they are marked so, they are within the limit of depth.
+    ghost kept: { AreKept are_shallow (trees_of variables.items) present.items } by { kept-prop are_shallow (trees_of variables.items) present.items },
     // Where the event is marked so, it is within the limit.
     ghost within: { IsTrue is_shallow → IsShallow (tree_of event) },
     ghost nothing: { null ≡ value.Null } by { Coded-set null-code null value.Null },
 }
 
 impl Store {
-    ghost use Rattle.vrl_store.specs.StoreView.{count_of, event_of, left_with, map_of, present_of, root_of, store_in, AreDistinct, AreNames, IsFront, IsKnown, IsWritten, Names, Stay};
+    ghost use Rattle.vrl_store.specs.StoreView.{count_of, event_of, hidden_tree, left_with, map_of, name_at, present_of, root_of, store_in, AreDistinct, AreNames, IsFront, IsKnown, IsWritten, Names, Stay};
     ghost use Rattle.vrl_store.specs.Told.{AreToldByMap};
 
     /// The store that a run of so many variables starts with: none is there yet. `Memory`: want of memory.
@@ -58,6 +62,7 @@ impl Store {
             event,
             is_shallow,
             variables,
+            are_shallow: true,
             present: Vec::new(alloc),
             null: Value::Null,
         })
@@ -131,8 +136,9 @@ impl Store {
         ensures front { IsFront self.old.present.items self.new.present.items }
         ensures as_many { length self.new.variables.items ≡ length self.old.variables.items }
     {
+        let are_shallow = self.are_shallow;
         match &mut self.variables[number] {
-            Some(variable) => set_in(alloc, variable, true, path, value),
+            Some(variable) => set_in(alloc, variable, are_shallow, path, value),
             None => self.write_new(alloc, number, path, value),
         }
     }
@@ -154,15 +160,16 @@ impl Store {
         ensures as_many { length self.new.variables.items ≡ length self.old.variables.items }
     {
         let variable = set_null(alloc, path, value)?;
-        self.begin(number, variable)?;
+        self.begin(number, variable, true)?;
         Ok(())
     }
 
-    // Gives a variable that isn't there a value. `Memory`: want of memory; the store stays as it was.
-    fn begin(&mut self, number: usize, value: Value) -> Result<(), Memory>
+    // Gives a variable that isn't there a value, which is known to be within the limit of depth or isn't. `Memory`: want of memory; the store
+    // stays as it was.
+    fn begin(&mut self, number: usize, value: Value, is_shallow: bool) -> Result<(), Memory>
         requires known { number < length self.old.variables.items }
         requires absent { is_numbered (trees_of self.old.variables.items) number ≡ false }
-        requires shallow { IsShallow (tree_of value) }
+        requires shallow { IsTrue is_shallow → IsShallow (tree_of value) }
         ensures value { OnOk result (self.new.variables.items ≡ set self.old.variables.items number (Some value)) }
         ensures same { OnErr result (self.new.variables.items ≡ self.old.variables.items) }
         ensures event { self.new.event ≡ self.old.event }
@@ -170,8 +177,63 @@ impl Store {
         ensures as_many { length self.new.variables.items ≡ length self.old.variables.items }
     {
         self.present.push(number)?;
+        self.are_shallow = both(self.are_shallow, is_shallow);
         self.variables[number] = Some(value);
         Ok(())
+    }
+
+    // Whether a variable is there.
+    fn has(&self, number: usize) -> bool
+        requires { number < length self.now.variables.items }
+        ensures { result ≡ is_numbered (trees_of self.now.variables.items) number }
+    {
+        self.variables[number].is_some()
+    }
+
+    // Gives a variable that is there another value, which is known to be within the limit of depth or isn't, and gives what stood in it.
+    fn exchange(&mut self, number: usize, value: Value, is_shallow: bool) -> Option<HiddenValue>
+        requires known { number < length self.old.variables.items }
+        requires there { is_numbered (trees_of self.old.variables.items) number ≡ true }
+        requires shallow { IsTrue is_shallow → IsShallow (tree_of value) }
+        ensures given { option_map hidden_tree result ≡ unwrap_or (slice_get (trees_of self.old.variables.items) number) None }
+        ensures value { self.new.variables.items ≡ set self.old.variables.items number (Some value) }
+        ensures event { self.new.event ≡ self.old.event }
+        ensures present { self.new.present.items ≡ self.old.present.items }
+    {
+        let were_shallow = self.are_shallow;
+        self.are_shallow = both(were_shallow, is_shallow);
+        let hidden = std::mem::replace(&mut self.variables[number], Some(value));
+        HiddenValue::of(hidden, were_shallow)
+    }
+
+    /// Binds a name of a closure: its variable has this value from here on. What the variable had is given, where it was there. `Memory`: want
+    /// of memory; the store stays as it was, and the value is gone.
+    pub fn bind(&mut self, number: usize, value: Value) -> Result<Option<HiddenValue>, Memory>
+        requires known { number < count_of self.old }
+        ensures bound { OnOk result ((names : Names) → AreNames names self.old → store_in names self.new ≡ with_value (Name (name_at names number)) (tree_of value) (store_in names self.old)) }
+        ensures hidden { IfOk result (λ hidden. (names : Names) → AreNames names self.old → option_map hidden_tree hidden ≡ value_of (Name (name_at names number)) (store_in names self.old)) }
+        ensures there { IfOk result (λ hidden. IfSome hidden (λ value. IsTrue (is_one_of number (present_of self.old)))) }
+        ensures same { OnErr result ((names : Names) → AreNames names self.old → store_in names self.new ≡ store_in names self.old) }
+        ensures front { IsFront (present_of self.old) (present_of self.new) }
+        ensures as_many { count_of self.new ≡ count_of self.old }
+    {
+        let is_shallow = value.depth() <= DEPTH_LIMIT;
+        if self.has(number) {
+            return Ok(self.exchange(number, value, is_shallow));
+        }
+        self.begin(number, value, is_shallow)?;
+        Ok(None)
+    }
+
+    /// Gives a variable that is there the value back that a name of a closure hid, behind the end of the body. It takes no memory.
+    pub fn give_back(&mut self, number: usize, hidden: HiddenValue)
+        requires { IsTrue (is_one_of number (present_of self.old)) }
+        ensures back { (names : Names) → AreNames names self.old → store_in names self.new ≡ with_value (Name (name_at names number)) (hidden_tree hidden) (store_in names self.old) }
+        ensures present { present_of self.new ≡ present_of self.old }
+        ensures as_many { count_of self.new ≡ count_of self.old }
+    {
+        let HiddenValue { value, is_shallow } = hidden;
+        let _bound = self.exchange(number, value, is_shallow);
     }
 
     /// Takes out what stands at a place, and gives it; null where nothing does. Of the event's root an empty object is left, and of a
@@ -208,7 +270,7 @@ impl Store {
             Base::Variable(number) => match &mut self.variables[number] {
                 Some(variable) => Ok(std::mem::replace(variable, Value::Null)),
                 None => {
-                    self.begin(number, Value::Null)?;
+                    self.begin(number, Value::Null, true)?;
                     Ok(Value::Null)
                 }
             },
@@ -277,6 +339,7 @@ impl Store {
             event,
             is_shallow: _,
             variables,
+            are_shallow: _,
             present: _,
             null: _,
         } = self;
@@ -317,6 +380,13 @@ fn set_in(
     }
     put(alloc, root, path, value)?;
     Ok(())
+}
+
+// Whether both are true.
+fn both(first: bool, second: bool) -> bool
+    ensures { result ≡ (first && second) }
+{
+    first && second
 }
 
 // Takes out what stands at a path of a value; null where nothing does.

@@ -1,3 +1,4 @@
+mod ClosureNames
 pub mod PartSizes
 mod Sizes
 pub mod Walked

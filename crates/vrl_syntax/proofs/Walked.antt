@@ -1,5 +1,5 @@
 -- A walk over a list that adds what each part has.
-use Rattle.std.proofs.Common.{◌≡◌, ℕ, zero, suc, ◌<◌, List, [], ◌∷◌, ◌++◌, length, drop, drop-cons, get_or, refl, sym, ap, ◌∙◌, append_assoc, arith, subst}
+use Rattle.std.proofs.Common.{◌≡◌, ℕ, suc, ◌<◌, List, ◌∷◌, ◌++◌, length, drop, drop-cons, get_or, refl, sym, ap, ◌∙◌, append_assoc, subst}
 
 -- what is left from a place on is the part there, and then what is left behind it
 pub drop_one : {A : Type 0} (xs : List A) (i next : ℕ) (x : A) → next ≡ suc i → i < length xs → x ≡ get_or xs i x → drop i xs ≡ x ∷ drop next xs

@@ -1,5 +1,9 @@
-ghost use Rattle.std.specs.Prelude.{◌≡◌};
-ghost use Rattle.vrl_syntax.specs.Calls.{is_del_form, form_named, is_del, is_exists, is_exists_form, is_closure_form, takes_closure};
+ghost use Rattle.std.specs.Prelude.{◌≡◌, ◌&&◌, Some, bytes_eq, codes, length, not};
+ghost use Rattle.std.specs.List.{list_any};
+ghost use Rattle.vrl_syntax.specs.Calls.{for_names, form_name, form_named, has_equal, has_shape, is_closure_form, is_del, is_del_form, is_exists, is_exists_form, takes_closure};
+ghost use Rattle.vrl_syntax.specs.Stores.{hidden_by};
+
+use vrl_value::{Chars, Names};
 
 /// A function that is a form of the language: what it does isn't told by the values of its arguments alone.
 #[derive(Clone, Copy, Debug, PartialEq, Eq)]
@@ -36,16 +40,29 @@ impl CallForm {
             _ => None,
         }
     }
-}
 
-/// Whether the function of this name runs a closure: `for_each`, `filter`, `map_values` or `map_keys`. It takes no memory.
-pub fn takes_closure(name: &str) -> bool
-    ensures { result ≡ takes_closure name.now }
-{
-    match CallForm::named(name) {
-        Some(CallForm::Del | CallForm::Exists) | None => false,
-        Some(CallForm::ForEach | CallForm::Filter | CallForm::MapValues | CallForm::MapKeys) =>
-            true,
+    /// The name of the function.
+    pub fn name(self) -> &'static str
+        ensures { result.now ≡ form_name self }
+    {
+        match self {
+            CallForm::Del => "del",
+            CallForm::Exists => "exists",
+            CallForm::ForEach => "for_each",
+            CallForm::Filter => "filter",
+            CallForm::MapValues => "map_values",
+            CallForm::MapKeys => "map_keys",
+        }
+    }
+
+    /// Whether the function runs a closure.
+    pub fn takes_closure(self) -> bool
+        ensures { result ≡ is_closure_form (Some self) }
+    {
+        match self {
+            CallForm::Del | CallForm::Exists => false,
+            CallForm::ForEach | CallForm::Filter | CallForm::MapValues | CallForm::MapKeys => true,
+        }
     }
 }
 
@@ -57,4 +74,58 @@ pub(crate) fn is_del(name: &str) -> bool
         Some(CallForm::Del) => true,
         _ => false,
     }
+}
+
+/// Whether a closure with these names is one for the function: there are as many as it asks for, and none but `_` stands twice. It takes no memory.
+pub fn has_shape(form: CallForm, names: &Names) -> bool
+    ensures { result ≡ has_shape form names.now }
+{
+    let names = names.as_slice();
+    names.len() == names_wanted(form) && !has_equal(names)
+}
+
+// How many names the closure of a function has.
+fn names_wanted(form: CallForm) -> usize
+    ensures { result ≡ length (for_names {A = Unit {0}} form tt tt) }
+{
+    match form {
+        CallForm::Del | CallForm::Exists => 0,
+        CallForm::MapValues | CallForm::MapKeys => 1,
+        CallForm::ForEach | CallForm::Filter => 2,
+    }
+}
+
+// Whether some name but `_` stands twice.
+fn has_equal(names: &[Chars]) -> bool
+    ensures { result ≡ has_equal (hidden_by names.now) }
+{
+    let mut left = names;
+    while let Some((first, rest)) = left.split_first() {
+        if stands_again(first, rest) {
+            return true;
+        }
+        left = rest;
+    }
+    false
+}
+
+// Whether the name isn't `_`, and is one of these too.
+fn stands_again(name: &Chars, others: &[Chars]) -> bool
+    ensures { result ≡ (not (bytes_eq name.now (codes "_")) && list_any (bytes_eq name.now) others.now) }
+{
+    name.as_str() != "_" && is_among(name, others)
+}
+
+// Whether the name is one of these.
+fn is_among(name: &Chars, others: &[Chars]) -> bool
+    ensures { result ≡ list_any (bytes_eq name.now) others.now }
+{
+    others.iter().any(|other| is_same(name, other))
+}
+
+// Whether they are one name.
+fn is_same(name: &Chars, other: &Chars) -> bool
+    ensures { result ≡ bytes_eq name.now other.now }
+{
+    name.as_str() == other.as_str()
 }

@@ -4,7 +4,7 @@
 //! A contract sees an [`Expr`] as plain data, by the one function `expr_of`.
 //!
 //! Files: `tree.rt` has the tree, `root.rt` roots, targets and operators, `lists.rt` lists of roots and of tags. `call_form.rt` tells the functions that are
-//! forms of the language from others, and `empty.rt` has the empty value of a tag. The walks have a file each: `limits.rt` over the paths that
+//! forms of the language from others, and whether a closure has the names that one asks for, and `empty.rt` has the empty value of a tag. The walks have a file each: `limits.rt` over the paths that
 //! are written or deleted, `regexes.rt` over regexes, `ordered.rt` over literals and `written.rt` over the roots that a body writes.
 #![tactic(auto)]
 
@@ -18,7 +18,7 @@ mod root;
 mod tree;
 mod written;
 
-pub use call_form::{CallForm, takes_closure};
+pub use call_form::{CallForm, has_shape};
 pub use empty::empty_value;
 pub use limits::limit_faults;
 pub use lists::{Empties, Roots};

@@ -5,7 +5,10 @@ use Rattle.std.specs.Option.{option_map_or}
 use Rattle.std.specs.declared.result.Result.{Result}
 use Rattle.std.specs.declared.result.Result.TheVariants.{Ok, Err}
 use Rattle.vrl_builtin.specs.Rows.{ParameterRow, parameter}
-use Rattle.vrl_builtin.specs.TagSets.{any_tags}
+use Rattle.vrl_builtin.specs.TagSets.{any_tags, containers, objects}
+use Rattle.vrl_builtin.specs.declared.tags.Tags.{Tags}
+use Rattle.vrl_syntax.specs.declared.call_form.CallForm.{CallForm}
+use Rattle.vrl_syntax.specs.declared.call_form.CallForm.TheVariants as form
 use Rattle.vrl_syntax.specs.Tree.{Args, no_args, arg}
 use Rattle.vrl_syntax.specs.declared.tree.Arg.{Arg}
 use Rattle.vrl_table.specs.declared.binding.BindFault.{BindFault}
@@ -96,3 +99,11 @@ IsBound bound answer = answer ≡ bound
 -- `del` and `exists`, which aren't functions of the table, take one argument of any kind; it is written as a path or a name
 abbrev pub path_parameters : List ParameterRow
 path_parameters = parameter (codes "value") any_tags ∷ []
+
+-- the functions that take a closure aren't of the table either: they take one argument, a collection, which is an array or an object, and for `map_keys` an object
+abbrev pub collections : CallForm → Tags
+collections form.MapKeys = objects
+collections f = containers
+
+abbrev pub collection_parameters : CallForm → List ParameterRow
+collection_parameters f = parameter (codes "value") (collections f) ∷ []

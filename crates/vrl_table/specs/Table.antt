@@ -5,7 +5,7 @@ use Rattle.vrl_syntax.specs.Calls.{form_named}
 use Rattle.vrl_builtin.specs.Law.{KeepsLaw}
 use Rattle.vrl_builtin.specs.OfText.{of_text_row}
 use Rattle.vrl_builtin.specs.OneTag.{whole_row}
-use Rattle.vrl_builtin.specs.Rows.{ParameterRow, Row}
+use Rattle.vrl_builtin.specs.Rows.{GivenTree, ParameterRow, Row}
 use Rattle.fn_codec.specs.Base16.{base16_of, bytes_of_base16}
 use Rattle.fn_codec.specs.Base64.{base64_of, bytes_of_base64}
 use Rattle.fn_codec.specs.Decode.{decode_row}
@@ -178,6 +178,10 @@ has_name_twice ps = has_twice (map (λ p. Some p.name) ps)
 -- no function has two parameters of one name
 abbrev pub ParametersAreToldApart : Type 0
 ParametersAreToldApart = (function : Fun) → has_name_twice (row_of function).parameters ≡ false
+
+-- what a function gives is never absent, whatever is given for its parameters
+abbrev pub ResultsArePresent : Type 0
+ResultsArePresent = (function : Fun) (givens : List GivenTree) (sources : List (List ℕ)) → (row_of function).kind givens sources [] tag.Absent ≡ false
 
 -- each function keeps the law
 abbrev pub FunctionsKeepLaw : Type 0

@@ -1,6 +1,6 @@
 ghost use Rattle.std.specs.Prelude.{◌≡◌, ◌≢◌, find, bytes_eq, MatchOption};
 ghost use Rattle.vrl_table.specs.Laws.{row-law};
-ghost use Rattle.vrl_table.specs.Table.{all_functions, function_named, row_of, FormsAreNoFunctions, FunctionsAreCounted, FunctionsAreFound, ParametersAreToldApart};
+ghost use Rattle.vrl_table.specs.Table.{all_functions, function_named, row_of, FormsAreNoFunctions, FunctionsAreCounted, FunctionsAreFound, ParametersAreToldApart, ResultsArePresent};
 ghost use Rattle.vrl_table.specs.declared.function.Fun.{Fun};
 
 use fn_codec::{
@@ -384,4 +384,9 @@ pub fn forms_are_no_functions()
 /// No function has two parameters of one name. This takes no time: it is a law about the definitions.
 pub fn parameters_are_told_apart()
     ensures { ParametersAreToldApart }
+{}
+
+/// What a function gives is never absent, whatever is given for its parameters. This takes no time: it is a law about the definitions.
+pub fn results_are_present()
+    ensures { ResultsArePresent }
 {}

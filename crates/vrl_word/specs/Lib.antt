@@ -1,3 +1,2 @@
-pub mod Built
 pub mod Signs
 pub mod Words

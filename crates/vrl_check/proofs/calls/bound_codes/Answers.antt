@@ -1,19 +1,15 @@
-use Rattle.std.proofs.Common.{ap, ◌∙◌, subst}
+use Rattle.std.proofs.Common.{subst}
 use Rattle.std.proofs.lemmas.Result.{IfOk-weaker}
-use Rattle.vrl_syntax.specs.declared.tree.Call.{out-Call}
 use Rattle.vrl_check.specs.Calling.{call_args}
-use Rattle.vrl_judge.specs.Rules.{at, when}
 use Rattle.vrl_judge.specs.Judging.{IsReported}
 use Rattle.vrl_check.proofs.CallsCodes.{told_as}
-use Rattle.vrl_check.proofs.CallsFound.{closure_told}
 use Rattle.vrl_judge.proofs.Parts.{reported_more}
 use Rattle.vrl_check.proofs.calls.bound_codes.Goals as goal
 
 pub returns-clause-reported : goal.returns-clause-reported
 returns-clause-reported c =
-    let closure = ap (λ b. when b (at 1010 c.args.span)) c.is_some.ensures ∙ closure_told (out-Call c.args.call.now).closure c.args.span in
     IfOk-weaker c.report.result _ _
     (λ _ last js told. reported_more _ _ c.args.checker.now c.argument_codes.new.checker c.report.new.self c.args.arguments.now.ends c.argument_codes.new.ends c.report.new.ends
     (c.in_ok-argument_codes.ensures js (told_as (call_args c.args.call.now) _ c.args.arguments.now.parts.items c.deref.result.now js c.as_slice.ensures c.deref.ensures.value told))
-    (subst (λ ds. IsReported ds c.argument_codes.new.checker c.report.new.self c.argument_codes.new.ends c.report.new.ends) closure last))
+    (subst (λ ds. IsReported ds c.argument_codes.new.checker c.report.new.self c.argument_codes.new.ends c.report.new.ends) (c.is_wrong_closure.ensures c.args.span) last))
     c.report.ensures

@@ -37,8 +37,8 @@ add_pairs-loop-value-preserved t c =
     let left = drop_one _ _ _ _ (add-one c.loop-value.value-index) c.loop-value-test.true c.loop-value-item.is in
     record { all = repeated_so_far _ _ _ _ _ _ _ _ (ap (λ pairs. in_pairs (pairs_view pairs)) left) refl c.in_ok-add_expr.ensures c.loop-value.invariant.all; within = left_within _ _ _ _ (ap (λ pairs. pairs_size (pairs_view pairs)) left) c.loop-value.invariant.within }
 
-pub add_call-returns-in-Some : goal.add_call-returns-in-Some
-add_call-returns-in-Some t c = repeated_behind _ c.add_exprs.result _ _ _ _ _ _ (search (rules, the_lemmas)) c.in_ok-add_args.ensures c.add_exprs.ensures
+pub add_call-returns : goal.add_call-returns
+add_call-returns t c = repeated_behind _ c.add_closure.result _ _ _ _ _ _ (search (rules, the_lemmas)) c.in_ok-add_args.ensures c.add_closure.ensures
 
 pub add_expr-returns-in-Some : goal.add_expr-returns-in-Some
 add_expr-returns-in-Some t c = repeated_behind _ c.add_exprs.result _ _ _ _ _ _ (search (rules, the_lemmas)) c.in_ok-add_arms-in-If.ensures c.add_exprs.ensures

@@ -1,8 +1,8 @@
-use Rattle.std.proofs.Common.{◌≡◌, ◌≤◌, ◌+◌, ◌*◌, ◌++◌, drop}
+use Rattle.std.proofs.Common.{◌≡◌, ◌≤◌, ◌+◌, ◌*◌, ◌++◌, drop, option_map}
 use Rattle.vrl_syntax.specs.ErrorAssignments.{in_args, in_arms, in_exprs, in_pairs}
-use Rattle.vrl_syntax.specs.View.{args_of, args_view, arms_of, arms_view, call_of, expr_of, exprs_of, exprs_view, pairs_of, pairs_view}
+use Rattle.vrl_syntax.specs.View.{args_of, args_view, arms_of, arms_view, call_of, closure_in, closure_of, expr_of, exprs_of, exprs_view, pairs_of, pairs_view}
 use Rattle.vrl_check.specs.Judgement.{nulls}
-use Rattle.vrl_syntax.proofs.PartSizes.{args_size, arms_size, expr_size, exprs_size, form_size, pairs_size}
+use Rattle.vrl_syntax.proofs.PartSizes.{args_size, arms_size, closure_size, expr_size, exprs_size, form_size, pairs_size}
 use Rattle.vrl_check.proofs.empties.+empties.Given as goal
 
 abbrev pub decreases-add_args : goal.decreases-add_args
@@ -12,7 +12,10 @@ abbrev pub decreases-add_arms : goal.decreases-add_arms
 decreases-add_arms l = 4 * arms_size (arms_of l.arms.now) + 2
 
 abbrev pub decreases-add_call : goal.decreases-add_call
-decreases-add_call l = 4 * form_size (call_of l.call.now) + 2
+decreases-add_call l = 4 * form_size (call_of l.call.now) + 3
+
+abbrev pub decreases-add_closure : goal.decreases-add_closure
+decreases-add_closure l = 4 * closure_size (closure_in (option_map closure_of l.closure.now)) + 2
 
 abbrev pub decreases-add_expr : goal.decreases-add_expr
 decreases-add_expr l = 4 * expr_size (expr_of l.expr.now)

@@ -1,7 +1,7 @@
 use Rattle.std.proofs.Common.{◌≡◌, ◌≤◌, ◌+◌, ◌*◌, ◌++◌, drop, option_map}
 use Rattle.vrl_check.specs.Loops.{closures_in_args, closures_in_arms, closures_in_exprs, closures_in_pairs}
 use Rattle.vrl_syntax.specs.View.{args_of, args_view, arms_of, arms_view, call_of, closure_in, closure_of, expr_of, exprs_of, exprs_view, pairs_of, pairs_view}
-use Rattle.vrl_check.specs.Loops.{deads}
+use Rattle.vrl_check.specs.Walking.{passed_states}
 use Rattle.vrl_syntax.proofs.PartSizes.{args_size, arms_size, closure_size, expr_size, exprs_size, form_size, pairs_size}
 use Rattle.vrl_check.proofs.loops.+loops.Given as goal
 
@@ -29,24 +29,24 @@ decreases-add_pairs l = 4 * pairs_size (pairs_of l.pairs.now) + 1
 -- with those of the parts that are left, those so far are all; and what is left is no larger than the whole
 abbrev pub invariant-add_args-loop-arg : goal.invariant-add_args-loop-arg
 invariant-add_args-loop-arg l = record {
-  all : l.loops.items ++ deads (closures_in_args (args_view (drop l.arg-index l.arg-items))) ≡ l.initial.loops.items ++ deads (closures_in_args (args_of l.args));
+  all : l.loops.items ++ passed_states (closures_in_args (args_view (drop l.arg-index l.arg-items))) ≡ l.initial.loops.items ++ passed_states (closures_in_args (args_of l.args));
   within : args_size (args_view (drop l.arg-index l.arg-items)) ≤ args_size (args_of l.args);
 }
 
 abbrev pub invariant-add_arms-loop-arm : goal.invariant-add_arms-loop-arm
 invariant-add_arms-loop-arm l = record {
-  all : l.loops.items ++ deads (closures_in_arms (arms_view (drop l.arm-index l.arm-items))) ≡ l.initial.loops.items ++ deads (closures_in_arms (arms_of l.arms));
+  all : l.loops.items ++ passed_states (closures_in_arms (arms_view (drop l.arm-index l.arm-items))) ≡ l.initial.loops.items ++ passed_states (closures_in_arms (arms_of l.arms));
   within : arms_size (arms_view (drop l.arm-index l.arm-items)) ≤ arms_size (arms_of l.arms);
 }
 
 abbrev pub invariant-add_exprs-loop-expr : goal.invariant-add_exprs-loop-expr
 invariant-add_exprs-loop-expr l = record {
-  all : l.loops.items ++ deads (closures_in_exprs (exprs_view (drop l.expr-index l.expr-items))) ≡ l.initial.loops.items ++ deads (closures_in_exprs (exprs_of l.exprs));
+  all : l.loops.items ++ passed_states (closures_in_exprs (exprs_view (drop l.expr-index l.expr-items))) ≡ l.initial.loops.items ++ passed_states (closures_in_exprs (exprs_of l.exprs));
   within : exprs_size (exprs_view (drop l.expr-index l.expr-items)) ≤ exprs_size (exprs_of l.exprs);
 }
 
 abbrev pub invariant-add_pairs-loop-value : goal.invariant-add_pairs-loop-value
 invariant-add_pairs-loop-value l = record {
-  all : l.loops.items ++ deads (closures_in_pairs (pairs_view (drop l.value-index l.value-items))) ≡ l.initial.loops.items ++ deads (closures_in_pairs (pairs_of l.pairs));
+  all : l.loops.items ++ passed_states (closures_in_pairs (pairs_view (drop l.value-index l.value-items))) ≡ l.initial.loops.items ++ passed_states (closures_in_pairs (pairs_of l.pairs));
   within : pairs_size (pairs_view (drop l.value-index l.value-items)) ≤ pairs_size (pairs_of l.pairs);
 }

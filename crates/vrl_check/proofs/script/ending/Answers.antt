@@ -9,7 +9,7 @@ pub returns-in_ok-kind-in-None : goal.returns-in_ok-kind-in-None
 returns-in_ok-kind-in-None c =
     let judged = c.args.judged.now in
     by_both c.end.result _ _ _
-    (ended judged _ c.join.new.self.known c.join.new.self.known None c.in_ok-kind-in-None.kind c.requires.0 c.requires.1 c.requires.2 (ap (λ s. s.known) c.in_ok-state.ensures) c.in_ok-join.ensures.known c.in-None.is (join_none c.join.new.self.known)
+    (ended judged _ c.join.new.self.known c.join.new.self.known None c.in_ok-kind-in-None.kind c.requires.0 c.requires.1 (ap (λ s. s.known) c.in_ok-state.ensures) c.in_ok-join.ensures.known c.in-None.is (join_none c.join.new.self.known)
     (subst (λ K. IsEither judged.kind K c.in_ok-kind-in-None.kind) c.in_ok-never-in-None.ensures.tree c.in_ok-kind-in-None.ensures))
     c.end.ensures.same c.end.ensures.roots
 
@@ -17,6 +17,6 @@ pub returns-in_ok-kind-in-Some : goal.returns-in_ok-kind-in-Some
 returns-in_ok-kind-in-Some c =
     let judged = c.args.judged.now in
     by_both c.end-in-Some.result _ _ _
-    (ended judged _ c.join.new.self.known c.join-in-Some.new.self.known (Some c.in-Some.ret) c.in_ok-kind-in-Some.kind c.requires.0 c.requires.1 c.requires.2 (ap (λ s. s.known) c.in_ok-state.ensures) c.in_ok-join.ensures.known c.in-Some.is c.in_ok-join-in-Some.ensures.known
+    (ended judged _ c.join.new.self.known c.join-in-Some.new.self.known (Some c.in-Some.ret) c.in_ok-kind-in-Some.kind c.requires.0 c.requires.1 (ap (λ s. s.known) c.in_ok-state.ensures) c.in_ok-join.ensures.known c.in-Some.is c.in_ok-join-in-Some.ensures.known
     c.in_ok-kind-in-Some.ensures)
     c.end-in-Some.ensures.same c.end-in-Some.ensures.roots

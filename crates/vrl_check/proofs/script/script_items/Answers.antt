@@ -5,7 +5,7 @@ use Rattle.vrl_check.proofs.Partway.{next_item, no_item_left, script_can_next, s
 use Rattle.vrl_check.proofs.script.script_items.Goals as goal
 
 pub loop-item-init : goal.loop-item-init
-loop-item-init c = script_first c.args.checker.now (exprs_of c.args.items.now) (exprs_view c.as_slice-item-items.result.now) c.value-last.result c.in_ok-scalar.field-0 c.as_slice-item-items.ensures c.value-last.ensures.kind c.value-last.ensures.ends c.in_ok-scalar.ensures c.requires
+loop-item-init c = script_first c.args.checker.now (exprs_of c.args.items.now) (exprs_view c.as_slice-item-items.result.now) c.value-last.result c.in_ok-scalar.field-0 c.as_slice-item-items.ensures c.value-last.ensures.kind c.value-last.ensures.ends c.in_ok-scalar.ensures c.requires.items c.requires.outside
 
 pub script_item-requires : goal.script_item-requires
 script_item-requires c =

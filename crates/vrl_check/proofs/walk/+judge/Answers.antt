@@ -1,4 +1,4 @@
-use Rattle.std.proofs.Common.{◌≡◌, ◌++◌, ◌∷◌, [], rules, sym, ◌∙◌, subst, arith, ap, option_map, refl, ap₂, ◌+◌, drop, length, vec_len, IfOk}
+use Rattle.std.proofs.Common.{◌≡◌, ◌++◌, ◌∷◌, [], Some, None, false, true, All, rules, sym, ◌∙◌, subst, arith, ap, option_map, refl, ap₂, ◌+◌, drop, length, vec_len, IfOk}
 use Rattle.std.proofs.lemmas.Bool.{true≢false}
 use Rattle.std.proofs.lemmas.Result.{IfOk-weaker}
 use Rattle.vrl_syntax.specs.Tree.{expr, abort_with, arg, array, assign, binary, block, both, call, conditional, group, literal, merge, message, negation, no_message, object, query, read, return_of, span_of}
@@ -14,6 +14,22 @@ use Rattle.vrl_syntax.proofs.PartSizes.{expr_size, form_size, arms_size, else_si
 use Rattle.vrl_value.specs.View.{tree_of}
 use Rattle.vrl_check.proofs.Partway.{can_at, else_at, form_at, items_at, array_can_next, array_common, array_first, array_given, array_next, next_item, no_item_left, array_fewer, next_pair, no_pair_left, object_can_next, object_common, object_first, object_given, object_next, object_fewer, sequence_can_next, sequence_common, sequence_end, sequence_first, sequence_next, sequence_fewer}
 use Rattle.vrl_judge.proofs.Results.{by_both}
+use Rattle.vrl_state.specs.States.{IsRootKind}
+use Rattle.vrl_syntax.specs.Calls.{for_names, form_named, takes_closure}
+use Rattle.vrl_table.specs.Binding.{binding, collection_parameters, keywords_of}
+use Rattle.vrl_judge.specs.Closures.{first_try as first}
+use Rattle.vrl_judge.specs.Judging.{AreEnds, HasJudged, IsMoved, IsReported, IsWay}
+use Rattle.vrl_judge.specs.Rules.{if_state, Judgement}
+use Rattle.vrl_check.specs.Calling.{call_args, call_bang, call_closure, call_name}
+use Rattle.vrl_check.specs.Iterating.{body_in, closure_items, closure_names, closure_span, AreRuns}
+use Rattle.vrl_check.specs.Judgement.{of_closure_call, Gives}
+use Rattle.vrl_check.specs.OpenRules.{language_rules}
+use Rattle.vrl_check.proofs.CallsAllowed.{keywords_told}
+use Rattle.vrl_check.proofs.CallsFound.{call_seen}
+use Rattle.vrl_check.proofs.CallsJudged.{codes_are}
+use Rattle.vrl_check.proofs.CallsWanted.{closure_called, closure_kept, closure_sized, no_code, right_call, right_shape, shape_counted, wrong_code, wrong_or_none}
+use Rattle.vrl_check.proofs.Iterated.{closure_call_judged, iterated_judged, names_roots, wrong_call_judged}
+use Rattle.vrl_check.proofs.Tries.{all_runs, as_stable, as_unstable, body_at, body_passed, body_reached, in_body, last_try, place_kept, second_stable, second_unstable, third_stable, third_unstable, tried_judged, tries_behind}
 use Rattle.vrl_check.proofs.Branching.{conjunction_judged, stands_here, disjunction_judged, coalescing_judged, return_judged, abort_judged}
 use Rattle.vrl_check.proofs.Told.{expr_ends, block_ends, expr_root}
 use Rattle.vrl_check.proofs.Arguments.{argument_can_next, argument_common, argument_fewer, arguments_are, arguments_first, arguments_given, arguments_next, arguments_told, call_given, next_arg, no_arg_left}
@@ -214,7 +230,7 @@ form-returns-in-Return t c =
     let here0 : c.deref-in-Return.result.now ≡ c.in-Return.value.value = search rules in
     let at_box : form_of c.args.form.now ≡ return_of (expr_of c.in-Return.value.value) = search (rules, the_lemmas) in
     let is : form_of c.args.form.now ≡ return_of (expr_of c.deref-in-Return.result.now) = at_box ∙ ap (λ x. return_of (expr_of x)) (sym here0) in
-    rw is (IfOk-weaker c.return_with.result _ _ (λ outcome given. given c.args.span) c.return_with.ensures)
+    rw is (c.return_with.ensures)
 
 pub form-returns-in-Abort-None : goal.form-returns-in-Abort-None
 form-returns-in-Abort-None t c =
@@ -261,8 +277,8 @@ array-expr-requires t c =
     let fewer = array_fewer _ _ _ _ _ _ _ _ next l.invariant in
     (omega (arith, c.decreases, fewer), array_can_next _ _ _ _ _ _ _ _ next l.invariant)
 
-pub array-absorb-requires : goal.array-absorb-requires
-array-absorb-requires t c =
+pub array-absorb_inner-requires : goal.array-absorb_inner-requires
+array-absorb_inner-requires t c =
     let l = c.loop-item in
     array_common _ l.checker c.expr.new.checker _ _ (expr_of c.item-item.result) _ c.in_ok-part.part _ l.invariant c.in_ok-part.ensures
 
@@ -289,8 +305,8 @@ object-expr-requires t c =
     let fewer = object_fewer _ _ _ _ _ _ _ _ _ next l.invariant in
     (omega (arith, c.decreases, fewer), object_can_next _ _ _ _ _ _ _ _ _ next l.invariant)
 
-pub object-absorb-requires : goal.object-absorb-requires
-object-absorb-requires t c =
+pub object-absorb_inner-requires : goal.object-absorb_inner-requires
+object-absorb_inner-requires t c =
     let l = c.loop-name in
     object_common _ l.checker c.expr.new.checker _ _ (expr_of c.loop-name-item.result.1) _ c.in_ok-part.part _ l.invariant c.in_ok-part.ensures
 
@@ -322,7 +338,7 @@ block-end_block-requires t c =
 pub block-returns : goal.block-returns
 block-returns t c =
     IfOk-weaker c.end_block.result _ _
-    (λ outcome ends. block_reached (exprs_of c.args.items.now) c.args.checker.now _ _ _ c.in_ok-part.part outcome (λ dead. true≢false (sym (c.is_dead.ensures.1 dead) ∙ c.if-is_dead.false)) c.in_ok-enter.ensures.entered refl refl refl c.in_ok-part.ensures ends)
+    (λ outcome ends. block_reached (exprs_of c.args.items.now) c.args.checker.now _ _ _ c.in_ok-part.part outcome (λ dead. true≢false (sym (c.is_dead.ensures.1 dead) ∙ c.if-is_dead.false)) c.in_ok-enter.ensures.entered refl refl refl refl refl c.in_ok-part.ensures ends)
     c.end_block.ensures
 
 pub sequence-loop-item-init : goal.sequence-loop-item-init
@@ -591,7 +607,7 @@ add_arm-returns t c =
 pub last_way-block-requires : goal.last_way-block-requires
 last_way-block-requires t c =
     let can = subst (λ o. ElseCanBeJudged c.args.checker.now.patterns.now (else_of (option_map exprs_of o))) c.in-Some.is c.requires in
-    (omega (arith, c.decreases, ap (λ o. else_size (else_of (option_map exprs_of o))) c.in-Some.is), record { calls = can.calls; limits = can.limits; regexes = can.regexes })
+    (omega (arith, c.decreases, ap (λ o. else_size (else_of (option_map exprs_of o))) c.in-Some.is), record { limits = can.limits; regexes = can.regexes })
 
 pub last_way-returns-in-Some : goal.last_way-returns-in-Some
 last_way-returns-in-Some t c =
@@ -611,7 +627,7 @@ return_with-returned-requires t c =
 pub return_with-returns : goal.return_with-returns
 return_with-returns t c =
     IfOk-weaker c.returned.result _ _
-    (λ outcome last. return_judged (expr_of c.args.value.now) c.args.checker.now c.expr.new.checker c.returned.new.self c.in_ok-part.part outcome c.in_ok-part.ensures last)
+    (λ outcome last. return_judged c.args.span (expr_of c.args.value.now) c.args.checker.now c.expr.new.checker c.returned.new.self c.in_ok-part.part outcome c.in_ok-part.ensures last)
     c.returned.ensures
 
 pub abort_with-aborted-requires : goal.abort_with-aborted-requires
@@ -669,7 +685,7 @@ pub error_assignment-returns : goal.error_assignment-returns
 error_assignment-returns t c =
     let counted : vec_len c.args.checker.now.empties ≡ length c.args.checker.now.empties.items = search rules in
     IfOk-weaker c.both_assigned.result _ _
-    (λ outcome last. error_judged c.args.span c.args.ok.now c.args.err.now (expr_of c.args.value.now) c.args.checker.now _ c.expr.new.checker c.both_assigned.new.self c.len-place.result c.in_ok-part.part outcome refl refl refl c.in_ok-push.ensures.items (c.len-place.ensures ∙ counted) c.in_ok-part.ensures last)
+    (λ outcome last. error_judged c.args.span c.args.ok.now c.args.err.now (expr_of c.args.value.now) c.args.checker.now _ c.expr.new.checker c.both_assigned.new.self c.len-place.result c.in_ok-part.part outcome refl refl refl refl refl c.in_ok-push.ensures.items (c.len-place.ensures ∙ counted) c.in_ok-part.ensures last)
     c.both_assigned.ensures
 
 pub call-arguments-requires : goal.call-arguments-requires
@@ -682,6 +698,10 @@ pub call-called-requires-clause-form : goal.call-called-requires-clause-form
 call-called-requires-clause-form t c =
     form_at c.args.checker.now c.arguments.new.checker (call_of c.args.call.now) c.in_ok-arguments.ensures.3.gathered.patterns c.requires
 
+pub call-called-requires-clause-name : goal.call-called-requires-clause-name
+call-called-requires-clause-name t c =
+    subst (λ n. takes_closure n ≡ false) c.as_str.ensures c.in-None.ensures
+
 pub call-called-requires-clause-told : goal.call-called-requires-clause-told
 call-called-requires-clause-told t c =
     arguments_told _ c.args.checker.now c.arguments.new.checker c.in_ok-arguments.arguments c.in_ok-arguments.ensures
@@ -690,12 +710,228 @@ pub call-called-requires-clause-ends : goal.call-called-requires-clause-ends
 call-called-requires-clause-ends t c =
     arguments_are _ c.args.checker.now c.arguments.new.checker c.in_ok-arguments.arguments c.in_ok-arguments.ensures
 
-pub call-returns : goal.call-returns
-call-returns t c =
+pub call-closure_call-requires : goal.call-closure_call-requires
+call-closure_call-requires t c =
+    let x = c.args.call.now in
+    let are = c.in_ok-arguments.ensures in
+    let name = c.in-Some.ensures in
+    (omega (arith, c.decreases, ap form_size (call_seen x)), (subst (λ n. form_named n ≡ Some c.in-Some.form) c.as_str.ensures name.0, (name.1, (form_at c.args.checker.now c.arguments.new.checker (call_of x) are.3.gathered.patterns c.requires, (arguments_told _ c.args.checker.now c.arguments.new.checker c.in_ok-arguments.arguments are, arguments_are _ c.args.checker.now c.arguments.new.checker c.in_ok-arguments.arguments are)))))
+
+pub call-returns-in-Some : goal.call-returns-in-Some
+call-returns-in-Some t c =
+    let a = out-Call c.args.call.now in
+    IfOk-weaker c.closure_call.result _ _
+    (λ outcome called. call_given c.args.span (call_of c.args.call.now) (args_of a.args) c.args.checker.now c.arguments.new.checker c.closure_call.new.checker c.in_ok-arguments.arguments outcome c.in_ok-arguments.ensures called)
+    c.closure_call.ensures
+
+pub call-returns-in-None : goal.call-returns-in-None
+call-returns-in-None t c =
     let a = out-Call c.args.call.now in
     IfOk-weaker c.called.result _ _
     (λ outcome called. call_given c.args.span (call_of c.args.call.now) (args_of a.args) c.args.checker.now c.arguments.new.checker c.called.new.checker c.in_ok-arguments.arguments outcome c.in_ok-arguments.ensures called)
     c.called.ensures
+
+pub closure_call-iterated-requires : goal.closure_call-iterated-requires
+closure_call-iterated-requires t c =
+    let x = c.args.call.now in
+    let cl = c.in-Some.closure.now in
+    let there = c.in-Some.ensures.1 in
+    let js = c.requires.told.0 in
+    let told = c.requires.told.1 in
+    let codes = c.in_ok-wrong.ensures.reported js told in
+    let none = no_code _ (sym (c.in_ok-wrong.ensures.wrong js told) ∙ c.in-Some.ensures.0) in
+    let same = keywords_told (call_args x) js told.written_are in (
+      omega (arith, c.decreases, closure_sized x cl there),
+      (
+        right_shape c.args.form c.args.span (call_closure x) cl (keywords_of (call_args x)) js (closure_called x cl there) same none,
+        (items_at c.args.checker.now c.is_wrong_call.new.checker (closure_items cl) codes.patterns (closure_kept x cl there c.requires.can), codes_are _ c.args.checker.now c.is_wrong_call.new.checker c.args.arguments.ends c.is_wrong_call.new.arguments.ends codes c.requires.ends),
+      ),
+    )
+
+pub closure_call-returns-in_ok-outcome-in-Some : goal.closure_call-returns-in_ok-outcome-in-Some
+closure_call-returns-in_ok-outcome-in-Some t c =
+    let x = c.args.call.now in
+    let gs = call_args x in
+    let cl = c.in-Some.closure.now in
+    let there = c.in-Some.ensures.1 in
+    let is = call_seen x ∙ ap (call (call_name x) (out-Call x).name_span (call_bang x) gs) (closure_called x cl there) in
+    IfOk-weaker c.banged.result _ _
+    (λ outcome bangs before known js j alive judged has.
+    let same = keywords_told gs js has.told.written_are in
+    let none = no_code _ (sym (c.in_ok-wrong.ensures.wrong js has.told) ∙ c.in-Some.ensures.0) in
+    let right = right_call c.args.form c.args.span (call_closure x) (keywords_of gs) js (binding (collection_parameters c.args.form) (keywords_of gs)) refl same none in
+    subst (λ f. (k : Judgement) × Gives (language_rules before.patterns.now) before.inside known c.args.span f k × HasJudged before c.banged.new.self outcome k) (sym is)
+    (closure_call_judged c.args.form (call_name x) (out-Call x).name_span c.args.span (call_bang x) gs (closure_names cl) (closure_items cl) (closure_span cl) before c.args.checker.now c.is_wrong_call.new.checker c.iterated.new.checker c.banged.new.self known
+    c.args.arguments c.is_wrong_call.new.arguments c.in_ok-outcome-in-Some.outcome outcome js j c.requires.form c.requires.four judged has
+    (subst (λ z. IsReported (of_closure_call c.args.form c.args.span gs z js) c.args.checker.now c.is_wrong_call.new.checker c.args.arguments.ends c.is_wrong_call.new.arguments.ends) (closure_called x cl there) (c.in_ok-wrong.ensures.reported js has.told))
+    c.is_wrong_call.ensures.parts (subst (λ z. of_closure_call c.args.form c.args.span gs z js ≡ []) (closure_called x cl there) none) (right.0, right.1)
+    (λ g ready. c.in_ok-outcome-in-Some.ensures before gs g j ready) (λ k made. bangs before k made)))
+    c.banged.ensures
+
+pub closure_call-returns-in-None : goal.closure_call-returns-in-None
+closure_call-returns-in-None t c =
+    let x = c.args.call.now in
+    let gs = call_args x in
+    IfOk-weaker c.passed_call.result _ _
+    (λ outcome passes before known js j alive judged has.
+    let same = keywords_told gs js has.told.written_are in
+    let some = wrong_code c.args.form c.args.span (call_closure x) (keywords_of gs) js c.in_ok-wrong.wrong same (c.in_ok-wrong.ensures.wrong js has.told) (wrong_or_none x c.in_ok-wrong.wrong c.in-None.ensures) in
+    subst (λ f. (k : Judgement) × Gives (language_rules before.patterns.now) before.inside known c.args.span f k × HasJudged before c.passed_call.new.checker outcome k) (sym (call_seen x))
+    (wrong_call_judged c.args.form (call_name x) (out-Call x).name_span c.args.span (call_bang x) gs (call_closure x) before c.args.checker.now c.is_wrong_call.new.checker c.passed_call.new.checker known c.args.arguments c.is_wrong_call.new.arguments outcome js j
+    c.requires.form c.requires.four judged has (c.in_ok-wrong.ensures.reported js has.told) some (λ k ends gathered. passes before k ends gathered)))
+    c.passed_call.ensures
+
+pub iterated-all_runs-requires : goal.iterated-all_runs-requires
+iterated-all_runs-requires t c =
+    let names = c.in_ok-names.ensures in
+    let kinds : c.deref.result.now ≡ for_names c.args.form names.key names.value = c.deref.ensures.value ∙ names.names in (
+      omega (arith, c.decreases),
+      record {
+        items = items_at c.args.checker.now c.collection_of.new.checker (closure_items c.args.closure.now) (ap (λ x. x.patterns) c.collection_of.ensures.checker) c.requires.items;
+        kinds = subst (All IsRootKind) (sym kinds) (names_roots c.args.form names.key names.value names.key_root names.value_root);
+        count = shape_counted c.args.form (closure_names c.args.closure.now) names.key names.value c.requires.shape ∙ ap length (sym kinds);
+      },
+    )
+
+pub iterated-made_of-requires-clause-ends : goal.iterated-made_of-requires-clause-ends
+iterated-made_of-requires-clause-ends t c =
+    let same = c.in_ok-run.ensures.judged.gathered.scopes ∙ ap (λ x. x.state.scopes) c.collection_of.ensures.checker in
+    subst (λ e. AreEnds c.all_runs.new.checker.state.scopes e) (sym c.in_ok-collection.ensures.ends) (subst (λ s. AreEnds s c.args.arguments.ends) (sym same) c.requires.ends)
+
+pub iterated-made_of-requires-clause-fail : goal.iterated-made_of-requires-clause-fail
+iterated-made_of-requires-clause-fail t c =
+    let same = c.in_ok-run.ensures.judged.gathered.scopes ∙ ap (λ x. x.state.scopes) c.collection_of.ensures.checker in
+    subst (λ s. IsWay s c.in_ok-collection.collection.fail) (sym same) c.in_ok-collection.ensures.fail
+
+pub iterated-made_of-requires-clause-run : goal.iterated-made_of-requires-clause-run
+iterated-made_of-requires-clause-run t c =
+    let run = c.in_ok-run.ensures in
+    subst (λ s. AreEnds s c.in_ok-run.run'.outcome.ends) (sym run.judged.gathered.scopes) run.judged.ends.are
+
+pub iterated-returns : goal.iterated-returns
+iterated-returns t c =
+    let cl = c.args.closure.now in
+    let names = c.in_ok-names.ensures in
+    let still = c.collection_of.ensures.checker in
+    IfOk-weaker c.made_of.result _ _
+    (λ outcome made before gs g j has. iterated_judged c.args.form cl c.in_ok-names.names.kinds.items c.in_ok-names.names.runs before c.args.checker.now c.all_runs.new.checker c.made_of.new.checker c.args.arguments c.in_ok-collection.collection c.in_ok-run.run' outcome gs g j has
+    (c.in_ok-collection.ensures.taken g has.told.parts_are) names (subst (λ x. AreRuns c.args.form (body_in cl c.in_ok-names.names.kinds.items c.in_ok-names.names.runs) x c.all_runs.new.checker c.in_ok-run.run') still
+    (subst (λ Ks. AreRuns c.args.form (body_in cl Ks c.in_ok-names.names.runs) c.collection_of.new.checker c.all_runs.new.checker c.in_ok-run.run') c.deref.ensures.value c.in_ok-run.ensures)) made)
+    c.made_of.ensures
+
+pub all_runs-first_try-requires : goal.all_runs-first_try-requires
+all_runs-first_try-requires t c =
+    (omega (arith, c.decreases), c.requires)
+
+pub all_runs-keep_loop-requires : goal.all_runs-keep_loop-requires
+all_runs-keep_loop-requires t c =
+    let counted : vec_len c.args.checker.now.loops ≡ length c.args.checker.now.loops.items = search rules in
+    place_kept c.len-place.result c.args.checker.now.loops.items _ c.first_try.new.checker.loops.items c.in_ok-run.ensures.k.loops (c.len-place.ensures ∙ counted) c.in_ok-push.ensures.items c.in_ok-run.ensures.judged.gathered.loops
+
+pub all_runs-returns : goal.all_runs-returns
+all_runs-returns t c =
+    let counted : vec_len c.args.checker.now.loops ≡ length c.args.checker.now.loops.items = search rules in
+    all_runs c.args.form (body_in c.args.closure.now c.args.kinds.now c.args.runs) c.len-place.result c.args.checker.now _ c.first_try.new.checker c.keep_loop.new.checker c.in_ok-run.run' refl refl refl refl refl (c.len-place.ensures ∙ counted) c.in_ok-push.ensures.items c.in_ok-run.ensures
+    c.in_ok-keep_loop.ensures.loops c.in_ok-keep_loop.ensures.others
+
+pub first_try-one_try-requires : goal.first_try-one_try-requires
+first_try-one_try-requires t c =
+    (omega (arith, c.decreases), c.requires)
+
+pub first_try-returns-in-Stable : goal.first_try-returns-in-Stable
+first_try-returns-in-Stable t c =
+    last_try c.args.form (body_in c.args.closure.now c.args.kinds.now c.args.runs) first _ _ c.in-Stable.run' (as_stable c.args.form (body_in c.args.closure.now c.args.kinds.now c.args.runs) _ c.one_try.new.checker c.in_ok-attempt.attempt c.in-Stable.run' c.in-Stable.is c.in_ok-attempt.ensures)
+
+pub first_try-second_try-requires : goal.first_try-second_try-requires
+first_try-second_try-requires t c =
+    let unstable = as_unstable c.args.form (body_in c.args.closure.now c.args.kinds.now c.args.runs) _ c.one_try.new.checker c.in_ok-attempt.attempt c.in-Unstable.behind c.in-Unstable.is c.in_ok-attempt.ensures in
+    (omega (arith, c.decreases), (body_at c.args.checker.now c.one_try.new.checker c.args.closure.now c.args.kinds.now unstable.alike.patterns c.requires, unstable.behind_scopes ∙ sym unstable.alike.scopes))
+
+pub first_try-returns-in-Unstable : goal.first_try-returns-in-Unstable
+first_try-returns-in-Unstable t c =
+    IfOk-weaker c.second_try.result _ _
+    (λ run are. tries_behind c.args.form (body_in c.args.closure.now c.args.kinds.now c.args.runs) c.args.checker.now c.one_try.new.checker c.second_try.new.checker c.in-Unstable.behind run (as_unstable c.args.form (body_in c.args.closure.now c.args.kinds.now c.args.runs) _ c.one_try.new.checker c.in_ok-attempt.attempt c.in-Unstable.behind c.in-Unstable.is c.in_ok-attempt.ensures) are)
+    c.second_try.ensures
+
+pub second_try-widened-requires : goal.second_try-widened-requires
+second_try-widened-requires t c =
+    c.requires.behind
+
+pub second_try-one_try-requires : goal.second_try-one_try-requires
+second_try-one_try-requires t c =
+    (omega (arith, c.decreases), body_at c.args.checker.now c.widened.new.self c.args.closure.now c.args.kinds.now c.widened.ensures.others.patterns c.requires.body)
+
+pub second_try-returns-in-Stable : goal.second_try-returns-in-Stable
+second_try-returns-in-Stable t c =
+    let b = body_in c.args.closure.now c.args.kinds.now c.args.runs in
+    second_stable c.args.form b c.args.behind.known c.args.checker.now c.widened.new.self _ c.in-Stable.run' c.widened.ensures.others (c.in_ok-widened.ensures.known b (sym c.in_ok-roots.ensures)) (as_stable c.args.form (body_in c.args.closure.now c.args.kinds.now c.args.runs) _ c.one_try.new.checker c.in_ok-attempt.attempt c.in-Stable.run' c.in-Stable.is c.in_ok-attempt.ensures)
+
+pub second_try-third_try-requires : goal.second_try-third_try-requires
+second_try-third_try-requires t c =
+    let unstable = as_unstable c.args.form (body_in c.args.closure.now c.args.kinds.now c.args.runs) _ c.one_try.new.checker c.in_ok-attempt.attempt c.in-Unstable._behind c.in-Unstable.is c.in_ok-attempt.ensures in
+    (omega (arith, c.decreases), (body_at c.args.checker.now c.one_try.new.checker c.args.closure.now c.args.kinds.now (unstable.alike.patterns ∙ c.widened.ensures.others.patterns) c.requires.body, c.in_ok-roots.ensures))
+
+pub second_try-returns : goal.second_try-returns
+second_try-returns t c =
+    let b = body_in c.args.closure.now c.args.kinds.now c.args.runs in
+    IfOk-weaker c.third_try.result _ _
+    (λ run last. second_unstable c.args.form b c.args.behind.known _ c.args.checker.now c.widened.new.self c.one_try.new.checker c.third_try.new.checker run c.widened.ensures.others (c.in_ok-widened.ensures.known b (sym c.in_ok-roots.ensures)) (as_unstable c.args.form (body_in c.args.closure.now c.args.kinds.now c.args.runs) _ c.one_try.new.checker c.in_ok-attempt.attempt c.in-Unstable._behind c.in-Unstable.is c.in_ok-attempt.ensures) last)
+    c.third_try.ensures
+
+pub third_try-one_try-requires : goal.third_try-one_try-requires
+third_try-one_try-requires t c =
+    (omega (arith, c.decreases), body_at c.args.checker.now c.forgotten.new.self c.args.closure.now c.args.kinds.now c.forgotten.ensures.others.patterns c.requires.body)
+
+pub third_try-returns : goal.third_try-returns
+third_try-returns t c =
+    let b = body_in c.args.closure.now c.args.kinds.now c.args.runs in
+    third_stable c.args.form b c.args.checker.now c.forgotten.new.self _ c.in-Stable.run' c.forgotten.ensures.others (c.in_ok-forgotten.ensures.known b None (sym c.requires.roots)) (as_stable c.args.form (body_in c.args.closure.now c.args.kinds.now c.args.runs) _ c.one_try.new.checker c.in_ok-attempt.attempt c.in-Stable.run' c.in-Stable.is c.in_ok-attempt.ensures)
+
+pub third_try-unreachable-requires : goal.third_try-unreachable-requires
+third_try-unreachable-requires t c =
+    let b = body_in c.args.closure.now c.args.kinds.now c.args.runs in
+    third_unstable c.third_tries_are_stable.ensures b c.args.checker.now c.forgotten.new.self _ _ c.requires.body.kinds c.have_root_kinds.ensures (c.in_ok-forgotten.ensures.known b None (sym c.requires.roots)) (as_unstable c.args.form (body_in c.args.closure.now c.args.kinds.now c.args.runs) _ c.one_try.new.checker c.in_ok-attempt.attempt c.in-Unstable._behind c.in-Unstable.is c.in_ok-attempt.ensures)
+
+pub one_try-body-requires : goal.one_try-body-requires
+one_try-body-requires t c =
+    let same = c.go_on_if.ensures.others.patterns ∙ ap (λ x. x.patterns) c.here.ensures.checker in
+    (omega (arith, c.decreases), body_at c.args.checker.now c.go_on_if.new.self c.args.closure.now c.args.kinds.now same c.requires)
+
+pub one_try-end_try-requires : goal.one_try-end_try-requires
+one_try-end_try-requires t c =
+    let still = c.here.ensures.checker in
+    let has = (c.in_ok-part.ensures c.args.runs).2 in
+    ap (λ s. s.scopes) c.in_ok-start.ensures.branch ∙ ap (λ x. x.state.scopes) (sym still) ∙ sym c.go_on_if.ensures.others.scopes ∙ sym has.gathered.scopes
+
+pub one_try-returns : goal.one_try-returns
+one_try-returns t c =
+    let b = body_in c.args.closure.now c.args.kinds.now c.args.runs in
+    let still = c.here.ensures.checker in
+    let known = c.go_on_if.ensures.known ∙ ap (λ x. if_state c.args.runs x.state.known) still in
+    let moved = subst (λ x. IsMoved x c.go_on_if.new.self) still c.go_on_if.ensures.others in
+    tried_judged c.args.form b c.args.checker.now c.go_on_if.new.self c.body.new.checker c.end_try.new.checker c.in_ok-start.start c.held-held.result c.in_ok-part.part c.end_try.result c.in_ok-start.ensures.branch known moved c.held-held.ensures (c.in_ok-part.ensures c.args.runs) c.end_try.ensures
+
+pub body-returns-then-is_dead : goal.body-returns-then-is_dead
+body-returns-then-is_dead t c =
+    IfOk-weaker c.pass_items.result _ _ (λ outcome has runs. body_passed (body_in c.args.closure.now c.args.kinds.now runs) _ _ outcome (c.is_dead.ensures.0 c.if-is_dead.true) has) c.pass_items.ensures
+
+pub body-enter_body-requires-clause-count : goal.body-enter_body-requires-clause-count
+body-enter_body-requires-clause-count t c = c.requires.count
+
+pub body-enter_body-requires-clause-kinds : goal.body-enter_body-requires-clause-kinds
+body-enter_body-requires-clause-kinds t c = c.requires.kinds
+
+pub body-block-requires : goal.body-block-requires
+body-block-requires t c =
+    (omega (arith, c.decreases), items_at c.args.checker.now c.enter_body.new.self (closure_items c.args.closure.now) (ap (λ x. x.patterns) c.in_ok-enter_body.ensures.others) c.requires.items)
+
+pub body-end_body-requires : goal.body-end_body-requires
+body-end_body-requires t c =
+    in_body (body_in c.args.closure.now c.args.kinds.now true) _ c.enter_body.new.self c.block.new.checker c.in_ok-part.part c.in_ok-enter_body.ensures c.in_ok-part.ensures
+
+pub body-returns : goal.body-returns
+body-returns t c runs =
+    body_reached (body_in c.args.closure.now c.args.kinds.now runs) c.args.checker.now _ c.enter_body.new.self c.block.new.checker c.end_body.new.self _ c.in_ok-part.part c.in_ok-outcome.outcome (λ dead. true≢false (sym (c.is_dead.ensures.1 dead) ∙ c.if-is_dead.false)) refl c.in_ok-enter_body.ensures c.in_ok-part.ensures c.in_ok-outcome.ensures refl
 
 pub arguments-loop-arg-init : goal.arguments-loop-arg-init
 arguments-loop-arg-init t c =

@@ -1,6 +1,8 @@
 use Rattle.std.proofs.Common.{◌+◌, ◌*◌, option_map, drop}
 use Rattle.vrl_syntax.specs.View.{args_of, args_view, arm_of, arms_of, call_of, else_of, expr_of, exprs_of, form_of, pairs_of, exprs_view, pairs_view, arms_view}
-use Rattle.vrl_syntax.proofs.PartSizes.{args_size, arms_size, else_size, expr_size, exprs_size, form_size, pairs_size}
+use Rattle.vrl_syntax.proofs.PartSizes.{args_size, arms_size, closure_size, else_size, expr_size, exprs_size, form_size, pairs_size}
+use Rattle.vrl_check.specs.Calling.{call_closure}
+use Rattle.vrl_check.specs.Iterating.{closure_items}
 use Rattle.vrl_check.proofs.Partway.{IsArrayPartway, IsObjectPartway, IsSequencePartway}
 use Rattle.vrl_check.proofs.Arguments.{IsArgumentsPartway}
 use Rattle.vrl_check.proofs.Arms.{AreJudged}
@@ -32,7 +34,31 @@ abbrev pub decreases-arguments : goal.decreases-arguments
 decreases-arguments l = 16 * args_size (args_of l.args.now) + 1
 
 abbrev pub decreases-call : goal.decreases-call
-decreases-call l = 16 * form_size (call_of l.call.now) + 2
+decreases-call l = 16 * form_size (call_of l.call.now) + 11
+
+abbrev pub decreases-closure_call : goal.decreases-closure_call
+decreases-closure_call l = 16 * closure_size (call_closure l.call.now) + 10
+
+abbrev pub decreases-iterated : goal.decreases-iterated
+decreases-iterated l = 16 * exprs_size (closure_items l.closure.now) + 9
+
+abbrev pub decreases-all_runs : goal.decreases-all_runs
+decreases-all_runs l = 16 * exprs_size (closure_items l.closure.now) + 8
+
+abbrev pub decreases-first_try : goal.decreases-first_try
+decreases-first_try l = 16 * exprs_size (closure_items l.closure.now) + 7
+
+abbrev pub decreases-second_try : goal.decreases-second_try
+decreases-second_try l = 16 * exprs_size (closure_items l.closure.now) + 6
+
+abbrev pub decreases-third_try : goal.decreases-third_try
+decreases-third_try l = 16 * exprs_size (closure_items l.closure.now) + 5
+
+abbrev pub decreases-one_try : goal.decreases-one_try
+decreases-one_try l = 16 * exprs_size (closure_items l.closure.now) + 4
+
+abbrev pub decreases-body : goal.decreases-body
+decreases-body l = 16 * exprs_size (closure_items l.closure.now) + 3
 
 abbrev pub decreases-coalescing : goal.decreases-coalescing
 decreases-coalescing l = 16 * (expr_size (expr_of l.left.now) + expr_size (expr_of l.right.now)) + 5

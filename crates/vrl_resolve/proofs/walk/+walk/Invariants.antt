@@ -1,11 +1,15 @@
-use Rattle.std.proofs.Common.{◌≡◌, ◌≤◌, ◌+◌, ◌*◌, [], ◌++◌, drop, length, map, List}
-use Rattle.vrl_value.specs.Tree.{no_members, null}
-use Rattle.vrl_value.specs.View.{members_of, tree_of}
+use Rattle.std.proofs.Common.{◌≡◌, ◌≤◌, ◌<◌, ◌+◌, ◌*◌, ◌^◌, [], ◌++◌, None, drop, length, map, List}
+use Rattle.std.specs.Vec.Iter.{into_iter_items, into_iter_len}
+use Rattle.vrl_value.specs.Tree.{array as array_tree, no_members, null, object as object_tree}
+use Rattle.vrl_value.specs.View.{items_of, items_view, members_of, members_view, tree_of}
 use Rattle.vrl_store.specs.Outcomes.{Ended}
-use Rattle.vrl_resolve.specs.Linked.{Linked, arms_view, call_of, else_view, linked_of, message_view, pairs_view, parts_of_list, parts_view}
-use Rattle.vrl_resolve.specs.LinkedMeaning.{all_mean, arms_mean, else_means, items_mean, pairs_mean}
+use Rattle.vrl_resolve.specs.Calls.{iterated}
+use Rattle.vrl_resolve.specs.Iterating.{body_in, made_in}
+use Rattle.vrl_resolve.specs.Linked.{Linked, arms_view, call_of, else_view, iteration_of, linked_of, message_view, pairs_view, parts_of_list, parts_view}
+use Rattle.vrl_resolve.specs.LinkedMeaning.{all_mean, arms_mean, else_means, form_in, items_mean, pairs_mean}
 use Rattle.vrl_resolve.specs.Walking.{names_in, setting_in, store_at, AllFitIn, ArmsFitIn, PairsFitIn}
 use Rattle.vrl_resolve.proofs.LinkedSizes.{arms_size, else_size, linked_size, message_size, pairs_size, parts_size}
+use Rattle.vrl_resolve.proofs.Turns.{IsOverFields, IsOverItems}
 use Rattle.vrl_resolve.proofs.Walks.{IsPartway}
 use Rattle.vrl_resolve.proofs.walk.+walk.Given as goal
 
@@ -61,6 +65,12 @@ decreases-holds l = 16 * linked_size (linked_of l.node.now) + 16
 abbrev pub decreases-items : goal.decreases-items
 decreases-items l = 16 * parts_size (parts_view l.items.now) + 16
 
+abbrev pub decreases-iterate : goal.decreases-iterate
+decreases-iterate l = 16 * (parts_size (parts_view l.args.now) + parts_size (parts_view l.body.now)) + 21
+
+abbrev pub decreases-iteration : goal.decreases-iteration
+decreases-iteration l = 16 * linked_size (iteration_of l.iteration.now) + 14
+
 abbrev pub decreases-merge : goal.decreases-merge
 decreases-merge l = 16 * linked_size (linked_of l.part.now) + 18
 
@@ -73,8 +83,23 @@ decreases-object l = 16 * pairs_size (pairs_view l.pairs.now) + 16
 abbrev pub decreases-outcome : goal.decreases-outcome
 decreases-outcome l = 16 * linked_size (linked_of l.part.now) + 16
 
+abbrev pub decreases-over : goal.decreases-over
+decreases-over l = 16 * parts_size (parts_view l.body.now) + 20
+
+abbrev pub decreases-over_fields : goal.decreases-over_fields
+decreases-over_fields l = 16 * parts_size (parts_view l.body.now) + 19
+
+abbrev pub decreases-over_items : goal.decreases-over_items
+decreases-over_items l = 16 * parts_size (parts_view l.body.now) + 19
+
 abbrev pub decreases-query : goal.decreases-query
 decreases-query l = 16 * linked_size (linked_of l.part.now) + 16
+
+abbrev pub decreases-run : goal.decreases-run
+decreases-run l = 16 * parts_size (parts_view l.body.now) + 18
+
+abbrev pub decreases-run_with : goal.decreases-run_with
+decreases-run_with l = 16 * parts_size (parts_view l.body.now) + 17
 
 abbrev pub decreases-values : goal.decreases-values
 decreases-values l = 16 * parts_size (parts_view l.nodes.now) + 16
@@ -119,3 +144,17 @@ invariant-conditional-loop-arm l = record {
   fits : ArmsFitIn l.context (arms_view (drop l.arm-index l.arms));
   fewer : arms_size (arms_view (drop l.arm-index l.arms)) ≤ arms_size (arms_view l.arms);
 }
+
+-- what is left gives, behind what was made so far, what all gives
+abbrev pub invariant-over_items-loop-item : goal.invariant-over_items-loop-item
+invariant-over_items-loop-item l = record {
+  so_far : IsOverItems l.context l.function (parts_view l.body) l.initial.store l.store l.place (items_view (into_iter_items l.item-iterator)) (map tree_of l.made.items)
+      (iterated (form_in l.function) (body_in l.context l.function (parts_view l.body)) (array_tree (items_of l.fn.items)) None (store_at l.context l.initial.store));
+  as_many : into_iter_len l.item-iterator ≡ length (into_iter_items l.item-iterator);
+  small : l.place + length (into_iter_items l.item-iterator) < 2 ^ 63;
+}
+
+abbrev pub invariant-over_fields-loop-name : goal.invariant-over_fields-loop-name
+invariant-over_fields-loop-name l =
+    IsOverFields l.context l.function (parts_view l.body) l.initial.store l.store (members_view l.name-iterator) (made_in l.function l.made (members_view l.name-iterator))
+    (iterated (form_in l.function) (body_in l.context l.function (parts_view l.body)) (object_tree (members_of l.fn.fields)) None (store_at l.context l.initial.store))

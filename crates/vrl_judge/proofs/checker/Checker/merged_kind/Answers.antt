@@ -1,4 +1,5 @@
 use Rattle.std.proofs.Common.{◌&&◌, sym, ap, ap₂, ◌∙◌}
+use Rattle.vrl_kind.specs.Overlay.{overlaid_at}
 use Rattle.std.proofs.lemmas.Result.{IfOk-weaker}
 use Rattle.vrl_kind.specs.Kinds.{root_tags}
 use Rattle.vrl_place.specs.Sets.{is_alone}
@@ -22,5 +23,5 @@ returns c =
     let left = sym c.is_exactly.ensures ∙ c.if-not-is_exactly.false in
     let right = sym c.is_exactly-2.ensures ∙ c.if-not-is_exactly-2.false in
     IfOk-weaker c.cut.result _ _
-    (λ kind is. overlaid_merged c.args.left.now c.args.right.now kind (ap₂ (λ a b. a && b) left right) (record { whole = c.in_ok-whole.whole; canonical = c.kind_is_canonical.ensures; tags = c.in_ok-whole.ensures; cut = is }))
+    (λ kind is. overlaid_merged c.args.left.now c.args.right.now kind (ap₂ (λ a b. a && b) left right) (record { whole = c.in_ok-whole.whole; canonical = c.kind_is_canonical.ensures; tags = λ p t. c.in_ok-whole.ensures p t ∙ ap₂ (λ K L. overlaid_at K L p t) c.as_kind.ensures c.as_kind-2.ensures; cut = is }))
     c.cut.ensures.cases

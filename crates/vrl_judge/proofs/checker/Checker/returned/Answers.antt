@@ -6,5 +6,6 @@ add_return-requires c = return_common c.args.self.now.state.scopes c.args.part.e
 
 pub returns : goal.returns
 returns c =
-    is_returned c.args.part c.args.self.now c.return_of.new.self c.kill.new.self c.in_ok-here.here c.add_return.new.self c.in_ok-kind.kind c.requires.ends c.requires.kind c.return_of.ensures.checker c.kill.ensures c.in_ok-here.ensures.returned
-    c.in_ok-add_return.ensures.joined c.in_ok-add_return.ensures.others c.in_ok-add_return.ensures.scopes c.in_ok-kind.ensures.tree
+    is_returned c.args.span c.args.part c.args.self.now c.return_of.new.self c.report.new.self c.go_on_if.new.self c.in_ok-here.here c.add_return.new.self c.report.new.ends c.in_ok-kind.kind c.requires.ends c.requires.kind
+    c.return_of.ensures.checker c.in_ok-here.ensures.returned c.in_ok-add_return.ensures.joined c.in_ok-add_return.ensures.others c.in_ok-add_return.ensures.scopes c.in_ok-report.ensures c.go_on_if.ensures.known c.go_on_if.ensures.others
+    c.in_ok-kind.ensures.tree

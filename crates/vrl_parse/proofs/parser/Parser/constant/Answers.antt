@@ -3,7 +3,7 @@ use Rattle.vrl_parse.proofs.Walks.{answered, leave, missed}
 use Rattle.vrl_parse.proofs.parser.Parser.constant.Goals as goal
 
 pub returns-in_err-value-clause-refuses : goal.returns-in_err-value-clause-refuses
-returns-in_err-value-clause-refuses c = leave c.from_residual.result _ _ _ c.from_residual.ensures c.in_err-value.ensures.refuses (λ d h. record { code = h.code; runs = missed h })
+returns-in_err-value-clause-refuses c = leave c.from_residual.result _ _ _ c.from_residual.ensures c.in_err-value.ensures.refuses missed
 
 pub returns-clause-takes : goal.returns-clause-takes
 returns-clause-takes c = taken c.in_ok-value.ensures.takes (answered c.literal-2.ensures)

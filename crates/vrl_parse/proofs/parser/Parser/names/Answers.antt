@@ -6,7 +6,7 @@ use Rattle.vrl_parse.proofs.Loops.{leads-end, leads-more, names-begin, names-mor
 use Rattle.vrl_parse.proofs.parser.Parser.names.Goals as goal
 
 pub returns-in_err-first-clause-refuses : goal.returns-in_err-first-clause-refuses
-returns-in_err-first-clause-refuses c = leave c.from_residual.result _ _ _ c.from_residual.ensures c.in_err-first.ensures.refuses (λ d h. record { code = h.code; runs = missed h })
+returns-in_err-first-clause-refuses c = leave c.from_residual.result _ _ _ c.from_residual.ensures c.in_err-first.ensures.refuses missed
 
 pub loop-self-init : goal.loop-self-init
 loop-self-init c = record {
@@ -15,14 +15,14 @@ loop-self-init c = record {
 }
 
 pub returns-in_err-next-clause-refuses : goal.returns-in_err-next-clause-refuses
-returns-in_err-next-clause-refuses c = leave c.from_residual-in_err-next.result _ _ _ c.from_residual-in_err-next.ensures c.in_err-next.ensures.refuses (λ d h. record { code = h.code; runs = c.loop-self.invariant.leads.refuses (taken c.in-Some.ensures.takes (missed h)) })
+returns-in_err-next-clause-refuses c = leave c.from_residual-in_err-next.result _ _ _ c.from_residual-in_err-next.ensures c.in_err-next.ensures.refuses (λ h. c.loop-self.invariant.leads.refuses _ (taken c.in-Some.ensures.takes (missed h)))
 
 pub loop-self-preserved : goal.loop-self-preserved
 loop-self-preserved c = record {
   leads = leads-more (λ ns. c.in_ok-next.next ∷ ns) _ c.loop-self.invariant.leads
       (names-more _ _ c.in_ok-push-2.ensures.items)
       (λ ns vs run. taken c.in-Some.ensures.takes (taken c.in_ok-next.ensures.takes (gone run ran)))
-      (λ run. taken c.in-Some.ensures.takes (taken c.in_ok-next.ensures.takes (not_gone run)));
+      (λ vs run. taken c.in-Some.ensures.takes (taken c.in_ok-next.ensures.takes (not_gone run)));
   shorter = omega (arith, c.in-Some.ensures.shorter, c.in_ok-next.ensures.shorter, c.loop-self.invariant.shorter);
 }
 

@@ -1,12 +1,12 @@
-use Rattle.std.proofs.Common.{◌≡◌, ◌&&◌, true, map, option_map, rules, refl, sym, ap, ◌∙◌, subst, arith}
+use Rattle.std.proofs.Common.{◌≡◌, ◌&&◌, true, map, option_map, rules, sym, ap, ◌∙◌, subst, arith}
 use Rattle.std.proofs.lemmas.Result.{IfOk-weaker}
 use Rattle.std.specs.Prelude.{⊤}
 use Rattle.std.specs.Vec.Iter.{into_iter_items}
 use Rattle.vrl_value.specs.View.{tree_of}
-use Rattle.vrl_syntax.proofs.PartSizes.{args_size, arms_size, expr_size, exprs_size, form_size, pairs_size}
+use Rattle.vrl_syntax.proofs.PartSizes.{args_size, arms_size, closure_size, expr_size, exprs_size, form_size, pairs_size}
 use Rattle.vrl_syntax.specs.ErrorAssignments.{in_expr, in_exprs}
 use Rattle.vrl_syntax.specs.Tree.{expr, abort_with, array, assign, binary, block, both, conditional, group, literal, merge, message, negation, no_message, object, query, read, return_of}
-use Rattle.vrl_syntax.specs.View.{args_of, args_view, arms_of, call_of, else_of, expr_of, exprs_of, exprs_view, message_of, pairs_of, pairs_view}
+use Rattle.vrl_syntax.specs.View.{args_of, args_view, arms_of, call_of, closure_in, closure_of, else_of, expr_of, exprs_of, exprs_view, message_of, pairs_of, pairs_view}
 use Rattle.vrl_syntax.specs.View.{arms_view as syntax_arms_view}
 use Rattle.vrl_syntax.specs.declared.tree.Call.{out-Call}
 use Rattle.vrl_syntax.specs.declared.tree.Form.{the_lemmas as syntax_lemmas}
@@ -14,6 +14,7 @@ use Rattle.vrl_resolve.specs.Linked as linked
 use Rattle.vrl_resolve.specs.Linked.{arm_of, arms_view, linked_of, parts_view, else_of as linked_else, pairs_view as linked_pairs}
 use Rattle.vrl_resolve.specs.Linking.{a_bare_abort, a_binary, a_block, a_conditional, a_last, a_merge, a_negation, a_query, a_return, an_abort, an_array, an_assignment, an_error_assignment, an_object, no_last, AreItemsLinked, IsLinked, Links}
 use Rattle.vrl_resolve.specs.declared.node.Form.{the_lemmas}
+use Rattle.vrl_resolve.proofs.ClosureCalls.{body_linked, closure_seen, iteration_made}
 use Rattle.vrl_resolve.proofs.LinkedCalls.{call_made, call_seen}
 use Rattle.vrl_resolve.proofs.Links.{any_given, any_made, any_stands, form_given, form_made, group_stands, links_and_numbers, links_behind_tag, links_itself, links_then, links_weaker, numbers_and_links, same_names}
 use Rattle.vrl_resolve.proofs.Partway.{args_end, args_next, args_start, arms_end, arms_next, arms_pushed, arms_start, array_end, array_next, array_start, body_seen, items_end, items_next, items_start, is_last_before, nodes_pushed, none_left, object_end, object_next, object_start, one_gone, pair_in, pairs_pushed, predicate_seen}
@@ -205,8 +206,25 @@ arms-items-requires t c =
     let same = ap exprs_size (body_seen c.in-Some.arm) in
     (omega (arith, c.decreases, fewer, size, same), tt)
 
-pub call-args-requires : goal.call-args-requires
-call-args-requires t c = (omega (arith, c.decreases, ap form_size (call_seen c.args.call)), tt)
+pub call-iteration-requires : goal.call-iteration-requires
+call-iteration-requires t c = (omega (arith, c.decreases), λ names begins. rw c.in-Some.is at (c.in_ok-function.ensures.so names begins))
+
+pub call-plain_call-requires : goal.call-plain_call-requires
+call-plain_call-requires t c = (omega (arith, c.decreases), λ names begins. rw c.in-None.is at (c.in_ok-function.ensures.so names begins))
+
+pub iteration-args-requires : goal.iteration-args-requires
+iteration-args-requires t c = (omega (arith, c.decreases, ap form_size (call_seen c.args.call)), tt)
+
+pub iteration-body-requires : goal.iteration-body-requires
+iteration-body-requires t c = (omega (arith, c.decreases, ap form_size (call_seen c.args.call)), tt)
+
+pub body-items-requires : goal.body-items-requires
+body-items-requires t c =
+    let is = ap (λ o. closure_in (option_map closure_of o)) c.in-Some.is ∙ closure_seen c.in-Some.closure in
+    (omega (arith, c.decreases, ap closure_size is), tt)
+
+pub plain_call-args-requires : goal.plain_call-args-requires
+plain_call-args-requires t c = (omega (arith, c.decreases, ap form_size (call_seen c.args.call)), tt)
 
 -- ---- parts
 
@@ -275,8 +293,29 @@ abort-returns-in-None t c =
     let is : linked_of c.of-in-None.result ≡ linked.abort_with linked.no_message = search (rules, the_lemmas) in
     rw c.in-None.is (any_made (abort_with no_message) _ _ is (λ names asked none. a_bare_abort) (links_itself c.args.self.now {P = λ names tags. ⊤} (λ names. tt)))
 
-pub call-returns : goal.call-returns
-call-returns t c =
+pub call-returns-in-Some : goal.call-returns-in-Some
+call-returns-in-Some t c = IfOk-weaker c.iteration.result _ _ (λ node links. links_weaker (λ names both. both.1) (numbers_and_links c.in_ok-function.ensures links)) c.iteration.ensures
+
+pub call-returns-in-None : goal.call-returns-in-None
+call-returns-in-None t c = IfOk-weaker c.plain_call.result _ _ (λ node links. links_weaker (λ names both. both.1) (numbers_and_links c.in_ok-function.ensures links)) c.plain_call.ensures
+
+pub iteration-returns : goal.iteration-returns
+iteration-returns t c =
+    let body = parts_view c.in_ok-body.body.items in
+    let is : linked_of c.of.result ≡ linked.iterate c.args.function (out-Call c.args.call).bang (parts_view c.in_ok-args.args.items) body = search (rules, the_lemmas) in
+    iteration_made c.args.call _ c.args.function (parts_view c.in_ok-args.args.items) body is c.requires (links_then c.in_ok-args.ensures c.in_ok-body.ensures)
+
+pub body-returns-in-Some : goal.body-returns-in-Some
+body-returns-in-Some t c = rw c.in-Some.is (IfOk-weaker c.items.result _ _ (λ nodes links. body_linked c.in-Some.closure (parts_view nodes.items) links) c.items.ensures)
+
+pub body-returns-in-None : goal.body-returns-in-None
+body-returns-in-None t c = rw c.in-None.is (links_itself c.args.self.now (λ names. tt))
+
+pub plain_call-callee-requires : goal.plain_call-callee-requires
+plain_call-callee-requires t c = c.requires
+
+pub plain_call-returns : goal.plain_call-returns
+plain_call-returns t c =
     let is : linked_of c.of.result ≡ linked.call c.in_ok-callee.callee (out-Call c.args.call).bang (parts_view c.in_ok-args.args.items) = search (rules, the_lemmas) in
     call_made c.args.call _ c.in_ok-callee.callee (parts_view c.in_ok-args.args.items) is (numbers_and_links c.in_ok-callee.ensures (links_then c.in_ok-args.ensures c.pass_over.ensures))
 

@@ -26,5 +26,5 @@ pub invariant_of-self : goal.invariant_of-self
 invariant_of-self c =
     let s = c.args.self.now in
     let is : s.present.items ≡ c.pop.new.self.items ++ c.in-Some.number ∷ [] = search rules in
-    let kept = kept_ended s.variables.items c.pop.new.self.items c.in-Some.number (subst (AreKept (trees_of s.variables.items)) is s.kept) in
+    let kept = kept_ended s.are_shallow s.variables.items c.pop.new.self.items c.in-Some.number (subst (AreKept s.are_shallow (trees_of s.variables.items)) is s.kept) in
     record { kept = kept; within = s.within; nothing = s.nothing }

@@ -1,4 +1,4 @@
-use Rattle.std.proofs.Common.{◌≡◌, [], arith, refl, rules, sym, subst}
+use Rattle.std.proofs.Common.{◌≡◌, true, [], arith, refl, rules, sym, subst}
 use Rattle.vrl_store.specs.Kept.{trees_of, AreKept}
 use Rattle.vrl_store.proofs.Started.{AreNone, kept_started, none_more, started}
 use Rattle.vrl_store.proofs.store.Store.start.Goals as goal
@@ -18,4 +18,4 @@ pub invariant_of-result : goal.invariant_of-result
 invariant_of-result c =
     let items = c.loop.variables.items in
     let none : c.new.result.items ≡ [] = search rules in
-    record { kept = subst (AreKept (trees_of items)) (sym none) (kept_started items c.loop.invariant.none); within = search rules; nothing = refl }
+    record { kept = subst (AreKept true (trees_of items)) (sym none) (kept_started items c.loop.invariant.none); within = search rules; nothing = refl }

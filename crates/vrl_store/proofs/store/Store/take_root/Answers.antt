@@ -16,6 +16,9 @@ begin-requires-clause-absent c =
     let none : None ≡ get_or items n None = search rules in
     ap (λ vs. is_numbered (trees_of vs) n) (ap (set items n) c.in-None.is ∙ set_same items n None none) ∙ numbered_at items n None within none
 
+pub begin-requires-clause-shallow : goal.begin-requires-clause-shallow
+begin-requires-clause-shallow c = λ marked. null_shallow
+
 pub returns-in-Some-clause-value : goal.returns-in-Some-clause-value
 returns-in-Some-clause-value c = λ names are.
     let s = c.args.self.now in
@@ -57,4 +60,4 @@ invariant_of-self-in-Some c =
     let within : n < length s.variables.items = rw c.in-Variable.is at c.requires.base in
     let is : Some c.in-Some.variable ≡ get_or s.variables.items n (Some c.in-Some.variable) = search rules in
     let shallow : IsShallow (tree_of c.replace-in-Some.new.dest) = subst (λ v. IsShallow (tree_of v)) (sym c.replace-in-Some.ensures.after) null_shallow in
-    record { kept = kept_there s.variables.items s.present.items n c.in-Some.variable c.replace-in-Some.new.dest s.kept within is shallow; within = s.within; nothing = s.nothing }
+    record { kept = kept_there s.are_shallow s.variables.items s.present.items n c.in-Some.variable c.replace-in-Some.new.dest s.kept within is (λ marked. shallow); within = s.within; nothing = s.nothing }

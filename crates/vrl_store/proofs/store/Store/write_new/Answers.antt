@@ -8,6 +8,9 @@ use Rattle.vrl_store.proofs.StoreReads.{seen}
 use Rattle.vrl_store.proofs.Written.{absent_at, unwritten_in, within_there, written_there}
 use Rattle.vrl_store.proofs.store.Store.write_new.Goals as goal
 
+pub begin-requires-clause-shallow : goal.begin-requires-clause-shallow
+begin-requires-clause-shallow c = λ marked. c.in_ok-variable.ensures.within
+
 pub returns-in_err-variable-clause-written : goal.returns-in_err-variable-clause-written
 returns-in_err-variable-clause-written c = λ names are.
     let f = c.in_err-variable.field-0.0 in
