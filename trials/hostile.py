@@ -1,16 +1,16 @@
-"""Hostile uses of a built program: scripts, lines, words and devices at each limit and beyond it.
+"""Hostile uses of a built program: scripts, lines, kind files, words and devices at each limit and beyond it.
 
     python3 trials/hostile.py --program PATH [--only WORD] [--big]
 
-What a script makes of its lines is told by the outside reading of the other trials; what else is wanted stands with the case. Each
-use is told with its seconds; the status is 1 at a difference. --big runs the cases of 200 MB too.
+What a script makes of its lines is told by the outside reading of the other trials; what else is wanted stands with the case. A use may take two
+processor seconds, or as many as stand with it and its reason in `DEAR`; those that take more than one are told with them. The status is 1 at a difference. --big runs the cases of 200 MB too.
 """
 
 import argparse
 import os
+import resource
 import subprocess
 import sys
-import time
 
 sys.dont_write_bytecode = True
 
@@ -21,6 +21,7 @@ import programs
 
 LONGEST = 65536
 LINE = 1048576
+BAD_KIND = b"kind file: bad kind at \n"
 USAGE = b"usage: remap SCRIPT [--kind FILE] [--jobs N] [--drop-on-error] [--keep-on-abort] [--check] [--generate COUNT:SEED]\n"
 
 
@@ -61,9 +62,16 @@ def scripts():
                 ("aborts", "abort " * depth + '"m"'), ("returns", "return " * depth + "1"), ("calls", "abs(" * depth + "1" + ")" * depth),
                 ("closures", "filter([1]) -> |a, b| { " * depth + "true" + " }" * depth), ("alternatives", "null || " * depth + "1"), ("merges", "{} | " * depth + "{}")):
             yield f"{depth} {title}", ".r = " + script if title not in ("aborts", "returns") else script, b"{}"
+    for depth in (3, 4, 5):
+        yield f"{depth} closures in one another", "for_each([1]) -> |_, a| { " * depth + ".r = a" + " }" * depth, b"{}"
     for place in (65535, 65536, 9223372036854775807, 9223372036854775808):
         yield f"a write at the place {place}", f".a[{place}] = 1", b"{}"
         yield f"a read of the place {place}", f".r = .a[{place}]", b"{}"
+        yield f"a removal of the place {place}", f"del(.a[{place}])", b'{"a":[1]}'
+    for place in (-1, -65536, -9223372036854775808, -9223372036854775809):
+        yield f"a write at the place {place}", f".a[{place}] = 1", b"{}"
+        yield f"a removal of the place {place}", f"del(.a[{place}])", b"{}"
+        yield f"a read of the place {place}", f".r = .a[{place}]", b'{"a":[1,2]}'
     for steps in (127, 128, 129):
         yield f"a write of {steps} steps", ".a" * steps + " = 1", b"{}\n{"
         yield f"a write of an object at {steps} steps", ".a" * steps + " = {}", b'{"b":1}'
@@ -90,6 +98,11 @@ def scripts():
         yield f"a script with {title}", script, b'{"b":1,"a":2}'
 
 
+def filled_line(item):
+    """An event with as many of these items as a line holds."""
+    return b'{"a":[' + b",".join([item] * ((LINE - 7) // (len(item) + 1))) + b"]}"
+
+
 def lines():
     """Titles and lines for the script `.x = 1`."""
     for size in (LINE, LINE + 1):
@@ -102,6 +115,31 @@ def lines():
     for depth in (126, 127, 128, 129):
         yield f"arrays {depth} deep", b'{"a":' + b"[" * (depth - 1) + b"]" * (depth - 1) + b"}\n{}"
         yield f"objects {depth} deep", b'{"a":' * depth + b"1" + b"}" * depth
+    for depth in (127, 128):
+        yield f"{depth} arrays in no object", b"[" * depth + b"]" * depth
+        yield f"many arrays {depth} deep", filled_line(b"[" * (depth - 2) + b"]" * (depth - 2))
+        yield f"many objects {depth} deep", filled_line(b'{"a":' * (depth - 2) + b"1" + b"}" * (depth - 2))
+        yield f"arrays and objects {depth} deep", b'{"a":[' * (depth // 2) + b"]}" * (depth // 2) + b"\n{}"
+    for title, item in (("empty arrays", b"[]"), ("empty objects", b"{}"), ("empty texts", b'""'), ("words", b"true"), ("nulls", b"null"), ("zeros", b"0"), ("small objects", b'{"a":1}'),
+                        ("greatest numbers", b"9223372036854775807"), ("least numbers", b"-9223372036854775808"), ("numbers too great", b"9223372036854775808"),
+                        ("fractions", b"0.5"), ("negative zeros", b"-0"), ("exponents", b"1e308"), ("exponents too great", b"1e309"), ("texts with escapes", b'"\\u0000\\n"'),
+                        ("pairs of surrogates", b'"\\ud83d\\ude00"'), ("halves of surrogates", b'"\\ud83d"')):
+        yield f"{LINE} bytes of {title}", filled_line(item)
+        yield f"{LINE} bytes of {title}, and a bracket too many", filled_line(item)[:-1] + b"]"
+    for title, inside in (("escapes of four digits", b"\\u0041"), ("backslashes", b"\\\\"), ("quotes", b'\\"'), ("newlines", b"\\n"), ("escapes that aren't", b"\\x"), ("pairs of surrogates", b"\\ud83d\\ude00"),
+                          ("bytes 0", b"\\u0000"), ("letters of four bytes", "\U0001f600".encode()), ("tabs", b"\t")):
+        yield f"a text of {title}", b'{"a":"' + inside * ((LINE - 8) // len(inside)) + b'"}'
+        yield f"a name of {title}", b'{"' + inside * ((LINE - 6) // len(inside)) + b'":1}'
+    for title, bad in (("a byte 255", b"\xff"), ("a byte that goes on", b"\x80"), ("a letter cut off", b"\xf0\x9f\x98"), ("a letter too long", b"\xc0\x80"), ("half of a surrogate", b"\xed\xa0\x80"), ("a letter too great", b"\xf4\x90\x80\x80")):
+        for place, line in (("at the end of a text", b'{"a":"' + b"z" * (LINE - 20) + bad + b'"}'), ("at its start", bad + b'{"a":"' + b"z" * (LINE - 20) + b'"}'),
+                            ("at its end", b'{"a":"' + b"z" * (LINE - 20) + b'"}' + bad), ("in a name", b'{"a' + bad + b'":"' + b"z" * (LINE - 20) + b'"}')):
+            yield f"a line of 1 MB with {title} {place}", line + b"\n{}"
+    yield "names with the same 1,000 bytes before", b"{" + b",".join(b'"' + b"n" * 1000 + b'%d":%d' % (i, i) for i in range(1000)) + b"}"
+    yield "names in falling order", b"{" + b",".join(b'"%d":1' % i for i in range(99999, 19999, -1)) + b"}"
+    yield "names that their escapes make equal", b"{" + b",".join([b'"a":1', b'"\\u0061":2'] * 55000) + b"}"
+    yield "an object in an object's equal names", b"{" + b",".join([b'"a":{"a":1,"a":2}'] * 58000) + b"}"
+    yield "blanks in an object", b"{" + b" \t\r" * 349000 + b"}"
+    yield "a point behind 1 MB", b'{"a":[' + b"1," * 500000 + b"1.]}"
     yield "an object of 60,000 fields", b"{" + b",".join(b'"%d":%d' % (i, i) for i in range(60000)) + b"}"
     yield "an array of 500,000 items", b'{"a":[' + b",".join([b"1"] * 500000) + b"]}"
     yield "the same field 150,000 times", b"{" + b",".join([b'"a":1'] * 150000) + b"}"
@@ -119,6 +157,62 @@ def lines():
     yield "two values in a line", b"{} {}"
     yield "no line", b""
     yield "blanks alone", b" \t\r"
+
+
+def described(pairs, rest="json"):
+    """A description of objects with these fields, which are JSON as they stand."""
+    return '{"object":{' + ",".join(f'"{name}":{one}' for name, one in pairs) + f'}},"rest":"{rest}"}}'
+
+
+def texts(letter, count):
+    """So many fields that are texts."""
+    return [(f"{letter}{i:x}", '"string"') for i in range(count)]
+
+
+def kind_files():
+    """Titles, kind files, scripts and lines, for all of which the outside reading has the answer."""
+    plain = '{"object":{"a":"integer"}}'
+    for size in (LONGEST, LONGEST + 1):
+        yield f"a kind file of {size} bytes", plain + " " * (size - len(plain)), ".b = .a + 1", b'{"a":1}'
+        yield f"a name of a kind file of {size} bytes", '{"object":{"' + "n" * (size - 22) + '":"json"}}', ".b = 1", b"{}"
+    for title, file in (("opening brackets", "[" * LONGEST), ("closing brackets", "]" * LONGEST), ("opening braces", "{" * LONGEST), ("quotes", '"' * LONGEST), ("digits", "9" * LONGEST), ("blanks", " " * LONGEST),
+                        ("newlines", "\n" * LONGEST), ("bytes 0", "\0" * LONGEST), ("no UTF-8", "\udcff" * LONGEST), ("nothing", ""), ("a byte order mark", "\ufeff" + plain), ("two values", plain + plain),
+                        ("words joined", '{"object":{"a":[' + '"string",' * 7000 + '"null"]}}'), ("kinds joined at the root", "[" + ",".join([plain] * 2000) + "]"),
+                        ("objects with a field each", "[" + ",".join(described(texts(f"f{i}", 1), "nothing") for i in range(900)) + "]"),
+                        ("objects with a field each, open", "[" + ",".join(described(texts(f"f{i}", 1)) for i in range(900)) + "]"),
+                        ("equal names", '{"object":{' + ",".join(['"a":"integer"'] * 4000) + "}}"), ("equal names, one of them wrong", '{"object":{"a":1,' + ",".join(['"a":"integer"'] * 4000) + "}}"),
+                        ("unknown words", '{"object":{' + ",".join(f'"{i}":"text"' for i in range(4000)) + "}}"), ("optional in optional", '{"object":{"a":' + '{"optional":' * 60 + '"null"' + "}" * 60 + "}}"),
+                        ("a name of slashes", '{"object":{"' + "/~" * 15000 + '":1}}'), ("a number", '{"object":{"a":1}}'), ("a fraction", '{"object":{"a":1.5}}'), ("members that aren't known", '{"object":{},"rest":"json","a":1}'),
+                        ("an array", '{"array":[]}'), ("a word", '"json"'), ("empty lists in one another", "[" * 100 + "]" * 100)):
+        yield f"a kind file of {title}", file, ".b = .a + 1 ?? 0", b'{"a":1}\n{}'
+    for size in (63, 64, 65):
+        yield f"{size} places of a kind file", '{"object":{"a":{"array":[' + ",".join(['"integer"'] * size) + "]}}}", f".b = .a[{size - 1}] + 1 ?? 0", b'{"a":[' + b",".join([b"1"] * 65) + b"]}"
+    for size in (998, 999, 1000):
+        yield f"{size} fields of a kind file", described(texts("f", size), "nothing"), ".b = .f1 + \"\"", b"{" + b",".join(b'"f%x":""' % i for i in range(size)) + b"}\n{}"
+    for depth in (31, 32, 33, 62, 63, 64, 200):
+        for title, before, behind in (("objects", '{"object":{"a":', "}}"), ("rests", '{"object":{},"rest":', "}"), ("arrays", '{"object":{"a":{"array":[', "]}}}"), ("lists of one", "[", "]")):
+            inside = '"string"' if title != "lists of one" else plain
+            yield f"{depth} {title} of a kind file", before * depth + inside + behind * depth, ".b = 1", b'{"a":' * depth + b'""' + b"}" * depth + b"\n{}"
+    for size in (10, 30, 31, 32):
+        yield f"a join of a rest with {size} fields and {size} fields", joined_kinds(size, 2), ".b = 1", b"{}"
+    yield "a join of two rests with 9 fields and 9 fields", joined_kinds(9, 3), ".b = 1", b"{}"
+
+
+def joined_kinds(size, depth):
+    """Kinds with so many fields each, every one below one rest more than the one before. Each of a field's is joined with all those of the next."""
+    every = []
+    for number in range(depth):
+        one = described(texts("abcdefgh"[number], size), "nothing")
+        for _ in range(number):
+            one = '{"object":{},"rest":' + one + "}"
+        every.append(one)
+    return "[" + ",".join(every) + "]"
+
+
+def large_joins():
+    """Titles and kind files of more nodes than there may be, which a join of all their parts would have."""
+    for size, depth in ((100, 2), (1000, 2), (2000, 2), (100, 3), (1200, 3), (500, 8)):
+        yield f"a join of {depth} kinds of {size} fields below rests", joined_kinds(size, depth)
 
 
 # Titles, commands, and the status, output and report wanted, None where any will do. `$P` is the program, `one` a script `.x = 1`, `bad` one that is refused.
@@ -139,6 +233,16 @@ def devices():
     yield "a link to itself", 'ln -sf loop loop; echo "{}" | "$P" loop', 3, b"", b""
     yield "/dev/null as script", 'echo "{}" | "$P" /dev/null', 0, b"{}\n", b""
     yield "/dev/zero as script", 'echo "{}" | "$P" /dev/zero', 1, b"", b"error[E1009] 1:1 script too long or not UTF-8\n"
+    yield "a kind file that no file has", '"$P" one --kind nothere </dev/null', 3, b"", b""
+    yield "a folder as kind file", 'mkdir -p folder; "$P" one --kind folder </dev/null', 3, b"", b""
+    yield "/dev/zero as kind file", '"$P" one --kind /dev/zero </dev/null', 6, b"", b"kind file: too long\n"
+    yield "/dev/null as kind file", '"$P" one --kind /dev/null </dev/null', 6, b"", b"kind file: not JSON\n"
+    yield "a kind file that no file has, a script that is refused", '"$P" bad --kind nothere </dev/null', 3, b"", b""
+    yield "a kind file that no file has, a script that is no text", 'printf "\\xff" >nokind; "$P" nokind --kind nothere </dev/null', 1, b"", b"error[E1009] 1:1 script too long or not UTF-8\n"
+    yield "/dev/zero as input, cut off", 'head -c 100000000 /dev/zero | "$P" one', 7, b"", b"line 1: refused: longer than 1048576 bytes\n"
+    yield "output behind the input, in a file of limited size", 'trap "" XFSZ; ulimit -f 64; yes "{}" | head -c 3000 >both; "$P" one <both >>both; echo "status $?"', 0, b"status 4\n", b""
+    yield "output and report into one pipe", 'printf "{}\\n{\\n{}" | "$P" one 2>&1', 7, b'{"x":1}\n{"x":1}\nline 2: refused: not JSON\n', b""
+    yield "a file of limited size, and its signal", 'ulimit -f 8; yes "{}" | head -c 300000 | { "$P" one >limited; echo "status $?"; }', 0, b"status 153\n", None
     yield "the script from standard input", 'printf ".x = 1" | "$P" /dev/stdin', 0, b"", b""
     yield "standard input closed", '"$P" one 0<&-', 3, b"", b""
     yield "standard input a folder", 'mkdir -p folder; "$P" one <folder', 3, b"", b""
@@ -168,23 +272,40 @@ def devices():
     yield "a stack of 2 MB, 64 parentheses", 'ulimit -s 2048; printf "%064d1%064d" 0 0 | sed "s/^0*/((((((((((((((((((((((((((((((((((((((((((((((((((((((((((((((((/; s/0*$/))))))))))))))))))))))))))))))))))))))))))))))))))))))))))))))))/" >n64; echo "{}" | "$P" n64', 0, b"{}\n", b""
 
 
+def disks():
+    """The same over a small disk of its own, where one may be mounted."""
+    mounted = "mkdir -p disk; unshare -rm bash -c 'mount -t tmpfs -o size=64k none disk && "
+    if subprocess.run(["bash", "-c", f"cd $(mktemp -d); {mounted} true'"], capture_output=True).returncode:
+        print("no disk can be mounted: that one gets full isn't tried")
+        return
+    yield "a disk that gets full", ('yes "{}" | head -c 300000 >many; ' + mounted + '{ "$P" one <many >disk/out; echo "status $?"; '
+                                    'cmp disk/out <(yes "{\\"x\\":1}" | head -c 65536) && echo front; }\''), 0, b"status 4\nfront\n", b""
+    yield "a disk that gets full of reports", ('yes "{" | head -c 300000 >many; ' + mounted + '{ "$P" one <many 2>disk/out; echo "status $?"; head -c 26 disk/out; }\''), 0, b"status 4\nline 1: refused: not JSON\n", b""
+
+
 def big():
     line = '{"host":"h6","level":"ERROR","message":"request 1 took 543 ms","n":774}'
     yield "200 MB of lines", f"yes '{line}' | head -c 199999944 >big; \"$P\" one <big >big.out; echo \"status $?\"; wc -l <big.out; wc -c <big.out", 0, b"status 0\n2777777\n216666606\n", b""
     yield "200 MB of refused lines", f"yes '[{line}' | head -c 200000027 >big; \"$P\" one <big 2>big.report; echo \"status $?\"; wc -l <big.report; rm -f big big.*", 0, None, b""
 
 
-def short(data):
-    return repr(data) if len(data) <= 120 else f"{len(data)} bytes, from {data[:50]!r} to {data[-40:]!r}"
+# What may take longer than two processor seconds, with those that it may take and the reason.
+DEAR = {}
 
 
-def wanted_of(script, data):
-    """Output, report and status by the outside reading; a call of what isn't built is told as such by the caller."""
-    found = judgement.Verdict(script, kinds.EVENT)
+def wanted_of(script, data, start=kinds.EVENT):
+    """Output, report and status by the outside reading."""
+    found = judgement.Verdict(script, start)
     if not found.accepted:
         return b"", programs.joined(found.diagnostics), 1
-    output, report, status = meaning.run_lines(found, kinds.EVENT, data)
+    output, report, status = meaning.run_lines(found, start, data)
     return programs.joined(output), programs.joined(report), status
+
+
+def spent():
+    """The processor seconds of all that was run so far."""
+    used = resource.getrusage(resource.RUSAGE_CHILDREN)
+    return used.ru_utime + used.ru_stime
 
 
 def main():
@@ -193,39 +314,31 @@ def main():
     words.add_argument("--only", default="")
     words.add_argument("--big", action="store_true")
     given = words.parse_args()
-    tried = differences = passed = 0
-
-    def tell(title, seconds, told, wanted):
-        nonlocal tried, differences, passed
-        tried += 1
-        if told[1] == judgement.NOT_BUILT:
-            passed += 1
-            return
-        same = all(want is None or one == want for one, want in zip(told, wanted))
-        differences += not same
-        if not same or seconds > 1 or None in wanted:
-            print(f"{'as wanted' if same else 'DIFFERENCE'}: {title}: status {told[2]}, {seconds:.2f} s, output {short(told[0])}, report {short(told[1])}", flush=True)
-        if not same:
-            print(f"    wanted {wanted[2]}, {short(wanted[0] or b'')}, {short(wanted[1] or b'')}", flush=True)
-
+    uses = programs.Uses(DEAR)
     with programs.Program(given.program) as program:
         program.write("one", b".x = 1")
         program.write("bad", b"q")
-        every = [(title, script.encode("utf-8", "surrogateescape"), data) for title, script, data in scripts()]
-        every += [(title, b".x = 1", data) for title, data in lines()]
-        for title, script, data in every:
+        every = [(title, None, script, data) for title, script, data in scripts()]
+        every += [(title, None, ".x = 1", data) for title, data in lines()]
+        every += [(title, file, script, data) for title, file, script, data in kind_files()]
+        every += [(title, file, ".x = 1", None) for title, file in large_joins()]
+        for title, file, script, data in every:
+            if given.only not in title:
+                continue
+            script, start, more = script.encode("utf-8", "surrogateescape"), kinds.EVENT, []
+            if file is not None:
+                file = file.encode("utf-8", "surrogateescape")
+                more = ["--kind", program.write("kind.json", file)]
+                start = kinds.kind_file(file) if data is not None else BAD_KIND.decode().rstrip("\n")
+            told = program.run(script, data or b"", more, programs.LIMITS)
+            uses.tell(title, program.seconds, told, (b"", programs.joined([start]), 6) if isinstance(start, str) else wanted_of(script, data, start))
+        for title, command, status, output, report in [*devices(), *disks(), *(big() if given.big else [])]:
             if given.only in title:
-                began = time.time()
-                told = program.run(script, data)
-                seconds = time.time() - began
-                tell(title, seconds, told, wanted_of(script, data))
-        for title, command, status, output, report in list(devices()) + (list(big()) if given.big else []):
-            if given.only in title:
-                began = time.time()
+                before = spent()
                 ran = subprocess.run(["bash", "-c", command], cwd=program.folder.name, capture_output=True, env={**os.environ, "P": program.path})
-                tell(title, time.time() - began, (ran.stdout, ran.stderr, ran.returncode), (output, report, status))
-    print(f"hostile: {tried} uses, {differences} differences, {passed} not built")
-    return 1 if differences else 0
+                uses.tell(title, spent() - before, (ran.stdout, ran.stderr, ran.returncode), (output, report, status))
+    print(f"hostile: {uses.tried} uses, {uses.differences} differences")
+    return 1 if uses.differences else 0
 
 
 if __name__ == "__main__":

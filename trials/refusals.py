@@ -1,26 +1,30 @@
-"""Refuses a built program one thing after the other: an allocation, a read, a write.
+"""Refuses a built program one thing after the other: an allocation, a read, a write, a thread.
 
-    python3 trials/refusals.py --program PATH [--only WORD]
+    python3 trials/refusals.py --program PATH [--only WORD] [--jobs N ..]
     python3 trials/refusals.py --tests PATH .. [--only WORD] [--most N]
 
-Each row is a script with its lines. It is run once as it is, and then once for each allocation that this run made, which is refused: the program must end with
+Each row is a script with its lines, and perhaps a kind file and words. It is run once as it is, and then once for each allocation that this run made, which is refused: the program must end with
 the status of want of memory, and leave a front of the output and of the report that it left before, or give the whole answer all the same, as where a search by a regex
-goes another way. In the same way each read fails, and each write: then the status is that of a fault of reading or of writing. The status is 1 at a difference.
+goes another way. In the same way each read fails, and each write: then the status is that of a fault of reading or of writing. Where a thread can't be started the
+answer must be whole. All this is done with one worker and with four, where --jobs gives no other numbers. The status is 1 at a difference.
 
 With --tests each test of a crate of tests, as `rt test` builds it, is run so, where it makes at most N allocations (5,000 where none is
 given): it must go well, tell want of memory, or stop at an assertion. Which assertions these were is told; that a call with memory succeeds, and no other
 answer, is what they ask.
 
-The refusals are those of a small library, made with `cc` and put before the C library (`LD_PRELOAD`), which counts the calls of the
-program. So this runs where `cc` is found and where the program is linked to a C library that is shared.
+The refusals are those of a small library, made with `cc` and put before the C library (`LD_PRELOAD`), which counts the calls of each of the
+program's threads. So this runs where `cc` is found and where the program is linked to a C library that is shared.
 """
 
 import argparse
+import mmap
 import os
 import signal
+import struct
 import subprocess
 import sys
 import tempfile
+from typing import NamedTuple, Optional
 
 sys.dont_write_bytecode = True
 
@@ -28,10 +32,14 @@ EXAMPLES = os.path.join(os.path.dirname(os.path.abspath(__file__)), "..", "examp
 READ_FAULT, WRITE_FAULT, WANT_OF_MEMORY = 3, 4, 5
 
 LIBRARY = r"""
+#define _GNU_SOURCE
+#include <dlfcn.h>
 #include <errno.h>
+#include <pthread.h>
 #include <stdlib.h>
-#include <string.h>
+#include <sys/mman.h>
 #include <sys/syscall.h>
+#include <time.h>
 #include <unistd.h>
 
 extern void *__libc_malloc(size_t);
@@ -39,47 +47,118 @@ extern void *__libc_calloc(size_t, size_t);
 extern void *__libc_realloc(void *, size_t);
 extern void *__libc_memalign(size_t, size_t);
 
-/* What is refused, the number of the call that is, and the calls so far. A refusal is told by a byte on the descriptor. */
-static char refused_kind;
-static long refused_call, calls;
-static int told;
+/* What the caller sees: whether a call was refused, how many threads there were, and of each its name and its calls. A thread's name tells which of
+   its starter's threads it is, so it is the same in each run. */
+struct counted { unsigned long name, calls; };
+static struct { unsigned long refused, threads; struct counted counted[]; } *table;
+static unsigned long most_threads;
 
-__attribute__((constructor)) static void start(void) {
-    const char *kind = getenv("REFUSED_KIND"), *call = getenv("REFUSED_CALL"), *where = getenv("REFUSED_TOLD");
-    if (kind && call && where) {
-        refused_call = atol(call);
-        told = atoi(where);
-        calls = 0;
-        refused_kind = kind[0];
+/* The kind of the calls that are counted, and the thread and the number of the one that is refused. */
+static char refused_kind;
+static unsigned long refused_thread, refused_call;
+
+/* The thread that runs, and how many it has started. */
+static __thread struct counted *mine;
+static __thread unsigned long started;
+
+static int (*create)(pthread_t *, const pthread_attr_t *, void *(*)(void *), void *);
+
+static void is_named(unsigned long name) {
+    unsigned long place = __atomic_fetch_add(&table->threads, 1, __ATOMIC_SEQ_CST);
+    if (place < most_threads) {
+        mine = &table->counted[place];
+        mine->name = name;
     }
 }
 
-static int is_refused(char kind) {
-    if (kind != refused_kind || ++calls != refused_call) return 0;
-    syscall(SYS_write, told, "x", 1);
-    errno = kind == 'a' ? ENOMEM : EIO;
+__attribute__((constructor)) static void start(void) {
+    const char *kind = getenv("REFUSED_KIND"), *thread = getenv("REFUSED_THREAD"), *call = getenv("REFUSED_CALL"), *where = getenv("REFUSED_TABLE"), *size = getenv("REFUSED_SIZE");
+    create = dlsym(RTLD_NEXT, "pthread_create");
+    if (!kind || !thread || !call || !where || !size) return;
+    void *made = mmap(NULL, atol(size), PROT_READ | PROT_WRITE, MAP_SHARED, atoi(where), 0);
+    if (made == MAP_FAILED) return;
+    most_threads = (atol(size) - 2 * sizeof(unsigned long)) / sizeof(struct counted);
+    refused_thread = strtoul(thread, NULL, 10);
+    refused_call = strtoul(call, NULL, 10);
+    table = made;
+    is_named(1);
+    refused_kind = kind[0];
+}
+
+static int is_refused(char kind, int fault) {
+    if (kind != refused_kind || !mine || ++mine->calls != refused_call || mine->name != refused_thread) return 0;
+    table->refused = 1;
+    errno = fault;
     return 1;
 }
 
-void *malloc(size_t size) { return is_refused('a') ? NULL : __libc_malloc(size); }
-void *calloc(size_t count, size_t size) { return is_refused('a') ? NULL : __libc_calloc(count, size); }
-void *realloc(void *old, size_t size) { return is_refused('a') ? NULL : __libc_realloc(old, size); }
-void *memalign(size_t align, size_t size) { return is_refused('a') ? NULL : __libc_memalign(align, size); }
-void *aligned_alloc(size_t align, size_t size) { return is_refused('a') ? NULL : __libc_memalign(align, size); }
+void *malloc(size_t size) { return is_refused('a', ENOMEM) ? NULL : __libc_malloc(size); }
+void *calloc(size_t count, size_t size) { return is_refused('a', ENOMEM) ? NULL : __libc_calloc(count, size); }
+void *realloc(void *old, size_t size) { return is_refused('a', ENOMEM) ? NULL : __libc_realloc(old, size); }
+void *memalign(size_t align, size_t size) { return is_refused('a', ENOMEM) ? NULL : __libc_memalign(align, size); }
+void *aligned_alloc(size_t align, size_t size) { return is_refused('a', ENOMEM) ? NULL : __libc_memalign(align, size); }
 int posix_memalign(void **to, size_t align, size_t size) {
-    void *it = is_refused('a') ? NULL : __libc_memalign(align, size);
+    void *it = is_refused('a', ENOMEM) ? NULL : __libc_memalign(align, size);
     if (!it) return ENOMEM;
     *to = it;
     return 0;
 }
 
-ssize_t read(int from, void *to, size_t size) { return is_refused('r') ? -1 : syscall(SYS_read, from, to, size); }
+ssize_t read(int from, void *to, size_t size) { return is_refused('r', EIO) ? -1 : syscall(SYS_read, from, to, size); }
 ssize_t __read(int from, void *to, size_t size) { return read(from, to, size); }
-ssize_t write(int to, const void *from, size_t size) { return is_refused('w') ? -1 : syscall(SYS_write, to, from, size); }
+ssize_t write(int to, const void *from, size_t size) { return is_refused('w', EIO) ? -1 : syscall(SYS_write, to, from, size); }
 ssize_t __write(int to, const void *from, size_t size) { return write(to, from, size); }
+
+/* The clock stands at 2024-05-06T10:00:00Z. */
+int clock_gettime(clockid_t which, struct timespec *at) {
+    if (!table || which != CLOCK_REALTIME) return syscall(SYS_clock_gettime, which, at);
+    *at = (struct timespec){1714989600, 0};
+    return 0;
+}
+
+/* A thread that is to begin: its name, and what it runs. */
+struct begun { unsigned long name; void *(*run)(void *); void *given; };
+
+static void *begin(void *it) {
+    struct begun begun = *(struct begun *)it;
+    free(it);
+    is_named(begun.name);
+    return begun.run(begun.given);
+}
+
+int pthread_create(pthread_t *to, const pthread_attr_t *how, void *(*run)(void *), void *given) {
+    if (!table || !mine) return create(to, how, run, given);
+    if (is_refused('t', EAGAIN)) return EAGAIN;
+    struct begun *begun = __libc_malloc(sizeof *begun);
+    if (!begun) return EAGAIN;
+    *begun = (struct begun){mine->name * 1000003 + started + 1, run, given};
+    int fault = create(to, how, begin, begun);
+    if (fault) free(begun);
+    else started++;
+    return fault;
+}
 """
 
-# Rows beside the examples: a name, a script, and lines.
+# How many bytes the table of the threads has.
+TABLE = 1 << 16
+
+
+class Row(NamedTuple):
+    """A script with its lines, and perhaps a kind file and words."""
+    name: str
+    script: bytes
+    lines: bytes
+    kind: Optional[bytes] = None
+    words: tuple = ()
+
+
+MESSAGE = b'{"host":"a","message":"{\\"level\\":\\"WARN\\",\\"n\\":3,\\"ts\\":\\"2024-05-06T07:08:09Z\\"}"}\n{"host":"b","message":"plain"}\n'
+OVERLAID = (b'parsed, err = parse_json(.message)\n. = . | (object(parsed) ?? {})\ndel(.message)\n.level = downcase(.level) ?? "info"\n'
+            b'.at = parse_timestamp(.ts, format: "%+") ?? now()\n')
+UPCASE = b'.m = upcase(.m) ?? "none"'
+UPCASE_KIND = b'{"object":{"m":"string"},"rest":"nothing"}'
+
+# Rows beside the examples.
 ROWS = [
     ("one write", b".x = 1", b'{"a":1}\n[2]\n\n{"c":"' + b"z" * 200 + b'"}\n'),
     ("a script that is refused", b".x = y\n.a + 1\nz", b"{}\n"),
@@ -99,45 +178,62 @@ ROWS = [
      b'.x = object_from_array([["k", a]]) ?? {}\n.y = slice("abcd", 1, -1) ?? ""\n.w = [upcase("a"), truncate("abc", 2, ".."), strip_whitespace(" a "), replace("aaa", "a", "b")]\n.q = chunks("abcde", 2) ?? []\n',
      b'{"a":[1,[2,null],1],"o":{"a":"t","b":{"e":2}}}\n{}\n'),
     ("many lines", b".k = {}\n.k.l = [.a, .a]\ndel(.a)", b'{"a":{"b":[1,2,"three"]},"m":"text"}\n' * 60),
+    ("a warning and a default", UPCASE, b'{"m":3}\n'),
+    ("a kind file", UPCASE, b'{"m":"a"}\n{"m":3}\n', UPCASE_KIND),
+    ("a kind file, many lines", UPCASE, b'{"m":"a"}\n{"m":3}\n' * 8, UPCASE_KIND),
+    ("a kind file that is refused", UPCASE, b"", b'{"object":{"m":"text"}}'),
+    ("messages laid over their events", OVERLAID, MESSAGE),
+    ("many messages", OVERLAID, MESSAGE * 8),
+    ("a made line", b".x = 1", b"", None, ("--generate", "1:1")),
+    ("made lines", b".x = 1", b"", None, ("--generate", "32:1")),
+    ("the kinds of a script", OVERLAID, b"", None, ("--check",)),
+    ("words that are refused", b"", b"", None, ("--generate", "0:1")),
 ]
-KINDS = {"allocation": WANT_OF_MEMORY, "read": READ_FAULT, "write": WRITE_FAULT}
+
+# How a run ends where a call of a kind is refused; None: as it ends else.
+KINDS = {"allocation": WANT_OF_MEMORY, "read": READ_FAULT, "write": WRITE_FAULT, "thread": None}
 
 # What a test says that ends for want of memory, by the error that it hands on.
 WANT = ("Memory", "AllocError", "AllocFailed", "OutOfMemory")
 
 
 def rows():
-    """The name, the script and the lines of each row."""
+    """The examples, and the rows beside them."""
     for name in sorted(it[:-4] for it in os.listdir(EXAMPLES) if it.endswith(".vrl")):
         parts = []
-        for ending in ("vrl", "jsonl"):
-            with open(os.path.join(EXAMPLES, f"{name}.{ending}"), "rb") as file:
-                parts.append(file.read())
-        yield f"the example {name}", *parts
-    yield from ROWS
+        for ending in ("vrl", "jsonl", "kind"):
+            place = os.path.join(EXAMPLES, f"{name}.{ending}")
+            parts.append(None)
+            if os.path.exists(place):
+                with open(place, "rb") as file:
+                    parts[-1] = file.read()
+        yield Row(f"the example {name}", *parts)
+    for row in ROWS:
+        yield Row(*row)
 
 
 class Refuser:
-    """A program over a library that refuses it the call of a kind and a number."""
+    """A program over a library that refuses a thread of it the call of a kind and a number."""
 
     def __init__(self, program, folder):
         self.program, self.folder = os.path.abspath(program), folder
-        self.places = {name: os.path.join(folder, name) for name in ("script.vrl", "in", "out", "report")}
+        self.places = {name: os.path.join(folder, name) for name in ("script.vrl", "kind.json", "in", "out", "report")}
         self.library = os.path.join(folder, "refuser.so")
         with open(self.library + ".c", "w") as file:
             file.write(LIBRARY)
-        subprocess.run(["cc", "-O1", "-shared", "-fPIC", "-o", self.library, self.library + ".c"], check=True)
+        subprocess.run(["cc", "-O1", "-shared", "-fPIC", "-ftls-model=initial-exec", "-o", self.library, self.library + ".c", "-ldl"], check=True)
+        self.shared = os.memfd_create("refused")
+        os.ftruncate(self.shared, TABLE)
+        self.table = mmap.mmap(self.shared, TABLE)
 
-    def run(self, word, kind="none", call=0):
-        """What a run with this word writes and reports, its status, and whether the call was refused."""
-        seen, told = os.pipe()
-        given = {**os.environ, "LD_PRELOAD": self.library, "REFUSED_KIND": kind, "REFUSED_CALL": str(call), "REFUSED_TOLD": str(told)}
+    def run(self, words, kind="none", thread=0, call=0):
+        """What a run with these words writes and reports, its status, and whether the call was refused."""
+        self.table[:] = bytes(TABLE)
+        given = {**os.environ, "LD_PRELOAD": self.library, "REFUSED_KIND": kind, "REFUSED_THREAD": str(thread), "REFUSED_CALL": str(call),
+                 "REFUSED_TABLE": str(self.shared), "REFUSED_SIZE": str(TABLE)}
         with open(self.places["in"], "rb") as source, open(self.places["out"], "wb") as output, open(self.places["report"], "wb") as report:
-            status = subprocess.run([self.program, word], cwd=self.folder, env=given, pass_fds=[told], stdin=source, stdout=output, stderr=report, timeout=60).returncode
-        os.close(told)
-        with os.fdopen(seen, "rb") as file:
-            refused = bool(file.read())
-        return *(self.read(name) for name in ("out", "report")), status, refused
+            status = subprocess.run([self.program, *words], cwd=self.folder, env=given, pass_fds=[self.shared], stdin=source, stdout=output, stderr=report, timeout=60).returncode
+        return *(self.read(name) for name in ("out", "report")), status, bool(struct.unpack_from("L", self.table)[0])
 
     def read(self, name):
         with open(self.places[name], "rb") as file:
@@ -147,40 +243,47 @@ class Refuser:
         with open(self.places[name], "wb") as file:
             file.write(data)
 
-    def allocations(self, word):
-        """How many allocations a run with this word makes."""
-        below, above = 0, 1
-        while self.run(word, "allocation", above)[3]:
-            below, above = above, above * 2
-        while above - below > 1:
-            middle = (below + above) // 2
-            below, above = (middle, above) if self.run(word, "allocation", middle)[3] else (below, middle)
-        return below
+    def calls(self, words, kind):
+        """The calls of a kind that a run with these words makes, each as its thread and its number there, from 1."""
+        self.run(words, kind)
+        _, threads = struct.unpack_from("2L", self.table)
+        counted = [struct.unpack_from("2L", self.table, 16 + 16 * place) for place in range(threads)]
+        return [(name, call) for name, count in counted for call in range(1, count + 1)]
 
 
-def try_rows(refuser, only):
-    """Runs the rows with each call refused in turn, and gives the number of differences."""
-    failed, met = 0, {}
-    for name, script, lines in (it for it in rows() if only in it[0]):
-        refuser.write("script.vrl", script)
-        refuser.write("in", lines)
-        output, report, status, _ = refuser.run("script.vrl")
-        for kind, wanted in KINDS.items():
-            call, refused = 0, True
-            while refused:
-                call += 1
-                left, told, ended, refused = refuser.run("script.vrl", kind, call)
-                if refused:
-                    met[kind, ended] = met.get((kind, ended), 0) + 1
-                    wrong = ended != wanted or not (output.startswith(left) and report.startswith(told))
-                if not refused or kind == "allocation" and wrong:
-                    wrong = (left, told, ended) != (output, report, status)
-                if wrong:
-                    failed += 1
-                    print(f"{name}: {kind} {call} {'' if refused else 'not '}refused: status {ended}\n  wrote    {left!r:.200}\n  reported {told!r:.200}")
-            print(f"{name}: {call - 1} of kind {kind} refused")
-    for (kind, ended), count in sorted(met.items()):
-        print(f"{count} of kind {kind} refused ended with status {ended}")
+def try_row(refuser, row, jobs, met):
+    """Runs a row with each call refused in turn, and gives the number of differences."""
+    refuser.write("script.vrl", row.script)
+    refuser.write("in", row.lines)
+    words = ["script.vrl", "--jobs", str(jobs), *row.words]
+    if row.kind is not None:
+        refuser.write("kind.json", row.kind)
+        words += ["--kind", "kind.json"]
+    whole = refuser.run(words)[:3]
+    failed, counts = 0, []
+    for kind, wanted in KINDS.items():
+        calls = refuser.calls(words, kind)
+        counts.append(f"{len(calls)} {kind}s of {len({thread for thread, _ in calls})} threads")
+        for thread, call in calls:
+            *told, refused = refuser.run(words, kind, thread, call)
+            end = (kind, told[2]) if refused else (kind, "not refused")
+            met[end] = met.get(end, 0) + 1
+            is_front = all(one.startswith(other) for one, other in zip(whole, told[:2]))
+            is_whole = tuple(told) == whole
+            right = is_whole if not refused or wanted is None else told[2] == wanted and is_front or kind == "allocation" and is_whole
+            if not right:
+                failed += 1
+                print(f"{row.name}, {jobs} workers: {kind} {call} of thread {thread} {'' if refused else 'not '}refused: status {told[2]}\n  wrote    {told[0]!r:.200}\n  reported {told[1]!r:.200}")
+    print(f"{row.name}, {jobs} workers: {', '.join(counts)}", flush=True)
+    return failed
+
+
+def try_rows(refuser, only, numbers):
+    """Runs the rows, and gives the number of differences."""
+    met = {}
+    failed = sum(try_row(refuser, row, jobs, met) for row in rows() if only in row.name for jobs in numbers)
+    for (kind, ended), count in sorted(met.items(), key=str):
+        print(f"{count} of kind {kind} refused ended with status {ended}" if ended != "not refused" else f"{count} of kind {kind} did not come again")
     return failed
 
 
@@ -190,13 +293,13 @@ def try_tests(refuser, only, most):
     failed, sums = 0, {}
     refuser.write("in", b"")
     for name in (line[: -len(": test")] for line in listed.splitlines() if line.endswith(": test")):
-        count = refuser.allocations(name) if only in name else 0
-        if count > most:
-            print(f"{name}: {count} allocations, not tried")
+        calls = refuser.calls([name], "allocation") if only in name else []
+        if len(calls) > most:
+            print(f"{name}: {len(calls)} allocations, not tried")
             continue
         stopped = set()
-        for call in range(1, count + 1):
-            output, report, status, _ = refuser.run(name, "allocation", call)
+        for thread, call in calls:
+            output, report, status, _ = refuser.run([name], "allocation", thread, call)
             lines = (report or output).decode(errors="replace").splitlines() or [""]
             end = "went well" if status == 0 else "told" if any(word in lines[0] for word in WANT) else "stopped" if status == -signal.SIGABRT else "else"
             sums[end] = sums.get(end, 0) + 1
@@ -204,9 +307,9 @@ def try_tests(refuser, only, most):
                 stopped.add(lines[-1])
             if end == "else":
                 failed += 1
-                print(f"{name}: allocation {call} refused: status {status}, {lines}")
+                print(f"{name}: allocation {call} of thread {thread} refused: status {status}, {lines}")
         if only in name:
-            print(f"{name}: {count} allocations", *sorted(stopped), sep="\n  ")
+            print(f"{name}: {len(calls)} allocations", *sorted(stopped), sep="\n  ")
     print(*(f"{count} {end}" for end, count in sorted(sums.items())), sep=", ")
     return failed
 
@@ -216,12 +319,13 @@ def main():
     words.add_argument("--program")
     words.add_argument("--tests", nargs="+", default=[])
     words.add_argument("--only", default="")
+    words.add_argument("--jobs", type=int, nargs="+", default=[1, 4])
     words.add_argument("--most", type=int, default=5000)
     words = words.parse_args()
     failed = 0
     with tempfile.TemporaryDirectory(dir="/dev/shm" if os.path.isdir("/dev/shm") else None) as folder:
         if words.program:
-            failed += try_rows(Refuser(words.program, folder), words.only)
+            failed += try_rows(Refuser(words.program, folder), words.only, words.jobs)
         for program in words.tests:
             failed += try_tests(Refuser(program, folder), words.only, words.most)
     print(f"{failed} differences")

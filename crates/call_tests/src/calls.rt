@@ -11,13 +11,13 @@ use vrl_value::{Bytes, Chars, Memory};
 
 // What is written by a call: its status, and what its sinks hold.
 #[derive(Drop)]
-struct Written {
-    status: Status,
-    output: Vec<u8>,
-    report: Vec<u8>,
+pub(crate) struct Written {
+    pub(crate) status: Status,
+    pub(crate) output: Vec<u8>,
+    pub(crate) report: Vec<u8>,
 }
 
-fn words_of(alloc: Global, words: &[&str]) -> Result<Vec<String>, Memory> {
+pub(crate) fn words_of(alloc: Global, words: &[&str]) -> Result<Vec<String>, Memory> {
     let mut owned = Vec::new(alloc);
     for word in words {
         owned.push(String::from_str(alloc, word)?)?;
@@ -25,8 +25,13 @@ fn words_of(alloc: Global, words: &[&str]) -> Result<Vec<String>, Memory> {
     Ok(owned)
 }
 
-// A store that holds a script under `s` and a kind file under `k`.
-fn store(alloc: Global, script: &str, kind: &str) -> Result<MemoryStore, Memory> {
+// A store that holds a script under `s` and a kind file under `k`, and the loads that fail.
+pub(crate) fn store(
+    alloc: Global,
+    script: &str,
+    kind: &str,
+    failing: Vec<u64>,
+) -> Result<MemoryStore, Memory> {
     let mut held = Vec::new(alloc);
     held.push((
         Chars::copy_of(alloc, "s")?,
@@ -36,7 +41,7 @@ fn store(alloc: Global, script: &str, kind: &str) -> Result<MemoryStore, Memory>
         Chars::copy_of(alloc, "k")?,
         Bytes::new(kind.as_bytes().to_vec(alloc)?),
     ))?;
-    Ok(MemoryStore::new(alloc, held, Vec::new(alloc)))
+    Ok(MemoryStore::new(alloc, held, failing))
 }
 
 // So many lines `{}`.
@@ -74,7 +79,12 @@ fn call<R: Threads + Sync, G: Gate + Sync>(
         rt,
         alloc,
         &words,
-        &mut store(alloc, ".x = 1", "{\"object\":{\"a\":\"string\"}}")?,
+        &mut store(
+            alloc,
+            ".x = 1",
+            "{\"object\":{\"a\":\"string\"}}",
+            Vec::new(alloc),
+        )?,
         &mut source(alloc, count, failing)?,
         &mut output,
         &mut report,

@@ -69,6 +69,40 @@ fn memory_sink_keeps_what_is_given(rt: HostRuntime) -> Result<(), Fail> {
     Ok(())
 }
 
+/// Asserts how a sink that takes so many bytes at a call, and fails at the second, takes each of these in turn, and what it holds then.
+fn expect_parts(
+    rt: &impl Abort,
+    alloc: Global,
+    most: usize,
+    rows: &[(&[u8], Result<usize, Failed>)],
+    written: &[u8],
+) -> Result<(), AllocError> {
+    let mut sink = MemorySink::narrow(alloc, vec![in alloc; 1]?, most);
+    expect_gives(rt, &mut sink, rows);
+    assert!(rt; sink.written() == written, "at {most}");
+    Ok(())
+}
+
+const IN_PARTS: [(&[u8], Result<usize, Failed>); 5] = [
+    (b"abc", Ok(2)),
+    (b"", Ok(0)),
+    (b"cd", Err(Failed)),
+    (b"cd", Ok(2)),
+    (b"e", Ok(1)),
+];
+
+const BYTE_BY_BYTE: [(&[u8], Result<usize, Failed>); 3] = [
+    (b"ab", Ok(1)),
+    (b"b", Err(Failed)),
+    (b"b", Ok(1)),
+];
+
+#[test]
+fn narrow_memory_sinks_take_parts(rt: HostRuntime) -> Result<(), AllocError> {
+    expect_parts(&rt, rt.alloc(), 2, &IN_PARTS, b"abcde")?;
+    expect_parts(&rt, rt.alloc(), 0, &BYTE_BY_BYTE, b"ab")
+}
+
 /// What a load of the name gives, up to this many bytes.
 fn load_front<S: Store>(store: &mut S, name: &str, limit: usize) -> Result<Bytes, LoadFault> {
     store.load(name, limit)
