@@ -32,7 +32,7 @@ const NONE: Input = Input {
 
 // What is told of each batch: its first and last number, how many lines it has, how many bytes these keep, and how many are too
 // long; then of the end or the fault, and of one call more.
-const ROWS: [(Input, &str); 22] = [
+const ROWS: [(Input, &str); 24] = [
     (NONE, "end end "),
     (Input { last: "{}", ..NONE }, "1-1 1 2 0|end end "),
     (
@@ -177,6 +177,25 @@ const ROWS: [(Input, &str); 22] = [
             ..NONE
         },
         "1-256 256 512 0|ReadFault ReadFault ",
+    ),
+    // Five takes of 65,536 bytes, and one that tells the end.
+    (
+        Input {
+            width: 65_535,
+            lines: 5,
+            failing: Some(6),
+            ..NONE
+        },
+        "1-5 5 327675 0|end end ",
+    ),
+    (
+        Input {
+            width: 65_535,
+            lines: 5,
+            failing: Some(5),
+            ..NONE
+        },
+        "ReadFault ReadFault ",
     ),
     // The last bytes of 2^40.
     (

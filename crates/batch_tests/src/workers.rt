@@ -84,18 +84,28 @@ fn results_in_order(rt: HostRuntime) -> Result<(), Memory> {
     Ok(())
 }
 
-// Notes that place 0 or place 32 has come, and then waits for the other one. It notes a miss where that doesn't come.
+// Notes that place 0 or place 32 has come, and then waits for the other one, for so many turns. It notes a miss where that doesn't come.
 #[derive(Drop)]
 struct Meeting {
     first: AtomicU64,
     second: AtomicU64,
     missed: AtomicU64,
+    turns: u32,
 }
 
 impl Meeting {
+    fn within(turns: u32) -> Meeting {
+        Meeting {
+            first: AtomicU64::new(0),
+            second: AtomicU64::new(0),
+            missed: AtomicU64::new(0),
+            turns,
+        }
+    }
+
     fn meet(&self, mine: &AtomicU64, other: &AtomicU64) {
         mine.store(1, Ordering::SeqCst);
-        for _ in 0..100_000_000u32 {
+        for _ in 0..self.turns {
             if other.load(Ordering::SeqCst) == 1 {
                 return;
             }
@@ -117,12 +127,60 @@ impl Gate for Meeting {
 
 #[test]
 fn two_workers_meet(rt: HostRuntime) -> Result<(), Memory> {
-    let meeting = Meeting {
-        first: AtomicU64::new(0),
-        second: AtomicU64::new(0),
-        missed: AtomicU64::new(0),
-    };
+    let meeting = Meeting::within(100_000_000);
     assert!(rt; is_mapped(&rt, rt.alloc(), 64, 2, &meeting)?);
     assert!(rt; meeting.missed.load(Ordering::SeqCst) == 0);
+    Ok(())
+}
+
+#[test]
+fn one_worker_meets_nobody(rt: HostRuntime) -> Result<(), Memory> {
+    let meeting = Meeting::within(10_000_000);
+    assert!(rt; is_mapped(&rt, rt.alloc(), 64, 1, &meeting)?);
+    assert!(rt; meeting.missed.load(Ordering::SeqCst) == 1);
+    Ok(())
+}
+
+// How many lines have passed, and whether a line passed or was worked on out of turn: each passes, and then the work on it is done.
+#[derive(Drop)]
+struct Turns {
+    passed: AtomicU64,
+    wrong: AtomicU64,
+}
+
+impl Gate for Turns {
+    fn pass(&self, place: usize) {
+        if self.passed.fetch_add(1, Ordering::SeqCst) != place as u64 {
+            self.wrong.store(1, Ordering::SeqCst);
+        }
+    }
+}
+
+impl Work for Turns {
+    ghost use Rattle.vrl_batch.specs.declared.work.Outcome.TheVariants.{Fine};
+
+    ghost makes = { λ _ line. record { output = line.bytes; report = line.bytes; kept = line.number; outcome = Fine } };
+
+    fn one(&self, alloc: Global, line: &Line) -> Result<LineOut, Memory> {
+        if self.passed.load(Ordering::SeqCst) != line.number {
+            self.wrong.store(1, Ordering::SeqCst);
+        }
+        Copies.one(alloc, line)
+    }
+}
+
+#[test]
+fn lines_pass_before_their_work(rt: HostRuntime) -> Result<(), Memory> {
+    let alloc = rt.alloc();
+    let turns = Turns {
+        passed: AtomicU64::new(0),
+        wrong: AtomicU64::new(0),
+    };
+    let batch = batch_of(alloc, 64)?;
+    let outs = map_batch(&rt, alloc, 1, &batch, &turns, &turns)?;
+    assert!(rt; are_in_order(outs.as_slice(), 64));
+    assert!(rt;
+        turns.passed.load(Ordering::SeqCst) == 64 && turns.wrong.load(Ordering::SeqCst) == 0
+    );
     Ok(())
 }

@@ -146,12 +146,12 @@ fn told_as(device: Device) -> Status {
 // More than the devices have calls.
 const MOST_CALLS: u64 = 100;
 
-// What runs, with how many workers, which device fails at each of its calls in turn, and how many calls it has at least.
+// What runs, with how many workers, which device fails at each of its calls in turn, and how many calls it has.
 type Row = (Run, &'static str, Device, u64);
 
 // Whether each of these faults is told so, and the answer is whole where no call has that number.
 fn holds<R: Threads + Sync>(rt: &R, alloc: Global, row: &Row) -> Result<bool, Memory> {
-    let (run, jobs, device, least) = row;
+    let (run, jobs, device, calls) = row;
     for number in 0..MOST_CALLS {
         let way = Way {
             jobs: *jobs,
@@ -164,7 +164,7 @@ fn holds<R: Threads + Sync>(rt: &R, alloc: Global, row: &Row) -> Result<bool, Me
             return Err(Memory);
         }
         if is_whole(&written, run) {
-            return Ok(number >= *least);
+            return Ok(number == *calls);
         }
         if !is_front(&written, run, told_as(*device)) {
             return Ok(false);
