@@ -63,6 +63,11 @@ pub fn remap<R: Threads + Sync, F: Store, S: Source, O: Sink, E: Sink, C: Clock,
     ensures write_told { (result ≡ Status.WriteFault)
         ⊎ ((O.faults output.new ≡ O.faults output.old) × (E.faults report.new ≡ E.faults report.old)) }
 
+    // Where the script or the kind file can't be loaded, nothing more is done.
+    ensures unloaded { (F.failures files.new ≡ F.failures files.old)
+        ⊎ ((input.new ≡ input.old) × (clock.new ≡ clock.old)
+        × (O.written output.new ≡ O.written output.old) × (E.written report.new ≡ E.written report.old)) }
+
     // Where nothing fails, the answer comes, unless the input is too long or memory is wanted.
     ensures complete { F.failures files.new ≡ F.failures files.old
         → ¬ HasRisen (S.faults input.old) (S.faults input.new)

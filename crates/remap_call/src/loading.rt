@@ -1,4 +1,4 @@
-ghost use Rattle.std.specs.Prelude.{◌≡◌, ◌↔◌, IfOk, IsSome, IsTrue, None, Some};
+ghost use Rattle.std.specs.Prelude.{◌≡◌, ◌⊎◌, ◌↔◌, IfOk, IsSome, IsTrue, None, Some};
 ghost use Rattle.vrl_token.specs.Reading.{IsNoScript};
 ghost use Rattle.vrl_run.specs.Devices.{devices, IsAnswered};
 ghost use Rattle.remap_words.specs.View.{invocation_of, IsInBounds};
@@ -39,12 +39,16 @@ pub(crate) fn run_script<
     gate: &G,
 ) -> Status
     requires bounds { IsInBounds (invocation_of invocation.now) }
-    ensures { IsScriptCall (F.held files.old) (invocation_of invocation.now) script.now (F.failures files.old) (F.failures files.new) result
+    ensures call { IsScriptCall (F.held files.old) (invocation_of invocation.now) script.now (F.failures files.old) (F.failures files.new) result
         (devices (S.left input.old) (S.taken input.old) (S.ended input.old) (S.faults input.old) (C.ahead clock.old)
         (O.written output.old) (O.faults output.old) (E.written report.old) (E.faults report.old))
         (devices (S.left input.new) (S.taken input.new) (S.ended input.new) (S.faults input.new) (C.ahead clock.new)
         (O.written output.new) (O.faults output.new) (E.written report.new) (E.faults report.new))
         ((input.new ≡ input.old) × (clock.new ≡ clock.old)) }
+    // Where the kind file can't be loaded, nothing more is done.
+    ensures unloaded { (F.failures files.new ≡ F.failures files.old)
+        ⊎ ((input.new ≡ input.old) × (clock.new ≡ clock.old)
+        × (O.written output.new ≡ O.written output.old) × (E.written report.new ≡ E.written report.old)) }
 {
     match script_text(script) {
         Ok(text) => run_text(
@@ -83,12 +87,16 @@ fn run_text<R: Threads + Sync, F: Store, S: Source, O: Sink, E: Sink, C: Clock, 
 ) -> Status
     requires bounds { IsInBounds (invocation_of invocation.now) }
     requires text { ¬ IsNoScript text.now }
-    ensures { IsScriptCall (F.held files.old) (invocation_of invocation.now) text.now (F.failures files.old) (F.failures files.new) result
+    ensures call { IsScriptCall (F.held files.old) (invocation_of invocation.now) text.now (F.failures files.old) (F.failures files.new) result
         (devices (S.left input.old) (S.taken input.old) (S.ended input.old) (S.faults input.old) (C.ahead clock.old)
         (O.written output.old) (O.faults output.old) (E.written report.old) (E.faults report.old))
         (devices (S.left input.new) (S.taken input.new) (S.ended input.new) (S.faults input.new) (C.ahead clock.new)
         (O.written output.new) (O.faults output.new) (E.written report.new) (E.faults report.new))
         ((input.new ≡ input.old) × (clock.new ≡ clock.old)) }
+    // Where the kind file can't be loaded, nothing more is done.
+    ensures unloaded { (F.failures files.new ≡ F.failures files.old)
+        ⊎ ((input.new ≡ input.old) × (clock.new ≡ clock.old)
+        × (O.written output.new ≡ O.written output.old) × (E.written report.new ≡ E.written report.old)) }
 {
     match invocation.kind {
         Some(name) => match files.load(name, FILE_LIMIT + 1) {
