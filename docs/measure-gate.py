@@ -91,11 +91,16 @@ def row(name, lines, seconds):
     print(f"| {name} | {' | '.join(f'{it:,}' for it in [*lines, *map(round, seconds)])} | {minutes} |")
 
 
-told, passed = measure(sys.argv[1:])
-print("| Crate | Lines of code | of tests | of specs | of proofs | Edits | Seconds of proof | of tests | of edits | Minutes per 1,000 lines |")
-print("|" + "---|" * 10)
-rows = [(crate, lines_of(crate), list(told[crate].values())) for crate in told]
-for it in rows:
-    row(*it)
-row("sum", [sum(it) for it in zip(*(it[1] for it in rows))], [sum(it) for it in zip(*(it[2] for it in rows))])
-sys.exit(0 if passed else 1)
+def main():
+    told, passed = measure(sys.argv[1:])
+    print("| Crate | Lines of code | of tests | of specs | of proofs | Edits | Seconds of proof | of tests | of edits | Minutes per 1,000 lines |")
+    print("|" + "---|" * 10)
+    rows = [(crate, lines_of(crate), list(told[crate].values())) for crate in told]
+    for it in rows:
+        row(*it)
+    row("sum", [sum(it) for it in zip(*(it[1] for it in rows))], [sum(it) for it in zip(*(it[2] for it in rows))])
+    return 0 if passed else 1
+
+
+if __name__ == "__main__":
+    sys.exit(main())
