@@ -1,5 +1,5 @@
 -- Kinds put into a map by their names, and taken from it as known fields.
-use Rattle.std.proofs.Common.{◌≡◌, ℕ, true, List, [], ◌∷◌, length, Some, None, String, Global, string_bytes, string_cmp, Ordering, Less, Equal, Greater, nat_cmp, refl, sym, ap, ◌∙◌, subst, arith}
+use Rattle.std.proofs.Common.{◌≡◌, ℕ, Bool, true, IsTrue, List, [], ◌∷◌, ◌++◌, length, Some, None, String, Global, string_bytes, string_cmp, Ordering, Less, Equal, Greater, nat_cmp, refl, sym, ap, ◌∙◌, subst, arith}
 use Rattle.std.proofs.lemmas.Cmp.{nat_list_cmp_total, tied_itself}
 use Rattle.std.proofs.lemmas.Map.Keys.{sorted_head, sorted_tail}
 use Rattle.std.specs.BTreeMap.{insert_entry}
@@ -7,7 +7,7 @@ use Rattle.std.specs.Cmp.Lexicographic.{slice_cmp}
 use Rattle.std.specs.List.{AllByRecursion}
 use Rattle.std.specs.List.Sorted.{IsStrictlySortedBy}
 use Rattle.std.specs.Map.{keys_of}
-use Rattle.std.specs.Ordering.{match_ordering}
+use Rattle.std.specs.Ordering.{is_lt, match_ordering}
 use Rattle.vrl_value.specs.Look.{Step, field, place}
 use Rattle.vrl_value.specs.declared.value.Tag.{Tag}
 use Rattle.vrl_kind.specs.KindTree.{KindTree, KnownFields, no_fields, known_field, ObjectTree, no_object, object_part, RestTree, kind, ListTree}
@@ -19,7 +19,7 @@ use Rattle.vrl_kind.specs.declared.scalars.Scalars.{Scalars}
 use Rattle.vrl_kind.specs.Merge.{FieldsAreSorted, IsTurn}
 use Rattle.vrl_kind.specs.Sets.{Sets}
 use Rattle.vrl_kind.proofs.Known.{object_field}
-use Rattle.vrl_kind.proofs.Merging.{one_name}
+use Rattle.vrl_kind.proofs.Merging.{before_through, one_name}
 use Rattle.vrl_kind.proofs.Namewise.{NamesSoFar, names_first, names_next, names_end}
 use Rattle.vrl_kind.proofs.Shapes.{same_root}
 
@@ -98,7 +98,7 @@ before_keys : (k : String Global) (es : List Entry) → AllByRecursion (λ y. st
 before_keys k [] all = tt
 before_keys k (e ∷ es) all = (all.0, before_keys k es all.1)
 
-entries_sorted : (es : List Entry) → IsStrictlySortedBy string_cmp (keys_of es) → FieldsAreSorted (entries_view es)
+pub entries_sorted : (es : List Entry) → IsStrictlySortedBy string_cmp (keys_of es) → FieldsAreSorted (entries_view es)
 entries_sorted [] sorted = tt
 entries_sorted (e ∷ es) sorted = (before_keys e.0 es (sorted_head string_cmp e.0 (keys_of es) sorted), entries_sorted es (sorted_tail string_cmp e.0 (keys_of es) sorted))
 
@@ -110,8 +110,8 @@ first_at A B = A
 abbrev pub KnownSoFar : KindTree → KnownFields → KnownFields → KnownFields → Type 0
 KnownSoFar own all fs ds = NamesSoFar first_at own never_kind own all no_fields fs no_fields ds
 
-pub known_first : (own : KindTree) (es xs : List Entry) (ds : KnownFields) → xs ≡ es → ds ≡ no_fields → IsStrictlySortedBy string_cmp (keys_of es) → KnownSoFar own (entries_view es) (entries_view xs) ds
-known_first own es xs ds is none sorted = subst (λ ys. KnownSoFar own (entries_view es) (entries_view ys) ds) (sym is) (names_first first_at own never_kind own (entries_view es) no_fields ds none (entries_sorted es sorted) tt)
+pub known_first : (own : KindTree) (all fs ds : KnownFields) → fs ≡ all → ds ≡ no_fields → FieldsAreSorted all → KnownSoFar own all fs ds
+known_first own all fs ds is none sorted = subst (λ gs. KnownSoFar own all gs ds) (sym is) (names_first first_at own never_kind own all no_fields ds none sorted tt)
 
 pub known_next : (own k : KindTree) (n : List ℕ) (all fs fs' ds es : KnownFields) → KnownSoFar own all fs ds → fs ≡ known_field n k fs' → IsCanonical k → IsKnownPushed n k own ds es → KnownSoFar own all fs' es
 known_next own k n all fs fs' ds es far is canonical pushed =
@@ -129,28 +129,60 @@ known_end own all fs ds far none =
     let all_known = names_end first_at own never_kind own all no_fields fs no_fields ds far record { left = none; right = refl } (λ p t. refl) in
     record { same = all_known.at; canonical = all_known.canonical; known = all_known.known }
 
+-- the fields of a map say the same as those that were put into it
+pub known_named : (own : KindTree) (all fs ds : KnownFields) → SameFields all fs → AreKnown own fs ds → AreKnown own all ds
+known_named own all fs ds named known = record {
+  same = λ n p t. known.same n p t ∙ ap (λ k. tags_at k p t) (named own n);
+  canonical = known.canonical;
+  known = known.known;
+}
+
+-- ---- fields that come the last name first
+pub is_less : (b : Bool) (o : Ordering) → b ≡ is_lt o → IsTrue b → o ≡ Less
+is_less b Less is less = refl
+is_less b Equal is less = cc
+is_less b Greater is less = cc
+
+last_first_end : (es : List (List ℕ × KindTree)) (e : List ℕ × KindTree) (fs : KnownFields) → last_first (es ++ e ∷ []) fs ≡ known_field e.0 e.1 (last_first es fs)
+last_first_end [] e fs = refl
+last_first_end (d ∷ es) e fs = last_first_end es e (known_field d.0 d.1 fs)
+
+pub view_end : (e : List ℕ × KindTree) (xs es : List (List ℕ × KindTree)) → xs ≡ es ++ e ∷ [] → named_view xs ≡ known_field e.0 e.1 (named_view es)
+view_end e xs es is = ap named_view is ∙ last_first_end es e no_fields
+
+pub view_none : (xs : List (List ℕ × KindTree)) → length xs ≡ 0 → named_view xs ≡ no_fields
+view_none [] none = refl
+view_none (x ∷ xs) none = absurd (omega arith)
+
+-- a name before the last one is before all
+pub before_last : (n : List ℕ) (e : List ℕ × KindTree) (xs es : List (List ℕ × KindTree)) → xs ≡ es ++ e ∷ [] → slice_cmp nat_cmp n e.0 ≡ Less → FieldsAreSorted (named_view xs) → IsBeforeFields n (named_view xs)
+before_last n e xs es is less = rw (view_end e xs es is) (λ sorted. (less, before_through n e.0 (named_view es) less sorted.0))
+
+-- one more, which is before all
+pub sorted_more : (e : List ℕ × KindTree) (xs es : List (List ℕ × KindTree)) → xs ≡ es ++ e ∷ [] → IsBeforeFields e.0 (named_view es) → FieldsAreSorted (named_view es) → FieldsAreSorted (named_view xs)
+sorted_more e xs es is before sorted = rw (view_end e xs es is) (before, sorted)
+
 object_has : (fs : KnownFields) (K : KindTree) (o : ObjectTree) → IsObjectFor fs K o → has_object o ≡ true
 object_has fs K no_object for = absurd for
 object_has fs K (object_part gs q) for = refl
 
-object_for : (all fs ds : KnownFields) (r : RestTree) (own : KindTree) (o : ObjectTree) → own ≡ rest_kind r → SameFields all fs → AreKnown own fs ds → IsObjectFor ds own o → (n : List ℕ) (p : List Step) (t : Tag) → object_at o n p t ≡ object_at (object_part all r) n p t
-object_for all fs ds r own no_object is named known for n p t = absurd for
-object_for all fs ds r own (object_part gs q) is named known for n p t =
+object_for : (all ds : KnownFields) (r : RestTree) (own : KindTree) (o : ObjectTree) → own ≡ rest_kind r → AreKnown own all ds → IsObjectFor ds own o → (n : List ℕ) (p : List Step) (t : Tag) → object_at o n p t ≡ object_at (object_part all r) n p t
+object_for all ds r own no_object is known for n p t = absurd for
+object_for all ds r own (object_part gs q) is known for n p t =
     ap (λ T. T t) (object_field gs q n p)
     ∙ ap (λ hs. tags_at (field_or hs (rest_kind q) n) p t) for.1
     ∙ ap (λ k. tags_at (field_or ds k n) p t) for.0
     ∙ known.same n p t
-    ∙ ap (λ k. tags_at k p t) (named own n)
     ∙ ap (λ k. tags_at (field_or all k n) p t) is
     ∙ ap (λ T. T t) (sym (object_field all r n p))
 
-object_over : (s : Scalars) (l : ListTree) (all fs ds : KnownFields) (r : RestTree) (own : KindTree) (o : ObjectTree) → own ≡ rest_kind r → SameFields all fs → AreKnown own fs ds → IsObjectFor ds own o → SameTags (kind s l o) (kind s l (object_part all r))
-object_over s l all fs ds r own o is named known for [] t = same_root s l l o (object_part all r) refl (object_has ds own o for) t
-object_over s l all fs ds r own o is named known for (place i ∷ p) t = refl
-object_over s l all fs ds r own o is named known for (field n ∷ p) t = object_for all fs ds r own o is named known for n p t
+object_over : (s : Scalars) (l : ListTree) (all ds : KnownFields) (r : RestTree) (own : KindTree) (o : ObjectTree) → own ≡ rest_kind r → AreKnown own all ds → IsObjectFor ds own o → SameTags (kind s l o) (kind s l (object_part all r))
+object_over s l all ds r own o is known for [] t = same_root s l l o (object_part all r) refl (object_has ds own o for) t
+object_over s l all ds r own o is known for (place i ∷ p) t = refl
+object_over s l all ds r own o is known for (field n ∷ p) t = object_for all ds r own o is known for n p t
 
 -- the kind over the known ones of these fields has the tags that were asked for
-pub object_made : (k : KindTree) (s : Scalars) (l : ListTree) (all fs ds : KnownFields) (r : RestTree) (own : KindTree) (o : ObjectTree) → s ≡ scalars_of k → l ≡ list_tree k → own ≡ rest_kind r → SameFields all fs → AreKnown own fs ds → IsObjectFor ds own o → SameTags (kind s l o) (with_object k all r)
-object_made (kind u m q) s l all fs ds r own o scalars lists is named known for =
+pub object_made : (k : KindTree) (s : Scalars) (l : ListTree) (all ds : KnownFields) (r : RestTree) (own : KindTree) (o : ObjectTree) → s ≡ scalars_of k → l ≡ list_tree k → own ≡ rest_kind r → AreKnown own all ds → IsObjectFor ds own o → SameTags (kind s l o) (with_object k all r)
+object_made (kind u m q) s l all ds r own o scalars lists is known for =
     subst (λ x. SameTags (kind x l o) (kind u m (object_part all r))) (sym scalars)
-    (subst (λ x. SameTags (kind u x o) (kind u m (object_part all r))) (sym lists) (object_over u m all fs ds r own o is named known for))
+    (subst (λ x. SameTags (kind u x o) (kind u m (object_part all r))) (sym lists) (object_over u m all ds r own o is known for))

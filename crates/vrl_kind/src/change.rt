@@ -7,7 +7,7 @@ ghost use Rattle.vrl_kind.specs.Make.{named_view};
 ghost use Rattle.vrl_kind.specs.View.{places_view, rest_of};
 
 use crate::kind::{Kind, ListPart, ObjectPart, Rest};
-use crate::make::{all_canonical, by_name, copy_list, copy_object, known_fields};
+use crate::make::{all_canonical, copy_list, copy_object, known_fields};
 use crate::scalars::Scalars;
 use crate::seen::Seen;
 use std::alloc::Global;
@@ -65,7 +65,7 @@ impl Kind {
         ensures { IfOk result (λ kind. SameTags kind (with_object self.now (named_view fields.items) (rest_of rest))) }
     {
         let own = rest.into_kind(alloc)?;
-        let known = known_fields(alloc, by_name(alloc, fields)?, &own)?;
+        let known = known_fields(alloc, fields, &own)?;
         let list = copy_list(alloc, Seen::of(self).list())?;
         Ok(Kind {
             scalars: self.scalars,

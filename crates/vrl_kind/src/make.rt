@@ -1,8 +1,9 @@
-ghost use Rattle.std.specs.Prelude.{◌≡◌, IfOk, OnOk, Some, true, List, take};
+ghost use Rattle.std.specs.Prelude.{◌≡◌, IfOk, IsTrue, OnOk, Some, true, List, take};
 ghost use Rattle.vrl_value.specs.Look.{Step};
-ghost use Rattle.vrl_kind.specs.Canonical.{IsCanonical, ListIsCanonical, ObjectIsCanonical, PlacesAreCanonical, FieldsAreCanonical, RestIsCanonical, NoFieldIs, allows_absent, bare_rest, rest_kind, list_tree, object_tree};
+ghost use Rattle.vrl_kind.specs.Canonical.{IsBeforeFields, IsCanonical, ListIsCanonical, ObjectIsCanonical, PlacesAreCanonical, FieldsAreCanonical, RestIsCanonical, NoFieldIs, allows_absent, bare_rest, rest_kind, list_tree, object_tree};
 ghost use Rattle.vrl_kind.specs.Kinds.{SameTags, rest_at, tags_at, without_at};
 ghost use Rattle.vrl_kind.specs.Make.{AreKnown, SameFields, entries_view, list_unless, object_unless, IsListOf, IsObjectOf, IsTrimmed, IsKnownPushed, array_kind, object_kind, named_view};
+ghost use Rattle.vrl_kind.specs.Merge.{FieldsAreSorted};
 ghost use Rattle.vrl_kind.specs.Seen.{seen_list, seen_object, part_rest};
 ghost use Rattle.vrl_kind.specs.View.{list_of, object_of, places_view, fields_view, rest_of};
 
@@ -250,11 +251,64 @@ impl ObjectPart {
     }
 }
 
-// The kinds by their names, of equal names the last.
-pub(crate) fn by_name(
+// The fields, in the order of their names' bytes, that say more than the rest, whose own kind this is: of equal
+// names the last. Fields that come the last name first, as those of a kind that is changed do, want no map.
+pub(crate) fn known_fields(
     alloc: Global,
     fields: Vec<(Chars, Kind)>,
-) -> Result<BTreeMap<String, Kind>, Memory>
+    own: &Kind,
+) -> Result<Vec<KindField>, Memory>
+    ensures { IfOk result (λ known. AreKnown own.now (named_view fields.items) (fields_view known.items)) }
+{
+    if are_falling(&fields) {
+        return known_falling(alloc, fields, own);
+    }
+    known_by_name(alloc, by_name(alloc, fields)?, own)
+}
+
+// Whether each name is before the one in front of it, in the order of bytes.
+fn are_falling(fields: &[(Chars, Kind)]) -> bool
+    ensures { IsTrue result → FieldsAreSorted (named_view fields.now) }
+{
+    let mut left = fields;
+    while let Some((last, rest)) = left.split_last() {
+        if !is_before_last(&last.0, rest) {
+            return false;
+        }
+        left = rest;
+    }
+    true
+}
+
+// Whether a name is before the last of the fields', if there is one.
+fn is_before_last(name: &Chars, fields: &[(Chars, Kind)]) -> bool
+    ensures { IsTrue result → FieldsAreSorted (named_view fields.now) → IsBeforeFields name.now (named_view fields.now) }
+{
+    match fields.split_last() {
+        None => true,
+        Some((last, _rest)) => name.as_str().cmp(last.0.as_str()).is_lt(),
+    }
+}
+
+// The same of fields that come the last name first.
+fn known_falling(
+    alloc: Global,
+    mut fields: Vec<(Chars, Kind)>,
+    own: &Kind,
+) -> Result<Vec<KindField>, Memory>
+    requires { FieldsAreSorted (named_view fields.items) }
+    ensures { IfOk result (λ known. AreKnown own.now (named_view fields.items) (fields_view known.items)) }
+{
+    let mut known = Vec::with_capacity(alloc, fields.len())?;
+    while let Some((name, kind)) = fields.pop() {
+        kind_is_canonical(&kind);
+        push_known(&mut known, name, kind, own)?;
+    }
+    Ok(known)
+}
+
+// The kinds by their names, of equal names the last.
+fn by_name(alloc: Global, fields: Vec<(Chars, Kind)>) -> Result<BTreeMap<String, Kind>, Memory>
     ensures { IfOk result (λ named. SameFields (named_view fields.items) (entries_view named.entries)) }
 {
     let mut named = BTreeMap::new(alloc);
@@ -264,8 +318,8 @@ pub(crate) fn by_name(
     Ok(named)
 }
 
-// The kinds, in the order of their names' bytes, that say more than the rest, whose own kind this is.
-pub(crate) fn known_fields(
+// The same of kinds by their names.
+fn known_by_name(
     alloc: Global,
     named: BTreeMap<String, Kind>,
     own: &Kind,

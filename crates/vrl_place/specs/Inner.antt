@@ -1,5 +1,5 @@
 -- What inner functions promise: the parts of a kind in memory, and those of a changed kind. No public function cites these.
-use Rattle.std.specs.Prelude.{◌≡◌, ◌≢◌, ◌<◌, ◌↔◌, ◌||◌, not, Bool, true, false, ℕ, suc, ℤ, pos, negsuc, Option, Some, None, List, [], ◌∷◌, length, IsTrue}
+use Rattle.std.specs.Prelude.{◌≡◌, ◌≢◌, ◌<◌, ◌↔◌, ◌||◌, not, Bool, true, false, ℕ, suc, ℤ, pos, negsuc, Option, Some, None, List, [], ◌∷◌, length, ⊤, IsTrue}
 use Rattle.std.specs.Cmp.Lexicographic.{slice_cmp}
 use Rattle.std.specs.Ordering.{nat_cmp}
 use Rattle.std.specs.declared.cmp.Ordering.TheVariants.{Equal}
@@ -82,8 +82,14 @@ pub record FieldsAre (fs : Fields) (k : List ℕ) (M : Sets) (absent : Bool) (na
   pub at : (n : List ℕ) (p : List Step) (t : Tag) → fields_at (named_view named) n p (or_absent_if absent (spot_sets fs.behind) p) t
       ≡ by_step (field n) (field k) (or_absent_if absent (fields_sets fs n)) M (or_absent_if absent (fields_sets fs n)) never_at p t
 
+-- none of the names is k
+abbrev pub AreApart : List ℕ → List (List ℕ × KindTree) → Type 0
+AreApart k [] = ⊤
+AreApart k (e ∷ es) = (slice_cmp nat_cmp k e.0 ≢ Equal) × AreApart k es
+
 -- the fields but for the one with the name k
 pub record OthersAre (absent : Bool) (k : List ℕ) (fs : List KindField) (named : List (List ℕ × KindTree)) : Type 0 where
+  pub apart : AreApart k named
   pub at : (n : List ℕ) → slice_cmp nat_cmp n k ≢ Equal → (B : Sets) (p : List Step) (t : Tag) → fields_at (named_view named) n p (or_absent_if absent B p) t
       ≡ or_absent_if absent (λ q. fields_at (fields_view fs) n q (B q)) p t
 

@@ -72,8 +72,8 @@ impl<'a> Fields<'a> {
         self.behind
     }
 
-    // The kinds of the fields with this one at a name: of equal names the last counts. If it is wanted,
-    // what stands at the others may be absent. `Memory`: want of memory.
+    // The kinds of the fields with this one at a name, the last field first. If it is wanted, what stands at the
+    // others may be absent. `Memory`: want of memory.
     pub(crate) fn with(
         self,
         alloc: Global,
@@ -84,7 +84,8 @@ impl<'a> Fields<'a> {
         ensures { IfOk result (λ fields. FieldsAre self.entry name.now (tags_at kind) absent fields.items) }
     {
         let mut fields = self.others(alloc, name, absent)?;
-        fields.push((name.copy(alloc)?, kind))?;
+        let at = fields.partition_point(|other| other.0.as_str() > name.as_str());
+        fields.insert(at, (name.copy(alloc)?, kind))?;
         Ok(fields)
     }
 

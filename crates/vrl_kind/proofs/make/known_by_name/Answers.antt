@@ -1,13 +1,13 @@
 use Rattle.std.proofs.Common.{ap, subst}
 use Rattle.vrl_kind.specs.Make.{IsKnownPushed, entries_view}
 use Rattle.vrl_kind.specs.View.{fields_view}
-use Rattle.vrl_kind.proofs.Naming.{known_first, known_next, known_end}
-use Rattle.vrl_kind.proofs.make.known_fields.Goals as goal
+use Rattle.vrl_kind.proofs.Naming.{known_first, known_next, known_end, entries_sorted}
+use Rattle.vrl_kind.proofs.make.known_by_name.Goals as goal
 
 pub loop-name-init : goal.loop-name-init
 loop-name-init c =
     let gives = c.into_iter-name-iterator.ensures.into_iter_gives in
-    known_first _ _ _ _ gives.0 (ap fields_view c.new-known.ensures.items) gives.5
+    known_first _ _ _ _ (ap entries_view gives.0) (ap fields_view c.new-known.ensures.items) (entries_sorted _ gives.5)
 
 pub loop-name-preserved : goal.loop-name-preserved
 loop-name-preserved c =
