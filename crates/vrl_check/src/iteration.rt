@@ -7,7 +7,8 @@ ghost use Rattle.vrl_judge.specs.Rules.{Argument as JudgedArgument};
 ghost use Rattle.vrl_kind.specs.KindTree.{KindTree};
 ghost use Rattle.vrl_syntax.specs.Calls.{for_names, form_named, is_closure_form, takes_closure};
 
-use crate::calls::{Arguments, only_kind};
+use crate::answers::only_kind;
+use crate::calls::Arguments;
 use std::alloc::Global;
 use vrl_builtin::{Tags, cut_down};
 use vrl_diag::{Span, code};

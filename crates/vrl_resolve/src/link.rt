@@ -1,5 +1,4 @@
-ghost use Rattle.std.specs.Prelude.{◌≡◌, ◌&&◌, ◌==◌, [], ◌∷◌, true, length, map, option_map, IfOk, OnOk, ⊤};
-ghost use Rattle.vrl_syntax.specs.Calls.{has_shape, is_closure_form};
+ghost use Rattle.std.specs.Prelude.{◌≡◌, ◌&&◌, ◌==◌, [], true, map, option_map, IfOk, OnOk, ⊤};
 ghost use Rattle.vrl_syntax.specs.ErrorAssignments.{first_tag, in_args, in_arms, in_closure, in_else, in_expr, in_exprs, other_tags};
 ghost use Rattle.vrl_syntax.specs.Tree.{abort_with, array, assign, binary, block, both, conditional, literal, merge, negation, object, query, read, return_of};
 ghost use Rattle.vrl_syntax.specs.View.{arg_of, args_of, arms_of, call_of, closure_in, closure_of, else_of, expr_of, exprs_of, message_of, pairs_of};
@@ -7,18 +6,16 @@ ghost use Rattle.vrl_syntax.specs.declared.root.Root.TheVariants.{Name};
 ghost use Rattle.vrl_value.specs.View.{tree_of};
 ghost use Rattle.vrl_store.specs.StoreView.{AreDistinct, Names as VariableNames};
 ghost use Rattle.vrl_store.specs.declared.place.Base.TheVariants as base;
-ghost use Rattle.vrl_resolve.specs.Calls as called;
 ghost use Rattle.vrl_resolve.specs.Linked.{arms_view, linked_of, parts_view, else_of as linked_else};
-ghost use Rattle.vrl_resolve.specs.Linking.{names_in, AreArgsLinked, AreArmsLinked, AreItemsLinked, AreSlotsOf, IsBaseOf, IsBeginning, IsBodyLinked, IsCalleeIn, IsElseLinked, IsLinked, IsLoopBy, IsLoopIn, IsLoopOf, IsPathCallee, IsPlaceOf, IsSlotOf, IsTargetOf, Links, LinksAny, LinksForm, Numbers};
+ghost use Rattle.vrl_resolve.specs.Linking.{names_in, AreArgsLinked, AreArmsLinked, AreItemsLinked, IsBaseOf, IsBeginning, IsBodyLinked, IsElseLinked, IsLinked, IsLoopIn, IsPlaceOf, IsTargetOf, Links, LinksAny, LinksForm, Numbers};
 
-use crate::bound::{function_callee, iteration_form, path_of};
-use crate::node::{Arm, Call, Callee, Form, Iteration, Loop, Node};
+use crate::node::{Arm, Call, Form, Iteration, Loop, Node};
 use indexmap::IndexSet;
 use std::alloc::Global;
 use vrl_path::Path;
 use vrl_store::{Base, EmptyTags, Place};
 use vrl_syntax::{
-    Arg, Args, Arm as SyntaxArm, Arms, Call as SyntaxCall, CallForm, Closure, Expr, Exprs,
+    Arg, Args, Arm as SyntaxArm, Arms, Call as SyntaxCall, Closure, Expr, Exprs,
     Form as SyntaxForm, Op, Pairs, Root, Target,
 };
 use vrl_value::{Chars, Memory, Names, Tag, Value};
@@ -26,7 +23,7 @@ use vrl_value::{Chars, Memory, Names, Tag, Value};
 /// What makes nodes of expressions: the names of variables, each with a number, and the tags of the error assignments that are to come.
 #[derive(Drop)]
 pub(crate) struct Linker<'a> {
-    alloc: Global,
+    pub(crate) alloc: Global,
     names: IndexSet<String>,
     tags: EmptyTags<'a>,
 }
@@ -83,7 +80,7 @@ impl Linker<'_> {
     }
 
     // The number of the variable of a name. `Memory`: want of memory.
-    fn number(&mut self, name: &str) -> Result<usize, Memory>
+    pub(crate) fn number(&mut self, name: &str) -> Result<usize, Memory>
         ensures { IfOk result (λ number. Numbers self.old self.new (λ names. IsBaseOf names (Name name.now) (base.Variable number))) }
     {
         if let Some(number) = self.names.get_index_of(name) {
@@ -104,7 +101,7 @@ impl Linker<'_> {
     }
 
     // A path from a root. `Memory`: want of memory.
-    fn place(&mut self, root: &Root, path: Path) -> Result<Place, Memory>
+    pub(crate) fn place(&mut self, root: &Root, path: Path) -> Result<Place, Memory>
         ensures { IfOk result (λ place. Numbers self.old self.new (λ names. IsPlaceOf names root.now path place)) }
     {
         let base = self.base(root)?;
@@ -469,134 +466,5 @@ impl Linker<'_> {
             nodes.push(node)?;
         }
         Ok(nodes)
-    }
-
-    // The function that runs the closure of a call, with the variables of its names. `None`: nothing runs one. `Memory`: want of memory.
-    fn function(&mut self, call: &SyntaxCall) -> Result<Option<Loop>, Memory>
-        ensures { IfOk result (λ function. Numbers self.old self.new (λ names. IsLoopIn names (call_of call.now) function)) }
-    {
-        match &call.closure {
-            Some(closure) => self.function_of(call.name.as_str(), &closure.names, &call.args),
-            None => Ok(None),
-        }
-    }
-
-    // The same of a closure with these names, in a call of this name with these arguments. `Memory`: want of memory.
-    fn function_of(
-        &mut self,
-        name: &str,
-        names: &Names,
-        args: &Args,
-    ) -> Result<Option<Loop>, Memory>
-        ensures { IfOk result (λ function. Numbers self.old self.new (λ variables. IsLoopBy variables name.now names.now (args_of args.now) function)) }
-    {
-        let form = iteration_form(self.alloc, name, names, args)?;
-        match form {
-            Some(form) => {
-                let function = self.numbered(form, names)?;
-                Ok(Some(function))
-            }
-            None => Ok(None),
-        }
-    }
-
-    // The function of a form with the variables of a closure's names. `Memory`: want of memory.
-    fn numbered(&mut self, form: CallForm, names: &Names) -> Result<Loop, Memory>
-        requires closure { is_closure_form (Some form) ≡ true }
-        requires shape { has_shape form names.now ≡ true }
-        ensures { IfOk result (λ function. Numbers self.old self.new (λ variables. IsLoopOf variables form names.now function)) }
-    {
-        let names = names.as_slice();
-        match form {
-            CallForm::ForEach => {
-                let (key, value) = self.two_slots(names)?;
-                Ok(Loop::ForEach(key, value))
-            }
-            CallForm::Filter => {
-                let (key, value) = self.two_slots(names)?;
-                Ok(Loop::Filter(key, value))
-            }
-            CallForm::MapValues => {
-                let value = self.one_slot(names)?;
-                Ok(Loop::MapValues(value))
-            }
-            CallForm::MapKeys => {
-                let key = self.one_slot(names)?;
-                Ok(Loop::MapKeys(key))
-            }
-            CallForm::Del => unreachable!(),
-            CallForm::Exists => unreachable!(),
-        }
-    }
-
-    // The variables of two names. `Memory`: want of memory.
-    fn two_slots(&mut self, names: &[Chars]) -> Result<(Option<usize>, Option<usize>), Memory>
-        requires { length names.now ≡ 2 }
-        ensures { IfOk result (λ slots. Numbers self.old self.new (λ variables. AreSlotsOf variables names.now (slots.0 ∷ slots.1 ∷ []))) }
-    {
-        let first = self.slot(names[0].as_str())?;
-        let second = self.slot(names[1].as_str())?;
-        Ok((first, second))
-    }
-
-    // The variable of one name. `Memory`: want of memory.
-    fn one_slot(&mut self, names: &[Chars]) -> Result<Option<usize>, Memory>
-        requires { length names.now ≡ 1 }
-        ensures { IfOk result (λ slot. Numbers self.old self.new (λ variables. AreSlotsOf variables names.now (slot ∷ []))) }
-    {
-        self.slot(names[0].as_str())
-    }
-
-    // The variable of a closure's name; none of `_`. `Memory`: want of memory.
-    fn slot(&mut self, name: &str) -> Result<Option<usize>, Memory>
-        ensures { IfOk result (λ slot. Numbers self.old self.new (λ variables. IsSlotOf variables name.now slot)) }
-    {
-        if name == "_" {
-            return Ok(None);
-        }
-        let number = self.number(name)?;
-        Ok(Some(number))
-    }
-
-    // What a call calls that runs no closure. `Memory`: want of memory.
-    fn callee(&mut self, call: &SyntaxCall) -> Result<Callee, Memory>
-        requires { (names : VariableNames) → IsBeginning (names_in self.old) names → IsLoopIn names (call_of call.now) None }
-        ensures { IfOk result (λ callee. Numbers self.old self.new (λ names. IsCalleeIn names (call_of call.now) callee)) }
-    {
-        if call.closure.is_some() {
-            return Ok(Callee::Nothing);
-        }
-        let name = call.name.as_str();
-        match CallForm::named(name) {
-            Some(CallForm::Del) => self.deletion(&call.args),
-            Some(CallForm::Exists) => self.existence(&call.args),
-            _ => function_callee(self.alloc, name, &call.args),
-        }
-    }
-
-    // What `del` deletes. `Memory`: want of memory.
-    fn deletion(&mut self, args: &Args) -> Result<Callee, Memory>
-        ensures { IfOk result (λ callee. Numbers self.old self.new (λ names. IsPathCallee names called.deletion (args_of args.now) callee)) }
-    {
-        match path_of(args) {
-            Some((root, path)) => {
-                let path = path.copy(self.alloc)?;
-                Ok(Callee::Deletion(self.place(root, path)?))
-            }
-            None => Ok(Callee::Nothing),
-        }
-    }
-
-    // What `exists` looks at. `Memory`: want of memory.
-    fn existence(&mut self, args: &Args) -> Result<Callee, Memory>
-        ensures { IfOk result (λ callee. Numbers self.old self.new (λ names. IsPathCallee names called.existence (args_of args.now) callee)) }
-    {
-        match path_of(args) {
-            Some((root, path)) => {
-                let path = path.copy(self.alloc)?;
-                Ok(Callee::Existence(self.place(root, path)?))
-            }
-            None => Ok(Callee::Nothing),
-        }
     }
 }

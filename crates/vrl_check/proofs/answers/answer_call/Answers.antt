@@ -8,7 +8,7 @@ use Rattle.vrl_check.proofs.CallsFound.{call_seen}
 use Rattle.vrl_check.proofs.CallsJudged.{deleted_keeps, deletion_judged, existence_judged, function_judged}
 use Rattle.vrl_judge.proofs.Results.{by_both}
 use Rattle.vrl_check.specs.declared.calls.Callee.TheVariants as callee
-use Rattle.vrl_check.proofs.calls.answer_call.Goals as goal
+use Rattle.vrl_check.proofs.answers.answer_call.Goals as goal
 
 pub answered-requires-clause-asked : goal.answered-requires-clause-asked
 answered-requires-clause-asked c =

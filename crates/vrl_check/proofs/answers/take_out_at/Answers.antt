@@ -1,7 +1,7 @@
 use Rattle.std.proofs.Common.{length, sym, ◌∙◌}
 use Rattle.std.proofs.lemmas.Bool.{eqb-false}
 use Rattle.vrl_check.proofs.CallsDeleted.{more_deleted}
-use Rattle.vrl_check.proofs.calls.take_out_at.Goals as goal
+use Rattle.vrl_check.proofs.answers.take_out_at.Goals as goal
 
 pub returns-then-not-is_empty-clause-known : goal.returns-then-not-is_empty-clause-known
 returns-then-not-is_empty-clause-known c js at =

@@ -3,7 +3,7 @@ use Rattle.vrl_builtin.specs.View.{parameter_row}
 use Rattle.vrl_judge.specs.Rules.{argument_at}
 use Rattle.vrl_check.specs.Judgement.{bound, AreAskedAbout}
 use Rattle.vrl_check.proofs.CallsGiven.{given_end, given_end_early, given_next}
-use Rattle.vrl_check.proofs.calls.givens_of.Goals as goal
+use Rattle.vrl_check.proofs.answers.givens_of.Goals as goal
 
 pub returns-in_default-split_first-clause-given : goal.returns-in_default-split_first-clause-given
 returns-in_default-split_first-clause-given c js told =
