@@ -1,4 +1,4 @@
-ghost use Rattle.std.specs.Prelude.{◌≡◌, ◌++◌, ◌≤◌, [], IfOk, OnErr, length};
+ghost use Rattle.std.specs.Prelude.{◌≡◌, ◌++◌, ◌≤◌, ◌⊎◌, [], IfOk, OnErr, length};
 ghost use Rattle.vrl_generate.specs.Made.{made_lines, IsNext};
 
 use crate::made::{line_from, state_after};
@@ -77,6 +77,7 @@ impl Generator {
     pub fn next_batch(&mut self, alloc: Global) -> Result<Batch, Memory>
         ensures next { IfOk result (λ batch. self.old ≡ batch ++ self.new) }
         ensures empty { IfOk result (λ batch. batch ≡ [] → self.old ≡ []) }
+        ensures size { IfOk result (λ batch. (length batch ≡ 256) ⊎ (self.new ≡ [])) }
     {
         let mut lines = Vec::with_capacity(alloc, BATCH_LINES)?;
         while lines.len() < BATCH_LINES {
