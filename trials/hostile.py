@@ -210,9 +210,10 @@ def joined_kinds(size, depth):
 
 
 def large_joins():
-    """Titles and kind files of more nodes than there may be, which a join of all their parts would have."""
-    for size, depth in ((100, 2), (1000, 2), (2000, 2), (100, 3), (1200, 3), (500, 8)):
-        yield f"a join of {depth} kinds of {size} fields below rests", joined_kinds(size, depth)
+    """Titles and kind files of more nodes than there may be, which a join of all their parts would have, with the report and the status wanted. A join whose nodes don't go into memory
+    wants memory, before it is told that they are too many."""
+    for size, depth, report, status in ((100, 2, BAD_KIND, 6), (1000, 2, BAD_KIND, 6), (2000, 2, BAD_KIND, 6), (100, 3, BAD_KIND, 6), (1200, 3, b"", 5), (500, 8, b"", 5)):
+        yield f"a join of {depth} kinds of {size} fields below rests", joined_kinds(size, depth), report, status
 
 
 # Titles, commands, and the status, output and report wanted, None where any will do. `$P` is the program, `one` a script `.x = 1`, `bad` one that is refused.
@@ -289,12 +290,24 @@ def big():
     yield "200 MB of refused lines", f"yes '[{line}' | head -c 200000027 >big; \"$P\" one <big 2>big.report; echo \"status $?\"; wc -l <big.report; rm -f big big.*", 0, None, b""
 
 
+PRODUCT = "makes the product of the parts, until it wants memory"
+LINES = "reads and writes some million lines"
 # What may take longer than two processor seconds, with those that it may take and the reason.
-DEAR = {}
+DEAR = {
+    "a join of 3 kinds of 1200 fields below rests": (20, PRODUCT),
+    "a join of 8 kinds of 500 fields below rests": (20, PRODUCT),
+    "60 MB of memory, 20 MB of lines": (10, LINES),
+    "values that double 60 times, 1 GB of memory": (10, "fills a gigabyte with small values"),
+    "200 MB of lines": (30, LINES),
+    "200 MB of refused lines": (30, LINES),
+}
 
 
-def wanted_of(script, data, start=kinds.EVENT):
+def wanted_of(script, data, file):
     """Output, report and status by the outside reading."""
+    start = kinds.EVENT if file is None else kinds.kind_file(file)
+    if isinstance(start, str):
+        return b"", programs.joined([start]), 6
     found = judgement.Verdict(script, start)
     if not found.accepted:
         return b"", programs.joined(found.diagnostics), 1
@@ -318,20 +331,19 @@ def main():
     with programs.Program(given.program) as program:
         program.write("one", b".x = 1")
         program.write("bad", b"q")
-        every = [(title, None, script, data) for title, script, data in scripts()]
-        every += [(title, None, ".x = 1", data) for title, data in lines()]
-        every += [(title, file, script, data) for title, file, script, data in kind_files()]
-        every += [(title, file, ".x = 1", None) for title, file in large_joins()]
-        for title, file, script, data in every:
+        every = [(title, None, script, data, None) for title, script, data in scripts()]
+        every += [(title, None, ".x = 1", data, None) for title, data in lines()]
+        every += [(title, file, script, data, None) for title, file, script, data in kind_files()]
+        every += [(title, file, ".x = 1", b"", (b"", report, status)) for title, file, report, status in large_joins()]
+        for title, file, script, data, wanted in every:
             if given.only not in title:
                 continue
-            script, start, more = script.encode("utf-8", "surrogateescape"), kinds.EVENT, []
+            script, more = script.encode("utf-8", "surrogateescape"), []
             if file is not None:
                 file = file.encode("utf-8", "surrogateescape")
                 more = ["--kind", program.write("kind.json", file)]
-                start = kinds.kind_file(file) if data is not None else BAD_KIND.decode().rstrip("\n")
-            told = program.run(script, data or b"", more, programs.LIMITS)
-            uses.tell(title, program.seconds, told, (b"", programs.joined([start]), 6) if isinstance(start, str) else wanted_of(script, data, start))
+            told = program.run(script, data, more, programs.LIMITS)
+            uses.tell(title, program.seconds, told, wanted or wanted_of(script, data, file))
         for title, command, status, output, report in [*devices(), *disks(), *(big() if given.big else [])]:
             if given.only in title:
                 before = spent()

@@ -10,7 +10,6 @@ import argparse
 import base64
 import hashlib
 import json
-import resource
 import sys
 
 sys.dont_write_bytecode = True
@@ -221,11 +220,33 @@ def loops():
     yield "1,500 loops, one after another", "for_each(l) -> |k, v| { .d = v }\n" * 1500 + ".r = 1", small, 1
 
 
-# What is set for a use that wants more memory than there is.
-LITTLE = (programs.LIMITS[0], (resource.RLIMIT_AS, 1 << 30))
 # What may take longer than two processor seconds, with those that it may take and the reason.
 FILLS = "fills a gigabyte with small values"
-DEAR = {title: (20, FILLS) for title in ("an array that doubles", "an array of itself", "quotes in quotes", "flatten of an object by much", "a loop that doubles an array")}
+COMPARES = "compares, at each place of the text, nearly all of what is looked for"
+WALKS = "reads, copies or compares some 500 million parts"
+PLACES = "makes 65,536 places at each write"
+BUILDS = "builds regexes that take megabytes"
+DEAR = {
+    **{title: (20, FILLS) for title in ("an array that doubles", "an array of itself", "quotes in quotes", "flatten of an object by much", "a loop that doubles an array")},
+    "contains, a text that almost stands there, in any case": (600, COMPARES),
+    "parse_key_value, a delimiter that almost stands there": (20, COMPARES),
+    "the greatest place, 3,000 times": (40, FILLS),
+    "the greatest place in an array, 3,000 times": (40, FILLS),
+    "the greatest place, written 3,000 times": (40, PLACES),
+    "the greatest place of a variable, written 1,000 times": (20, PLACES),
+    "1,000 copies of an event of 1 MB": (20, WALKS),
+    "1,000 comparisons of an event of 1 MB": (20, WALKS),
+    "20 joins of kinds whose product is a million parts": (20, "joins kinds of a million parts"),
+    "2,000 variables of a large kind, and 2,000 choices": (900, "holds 2,000 kinds of 990 parts each against what they were, behind each of 2,000 choices"),
+    "256 regexes: letters, repeated twice": (30, BUILDS),
+    "1 regexes: many stars": (10, BUILDS),
+}
+
+
+def limits_of(title, wanted):
+    """What is set for a use: less memory where it wants more than there is, and as many seconds as it may take."""
+    cpu, memory = programs.LIMITS
+    return (cpu[0], max(cpu[1], DEAR.get(title, (0, ""))[0])), (memory[0], 1 << 30) if wanted[2] == 5 else memory
 
 
 def case(title, body, event, wanted, whole=False):
@@ -254,7 +275,7 @@ def main():
                 if "regexes:" in title:
                     # What the crate takes is told by other trials; here it is refused, wants memory or runs.
                     wanted = None, None, (0, 1, 5)
-                told = program.run(script, line, (), LITTLE if wanted[2] == 5 else programs.LIMITS)
+                told = program.run(script, line, (), limits_of(title, wanted))
                 uses.tell(title, program.seconds, told, wanted)
     print(f"long values: {uses.tried} uses, {uses.differences} differences")
     return 1 if uses.differences else 0

@@ -22,7 +22,6 @@ import grammar
 import hostile
 import json_lines
 import judgement
-import kinds
 import programs
 import some_calls
 
@@ -224,8 +223,7 @@ def read_in_time(script, file, data):
     signal.signal(signal.SIGALRM, late)
     signal.setitimer(signal.ITIMER_REAL, READING)
     try:
-        start = kinds.EVENT if file is None else kinds.kind_file(file)
-        return (b"", programs.joined([start]), 6) if isinstance(start, str) else hostile.wanted_of(script, data, start)
+        return hostile.wanted_of(script, data, file)
     except Late:
         return None
     finally:
