@@ -49,6 +49,7 @@ def texts():
     yield "starts_with", "starts_with(t, n, case_sensitive: false)", {"t": HALF, "n": HALF.upper()}, True
     yield "contains, a text that almost stands there", "contains(t, n)", {"t": HALF, "n": HALF[:LONG // 4] + "b"}, False
     yield "contains, a text that almost stands there, in any case", "contains(t, n, case_sensitive: false)", {"t": HALF, "n": HALF[:LONG // 4] + "b"}, False
+    yield "contains, a text that almost stands there and then does, in any case", "contains(t, n, case_sensitive: false)", {"t": HALF + "B", "n": HALF[:LONG // 4].upper() + "b"}, True
     yield "find, a text that almost stands there", "find(t, n)", {"t": HALF, "n": HALF[:LONG // 4] + "b"}, None
     yield "find, a text that almost stands there, the other way round", "find(t, n)", {"t": HALF, "n": "b" + HALF[:LONG // 4]}, None
     yield "split, a text that almost stands there", "length(split(t, n))", {"t": HALF, "n": HALF[:LONG // 4] + "b"}, 1
@@ -228,7 +229,6 @@ PLACES = "makes 65,536 places at each write"
 BUILDS = "builds regexes that take megabytes"
 DEAR = {
     **{title: (20, FILLS) for title in ("an array that doubles", "an array of itself", "quotes in quotes", "flatten of an object by much", "a loop that doubles an array")},
-    "contains, a text that almost stands there, in any case": (600, COMPARES),
     "parse_key_value, a delimiter that almost stands there": (20, COMPARES),
     "the greatest place, 3,000 times": (40, FILLS),
     "the greatest place in an array, 3,000 times": (40, FILLS),

@@ -106,7 +106,3 @@ rest_is n text = grind (arith, common_steps, length-drop n text)
 pub end_in_any_case : (part text : List ℕ) →
     let n = length text - length part in bytes_eq (lower (take (length text - n) (drop n text))) (lower part) ≡ ends_with (lower part) (lower text)
 end_in_any_case part text = ends_in_any_case part text _ (rest_is (length text - length part) text)
-
-pub contains_first : (part text : List ℕ) → starts_with part text ≡ true → true ≡ contains part text
-contains_first part [] is = sym is
-contains_first part (c ∷ text) is = sym (or_first (starts_with part (c ∷ text)) (contains part text) is)

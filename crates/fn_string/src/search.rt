@@ -1,4 +1,4 @@
-ghost use Rattle.std.specs.Prelude.{◌≡◌, ℕ, Bool, List, bytes_eq, codes};
+ghost use Rattle.std.specs.Prelude.{◌≡◌, ℕ, Bool, List, bytes_eq, codes, IfOk, Ok};
 ghost use Rattle.fn_string.specs.Case.{in_lower_case};
 ghost use Rattle.fn_string.specs.Search.{compared, contains, ends_with, search_row, starts_with};
 ghost use Rattle.fn_string.specs.Laws.{search-law};
@@ -7,7 +7,7 @@ use std::alloc::Global;
 use vrl_builtin::{
     Applied, Arguments, Givens, OneTag, Parameter, Setting, Tags, optional, required,
 };
-use vrl_value::{Tag, Value};
+use vrl_value::{Memory, Tag, Value};
 
 /// A function that is told by its name and where it looks for a text in another.
 pub trait SearchTest {
@@ -22,9 +22,9 @@ pub trait SearchTest {
     fn holds(&self, part: &str, text: &str) -> bool
         ensures { result ≡ search.1 part.now text.now };
 
-    /// The same where the case of ASCII letters makes no difference. It copies nothing.
-    fn holds_in_any_case(&self, part: &str, text: &str) -> bool
-        ensures { result ≡ search.1 (in_lower_case part.now) (in_lower_case text.now) };
+    /// The same where the case of ASCII letters makes no difference. `Memory`: want of memory.
+    fn holds_in_any_case(&self, alloc: Global, part: &str, text: &str) -> Result<bool, Memory>
+        ensures { IfOk result (λ holds. holds ≡ search.1 (in_lower_case part.now) (in_lower_case text.now)) };
 }
 
 /// The function that looks for a text in another. It never fails.
@@ -37,14 +37,20 @@ static PARAMETERS: [Parameter; 3] = [
     optional!("case_sensitive", Tags::BOOLEAN),
 ];
 
-// Whether the part stands in the text, where case makes a difference or none.
-fn is_found<F: SearchTest>(function: &F, part: &str, text: &str, sensitive: bool) -> bool
-    ensures { result ≡ F.search.1 (compared sensitive part.now) (compared sensitive text.now) }
+// Whether the part stands in the text, where case makes a difference or none. `Memory`: want of memory.
+fn is_found<F: SearchTest>(
+    alloc: Global,
+    function: &F,
+    part: &str,
+    text: &str,
+    sensitive: bool,
+) -> Result<bool, Memory>
+    ensures { IfOk result (λ found. found ≡ F.search.1 (compared sensitive part.now) (compared sensitive text.now)) }
 {
     if sensitive {
-        function.holds(part, text)
+        Ok(function.holds(part, text))
     } else {
-        function.holds_in_any_case(part, text)
+        function.holds_in_any_case(alloc, part, text)
     }
 }
 
@@ -67,10 +73,13 @@ impl<F: SearchTest> OneTag for Search<F> {
         false
     }
 
-    fn apply(&self, _alloc: Global, arguments: &Arguments<'_>, _setting: &Setting<'_>) -> Applied {
+    fn apply(&self, alloc: Global, arguments: &Arguments<'_>, _setting: &Setting<'_>) -> Applied {
         let (text, part) = (arguments.text(0, ""), arguments.text(1, ""));
         let sensitive = arguments.boolean(2, true);
-        Applied::Value(Value::Bool(is_found(&self.0, part, text, sensitive)))
+        match is_found(alloc, &self.0, part, text, sensitive) {
+            Ok(found) => Applied::Value(Value::Bool(found)),
+            Err(_memory) => Applied::Memory,
+        }
     }
 
     ghost one_tag = { λ _. search-law F.search.0 F.search.1 };
@@ -99,8 +108,10 @@ impl SearchTest for StartsWith {
         text.starts_with(part)
     }
 
-    fn holds_in_any_case(&self, part: &str, text: &str) -> bool {
-        begins_in_any_case(part.as_bytes(), text.as_bytes())
+    fn holds_in_any_case(&self, _alloc: Global, part: &str, text: &str) -> Result<bool, Memory>
+        ensures { result ≡ Ok (starts_with (in_lower_case part.now) (in_lower_case text.now)) }
+    {
+        Ok(begins_in_any_case(part.as_bytes(), text.as_bytes()))
     }
 }
 
@@ -130,8 +141,10 @@ impl SearchTest for EndsWith {
         text.ends_with(part)
     }
 
-    fn holds_in_any_case(&self, part: &str, text: &str) -> bool {
-        ends_in_any_case(part.as_bytes(), text.as_bytes())
+    fn holds_in_any_case(&self, _alloc: Global, part: &str, text: &str) -> Result<bool, Memory>
+        ensures { result ≡ Ok (ends_with (in_lower_case part.now) (in_lower_case text.now)) }
+    {
+        Ok(ends_in_any_case(part.as_bytes(), text.as_bytes()))
     }
 }
 
@@ -161,22 +174,10 @@ impl SearchTest for Contains {
         text.contains(part)
     }
 
-    fn holds_in_any_case(&self, part: &str, text: &str) -> bool {
-        contains_in_any_case(part.as_bytes(), text.as_bytes())
+    // It looks in a copy of the text, since std has no search that takes letters of either case for one.
+    fn holds_in_any_case(&self, alloc: Global, part: &str, text: &str) -> Result<bool, Memory> {
+        let lower_part = part.to_ascii_lowercase(alloc)?;
+        let lower_text = text.to_ascii_lowercase(alloc)?;
+        Ok(self.holds(lower_part.as_str(), lower_text.as_str()))
     }
-}
-
-// Whether the part stands anywhere in the text, whatever the case of ASCII letters. It looks at each place of the text, and there at no more bytes
-// than the part has.
-fn contains_in_any_case(part: &[u8], text: &[u8]) -> bool
-    ensures { result ≡ contains (in_lower_case part.now) (in_lower_case text.now) }
-{
-    let mut left = text;
-    while !begins_in_any_case(part, left) {
-        match left.split_first() {
-            Some((_first, others)) => left = others,
-            None => return false,
-        }
-    }
-    true
 }
