@@ -63,14 +63,17 @@ fn expect_reads(
 fn write(alloc: Global, words: &str, path: &Path, new: &str) -> Result<Kind, Memory>
     requires { IsWritable path.now }
 {
-    let kind = kind_of_words(alloc, words)?;
-    write_kind(alloc, &kind, path, &kind_of_words(alloc, new)?)
+    let mut kind = kind_of_words(alloc, words)?;
+    write_kind(alloc, &mut kind, path, kind_of_words(alloc, new)?)?;
+    Ok(kind)
 }
 
 fn remove(alloc: Global, words: &str, path: &Path) -> Result<Kind, Memory>
     requires { IsPlain path.now }
 {
-    remove_kind(alloc, &kind_of_words(alloc, words)?, path)
+    let mut kind = kind_of_words(alloc, words)?;
+    remove_kind(alloc, &mut kind, path)?;
+    Ok(kind)
 }
 
 // The kind of words after the kind of new words is written at a path of it, or, if there are none, after
@@ -133,10 +136,18 @@ fn expect_removals(
     Ok(())
 }
 
-const READS: [(&str, &str, Option<i64>, &str); 19] = [
+const READS: [(&str, &str, Option<i64>, &str); 25] = [
     ("{\"a\":\"s\"}|{}", "a", None, "string|null"),
     ("{\"a\":\"s\"}", "a", None, "string"),
     ("{\"a\":\"s\"}", "b", None, "null"),
+    // The first, the middle and the last field, and names between and around them.
+    ("{\"a\":1,\"b\":\"s\",\"c\":true}", "a", None, "integer"),
+    ("{\"a\":1,\"b\":\"s\",\"c\":true}", "b", None, "string"),
+    ("{\"a\":1,\"b\":\"s\",\"c\":true}", "c", None, "boolean"),
+    ("{\"b\":1,\"d\":\"s\"}", "c", None, "null"),
+    // A name that is a front of another.
+    ("{\"ab\":1,\"b\":\"s\"}", "a", None, "null"),
+    ("{\"a\":1,\"abc\":\"s\"}", "abc", None, "string"),
     ("{\"a\":\"s\"}|1", "a", None, "string|null"),
     ("integer", "a", None, "null"),
     ("never", "a", None, "never"),
@@ -166,7 +177,7 @@ fn kinds_are_read_at_paths(rt: HostRuntime) -> Result<(), Memory> {
     expect_reads(&rt, rt.alloc(), &READS)
 }
 
-const WRITES: [(&str, &str, Option<u16>, &str, &str); 13] = [
+const WRITES: [(&str, &str, Option<u16>, &str, &str); 25] = [
     (
         "{..json}",
         "a",
@@ -189,6 +200,65 @@ const WRITES: [(&str, &str, Option<u16>, &str, &str); 13] = [
         None,
         "string",
         "{\"a\": string, \"b\"?: integer}",
+    ),
+    // A name before all, between two and behind all.
+    (
+        "{\"b\":1,\"d\":1}",
+        "a",
+        None,
+        "string",
+        "{\"a\": string, \"b\": integer, \"d\": integer}",
+    ),
+    (
+        "{\"b\":1,\"d\":1}",
+        "c",
+        None,
+        "string",
+        "{\"b\": integer, \"c\": string, \"d\": integer}",
+    ),
+    (
+        "{\"b\":1,\"d\":1}",
+        "e",
+        None,
+        "string",
+        "{\"b\": integer, \"d\": integer, \"e\": string}",
+    ),
+    // The first, the middle and the last field.
+    (
+        "{\"a\":1,\"b\":1,\"c\":1}",
+        "a",
+        None,
+        "string",
+        "{\"a\": string, \"b\": integer, \"c\": integer}",
+    ),
+    (
+        "{\"a\":1,\"b\":1,\"c\":1}",
+        "b",
+        None,
+        "string",
+        "{\"a\": integer, \"b\": string, \"c\": integer}",
+    ),
+    (
+        "{\"a\":1,\"b\":1,\"c\":1}",
+        "c",
+        None,
+        "string",
+        "{\"a\": integer, \"b\": integer, \"c\": string}",
+    ),
+    // A name that is a front of another, and one that another is a front of.
+    (
+        "{\"ab\":1,\"b\":1}",
+        "a",
+        None,
+        "string",
+        "{\"a\": string, \"ab\": integer, \"b\": integer}",
+    ),
+    (
+        "{\"a\":1,\"b\":1}",
+        "ab",
+        None,
+        "string",
+        "{\"a\": integer, \"ab\": string, \"b\": integer}",
     ),
     ("[\"s\",1]", "", Some(1), "[]", "[string, []]"),
     ("[\"s\",1]", "", Some(0), "[]", "[[], integer]"),
@@ -216,6 +286,35 @@ const WRITES: [(&str, &str, Option<u16>, &str, &str); 13] = [
     ),
     ("any", "a", None, "integer", "{\"a\": integer, ..any}"),
     ("{\"a\":1}", "", None, "string", "string"),
+    // Among fields that are known.
+    (
+        "{\"a\":1,\"c\":1}",
+        "b",
+        None,
+        "string",
+        "{\"a\": integer, \"b\": string, \"c\": integer}",
+    ),
+    (
+        "{\"a\":1}",
+        "b",
+        None,
+        "string",
+        "{\"a\": integer, \"b\": string}",
+    ),
+    (
+        "{\"a\":[1],\"b\":1}",
+        "a",
+        Some(0),
+        "string",
+        "{\"a\": [string], \"b\": integer}",
+    ),
+    (
+        "{\"a\":[1],\"b\":1}",
+        "b",
+        Some(0),
+        "string",
+        "{\"a\": [integer], \"b\": [string]}",
+    ),
 ];
 
 #[test]
@@ -223,7 +322,7 @@ fn kinds_are_written_at_paths(rt: HostRuntime) -> Result<(), Memory> {
     expect_writes(&rt, rt.alloc(), &WRITES)
 }
 
-const REMOVALS: [(&str, &str, Option<u16>, &str, bool); 14] = [
+const REMOVALS: [(&str, &str, Option<u16>, &str, bool); 19] = [
     ("[\"s\",1]", "", Some(0), "[integer]", false),
     ("[\"s\",1,[]]", "", Some(1), "[string, []]", false),
     ("[\"s\",1]", "", Some(2), "[string, integer]", true),
@@ -239,6 +338,16 @@ const REMOVALS: [(&str, &str, Option<u16>, &str, bool); 14] = [
     ("[1]|1", "", Some(0), "integer|[]", true),
     ("[..integer]", "", Some(0), "[..integer]", true),
     ("{\"a\":1,\"b\":1}", "a", None, "{\"b\": integer}", false),
+    (
+        "{\"a\":1,\"b\":1,\"c\":1}",
+        "b",
+        None,
+        "{\"a\": integer, \"c\": integer}",
+        false,
+    ),
+    ("{\"a\":1,\"b\":1}", "b", None, "{\"a\": integer}", false),
+    // A name that is a front of another.
+    ("{\"a\":1,\"ab\":1}", "a", None, "{\"ab\": integer}", false),
     (
         "json",
         "a",
@@ -256,6 +365,21 @@ const REMOVALS: [(&str, &str, Option<u16>, &str, bool); 14] = [
     ("{\"a\":1}", "a", Some(0), "{\"a\": integer}", true),
     ("{\"a\":1}|[]", "b", None, "[]|{\"a\": integer}", true),
     ("integer", "", None, "integer", false),
+    // Among fields that are known.
+    (
+        "{\"a\":[1,\"s\"],\"b\":1}",
+        "a",
+        Some(0),
+        "{\"a\": [string], \"b\": integer}",
+        false,
+    ),
+    (
+        "{a absent, ..json}",
+        "b",
+        None,
+        "{\"a\"?: never, \"b\"?: never, ..json}",
+        true,
+    ),
 ];
 
 #[test]

@@ -7,6 +7,7 @@ use crate::kinds::kind_of_word;
 use crate::places::path_to;
 use std::alloc::Global;
 use std::process::Abort;
+use std::rc::Rc;
 use vrl_kind::{Kind, has, print};
 use vrl_path::Path;
 use vrl_state::{Branch, Known, RootKind, State};
@@ -59,7 +60,8 @@ fn assign_at(
     requires { IsPresent kind.now }
     ensures { state.new.scopes ≡ state.old.scopes }
 {
-    state.assign(root, &steps_of(alloc, path)?, kind)
+    let shared = Rc::new(alloc, kind.copy(alloc)?)?;
+    state.assign(root, &steps_of(alloc, path)?, &shared)
 }
 
 fn assign_kind(alloc: Global, state: &mut State, path: &str, kind: &Kind) -> Result<(), Memory>

@@ -29,7 +29,7 @@ impl Checker<'_> {
     {
         match target {
             Target::Nowhere => Ok(()),
-            Target::Place(_, root, path) => self.state.assign(root, path, kind.as_kind()),
+            Target::Place(_, root, path) => self.state.assign(root, path, kind.as_shared()),
         }
     }
 

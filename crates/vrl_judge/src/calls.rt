@@ -67,7 +67,8 @@ impl Checker<'_> {
         let left = empty_value(self.alloc, left_tag(root));
         let kind = kind_of(self.alloc, &left)?;
         kind_is_canonical(&kind);
-        self.state.assign(root, path, &kind)
+        let shared = SharedKind::new(self.alloc, kind)?;
+        self.state.assign(root, path, shared.as_shared())
     }
 
     /// A call, behind all but its `!`, which leaves no error; of a call that can't end with one it is 620. `Memory`: want of memory.

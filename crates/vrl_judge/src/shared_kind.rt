@@ -62,6 +62,13 @@ impl SharedKind {
         &self.kind
     }
 
+    /// The kind, as it is shared.
+    pub fn as_shared(&self) -> &Rc<Kind>
+        ensures { result.now.value ≡ self.now }
+    {
+        &self.kind
+    }
+
     /// The kind alone; it is copied where others share it. `Memory`: want of memory.
     pub fn into_kind(self, alloc: Global) -> Result<Kind, Memory>
         ensures { IfOk result (λ kind. kind ≡ self) }

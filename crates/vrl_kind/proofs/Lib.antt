@@ -13,6 +13,7 @@ pub mod Namewise
 pub mod Naming
 pub mod OneKind
 pub mod Overlays
+pub mod Placing
 pub mod Sameness
 pub mod Shapes
 pub mod Sizes

@@ -1,6 +1,6 @@
 -- Known places and fields put together in the one form.
 use Rattle.std.proofs.Common.{◌≡◌, ◌≢◌, ℕ, zero, suc, ◌<◌, List, [], ◌∷◌, ◌++◌, length, take, get_or, refl, sym, ap, ◌∙◌, subst, arith}
-use Rattle.vrl_kind.specs.KindTree.{KindTree, kind, Places, known_field}
+use Rattle.vrl_kind.specs.KindTree.{KindTree, Places, known_field}
 use Rattle.vrl_kind.specs.Canonical.{place_or, LastIsNot, IsCanonical, PlacesAreCanonical}
 use Rattle.vrl_kind.specs.Make.{IsShortened, add_field}
 use Rattle.vrl_kind.specs.View.{places_view, fields_view}

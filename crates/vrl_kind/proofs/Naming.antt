@@ -27,7 +27,7 @@ abbrev pub Entry : Type 0
 Entry = String Global × KindTree
 
 -- what is said behind a field says the same behind another
-behind_field : (o : Ordering) (j k l : KindTree) → k ≡ l → match_ordering o k j k ≡ match_ordering o l j l
+pub behind_field : (o : Ordering) (j k l : KindTree) → k ≡ l → match_ordering o k j k ≡ match_ordering o l j l
 behind_field o j k l e = ap (λ v. match_ordering o v j v) e
 
 -- ---- putting in
@@ -36,13 +36,13 @@ entries_match Less a b c K n = refl
 entries_match Equal a b c K n = refl
 entries_match Greater a b c K n = refl
 
-twice : (o : Ordering) (f v w : KindTree) → match_ordering o f v f ≡ match_ordering o (match_ordering o f w f) v (match_ordering o f w f)
+pub twice : (o : Ordering) (f v w : KindTree) → match_ordering o f v f ≡ match_ordering o (match_ordering o f w f) v (match_ordering o f w f)
 twice Less f v w = refl
 twice Equal f v w = refl
 twice Greater f v w = refl
 
 -- two fields of different names can change places
-swapped : (a b : Ordering) (f v w : KindTree) → (a ≡ Equal → b ≡ Equal → ⊥) → match_ordering a (match_ordering b f v f) w (match_ordering b f v f) ≡ match_ordering b (match_ordering a f w f) v (match_ordering a f w f)
+pub swapped : (a b : Ordering) (f v w : KindTree) → (a ≡ Equal → b ≡ Equal → ⊥) → match_ordering a (match_ordering b f v f) w (match_ordering b f v f) ≡ match_ordering b (match_ordering a f w f) v (match_ordering a f w f)
 swapped Less Less f v w apart = refl
 swapped Less Equal f v w apart = refl
 swapped Less Greater f v w apart = refl
@@ -53,7 +53,7 @@ swapped Greater Less f v w apart = refl
 swapped Greater Equal f v w apart = refl
 swapped Greater Greater f v w apart = refl
 
-not_both : (n m q : List ℕ) → slice_cmp nat_cmp m q ≡ Greater → slice_cmp nat_cmp n q ≡ Equal → slice_cmp nat_cmp n m ≡ Equal → ⊥
+pub not_both : (n m q : List ℕ) → slice_cmp nat_cmp m q ≡ Greater → slice_cmp nat_cmp n q ≡ Equal → slice_cmp nat_cmp n m ≡ Equal → ⊥
 not_both n m q above first second =
     let same : m ≡ q = sym (one_name n m second) ∙ one_name n q first in
     let tied : slice_cmp nat_cmp q q ≡ Equal = tied_itself nat_list_cmp_total q in

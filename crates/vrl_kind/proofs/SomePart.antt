@@ -1,11 +1,10 @@
 -- What the parts of a kind allow, as its tree says it, is what stands behind some step.
 use Rattle.std.proofs.Common.{◌≡◌, inl, inr, ◌+◌, ℕ, zero, suc, Bool, true, false, ◌||◌, not, List, [], ◌∷◌, Option, Some, None, IsTrue, IfSome, refl, sym, ap, ◌∙◌, subst, length, arith}
 use Rattle.std.specs.List.{list_any}
-use Rattle.vrl_value.specs.Look.{Step, field, place, Found, there, raw_at, tag_found, found_behind}
+use Rattle.vrl_value.specs.Look.{Step, field, place, Found, raw_at, tag_found, found_behind}
 use Rattle.vrl_value.specs.Tag.{tag_of}
 use Rattle.vrl_value.specs.Tree.{Tree}
 use Rattle.vrl_value.specs.declared.value.Tag.{Tag}
-use Rattle.vrl_value.specs.declared.value.Tag.TheVariants as tag
 use Rattle.vrl_kind.specs.KindTree.{KindTree, kind, ListTree, no_list, list_part, ObjectTree, no_object, object_part, RestTree, Places, no_places, known_place, KnownFields, no_fields, known_field}
 use Rattle.vrl_kind.specs.declared.scalars.Scalars.{Scalars}
 use Rattle.vrl_kind.specs.Canonical.{rest_kind, field_or}

@@ -2,6 +2,7 @@ pub mod Canonical
 pub mod Change
 pub mod Count
 pub mod Cut
+pub mod Fields
 pub mod Inference
 pub mod KindCode
 pub mod KindFalls

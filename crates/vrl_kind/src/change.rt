@@ -1,12 +1,15 @@
 ghost use Rattle.std.specs.Prelude.{◌≡◌, IfOk, List};
 ghost use Rattle.vrl_value.specs.Look.{Step};
 ghost use Rattle.vrl_kind.specs.Change.{null_for_absent, with_list, with_object};
+ghost use Rattle.vrl_kind.specs.Cut.{flat, IsCut};
 ghost use Rattle.vrl_kind.specs.Kinds.{SameTags, or_absent, tags_at};
 ghost use Rattle.vrl_value.specs.declared.value.Tag.{Tag};
 ghost use Rattle.vrl_kind.specs.Make.{named_view};
 ghost use Rattle.vrl_kind.specs.View.{places_view, rest_of};
 
-use crate::kind::{Kind, ListPart, ObjectPart, Rest};
+use crate::count::{levels, nodes};
+use crate::kind::{Kind, ListPart, ObjectPart, Rest, any_list, any_object};
+use crate::limits::{LEVEL_LIMIT, NODE_LIMIT};
 use crate::make::{all_canonical, copy_list, copy_object, known_fields};
 use crate::scalars::Scalars;
 use crate::seen::Seen;
@@ -72,5 +75,28 @@ impl Kind {
             list,
             object: Some(ObjectPart::of(alloc, known, own)?),
         })
+    }
+
+    /// Cuts the kind in its place: one of at most `NODE_LIMIT` nodes and `LEVEL_LIMIT` levels stays as it is, and
+    /// each other keeps its outer tags alone, with every value inside. It takes no memory, and walks the kind
+    /// twice.
+    pub fn cut(&mut self, alloc: Global)
+        ensures { IsCut self.old self.new }
+    {
+        if nodes(self) > NODE_LIMIT || levels(self) > LEVEL_LIMIT {
+            self.flatten(alloc);
+        }
+    }
+
+    // The outer tags alone, with every value inside, in their place.
+    fn flatten(&mut self, alloc: Global)
+        ensures { self.new ≡ flat self.old }
+    {
+        let outer = Kind {
+            scalars: self.scalars,
+            list: any_list(alloc, self.list.is_some()),
+            object: any_object(alloc, self.object.is_some()),
+        };
+        *self = outer;
     }
 }

@@ -6,11 +6,12 @@
 //!
 //! Files: `kind.rt` has the types, `scalars.rt` the flags of a node, `seen.rt` what the walks see of a kind or of a rest, `merge.rt` the fields of two
 //! kinds side by side, and each call has a file: `make.rt`, `order.rt`, `joining.rt`, `overlay.rt`, `limits.rt` (cuts), `membership.rt`,
-//! `inference.rt`, `printing.rt`, `count.rt`, `same.rt` and `change.rt`. `laws.rt` has the laws.
+//! `inference.rt`, `printing.rt`, `count.rt`, `same.rt`, `change.rt` and `fields.rt` (one field changed in its place). `laws.rt` has the laws.
 #![tactic(auto)]
 
 mod change;
 mod count;
+mod fields;
 mod inference;
 mod joining;
 mod kind;
@@ -27,6 +28,7 @@ mod scalars;
 mod seen;
 
 pub use count::{levels, nodes};
+pub use fields::field_index;
 pub use inference::kind_of;
 pub use joining::{join, parts};
 pub use kind::{

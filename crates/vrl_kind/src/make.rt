@@ -290,7 +290,7 @@ fn is_before_last(name: &Chars, fields: &[(Chars, Kind)]) -> bool
     }
 }
 
-// The same of fields that come the last name first.
+// The known fields of those that come the last name first.
 fn known_falling(
     alloc: Global,
     mut fields: Vec<(Chars, Kind)>,
@@ -318,7 +318,7 @@ fn by_name(alloc: Global, fields: Vec<(Chars, Kind)>) -> Result<BTreeMap<String,
     Ok(named)
 }
 
-// The same of kinds by their names.
+// The known fields of kinds by their names.
 fn known_by_name(
     alloc: Global,
     named: BTreeMap<String, Kind>,

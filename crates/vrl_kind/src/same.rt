@@ -63,7 +63,7 @@ fn same_rests(a: &Rest, b: &Rest) -> bool
 }
 
 #[cycle(same)]
-fn same_places(a: &[Kind], b: &[Kind]) -> bool
+pub(crate) fn same_places(a: &[Kind], b: &[Kind]) -> bool
     ensures { IsTrue result ↔ (places_view a.now ≡ places_view b.now) }
 {
     if a.len() != b.len() {
@@ -78,7 +78,7 @@ fn same_places(a: &[Kind], b: &[Kind]) -> bool
 }
 
 #[cycle(same)]
-fn same_fields(a: &[KindField], b: &[KindField]) -> bool
+pub(crate) fn same_fields(a: &[KindField], b: &[KindField]) -> bool
     ensures { IsTrue result ↔ (fields_view a.now ≡ fields_view b.now) }
 {
     if a.len() != b.len() {

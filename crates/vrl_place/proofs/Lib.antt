@@ -1,4 +1,5 @@
 pub mod Changed
+pub mod InPlace
 pub mod Looked
 pub mod Orders
 pub mod Reading

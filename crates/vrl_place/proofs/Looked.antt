@@ -1,9 +1,14 @@
 -- Fields looked up by their names.
-use Rattle.std.proofs.Common.{◌≡◌, ◌≢◌, ℕ, zero, suc, Bool, true, false, List, [], ◌∷◌, ◌++◌, length, insert, Ordering, Less, Equal, Greater, refl, sym, ap, ◌∙◌, subst, arith}
+use Rattle.std.proofs.Common.{◌≡◌, ◌≢◌, ℕ, Bool, List, [], ◌∷◌, ◌++◌, Option, Some, None, length, Ordering, Less, Equal, Greater, refl, sym, ap, ◌∙◌, subst, arith}
+use Rattle.std.proofs.lemmas.Cmp.{nat_list_cmp_total, tied_itself}
 use Rattle.std.specs.Cmp.Lexicographic.{slice_cmp}
+use Rattle.std.specs.Option.{MatchOption}
 use Rattle.std.specs.Ordering.{nat_cmp, match_ordering}
+use denote.Ref.{Bor}
 use Rattle.vrl_value.specs.Look.{Step}
 use Rattle.vrl_value.specs.declared.value.Tag.{Tag}
+use Rattle.vrl_kind.specs.Canonical.{IsBeforeFields}
+use Rattle.vrl_kind.specs.Fields.{AreBefore}
 use Rattle.vrl_kind.specs.KindTree.{KindTree, KnownFields, no_fields, known_field}
 use Rattle.vrl_kind.specs.Kinds.{fields_at, tags_at}
 use Rattle.vrl_kind.specs.Make.{last_first, named_view}
@@ -11,10 +16,12 @@ use Rattle.vrl_kind.specs.Sets.{Sets, SameSets}
 use Rattle.vrl_kind.specs.Tags.{Tags}
 use Rattle.vrl_kind.specs.View.{fields_view}
 use Rattle.vrl_kind.specs.declared.kind.KindField.{KindField}
-use Rattle.vrl_place.specs.Inner.{AreApart, FieldsAre, OthersAre, fields_sets, spot_sets}
+use Rattle.vrl_kind.proofs.Ahead.{greater}
+use Rattle.vrl_place.specs.Inner.{ArePushed, FieldsAre, IsCutAt, fields_sets, opened_at, spot_sets}
 use Rattle.vrl_place.specs.Sets.{or_absent_if}
+use Rattle.vrl_place.specs.declared.fields.Cut.{Cut}
 use Rattle.vrl_place.specs.declared.fields.Fields.{Fields}
-use Rattle.vrl_place.proofs.Orders.{is_one, is_other, one_name, tags_cases}
+use Rattle.vrl_place.proofs.Orders.{one_name, tags_cases}
 
 passed : (o : Ordering) (X I : Tags) → o ≢ Equal → match_ordering o X I X ≡ X
 passed Less X I ne = refl
@@ -26,29 +33,50 @@ met Less X I e = cc
 met Equal X I e = refl
 met Greater X I e = cc
 
--- what the fields that are left say of a name, all of them say
-pub record IsLeft (n : List ℕ) (fs ls : List KindField) : Type 0 where
-  pub same : (p : List Step) (T : Tags) → fields_at (fields_view ls) n p T ≡ fields_at (fields_view fs) n p T
+-- a name behind another is none of those before that one
+past : (k m : List ℕ) → slice_cmp nat_cmp m k ≡ Less → slice_cmp nat_cmp k m ≢ Equal
+past k m less same =
+    let over : slice_cmp nat_cmp k m ≡ Greater = greater m k less in
+    cc
 
-pub left_next : (n : List ℕ) (f : KindField) (fs ls rs : List KindField) → ls ≡ f ∷ rs → match_ordering (slice_cmp nat_cmp n f.name) false true false ≡ false → IsLeft n fs ls → IsLeft n fs rs
-left_next n f fs ls rs e other left = record {
-  same = λ p T. sym (passed (slice_cmp nat_cmp n f.name) (fields_at (fields_view rs) n p T) (tags_at f.kind p) (is_other _ other))
-      ∙ ap (λ xs. fields_at (fields_view xs) n p T) (sym e) ∙ left.same p T;
-}
+ahead : (k m : List ℕ) → slice_cmp nat_cmp k m ≡ Less → slice_cmp nat_cmp k m ≢ Equal
+ahead k m less same = cc
 
-pub left_here : (n : List ℕ) (f : KindField) (fs ls rs : List KindField) → ls ≡ f ∷ rs → match_ordering (slice_cmp nat_cmp n f.name) false true false ≡ true → IsLeft n fs ls → (p : List Step) (T : Tags) → tags_at f.kind p ≡ fields_at (fields_view fs) n p T
-left_here n f fs ls rs e one left p T =
-    sym (met (slice_cmp nat_cmp n f.name) (fields_at (fields_view rs) n p T) (tags_at f.kind p) (is_one _ one))
-    ∙ ap (λ xs. fields_at (fields_view xs) n p T) (sym e) ∙ left.same p T
+-- ---- what is known of one name
 
-pub left_none : (n : List ℕ) (fs ls : List KindField) → length ls ≡ 0 → IsLeft n fs ls → (p : List Step) (T : Tags) → T ≡ fields_at (fields_view fs) n p T
-left_none n fs [] none left p T = left.same p T
-left_none n fs (f ∷ ls) none left p T = absurd (omega arith)
+passed_before : (k : List ℕ) (ls fs : List KindField) (p : List Step) (T : Tags) → AreBefore k ls → fields_at (fields_view (ls ++ fs)) k p T ≡ fields_at (fields_view fs) k p T
+passed_before k [] fs p T before = refl
+passed_before k (f ∷ ls) fs p T before =
+    passed (slice_cmp nat_cmp k f.name) (fields_at (fields_view (ls ++ fs)) k p T) (tags_at f.kind p) (past k f.name before.0) ∙ passed_before k ls fs p T before.1
 
--- what the fields say of a name, which may be absent too
-abbrev opened_at : Bool → List KindField → List ℕ → List Step → Tags → Tags
-opened_at b [] n p T = T
-opened_at b (f ∷ fs) n p T = match_ordering (slice_cmp nat_cmp n f.name) (opened_at b fs n p T) (or_absent_if b (tags_at f.kind) p) (opened_at b fs n p T)
+passed_behind : (k : List ℕ) (fs : KnownFields) (p : List Step) (T : Tags) → IsBeforeFields k fs → fields_at fs k p T ≡ T
+passed_behind k no_fields p T before = refl
+passed_behind k (known_field m j fs) p T before = passed (slice_cmp nat_cmp k m) (fields_at fs k p T) (tags_at j p) (ahead k m before.0) ∙ passed_behind k fs p T before.1
+
+known_at : (k : List ℕ) (fs ls rs : List KindField) (f : KindField) (p : List Step) (T : Tags) → fs ≡ ls ++ f ∷ rs → f.name ≡ k → AreBefore k ls → tags_at f.kind p ≡ fields_at (fields_view fs) k p T
+known_at k fs ls rs f p T whole name before =
+    sym (ap (λ xs. fields_at (fields_view xs) k p T) whole
+    ∙ passed_before k ls (f ∷ rs) p T before
+    ∙ met (slice_cmp nat_cmp k f.name) (fields_at (fields_view rs) k p T) (tags_at f.kind p) (ap (slice_cmp nat_cmp k) name ∙ tied_itself nat_list_cmp_total k))
+
+unknown_at : (k : List ℕ) (fs ls rs : List KindField) (p : List Step) (T : Tags) → fs ≡ ls ++ rs → AreBefore k ls → IsBeforeFields k (fields_view rs) → T ≡ fields_at (fields_view fs) k p T
+unknown_at k fs ls rs p T whole before behind =
+    sym (ap (λ xs. fields_at (fields_view xs) k p T) whole ∙ passed_before k ls rs p T before ∙ passed_behind k (fields_view rs) p T behind)
+
+-- where a cut has a field, and where it has none
+pub field_found : (k : List ℕ) (fs : List KindField) (cut : Cut) (f : Bor KindField) → IsCutAt k fs cut → cut.at ≡ Some f → (p : List Step) (T : Tags) → tags_at f.now.kind p ≡ fields_at (fields_view fs) k p T
+field_found k fs cut f is there p T =
+    let found : (fs ≡ cut.before.now ++ f.now ∷ cut.behind.now) × (f.now.name ≡ k) =
+    subst (λ o. MatchOption o (fs ≡ cut.before.now ++ cut.behind.now) (λ g. (fs ≡ cut.before.now ++ g.now ∷ cut.behind.now) × (g.now.name ≡ k))) there is.at in
+    known_at k fs cut.before.now cut.behind.now f.now p T found.0 found.1 is.before
+
+pub field_lacking : (k : List ℕ) (fs : List KindField) (cut : Cut) → IsCutAt k fs cut → cut.at ≡ None → (p : List Step) (T : Tags) → T ≡ fields_at (fields_view fs) k p T
+field_lacking k fs cut is none p T =
+    let whole : fs ≡ cut.before.now ++ cut.behind.now =
+    subst (λ o. MatchOption o (fs ≡ cut.before.now ++ cut.behind.now) (λ g. (fs ≡ cut.before.now ++ g.now ∷ cut.behind.now) × (g.now.name ≡ k))) none is.at in
+    unknown_at k fs cut.before.now cut.behind.now p T whole is.before is.behind
+
+-- ---- what the fields say of a name, which may be absent too
 
 opened_cong : (b : Bool) (fs : List KindField) (n : List ℕ) (p : List Step) (T U : Tags) (t : Tag) → T t ≡ U t → opened_at b fs n p T t ≡ opened_at b fs n p U t
 opened_cong b [] n p T U t e = e
@@ -69,14 +97,26 @@ opened_is b (f ∷ fs) n B p t =
     tags_cases (slice_cmp nat_cmp n f.name) _ _ _ _ (or_absent_if b (tags_at f.kind) p) _ t (opened_is b fs n B p t) refl (opened_is b fs n B p t)
     ∙ absent_cases (slice_cmp nat_cmp n f.name) b (λ q. fields_at (fields_view fs) n q (B q)) (tags_at f.kind) p t
 
-opened_back : (b : Bool) (fs : List KindField) (f : KindField) (n : List ℕ) (p : List Step) (T : Tags) (t : Tag) → opened_at b (fs ++ f ∷ []) n p T t ≡ opened_at b fs n p (opened_at b (f ∷ []) n p T) t
-opened_back b [] f n p T t = refl
-opened_back b (g ∷ fs) f n p T t = tags_cases (slice_cmp nat_cmp n g.name) _ _ _ _ _ _ t (opened_back b fs f n p T t) refl (opened_back b fs f n p T t)
+opened_over : (b : Bool) (fs gs : List KindField) (n : List ℕ) (p : List Step) (T : Tags) (t : Tag) → opened_at b (fs ++ gs) n p T t ≡ opened_at b fs n p (opened_at b gs n p T) t
+opened_over b [] gs n p T t = refl
+opened_over b (f ∷ fs) gs n p T t = tags_cases (slice_cmp nat_cmp n f.name) _ _ _ _ _ _ t (opened_over b fs gs n p T t) refl (opened_over b fs gs n p T t)
 
--- the fields that are left, and behind them those that were copied, say what all of them say of a name but k
-pub record AreCopied (b : Bool) (k : List ℕ) (fs ls : List KindField) (named : List (List ℕ × KindTree)) : Type 0 where
-  pub apart : AreApart k named
-  pub same : (n : List ℕ) → slice_cmp nat_cmp n k ≢ Equal → (p : List Step) (T : Tags) (t : Tag) → opened_at b ls n p (fields_at (named_view named) n p T) t ≡ opened_at b fs n p T t
+opened_before : (b : Bool) (k : List ℕ) (fs : List KindField) (p : List Step) (T : Tags) → AreBefore k fs → opened_at b fs k p T ≡ T
+opened_before b k [] p T before = refl
+opened_before b k (f ∷ fs) p T before =
+    passed (slice_cmp nat_cmp k f.name) (opened_at b fs k p T) (or_absent_if b (tags_at f.kind) p) (past k f.name before.0) ∙ opened_before b k fs p T before.1
+
+-- fields around a name say of another one what all say
+opened_around : (b : Bool) (k : List ℕ) (fs ls rs : List KindField) (at : Option (Bor KindField)) (n : List ℕ) → slice_cmp nat_cmp n k ≢ Equal → MatchOption at (fs ≡ ls ++ rs) (λ f. (fs ≡ ls ++ f.now ∷ rs) × (f.now.name ≡ k))
+    → (p : List Step) (T : Tags) (t : Tag) → opened_at b ls n p (opened_at b rs n p T) t ≡ opened_at b fs n p T t
+opened_around b k fs ls rs None n ne whole p T t = sym (opened_over b ls rs n p T t) ∙ ap (λ xs. opened_at b xs n p T t) (sym whole)
+opened_around b k fs ls rs (Some f) n ne whole p T t =
+    opened_cong b ls n p _ _ t
+    (ap (λ U. U t) (sym (passed (slice_cmp nat_cmp n f.now.name) (opened_at b rs n p T) (or_absent_if b (tags_at f.now.kind) p) (λ is. ne (ap (slice_cmp nat_cmp n) (sym whole.1) ∙ is)))))
+    ∙ sym (opened_over b ls (f.now ∷ rs) n p T t)
+    ∙ ap (λ xs. opened_at b xs n p T t) (sym whole.0)
+
+-- ---- fields that are put behind others
 
 last_first_end : (es : List (List ℕ × KindTree)) (n : List ℕ) (k : KindTree) (fs : KnownFields) → last_first (es ++ (n, k) ∷ []) fs ≡ known_field n k (last_first es fs)
 last_first_end [] n k fs = refl
@@ -86,78 +126,46 @@ last_first_end (e ∷ es) n k fs = last_first_end es n k (known_field e.0 e.1 fs
 pub named_end : (es : List (List ℕ × KindTree)) (n : List ℕ) (k : KindTree) → named_view (es ++ (n, k) ∷ []) ≡ known_field n k (named_view es)
 named_end es n k = last_first_end es n k _
 
-apart_end : (k n : List ℕ) (K : KindTree) (es : List (List ℕ × KindTree)) → slice_cmp nat_cmp k n ≢ Equal → AreApart k es → AreApart k (es ++ (n, K) ∷ [])
-apart_end k n K [] ne apart = (ne, tt)
-apart_end k n K (e ∷ es) ne apart = (apart.0, apart_end k n K es ne apart.1)
+-- the fields that are left, and behind them those that were put, say what all of them say
+pub record AreLeft (b : Bool) (fs ls : List KindField) (olds news : List (List ℕ × KindTree)) : Type 0 where
+  pub same : (n : List ℕ) (p : List Step) (T : Tags) (t : Tag) → opened_at b ls n p (fields_at (named_view news) n p T) t ≡ opened_at b fs n p (fields_at (named_view olds) n p T) t
 
-pub one_copied : (b : Bool) (k : List ℕ) (f : KindField) (fs ls rs : List KindField) (named news : List (List ℕ × KindTree)) (m : List ℕ) (K : KindTree) → ls ≡ rs ++ f ∷ [] → match_ordering (slice_cmp nat_cmp k f.name) false true false ≡ false → news ≡ named ++ (m, K) ∷ [] → m ≡ f.name → SameSets (tags_at K) (or_absent_if b (tags_at f.kind)) → AreCopied b k fs ls named → AreCopied b k fs rs news
-one_copied b k f fs ls rs named news m K e other f' name kind are = record {
-  apart = subst (AreApart k) (sym f') (apart_end k m K named (subst (λ x. slice_cmp nat_cmp k x ≢ Equal) (sym name) (is_other _ other)) are.apart);
-  same = λ n ne p T t.
+pub one_pushed : (b : Bool) (f : KindField) (fs ls rs : List KindField) (olds named news : List (List ℕ × KindTree)) (m : List ℕ) (K : KindTree) → ls ≡ rs ++ f ∷ [] → news ≡ named ++ (m, K) ∷ [] → m ≡ f.name → SameSets (tags_at K) (or_absent_if b (tags_at f.kind)) → AreLeft b fs ls olds named → AreLeft b fs rs olds news
+one_pushed b f fs ls rs olds named news m K e put name kind are = record {
+  same = λ n p T t.
       opened_cong b rs n p _ (opened_at b (f ∷ []) n p (fields_at (named_view named) n p T)) t
-      (ap (λ xs. fields_at (named_view xs) n p T t) f' ∙ ap (λ x. fields_at x n p T t) (named_end named m K)
+      (ap (λ xs. fields_at (named_view xs) n p T t) put ∙ ap (λ x. fields_at x n p T t) (named_end named m K)
       ∙ ap (λ x. match_ordering (slice_cmp nat_cmp n x) (fields_at (named_view named) n p T) (tags_at K p) (fields_at (named_view named) n p T) t) name
       ∙ tags_cases (slice_cmp nat_cmp n f.name) _ _ _ _ _ _ t refl (kind p t) refl)
-      ∙ sym (opened_back b rs f n p (fields_at (named_view named) n p T) t)
+      ∙ sym (opened_over b rs (f ∷ []) n p (fields_at (named_view named) n p T) t)
       ∙ ap (λ xs. opened_at b xs n p (fields_at (named_view named) n p T) t) (sym e)
-      ∙ are.same n ne p T t;
+      ∙ are.same n p T t;
 }
 
--- the name k itself is left out
-pub one_skipped : (b : Bool) (k : List ℕ) (f : KindField) (fs ls rs : List KindField) (named : List (List ℕ × KindTree)) → ls ≡ rs ++ f ∷ [] → match_ordering (slice_cmp nat_cmp k f.name) false true false ≡ true → AreCopied b k fs ls named → AreCopied b k fs rs named
-one_skipped b k f fs ls rs named e one are = record {
-  apart = are.apart;
-  same = λ n ne p T t.
-      opened_cong b rs n p _ (opened_at b (f ∷ []) n p (fields_at (named_view named) n p T)) t
-      (ap (λ U. U t) (sym (passed (slice_cmp nat_cmp n f.name) (fields_at (named_view named) n p T) (or_absent_if b (tags_at f.kind) p) (apart n ne))))
-      ∙ sym (opened_back b rs f n p (fields_at (named_view named) n p T) t)
-      ∙ ap (λ xs. opened_at b xs n p (fields_at (named_view named) n p T) t) (sym e)
-      ∙ are.same n ne p T t;
-}
-  where
-    apart : (n : List ℕ) → slice_cmp nat_cmp n k ≢ Equal → slice_cmp nat_cmp n f.name ≢ Equal
-    apart n ne is = ne (ap (slice_cmp nat_cmp n) (one_name k f.name (is_one _ one)) ∙ is)
+pub all_pushed : (b : Bool) (fs ls : List KindField) (olds news : List (List ℕ × KindTree)) → length ls ≡ 0 → AreLeft b fs ls olds news → ArePushed b fs olds news
+all_pushed b fs [] olds news none are = record { at = are.same }
+all_pushed b fs (f ∷ ls) olds news none are = absurd (omega arith)
 
-pub all_copied : (b : Bool) (k : List ℕ) (fs ls : List KindField) (named : List (List ℕ × KindTree)) → length ls ≡ 0 → AreCopied b k fs ls named → OthersAre b k fs named
-all_copied b k fs [] named none are = record { apart = are.apart; at = λ n ne B p t. are.same n ne p (or_absent_if b B p) t ∙ opened_is b fs n B p t }
-all_copied b k fs (f ∷ ls) named none are = absurd (omega arith)
-
--- what is said of one name before a field of any name
-before_one : (o : Ordering) (I X Y : Tags) → X ≡ Y → match_ordering o X I X ≡ match_ordering o Y I Y
-before_one o I X Y e = ap (λ Z. match_ordering o Z I Z) e
-
-before_all : (es : List (List ℕ × KindTree)) (fs gs : KnownFields) (n : List ℕ) (p : List Step) (T : Tags) → fields_at fs n p T ≡ fields_at gs n p T → fields_at (last_first es fs) n p T ≡ fields_at (last_first es gs) n p T
-before_all [] fs gs n p T same = same
-before_all (e ∷ es) fs gs n p T same = before_all es (known_field e.0 e.1 fs) (known_field e.0 e.1 gs) n p T (before_one (slice_cmp nat_cmp n e.0) (tags_at e.1 p) _ _ same)
-
--- another name is found as if the field weren't there
-elsewhere : (i : ℕ) (es : List (List ℕ × KindTree)) (k : List ℕ) (K : KindTree) (fs : KnownFields) (n : List ℕ) (p : List Step) (T : Tags) → slice_cmp nat_cmp n k ≢ Equal → fields_at (last_first (insert es i (k, K)) fs) n p T ≡ fields_at (last_first es fs) n p T
-elsewhere zero es k K fs n p T ne = before_all es (known_field k K fs) fs n p T (passed (slice_cmp nat_cmp n k) (fields_at fs n p T) (tags_at K p) ne)
-elsewhere (suc i) [] k K fs n p T ne = passed (slice_cmp nat_cmp n k) (fields_at fs n p T) (tags_at K p) ne
-elsewhere (suc i) (e ∷ es) k K fs n p T ne = elsewhere i es k K (known_field e.0 e.1 fs) n p T ne
-
-passed_all : (es : List (List ℕ × KindTree)) (fs : KnownFields) (n : List ℕ) (p : List Step) (T : Tags) → AreApart n es → fields_at (last_first es fs) n p T ≡ fields_at fs n p T
-passed_all [] fs n p T apart = refl
-passed_all (e ∷ es) fs n p T apart = passed_all es (known_field e.0 e.1 fs) n p T apart.1 ∙ passed (slice_cmp nat_cmp n e.0) (fields_at fs n p T) (tags_at e.1 p) apart.0
-
--- the name itself is found, where no other has it
-found_here : (i : ℕ) (es : List (List ℕ × KindTree)) (k : List ℕ) (K : KindTree) (fs : KnownFields) (n : List ℕ) (p : List Step) (T : Tags) → slice_cmp nat_cmp n k ≡ Equal → AreApart n es → fields_at (last_first (insert es i (k, K)) fs) n p T ≡ tags_at K p
-found_here zero es k K fs n p T is apart = passed_all es (known_field k K fs) n p T apart ∙ met (slice_cmp nat_cmp n k) (fields_at fs n p T) (tags_at K p) is
-found_here (suc i) [] k K fs n p T is apart = met (slice_cmp nat_cmp n k) (fields_at fs n p T) (tags_at K p) is
-found_here (suc i) (e ∷ es) k K fs n p T is apart = found_here i es k K (known_field e.0 e.1 fs) n p T is apart.1
-
--- and one field put among them
-pub field_put : (fs : Fields) (k : List ℕ) (K : KindTree) (b : Bool) (named news : List (List ℕ × KindTree)) (i : ℕ) (m : List ℕ) → news ≡ insert named i (m, K) → m ≡ k → OthersAre b k fs.known.now named → FieldsAre fs k (tags_at K) b news
-field_put fs k K b named news i m e name others = record {
+-- the fields behind a name, then that one, and then those before it
+pub field_put : (fs : Fields) (k : List ℕ) (K : KindTree) (b : Bool) (cut : Cut) (none first second third : List (List ℕ × KindTree)) (m : List ℕ) → IsCutAt k fs.known.now cut → none ≡ [] → ArePushed b cut.behind.now none first → second ≡ first ++ (m, K) ∷ [] → m ≡ k → ArePushed b cut.before.now second third
+    → FieldsAre fs k (tags_at K) b third
+field_put fs k K b cut none first second third m is empty low put name high = record {
   at = λ n p t.
-      ap (λ xs. fields_at (named_view xs) n p (or_absent_if b (spot_sets fs.behind) p) t) e
-      ∙ ap (λ x. fields_at (named_view (insert named i (x, K))) n p (or_absent_if b (spot_sets fs.behind) p) t) name
+      high.at n p (or_absent_if b (spot_sets fs.behind) p) t
+      ∙ ap (λ xs. opened_at b cut.before.now n p (fields_at (named_view xs) n p (or_absent_if b (spot_sets fs.behind) p)) t) (put ∙ ap (λ x. first ++ (x, K) ∷ []) name)
+      ∙ ap (λ xs. opened_at b cut.before.now n p (fields_at xs n p (or_absent_if b (spot_sets fs.behind) p)) t) (named_end first k K)
       ∙ by_name (slice_cmp nat_cmp n k) n p t refl;
 }
   where
+    beside : (n : List ℕ) (p : List Step) (t : Tag) → slice_cmp nat_cmp n k ≢ Equal → opened_at b cut.before.now n p (fields_at (named_view first) n p (or_absent_if b (spot_sets fs.behind) p)) t ≡ or_absent_if b (fields_sets fs n) p t
+    beside n p t ne =
+        opened_cong b cut.before.now n p _ _ t (low.at n p (or_absent_if b (spot_sets fs.behind) p) t ∙ ap (λ xs. opened_at b cut.behind.now n p (fields_at (named_view xs) n p (or_absent_if b (spot_sets fs.behind) p)) t) empty)
+        ∙ opened_around b k fs.known.now cut.before.now cut.behind.now cut.at n ne is.at p (or_absent_if b (spot_sets fs.behind) p) t
+        ∙ opened_is b fs.known.now n (spot_sets fs.behind) p t
+
     by_name : (o : Ordering) (n : List ℕ) (p : List Step) (t : Tag) → slice_cmp nat_cmp n k ≡ o
-        → fields_at (named_view (insert named i (k, K))) n p (or_absent_if b (spot_sets fs.behind) p) t
+        → opened_at b cut.before.now n p (match_ordering o (fields_at (named_view first) n p (or_absent_if b (spot_sets fs.behind) p)) (tags_at K p) (fields_at (named_view first) n p (or_absent_if b (spot_sets fs.behind) p))) t
         ≡ match_ordering o (or_absent_if b (fields_sets fs n)) (tags_at K) (or_absent_if b (fields_sets fs n)) p t
-    by_name Less n p t is = ap (λ X. X t) (elsewhere i named k K no_fields n p _ (λ e. cc)) ∙ others.at n (λ e. cc) (spot_sets fs.behind) p t
-    by_name Equal n p t is = ap (λ X. X t) (found_here i named k K no_fields n p _ is (subst (λ x. AreApart x named) (sym (one_name n k is)) others.apart))
-    by_name Greater n p t is = ap (λ X. X t) (elsewhere i named k K no_fields n p _ (λ e. cc)) ∙ others.at n (λ e. cc) (spot_sets fs.behind) p t
+    by_name Less n p t is = beside n p t (λ e. cc)
+    by_name Equal n p t same = ap (λ U. U t) (opened_before b n cut.before.now p (tags_at K p) (subst (λ x. AreBefore x cut.before.now) (sym (one_name n k same)) is.before))
+    by_name Greater n p t is = beside n p t (λ e. cc)

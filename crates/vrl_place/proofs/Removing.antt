@@ -99,15 +99,15 @@ changed_list A k ps inner ks rest K is of are at known rests made (place j ∷ q
     stays : (p : List Step) (u : Tag) → or_absent_if false (places_sets ps j) p u ≡ A (place j ∷ p) u
     stays p u = not_absent (places_sets ps j) p u ∙ sym (of.at j p u)
 
-changed_as : (A I J : Sets) (s : Step) → SameSets I J → SameSets (changed_sets A s I) (changed_sets A s J)
+pub changed_as : (A I J : Sets) (s : Step) → SameSets I J → SameSets (changed_sets A s I) (changed_sets A s J)
 changed_as A I J s same p t = ap (λ X. changed_sets A s X p t) (one_sets I J same)
 
 -- a removal behind a step changes that part alone
-inner_removed : (A : Sets) (s u : Step) (r : List Step) → SameSets (changed_sets A s (plain_remove (part A s) (u ∷ r))) (plain_remove A (s ∷ u ∷ r))
+pub inner_removed : (A : Sets) (s u : Step) (r : List Step) → SameSets (changed_sets A s (plain_remove (part A s) (u ∷ r))) (plain_remove A (s ∷ u ∷ r))
 inner_removed A s u r [] t = refl
 inner_removed A s u r (x ∷ q) t = refl
 
-field_gone : (A : Sets) (k : List ℕ) → SameSets (changed_sets A (field k) (gone (A []))) (plain_remove A (field k ∷ []))
+pub field_gone : (A : Sets) (k : List ℕ) → SameSets (changed_sets A (field k) (gone (A []))) (plain_remove A (field k ∷ []))
 field_gone A k [] t = refl
 field_gone A k (x ∷ q) t = refl
 
@@ -164,7 +164,7 @@ no_object_at : (K : KindTree) → tags_at K [] tag.Object ≡ false → (n : Lis
 no_object_at (kind s l no_object) none n p t = refl
 no_object_at (kind s l (object_part fs r)) none n p t = absurd (true≢false none)
 
-no_list_at : (K : KindTree) → tags_at K [] tag.List ≡ false → (i : ℕ) (p : List Step) (t : Tag) → tags_at K (place i ∷ p) t ≡ false
+pub no_list_at : (K : KindTree) → tags_at K [] tag.List ≡ false → (i : ℕ) (p : List Step) (t : Tag) → tags_at K (place i ∷ p) t ≡ false
 no_list_at (kind s no_list o) none i p t = refl
 no_list_at (kind s (list_part ps r) o) none i p t = absurd (true≢false none)
 
@@ -234,6 +234,6 @@ pub some_steps : (r : List CodeStep) → 0 < length r → 0 < length (plain r)
 some_steps [] some = absurd (omega arith)
 some_steps (s ∷ r) some = omega arith
 
--- the same of sets and a path that are the same
-pub remove_same : (A B K : Sets) (p q : List Step) → SameSets A B → p ≡ q → SameSets K (plain_remove A p) → SameSets K (plain_remove B q)
-remove_same A B K p q same e is x t = is x t ∙ ap (λ C. plain_remove C p x t) (one_sets A B same) ∙ ap (λ r. plain_remove B r x t) e
+-- the same of a path that is the same
+pub remove_along : (A K : Sets) (p q : List Step) → p ≡ q → SameSets K (plain_remove A p) → SameSets K (plain_remove A q)
+remove_along A K p q e is x t = is x t ∙ ap (λ r. plain_remove A r x t) e

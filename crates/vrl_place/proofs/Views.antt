@@ -1,20 +1,22 @@
 -- What is known of the parts of a kind, and what is allowed there.
-use Rattle.std.proofs.Common.{◌≡◌, ℕ, zero, suc, ◌<◌, ◌≤◌, Bool, true, ◌||◌, ◌&&◌, List, [], ◌∷◌, ◌++◌, length, get_or, refl, sym, ap, ◌∙◌, arith, length-append, below_more}
+use Rattle.std.proofs.Common.{◌≡◌, ℕ, zero, suc, ◌<◌, ◌≤◌, Bool, true, ◌||◌, ◌&&◌, List, [], ◌∷◌, ◌++◌, length, get_or, refl, sym, ap, ◌∙◌, subst, arith, length-append, below_more}
 use Rattle.std.specs.Cmp.Lexicographic.{slice_cmp}
 use Rattle.std.specs.Ordering.{nat_cmp}
 use Rattle.vrl_value.specs.Look.{Step, field, place}
 use Rattle.vrl_value.specs.declared.value.Tag.{Tag}
 use Rattle.vrl_value.specs.declared.value.Tag.TheVariants as tag
 use Rattle.vrl_kind.specs.KindTree.{KindTree, kind, ListTree, list_part, ObjectTree, object_part, RestTree, Places as KnownPlaces, KnownFields, no_fields, known_field}
-use Rattle.vrl_kind.specs.Canonical.{object_tree}
+use Rattle.vrl_kind.specs.Canonical.{IsCanonical, ObjectIsCanonical, object_tree}
 use Rattle.vrl_kind.specs.Change.{with_list, with_object}
 use Rattle.vrl_kind.specs.Kinds.{SameTags, object_at, rest_at, tags_at, places_at, fields_at}
+use Rattle.vrl_kind.specs.Merge.{FieldsAreSorted}
 use Rattle.vrl_kind.specs.Sets.{Sets, SameSets}
 use Rattle.vrl_kind.specs.Tags.{Tags, same_tag}
 use Rattle.vrl_kind.specs.View.{places_view, fields_view}
 use Rattle.vrl_kind.specs.declared.scalars.Scalars.{Scalars}
 use Rattle.vrl_place.specs.Inner.{ArePlaces, FieldsAreOf, sets_with_list, sets_with_object, spot_sets}
 use Rattle.vrl_place.specs.Sets.{or_absent_if}
+use Rattle.vrl_kind.proofs.Ahead.{fields_sorted}
 use Rattle.vrl_place.specs.declared.fields.Fields.{Fields}
 use Rattle.vrl_place.proofs.Orders.{tags_cases}
 use Rattle.vrl_place.proofs.Same.{or_false, or_true, turned}
@@ -26,10 +28,18 @@ fields_cong (known_field m k fs) n p T U t e = tags_cases (slice_cmp nat_cmp n m
 pub tags_field : (K : KindTree) (n : List ℕ) (p : List Step) (t : Tag) → tags_at K (field n ∷ p) t ≡ object_at (object_tree K) n p t
 tags_field (kind s l o) n p t = refl
 
-pub some_fields_of : (K : KindTree) (fs : Fields) (gs : KnownFields) (r : RestTree) → object_tree K ≡ object_part gs r → fields_view fs.known.now ≡ gs → SameSets (spot_sets fs.behind) (rest_at r) → fs.behind.absent ≡ true → FieldsAreOf (tags_at K) fs
-some_fields_of K fs gs r is known behind absent = record {
+object_canonical : (K : KindTree) → IsCanonical K → ObjectIsCanonical (object_tree K)
+object_canonical (kind s l o) canonical = canonical.1
+
+-- the known fields of a kind are in order
+known_sorted : (K : KindTree) (gs fs : KnownFields) (r : RestTree) → IsCanonical K → object_tree K ≡ object_part gs r → fs ≡ gs → FieldsAreSorted fs
+known_sorted K gs fs r canonical is known = subst FieldsAreSorted (sym known) (fields_sorted gs (subst ObjectIsCanonical is (object_canonical K canonical)).0)
+
+pub some_fields_of : (K : KindTree) (fs : Fields) (gs : KnownFields) (r : RestTree) → IsCanonical K → object_tree K ≡ object_part gs r → fields_view fs.known.now ≡ gs → SameSets (spot_sets fs.behind) (rest_at r) → fs.behind.absent ≡ true → FieldsAreOf (tags_at K) fs
+some_fields_of K fs gs r canonical is known behind absent = record {
   at = λ n p t. tags_field K n p t ∙ ap (λ o. object_at o n p t) is ∙ fields_cong gs n p (rest_at r p) (spot_sets fs.behind p) t (sym (behind p t)) ∙ ap (λ q. fields_at q n p (spot_sets fs.behind p) t) (sym known);
   absent = λ yes. absent;
+  sorted = known_sorted K gs (fields_view fs.known.now) r canonical is known;
 }
 
 -- a place that is known, and one that isn't

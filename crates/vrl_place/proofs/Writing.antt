@@ -1,5 +1,5 @@
 -- The kind that a write makes has the tags that a write gives.
-use Rattle.std.proofs.Common.{◌≡◌, ℕ, suc, ◌<◌, ◌≤◌, Bool, true, false, not, List, [], ◌∷◌, length, refl, sym, ap, ◌∙◌, arith}
+use Rattle.std.proofs.Common.{◌≡◌, ℕ, suc, ◌<◌, ◌≤◌, Bool, true, false, not, List, [], ◌∷◌, length, refl, sym, ap, ◌∙◌, subst, arith}
 use Rattle.std.specs.Cmp.Lexicographic.{slice_cmp}
 use Rattle.std.specs.Ordering.{nat_cmp}
 use Rattle.vrl_value.specs.Look.{Step, field, place}
@@ -100,9 +100,9 @@ pub written_present : (A N : Sets) (p : List Step) → N [] tag.Absent ≡ false
 written_present A N [] present = present
 written_present A N (s ∷ r) present = step_not_absent s
 
--- the same of sets and a path that are the same
-pub write_same : (A B N K : Sets) (p q : List Step) → SameSets A B → p ≡ q → SameSets K (plain_write A p N) → SameSets K (plain_write B q N)
-write_same A B N K p q same e is x t = is x t ∙ ap (λ C. plain_write C p N x t) (one_sets A B same) ∙ ap (λ r. plain_write B r N x t) e
+-- the same of a path that is the same
+pub write_along : (A N K : Sets) (p q : List Step) → p ≡ q → SameSets K (plain_write A p N) → SameSets K (plain_write A q N)
+write_along A N K p q e is x t = is x t ∙ ap (λ r. plain_write A r N x t) e
 
 -- a path that may be written
 pub first_writable : (s : CodeStep) (r : List CodeStep) → IsWritable (s ∷ r) → IsWritableStep s
@@ -110,3 +110,6 @@ first_writable s r all = all 0 s (omega arith)
 
 pub rest_writable : (s : CodeStep) (r : List CodeStep) → IsWritable (s ∷ r) → IsWritable r
 rest_writable s r all = λ k d below. all (suc k) d (omega (arith, below))
+
+pub behind_writable : (p : List CodeStep) (s : CodeStep) (r : List CodeStep) → p ≡ s ∷ r → IsWritable p → IsWritable r
+behind_writable p s r e all = rest_writable s r (subst IsWritable e all)

@@ -1,20 +1,23 @@
 -- What inner functions promise: the parts of a kind in memory, and those of a changed kind. No public function cites these.
-use Rattle.std.specs.Prelude.{◌≡◌, ◌≢◌, ◌<◌, ◌↔◌, ◌||◌, not, Bool, true, false, ℕ, suc, ℤ, pos, negsuc, Option, Some, None, List, [], ◌∷◌, length, ⊤, IsTrue}
+use Rattle.std.specs.Prelude.{◌≡◌, ◌<◌, ◌↔◌, ◌||◌, not, Bool, true, false, ℕ, suc, ℤ, pos, negsuc, Option, Some, None, MatchOption, List, [], ◌∷◌, ◌++◌, length, IsTrue}
 use Rattle.std.specs.Cmp.Lexicographic.{slice_cmp}
-use Rattle.std.specs.Ordering.{nat_cmp}
-use Rattle.std.specs.declared.cmp.Ordering.TheVariants.{Equal}
+use Rattle.std.specs.Ordering.{nat_cmp, match_ordering}
 use Rattle.vrl_value.specs.Look.{Step, field, place}
 use Rattle.vrl_value.specs.declared.value.Tag.{Tag}
 use Rattle.vrl_value.specs.declared.value.Tag.TheVariants as tag
 use Rattle.vrl_kind.specs.KindTree.{KindTree, Places as KnownPlaces, KnownFields, RestTree}
+use Rattle.vrl_kind.specs.Canonical.{IsBeforeFields}
 use Rattle.vrl_kind.specs.Change.{null_for_absent}
+use Rattle.vrl_kind.specs.Fields.{knows_field, AreBefore}
 use Rattle.vrl_kind.specs.Kinds.{any_at, json_at, never_at, rest_at, tags_at, places_at, fields_at, is_absence}
 use Rattle.vrl_kind.specs.Make.{named_view}
+use Rattle.vrl_kind.specs.Merge.{FieldsAreSorted}
 use Rattle.vrl_kind.specs.Sets.{Sets}
-use Rattle.vrl_kind.specs.Tags.{same_tag}
+use Rattle.vrl_kind.specs.Tags.{Tags, same_tag}
 use Rattle.vrl_kind.specs.View.{places_view, fields_view}
 use Rattle.vrl_kind.specs.declared.kind.KindField.{KindField}
 use Rattle.vrl_place.specs.Sets.{or_absent_if, by_step}
+use Rattle.vrl_place.specs.declared.fields.Cut.{Cut}
 use Rattle.vrl_place.specs.declared.fields.Fields.{Fields}
 use Rattle.vrl_place.specs.declared.places.Places.{Places}
 use Rattle.vrl_place.specs.declared.spot.Bare.{Bare}
@@ -52,10 +55,15 @@ pub record PlacesAreOf (A : Sets) (ps : Places) : Type 0 where
   pub at : (i : ℕ) (p : List Step) (t : Tag) → A (place i ∷ p) t ≡ places_sets ps i p t
   pub absent : IsTrue (A [] tag.List) → ps.behind.absent ≡ true
 
--- what A allows at the fields of an object; where A allows an object, those that aren't known may be absent
+-- what A allows at the fields of an object; where A allows an object, those that aren't known may be absent. The known ones stand in the order of their names' bytes
 pub record FieldsAreOf (A : Sets) (fs : Fields) : Type 0 where
   pub at : (n : List ℕ) (p : List Step) (t : Tag) → A (field n ∷ p) t ≡ fields_sets fs n p t
   pub absent : IsTrue (A [] tag.Object) → fs.behind.absent ≡ true
+  pub sorted : FieldsAreSorted (fields_view fs.known.now)
+
+-- S is what K allows at each field that it doesn't know by itself
+pub record AreOtherFields (K : KindTree) (S : Sets) : Type 0 where
+  pub at : (n : List ℕ) → knows_field n K ≡ false → (p : List Step) (t : Tag) → S p t ≡ tags_at K (field n ∷ p) t
 
 -- the kinds at the first places
 pub record ArePlaces (ks : List KindTree) (S : ℕ → Sets) : Type 0 where
@@ -82,16 +90,20 @@ pub record FieldsAre (fs : Fields) (k : List ℕ) (M : Sets) (absent : Bool) (na
   pub at : (n : List ℕ) (p : List Step) (t : Tag) → fields_at (named_view named) n p (or_absent_if absent (spot_sets fs.behind) p) t
       ≡ by_step (field n) (field k) (or_absent_if absent (fields_sets fs n)) M (or_absent_if absent (fields_sets fs n)) never_at p t
 
--- none of the names is k
-abbrev pub AreApart : List ℕ → List (List ℕ × KindTree) → Type 0
-AreApart k [] = ⊤
-AreApart k (e ∷ es) = (slice_cmp nat_cmp k e.0 ≢ Equal) × AreApart k es
+-- the fields are those before the name k, the one that has it, if there is one, and those behind it
+pub record IsCutAt (k : List ℕ) (fs : List KindField) (cut : Cut) : Type 0 where
+  pub before : AreBefore k cut.before.now
+  pub at : MatchOption cut.at (fs ≡ cut.before.now ++ cut.behind.now) (λ f. (fs ≡ cut.before.now ++ f.now ∷ cut.behind.now) × (f.now.name ≡ k))
+  pub behind : IsBeforeFields k (fields_view cut.behind.now)
 
--- the fields but for the one with the name k
-pub record OthersAre (absent : Bool) (k : List ℕ) (fs : List KindField) (named : List (List ℕ × KindTree)) : Type 0 where
-  pub apart : AreApart k named
-  pub at : (n : List ℕ) → slice_cmp nat_cmp n k ≢ Equal → (B : Sets) (p : List Step) (t : Tag) → fields_at (named_view named) n p (or_absent_if absent B p) t
-      ≡ or_absent_if absent (λ q. fields_at (fields_view fs) n q (B q)) p t
+-- what the fields say of a name, which may be absent too, or else T
+abbrev pub opened_at : Bool → List KindField → List ℕ → List Step → Tags → Tags
+opened_at b [] n p T = T
+opened_at b (f ∷ fs) n p T = match_ordering (slice_cmp nat_cmp n f.name) (opened_at b fs n p T) (or_absent_if b (tags_at f.kind) p) (opened_at b fs n p T)
+
+-- the fields were put to others, and count before them
+pub record ArePushed (b : Bool) (fs : List KindField) (olds news : List (List ℕ × KindTree)) : Type 0 where
+  pub at : (n : List ℕ) (p : List Step) (T : Tags) (t : Tag) → fields_at (named_view news) n p T t ≡ opened_at b fs n p (fields_at (named_view olds) n p T) t
 
 -- a place that counts from the start
 abbrev pub from_start : ℤ → Option ℕ

@@ -1,15 +1,14 @@
-ghost use Rattle.std.specs.Prelude.{◌≡◌, IfOk, true, false};
-ghost use Rattle.std.specs.Cmp.Lexicographic.{slice_cmp};
-ghost use Rattle.std.specs.Ordering.{nat_cmp, match_ordering};
+ghost use Rattle.std.specs.Prelude.{◌≡◌, IfOk, OnOk};
 ghost use Rattle.vrl_kind.specs.Kinds.{tags_at};
+ghost use Rattle.vrl_kind.specs.Merge.{FieldsAreSorted};
 ghost use Rattle.vrl_kind.specs.Sets.{SameSets};
-ghost use Rattle.vrl_place.specs.Inner.{FieldsAre, FieldsAreOf, OthersAre, fields_sets, spot_sets};
+ghost use Rattle.vrl_kind.specs.View.{fields_view};
+ghost use Rattle.vrl_place.specs.Inner.{AreOtherFields, ArePushed, FieldsAre, FieldsAreOf, IsCutAt, fields_sets, spot_sets};
 ghost use Rattle.vrl_place.specs.Sets.{or_absent_if};
 
 use crate::spot::{Bare, Spot};
 use std::alloc::Global;
-use std::cmp::Ordering;
-use vrl_kind::{Kind, KindField, object_part};
+use vrl_kind::{Kind, KindField, field_index, kind_is_canonical, object_part};
 use vrl_value::{Chars, Memory};
 
 /// What a kind knows of the fields of an object, borrowed.
@@ -23,6 +22,7 @@ pub(crate) struct Fields<'a> {
 fn fields_of(kind: &Kind) -> Fields<'_>
     ensures { FieldsAreOf (tags_at kind.now) result }
 {
+    kind_is_canonical(kind);
     match object_part(kind) {
         None => Fields {
             known: &[],
@@ -32,6 +32,16 @@ fn fields_of(kind: &Kind) -> Fields<'_>
             known: fields.as_slice(),
             behind: Spot::of_rest(rest),
         },
+    }
+}
+
+// What stands at each field that a kind doesn't know by itself.
+pub(crate) fn other_fields(kind: &Kind) -> Spot<'_>
+    ensures { AreOtherFields kind.now (spot_sets result) }
+{
+    match object_part(kind) {
+        None => Spot::lacking(),
+        Some((_fields, rest)) => Spot::of_rest(rest),
     }
 }
 
@@ -60,16 +70,13 @@ impl<'a> Spot<'a> {
 impl<'a> Fields<'a> {
     // What stands at a field.
     pub(crate) fn field(self, name: &Chars) -> Spot<'a>
+        requires { FieldsAreSorted (fields_view self.known.now) }
         ensures { SameSets (spot_sets result) (fields_sets self.entry name.now) }
     {
-        let mut left = self.known;
-        while let Some((first, rest)) = left.split_first() {
-            if is_same(name, &first.name) {
-                return Spot::of(&first.kind);
-            }
-            left = rest;
+        match cut_at(self.known, name).at {
+            Some(field) => Spot::of(&field.kind),
+            None => self.behind,
         }
-        self.behind
     }
 
     // The kinds of the fields with this one at a name, the last field first. If it is wanted, what stands at the
@@ -81,28 +88,61 @@ impl<'a> Fields<'a> {
         kind: Kind,
         absent: bool,
     ) -> Result<Vec<(Chars, Kind)>, Memory>
+        requires { FieldsAreSorted (fields_view self.known.now) }
         ensures { IfOk result (λ fields. FieldsAre self.entry name.now (tags_at kind) absent fields.items) }
     {
-        let mut fields = self.others(alloc, name, absent)?;
-        let at = fields.partition_point(|other| other.0.as_str() > name.as_str());
-        fields.insert(at, (name.copy(alloc)?, kind))?;
+        let cut = cut_at(self.known, name);
+        let mut fields = Vec::with_capacity(alloc, self.known.len().saturating_add(1))?;
+        push_copies(alloc, &mut fields, cut.behind, absent)?;
+        fields.push((name.copy(alloc)?, kind))?;
+        push_copies(alloc, &mut fields, cut.before, absent)?;
         Ok(fields)
     }
+}
 
-    // The kinds of the known fields but for this one, the last field first. `Memory`: want of memory.
-    fn others(self, alloc: Global, name: &Chars, absent: bool) -> Result<Vec<(Chars, Kind)>, Memory>
-        ensures { IfOk result (λ fields. OthersAre absent name.now self.entry.known.now fields.items) }
-    {
-        let mut fields = Vec::with_capacity(alloc, self.known.len())?;
-        let mut left = self.known;
-        while let Some((last, rest)) = left.split_last() {
-            if !is_same(name, &last.name) {
-                fields.push(copied(alloc, last, absent)?)?;
-            }
-            left = rest;
-        }
-        Ok(fields)
+/// The known fields of a kind, cut at a name: those before it, the one that has it, and those behind it.
+#[derive(Clone, Copy)]
+pub(crate) struct Cut<'a> {
+    pub(crate) before: &'a [KindField],
+    pub(crate) at: Option<&'a KindField>,
+    pub(crate) behind: &'a [KindField],
+}
+
+// Fields in the order of their names' bytes, cut at a name, which is found by halves.
+fn cut_at<'a>(fields: &'a [KindField], name: &Chars) -> Cut<'a>
+    requires { FieldsAreSorted (fields_view fields.now) }
+    ensures { IsCutAt name.now fields.now result }
+{
+    match field_index(fields, name) {
+        Ok(at) => Cut {
+            before: &fields[..at],
+            at: Some(&fields[at]),
+            behind: &fields[at + 1..],
+        },
+        Err(at) => Cut {
+            before: &fields[..at],
+            at: None,
+            behind: &fields[at..],
+        },
     }
+}
+
+// Puts copies of known fields behind others, the last field first. If it is wanted, what stands there may be absent.
+// `Memory`: want of memory; some may be put.
+fn push_copies(
+    alloc: Global,
+    fields: &mut Vec<(Chars, Kind)>,
+    known: &[KindField],
+    absent: bool,
+) -> Result<(), Memory>
+    ensures { OnOk result (ArePushed absent known.now fields.old.items fields.new.items) }
+{
+    let mut left = known;
+    while let Some((last, rest)) = left.split_last() {
+        fields.push(copied(alloc, last, absent)?)?;
+        left = rest;
+    }
+    Ok(())
 }
 
 // A copy of a field, which may be absent too, if that is wanted. `Memory`: want of memory.
@@ -115,15 +155,4 @@ fn copied(alloc: Global, field: &KindField, absent: bool) -> Result<(Chars, Kind
         name,
         Spot::of(&field.kind).or_absent_if(absent).kind(alloc)?,
     ))
-}
-
-// Whether both are one name.
-fn is_same(a: &Chars, b: &Chars) -> bool
-    ensures { result ≡ match_ordering (slice_cmp nat_cmp a.now b.now) false true false }
-{
-    match a.as_str().cmp(b.as_str()) {
-        Ordering::Less => false,
-        Ordering::Equal => true,
-        Ordering::Greater => false,
-    }
 }

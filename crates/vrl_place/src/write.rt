@@ -1,37 +1,150 @@
-ghost use Rattle.std.specs.Prelude.{◌≡◌, IfOk, [], ◌∷◌, false, pos, true};
+ghost use Rattle.std.specs.Prelude.{◌≡◌, IfOk, OnErr, OnOk, [], ◌∷◌, false, pos, true};
+ghost use Rattle.vrl_kind.specs.Canonical.{IsCanonical};
+ghost use Rattle.vrl_kind.specs.Fields.{knows_field, IsTaken};
+ghost use Rattle.vrl_kind.specs.KindTree.{KindTree};
 ghost use Rattle.vrl_kind.specs.Kinds.{Inhabits, tags_at};
 ghost use Rattle.vrl_kind.specs.Sets.{SameSets};
 ghost use Rattle.vrl_path.specs.Steps.{plain, plain_step, IsWritable, IsWritableStep};
 ghost use Rattle.vrl_path.specs.Write.{IsSet};
 ghost use Rattle.vrl_path.specs.declared.path.Step.TheVariants.{Place};
 ghost use Rattle.vrl_place.specs.Inner.{spot_sets};
+ghost use Rattle.vrl_place.specs.Sets.{is_alone};
 ghost use Rattle.vrl_place.specs.Write.{IsContainerFor, plain_write, write};
 ghost use Rattle.vrl_value.specs.Look.{field, place};
 ghost use Rattle.vrl_value.specs.Tree.{Tree};
 ghost use Rattle.vrl_value.specs.declared.value.Tag.TheVariants as tag;
 
+use crate::fields::other_fields;
 use crate::spot::Spot;
 use std::alloc::Global;
-use vrl_kind::Kind;
+use vrl_kind::{Kind, equal_tags_are_one_kind, kind_is_canonical};
 use vrl_path::{Path, Step};
 use vrl_value::{Chars, Memory, Tag};
 
-/// The kind of a value of `kind` once a value of `new` is set at the path: the container of the first step
-/// alone, so that another tag of the kind stays nowhere on the way, and a place below that of the path has
-/// null where it could be absent. `Memory`: want of memory.
+/// Makes the kind of a value that of the value once one of `new` is set at the path: the container of the first
+/// step alone, so that another tag of the kind stays nowhere on the way, and a place below that of the path has
+/// null where it could be absent. `Memory`: want of memory; the kind stays as it was.
 ///
-/// It copies what stands beside the path once.
-pub fn write_kind(alloc: Global, kind: &Kind, path: &Path, new: &Kind) -> Result<Kind, Memory>
+/// It goes down the fields of the path in place, as long as the kind is that of an object alone and knows the
+/// field by itself, and looks at none beside them. What stands beside the rest of the path it copies once.
+pub fn write_kind(alloc: Global, kind: &mut Kind, path: &Path, new: Kind) -> Result<(), Memory>
     requires { IsWritable path.now }
-    ensures tags { IfOk result (λ written. SameSets (tags_at written)
-        (write (tags_at kind.now) path.now (tags_at new.now))) }
-    ensures inhabited { IfOk result (λ written. (value part set : Tree) → Inhabits value kind.now
-        → Inhabits part new.now → IsSet value path.now part set → Inhabits set written) }
-    ensures container { IfOk result (λ written. IsContainerFor path.now (tags_at written [])) }
-    ensures present { IfOk result (λ written. tags_at new.now [] tag.Absent ≡ false
-        → tags_at written [] tag.Absent ≡ false) }
+    ensures tags { OnOk result (SameSets (tags_at kind.new)
+        (write (tags_at kind.old) path.now (tags_at new))) }
+    ensures inhabited { OnOk result ((value part set : Tree) → Inhabits value kind.old
+        → Inhabits part new → IsSet value path.now part set → Inhabits set kind.new) }
+    ensures container { OnOk result (IsContainerFor path.now (tags_at kind.new [])) }
+    ensures present { OnOk result (tags_at new [] tag.Absent ≡ false
+        → tags_at kind.new [] tag.Absent ≡ false) }
+    ensures err { OnErr result (kind.new ≡ kind.old) }
 {
-    write_at(alloc, Spot::of(kind), path.as_slice(), new)
+    write_in(alloc, kind, path.as_slice(), new)
+}
+
+// Writes a kind at the end of the steps, in place as far as that goes.
+#[cycle(write_in)]
+fn write_in(alloc: Global, kind: &mut Kind, steps: &[Step], new: Kind) -> Result<(), Memory>
+    requires { IsWritable steps.now }
+    ensures ok { OnOk result (SameSets (tags_at kind.new)
+        (plain_write (tags_at kind.old) (plain steps.now) (tags_at new))) }
+    ensures err { OnErr result (kind.new ≡ kind.old) }
+{
+    match steps.split_first() {
+        None => {
+            *kind = new;
+            Ok(())
+        }
+        Some((Step::Field(name), behind)) => {
+            if !Spot::of(kind).is_alone(Tag::Object) {
+                return write_anew(alloc, kind, steps, &new);
+            }
+            write_in_field(alloc, kind, name, behind, new)
+        }
+        Some((Step::Place(_at), _behind)) => write_anew(alloc, kind, steps, &new),
+    }
+}
+
+// Makes the kind anew with one written at the end of the steps.
+fn write_anew(alloc: Global, kind: &mut Kind, steps: &[Step], new: &Kind) -> Result<(), Memory>
+    requires { IsWritable steps.now }
+    ensures ok { OnOk result (SameSets (tags_at kind.new)
+        (plain_write (tags_at kind.old) (plain steps.now) (tags_at new.now))) }
+    ensures err { OnErr result (kind.new ≡ kind.old) }
+{
+    let written = write_at(alloc, Spot::of(kind), steps, new)?;
+    *kind = written;
+    Ok(())
+}
+
+// Writes a kind behind a field of objects alone.
+#[cycle(write_in)]
+fn write_in_field(
+    alloc: Global,
+    kind: &mut Kind,
+    name: &Chars,
+    behind: &[Step],
+    new: Kind,
+) -> Result<(), Memory>
+    requires behind { IsWritable behind.now }
+    requires alone { is_alone (tags_at kind.old []) tag.Object ≡ true }
+    ensures ok { OnOk result (SameSets (tags_at kind.new)
+        (plain_write (tags_at kind.old) (field name.now ∷ plain behind.now) (tags_at new))) }
+    ensures err { OnErr result (kind.new ≡ kind.old) }
+{
+    if behind.is_empty() {
+        kind.put_field(alloc, name, new)?;
+        return Ok(());
+    }
+    kind_is_canonical(kind);
+    match kind.take_field(name) {
+        None => write_new_field(alloc, kind, name, behind, &new),
+        Some(part) => write_known_field(alloc, kind, name, part, behind, new),
+    }
+}
+
+// Writes a kind behind a field of objects alone that isn't known by itself.
+fn write_new_field(
+    alloc: Global,
+    kind: &mut Kind,
+    name: &Chars,
+    behind: &[Step],
+    new: &Kind,
+) -> Result<(), Memory>
+    requires behind { IsWritable behind.now }
+    requires alone { is_alone (tags_at kind.old []) tag.Object ≡ true }
+    requires unknown { knows_field name.now kind.old ≡ false }
+    ensures ok { OnOk result (SameSets (tags_at kind.new)
+        (plain_write (tags_at kind.old) (field name.now ∷ plain behind.now) (tags_at new.now))) }
+    ensures err { OnErr result (kind.new ≡ kind.old) }
+{
+    let part = write_at(alloc, other_fields(kind), behind, new)?;
+    kind.put_field(alloc, name, part)?;
+    Ok(())
+}
+
+// Writes a kind behind a field of objects alone, out of which what was known of the field is taken.
+#[cycle(write_in)]
+fn write_known_field(
+    alloc: Global,
+    kind: &mut Kind,
+    name: &Chars,
+    part: Kind,
+    behind: &[Step],
+    new: Kind,
+) -> Result<(), Memory>
+    requires behind { IsWritable behind.now }
+    requires known { knows_field name.now kind.old ≡ true }
+    requires object { tags_at kind.old [] tag.Object ≡ true }
+    ensures ok { OnOk result ((whole : KindTree) → IsTaken name.now whole kind.old part → is_alone (tags_at whole []) tag.Object ≡ true
+        → SameSets (tags_at kind.new) (plain_write (tags_at whole) (field name.now ∷ plain behind.now) (tags_at new))) }
+    ensures err { OnErr result ((whole : KindTree) → IsCanonical whole → IsTaken name.now whole kind.old part → kind.new ≡ whole) }
+{
+    equal_tags_are_one_kind();
+    let mut part = part;
+    let written = write_in(alloc, &mut part, behind, new);
+    kind.put_field(alloc, name, part)?;
+    kind_is_canonical(kind);
+    written
 }
 
 // The kind of what stands here once a value of `new` is set at the end of the steps.

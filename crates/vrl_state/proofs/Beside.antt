@@ -3,8 +3,9 @@ use Rattle.std.proofs.Common.{◌≡◌, ℕ, List, ◌∷◌, ◌++◌, Option,
 use Rattle.vrl_kind.specs.KindTree.{KindTree}
 use Rattle.vrl_state.specs.Merging.{kept_if, HoldsIf, IsBeside, IsJoinedIf, IsJoinedPart, IsKeptPart, IsPartOf}
 use Rattle.vrl_state.specs.Ordered.{found, Entry, IsSorted}
-use Rattle.vrl_state.proofs.Cutting.{find_left, find_right}
-use Rattle.vrl_state.proofs.Parts.{by_side, here_at, no_part}
+use Rattle.vrl_state.specs.States.{IsVariableWithin}
+use Rattle.vrl_state.proofs.Cutting.{find_left, find_right, name_cmp}
+use Rattle.vrl_state.proofs.Parts.{by_side, here_at, no_part, over_left, over_right, AreOver}
 
 holds_itself : (o : Option KindTree) → HoldsIf o o
 holds_itself None = tt
@@ -61,6 +62,35 @@ joined_right part others before after l e r s beside joined =
     (λ y at. none_joined (found y r) (found y part) (found y others) (found y before) (found y after) at.right (joined y))
     (none_joined (found e.0 r) (found e.0 part) (found e.0 others) (found e.0 before) (found e.0 after) (here_at l e r s).right (joined e.0))
     (λ y at. subst (λ o. IsJoinedIf (found y r) o (found y before) (found y after)) (beside.same y at.above) (joined y))
+
+-- ---- order
+
+-- names before e are found alike in both
+over_before : (some others l : List Entry) (e : Entry) (r : List Entry) → IsSorted (l ++ e ∷ r) → ((y : List ℕ) → name_cmp y e.0 ≡ Less → found y some ≡ found y others) → AreOver some l → AreOver others l
+over_before some others l e r s same over =
+    by_side (λ y. IsVariableWithin (found y others) (found y l)) l e r s
+    (λ y at. subst (λ o. IsVariableWithin o (found y l)) (same y at.below) (over y))
+    (subst (IsVariableWithin (found e.0 others)) (sym (here_at l e r s).left) tt)
+    (λ y at. subst (IsVariableWithin (found y others)) (sym at.left) tt)
+
+over_behind : (some others l : List Entry) (e : Entry) (r : List Entry) → IsSorted (l ++ e ∷ r) → ((y : List ℕ) → name_cmp y e.0 ≡ Greater → found y some ≡ found y others) → AreOver some r → AreOver others r
+over_behind some others l e r s same over =
+    by_side (λ y. IsVariableWithin (found y others) (found y r)) l e r s
+    (λ y at. subst (IsVariableWithin (found y others)) (sym at.right) tt)
+    (subst (IsVariableWithin (found e.0 others)) (sym (here_at l e r s).right) tt)
+    (λ y at. subst (λ o. IsVariableWithin o (found y r)) (same y at.above) (over y))
+
+pub over_left_near : (part others l : List Entry) (e : Entry) (r : List Entry) → IsSorted (l ++ e ∷ r) → IsBeside Less e.0 part others → AreOver part l → AreOver others l
+over_left_near part others l e r s beside over = over_before part others l e r s beside.same over
+
+pub over_right_near : (part others l : List Entry) (e : Entry) (r : List Entry) → IsSorted (l ++ e ∷ r) → IsBeside Greater e.0 part others → AreOver part r → AreOver others r
+over_right_near part others l e r s beside over = over_behind part others l e r s beside.same over
+
+pub over_near_left : (part others l : List Entry) (e : Entry) (r : List Entry) → IsSorted (l ++ e ∷ r) → IsBeside Less e.0 part others → AreOver others (l ++ e ∷ r) → AreOver part l
+over_near_left part others l e r s beside over = over_before others part l e r s (λ y p. sym (beside.same y p)) (over_left others l e r s over)
+
+pub over_near_right : (part others l : List Entry) (e : Entry) (r : List Entry) → IsSorted (l ++ e ∷ r) → IsBeside Greater e.0 part others → AreOver others (l ++ e ∷ r) → AreOver part r
+over_near_right part others l e r s beside over = over_behind others part l e r s (λ y p. sym (beside.same y p)) (over_right others l e r s over)
 
 -- ---- ends of scopes
 

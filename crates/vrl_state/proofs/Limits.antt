@@ -1,5 +1,5 @@
 -- That the kinds of roots are within the limits and never absent.
-use Rattle.std.proofs.Common.{◌≡◌, ◌≤◌, ℕ, Bool, true, false, ◌||◌, cond, List, [], ◌∷◌, Option, Some, None, refl, sym, ap, ◌∙◌, subst, ⊎_elim, arith}
+use Rattle.std.proofs.Common.{◌≡◌, ◌≤◌, ℕ, Bool, true, false, ◌||◌, cond, List, [], ◌∷◌, length, Option, Some, None, refl, sym, ap, ◌∙◌, subst, ⊎_elim, arith}
 use Rattle.std.proofs.lemmas.Bool.{cases_lt}
 use Rattle.std.specs.FinMap as map
 use Rattle.std.specs.FinSet as set
@@ -75,6 +75,10 @@ written_present A N (s ∷ r) h = never_absent (plain_step s)
 
 pub written_root : (A : Sets) (K M : KindTree) (p : List Step) → IsPresent K → IsCutOf (write A p (tags_at K)) M → IsRootKind M
 written_root A K M p present c = sets_root _ M c (written_present A (tags_at K) p present)
+
+pub no_steps : (p : List Step) → length p ≡ 0 → p ≡ []
+no_steps [] none = refl
+no_steps (s ∷ r) none = absurd (omega arith)
 
 removed_present : (A : Sets) (p : List Step) → remove A p [] tag.Absent ≡ A [] tag.Absent
 removed_present A [] = refl

@@ -34,6 +34,9 @@ here_at l e r s =
     let cut = cut_at l e r s in
     record { whole = find_here e.0 l e r s (tied_itself nat_list_cmp_total e.0); left = find_absent e.0 l cut.below; right = find_none e.0 r cut.above }
 
+pub found_here : (x : List ℕ) (l : List Entry) (e : Entry) (r : List Entry) → IsSorted (l ++ e ∷ r) → x ≡ e.0 → found x (l ++ e ∷ r) ≡ Some e.1
+found_here x l e r s same = ap (λ y. found y (l ++ e ∷ r)) same ∙ (here_at l e r s).whole
+
 pub by_side : (P : List ℕ → Type 0) (l : List Entry) (e : Entry) (r : List Entry) → IsSorted (l ++ e ∷ r) → ((x : List ℕ) → IsLeft x l e r → P x) → P e.0 → ((x : List ℕ) → IsRight x l e r → P x) → (x : List ℕ) → P x
 by_side P l e r s left here right x =
     let cut = cut_at l e r s in

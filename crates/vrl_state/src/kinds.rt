@@ -1,4 +1,4 @@
-ghost use Rattle.std.specs.Prelude.{◌≡◌, ◌↔◌, IfOk, IsTrue, option_map, unwrap_or};
+ghost use Rattle.std.specs.Prelude.{◌≡◌, ◌↔◌, IfOk, IsTrue, OnErr, OnOk, option_map, unwrap_or};
 ghost use Rattle.vrl_path.specs.Steps.{IsPlain, IsWritable};
 ghost use Rattle.vrl_kind.specs.Canonical.{any_kind};
 ghost use Rattle.vrl_kind.specs.Cut.{flat, IsCut};
@@ -32,10 +32,19 @@ pub(crate) fn any(alloc: Global) -> Result<Rc<Kind>, Memory>
 pub fn cut(alloc: Global, kind: Kind) -> Result<Rc<Kind>, Memory>
     ensures { IfOk result (λ small. IsCut kind small.value) }
 {
-    if nodes(&kind) > NODE_LIMIT || levels(&kind) > LEVEL_LIMIT {
-        return share(alloc, flatten(alloc, &kind)?);
+    let mut small = kind;
+    small.cut(alloc);
+    share(alloc, small)
+}
+
+// The same of one that is shared already, which stays so where it isn't cut.
+fn cut_shared(alloc: Global, kind: &Rc<Kind>) -> Result<Rc<Kind>, Memory>
+    ensures { IfOk result (λ small. IsCut kind.now.value small.value) }
+{
+    if nodes(kind) > NODE_LIMIT || levels(kind) > LEVEL_LIMIT {
+        return flattened(alloc, kind);
     }
-    share(alloc, kind)
+    Ok(kind.clone()?)
 }
 
 // The same of a copy. `Memory`: want of memory.
@@ -99,6 +108,14 @@ pub(crate) fn shared_either(alloc: Global, a: &Rc<Kind>, b: &Rc<Kind>) -> Result
     }
 }
 
+// The kind of a root that is written as a whole. `Memory`: want of memory.
+pub(crate) fn whole(alloc: Global, new: &Rc<Kind>) -> Result<Rc<Kind>, Memory>
+    ensures { IfOk result (λ after. IsCutOf (tags_at new.now.value) after.value) }
+{
+    kind_is_canonical(new);
+    cut_shared(alloc, new)
+}
+
 // The kind with another written at a path, cut. `Memory`: want of memory.
 pub(crate) fn written(
     alloc: Global,
@@ -109,9 +126,9 @@ pub(crate) fn written(
     requires { IsWritable path.now }
     ensures { IfOk result (λ after. IsCutOf (write (tags_at kind.now.value) path.now (tags_at new.now)) after.value) }
 {
-    let written = write_kind(alloc, kind, path, new)?;
-    kind_is_canonical(&written);
-    cut(alloc, written)
+    let mut own = kind.copy(alloc)?;
+    write_cut(alloc, &mut own, path, new)?;
+    share(alloc, own)
 }
 
 // The kind without what stands at a path, cut. `Memory`: want of memory.
@@ -119,7 +136,71 @@ pub(crate) fn taken_out(alloc: Global, kind: &Rc<Kind>, path: &Path) -> Result<R
     requires { IsPlain path.now }
     ensures { IfOk result (λ after. IsCutOf (remove (tags_at kind.now.value) path.now) after.value) }
 {
-    let left = remove_kind(alloc, kind, path)?;
-    kind_is_canonical(&left);
-    cut(alloc, left)
+    let mut own = kind.copy(alloc)?;
+    take_out(alloc, &mut own, path)?;
+    share(alloc, own)
+}
+
+// Writes a kind at a path of another, which is then cut. `Memory`: want of memory; the kind stays as it was.
+fn write_cut(alloc: Global, kind: &mut Kind, path: &Path, new: &Kind) -> Result<(), Memory>
+    requires { IsWritable path.now }
+    ensures ok { OnOk result (IsCutOf (write (tags_at kind.old) path.now (tags_at new.now)) kind.new) }
+    ensures err { OnErr result (kind.new ≡ kind.old) }
+{
+    let copy = new.copy(alloc)?;
+    write_kind(alloc, kind, path, copy)?;
+    kind_is_canonical(kind);
+    kind.cut(alloc);
+    Ok(())
+}
+
+// Takes out what stands at a path of a kind, which is then cut. `Memory`: want of memory; the kind stays as it was.
+fn take_out(alloc: Global, kind: &mut Kind, path: &Path) -> Result<(), Memory>
+    requires { IsPlain path.now }
+    ensures ok { OnOk result (IsCutOf (remove (tags_at kind.old) path.now) kind.new) }
+    ensures err { OnErr result (kind.new ≡ kind.old) }
+{
+    remove_kind(alloc, kind, path)?;
+    kind_is_canonical(kind);
+    kind.cut(alloc);
+    Ok(())
+}
+
+// Writes a kind at a path of a shared one, which is then cut: in its place where nobody else has it. `Memory`: want
+// of memory; the kind stays as it was.
+pub(crate) fn write_shared(
+    alloc: Global,
+    kind: &mut Rc<Kind>,
+    path: &Path,
+    new: &Kind,
+) -> Result<(), Memory>
+    requires { IsWritable path.now }
+    ensures ok { OnOk result (IsCutOf (write (tags_at kind.old.value) path.now (tags_at new.now)) kind.new.value) }
+    ensures err { OnErr result (kind.new.value ≡ kind.old.value) }
+{
+    match Rc::get_mut(kind) {
+        Some(own) => write_cut(alloc, own, path, new),
+        None => {
+            let after = written(alloc, kind, path, new)?;
+            *kind = after;
+            Ok(())
+        }
+    }
+}
+
+// Takes out what stands at a path of a shared kind, which is then cut: in its place where nobody else has it. `Memory`:
+// want of memory; the kind stays as it was.
+pub(crate) fn take_out_shared(alloc: Global, kind: &mut Rc<Kind>, path: &Path) -> Result<(), Memory>
+    requires { IsPlain path.now }
+    ensures ok { OnOk result (IsCutOf (remove (tags_at kind.old.value) path.now) kind.new.value) }
+    ensures err { OnErr result (kind.new.value ≡ kind.old.value) }
+{
+    match Rc::get_mut(kind) {
+        Some(own) => take_out(alloc, own, path),
+        None => {
+            let after = taken_out(alloc, kind, path)?;
+            *kind = after;
+            Ok(())
+        }
+    }
 }

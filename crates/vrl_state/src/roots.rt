@@ -1,7 +1,7 @@
-ghost use Rattle.std.specs.Prelude.{◌≡◌, ◌↔◌, IfOk, IfSome, IsTrue, OnErr, OnOk, Some, option_map, List, ℕ};
+ghost use Rattle.std.specs.Prelude.{◌≡◌, ◌↔◌, [], IfOk, IfSome, IsTrue, OnErr, OnOk, Some, option_map, List, ℕ};
 ghost use Rattle.std.specs.FinMap as map;
 ghost use Rattle.vrl_path.specs.Steps.{IsPlain, IsWritable};
-ghost use Rattle.vrl_syntax.specs.declared.root.Root.TheVariants.{Name};
+ghost use Rattle.vrl_syntax.specs.declared.root.Root.TheVariants.{Event, Name};
 ghost use Rattle.vrl_kind.specs.Canonical.{any_kind};
 ghost use Rattle.vrl_kind.specs.Cut.{flat, IsCut};
 ghost use Rattle.vrl_kind.specs.Kinds.{tags_at};
@@ -11,7 +11,10 @@ ghost use Rattle.vrl_state.specs.Merging.{IsTurnedAt};
 ghost use Rattle.vrl_state.specs.States.{kept, kind_of, with_kind, written_from, HasRootKinds, IsCutOf, IsEitherMap, IsFlattened, IsForgotten, IsMapWithin, IsPresent, IsRootKind, IsRootKindIf, IsTakenOut, IsWritten};
 ghost use Rattle.vrl_state.specs.View.{scope_of};
 
-use crate::kinds::{any, cut_copy, flattened, shared_either, taken_out, within, written};
+use crate::kinds::{
+    any, cut_copy, flattened, shared_either, take_out_shared, taken_out, whole, within,
+    write_shared, written,
+};
 use crate::known::{RootKind, RootKinds};
 use crate::variables::VariableKinds;
 use std::alloc::Global;
@@ -117,6 +120,50 @@ impl KnownRoots {
         alloc: Global,
         root: &Root,
         path: &Path,
+        new: &Rc<Kind>,
+    ) -> Result<(), Memory>
+        requires writable { IsWritable path.now }
+        requires present { IsPresent new.now.value }
+        ensures ok { OnOk result (IsWritten root.now path.now new.now.value (Some self.old) (Some self.new)) }
+        ensures err { OnErr result (self.new ≡ self.old) }
+    {
+        if path.as_slice().is_empty() {
+            return self.assign_whole(alloc, root, new);
+        }
+        match root {
+            Root::Event => self.assign_event(alloc, path, new),
+            Root::Name(_name) => self.assign_variable(alloc, root, path, new),
+        }
+    }
+
+    // The same of a whole root, whose kind is then shared with whoever has it.
+    fn assign_whole(&mut self, alloc: Global, root: &Root, new: &Rc<Kind>) -> Result<(), Memory>
+        requires { IsPresent new.now.value }
+        ensures ok { OnOk result (IsWritten root.now [] new.now.value (Some self.old) (Some self.new)) }
+        ensures err { OnErr result (self.new ≡ self.old) }
+    {
+        let kind = whole(alloc, new)?;
+        self.put(alloc, root, kind)?;
+        Ok(())
+    }
+
+    // The same of the event, whose kind is changed in its place where nobody else has it.
+    fn assign_event(&mut self, alloc: Global, path: &Path, new: &Kind) -> Result<(), Memory>
+        requires writable { IsWritable path.now }
+        requires present { IsPresent new.now }
+        ensures ok { OnOk result (IsWritten Event path.now new.now (Some self.old) (Some self.new)) }
+        ensures err { OnErr result (self.new ≡ self.old) }
+    {
+        write_shared(alloc, &mut self.event, path, new)?;
+        Ok(())
+    }
+
+    // The same of any root, whose kind is made anew.
+    fn assign_variable(
+        &mut self,
+        alloc: Global,
+        root: &Root,
+        path: &Path,
         new: &Kind,
     ) -> Result<(), Memory>
         requires writable { IsWritable path.now }
@@ -132,6 +179,28 @@ impl KnownRoots {
     // Takes out what stands at a path; a root that is not known is passed over. `Memory`: want of memory; the
     // kinds stay as they were.
     pub(crate) fn remove(&mut self, alloc: Global, root: &Root, path: &Path) -> Result<(), Memory>
+        requires { IsPlain path.now }
+        ensures ok { OnOk result (IsTakenOut root.now path.now (Some self.old) (Some self.new)) }
+        ensures err { OnErr result (self.new ≡ self.old) }
+    {
+        match root {
+            Root::Event => self.remove_of_event(alloc, path),
+            Root::Name(_name) => self.remove_of_variable(alloc, root, path),
+        }
+    }
+
+    // The same of the event, whose kind is changed in its place where nobody else has it.
+    fn remove_of_event(&mut self, alloc: Global, path: &Path) -> Result<(), Memory>
+        requires { IsPlain path.now }
+        ensures ok { OnOk result (IsTakenOut Event path.now (Some self.old) (Some self.new)) }
+        ensures err { OnErr result (self.new ≡ self.old) }
+    {
+        take_out_shared(alloc, &mut self.event, path)?;
+        Ok(())
+    }
+
+    // The same of any root, whose kind is made anew.
+    fn remove_of_variable(&mut self, alloc: Global, root: &Root, path: &Path) -> Result<(), Memory>
         requires { IsPlain path.now }
         ensures ok { OnOk result (IsTakenOut root.now path.now (Some self.old) (Some self.new)) }
         ensures err { OnErr result (self.new ≡ self.old) }

@@ -1,32 +1,26 @@
 ghost use Rattle.std.specs.Prelude.{◌≡◌, ◌≢◌, ◌↔◌, ◌∷◌, [], ℕ, IfOk, IfSome, IsTrue, List, None, OnErr, OnOk, Some, option_map};
-ghost use Rattle.std.specs.FinMap as map;
-ghost use Rattle.std.specs.FinSet as set;
 ghost use Rattle.vrl_value.specs.Tree.{Tree};
 ghost use Rattle.vrl_path.specs.Steps.{IsPlain, IsWritable};
 ghost use Rattle.vrl_kind.specs.Kinds.{Inhabits};
 ghost use Rattle.vrl_syntax.specs.declared.root.Root.TheVariants.{Name};
-ghost use Rattle.vrl_kind.specs.Cut.{IsCut};
-ghost use Rattle.vrl_kind.specs.KindTree.{KindTree};
 ghost use Rattle.vrl_state.specs.Known.{known_as, HaveRootKinds};
-ghost use Rattle.vrl_state.specs.States.{kept, kind_in, knows, with_kind, AreScopesJoined, HasRootKinds, HaveSameScopes, IsEntered, IsFlattened, IsForgotten, IsHidden, IsHiding, IsJoined, IsKnownWithin, IsLeft, IsPresent, IsRootKind, IsRootKindIf, IsStart, IsTakenOut, IsWritten, Scope};
+ghost use Rattle.vrl_state.specs.States.{kind_in, knows, AreScopesJoined, HasRootKinds, HaveSameScopes, IsEntered, IsFlattened, IsForgotten, IsHidden, IsJoined, IsKnownWithin, IsLeft, IsPresent, IsRootKind, IsStart, IsTakenOut, IsWritten, Scope};
 ghost use Rattle.vrl_state.specs.Stores.{store_back, with_value, Fits, HidesOf, HoldsNames, IsStoreTakenOut, IsStoreWritten, Store};
-ghost use Rattle.vrl_state.specs.View.{names_of, scope_of};
 
+use crate::blocks::{enter, hide, leave};
 use crate::branch::{Branch, Mark};
-use crate::kinds::cut_copy;
 use crate::known::Known;
 use crate::laws::{
     blocks_keep_fits, flattening_keeps_fits, forgetting_keeps_fits, hiding_keeps_fits,
     joins_keep_fits, joins_keep_scopes, removals_keep_fits, starts_fit, writes_keep_fits,
 };
 use crate::roots::KnownRoots;
-use crate::scopes::{Scopes, open};
-use crate::variables::VariableKinds;
+use crate::scopes::Scopes;
 use std::alloc::Global;
 use std::marker::Model;
 use std::mem;
 use std::rc::Rc;
-use vrl_kind::{Kind, kind_is_canonical};
+use vrl_kind::Kind;
 use vrl_path::Path;
 use vrl_syntax::{Root, Roots};
 use vrl_value::{Chars, Memory};
@@ -122,14 +116,15 @@ impl State {
     }
 
     /// Writes a kind at a path of a root, which then has the kind of what stands there, cut. A variable that
-    /// is not known may hold any value, from a way that a join dropped, so a write to it starts from `any`.
-    /// `Memory`: want of memory; the state stays as it was.
-    pub fn assign(&mut self, root: &Root, path: &Path, new: &Kind) -> Result<(), Memory>
+    /// is not known may hold any value, from a way that a join dropped, so a write to it starts from `any`. A
+    /// whole root shares the kind with whoever has it, and the event's kind is changed in its place where
+    /// nobody else does. `Memory`: want of memory; the state stays as it was.
+    pub fn assign(&mut self, root: &Root, path: &Path, new: &Rc<Kind>) -> Result<(), Memory>
         requires writable { IsWritable path.now }
-        requires present { IsPresent new.now }
-        ensures written { OnOk result (IsWritten root.now path.now new.now self.old.known self.new.known) }
+        requires present { IsPresent new.now.value }
+        ensures written { OnOk result (IsWritten root.now path.now new.now.value self.old.known self.new.known) }
         ensures scopes { self.new.scopes ≡ self.old.scopes }
-        ensures fits { OnOk result ((value : Tree) (before after : Store) → Fits before self.old → Inhabits value new.now
+        ensures fits { OnOk result ((value : Tree) (before after : Store) → Fits before self.old → Inhabits value new.now.value
             → IsStoreWritten root.now path.now value before after → Fits after self.new) }
         ensures err { OnErr result (self.new ≡ self.old) }
     {
@@ -312,11 +307,11 @@ fn assign(
     known: &mut Option<KnownRoots>,
     root: &Root,
     path: &Path,
-    new: &Kind,
+    new: &Rc<Kind>,
 ) -> Result<(), Memory>
     requires writable { IsWritable path.now }
-    requires present { IsPresent new.now }
-    ensures written { OnOk result (IsWritten root.now path.now new.now known.old known.new) }
+    requires present { IsPresent new.now.value }
+    ensures written { OnOk result (IsWritten root.now path.now new.now.value known.old known.new) }
     ensures err { OnErr result (known.new ≡ known.old) }
 {
     let Some(known) = known else {
@@ -390,63 +385,6 @@ fn joined_scopes(alloc: Global, a: &State, b: &State) -> Result<Scopes, Memory>
     }
 }
 
-// The version of the variables that are known. `Memory`: want of memory.
-fn known_names(known: &Option<KnownRoots>) -> Result<VariableKinds, Memory>
-    ensures { IfOk result (λ names. (x : List ℕ) → set.contains (names_of names) x ≡ knows known.now x) }
-{
-    match known {
-        None => Ok(VariableKinds::new()),
-        Some(known) => known.names(),
-    }
-}
-
-// Opens a block. `Memory`: want of memory; the scopes stay as they were.
-fn enter(alloc: Global, known: &Option<KnownRoots>, scopes: &mut Scopes) -> Result<(), Memory>
-    ensures entered { OnOk result (IsEntered (record { known = known.now; scopes = scopes.old })
-        (record { known = known.now; scopes = scopes.new })) }
-    ensures err { OnErr result (scopes.new ≡ scopes.old) }
-{
-    let names = known_names(known)?;
-    let opened = open(alloc, &names, &VariableKinds::new(), scopes)?;
-    *scopes = opened;
-    Ok(())
-}
-
-// Ends the innermost scope. `Memory`: want of memory; nothing is changed.
-fn leave(alloc: Global, known: &mut Option<KnownRoots>, scopes: &mut Scopes) -> Result<(), Memory>
-    requires { scopes.old ≢ [] }
-    ensures left { OnOk result (IsLeft (record { known = known.old; scopes = scopes.old })
-        (record { known = known.new; scopes = scopes.new })) }
-    ensures known_err { OnErr result (known.new ≡ known.old) }
-    ensures scopes_err { OnErr result (scopes.new ≡ scopes.old) }
-{
-    let Some(scope) = &scopes.innermost else {
-        return Ok(());
-    };
-    let outer = scope.outer.copy()?;
-    leave_scope(alloc, known, &scope.known, &scope.hidden)?;
-    *scopes = outer;
-    Ok(())
-}
-
-// Drops the variables that were not known where a scope began, and gives hidden names their kinds back.
-// `Memory`: want of memory; what is known stays as it was.
-fn leave_scope(
-    alloc: Global,
-    known: &mut Option<KnownRoots>,
-    names: &VariableKinds,
-    hidden: &VariableKinds,
-) -> Result<(), Memory>
-    requires { (x : List ℕ) → IsRootKindIf (map.get hidden.now x) }
-    ensures ok { OnOk result (known.new ≡ option_map (kept (scope_of names.now hidden.now)) known.old) }
-    ensures err { OnErr result (known.new ≡ known.old) }
-{
-    match known {
-        None => Ok(()),
-        Some(known) => known.leave(alloc, names, hidden),
-    }
-}
-
 // Flattens roots, unless the state is dead.
 fn flatten(alloc: Global, known: &mut Option<KnownRoots>, roots: &[Root]) -> Result<(), Memory>
     ensures flat { OnOk result (IsFlattened roots.now known.old known.new) }
@@ -470,57 +408,5 @@ fn forget(alloc: Global, known: &mut Option<KnownRoots>, roots: &[Root]) -> Resu
     };
     let left = known.forgotten_at(alloc, roots)?;
     *known = left;
-    Ok(())
-}
-
-// Gives a name the kind of what is bound to it, and hides what was known of it. `Memory`: want of memory; nothing
-// is changed.
-fn hide(
-    alloc: Global,
-    known: &mut Option<KnownRoots>,
-    scopes: &mut Scopes,
-    name: &str,
-    new: &Kind,
-) -> Result<(), Memory>
-    requires entered { scopes.old ≢ [] }
-    requires present { IsPresent new.now }
-    ensures hidden { OnOk result (IsHidden name.now new.now (record { known = known.old; scopes = scopes.old })
-        (record { known = known.new; scopes = scopes.new })) }
-    ensures known_err { OnErr result (known.new ≡ known.old) }
-    ensures scopes_err { OnErr result (scopes.new ≡ scopes.old) }
-{
-    let inner = hidden(alloc, known, scopes, name)?;
-    bind(alloc, known, name, new)?;
-    *scopes = inner;
-    Ok(())
-}
-
-// The scopes, the innermost of which hides a name that is known. `Memory`: want of memory.
-fn hidden(
-    alloc: Global,
-    known: &Option<KnownRoots>,
-    scopes: &Scopes,
-    name: &str,
-) -> Result<Scopes, Memory>
-    ensures { IfOk result (λ hidden. IsHiding name.now (kind_in (Name name.now) known.now) scopes.now hidden) }
-{
-    match known {
-        None => scopes.hiding(alloc, name, None),
-        Some(known) => scopes.hiding(alloc, name, known.variable(name)),
-    }
-}
-
-// Gives a name the kind of what is bound to it, cut, unless the state is dead.
-fn bind(alloc: Global, known: &mut Option<KnownRoots>, name: &str, new: &Kind) -> Result<(), Memory>
-    requires { IsPresent new.now }
-    ensures bound { OnOk result ((kind : KindTree) × IsCut new.now kind × (known.new ≡ option_map (with_kind (Name name.now) kind) known.old)) }
-    ensures err { OnErr result (known.new ≡ known.old) }
-{
-    kind_is_canonical(new);
-    let kind = cut_copy(alloc, new)?;
-    let Some(known) = known else {
-        return Ok(());
-    };
-    known.bind(alloc, name, kind)?;
     Ok(())
 }

@@ -11,11 +11,21 @@ use crate::kinds::{other_either, within};
 use crate::known::RootKind;
 use crate::tree::{Entry, NameTree};
 use std::alloc::Global;
-use std::cmp::Ordering;
 use std::rc::Rc;
 use vrl_kind::Kind;
 use vrl_syntax::Root;
 use vrl_value::{Chars, Memory};
+
+// What a version has at a name, and where it has what stands on both sides of that name.
+#[derive(Clone, Copy)]
+struct Around<'a> {
+    // Where the names before it are found.
+    before: &'a NameTree,
+    // Its kind. `None`: it isn't there.
+    kind: Option<&'a Rc<Kind>>,
+    // Where the names behind it are found.
+    behind: &'a NameTree,
+}
 
 impl NameTree {
     // Puts each name with a copy of its kind behind others, by the bytes of the names. `Memory`: want of memory.
@@ -38,13 +48,14 @@ impl NameTree {
         let Some(node) = &self.node else {
             return true;
         };
-        if !is_known_within(others.get(node.entry.name.as_str()), &node.entry.kind) {
+        let near = others.around(node.entry.name.as_str());
+        if !is_known_within(near.kind, &node.entry.kind) {
             return false;
         }
-        if !node.left.is_over(others) {
+        if !node.left.is_over(near.before) {
             return false;
         }
-        node.right.is_over(others)
+        node.right.is_over(near.behind)
     }
 
     // Joins a part of a version to others. `joined` begins as the whole version. `Memory`: want of memory.
@@ -62,10 +73,10 @@ impl NameTree {
         let Some(node) = &self.node else {
             return Ok(());
         };
-        let name = node.entry.name.as_str();
-        node.left.join_into(alloc, others.left_of(name), joined)?;
-        join_entry(alloc, &node.entry, others.get(name), joined)?;
-        node.right.join_into(alloc, others.right_of(name), joined)?;
+        let near = others.around(node.entry.name.as_str());
+        node.left.join_into(alloc, near.before, joined)?;
+        join_entry(alloc, &node.entry, near.kind, joined)?;
+        node.right.join_into(alloc, near.behind, joined)?;
         Ok(())
     }
 
@@ -83,35 +94,38 @@ impl NameTree {
             return Ok(());
         };
         let name = node.entry.name.as_str();
-        node.left.keep_into(alloc, names.left_of(name), kept)?;
-        keep_name(alloc, name, names.get(name), kept)?;
-        node.right.keep_into(alloc, names.right_of(name), kept)?;
+        let near = names.around(name);
+        node.left.keep_into(alloc, near.before, kept)?;
+        keep_name(alloc, name, near.kind, kept)?;
+        node.right.keep_into(alloc, near.behind, kept)?;
         Ok(())
     }
 
-    // Where the names before this one are found: the left side of the root that has it, else the whole.
-    fn left_of(&self, name: &str) -> &NameTree
-        ensures { IsBeside Less name.now result.now.entries self.now.entries }
+    // What stands at a name, and on both sides of it: those of the root that has the name, else the whole. Versions that
+    // were made of one another mostly have the same name there, which one test of equality tells.
+    fn around(&self, name: &str) -> Around<'_>
+        ensures before { IsBeside Less name.now result.before.now.entries self.now.entries }
+        ensures kind { option_map (λ kind. kind.now.value) result.kind ≡ found name.now self.now.entries }
+        ensures behind { IsBeside Greater name.now result.behind.now.entries self.now.entries }
     {
         let Some(node) = &self.node else {
-            return self;
+            return Around {
+                before: self,
+                kind: None,
+                behind: self,
+            };
         };
-        match name.cmp(node.entry.name.as_str()) {
-            Ordering::Equal => &node.left,
-            _ => self,
+        if name == node.entry.name.as_str() {
+            return Around {
+                before: &node.left,
+                kind: Some(&node.entry.kind),
+                behind: &node.right,
+            };
         }
-    }
-
-    // The same of the names behind it.
-    fn right_of(&self, name: &str) -> &NameTree
-        ensures { IsBeside Greater name.now result.now.entries self.now.entries }
-    {
-        let Some(node) = &self.node else {
-            return self;
-        };
-        match name.cmp(node.entry.name.as_str()) {
-            Ordering::Equal => &node.right,
-            _ => self,
+        Around {
+            before: self,
+            kind: self.get(name),
+            behind: self,
         }
     }
 

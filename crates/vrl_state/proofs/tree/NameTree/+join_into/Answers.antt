@@ -15,7 +15,7 @@ join_into-requires t c =
     let kinds : (x : List ℕ) → IsRootKindIf (found x (n.left.entries ++ entry_of n.entry ∷ n.right.entries)) = subst (λ (es : List Entry). (x : List ℕ) → IsRootKindIf (found x es)) is c.requires.kinds in
     let part : IsPartOf (n.left.entries ++ entry_of n.entry ∷ n.right.entries) c.args.joined.now.entries = subst (λ (es : List Entry). IsPartOf es c.args.joined.now.entries) is c.requires.part in (
       omega (arith, c.decreases, ap length is, length-append n.left.entries (entry_of n.entry ∷ n.right.entries)),
-      (kinds_left IsRootKindIf n.left.entries (entry_of n.entry) n.right.entries tt all kinds, (kinds_part IsRootKindIf c.left_of.result.now.entries c.args.others.now.entries tt c.left_of.ensures.holds c.requires.others, part_left c.args.joined.now.entries n.left.entries (entry_of n.entry) n.right.entries all part)),
+      (kinds_left IsRootKindIf n.left.entries (entry_of n.entry) n.right.entries tt all kinds, (kinds_part IsRootKindIf c.around-near.result.before.now.entries c.args.others.now.entries tt c.around-near.ensures.before.holds c.requires.others, part_left c.args.joined.now.entries n.left.entries (entry_of n.entry) n.right.entries all part)),
     )
 
 pub join_entry-requires-clause-kind : goal.join_entry-requires-clause-kind
@@ -34,9 +34,9 @@ join_entry-requires-clause-part t c =
     let others = c.args.others.now.entries in
     let before = c.args.joined.now.entries in
     let mid = c.join_into.new.joined.entries in
-    let first' : IsJoinedPart n.left.entries c.left_of.result.now.entries before mid = search rules in
-    let near : IsBeside Less (entry_of n.entry).0 c.left_of.result.now.entries others = search rules in
-    let first : IsJoinedPart n.left.entries others before mid = joined_left c.left_of.result.now.entries others before mid n.left.entries (entry_of n.entry) n.right.entries all near first' in
+    let first' : IsJoinedPart n.left.entries c.around-near.result.before.now.entries before mid = search rules in
+    let near : IsBeside Less (entry_of n.entry).0 c.around-near.result.before.now.entries others = search rules in
+    let first : IsJoinedPart n.left.entries others before mid = joined_left c.around-near.result.before.now.entries others before mid n.left.entries (entry_of n.entry) n.right.entries all near first' in
     part_here c.args.others.now.entries c.args.joined.now.entries c.join_into.new.joined.entries n.left.entries (entry_of n.entry) n.right.entries all part first
 
 pub join_into-requires-2 : goal.join_into-requires-2
@@ -50,12 +50,12 @@ join_into-requires-2 t c =
     let is : c.args.self.now.entries ≡ n.left.entries ++ entry_of n.entry ∷ n.right.entries = search rules in
     let kinds : (x : List ℕ) → IsRootKindIf (found x (n.left.entries ++ entry_of n.entry ∷ n.right.entries)) = subst (λ (es : List Entry). (x : List ℕ) → IsRootKindIf (found x es)) is c.requires.kinds in
     let part : IsPartOf (n.left.entries ++ entry_of n.entry ∷ n.right.entries) before = subst (λ (es : List Entry). IsPartOf es before) is c.requires.part in
-    let first' : IsJoinedPart n.left.entries c.left_of.result.now.entries before mid = search rules in
-    let near : IsBeside Less (entry_of n.entry).0 c.left_of.result.now.entries others = search rules in
-    let first : IsJoinedPart n.left.entries others before mid = joined_left c.left_of.result.now.entries others before mid n.left.entries (entry_of n.entry) n.right.entries all near first' in
+    let first' : IsJoinedPart n.left.entries c.around-near.result.before.now.entries before mid = search rules in
+    let near : IsBeside Less (entry_of n.entry).0 c.around-near.result.before.now.entries others = search rules in
+    let first : IsJoinedPart n.left.entries others before mid = joined_left c.around-near.result.before.now.entries others before mid n.left.entries (entry_of n.entry) n.right.entries all near first' in
     let second : IsJoinedAt (entry_of n.entry) (found (entry_of n.entry).0 others) mid next = search rules in (
       omega (arith, c.decreases, ap length is, length-append n.left.entries (entry_of n.entry ∷ n.right.entries)),
-      (kinds_right IsRootKindIf n.left.entries (entry_of n.entry) n.right.entries tt all kinds, (kinds_part IsRootKindIf c.right_of.result.now.entries others tt c.right_of.ensures.holds c.requires.others, part_right others before mid next n.left.entries (entry_of n.entry) n.right.entries all part first second)),
+      (kinds_right IsRootKindIf n.left.entries (entry_of n.entry) n.right.entries tt all kinds, (kinds_part IsRootKindIf c.around-near.result.behind.now.entries others tt c.around-near.ensures.behind.holds c.requires.others, part_right others before mid next n.left.entries (entry_of n.entry) n.right.entries all part first second)),
     )
 
 pub returns : goal.returns
@@ -68,11 +68,11 @@ returns t c =
     let after = c.join_into-2.new.joined.entries in
     let all : IsSorted (n.left.entries ++ entry_of n.entry ∷ n.right.entries) = search rules in
     let is : c.args.self.now.entries ≡ n.left.entries ++ entry_of n.entry ∷ n.right.entries = search rules in
-    let first' : IsJoinedPart n.left.entries c.left_of.result.now.entries before mid = search rules in
-    let near : IsBeside Less (entry_of n.entry).0 c.left_of.result.now.entries others = search rules in
-    let first : IsJoinedPart n.left.entries others before mid = joined_left c.left_of.result.now.entries others before mid n.left.entries (entry_of n.entry) n.right.entries all near first' in
+    let first' : IsJoinedPart n.left.entries c.around-near.result.before.now.entries before mid = search rules in
+    let near : IsBeside Less (entry_of n.entry).0 c.around-near.result.before.now.entries others = search rules in
+    let first : IsJoinedPart n.left.entries others before mid = joined_left c.around-near.result.before.now.entries others before mid n.left.entries (entry_of n.entry) n.right.entries all near first' in
     let second : IsJoinedAt (entry_of n.entry) (found (entry_of n.entry).0 others) mid next = search rules in
-    let third' : IsJoinedPart n.right.entries c.right_of.result.now.entries next after = search rules in
-    let far : IsBeside Greater (entry_of n.entry).0 c.right_of.result.now.entries others = search rules in
-    let third : IsJoinedPart n.right.entries others next after = joined_right c.right_of.result.now.entries others next after n.left.entries (entry_of n.entry) n.right.entries all far third' in
+    let third' : IsJoinedPart n.right.entries c.around-near.result.behind.now.entries next after = search rules in
+    let far : IsBeside Greater (entry_of n.entry).0 c.around-near.result.behind.now.entries others = search rules in
+    let third : IsJoinedPart n.right.entries others next after = joined_right c.around-near.result.behind.now.entries others next after n.left.entries (entry_of n.entry) n.right.entries all far third' in
     subst (λ es. IsJoinedPart es others before after) (sym is) (joined_parts others before mid next after n.left.entries (entry_of n.entry) n.right.entries all first second third)

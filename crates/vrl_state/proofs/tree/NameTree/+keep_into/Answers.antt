@@ -16,11 +16,11 @@ returns t c =
     let after = c.keep_into-2.new.kept.entries in
     let all : IsSorted (n.left.entries ++ entry_of n.entry ∷ n.right.entries) = search rules in
     let is : c.args.self.now.entries ≡ n.left.entries ++ entry_of n.entry ∷ n.right.entries = search rules in
-    let first' : IsKeptPart n.left.entries c.left_of.result.now.entries before mid = search rules in
-    let near : IsBeside Less (entry_of n.entry).0 c.left_of.result.now.entries names = search rules in
-    let first : IsKeptPart n.left.entries names before mid = kept_left c.left_of.result.now.entries names before mid n.left.entries (entry_of n.entry) n.right.entries all near first' in
+    let first' : IsKeptPart n.left.entries c.around-near.result.before.now.entries before mid = search rules in
+    let near : IsBeside Less (entry_of n.entry).0 c.around-near.result.before.now.entries names = search rules in
+    let first : IsKeptPart n.left.entries names before mid = kept_left c.around-near.result.before.now.entries names before mid n.left.entries (entry_of n.entry) n.right.entries all near first' in
     let second : IsKeptAt (is_some (found (entry_of n.entry).0 names)) (entry_of n.entry).0 mid next = search rules in
-    let third' : IsKeptPart n.right.entries c.right_of.result.now.entries next after = search rules in
-    let far : IsBeside Greater (entry_of n.entry).0 c.right_of.result.now.entries names = search rules in
-    let third : IsKeptPart n.right.entries names next after = kept_right c.right_of.result.now.entries names next after n.left.entries (entry_of n.entry) n.right.entries all far third' in
+    let third' : IsKeptPart n.right.entries c.around-near.result.behind.now.entries next after = search rules in
+    let far : IsBeside Greater (entry_of n.entry).0 c.around-near.result.behind.now.entries names = search rules in
+    let third : IsKeptPart n.right.entries names next after = kept_right c.around-near.result.behind.now.entries names next after n.left.entries (entry_of n.entry) n.right.entries all far third' in
     subst (λ es. IsKeptPart es names before after) (sym is) (kept_parts names before mid next after n.left.entries (entry_of n.entry) n.right.entries all first second third)
