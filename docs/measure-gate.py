@@ -5,7 +5,8 @@ told to take nothing of it (`--anew`), and there names of crates, as `docs/measu
 them alone. What rt says goes to standard error.
 
 The seconds are those of the processes that rt starts, read from /proc five times a second, so a process counts some
-hundredths of a second less than it took. The edits have with them the proof of the crate that they begin with."""
+hundredths of a second less than it took. The edits have with them the proof of the crate that they begin with. Behind the rows stands how much of the processors' time
+the machine's host took away for others: where it is much, the same work takes more seconds too."""
 import glob, os, subprocess, sys, time
 
 TOP = os.path.dirname(os.path.dirname(os.path.realpath(__file__)))
@@ -24,6 +25,13 @@ def processes():
         words = text[text.rindex(")") + 2 :].split()
         found[int(text.split(" ", 1)[0])] = int(words[1]), sum(map(int, words[11:15])) / TICKS
     return found
+
+
+def taken():
+    """The seconds of all processors since the machine began, and those that its host took away."""
+    with open("/proc/stat") as it:
+        spent = [int(word) / TICKS for word in it.readline().split()[1:9]]
+    return sum(spent), spent[7]
 
 
 def chain(found, pid, top):
@@ -92,13 +100,16 @@ def row(name, lines, seconds):
 
 
 def main():
+    before = taken()
     told, passed = measure(sys.argv[1:])
+    whole, lost = (now - then for now, then in zip(taken(), before))
     print("| Crate | Lines of code | of tests | of specs | of proofs | Edits | Seconds of proof | of tests | of edits | Minutes per 1,000 lines |")
     print("|" + "---|" * 10)
     rows = [(crate, lines_of(crate), list(told[crate].values())) for crate in told]
     for it in rows:
         row(*it)
     row("sum", [sum(it) for it in zip(*(it[1] for it in rows))], [sum(it) for it in zip(*(it[2] for it in rows))])
+    print(f"\nOf the processors' time the machine's host took {100 * lost / whole:.1f} in 100 meanwhile.")
     return 0 if passed else 1
 
 
