@@ -2,6 +2,8 @@
 #![tactic(auto)]
 
 #[cfg(test)]
+mod branches;
+#[cfg(test)]
 mod kind_files;
 #[cfg(test)]
 mod kinds;
