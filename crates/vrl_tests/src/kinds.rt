@@ -1,4 +1,5 @@
 // Kinds, made by words and by JSON values, and how they are told in text.
+use crate::sharing::shareable;
 use std::alloc::Global;
 use std::process::Abort;
 use vrl_json::{JsonFault, from_line};
@@ -6,7 +7,6 @@ use vrl_kind::{
     Kind, Rest, cut, flatten, has, inhabits, join, kind_of, levels, nodes, overlaid, parts, print,
     within, without,
 };
-use vrl_tests::shareable;
 use vrl_value::{Chars, Memory, Tag, Value};
 
 // The value of a text, or null where it has none.

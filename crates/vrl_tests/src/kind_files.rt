@@ -1,9 +1,9 @@
 // Kind files, and how the kinds that they declare and their refusals are told.
+use crate::sharing::shareable;
 use std::alloc::Global;
 use std::process::Abort;
 use vrl_kind::print;
 use vrl_kindfile::{KindFault, files_have_one_answer, read_kind_file};
-use vrl_tests::shareable;
 use vrl_value::{Chars, Memory};
 
 // The text of a refusal.

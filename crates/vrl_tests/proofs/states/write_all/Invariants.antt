@@ -1,5 +1,5 @@
 use Rattle.std.proofs.Common.{◌≡◌}
-use Rattle.kind_tests.proofs.states.write_all.Given as goal
+use Rattle.vrl_tests.proofs.states.write_all.Given as goal
 
 -- the blocks stay open
 abbrev pub invariant-loop-word : goal.invariant-loop-word
