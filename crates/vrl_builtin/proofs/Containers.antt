@@ -1,26 +1,28 @@
 -- Answers that are arrays and objects, built of parts.
-use Rattle.std.specs.Prelude.{◌≡◌, ℕ, zero, suc, Bool, true, false, ◌||◌, List, [], ◌∷◌, Option, Some, None, IsTrue, IfSome, IsSomeAnd, ⊤, refl}
+use Rattle.std.specs.Prelude.{◌≡◌, ℕ, zero, suc, Bool, ◌||◌, List, [], ◌∷◌, map, Option, Some, None, IsTrue, IfSome, IsSomeAnd, ⊤, refl}
 use Rattle.std.proofs.Common.{sym, ap, ◌∙◌}
-use Rattle.std.proofs.lemmas.Bool.{true≢false}
+use Rattle.std.proofs.lemmas.Bool.{or_left, true≢false}
 use Rattle.std.proofs.lemmas.Cmp.{nat_list_cmp_total, tied_itself}
+use Rattle.std.proofs.Math.Bool.{or-true}
 use Rattle.std.specs.Ordering.{match_ordering, nat_cmp}
 use Rattle.std.specs.Cmp.Lexicographic.{slice_cmp}
 use Rattle.std.specs.declared.cmp.Ordering.{Ordering}
 use Rattle.std.specs.declared.cmp.Ordering.TheVariants.{Less, Equal, Greater}
 use Rattle.vrl_value.specs.Look.{Step, field, place, item_at, found_behind, found_if, raw_at, tag_found, there}
 use Rattle.vrl_value.specs.Tag.{tag_of}
-use Rattle.vrl_value.specs.Tree.{Tree, regex, array, object, IsBefore, Items, no_items, item, Members, no_members, member, find, put, IsOrdered, ItemsAreOrdered, MembersAreOrdered}
+use Rattle.vrl_value.specs.View.{items_of_trees}
+use Rattle.vrl_value.specs.Tree.{Tree, string, regex, array, object, IsBefore, Items, no_items, item, Members, no_members, member, find, put, IsOrdered, ItemsAreOrdered, MembersAreOrdered}
 use Rattle.vrl_value.specs.declared.value.Tag.{Tag}
 use Rattle.vrl_value.specs.declared.value.Tag.TheVariants as tag
 use Rattle.vrl_kind.specs.KindTree.{KindTree, KnownFields, Places, RestTree, exact, no_fields, no_places}
-use Rattle.vrl_kind.specs.Kinds.{or_absent, tags_at, Inhabits, SameTags}
+use Rattle.vrl_kind.specs.Kinds.{or_absent, tags_at, Inhabits, IsJoin, SameTags}
 use Rattle.vrl_kind.specs.Make.{array_kind, object_kind}
 use Rattle.vrl_kind.specs.PartSets.{parts_at}
 use Rattle.vrl_kind.specs.Sets.{Sets, SameSets, IsAllowed}
 use Rattle.vrl_kind.specs.Tags.{Tags, same_tag}
 use Rattle.vrl_kind.proofs.SomePart.{parts_are_allowed}
 use Rattle.vrl_value.proofs.Members.{find-member_other}
-use Rattle.vrl_builtin.specs.Containers.{array_of, object_of}
+use Rattle.vrl_builtin.specs.Containers.{array_of, either, object_of}
 use Rattle.vrl_builtin.specs.Law.{HoldsRegex, IsLawful}
 use Rattle.vrl_builtin.specs.OneTag.{IsPlain}
 use Rattle.vrl_builtin.specs.OneTagLaw.{no_regex, plain_is_of, plain_is_ordered}
@@ -75,11 +77,11 @@ each_member_so P Q no_members so each = tt
 each_member_so P Q (member k v ms) so each = (so v each.0, each_member_so P Q ms so each.1)
 
 -- a key before all others is no other's
-later_keys : (k : List ℕ) (ms : Members) → IsBefore k ms → find k ms ≡ None
+pub later_keys : (k : List ℕ) (ms : Members) → IsBefore k ms → find k ms ≡ None
 later_keys k no_members before = refl
 later_keys k (member l v ms) before = rw before.0 (later_keys k ms before.1)
 
-found_first : (k : List ℕ) (v : Tree) (ms : Members) → find k (member k v ms) ≡ Some v
+pub found_first : (k : List ℕ) (v : Tree) (ms : Members) → find k (member k v ms) ≡ Some v
 found_first k v ms = rw (tied_itself nat_list_cmp_total k) refl
 
 absurd_found : {v : Tree} → Some v ≡ None → ⊥
@@ -92,6 +94,11 @@ each_member_of P (member k v ms) ordered so = (
   so k v (found_first k v ms),
   each_member_of P ms ordered.2 (λ l u found. so l u (find-member_other l k v ms (λ same. absurd_found (sym found ∙ ap (λ x. find x ms) same ∙ later_keys k ms ordered.0)) ∙ found)),
 )
+
+-- each of some texts
+pub each_text : (P : Tree → Type 0) (ss : List (List ℕ)) → ((s : List ℕ) → P (string s)) → EachItem P (items_of_trees (map string ss))
+each_text P [] so = tt
+each_text P (s ∷ ss) so = (so s, each_text P ss so)
 
 pub each_ordered : (ts : Items) → ItemsAreOrdered ts → EachItem IsOrdered ts
 each_ordered no_items ordered = tt
@@ -120,21 +127,13 @@ plain_part A arguments v plain allowed = record {
   regexes = λ n holds. absurd (no_regex v plain n holds.0 holds.1);
 }
 
-or_first : (a b : Bool) → a ≡ true → (a || b) ≡ true
-or_first true b is = refl
-or_first false b is = absurd (true≢false (sym is))
-
-or_second : (b : Bool) → (b || true) ≡ true
-or_second true = refl
-or_second false = refl
-
 or_absent_so : (p : List Step) (T : Tags) (o : Option Tag) → IfSome o (λ t. IsTrue (T t)) → IfSome o (λ t. IsTrue (or_absent p T t))
 or_absent_so [] T None is = tt
-or_absent_so [] T (Some t) is = or_first (T t) (same_tag tag.Absent t) is
+or_absent_so [] T (Some t) is = or_left (T t) (same_tag tag.Absent t) is
 or_absent_so (s ∷ p) T o is = is
 
 part_allowed : (A : Sets) (o : Option Tree) (p : List Step) → IfSome o (λ v. IsAllowed v A) → IfSome (tag_found (found_behind (found_if o) p (λ u. raw_at u p))) (λ t. IsTrue (or_absent p (A p) t))
-part_allowed A None [] each = or_second (A [] tag.Absent)
+part_allowed A None [] each = or-true (A [] tag.Absent)
 part_allowed A None (s ∷ p) each = tt
 part_allowed A (Some v) p each = or_absent_so p (A p) (tag_found (raw_at v p)) (each p)
 
@@ -266,7 +265,7 @@ pub absent_so : (p : List Step) (T U : Tags) (t : Tag) → T t ≡ U t → or_ab
 absent_so [] T U t same = ap (λ b. b || same_tag tag.Absent t) same
 absent_so (s ∷ p) T U t same = same
 
-array_so : (A B : Sets) → SameSets A B → SameSets (array_of A) (array_of B)
+pub array_so : (A B : Sets) → SameSets A B → SameSets (array_of A) (array_of B)
 array_so A B same [] t = refl
 array_so A B same (place i ∷ p) t = absent_so p (A p) (B p) t (same p t)
 array_so A B same (field n ∷ p) t = refl
@@ -281,6 +280,9 @@ array_made A B K same made p t = made p t ∙ array_so A B same p t
 
 pub object_made : (A B : Sets) (K : KindTree) → SameSets A B → SameSets (tags_at K) (object_of A) → SameSets (tags_at K) (object_of B)
 object_made A B K same made p t = made p t ∙ object_so A B same p t
+
+pub either_made : (K L M : KindTree) (A B : Sets) → SameSets (tags_at K) A → SameSets (tags_at L) B → IsJoin K L M → SameSets (tags_at M) (either A B)
+either_made K L M A B first second joined p t = joined p t ∙ ap (λ b. b || tags_at L p t) (first p t) ∙ ap (λ b. A p t || b) (second p t)
 
 pub same_sets : (A B : Sets) → ((p : List Step) → A p ≡ B p) → SameSets A B
 same_sets A B same p t = ap (λ T. T t) (same p)

@@ -2,6 +2,7 @@
 use Rattle.std.proofs.Common.{◌≡◌, ◌<◌, ℕ, ◌+◌, Bool, true, false, ◌&&◌, ◌||◌, not, List, [], ◌∷◌, take, get_or, length, refl, sym, ap, ◌∙◌}
 use Rattle.std.proofs.lemmas.Bool.{true≢false}
 use Rattle.std.proofs.lemmas.List.Folds.{list_any_more}
+use Rattle.std.proofs.Math.Bool.{or-true}
 use Rattle.std.specs.List.{list_any}
 use Rattle.vrl_value.specs.Look.{Step, field, place}
 use Rattle.vrl_value.specs.declared.value.Tag.{Tag}
@@ -25,10 +26,6 @@ same_allowed T tag.List tag.List h = refl
 same_allowed T tag.Object tag.Object h = refl
 same_allowed T tag.Absent tag.Absent h = refl
 same_allowed T t u h = absurd (true≢false (sym h))
-
-or-true : (b : Bool) → (b || true) ≡ true
-or-true true = refl
-or-true false = refl
 
 goes : (T : Tags) (t u : Tag) (b : Bool) → same_tag t u ≡ b → allows T u ≡ false → not b ≡ (allows T t || not (b || false))
 goes T t u true is h = rw (same_allowed T t u is, h) refl
@@ -56,7 +53,3 @@ cut_by-more T ts i d K L M below before one p u =
     let t = outer_tag p u in
     one p u ∙ ap (λ b. b && stays T (get_or ts i d ∷ []) t) (before p u) ∙ both_stay (allows T t) (list_any (λ v. same_tag t v) (take i ts)) (same_tag t (get_or ts i d)) (tags_at K p u)
     ∙ ap (λ b. tags_at K p u && (allows T t || not b)) (sym (list_any_more (λ v. same_tag t v) ts i d below))
-
-or-false : (b : Bool) → (b || false) ≡ b
-or-false true = refl
-or-false false = refl

@@ -1,5 +1,6 @@
 -- Whether a part of a kind's arrays may have a tag, and the first part that has one outside a set.
-use Rattle.std.proofs.Common.{◌≡◌, ◌||◌, ◌&&◌, not, ℕ, suc, Bool, true, false, List, [], ◌∷◌, Option, Some, None, IsTrue, IfSome, refl, sym, ap, ◌∙◌, if◌then◌else◌}
+use Rattle.std.proofs.Common.{◌≡◌, ◌||◌, ◌&&◌, not, ℕ, suc, Bool, true, false, List, [], ◌∷◌, Option, Some, None, IsTrue, IsSome, IfSome, refl, sym, ap, ◌∙◌, if◌then◌else◌}
+use Rattle.std.proofs.lemmas.Bool.{and_from}
 use Rattle.std.specs.List.{list_any}
 use Rattle.vrl_value.specs.Tag.{tag_of}
 use Rattle.vrl_value.specs.Tree.{array, Items, no_items, item, IsOrdered}
@@ -12,14 +13,16 @@ use Rattle.vrl_kind.specs.Kinds.{rest_at, tags_at}
 use Rattle.vrl_kind.specs.PartSets.{known_places_at}
 use Rattle.vrl_kind.specs.Tags.{same_tag}
 use Rattle.vrl_kind.specs.View.{places_view}
-use Rattle.vrl_builtin.specs.Law.{IsOfGiven}
+use Rattle.vrl_builtin.specs.Law.{AreInstances, IsOfGiven}
+use Rattle.vrl_builtin.specs.OneTag.{IsOneTag, IsPlain}
 use Rattle.vrl_builtin.specs.PartKinds.{array_parts_at, part_allows_other}
-use Rattle.vrl_builtin.specs.Rows.{argument_at}
-use Rattle.vrl_builtin.specs.TagSets.{allows}
-use Rattle.vrl_builtin.specs.Words.{first_other_from}
+use Rattle.vrl_builtin.specs.Rows.{argument_at, GivenTree, items_at, items_given, kind_at}
+use Rattle.vrl_builtin.specs.TagSets.{allows, arrays}
+use Rattle.vrl_builtin.specs.Words.{first_other, first_other_from, unless_other}
 use Rattle.vrl_builtin.specs.declared.tags.Tags.{Tags}
 use Rattle.vrl_builtin.proofs.Containers.{each_item_so, EachItem, IsLawfulPart}
-use Rattle.vrl_builtin.proofs.Lawful.{any_tag, both}
+use Rattle.vrl_builtin.proofs.GivenTags.{arrays_only}
+use Rattle.vrl_builtin.proofs.Lawful.{any_tag}
 use Rattle.vrl_builtin.proofs.PartKinds.{given_items}
 
 -- ---- one tag
@@ -72,7 +75,7 @@ IsOther A T o = IfSome o (λ other. IsTrue (A other.1 && not (allows T other.1))
 
 by_test : (A : Tag → Bool) (T : Tags) (b : Bool) (t : Tag) (n : ℕ) (o : Option (ℕ × Tag)) → allows T t ≡ b → IsTrue (A t) → IsOther A T o → IsOther A T (if b then o else Some (n, t))
 by_test A T true t n o is allowed others = others
-by_test A T false t n o is allowed others = both (A t) (not (allows T t)) allowed (ap not is)
+by_test A T false t n o is allowed others = and_from (A t) (not (allows T t)) allowed (ap not is)
 
 other_from : (A : Tag → Bool) (T : Tags) (n : ℕ) (ts : Items) → EachItem (λ v. IsTrue (A (tag_of v))) ts → IsOther A T (first_other_from n T ts)
 other_from A T n no_items each = tt
@@ -88,3 +91,20 @@ other_given K T at ts arguments is of ordered =
       so : (o : Option (ℕ × Tag)) → IsOther (array_parts_at K []) T o → IfSome o (λ other. IsTrue (part_allows_other T K))
       so None found = tt
       so (Some other) found = any_tag (λ t. array_parts_at K [] t && not (allows T t)) other.1 found
+
+-- ---- answers of one tag
+
+value_or_other : (t : Tag) (o : Option (ℕ × Tag)) (fails : Bool) (v : Tree) → IsPlain v × (tag_of v ≡ t) → IfSome o (λ other. IsTrue fails) → IsOneTag t fails (unless_other o v)
+value_or_other t None fails v plain fail = plain
+value_or_other t (Some other) fails v plain fail = fail
+
+-- what is made of the parts of an array that is given, or the error of the first part of another tag
+pub made_of_parts : (t : Tag) (T : Tags) (at : ℕ) (make : Items → Tree) (givens : List GivenTree) (arguments : List (Option Tree)) → ((ts : Items) → IsPlain (make ts) × (tag_of (make ts) ≡ t)) →
+    IsSome (argument_at at arguments) → IfSome (argument_at at arguments) (λ v. IsTrue (allows arrays (tag_of v))) → AreInstances givens arguments →
+    IsOneTag t (part_allows_other T (kind_at at givens)) (unless_other (first_other T (items_at at arguments)) (make (items_at at arguments)))
+made_of_parts t T at make givens arguments plain there allowed instances =
+    let K = kind_at at givens in
+    arrays_only (λ a. argument_at at arguments ≡ a → IsOfGiven K a → IfSome a IsOrdered → IsOneTag t (part_allows_other T K) (unless_other (first_other T (items_given a)) (make (items_given a))))
+    (argument_at at arguments) there allowed
+    (λ ts first of ordered. value_or_other t (first_other T ts) (part_allows_other T K) (make ts) (plain ts) (other_given K T at ts arguments first of ordered))
+    refl (instances.kinds at) (instances.ordered at)

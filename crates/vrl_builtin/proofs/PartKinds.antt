@@ -1,5 +1,6 @@
 -- Kinds cut down to their arrays, and to their objects, and the kinds of the parts.
 use Rattle.std.proofs.Common.{◌≡◌, ℕ, Bool, true, false, ◌&&◌, List, [], ◌∷◌, Option, Some, None, IsTrue, refl, sym, ◌∙◌}
+use Rattle.std.proofs.Math.Bool.{and-false, and-true}
 use Rattle.vrl_value.specs.Look.{Step, field, place}
 use Rattle.vrl_value.specs.Tree.{Tree, Items, Members, array, object, IsOrdered}
 use Rattle.vrl_value.specs.declared.value.Tag.{Tag}
@@ -17,39 +18,31 @@ use Rattle.vrl_builtin.specs.Rows.{argument_at}
 use Rattle.vrl_builtin.specs.TagSets.{arrays, objects}
 use Rattle.vrl_builtin.proofs.Containers.{items_are_parts, members_are_parts, EachItem, EachMember, IsLawfulPart}
 
-and_false : (b : Bool) → (b && false) ≡ false
-and_false true = refl
-and_false false = refl
-
-and_true : (b : Bool) → (b && true) ≡ b
-and_true true = refl
-and_true false = refl
-
 cut_to_arrays : (K : KindTree) → SameSets (cut_to arrays K) (tags_at (arrays_alone K))
-cut_to_arrays (kind s l o) [] tag.Text = and_false s.string
-cut_to_arrays (kind s l o) [] tag.Int = and_false s.integer
-cut_to_arrays (kind s l o) [] tag.Bool = and_false s.boolean
-cut_to_arrays (kind s l o) [] tag.Null = and_false s.null
-cut_to_arrays (kind s l o) [] tag.Time = and_false s.timestamp
-cut_to_arrays (kind s l o) [] tag.Pattern = and_false s.regex
-cut_to_arrays (kind s l o) [] tag.List = and_true (has_list l)
-cut_to_arrays (kind s l o) [] tag.Object = and_false (has_object o)
-cut_to_arrays (kind s l o) [] tag.Absent = and_false s.absent
-cut_to_arrays (kind s l o) (place i ∷ p) t = and_true (list_at l i p t)
-cut_to_arrays (kind s l o) (field n ∷ p) t = and_false (object_at o n p t)
+cut_to_arrays (kind s l o) [] tag.Text = and-false s.string
+cut_to_arrays (kind s l o) [] tag.Int = and-false s.integer
+cut_to_arrays (kind s l o) [] tag.Bool = and-false s.boolean
+cut_to_arrays (kind s l o) [] tag.Null = and-false s.null
+cut_to_arrays (kind s l o) [] tag.Time = and-false s.timestamp
+cut_to_arrays (kind s l o) [] tag.Pattern = and-false s.regex
+cut_to_arrays (kind s l o) [] tag.List = and-true (has_list l)
+cut_to_arrays (kind s l o) [] tag.Object = and-false (has_object o)
+cut_to_arrays (kind s l o) [] tag.Absent = and-false s.absent
+cut_to_arrays (kind s l o) (place i ∷ p) t = and-true (list_at l i p t)
+cut_to_arrays (kind s l o) (field n ∷ p) t = and-false (object_at o n p t)
 
 cut_to_objects : (K : KindTree) → SameSets (cut_to objects K) (tags_at (objects_alone K))
-cut_to_objects (kind s l o) [] tag.Text = and_false s.string
-cut_to_objects (kind s l o) [] tag.Int = and_false s.integer
-cut_to_objects (kind s l o) [] tag.Bool = and_false s.boolean
-cut_to_objects (kind s l o) [] tag.Null = and_false s.null
-cut_to_objects (kind s l o) [] tag.Time = and_false s.timestamp
-cut_to_objects (kind s l o) [] tag.Pattern = and_false s.regex
-cut_to_objects (kind s l o) [] tag.List = and_false (has_list l)
-cut_to_objects (kind s l o) [] tag.Object = and_true (has_object o)
-cut_to_objects (kind s l o) [] tag.Absent = and_false s.absent
-cut_to_objects (kind s l o) (place i ∷ p) t = and_false (list_at l i p t)
-cut_to_objects (kind s l o) (field n ∷ p) t = and_true (object_at o n p t)
+cut_to_objects (kind s l o) [] tag.Text = and-false s.string
+cut_to_objects (kind s l o) [] tag.Int = and-false s.integer
+cut_to_objects (kind s l o) [] tag.Bool = and-false s.boolean
+cut_to_objects (kind s l o) [] tag.Null = and-false s.null
+cut_to_objects (kind s l o) [] tag.Time = and-false s.timestamp
+cut_to_objects (kind s l o) [] tag.Pattern = and-false s.regex
+cut_to_objects (kind s l o) [] tag.List = and-false (has_list l)
+cut_to_objects (kind s l o) [] tag.Object = and-true (has_object o)
+cut_to_objects (kind s l o) [] tag.Absent = and-false s.absent
+cut_to_objects (kind s l o) (place i ∷ p) t = and-false (list_at l i p t)
+cut_to_objects (kind s l o) (field n ∷ p) t = and-true (object_at o n p t)
 
 one_test : (a b : Bool) → (IsTrue a → IsTrue b) → (IsTrue b → IsTrue a) → a ≡ b
 one_test true b to from = sym (to refl)

@@ -1,6 +1,6 @@
 -- Texts of whole numbers, as std reads them.
 use Rattle.std.proofs.Common.{◌≡◌, ◌≤◌, nat_lt, ℕ, ℤ, pos, negsuc, Bool, true, false, ◌&&◌, List, [], ◌∷◌, Some, None, FitsSigned, refl, sym, ap, ◌∙◌, arith, if◌then◌else◌}
-use Rattle.std.proofs.lemmas.Bool.{true≢false, lt-ltb, ltb-true, le-leb, leb-true}
+use Rattle.std.proofs.lemmas.Bool.{and_parts, le-leb, leb-true, lt-ltb, ltb-true, true≢false}
 use Rattle.std.specs.Char.{digit_value}
 use Rattle.std.specs.List.{list_all}
 use Rattle.std.specs.Result.{OkIff, result_ok}
@@ -10,14 +10,6 @@ use Rattle.std.specs.declared.result.Result.TheVariants.{Ok, Err}
 use Rattle.std.specs.Int.{w64}
 use Rattle.vrl_builtin.specs.Numeral.{has_64_bits, is_numeral, read_in}
 
-and-first : (a b : Bool) → (a && b) ≡ true → a ≡ true
-and-first true b h = refl
-and-first false b h = h
-
-and-second : (a b : Bool) → (a && b) ≡ true → b ≡ true
-and-second true b h = h
-and-second false b h = absurd (true≢false (sym h))
-
 -- ---- 64 bits
 
 to_64 : (z : ℤ) → FitsSigned w64 z → has_64_bits z ≡ true
@@ -26,7 +18,7 @@ to_64 (negsuc n) h = rw (le-leb n 9223372036854775807 (omega (arith, h))) refl
 
 from_64 : (z : ℤ) → has_64_bits z ≡ true → FitsSigned w64 z
 from_64 (pos n) h = let below : n ≤ 9223372036854775807 = leb-true n 9223372036854775807 h in omega (arith, below)
-from_64 (negsuc n) h = let below : n ≤ 9223372036854775807 = leb-true n 9223372036854775807 (and-first _ _ h) in omega (arith, below)
+from_64 (negsuc n) h = let below : n ≤ 9223372036854775807 = leb-true n 9223372036854775807 (and_parts _ _ h).0 in omega (arith, below)
 
 -- ---- digits
 
@@ -36,7 +28,7 @@ all_to base (c ∷ cs) h = rw (lt-ltb (digit_value c) base h.0) (all_to base cs 
 
 all_from : (base : ℕ) (ds : List ℕ) → list_all (λ c. nat_lt (digit_value c) base) ds ≡ true → AllDigits base ds
 all_from base [] h = tt
-all_from base (c ∷ cs) h = (ltb-true (digit_value c) base (and-first _ _ h), all_from base cs (and-second _ _ h))
+all_from base (c ∷ cs) h = (ltb-true (digit_value c) base (and_parts _ _ h).0, all_from base cs (and_parts _ _ h).1)
 
 pub to_numeral : (base : ℕ) (ds : List ℕ) → IsNumeral base ds → is_numeral base ds ≡ true
 to_numeral base [] h = let no : ⊥ = omega (arith, h.0) in absurd no

@@ -1,5 +1,5 @@
--- Kinds of arrays and objects whose parts are of one kind.
-use Rattle.std.specs.Prelude.{false, [], ◌∷◌}
+-- Kinds of arrays and objects whose parts are of one kind, and of what is of either of two.
+use Rattle.std.specs.Prelude.{false, ◌||◌, [], ◌∷◌}
 use Rattle.vrl_value.specs.Look.{field, place}
 use Rattle.vrl_value.specs.declared.value.Tag.TheVariants as tag
 use Rattle.vrl_kind.specs.Kinds.{or_absent}
@@ -17,3 +17,7 @@ abbrev pub object_of : Sets → Sets
 object_of A [] t = same_tag tag.Object t
 object_of A (field n ∷ p) t = or_absent p (A p) t
 object_of A (place i ∷ p) t = false
+
+-- what either allows
+abbrev pub either : Sets → Sets → Sets
+either A B p t = A p t || B p t

@@ -1,6 +1,6 @@
 -- The row of a function: what it takes, what is known of its result before it is called, and what it answers.
 use Rattle.std.specs.Prelude.{ℕ, ℤ, Bool, true, false, List, [], ◌++◌, Option, Some, None, codes, option_map, slice_get}
-use Rattle.vrl_value.specs.Tree.{Tree, string, integer, boolean, null, timestamp, regex, array, object, Items, Members}
+use Rattle.vrl_value.specs.Tree.{Tree, string, integer, boolean, null, timestamp, regex, array, object, Items, no_items, Members}
 use Rattle.vrl_value.specs.declared.value.Tag.{Tag}
 use Rattle.vrl_kind.specs.KindTree.{KindTree}
 use Rattle.vrl_kind.specs.Kinds.{tags_at}
@@ -20,6 +20,13 @@ parameter name T = record { name = name; allowed = T; required = true; literal =
 
 abbrev pub optional_parameter : List ℕ → Tags → ParameterRow
 optional_parameter name T = record { name = name; allowed = T; required = false; literal = false }
+
+-- the same two for arguments that must be written as literals
+abbrev pub literal_parameter : List ℕ → Tags → ParameterRow
+literal_parameter name T = record { name = name; allowed = T; required = true; literal = true }
+
+abbrev pub optional_literal_parameter : List ℕ → Tags → ParameterRow
+optional_literal_parameter name T = record { name = name; allowed = T; required = false; literal = true }
 
 -- what is known of an argument before the call: its kind, where one is given, and its value, where it is written as a literal
 pub record GivenTree : Type 0 where
@@ -52,6 +59,17 @@ pub record Row : Type 0 where
 -- a row without parameters that want literals
 abbrev pub any_literal : ℕ → Tree → Bool
 any_literal place v = true
+
+-- a text that passes the test, which is what a literal may have to be
+abbrev pub is_text_of : (List ℕ → Bool) → Tree → Bool
+is_text_of test (string s) = test s
+is_text_of test (integer n) = false
+is_text_of test (boolean b) = false
+is_text_of test null = false
+is_text_of test (timestamp nanos) = false
+is_text_of test (regex n) = false
+is_text_of test (array ts) = false
+is_text_of test (object ms) = false
 
 -- the text of a function's error
 abbrev pub error_text : List ℕ → List ℕ → List ℕ
@@ -123,7 +141,7 @@ text_at place s arguments = text_or s (argument_at place arguments)
 abbrev pub value_at : ℕ → List (Option Tree) → Tree
 value_at place arguments = value_or null (argument_at place arguments)
 
--- what is given, where it has the tag: a text, a boolean, a moment, a regex's number, the parts of an array, and the members of an object
+-- what is given, where it has the tag: a text, a boolean, a moment, a regex's number, and the members of an object
 abbrev pub text_given : Option Tree → Option (List ℕ)
 text_given (Some (string s)) = Some s
 text_given argument = None
@@ -139,10 +157,6 @@ moment_given argument = None
 abbrev pub regex_given : Option Tree → Option ℕ
 regex_given (Some (regex n)) = Some n
 regex_given argument = None
-
-abbrev pub items_given : Option Tree → Option Items
-items_given (Some (array ts)) = Some ts
-items_given argument = None
 
 abbrev pub members_given : Option Tree → Option Members
 members_given (Some (object ms)) = Some ms
@@ -161,9 +175,6 @@ optional_moment place arguments = moment_given (argument_at place arguments)
 abbrev pub optional_regex : ℕ → List (Option Tree) → Option ℕ
 optional_regex place arguments = regex_given (argument_at place arguments)
 
-abbrev pub optional_items : ℕ → List (Option Tree) → Option Items
-optional_items place arguments = items_given (argument_at place arguments)
-
 abbrev pub optional_members : ℕ → List (Option Tree) → Option Members
 optional_members place arguments = members_given (argument_at place arguments)
 
@@ -174,3 +185,11 @@ boolean_or b argument = b
 
 abbrev pub boolean_at : ℕ → Bool → List (Option Tree) → Bool
 boolean_at place b arguments = boolean_or b (argument_at place arguments)
+
+-- the parts of the array at a place, and none where none is given
+abbrev pub items_given : Option Tree → Items
+items_given (Some (array ts)) = ts
+items_given argument = no_items
+
+abbrev pub items_at : ℕ → List (Option Tree) → Items
+items_at place arguments = items_given (argument_at place arguments)

@@ -1,9 +1,9 @@
 ghost use Rattle.std.specs.Prelude.{◌≡◌, map, option_map, IsSome};
-ghost use Rattle.vrl_value.specs.View.{items_of, members_of, tree_of};
-ghost use Rattle.vrl_builtin.specs.Rows.{argument_at, boolean_at, integer_at, optional_boolean, optional_integer, optional_items, optional_members, optional_moment, optional_regex, optional_text, text_at, value_at};
+ghost use Rattle.vrl_value.specs.View.{items_view, members_of, tree_of};
+ghost use Rattle.vrl_builtin.specs.Rows.{argument_at, boolean_at, integer_at, items_at, optional_boolean, optional_integer, optional_members, optional_moment, optional_regex, optional_text, text_at, value_at};
 ghost use Rattle.vrl_builtin.specs.View.{argument_tree, arguments_of};
 
-use vrl_value::{Fields, Items, Moment, Value};
+use vrl_value::{Fields, Moment, Value};
 
 /// The arguments of a call, borrowed, by the places of their parameters; `None` where no argument is given. A contract sees `arguments_of`
 /// them.
@@ -128,13 +128,13 @@ impl<'a> Arguments<'a> {
         }
     }
 
-    /// The parts of the array at a place, borrowed. `None`: none is given.
-    pub fn optional_items(&self, place: usize) -> Option<&Items>
-        ensures { option_map (λ items. items_of items.now) result ≡ optional_items place (arguments_of self.now) }
+    /// The parts of the array at a place, borrowed; no part where none is given.
+    pub fn items(&self, place: usize) -> &[Value]
+        ensures { items_view result.now ≡ items_at place (arguments_of self.now) }
     {
         match self.get(place) {
-            Some(Value::List(items)) => Some(items),
-            _ => None,
+            Some(Value::List(items)) => items.as_slice(),
+            _ => &[],
         }
     }
 

@@ -1,8 +1,9 @@
-ghost use Rattle.std.specs.Prelude.{◌≡◌, ℕ, List, IfOk};
-ghost use Rattle.vrl_value.specs.Tree.{Tree, string};
+ghost use Rattle.std.specs.Prelude.{◌≡◌, ℕ, Bool, List, IfOk, IsErr};
+ghost use Rattle.vrl_value.specs.Tree.{Tree, boolean, string};
 ghost use Rattle.vrl_value.specs.View.{items_view, tree_of};
 ghost use Rattle.vrl_builtin.specs.Rows.{failed, value as answer};
 ghost use Rattle.vrl_builtin.specs.View.{Applies};
+ghost use Rattle.vrl_builtin.specs.declared.failing.Applied.TheVariants as applied;
 ghost use Rattle.vrl_builtin.specs.Words.{element_is, first_other, part_is, path_element_is, value_is};
 
 use crate::tags::Tags;
@@ -23,7 +24,8 @@ pub enum Applied {
 impl Applied {
     /// A value that was made, or want of memory for it.
     pub fn value(made: Result<Value, Memory>) -> Applied
-        ensures { (value : Tree) → IfOk made (λ made. tree_of made ≡ value) → Applies (answer value) result }
+        ensures value { (value : Tree) → IfOk made (λ made. tree_of made ≡ value) → Applies (answer value) result }
+        ensures memory { result ≡ applied.Memory → IsErr made }
     {
         match made {
             Ok(value) => Applied::Value(value),
@@ -33,10 +35,22 @@ impl Applied {
 
     /// A text that was made, or want of memory for it.
     pub fn text(made: Result<Chars, Memory>) -> Applied
-        ensures { (text : List ℕ) → IfOk made (λ made. made ≡ text) → Applies (answer (string text)) result }
+        ensures value { (text : List ℕ) → IfOk made (λ made. made ≡ text) → Applies (answer (string text)) result }
+        ensures memory { result ≡ applied.Memory → IsErr made }
     {
         match made {
             Ok(text) => Applied::Value(Value::Text(text)),
+            Err(_memory) => Applied::Memory,
+        }
+    }
+
+    /// A boolean that was found, or want of memory for it.
+    pub fn boolean(found: Result<bool, Memory>) -> Applied
+        ensures value { (truth : Bool) → IfOk found (λ found. found ≡ truth) → Applies (answer (boolean truth)) result }
+        ensures memory { result ≡ applied.Memory → IsErr found }
+    {
+        match found {
+            Ok(truth) => Applied::Value(Value::Bool(truth)),
             Err(_memory) => Applied::Memory,
         }
     }

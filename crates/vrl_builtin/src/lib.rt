@@ -5,9 +5,9 @@
 //!
 //! Files: `builtin.rt` has the trait and `law.rt` its law, `one_tag.rt` the trait of functions whose results have one tag, and `of_text.rt` that of
 //! those that give a text for each text. `parameter.rt`, `tags.rt`, `given.rt`, `arguments.rt`, `setting.rt` and `failing.rt` have what the methods
-//! take and give. Of kinds, `of_parts.rt` has those of arrays and objects whose parts are of one kind, `any_parts.rt` those of any parts, `cutting.rt`
+//! take and give. Of kinds, `of_parts.rt` has those of arrays and objects whose parts are of one kind, and of either of two tags, `any_parts.rt` those of any parts, `cutting.rt`
 //! what is left of one at some tags, `part_kinds.rt` the parts of a kind's arrays and objects, and `part_tags.rt` whether such a part may have another
-//! tag. `items.rt` has the items of an array, and `numeral.rt` the numbers that functions read in texts. Of the definitions `Rows` says what a row is,
+//! tag. `items.rt` has the items of an array, `literal.rt` the names that a literal may be one of, and `numeral.rt` the numbers that functions read in texts. Of the definitions `Rows` says what a row is,
 //! `Conditions` what is asked of a call, and `Law` the law; `Listed` has the parts of a value as lists. What the laws of functions rest on stands in
 //! `proofs/`: `Lawful`, `Containers`, `AnswerParts` and `AnyParts` are on answers, `GivenTags`, `PartKinds` and `OtherParts` on what is given.
 #![tactic(auto)]
@@ -20,6 +20,7 @@ mod failing;
 mod given;
 mod items;
 mod law;
+mod literal;
 mod numeral;
 mod of_parts;
 mod of_text;
@@ -40,8 +41,9 @@ pub use failing::{
 pub use given::{Given, Givens};
 pub use items::items_of;
 pub use law::keeps_law;
+pub use literal::is_one_of;
 pub use numeral::read_integer;
-pub use of_parts::{array_of, object_of};
+pub use of_parts::{array_of, array_of_tag, either_tag, object_of, object_of_tag};
 pub use of_text::{FromText, OfText};
 pub use one_tag::OneTag;
 pub use parameter::Parameter;
