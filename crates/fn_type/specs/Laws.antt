@@ -1,7 +1,8 @@
 -- The functions of types keep the law.
-use Rattle.std.specs.Prelude.{◌≡◌, ℕ, Bool, true, false, ◌&&◌, List, [], Option, Some, None, codes, IfSome, IsSome, IsTrue, refl}
+use Rattle.std.specs.Prelude.{◌≡◌, ℕ, true, false, ◌&&◌, List, [], Option, Some, None, codes, IfSome, IsSome, IsTrue, refl}
 use Rattle.std.proofs.Common.{sym}
 use Rattle.std.proofs.lemmas.Bool.{true≢false}
+use Rattle.std.proofs.Math.Bool.{and-false}
 use Rattle.vrl_value.specs.Tag.{tag_of}
 use Rattle.vrl_value.specs.Tree.{Tree, string, integer, boolean, null, IsOrdered}
 use Rattle.vrl_value.specs.declared.value.Tag.{Tag}
@@ -52,17 +53,13 @@ only_is_lawful name t K (Some v) arguments is there of ordered =
     (λ same. argument_is_lawful 0 v (only_tag t) K (allows_other t K) arguments is of ordered (own_tag v t same))
     (λ other. other_is_given t K v of other)
 
-and_false : (b : Bool) → (b && false) ≡ false
-and_false true = refl
-and_false false = refl
-
-not_absent : (t : Tag) (K : Option KindTree) → given_cut_to (only_tag t) K [] tag.Absent ≡ false
-not_absent t None = refl
-not_absent t (Some K) = and_false (tags_at K [] tag.Absent)
+pub only_present : (t : Tag) (K : Option KindTree) → given_cut_to (only_tag t) K [] tag.Absent ≡ false
+only_present t None = refl
+only_present t (Some K) = and-false (tags_at K [] tag.Absent)
 
 pub only-law : (name : List ℕ) (t : Tag) → KeepsLaw (only_row name t)
 only-law name t = record {
-  present = λ givens sources given below. not_absent t (kind_at 0 givens);
+  present = λ givens sources given below. only_present t (kind_at 0 givens);
   lawful = λ givens arguments setting given fit instances below.
       only_is_lawful name t (kind_at 0 givens) (argument_at 0 arguments) arguments refl fit.0.there (instances.kinds 0) (instances.ordered 0);
 }
