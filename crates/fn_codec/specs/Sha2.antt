@@ -1,10 +1,10 @@
 -- `sha2`: the digests of FIPS 180-4, by the name of a variant, in hexadecimal digits.
-use Rattle.std.specs.Prelude.{ℕ, Bool, true, false, List, [], ◌∷◌, bytes_eq, codes, if◌then◌else◌}
+use Rattle.std.specs.Prelude.{ℕ, Bool, false, List, [], ◌∷◌, bytes_eq, codes, if◌then◌else◌}
 use Rattle.std.specs.List.{list_any}
-use Rattle.vrl_value.specs.Tree.{Tree, string, integer, boolean, null, timestamp, regex, array, object}
+use Rattle.vrl_value.specs.Tree.{string}
 use Rattle.vrl_value.specs.declared.value.Tag.TheVariants.{Text}
 use Rattle.vrl_kind.specs.Kinds.{only_at}
-use Rattle.vrl_builtin.specs.Rows.{Row, ParameterRow, value, parameter, text_at}
+use Rattle.vrl_builtin.specs.Rows.{Row, value, is_text_of, optional_literal_parameter, parameter, text_at}
 use Rattle.vrl_builtin.specs.TagSets.{strings}
 use Rattle.hex.specs.Hex.{encode_lower}
 use Rattle.sha2.specs.Sha256.{sha224, sha256}
@@ -26,25 +26,11 @@ digest_of name bytes =
     else if bytes_eq name (codes "SHA-512/224") then sha512_224 bytes
     else sha512_256 bytes
 
-abbrev pub is_variant_literal : Tree → Bool
-is_variant_literal (string name) = is_variant name
-is_variant_literal (integer n) = false
-is_variant_literal (boolean b) = false
-is_variant_literal null = false
-is_variant_literal (timestamp nanos) = false
-is_variant_literal (regex n) = false
-is_variant_literal (array ts) = false
-is_variant_literal (object ms) = false
-
--- the variant may be left out, and must be written as a literal
-abbrev pub variant_parameter : ParameterRow
-variant_parameter = record { name = codes "variant"; allowed = strings; required = false; literal = true }
-
 abbrev pub sha2_row : Row
 sha2_row = record {
   name = codes "sha2";
-  parameters = parameter (codes "value") strings ∷ variant_parameter ∷ [];
-  accepts = λ place literal. is_variant_literal literal;
+  parameters = parameter (codes "value") strings ∷ optional_literal_parameter (codes "variant") strings ∷ [];
+  accepts = λ place literal. is_text_of is_variant literal;
   kind = λ givens sources. only_at Text;
   may_fail = λ givens. false;
   means = λ arguments setting. value (string (encode_lower (digest_of (text_at 1 (codes "SHA-512/256") arguments) (text_at 0 [] arguments))));
