@@ -1,7 +1,7 @@
 -- Where a text stands in another: what std says of its searches, and what the words of the rows say, decide the same.
 use Rattle.std.proofs.Common.{◌≡◌, ℕ, ◌+◌, ◌-◌, Bool, true, false, ◌||◌, List, [], ◌∷◌, ◌++◌, None, length, take, drop, map, bytes_eq, refl, sym, ap, ◌∙◌, arith}
 use Rattle.std.proofs.lemmas.Grind.{common_steps}
-use Rattle.std.proofs.lemmas.Bool.{true≢false}
+use Rattle.std.proofs.lemmas.Bool.{or_left, or_right, true≢false}
 use Rattle.std.proofs.lemmas.Bool.Decides.{same_from_decides}
 use Rattle.std.proofs.lemmas.List.{length-append, length-drop, length-map, take-append-drop, take-map, drop-map}
 use Rattle.std.proofs.lemmas.Slice.Eq.{bytes_eq-Decides}
@@ -55,14 +55,6 @@ ends_is r part text is = same_from_decides r (ends_with part text) (suffix_decid
 
 -- ---- anywhere
 
-or_first : (a b : Bool) → a ≡ true → (a || b) ≡ true
-or_first true b is = refl
-or_first false b is = absurd (true≢false (sym is))
-
-or_second : (a b : Bool) → b ≡ true → (a || b) ≡ true
-or_second true b is = refl
-or_second false b is = is
-
 either : (a b : Bool) (P : Type 0) → (a ≡ true → P) → (b ≡ true → P) → (a || b) ≡ true → P
 either true b P first second is = first refl
 either false b P first second is = second is
@@ -77,9 +69,9 @@ contains_to part (c ∷ text) is =
 contains_from : (part text front rest : List ℕ) → text ≡ front ++ (part ++ rest) → contains part text ≡ true
 contains_from part [] [] rest is = (starts_decides part []).1 (rest, is)
 contains_from part [] (x ∷ front) rest is = absurd cc
-contains_from part (c ∷ text) [] rest is = or_first (starts_with part (c ∷ text)) (contains part text) ((starts_decides part (c ∷ text)).1 (rest, is))
+contains_from part (c ∷ text) [] rest is = or_left (starts_with part (c ∷ text)) (contains part text) ((starts_decides part (c ∷ text)).1 (rest, is))
 contains_from part (c ∷ text) (x ∷ front) rest is =
-    let behind : text ≡ front ++ (part ++ rest) = cc in or_second (starts_with part (c ∷ text)) (contains part text) (contains_from part text front rest behind)
+    let behind : text ≡ front ++ (part ++ rest) = cc in or_right (starts_with part (c ∷ text)) (contains part text) (contains_from part text front rest behind)
 
 pub contains_is : (r : Bool) (part text : List ℕ) → MatchBool r (HasMatch (FindsText part) text) (FindsText part text None) → r ≡ contains part text
 contains_is r part text is =

@@ -1,7 +1,6 @@
 -- The parts of an array in a range, and the kinds of what `slice` gives.
-use Rattle.std.proofs.Common.{◌≡◌, ℕ, zero, suc, ◌-◌, ℤ, true, ◌&&◌, ◌||◌, List, [], ◌∷◌, Option, Some, None, codes, length, take, drop, refl, sym, ap, ◌∙◌}
+use Rattle.std.proofs.Common.{◌≡◌, ℕ, zero, suc, ◌-◌, ℤ, true, ◌&&◌, List, [], ◌∷◌, Option, Some, None, codes, length, take, drop, refl, sym, ap, ◌∙◌}
 use Rattle.vrl_value.proofs.Places.{count_of-view}
-use Rattle.vrl_value.specs.Look.{field, place}
 use Rattle.vrl_value.specs.Parts.{count_of}
 use Rattle.vrl_value.specs.Tree.{item}
 use Rattle.vrl_value.specs.View.{items_view, tree_of}
@@ -9,15 +8,15 @@ use Rattle.vrl_value.specs.declared.value.Tag.TheVariants as tag
 use Rattle.vrl_value.specs.declared.value.Value.{Value}
 use Rattle.vrl_kind.proofs.SomePart.{parts_are_computed}
 use Rattle.vrl_kind.specs.KindTree.{KindTree}
-use Rattle.vrl_kind.specs.Kinds.{tags_at, IsJoin, IsParts}
+use Rattle.vrl_kind.specs.Kinds.{tags_at, IsParts}
 use Rattle.vrl_kind.specs.PartSets.{parts_at}
-use Rattle.vrl_kind.specs.Sets.{Sets, SameSets}
-use Rattle.vrl_kind.specs.Tags.{same_tag}
+use Rattle.vrl_kind.specs.Sets.{SameSets}
 use Rattle.vrl_builtin.specs.Containers.{array_of}
 use Rattle.vrl_builtin.specs.Rows.{failed, named, told, value}
 use Rattle.vrl_builtin.specs.View.{Applies}
 use Rattle.vrl_builtin.specs.declared.failing.Applied.{Applied}
-use Rattle.fn_string.specs.Slice.{array_between, array_kind, first_parts, parts_from, range_of, slice_kind, text_kind}
+use Rattle.vrl_builtin.proofs.Containers.{array_so}
+use Rattle.fn_string.specs.Slice.{array_between, array_kind, first_parts, parts_from, range_of}
 
 -- ---- parts
 
@@ -46,16 +45,6 @@ no_range vs start end result is applied = rw (sym (count_of-view vs), sym is) ap
 
 -- ---- kinds
 
-array_of_same : (A B : Sets) → SameSets A B → SameSets (array_of A) (array_of B)
-array_of_same A B same [] t = refl
-array_of_same A B same (place i ∷ []) t = ap (λ b. b || same_tag tag.Absent t) (same [] t)
-array_of_same A B same (place i ∷ (s ∷ p)) t = same (s ∷ p) t
-array_of_same A B same (field n ∷ p) t = refl
-
 pub arrays_are_of : (K all arrays : KindTree) → tags_at K [] tag.List ≡ true → IsParts K all → SameSets (tags_at arrays) (array_of (tags_at all)) → SameSets (tags_at arrays) (array_kind K)
 arrays_are_of K all arrays allowed parts same p t =
-    same p t ∙ array_of_same (tags_at all) (parts_at K) ((parts_are_computed K all).0 parts) p t ∙ sym (ap (λ b. b && array_of (parts_at K) p t) allowed)
-
-pub both_kinds : (K texts arrays both : KindTree) → SameSets (tags_at texts) (text_kind K) → SameSets (tags_at arrays) (array_kind K) → IsJoin texts arrays both → SameSets (tags_at both) (slice_kind (Some K))
-both_kinds K texts arrays both first second is p t =
-    is p t ∙ ap (λ b. b || tags_at arrays p t) (first p t) ∙ ap (λ b. text_kind K p t || b) (second p t)
+    same p t ∙ array_so (tags_at all) (parts_at K) ((parts_are_computed K all).0 parts) p t ∙ sym (ap (λ b. b && array_of (parts_at K) p t) allowed)

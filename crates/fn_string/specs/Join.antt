@@ -1,10 +1,10 @@
 -- `join`: the texts of an array as one, with a text between each two.
-use Rattle.std.specs.Prelude.{ℕ, List, [], ◌∷◌, ◌++◌, Option, Some, None, codes}
+use Rattle.std.specs.Prelude.{ℕ, List, [], ◌∷◌, ◌++◌, codes}
 use Rattle.vrl_value.specs.Tree.{Tree, string, integer, boolean, null, timestamp, regex, array, object, Items, no_items, item}
 use Rattle.vrl_value.specs.declared.value.Tag.TheVariants as tag
 use Rattle.vrl_builtin.specs.OneTag.{OneTagRow}
 use Rattle.vrl_builtin.specs.PartKinds.{part_allows_other}
-use Rattle.vrl_builtin.specs.Rows.{Answer, parameter, optional_parameter, kind_at, optional_items, text_at}
+use Rattle.vrl_builtin.specs.Rows.{Answer, parameter, optional_parameter, items_at, kind_at, text_at}
 use Rattle.vrl_builtin.specs.TagSets.{arrays, strings}
 use Rattle.vrl_builtin.specs.Words.{first_other, unless_other}
 
@@ -33,15 +33,11 @@ joined separator (item v ts) = text_of v ++ separated separator ts
 abbrev pub join_answer : Items → List ℕ → Answer
 join_answer ts separator = unless_other (first_other strings ts) (string (joined separator ts))
 
-abbrev pub parts_of : Option Items → Items
-parts_of None = no_items
-parts_of (Some ts) = ts
-
 abbrev pub join_row : OneTagRow
 join_row = record {
   name = codes "join";
   parameters = parameter (codes "value") arrays ∷ optional_parameter (codes "separator") strings ∷ [];
   tag = tag.Text;
   may_fail = λ givens. part_allows_other strings (kind_at 0 givens);
-  means = λ arguments setting. join_answer (parts_of (optional_items 0 arguments)) (text_at 1 [] arguments);
+  means = λ arguments setting. join_answer (items_at 0 arguments) (text_at 1 [] arguments);
 }

@@ -1,8 +1,8 @@
 ghost use Rattle.std.specs.Prelude.{◌≡◌, codes, IfOk};
 ghost use Rattle.vrl_value.specs.View.{items_view, tree_of};
-ghost use Rattle.vrl_builtin.specs.Rows.{named, optional_items};
-ghost use Rattle.vrl_builtin.specs.View.{arguments_of, Applies};
-ghost use Rattle.fn_string.specs.Join.{join_answer, join_row, joined, parts_of, text_of};
+ghost use Rattle.vrl_builtin.specs.Rows.{named};
+ghost use Rattle.vrl_builtin.specs.View.{Applies};
+ghost use Rattle.fn_string.specs.Join.{join_answer, join_row, joined, text_of};
 ghost use Rattle.fn_string.specs.JoinLaw.{join-law};
 
 use std::alloc::Global;
@@ -58,16 +58,6 @@ fn answer(alloc: Global, items: &[Value], separator: &str) -> Applied
     }
 }
 
-// The parts of the array that is given.
-fn parts_of<'a>(arguments: &'a Arguments<'_>) -> &'a [Value]
-    ensures { items_view result.now ≡ parts_of (optional_items 0 (arguments_of arguments.now)) }
-{
-    match arguments.optional_items(0) {
-        Some(items) => items.as_slice(),
-        None => &[],
-    }
-}
-
 impl OneTag for Join {
     ghost one_tag_row = { λ _. join_row };
 
@@ -88,7 +78,7 @@ impl OneTag for Join {
     }
 
     fn apply(&self, alloc: Global, arguments: &Arguments<'_>, _setting: &Setting<'_>) -> Applied {
-        answer(alloc, parts_of(arguments), arguments.text(1, ""))
+        answer(alloc, arguments.items(0), arguments.text(1, ""))
     }
 
     ghost one_tag = { λ _. join-law };

@@ -7,7 +7,7 @@ use std::alloc::Global;
 use vrl_builtin::{
     Applied, Arguments, Givens, OneTag, Parameter, Setting, Tags, optional, required,
 };
-use vrl_value::{Memory, Tag, Value};
+use vrl_value::{Memory, Tag};
 
 /// A function that is told by its name and where it looks for a text in another.
 pub trait SearchTest {
@@ -76,10 +76,7 @@ impl<F: SearchTest> OneTag for Search<F> {
     fn apply(&self, alloc: Global, arguments: &Arguments<'_>, _setting: &Setting<'_>) -> Applied {
         let (text, part) = (arguments.text(0, ""), arguments.text(1, ""));
         let sensitive = arguments.boolean(2, true);
-        match is_found(alloc, &self.0, part, text, sensitive) {
-            Ok(found) => Applied::Value(Value::Bool(found)),
-            Err(_memory) => Applied::Memory,
-        }
+        Applied::boolean(is_found(alloc, &self.0, part, text, sensitive))
     }
 
     ghost one_tag = { λ _. search-law F.search.0 F.search.1 };

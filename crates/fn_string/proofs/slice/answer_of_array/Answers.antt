@@ -7,7 +7,7 @@ use Rattle.fn_string.proofs.slice.answer_of_array.Goals as goal
 pub returns-in-Some : goal.returns-in-Some
 returns-in-Some c =
     let is : Some c.in-Some.range ≡ range_of (length c.args.items.now) c.args.start c.args.end = search rules in
-    some_range c.args.items.now c.args.start c.args.end c.in-Some.range c.value.result is (c.value.ensures (array_between (items_view c.args.items.now) c.in-Some.range) c.array_between.ensures)
+    some_range c.args.items.now c.args.start c.args.end c.in-Some.range c.value.result is (c.value.ensures.value (array_between (items_view c.args.items.now) c.in-Some.range) c.array_between.ensures)
 
 pub returns-in-None : goal.returns-in-None
 returns-in-None c =

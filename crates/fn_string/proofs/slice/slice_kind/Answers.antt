@@ -1,8 +1,10 @@
 use Rattle.std.proofs.lemmas.Result.{IfOk-weaker}
 use Rattle.vrl_kind.specs.KindTree.{KindTree}
-use Rattle.fn_string.proofs.Sliced.{both_kinds}
+use Rattle.vrl_builtin.proofs.Containers.{either_made}
+use Rattle.fn_string.specs.Slice.{array_kind, text_kind}
 use Rattle.fn_string.proofs.slice.slice_kind.Goals as goal
 
 pub returns : goal.returns
 returns c =
-    IfOk-weaker c.join.result _ _ (λ (both : KindTree) is. both_kinds c.args.kind.now c.in_ok-texts.texts c.in_ok-arrays.arrays both c.in_ok-texts.ensures c.in_ok-arrays.ensures is) c.join.ensures.union
+    let K = c.args.kind.now in
+    IfOk-weaker c.join.result _ _ (λ (both : KindTree) is. either_made c.in_ok-texts.texts c.in_ok-arrays.arrays both (text_kind K) (array_kind K) c.in_ok-texts.ensures c.in_ok-arrays.ensures is) c.join.ensures.union
