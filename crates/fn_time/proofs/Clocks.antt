@@ -1,6 +1,6 @@
 -- The moment that a clock shows, by tests and by what they test.
-use Rattle.std.proofs.Common.{◌≡◌, ℕ, ◌≤◌, ◌&&◌, nat_le, Bool, true, false, List, Option, Some, None, refl, sym, ap, subst, ◌∙◌, arith, ℤ, pos, neg_ℤ, negsuc, ◌-ℤ◌, ◌≤ℤ◌, int_le, IfSome, IfNone, IsSome, ◌↔◌, if◌then◌else◌}
-use Rattle.std.proofs.lemmas.Bool.{true≢false}
+use Rattle.std.proofs.Common.{◌≡◌, ℕ, ◌≤◌, ◌&&◌, nat_le, Bool, true, false, List, Option, Some, None, refl, sym, ap, subst, ◌∙◌, arith, ℤ, pos, neg_ℤ, negsuc, ◌-ℤ◌, ◌≤ℤ◌, int_le, IfSome, IfNone, if◌then◌else◌}
+use Rattle.std.proofs.lemmas.Bool.{and_from, and_parts, true≢false}
 use Rattle.std.proofs.lemmas.Bool.Decides.{nat_tests}
 use Rattle.std.proofs.lemmas.Int.{ints}
 use Rattle.jiff.specs.Words.{days_in_month, nanos_of_seconds, IsDate, IsTime}
@@ -12,14 +12,6 @@ use Rattle.vrl_value.proofs.Timestamps.{named-reading, reading-named}
 use Rattle.fn_time.specs.Clock.{clock_nanos, is_date, is_in_range, is_time, moment_at, moment_on_clock}
 use Rattle.fn_time.specs.Read.{timestamp_read, TimestampsAreRead}
 
-and_both : (a b : Bool) → (a && b) ≡ true → (a ≡ true) × (b ≡ true)
-and_both true b is = (refl, is)
-and_both false b is = absurd (true≢false (sym is))
-
-both_and : (a b : Bool) → a ≡ true → b ≡ true → (a && b) ≡ true
-both_and true b first second = second
-both_and false b first second = first
-
 below : (a b : ℕ) → nat_le a b ≡ true → a ≤ b
 below a b is = grind (arith, nat_tests)
 
@@ -29,10 +21,10 @@ is_below a b low = grind (arith, nat_tests)
 -- ---- the range
 
 pub in_range : (nanos : ℤ) → is_in_range nanos ≡ true → IsInRange nanos
-in_range nanos is = let both = and_both (int_le (negsuc 62167219199999999999) nanos) _ is in grind (arith, ints, both.0, both.1)
+in_range nanos is = let both = and_parts (int_le (negsuc 62167219199999999999) nanos) _ is in grind (arith, ints, both.0, both.1)
 
 pub is_in : (nanos : ℤ) → IsInRange nanos → is_in_range nanos ≡ true
-is_in nanos range = both_and (int_le (negsuc 62167219199999999999) nanos) _ (grind (arith, ints, range.0)) (grind (arith, ints, range.1))
+is_in nanos range = and_from (int_le (negsuc 62167219199999999999) nanos) _ (grind (arith, ints, range.0)) (grind (arith, ints, range.1))
 
 moment_in : (nanos : ℤ) (b : Bool) → b ≡ true → (if b then Some nanos else None) ≡ Some nanos
 moment_in nanos true is = refl
@@ -40,14 +32,6 @@ moment_in nanos false is = absurd (true≢false (sym is))
 
 pub moment_is : (nanos : ℤ) → IsInRange nanos → moment_at nanos ≡ Some nanos
 moment_is nanos range = moment_in nanos (is_in_range nanos) (is_in nanos range)
-
--- what `Moment::new` answers
-pub new_is : (nanos : ℤ) (made : Option ℤ) → IsSome made ↔ IsInRange nanos → IfSome made (λ m. m ≡ nanos) → made ≡ moment_at nanos
-new_is nanos (Some m) range value = ap Some value ∙ sym (moment_is nanos (range.0 refl))
-new_is nanos None range value = no_moment nanos (is_in_range nanos) refl (λ is. true≢false (sym (range.1 (in_range nanos is)))) where
-  no_moment : (nanos : ℤ) (b : Bool) → is_in_range nanos ≡ b → (is_in_range nanos ≡ true → ⊥) → None ≡ moment_at nanos
-  no_moment nanos true is out = absurd (out is)
-  no_moment nanos false is out = rw is refl
 
 -- ---- the date and the time
 
@@ -59,17 +43,17 @@ is_int_below a b low = grind (arith, ints)
 
 pub date_is : (year : ℤ) (month day : ℕ) → IsDate year (pos month) (pos day) → is_date year month day ≡ true
 date_is year month day date =
-    both_and _ _ (is_int_below (neg_ℤ (pos 9999)) year date.0.0) (both_and _ _ (is_int_below year (pos 9999) date.0.1)
-    (both_and _ _ (is_below 1 month (omega (arith, ints, date.1))) (both_and _ _ (is_below month 12 (omega (arith, ints, date.1)))
-    (both_and _ _ (is_below 1 day (omega (arith, ints, date.2))) (is_below day (days_in_month year month) (omega (arith, ints, date.2)))))))
+    and_from _ _ (is_int_below (neg_ℤ (pos 9999)) year date.0.0) (and_from _ _ (is_int_below year (pos 9999) date.0.1)
+    (and_from _ _ (is_below 1 month (omega (arith, ints, date.1))) (and_from _ _ (is_below month 12 (omega (arith, ints, date.1)))
+    (and_from _ _ (is_below 1 day (omega (arith, ints, date.2))) (is_below day (days_in_month year month) (omega (arith, ints, date.2)))))))
 
 pub is_a_date : (year : ℤ) (month day : ℕ) → is_date year month day ≡ true → IsDate year (pos month) (pos day)
 is_a_date year month day is =
-    let a = and_both (int_le (neg_ℤ (pos 9999)) year) _ is in
-    let b = and_both (int_le year (pos 9999)) _ a.1 in
-    let c = and_both (nat_le 1 month) _ b.1 in
-    let d = and_both (nat_le month 12) _ c.1 in
-    let e = and_both (nat_le 1 day) _ d.1 in
+    let a = and_parts (int_le (neg_ℤ (pos 9999)) year) _ is in
+    let b = and_parts (int_le year (pos 9999)) _ a.1 in
+    let c = and_parts (nat_le 1 month) _ b.1 in
+    let d = and_parts (nat_le month 12) _ c.1 in
+    let e = and_parts (nat_le 1 day) _ d.1 in
     let m1 = below 1 month c.0 in
     let m2 = below month 12 d.0 in
     let d1 = below 1 day e.0 in
@@ -78,14 +62,14 @@ is_a_date year month day is =
 
 pub time_is : (hour minute second nanos : ℕ) → IsTime (pos hour) (pos minute) (pos second) (pos nanos) → is_time hour minute second nanos ≡ true
 time_is hour minute second nanos time =
-    both_and _ _ (is_below hour 23 (omega (arith, ints, time.0))) (both_and _ _ (is_below minute 59 (omega (arith, ints, time.1)))
-    (both_and _ _ (is_below second 59 (omega (arith, ints, time.2))) (is_below nanos 999_999_999 (omega (arith, ints, time.3)))))
+    and_from _ _ (is_below hour 23 (omega (arith, ints, time.0))) (and_from _ _ (is_below minute 59 (omega (arith, ints, time.1)))
+    (and_from _ _ (is_below second 59 (omega (arith, ints, time.2))) (is_below nanos 999_999_999 (omega (arith, ints, time.3)))))
 
 pub is_a_time : (hour minute second nanos : ℕ) → is_time hour minute second nanos ≡ true → IsTime (pos hour) (pos minute) (pos second) (pos nanos)
 is_a_time hour minute second nanos is =
-    let a = and_both (nat_le hour 23) _ is in
-    let b = and_both (nat_le minute 59) _ a.1 in
-    let c = and_both (nat_le second 59) _ b.1 in
+    let a = and_parts (nat_le hour 23) _ is in
+    let b = and_parts (nat_le minute 59) _ a.1 in
+    let c = and_parts (nat_le second 59) _ b.1 in
     let h = below hour 23 a.0 in
     let m = below minute 59 b.0 in
     let s = below second 59 c.0 in
@@ -102,7 +86,7 @@ pub on_clock : (year : ℤ) (month day hour minute second nanosecond : ℕ) (off
     → clock_nanos year month day hour minute second nanosecond -ℤ nanos_of_seconds offset ≡ nanos → moment_on_clock year month day hour minute second nanosecond offset ≡ moment_at nanos
 on_clock year month day hour minute second nanosecond offset nanos date time is =
     shown_if (is_date year month day && is_time hour minute second nanosecond) (moment_at (clock_nanos year month day hour minute second nanosecond -ℤ nanos_of_seconds offset))
-    (both_and (is_date year month day) (is_time hour minute second nanosecond) (date_is year month day date) (time_is hour minute second nanosecond time)) ∙ ap moment_at is
+    (and_from (is_date year month day) (is_time hour minute second nanosecond) (date_is year month day date) (time_is hour minute second nanosecond time)) ∙ ap moment_at is
 
 -- what a moment on a clock says
 pub record IsOn (year : ℤ) (month day hour minute second nanosecond : ℕ) (offset nanos : ℤ) : Type 0 where
@@ -123,7 +107,7 @@ pub is_on : (year : ℤ) (month day hour minute second nanosecond : ℕ) (offset
 is_on year month day hour minute second nanosecond offset nanos is =
     let instant = clock_nanos year month day hour minute second nanosecond -ℤ nanos_of_seconds offset in
     let shown = passed (is_date year month day && is_time hour minute second nanosecond) (moment_at instant) nanos is in
-    let both = and_both (is_date year month day) (is_time hour minute second nanosecond) shown.0 in
+    let both = and_parts (is_date year month day) (is_time hour minute second nanosecond) shown.0 in
     let ranged = passed (is_in_range instant) (Some instant) nanos shown.1 in
     let same = same_nanos instant nanos ranged.1 in
     record {

@@ -1,6 +1,6 @@
 -- What jiff's strptime reads under a format of the seven parts is the moment that they name.
-use Rattle.std.proofs.Common.{◌≡◌, ℕ, ◌<◌, ◌==◌, ◌&&◌, inl, inr, Bool, true, false, List, [], length, Option, Some, None, is_some, option_map, Result, Ok, Err, refl, sym, ap, subst, ◌∙◌, arith, eqb-true, ℤ, pos, ◌-ℤ◌, if◌then◌else◌}
-use Rattle.std.proofs.lemmas.Bool.{true≢false}
+use Rattle.std.proofs.Common.{◌≡◌, ℕ, ◌<◌, ◌==◌, inl, inr, Bool, true, false, List, [], length, Option, Some, None, is_some, option_map, Result, Ok, Err, refl, sym, ap, subst, ◌∙◌, arith, eqb-true, ℤ, pos, ◌-ℤ◌, if◌then◌else◌}
+use Rattle.std.proofs.lemmas.Bool.{and_parts, true≢false}
 use Rattle.std.specs.List.{list_all}
 use Rattle.std.specs.Option.{unwrap_or}
 use Rattle.std.specs.Result.{result_ok}
@@ -39,10 +39,6 @@ pub record IsBareRead (p : Parts) : Type 0 where
   pub minute : is_some p.minute ≡ true
   pub second : is_some p.second ≡ true
 
-and_both : (a b : Bool) → (a && b) ≡ true → (a ≡ true) × (b ≡ true)
-and_both true b is = (refl, is)
-and_both false b is = absurd (true≢false (sym is))
-
 by_parsed : {R : Type 0} (r : Step) (p : Parts) → match_result r (λ x. if length x.1 == 0 then Ok x.0 else Err (Parse Trailing)) (λ e. Err e) ≡ Ok p → ((rest : List ℕ) → r ≡ Ok (p, rest) → R) → R
 by_parsed {R} (Ok x) p is go = ended (length x.1 == 0) is where
   ended : (end : Bool) → (let r : Result Parts Error = if end then Ok x.0 else Err (Parse Trailing) in r ≡ Ok p) → R
@@ -55,13 +51,13 @@ stands letter format once = let times : times_from letter false format ≡ 1 = s
 
 pub format_is_bare : (format text : List ℕ) (p : Parts) → is_read_format format ≡ true → parse_text format text ≡ Ok p → IsBareRead p
 format_is_bare format text p accepted is =
-    let both = and_both (is_shown_format format) (list_all (λ letter. times_in letter [] format == 1) part_letters) accepted in
-    let year = and_both (times_in 89 [] format == 1) _ both.1 in
-    let month = and_both (times_in 109 [] format == 1) _ year.1 in
-    let day = and_both (times_in 100 [] format == 1) _ month.1 in
-    let hour = and_both (times_in 72 [] format == 1) _ day.1 in
-    let minute = and_both (times_in 77 [] format == 1) _ hour.1 in
-    let second = and_both (times_in 83 [] format == 1) _ minute.1 in
+    let both = and_parts (is_shown_format format) (list_all (λ letter. times_in letter [] format == 1) part_letters) accepted in
+    let year = and_parts (times_in 89 [] format == 1) _ both.1 in
+    let month = and_parts (times_in 109 [] format == 1) _ year.1 in
+    let day = and_parts (times_in 100 [] format == 1) _ month.1 in
+    let hour = and_parts (times_in 72 [] format == 1) _ day.1 in
+    let minute = and_parts (times_in 77 [] format == 1) _ hour.1 in
+    let second = and_parts (times_in 83 [] format == 1) _ minute.1 in
     by_parsed (read_steps (length format) format text no_parts) p is (λ rest steps.
     let reads = format_reads (length format) format text rest no_parts p (sym (known_is [] format) ∙ both.0) (omega arith) steps in
     record { bare = reads.goes.same; hour = reads.set 72 (stands 72 format hour.0); minute = reads.set 77 (stands 77 format minute.0); second = reads.set 83 (stands 83 format second.0) })

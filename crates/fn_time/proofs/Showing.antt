@@ -1,7 +1,7 @@
 -- What jiff's strftime shows under a format of the eight conversions rests on the seven parts alone, and is a text.
-use Rattle.std.proofs.Common.{◌≡◌, ℕ, zero, suc, ◌-◌, ◌/◌, ◌%◌, ◌^◌, ◌<◌, ◌≤◌, ◌==◌, ◌&&◌, nat_le, nat_lt, Bool, true, false, List, [], ◌∷◌, ◌++◌, length, take, drop, Some, Ok, refl, sym, ap, subst, ◌∙◌, arith, eqb-true, pos, unsigned_abs, min, int_le, if◌then◌else◌}
+use Rattle.std.proofs.Common.{◌≡◌, ℕ, zero, suc, ◌-◌, ◌/◌, ◌%◌, ◌^◌, ◌<◌, ◌≤◌, ◌==◌, nat_le, nat_lt, Bool, true, false, List, [], ◌∷◌, ◌++◌, length, take, drop, Some, Ok, refl, sym, ap, subst, ◌∙◌, arith, eqb-true, pos, unsigned_abs, min, int_le, if◌then◌else◌}
 use Rattle.std.specs.Prelude.{replicate, decimal}
-use Rattle.std.proofs.lemmas.Bool.{true≢false}
+use Rattle.std.proofs.lemmas.Bool.{and_parts, true≢false}
 use Rattle.std.proofs.lemmas.Bool.Decides.{nat_tests}
 use Rattle.std.proofs.lemmas.Fmt.{IsAscii-decimal}
 use Rattle.std.proofs.lemmas.Int.{ints}
@@ -163,14 +163,10 @@ stand_in : IsUtf8 (239 ∷ 191 ∷ 189 ∷ [])
 unfolding encode
 stand_in = (65533 ∷ [], (refl, refl))
 
-and_second : (a b : Bool) → (a && b) ≡ true → b ≡ true
-and_second true b is = is
-and_second false b is = absurd (true≢false (sym is))
-
 character_at : (config : Config) (b : ℕ) (bs : List ℕ) (is : Bool) → is_char (b ∷ bs) (sequence_len b) ≡ is → config.lenient ≡ true → (b == 37) ≡ false → 128 ≤ b → known_from false (b ∷ bs) ≡ true → CharacterShows config b bs
 character_at config b bs true is lenient other high known =
     let k = sequence_len b in
-    let utf8 : IsUtf8 (take k (b ∷ bs)) = IsUtf8-from_is_utf8 (take k (b ∷ bs)) (and_second (nat_le k (length (b ∷ bs))) (is_utf8 (take k (b ∷ bs))) is) in
+    let utf8 : IsUtf8 (take k (b ∷ bs)) = IsUtf8-from_is_utf8 (take k (b ∷ bs)) (and_parts (nat_le k (length (b ∷ bs))) (is_utf8 (take k (b ∷ bs))) is).1 in
     record { text = take k (b ∷ bs); after = drop k (b ∷ bs); shown = rw is refl; utf8 = utf8; known = sym (known_behind k (b ∷ bs) (character_is_plain b bs high utf8)) ∙ known }
 character_at config b bs false is lenient other high known =
     record { text = 239 ∷ 191 ∷ 189 ∷ []; after = bs; shown = rw (is, lenient) refl; utf8 = stand_in; known = subst (λ sign. known_from sign bs ≡ true) other known }
@@ -204,14 +200,10 @@ plain_step config a b byte bs false is lenient other known =
 abbrev LettersShow : Config → Context → Context → Type 0
 LettersShow config a b = (letter : ℕ) → is_known letter ≡ true → LetterShows config a b letter
 
-and_both : (a b : Bool) → (a && b) ≡ true → (a ≡ true) × (b ≡ true)
-and_both true b is = (refl, is)
-and_both false b is = absurd (true≢false (sym is))
-
 conversion_step : (config : Config) (a b : Context) (bs : List ℕ) → LettersShow config a b → known_from false (37 ∷ bs) ≡ true → StepShows config a b (37 ∷ bs)
 conversion_step config a b [] letters known = absurd (true≢false (sym known))
 conversion_step config a b (c ∷ cs) letters known =
-    let both = and_both (is_known c) (known_from false cs) known in
+    let both = and_parts (is_known c) (known_from false cs) known in
     let shown = letters c both.0 in
     record {
       text = shown.text;

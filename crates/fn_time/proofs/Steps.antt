@@ -40,40 +40,12 @@ pub record IsBare (c : ℕ) : Type 0 where
   pub bare : (cs : List ℕ) → read_extension (c ∷ cs) ≡ Ok (plain, c ∷ cs)
   pub dot : (c == 46) ≡ false
 
-sign_is : IsBare 37
-unfolding read_flag colon_rest
-sign_is = record { bare = λ cs. refl; dot = refl }
-
-year_is : IsBare 89
-unfolding read_flag colon_rest
-year_is = record { bare = λ cs. refl; dot = refl }
-
-month_is : IsBare 109
-unfolding read_flag colon_rest
-month_is = record { bare = λ cs. refl; dot = refl }
-
-day_is : IsBare 100
-unfolding read_flag colon_rest
-day_is = record { bare = λ cs. refl; dot = refl }
-
-hour_is : IsBare 72
-unfolding read_flag colon_rest
-hour_is = record { bare = λ cs. refl; dot = refl }
-
-minute_is : IsBare 77
-unfolding read_flag colon_rest
-minute_is = record { bare = λ cs. refl; dot = refl }
-
-second_is : IsBare 83
-unfolding read_flag colon_rest
-second_is = record { bare = λ cs. refl; dot = refl }
-
-offset_is : IsBare 122
-unfolding read_flag colon_rest
-offset_is = record { bare = λ cs. refl; dot = refl }
-
 pub letter_is : (c : ℕ) → is_known c ≡ true → IsBare c
-letter_is c is = by_letter IsBare c is sign_is year_is month_is day_is hour_is minute_is second_is offset_is
+unfolding read_flag colon_rest
+letter_is c is = record {
+  bare = λ cs. by_letter (λ d. read_extension (d ∷ cs) ≡ Ok (plain, d ∷ cs)) c is refl refl refl refl refl refl refl refl;
+  dot = by_letter (λ d. (d == 46) ≡ false) c is refl refl refl refl refl refl refl refl;
+}
 
 if_and_true : {A : Type 0} (b : Bool) (x y : A) → (if b && true then x else y) ≡ (if b then x else y)
 if_and_true true x y = refl

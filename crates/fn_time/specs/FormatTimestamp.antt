@@ -1,12 +1,11 @@
 -- `format_timestamp`: the text of a moment under a format.
-use Rattle.std.specs.Prelude.{ℕ, ℤ, pos, ◌||◌, Bool, true, false, List, [], ◌∷◌, Option, codes, unwrap_or}
+use Rattle.std.specs.Prelude.{ℕ, ℤ, pos, ◌||◌, Bool, false, List, [], ◌∷◌, Option, codes, unwrap_or}
 use Rattle.vrl_value.specs.Tree.{Tree, string}
 use Rattle.vrl_value.specs.declared.value.Tag.TheVariants.{Text}
 use Rattle.vrl_kind.specs.Kinds.{only_at}
-use Rattle.vrl_builtin.specs.Rows.{Row, optional_moment, parameter, text_at, value}
-use Rattle.vrl_builtin.specs.TagSets.{timestamps}
+use Rattle.vrl_builtin.specs.Rows.{Row, is_text_of, literal_parameter, optional_moment, parameter, text_at, value}
+use Rattle.vrl_builtin.specs.TagSets.{strings, timestamps}
 use Rattle.fn_time.specs.Format.{is_shown_format}
-use Rattle.fn_time.specs.Literal.{is_text_of, literal_parameter}
 use Rattle.fn_time.specs.Read.{is_rfc_3339}
 use Rattle.fn_time.specs.Shown.{text_shown}
 
@@ -20,7 +19,7 @@ moment_at place arguments = unwrap_or (optional_moment place arguments) (pos 0)
 abbrev pub format_timestamp_row : Row
 format_timestamp_row = record {
   name = codes "format_timestamp";
-  parameters = parameter (codes "value") timestamps ∷ literal_parameter (codes "format") true ∷ [];
+  parameters = parameter (codes "value") timestamps ∷ literal_parameter (codes "format") strings ∷ [];
   accepts = λ place literal. is_text_of shows_moments literal;
   kind = λ givens sources. only_at Text;
   may_fail = λ givens. false;

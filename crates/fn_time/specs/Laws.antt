@@ -1,8 +1,8 @@
 -- The functions of time keep the law.
 use Rattle.std.specs.Prelude.{◌≡◌, ℕ, ℤ, pos, Bool, true, false, List, [], Option, Some, None, codes, IfSome, IsTrue, refl}
 use Rattle.std.specs.Int.{int_div_euclid}
-use Rattle.std.proofs.Common.{◌&&◌, sym, subst}
-use Rattle.std.proofs.lemmas.Bool.{true≢false}
+use Rattle.std.proofs.Common.{sym, subst}
+use Rattle.std.proofs.lemmas.Bool.{and_parts, true≢false}
 use Rattle.vrl_value.specs.Tree.{Tree, string, integer, boolean, null, timestamp, regex, array, object}
 use Rattle.vrl_value.specs.declared.value.Tag.TheVariants.{Int, Text, Time}
 use Rattle.vrl_kind.specs.KindTree.{KindTree}
@@ -11,11 +11,10 @@ use Rattle.vrl_builtin.specs.Conditions.{IsLiteral}
 use Rattle.vrl_builtin.specs.Law.{IsOfGiven, KeepsLaw}
 use Rattle.vrl_builtin.specs.OneTag.{IsOneTag, KeepsOneTag}
 use Rattle.vrl_builtin.specs.OneTagLaw.{one_tag_is_lawful, plain_is_lawful}
-use Rattle.vrl_builtin.specs.Rows.{value, failure, argument_at, integer_at, kind_at, literal_at, text_at, text_or, told}
+use Rattle.vrl_builtin.specs.Rows.{value, failure, argument_at, integer_at, is_text_of, kind_at, literal_at, text_at, text_or, told}
 use Rattle.vrl_builtin.proofs.Lawful.{choice_is, told_is_one_tag}
 use Rattle.fn_time.specs.FormatTimestamp.{format_timestamp_row, moment_at}
 use Rattle.fn_time.specs.FromUnixTimestamp.{from_unix_timestamp_row, moment_after}
-use Rattle.fn_time.specs.Literal.{is_text_of}
 use Rattle.fn_time.specs.Now.{now_row}
 use Rattle.fn_time.specs.ParseTimestamp.{parse_timestamp_row}
 use Rattle.fn_time.specs.Read.{moment_read}
@@ -76,10 +75,6 @@ out_fails (Some K) literal None of given same is = absurd of
 out_fails (Some K) None (Some v) of given same is = absurd (true≢false (sym given.0))
 out_fails (Some K) (Some w) (Some v) of given same is = literal_out w (subst (λ a. is_nanoseconds (text_or (codes "seconds") a) ≡ true) same is)
 
-and_first : (a b : Bool) → (a && b) ≡ true → a ≡ true
-and_first true b is = refl
-and_first false b is = is
-
 counted_is_one_tag : (unit : List ℕ) (nanos : ℤ) (fails : Bool) → (is_out unit nanos ≡ true → IsTrue fails) → IsOneTag Int fails (counted unit nanos)
 counted_is_one_tag unit nanos fails fail =
     choice_is (IsOneTag Int fails) (is_out unit nanos) (failure (codes "out of range")) (value (integer (int_div_euclid nanos (pos (nanos_in unit))))) fail (λ other. (tt, refl))
@@ -91,5 +86,5 @@ to_unix_timestamp-law = record {
       let unit = text_at 1 (codes "seconds") arguments in let fails = may_be_out (literal_at 1 givens) in
       one_tag_is_lawful Int fails (codes "to_unix_timestamp") arguments (counted unit (moment_at 0 arguments))
       (counted_is_one_tag unit (moment_at 0 arguments) fails (λ out.
-      out_fails (kind_at 1 givens) (literal_at 1 givens) (argument_at 1 arguments) (instances.kinds 1) given.1.0.allowed (instances.literals 1) (and_first (is_nanoseconds unit) _ out)));
+      out_fails (kind_at 1 givens) (literal_at 1 givens) (argument_at 1 arguments) (instances.kinds 1) given.1.0.allowed (instances.literals 1) (and_parts (is_nanoseconds unit) _ out).0));
 }

@@ -3,7 +3,6 @@ pub mod Format
 pub mod FormatTimestamp
 pub mod FromUnixTimestamp
 pub mod Laws
-pub mod Literal
 pub mod Now
 pub mod ParseTimestamp
 pub mod Read

@@ -5,10 +5,9 @@ use Rattle.vrl_value.specs.Tree.{Tree, integer}
 use Rattle.vrl_value.specs.declared.value.Tag.TheVariants.{Int}
 use Rattle.vrl_kind.specs.Kinds.{only_at}
 use Rattle.vrl_builtin.specs.Numeral.{has_64_bits}
-use Rattle.vrl_builtin.specs.Rows.{Answer, Row, failure, literal_at, named, parameter, text_at, value}
-use Rattle.vrl_builtin.specs.TagSets.{timestamps}
+use Rattle.vrl_builtin.specs.Rows.{Answer, Row, failure, is_text_of, literal_at, named, optional_literal_parameter, parameter, text_at, value}
+use Rattle.vrl_builtin.specs.TagSets.{strings, timestamps}
 use Rattle.fn_time.specs.FormatTimestamp.{moment_at}
-use Rattle.fn_time.specs.Literal.{is_text_of, literal_parameter}
 use Rattle.fn_time.specs.Unit.{is_nanoseconds, is_unit, nanos_in}
 
 -- more than 64 bits hold; of nanoseconds alone a moment in the range has so many
@@ -28,7 +27,7 @@ may_be_out literal = false
 abbrev pub to_unix_timestamp_row : Row
 to_unix_timestamp_row = record {
   name = codes "to_unix_timestamp";
-  parameters = parameter (codes "value") timestamps ∷ literal_parameter (codes "unit") false ∷ [];
+  parameters = parameter (codes "value") timestamps ∷ optional_literal_parameter (codes "unit") strings ∷ [];
   accepts = λ place literal. is_text_of is_unit literal;
   kind = λ givens sources. only_at Int;
   may_fail = λ givens. may_be_out (literal_at 1 givens);

@@ -7,7 +7,9 @@ use crate::format::is_shown_format;
 use crate::read::is_rfc_3339;
 use crate::shown::text_shown;
 use std::alloc::Global;
-use vrl_builtin::{Applied, Arguments, Builtin, Givens, Parameter, Setting, Tags, required};
+use vrl_builtin::{
+    Applied, Arguments, Builtin, Givens, Parameter, Setting, Tags, required, required_literal,
+};
 use vrl_kind::Kind;
 use vrl_pattern::Patterns;
 use vrl_value::{Memory, Moment, Tag, Value};
@@ -20,12 +22,7 @@ pub struct FormatTimestamp;
 
 static PARAMETERS: [Parameter; 2] = [
     required!("value", Tags::TIMESTAMP),
-    Parameter {
-        name: "format",
-        allowed: Tags::STRING,
-        required: true,
-        literal: true,
-    },
+    required_literal!("format", Tags::STRING),
 ];
 
 // Whether moments are shown under the format.

@@ -4,7 +4,9 @@ ghost use Rattle.fn_time.specs.Laws.{from_unix_timestamp-law};
 
 use crate::unit::{is_unit, nanos_in};
 use std::alloc::Global;
-use vrl_builtin::{Applied, Arguments, Builtin, Givens, Parameter, Setting, Tags, fail, required};
+use vrl_builtin::{
+    Applied, Arguments, Builtin, Givens, Parameter, Setting, Tags, fail, optional_literal, required,
+};
 use vrl_kind::Kind;
 use vrl_pattern::Patterns;
 use vrl_value::{Memory, Moment, Tag, Value};
@@ -17,12 +19,7 @@ pub struct FromUnixTimestamp;
 
 static PARAMETERS: [Parameter; 2] = [
     required!("value", Tags::INTEGER),
-    Parameter {
-        name: "unit",
-        allowed: Tags::STRING,
-        required: false,
-        literal: true,
-    },
+    optional_literal!("unit", Tags::STRING),
 ];
 
 // The moment so many units after 1970-01-01T00:00:00Z. `None`: it is out of the range.

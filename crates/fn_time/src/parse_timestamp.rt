@@ -1,13 +1,14 @@
 ghost use Rattle.std.specs.Prelude.{◌≡◌};
 ghost use Rattle.vrl_value.specs.View.{tree_of};
 ghost use Rattle.fn_time.specs.Laws.{parse_timestamp-law};
-ghost use Rattle.fn_time.specs.Literal.{is_text_of};
 ghost use Rattle.fn_time.specs.ParseTimestamp.{parse_timestamp_row, reads_moments};
 
 use crate::format::is_read_format;
 use crate::read::{is_rfc_3339, moment_read};
 use std::alloc::Global;
-use vrl_builtin::{Applied, Arguments, Builtin, Givens, Parameter, Setting, Tags, fail, required};
+use vrl_builtin::{
+    Applied, Arguments, Builtin, Givens, Parameter, Setting, Tags, fail, required, required_literal,
+};
 use vrl_kind::Kind;
 use vrl_pattern::Patterns;
 use vrl_value::{Memory, Tag, Value};
@@ -21,12 +22,7 @@ pub struct ParseTimestamp;
 
 static PARAMETERS: [Parameter; 2] = [
     required!("value", Tags::STRING),
-    Parameter {
-        name: "format",
-        allowed: Tags::STRING,
-        required: true,
-        literal: true,
-    },
+    required_literal!("format", Tags::STRING),
 ];
 
 // Whether moments are read under the format.

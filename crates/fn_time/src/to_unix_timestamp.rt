@@ -9,7 +9,9 @@ ghost use Rattle.fn_time.specs.Unit.{nanos_in};
 use crate::format_timestamp::moment_at;
 use crate::unit::{is_nanoseconds, is_unit, nanos_in};
 use std::alloc::Global;
-use vrl_builtin::{Applied, Arguments, Builtin, Givens, Parameter, Setting, Tags, fail, required};
+use vrl_builtin::{
+    Applied, Arguments, Builtin, Givens, Parameter, Setting, Tags, fail, optional_literal, required,
+};
 use vrl_kind::Kind;
 use vrl_pattern::Patterns;
 use vrl_value::{Memory, Moment, Tag, Value};
@@ -22,12 +24,7 @@ pub struct ToUnixTimestamp;
 
 static PARAMETERS: [Parameter; 2] = [
     required!("value", Tags::TIMESTAMP),
-    Parameter {
-        name: "unit",
-        allowed: Tags::STRING,
-        required: false,
-        literal: true,
-    },
+    optional_literal!("unit", Tags::STRING),
 ];
 
 // Whether there are more units than 64 bits hold.

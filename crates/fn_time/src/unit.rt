@@ -1,14 +1,8 @@
 //! The units in which moments are counted.
-ghost use Rattle.std.specs.Prelude.{◌≡◌, bytes_eq, pos};
-ghost use Rattle.std.specs.List.{list_any};
+ghost use Rattle.std.specs.Prelude.{◌≡◌, pos};
 ghost use Rattle.fn_time.specs.Unit.{is_nanoseconds, is_unit, nanos_in};
 
-// Whether the name is one of these.
-fn is_one_of(name: &str, names: &[&str]) -> bool
-    ensures { result ≡ list_any (λ other. bytes_eq name.now other.now) names.now }
-{
-    names.iter().any(|other| name == *other)
-}
+use vrl_builtin::is_one_of;
 
 /// Whether a unit has this name.
 pub(crate) fn is_unit(name: &str) -> bool
