@@ -1,6 +1,6 @@
 -- What std says of a text cut at another is what the words of the rows say, and so are the parts that are cut off one after the other.
-use Rattle.std.proofs.Common.{◌≡◌, ◌≢◌, ℕ, zero, suc, ◌+◌, ◌-◌, ◌<◌, ◌≤◌, Bool, true, false, if◌then◌else◌, List, [], ◌∷◌, ◌++◌, map, Option, Some, None, MatchOption, IfSome, Bor, length, take, drop, bytes_eq, option_map, refl, sym, ap, ◌∙◌, arith}
-use Rattle.std.proofs.lemmas.Bool.{true≢false}
+use Rattle.std.proofs.Common.{◌≡◌, ◌≢◌, ℕ, zero, suc, ◌+◌, ◌-◌, ◌<◌, ◌≤◌, true, false, List, [], ◌∷◌, ◌++◌, map, Option, Some, None, MatchOption, IfSome, Bor, length, take, drop, bytes_eq, option_map, refl, sym, ap, ◌∙◌, arith}
+use Rattle.std.proofs.lemmas.Bool.{cond-false, cond-true, false_from_ne_true}
 use Rattle.std.proofs.lemmas.List.{append-nil, append_assoc, take-append-drop}
 use Rattle.std.proofs.lemmas.Slice.Eq.{bytes_eq-Decides}
 use Rattle.std.proofs.Math.Seq.{take-append_seam}
@@ -8,33 +8,21 @@ use Rattle.std.specs.Str.Pattern.{FindsText, LacksTextAt}
 use Rattle.vrl_value.specs.Tree.{Tree, string}
 use Rattle.fn_search.specs.Cut.{cut, cut_on, cut_up, joined, parts_between}
 
-then_is : {A : Type 0} (b : Bool) (x y : A) → b ≡ true → (if b then x else y) ≡ x
-then_is true x y is = refl
-then_is false x y is = absurd (true≢false (sym is))
-
-else_is : {A : Type 0} (b : Bool) (x y : A) → b ≡ false → (if b then x else y) ≡ y
-else_is true x y is = absurd (true≢false is)
-else_is false x y is = refl
-
-no_if : (b : Bool) → (b ≡ true → ⊥) → b ≡ false
-no_if true never = absurd (never refl)
-no_if false never = refl
-
 -- ---- where the text goes on with the part
 
 goes_on : (part rest s : List ℕ) → s ≡ part ++ rest → bytes_eq (take (length part) s) part ≡ true
 goes_on part rest s is = (bytes_eq-Decides (take (length part) s) part).1 (ap (take (length part)) is ∙ take-append_seam part rest)
 
 goes_not_on : (part s : List ℕ) → ((rest : List ℕ) → s ≢ part ++ rest) → bytes_eq (take (length part) s) part ≡ false
-goes_not_on part s lacks = no_if (bytes_eq (take (length part) s) part) (λ is. lacks (drop (length part) s)
+goes_not_on part s lacks = false_from_ne_true (bytes_eq (take (length part) s) part) (λ is. lacks (drop (length part) s)
     (sym (take-append-drop (length part) s) ∙ ap (λ x. x ++ drop (length part) s) ((bytes_eq-Decides (take (length part) s) part).0 is)))
 
 cut_nowhere : (part s : List ℕ) → ((i : ℕ) → i ≤ length s → LacksTextAt part s i) → cut part s ≡ None
 unfolding cut
 cut_nowhere part [] lacks =
-    else_is (bytes_eq part []) _ _ (no_if (bytes_eq part []) (λ is. lacks 0 (omega arith) [] (sym (append-nil part ∙ (bytes_eq-Decides part []).0 is))))
+    cond-false (bytes_eq part []) _ _ (false_from_ne_true (bytes_eq part []) (λ is. lacks 0 (omega arith) [] (sym (append-nil part ∙ (bytes_eq-Decides part []).0 is))))
 cut_nowhere part (b ∷ s) lacks =
-    else_is (bytes_eq (take (length part) (b ∷ s)) part) _ _ (goes_not_on part (b ∷ s) (lacks 0 (omega arith)))
+    cond-false (bytes_eq (take (length part) (b ∷ s)) part) _ _ (goes_not_on part (b ∷ s) (lacks 0 (omega arith)))
     ∙ ap (option_map (λ parts. (b ∷ parts.0, parts.1))) (cut_nowhere part s (λ i within. lacks (suc i) (omega arith)))
 
 empty_part : (part rest : List ℕ) → [] ≡ part ++ rest → part ≡ []
@@ -49,14 +37,14 @@ drop_nothing (suc n) (b ∷ s) none = absurd cc
 cut_there : (part s : List ℕ) (i j : ℕ) → ((k : ℕ) → k < i → LacksTextAt part s k) → j ≡ i + length part → drop i s ≡ part ++ drop j s → cut part s ≡ Some (take i s, drop j s)
 unfolding cut
 cut_there part [] zero j lacks ends is =
-    then_is (bytes_eq part []) _ _ ((bytes_eq-Decides part []).1 (empty_part part (drop j []) is)) ∙ ap (λ rest. Some ([], rest)) (sym (drop_nothing j [] refl))
+    cond-true (bytes_eq part []) _ _ ((bytes_eq-Decides part []).1 (empty_part part (drop j []) is)) ∙ ap (λ rest. Some ([], rest)) (sym (drop_nothing j [] refl))
 cut_there part (b ∷ s) zero j lacks ends is =
     let same : length part ≡ j = omega (arith, ends) in
-    then_is (bytes_eq (take (length part) (b ∷ s)) part) _ _ (goes_on part (drop j (b ∷ s)) (b ∷ s) is) ∙ ap (λ n. Some ([], drop n (b ∷ s))) same
+    cond-true (bytes_eq (take (length part) (b ∷ s)) part) _ _ (goes_on part (drop j (b ∷ s)) (b ∷ s) is) ∙ ap (λ n. Some ([], drop n (b ∷ s))) same
 cut_there part [] (suc i) j lacks ends is = absurd (lacks 0 (omega arith) (drop j []) is)
 cut_there part (b ∷ s) (suc i) zero lacks ends is = absurd (omega (arith, ends))
 cut_there part (b ∷ s) (suc i) (suc j) lacks ends is =
-    else_is (bytes_eq (take (length part) (b ∷ s)) part) _ _ (goes_not_on part (b ∷ s) (lacks 0 (omega arith)))
+    cond-false (bytes_eq (take (length part) (b ∷ s)) part) _ _ (goes_not_on part (b ∷ s) (lacks 0 (omega arith)))
     ∙ ap (option_map (λ parts. (b ∷ parts.0, parts.1))) (cut_there part s i j (λ k below. lacks (suc k) (omega arith)) (omega (arith, ends)) is)
 
 -- `split_once` at a text
@@ -121,14 +109,3 @@ swaps_go_on text after all part with s before behind left some is adds so_far =
     let rest = joined with (cut_up part (left - 1) behind) in
     ap (λ t. t ++ rest) adds ∙ append_assoc text (before ++ with) rest ∙ ap (λ t. text ++ t) (append_assoc before with rest)
     ∙ ap (λ t. text ++ t) (sym (joined_next with part before behind (left - 1))) ∙ ap (λ ss. text ++ joined with ss) (sym (cut_next part s before behind left some (sym is))) ∙ so_far
-
-joined_one : (with s : List ℕ) → joined with (s ∷ []) ≡ s
-joined_one with s = append-nil s
-
-pub swaps_end : (text after all part with s : List ℕ) (left : ℕ) → None ≡ cut part s → after ≡ text ++ s → text ++ joined with (cut_up part left s) ≡ all → after ≡ all
-swaps_end text after all part with s left none adds so_far =
-    adds ∙ ap (λ t. text ++ t) (sym (joined_one with s)) ∙ ap (λ ss. text ++ joined with ss) (sym (cut_last part s left (sym none))) ∙ so_far
-
-pub swaps_stop : (text after all part with s : List ℕ) (left : ℕ) → left ≡ 0 → after ≡ text ++ s → text ++ joined with (cut_up part left s) ≡ all → after ≡ all
-swaps_stop text after all part with s left none adds so_far =
-    adds ∙ ap (λ t. text ++ t) (sym (joined_one with s)) ∙ ap (λ n. text ++ joined with (cut_up part n s)) (sym none) ∙ so_far

@@ -2,9 +2,10 @@
 use Rattle.std.proofs.Common.{◌≡◌, ℕ, suc, ◌+◌, ◌<◌, Bool, true, false, ◌&&◌, ◌||◌, not, if◌then◌else◌, List, [], ◌∷◌, ◌++◌, map, take, length, decimal, Option, Some, None, IfSome, bytes_eq, option_map, get_or, refl, append_assoc, sym, ap, subst, ◌∙◌, arith}
 use Rattle.std.proofs.lemmas.Bool.{true≢false}
 use Rattle.std.proofs.lemmas.List.{take_more}
-use Rattle.std.proofs.lemmas.List.Elements.{All-head, All-tail}
+use Rattle.std.proofs.lemmas.List.Elements.{All-tail}
 use Rattle.std.proofs.lemmas.Map.Text.{is_eq-slice_cmp}
 use Rattle.std.proofs.lemmas.Slice.Eq.{bytes_eq-Decides}
+use Rattle.std.proofs.Math.Bool.{and-false}
 use Rattle.std.specs.List.{list_any}
 use Rattle.std.specs.Ordering.{is_eq, match_ordering, nat_cmp}
 use Rattle.std.specs.Cmp.Lexicographic.{slice_cmp}
@@ -26,10 +27,6 @@ use Rattle.fn_search.specs.Known.{AreKnown, IsOneMore}
 
 -- ---- groups
 
-pub parts_first : (text : List ℕ) (gs : List (Option (ℕ × ℕ))) → AreParts text gs → IfSome (first_group gs) (IsPart text)
-parts_first text [] are = tt
-parts_first text (g ∷ gs) are = All-head (λ s. IfSome s (IsPart text)) g gs are
-
 pub parts_later : (text : List ℕ) (gs : List (Option (ℕ × ℕ))) → AreParts text gs → AreParts text (later_groups gs)
 parts_later text [] are = are
 parts_later text (g ∷ gs) are = All-tail (λ s. IfSome s (IsPart text)) g gs are
@@ -38,17 +35,10 @@ pub part_of : (text : List ℕ) (o : Option Place) → IfSome (option_map place_
 part_of text None part = tt
 part_of text (Some p) part = part
 
-pub first_part : (text : List ℕ) (o : Option Place) (gs : List (Option (ℕ × ℕ))) → option_map place_span o ≡ first_group gs → AreParts text gs → IfSome o (λ p. IsPart text (place_span p))
-first_part text o gs is are = part_of text o (subst (λ g. IfSome g (IsPart text)) (sym is) (parts_first text gs are))
-
 pub number_step : (n next : ℕ) (s : List ℕ) (gs : List (Option (ℕ × ℕ))) (ms : Members) → next ≡ suc n → 0 < length gs →
     with_numbers next s (later_groups gs) (put (decimal n) (text_or_null s (first_group gs)) ms) ≡ with_numbers n s gs ms
 number_step n next s [] ms step some = absurd (omega arith)
 number_step n next s (g ∷ gs) ms step some = ap (λ k. with_numbers k s gs (put (decimal n) (text_or_null s g) ms)) step
-
-pub number_end : (n : ℕ) (s : List ℕ) (gs : List (Option (ℕ × ℕ))) (ms : Members) → length gs ≡ 0 → with_numbers n s gs ms ≡ ms
-number_end n s [] ms none = refl
-number_end n s (g ∷ gs) ms none = absurd (omega (arith, none))
 
 pub later_length : (gs : List (Option (ℕ × ℕ))) → 0 < length gs → length (later_groups gs) + 1 ≡ length gs
 later_length [] some = absurd (omega arith)
@@ -83,10 +73,6 @@ ordered_choice Less f g = refl
 ordered_choice Equal f g = refl
 ordered_choice Greater f g = refl
 
-then_is : {A : Type 0} (b : Bool) (x y : A) → b ≡ true → (if b then x else y) ≡ x
-then_is true x y is = refl
-then_is false x y is = absurd (true≢false (sym is))
-
 -- what a first field says
 first_says : (n : List ℕ) (K : KindTree) (fs : KnownFields) (k : List ℕ) (p : List Step) (T : Tags) (t : Tag) →
     fields_at (known_field n K fs) k p T t ≡ (if bytes_eq k n then tags_at K p t else fields_at fs k p T t)
@@ -97,10 +83,6 @@ first_says n K fs k p T t =
     inside : (b : Bool) (F G : Tags) → (if b then F else G) t ≡ (if b then F t else G t)
     inside true F G = refl
     inside false F G = refl
-
-nothing_named : (b : Bool) → (b && false) ≡ false
-nothing_named true = refl
-nothing_named false = refl
 
 passed_over : (e a : Bool) → (not e && (e || a)) ≡ (not e && a)
 passed_over true a = refl
@@ -125,7 +107,7 @@ named_apart b name k same = no_if (bytes_eq k []) (λ none. let a = (bytes_eq-De
 say : (names : List (List ℕ)) (known : List (List ℕ × KindTree)) → AreKnown names known → (fs : KnownFields) (k : List ℕ) (p : List Step) (T : Tags) (t : Tag) →
     fields_at (last_first known fs) k p T t ≡ (if is_named names k then text_or_null_kind p t else fields_at fs k p T t)
 say [] known are fs k p T t =
-    ap (λ es. fields_at (last_first es fs) k p T t) are ∙ sym (ap (λ b. if b then text_or_null_kind p t else fields_at fs k p T t) (nothing_named (not (bytes_eq k []))))
+    ap (λ es. fields_at (last_first es fs) k p T t) are ∙ sym (ap (λ b. if b then text_or_null_kind p t else fields_at fs k p T t) (and-false (not (bytes_eq k []))))
 say ([] ∷ names) known are fs k p T t =
     say names known are fs k p T t ∙ sym (ap (λ b. if b then text_or_null_kind p t else fields_at fs k p T t) (passed_over (bytes_eq k []) (list_any (bytes_eq k) names)))
 say ((b ∷ name) ∷ names) [] are fs k p T t = absurd are

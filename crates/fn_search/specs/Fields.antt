@@ -1,5 +1,5 @@
 -- The fields of a match: what its groups matched, by their names and by their numbers.
-use Rattle.std.specs.Prelude.{ℕ, suc, Bool, true, false, ◌&&◌, ◌||◌, not, List, [], ◌∷◌, Option, Some, None, bytes_eq, decimal, slice_range, if◌then◌else◌}
+use Rattle.std.specs.Prelude.{ℕ, suc, Bool, true, false, ◌&&◌, not, List, [], ◌∷◌, Option, Some, None, bytes_eq, decimal, slice_range, if◌then◌else◌}
 use Rattle.std.specs.List.{list_any}
 use Rattle.vrl_value.specs.Look.{field, place}
 use Rattle.vrl_value.specs.Tree.{Tree, string, null, Members, no_members, put}
@@ -7,7 +7,7 @@ use Rattle.vrl_value.specs.declared.value.Tag.TheVariants as tag
 use Rattle.vrl_kind.specs.Kinds.{only_at}
 use Rattle.vrl_kind.specs.Sets.{Sets}
 use Rattle.vrl_kind.specs.Tags.{same_tag}
-use Rattle.vrl_builtin.specs.Containers.{object_of}
+use Rattle.vrl_builtin.specs.Containers.{either, object_of}
 
 -- the text of a part; null for a group that took no part
 abbrev pub text_or_null : List ℕ → Option (ℕ × ℕ) → Tree
@@ -48,7 +48,7 @@ fields names numbered s gs = with_numbers_if numbered s gs (with_names names s g
 -- ---- their kind
 
 abbrev pub text_or_null_kind : Sets
-text_or_null_kind p t = only_at tag.Text p t || only_at tag.Null p t
+text_or_null_kind = either (only_at tag.Text) (only_at tag.Null)
 
 -- whether some group has this name
 abbrev pub is_named : List (List ℕ) → List ℕ → Bool

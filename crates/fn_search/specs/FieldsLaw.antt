@@ -1,8 +1,9 @@
 -- The fields of a match are of the kind that is known of them.
 use Rattle.std.specs.Prelude.{◌≡◌, ◌≢◌, ℕ, suc, Bool, true, false, ◌&&◌, ◌||◌, not, List, [], ◌∷◌, Option, Some, None, IsTrue, IfSome, bytes_eq, decimal, is_some, refl, if◌then◌else◌}
 use Rattle.std.proofs.Common.{sym, ap, ◌∙◌}
-use Rattle.std.proofs.lemmas.Bool.{true≢false}
+use Rattle.std.proofs.lemmas.Bool.{false_from_ne_true, true≢false}
 use Rattle.std.proofs.lemmas.Slice.Eq.{bytes_eq-Decides}
+use Rattle.std.proofs.Math.Bool.{and-false, or-false}
 use Rattle.std.specs.List.{list_any}
 use Rattle.vrl_value.specs.Look.{Step, field, place, found_behind, found_if, raw_at, tag_found}
 use Rattle.vrl_value.specs.Tree.{Tree, null, object, Members, no_members, find, put, MembersAreOrdered}
@@ -47,24 +48,16 @@ are_named arguments names s gs = put_names arguments names s gs no_members (reco
 
 -- ---- there is one for each name
 
-no_if : (b : Bool) → (b ≡ true → ⊥) → b ≡ false
-no_if true never = absurd (never refl)
-no_if false never = refl
-
 not_and : (b : Bool) → (not b && b) ≡ false
 not_and true = refl
 not_and false = refl
-
-and_false : (b : Bool) → (b && false) ≡ false
-and_false true = refl
-and_false false = refl
 
 -- whether a group of this name makes the field
 abbrev makes : List ℕ → List ℕ → Bool
 makes name k = not (bytes_eq k []) && bytes_eq k name
 
 apart : (k l : List ℕ) → k ≢ l → bytes_eq k l ≡ false
-apart k l other = no_if (bytes_eq k l) (λ is. other ((bytes_eq-Decides k l).0 is))
+apart k l other = false_from_ne_true (bytes_eq k l) (λ is. other ((bytes_eq-Decides k l).0 is))
 
 some_is : {A : Type 0} (o : Option A) (a : A) → o ≡ Some a → is_some o ≡ true
 some_is o a is = ap is_some is
@@ -78,7 +71,7 @@ one_name b name k t ms true same =
     ∙ sym (ap (λ e. (not e && true) || is_some (find k ms)) some)
 one_name b name k t ms false same =
     let other : ¬ (k ≡ b ∷ name) = λ is. true≢false (sym ((bytes_eq-Decides k (b ∷ name)).1 is) ∙ same) in
-    ap is_some (find-put_other k (b ∷ name) t ms other) ∙ sym (ap (λ e. e || is_some (find k ms)) (and_false (not (bytes_eq k []))))
+    ap is_some (find-put_other k (b ∷ name) t ms other) ∙ sym (ap (λ e. e || is_some (find k ms)) (and-false (not (bytes_eq k []))))
 
 has_name : (name k : List ℕ) (t : Tree) (ms : Members) → is_some (find k (with_named name t ms)) ≡ (makes name k || is_some (find k ms))
 has_name [] k t ms = sym (ap (λ e. e || is_some (find k ms)) (not_and (bytes_eq k [])))
@@ -92,18 +85,14 @@ joined_tests true false false f = refl
 joined_tests false a b f = refl
 
 has_names : (names : List (List ℕ)) (s : List ℕ) (gs : List (Option (ℕ × ℕ))) (ms : Members) (k : List ℕ) → is_some (find k (with_names names s gs ms)) ≡ (is_named names k || is_some (find k ms))
-has_names [] s gs ms k = sym (ap (λ e. e || is_some (find k ms)) (and_false (not (bytes_eq k []))))
+has_names [] s gs ms k = sym (ap (λ e. e || is_some (find k ms)) (and-false (not (bytes_eq k []))))
 has_names (name ∷ names) s gs ms k =
     has_names names s (later_groups gs) (with_named name (text_or_null s (first_group gs)) ms) k
     ∙ ap (λ f. is_named names k || f) (has_name name k (text_or_null s (first_group gs)) ms)
     ∙ joined_tests (not (bytes_eq k [])) (bytes_eq k name) (list_any (bytes_eq k) names) (is_some (find k ms))
 
-or_false : (b : Bool) → (b || false) ≡ b
-or_false true = refl
-or_false false = refl
-
 all_named : (names : List (List ℕ)) (s : List ℕ) (gs : List (Option (ℕ × ℕ))) (k : List ℕ) → is_some (find k (with_names names s gs no_members)) ≡ is_named names k
-all_named names s gs k = has_names names s gs no_members k ∙ or_false (is_named names k)
+all_named names s gs k = has_names names s gs no_members k ∙ or-false (is_named names k)
 
 -- ---- so they are of the kind
 

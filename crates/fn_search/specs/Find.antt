@@ -1,9 +1,10 @@
 -- `find`: where a text or a regex first stands in a text, behind some byte.
-use Rattle.std.specs.Prelude.{ℕ, ◌+◌, ℤ, pos, negsuc, true, false, ◌||◌, List, [], ◌∷◌, Option, Some, None, codes, drop, length, option_map, if◌then◌else◌}
+use Rattle.std.specs.Prelude.{ℕ, ◌+◌, ℤ, pos, negsuc, true, false, List, [], ◌∷◌, Option, Some, None, codes, drop, length, option_map, if◌then◌else◌}
 use Rattle.vrl_value.specs.Tree.{Tree, string, integer, boolean, null, timestamp, regex, array, object}
 use Rattle.vrl_value.specs.declared.value.Tag.TheVariants as tag
 use Rattle.vrl_kind.specs.Kinds.{only_at}
 use Rattle.vrl_kind.specs.Sets.{Sets}
+use Rattle.vrl_builtin.specs.Containers.{either}
 use Rattle.vrl_builtin.specs.Rows.{Row, value, any_literal, integer_at, optional_parameter, parameter, text_at, value_at}
 use Rattle.vrl_builtin.specs.TagSets.{integers, no_tags, strings}
 use Rattle.vrl_builtin.specs.declared.tags.Tags.{Tags}
@@ -44,7 +45,7 @@ number_or_null None = null
 number_or_null (Some n) = integer (pos n)
 
 abbrev pub number_or_null_kind : Sets
-number_or_null_kind p t = only_at tag.Int p t || only_at tag.Null p t
+number_or_null_kind = either (only_at tag.Int) (only_at tag.Null)
 
 abbrev pub find_row : Row
 find_row = record {

@@ -1,5 +1,5 @@
 -- The functions that never fail keep the law.
-use Rattle.std.specs.Prelude.{ℕ, false, List, [], ◌∷◌, map, Option, Some, None, refl}
+use Rattle.std.specs.Prelude.{ℕ, false, List, map, Option, Some, None, refl}
 use Rattle.vrl_value.specs.Tree.{Tree, string}
 use Rattle.vrl_value.specs.View.{items_of_trees}
 use Rattle.vrl_value.specs.declared.value.Tag.TheVariants as tag
@@ -8,7 +8,7 @@ use Rattle.vrl_builtin.specs.Law.{IsLawful, KeepsLaw}
 use Rattle.vrl_builtin.specs.OneTag.{KeepsOneTag}
 use Rattle.vrl_builtin.specs.OneTagLaw.{plain_is_lawful}
 use Rattle.vrl_builtin.specs.Rows.{value}
-use Rattle.vrl_builtin.proofs.Containers.{array_is_lawful, plain_part, EachItem, IsLawfulPart}
+use Rattle.vrl_builtin.proofs.Containers.{array_is_lawful, each_text, plain_part, EachItem, IsLawfulPart}
 use Rattle.fn_search.specs.Find.{find_row, number_or_null, number_or_null_kind}
 use Rattle.fn_search.specs.Match.{match_row}
 use Rattle.fn_search.specs.Replace.{replace_row}
@@ -29,10 +29,6 @@ find-law = record {
   present = λ givens sources given below. refl;
   lawful = λ givens arguments setting given fit instances below. number_is_lawful _ arguments;
 }
-
-each_text : (P : Tree → Type 0) (ss : List (List ℕ)) → ((s : List ℕ) → P (string s)) → EachItem P (items_of_trees (map string ss))
-each_text P [] so = tt
-each_text P (s ∷ ss) so = (so s, each_text P ss so)
 
 texts_are_lawful : (ss : List (List ℕ)) (arguments : List (Option Tree)) → EachItem (IsLawfulPart (only_at tag.Text) arguments) (items_of_trees (map string ss))
 texts_are_lawful ss arguments = each_text (IsLawfulPart (only_at tag.Text) arguments) ss (λ s. plain_part (only_at tag.Text) arguments (string s) tt refl)

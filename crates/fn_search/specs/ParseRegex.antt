@@ -4,7 +4,7 @@ use Rattle.vrl_value.specs.Tree.{Tree, string, integer, boolean, null, timestamp
 use Rattle.vrl_value.specs.View.{items_of_trees}
 use Rattle.vrl_kind.specs.Sets.{Sets}
 use Rattle.vrl_builtin.specs.Containers.{array_of}
-use Rattle.vrl_builtin.specs.Rows.{Row, Answer, value, failure, ParameterRow, named, told, boolean_at, literal_at, parameter, regex_given, boolean_or, optional_regex, text_at}
+use Rattle.vrl_builtin.specs.Rows.{Row, Answer, value, failure, ParameterRow, named, told, boolean_at, literal_at, literal_parameter, optional_literal_parameter, parameter, regex_given, boolean_or, optional_regex, text_at}
 use Rattle.vrl_builtin.specs.TagSets.{booleans, regexes, strings}
 use Rattle.vrl_pattern.specs.Groups.{groups_of}
 use Rattle.vrl_pattern.specs.Matches.{all_matches, first_match, group_places}
@@ -14,10 +14,10 @@ use Rattle.fn_search.specs.Sources.{source_at}
 
 -- the regex, and whether the fields have numbers too, are written as literals
 abbrev pub pattern_parameter : ParameterRow
-pattern_parameter = record { name = codes "pattern"; allowed = regexes; required = true; literal = true }
+pattern_parameter = literal_parameter (codes "pattern") regexes
 
 abbrev pub numeric_parameter : ParameterRow
-numeric_parameter = record { name = codes "numeric_groups"; allowed = booleans; required = false; literal = true }
+numeric_parameter = optional_literal_parameter (codes "numeric_groups") booleans
 
 abbrev pub is_regex : Tree → Bool
 is_regex (regex n) = true

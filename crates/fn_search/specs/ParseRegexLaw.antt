@@ -10,8 +10,9 @@ use Rattle.vrl_kind.specs.Sets.{Sets}
 use Rattle.vrl_builtin.specs.Conditions.{IsGiven, IsLiteral}
 use Rattle.vrl_builtin.specs.Containers.{array_of}
 use Rattle.vrl_builtin.specs.Law.{IsLawful, IsOfGiven, KeepsLaw}
-use Rattle.vrl_builtin.specs.Rows.{ParameterRow, value, named, told, argument_at, boolean_at, boolean_or, kind_at, literal_at, optional_regex, regex_given, text_at}
+use Rattle.vrl_builtin.specs.Rows.{ParameterRow, value, named, argument_at, boolean_at, boolean_or, kind_at, literal_at, optional_regex, regex_given, text_at}
 use Rattle.vrl_builtin.proofs.Containers.{array_is_lawful, EachItem, IsLawfulPart}
+use Rattle.vrl_builtin.proofs.Lawful.{told_is_lawful}
 use Rattle.vrl_pattern.specs.Groups.{groups_of}
 use Rattle.vrl_pattern.specs.Matches.{all_matches, first_match, group_places}
 use Rattle.regex.specs.Patterns.{Match}
@@ -30,14 +31,9 @@ literal_is p accepts (Some K) literal None wants given of same = absurd of
 literal_is p accepts (Some K) (Some v) (Some u) wants given of same = same
 literal_is p accepts (Some K) None (Some u) wants given of same = absurd (true≢false (sym (subst (λ b. IsLiteral b accepts None) wants given.allowed).0))
 
-present_for : (names : List (List ℕ)) (numbered : Bool) → fields_kind names numbered [] tag.Absent ≡ false
-present_for names true = refl
-present_for names false = refl
-
-told_is_lawful : {X : Type 0} (make : X → Tree) (words name : List ℕ) (o : Option X) (A : Sets) (arguments : List (Option Tree)) →
-    ((x : X) → IsLawful A true arguments (value (make x))) → IsLawful A true arguments (named name (told make words o))
-told_is_lawful make words name None A arguments lawful = refl
-told_is_lawful make words name (Some x) A arguments lawful = lawful x
+pub fields_present : (names : List (List ℕ)) (numbered : Bool) → fields_kind names numbered [] tag.Absent ≡ false
+fields_present names true = refl
+fields_present names false = refl
 
 parsed_is_lawful : (sources : List (List ℕ)) (number : Option ℕ) (numbered : Bool) (s : List ℕ) (arguments : List (Option Tree)) →
     IsLawful (fields_kind (names_given sources number) numbered) true arguments (named (codes "parse_regex") (parsed sources number numbered s))
@@ -68,7 +64,7 @@ known_is_lawful sources pattern numeric first second P same also holds =
 
 pub parse_regex-law : KeepsLaw parse_regex_row
 parse_regex-law = record {
-  present = λ givens sources given below. present_for (names_given sources (regex_given (literal_at 1 givens))) (boolean_or false (literal_at 2 givens));
+  present = λ givens sources given below. fields_present (names_given sources (regex_given (literal_at 1 givens))) (boolean_or false (literal_at 2 givens));
   lawful = λ givens arguments setting given fit instances below.
       let number = optional_regex 1 arguments in
       let numbered = boolean_at 2 false arguments in

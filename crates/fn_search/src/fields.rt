@@ -9,8 +9,8 @@ ghost use Rattle.fn_search.specs.Known.{AreKnown, IsOneMore};
 
 use std::alloc::Global;
 use std::collections::BTreeMap;
-use vrl_builtin::object_of;
-use vrl_kind::{Kind, Rest, join};
+use vrl_builtin::{either_tag, object_of};
+use vrl_kind::{Kind, Rest};
 use vrl_pattern::Place;
 use vrl_value::{Chars, Fields, Memory, Tag, Value};
 
@@ -155,9 +155,7 @@ pub(crate) fn match_object(
 fn text_or_null_kind(alloc: Global) -> Result<Kind, Memory>
     ensures { IfOk result (λ kind. SameSets (tags_at kind) text_or_null_kind) }
 {
-    let text = Kind::of(alloc, Tag::Text)?;
-    let null = Kind::of(alloc, Tag::Null)?;
-    join(alloc, &text, &null)
+    either_tag(alloc, Tag::Text, Tag::Null)
 }
 
 // Puts a field behind the others whose name isn't empty. `Memory`: want of memory.

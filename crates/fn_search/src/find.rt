@@ -1,18 +1,16 @@
 ghost use Rattle.std.specs.Prelude.{◌≡◌, ◌≤◌, ◌<◌, ◌+◌, ◌^◌, ℕ, pos, IfOk, IfSome, IsTrue, List, MatchOption, None, drop, length, option_map};
 ghost use Rattle.vrl_value.specs.Regexes.{regexes_below};
 ghost use Rattle.vrl_value.specs.View.{tree_of};
-ghost use Rattle.vrl_kind.specs.Kinds.{tags_at};
-ghost use Rattle.vrl_kind.specs.Sets.{SameSets};
 ghost use Rattle.fn_search.specs.Cut.{cut as cut_text};
-ghost use Rattle.fn_search.specs.Find.{find_row, first_place, number_or_null, number_or_null_kind, place_from, start_of};
+ghost use Rattle.fn_search.specs.Find.{find_row, first_place, number_or_null, place_from, start_of};
 ghost use Rattle.fn_search.specs.Laws.{find-law};
 
 use crate::cut::{cut, length_of};
 use std::alloc::Global;
 use vrl_builtin::{
-    Applied, Arguments, Builtin, Givens, Parameter, Setting, Tags, optional, required,
+    Applied, Arguments, Builtin, Givens, Parameter, Setting, Tags, either_tag, optional, required,
 };
-use vrl_kind::{Kind, join};
+use vrl_kind::Kind;
 use vrl_pattern::Patterns;
 use vrl_value::{Memory, Tag, Value};
 
@@ -125,15 +123,6 @@ fn place_from(
     }
 }
 
-// A whole number or null. `Memory`: want of memory.
-fn number_or_null_kind(alloc: Global) -> Result<Kind, Memory>
-    ensures { IfOk result (λ kind. SameSets (tags_at kind) number_or_null_kind) }
-{
-    let number = Kind::of(alloc, Tag::Int)?;
-    let null = Kind::of(alloc, Tag::Null)?;
-    join(alloc, &number, &null)
-}
-
 impl Builtin for Find {
     ghost row = { λ _. find_row };
 
@@ -155,7 +144,7 @@ impl Builtin for Find {
         _given: &Givens,
         _patterns: &Patterns,
     ) -> Result<Kind, Memory> {
-        number_or_null_kind(alloc)
+        either_tag(alloc, Tag::Int, Tag::Null)
     }
 
     fn may_fail(&self, _given: &Givens) -> bool {

@@ -2,7 +2,7 @@ ghost use Rattle.std.specs.Prelude.{◌≡◌};
 ghost use Rattle.fn_search.specs.Laws.{match-law};
 ghost use Rattle.fn_search.specs.Match.{match_row};
 
-use crate::sources::{answer_of, is_match};
+use crate::sources::is_match;
 use std::alloc::Global;
 use vrl_builtin::{Applied, Arguments, Givens, OneTag, Parameter, Setting, Tags, required};
 use vrl_value::Tag;
@@ -37,7 +37,7 @@ impl OneTag for Match {
 
     fn apply(&self, alloc: Global, arguments: &Arguments<'_>, setting: &Setting<'_>) -> Applied {
         let text = arguments.text(0, "");
-        answer_of(is_match(alloc, setting.patterns, text, arguments.value(1)))
+        Applied::boolean(is_match(alloc, setting.patterns, text, arguments.value(1)))
     }
 
     ghost one_tag = { λ _. match-law };

@@ -17,7 +17,8 @@ use crate::cut::length_of;
 use crate::fields::{fields_kind, match_object};
 use std::alloc::Global;
 use vrl_builtin::{
-    Applied, Arguments, Builtin, Givens, Parameter, Setting, Tags, array_of, fail, required,
+    Applied, Arguments, Builtin, Givens, Parameter, Setting, Tags, array_of, fail,
+    optional_literal, required, required_literal,
 };
 use vrl_kind::Kind;
 use vrl_pattern::{Groups, Patterns};
@@ -36,18 +37,8 @@ pub struct ParseRegexAll;
 
 static PARAMETERS: [Parameter; 3] = [
     required!("value", Tags::STRING),
-    Parameter {
-        name: "pattern",
-        allowed: Tags::REGEX,
-        required: true,
-        literal: true,
-    },
-    Parameter {
-        name: "numeric_groups",
-        allowed: Tags::BOOLEAN,
-        required: false,
-        literal: true,
-    },
+    required_literal!("pattern", Tags::REGEX),
+    optional_literal!("numeric_groups", Tags::BOOLEAN),
 ];
 
 // Whether the literal at a place is one that is allowed there.

@@ -1,13 +1,9 @@
-ghost use Rattle.std.specs.Prelude.{◌≡◌, Bool, IfOk, IsTrue, length};
+ghost use Rattle.std.specs.Prelude.{◌≡◌, IfOk, IsTrue, length};
 ghost use Rattle.vrl_value.specs.Regexes.{regexes_below};
-ghost use Rattle.vrl_value.specs.Tree.{boolean};
 ghost use Rattle.vrl_value.specs.View.{tree_of};
-ghost use Rattle.vrl_builtin.specs.Rows.{value as answer};
-ghost use Rattle.vrl_builtin.specs.View.{Applies};
 ghost use Rattle.fn_search.specs.Sources.{is_match};
 
 use std::alloc::Global;
-use vrl_builtin::Applied;
 use vrl_pattern::Patterns;
 use vrl_value::{Memory, Value};
 
@@ -24,15 +20,5 @@ pub(crate) fn is_match(
     match value {
         Value::Pattern(number) => Ok(patterns.find(alloc, *number, text)?.is_some()),
         _ => Ok(false),
-    }
-}
-
-/// A boolean that was found, or want of memory for it.
-pub(crate) fn answer_of(found: Result<bool, Memory>) -> Applied
-    ensures { (truth : Bool) → IfOk found (λ found. found ≡ truth) → Applies (answer (boolean truth)) result }
-{
-    match found {
-        Ok(truth) => Applied::Value(Value::Bool(truth)),
-        Err(_memory) => Applied::Memory,
     }
 }

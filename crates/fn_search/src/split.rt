@@ -9,7 +9,7 @@ use crate::cut::parts_between;
 use crate::find::PATTERNS;
 use std::alloc::Global;
 use vrl_builtin::{
-    Applied, Arguments, Builtin, Givens, Parameter, Setting, Tags, array_of, optional, required,
+    Applied, Arguments, Builtin, Givens, Parameter, Setting, Tags, array_of_tag, optional, required,
 };
 use vrl_kind::Kind;
 use vrl_pattern::Patterns;
@@ -94,8 +94,7 @@ impl Builtin for Split {
         _given: &Givens,
         _patterns: &Patterns,
     ) -> Result<Kind, Memory> {
-        let part = Kind::of(alloc, Tag::Text)?;
-        array_of(alloc, part)
+        array_of_tag(alloc, Tag::Text)
     }
 
     fn may_fail(&self, _given: &Givens) -> bool {

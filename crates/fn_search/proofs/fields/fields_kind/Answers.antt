@@ -3,8 +3,8 @@ use Rattle.std.proofs.lemmas.Result.{IfOk-weaker}
 use Rattle.vrl_kind.specs.KindTree.{KindTree}
 use Rattle.vrl_kind.specs.Kinds.{tags_at}
 use Rattle.vrl_kind.specs.Sets.{SameSets}
+use Rattle.vrl_builtin.proofs.Containers.{object_made}
 use Rattle.fn_search.specs.Fields.{fields_kind, text_or_null_kind}
-use Rattle.fn_search.proofs.MadeKinds.{object_made}
 use Rattle.fn_search.proofs.fields.fields_kind.Goals as goal
 
 pub returns-then-numbered : goal.returns-then-numbered

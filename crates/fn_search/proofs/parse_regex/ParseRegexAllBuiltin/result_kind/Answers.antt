@@ -5,10 +5,10 @@ use Rattle.vrl_kind.specs.Kinds.{tags_at}
 use Rattle.vrl_kind.specs.Sets.{SameSets}
 use Rattle.vrl_builtin.specs.Rows.{literal_at, regex_given}
 use Rattle.vrl_builtin.specs.View.{givens_of}
+use Rattle.vrl_builtin.proofs.Containers.{array_made}
 use Rattle.fn_search.specs.Fields.{fields_kind}
 use Rattle.fn_search.specs.ParseRegex.{names_given, object_kind}
 use Rattle.fn_search.proofs.Below.{literal_below}
-use Rattle.fn_search.proofs.MadeKinds.{array_made}
 use Rattle.fn_search.proofs.parse_regex.ParseRegexAllBuiltin.result_kind.Goals as goal
 
 pub object_kind-requires : goal.object_kind-requires
