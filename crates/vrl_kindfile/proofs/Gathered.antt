@@ -24,9 +24,12 @@ has_some [] empty is not_empty =
     cc
 has_some (v ∷ vs) empty is not_empty = refl
 
+pub some_items : (vs : List Value) (ts : Items) (empty : Bool) → items_view vs ≡ ts → empty ≡ (length vs == 0) → empty ≡ false → has_items ts ≡ true
+some_items vs ts empty view is not_empty = subst (λ us. has_items us ≡ true) view (has_some vs empty is not_empty)
+
 pub list_kind : (vs : List Value) (ts : Items) (empty : Bool) (K : KindTree) → items_view vs ≡ ts → empty ≡ (length vs == 0) → empty ≡ false → AreAlternatives 0 (items_view vs) K → IsDescription (array ts) K
 list_kind vs ts empty K view is not_empty of =
-    list_described ts K (subst (λ us. has_items us ≡ true) view (has_some vs empty is not_empty)) (subst (λ us. AreAlternatives 0 us K) view of)
+    list_described ts K (some_items vs ts empty view is not_empty) (subst (λ us. AreAlternatives 0 us K) view of)
 
 -- a list of one item
 only_item : (vs : List Value) (v : Value) → length vs ≡ 1 → v ≡ get_or vs 0 v → items_view vs ≡ item (tree_of v) no_items

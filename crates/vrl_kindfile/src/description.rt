@@ -1,13 +1,13 @@
-ghost use Rattle.std.specs.Prelude.{◌≡◌, ◌≤◌, ◌+◌, ◌++◌, [], ◌∷◌, List, Some, IfErr, IfOk, OnOk, length};
+ghost use Rattle.std.specs.Prelude.{◌≡◌, ◌≤◌, ◌+◌, ◌++◌, [], ◌∷◌, List, Some, IfErr, IfOk, OnOk, false, length};
 ghost use Rattle.vrl_value.specs.Look.{Step};
 ghost use Rattle.vrl_value.specs.Tree.{array, object, string};
 ghost use Rattle.vrl_value.specs.View.{items_of, items_view, members_of, tree_of};
 ghost use Rattle.vrl_kind.specs.KindTree.{exact};
 ghost use Rattle.vrl_kind.specs.Kinds.{or_absent, tags_at};
 ghost use Rattle.vrl_kind.specs.View.{rest_of};
-ghost use Rattle.vrl_kindfile.specs.Faults.{as_description, as_fields, as_part, as_places, faults, items_faults, members_faults};
+ghost use Rattle.vrl_kindfile.specs.Faults.{as_description, as_fields, as_part, as_places, faults, fits, items_faults, members_faults};
 ghost use Rattle.vrl_kindfile.specs.Shapes.{arrays, is_nothing, objects};
-ghost use Rattle.vrl_kindfile.specs.Walk.{AreAlternatives, AreFields, AreKnownFields, AreKnownPlaces, ArePlaces, given, IsDescription, IsPart, IsRefusal, IsRestOf, IsShape, rest_faults, shape_faults};
+ghost use Rattle.vrl_kindfile.specs.Walk.{AreAlternatives, AreFields, AreKnownFields, AreKnownPlaces, ArePlaces, given, IsDescription, IsHere, IsPart, IsRefusal, IsRestOf, IsShape, rest_faults, shape_faults};
 
 use crate::container::{Container, container_in, optional_part};
 use crate::file::PLACE_LIMIT;
@@ -18,11 +18,12 @@ use std::alloc::Global;
 use vrl_kind::{Kind, Rest, join};
 use vrl_value::{Chars, Fields, Items, Memory, Value};
 
-/// The kind of a description.
+/// The kind of a description. Where the value itself is none, that is the refusal, and no memory is wanted for it.
 #[cycle(describe)]
 pub(crate) fn description(alloc: Global, value: &Value) -> Result<Kind, Refusal>
     ensures kind { IfOk result (IsDescription (tree_of value.now)) }
     ensures fault { IfErr result (IsRefusal (faults as_description (tree_of value.now))) }
+    ensures own { fits as_description (tree_of value.now) ≡ false → IfErr result IsHere }
 {
     match value {
         Value::Text(word) => named_kind(alloc, word.as_str()),
@@ -35,6 +36,7 @@ pub(crate) fn description(alloc: Global, value: &Value) -> Result<Kind, Refusal>
 fn named_kind(alloc: Global, word: &str) -> Result<Kind, Refusal>
     ensures kind { IfOk result (IsDescription (string word.now)) }
     ensures fault { IfErr result (IsRefusal (faults as_description (string word.now))) }
+    ensures own { fits as_description (string word.now) ≡ false → IfErr result IsHere }
 {
     match word_kind(alloc, word)? {
         Some(kind) => Ok(kind),
@@ -47,6 +49,7 @@ fn named_kind(alloc: Global, word: &str) -> Result<Kind, Refusal>
 fn joined(alloc: Global, items: &Items) -> Result<Kind, Refusal>
     ensures kind { IfOk result (IsDescription (array (items_of items.now))) }
     ensures fault { IfErr result (IsRefusal (faults as_description (array (items_of items.now)))) }
+    ensures own { fits as_description (array (items_of items.now)) ≡ false → IfErr result IsHere }
 {
     let items = items.as_slice();
     if items.is_empty() {
@@ -90,6 +93,7 @@ fn halves(alloc: Global, items: &[Value], from: usize) -> Result<Kind, Refusal>
 fn containers(alloc: Global, fields: &Fields) -> Result<Kind, Refusal>
     ensures kind { IfOk result (IsDescription (object (members_of fields.now))) }
     ensures fault { IfErr result (IsRefusal (faults as_description (object (members_of fields.now)))) }
+    ensures own { fits as_description (object (members_of fields.now)) ≡ false → IfErr result IsHere }
 {
     match container_in(fields) {
         None => Err(refused_here(alloc)),
@@ -128,6 +132,7 @@ fn objects(alloc: Global, fields: &Value, rest: Option<&Value>) -> Result<Kind, 
 fn places_in(alloc: Global, value: &Value) -> Result<Vec<Kind>, Refusal>
     ensures kind { IfOk result (λ known. ArePlaces (tree_of value.now) known.items) }
     ensures fault { IfErr result (IsRefusal (faults as_places (tree_of value.now))) }
+    ensures own { fits as_places (tree_of value.now) ≡ false → IfErr result IsHere }
 {
     match value {
         Value::List(items) if items.len() <= PLACE_LIMIT => known_places(alloc, items),
@@ -160,6 +165,7 @@ fn push_place(known: &mut Vec<Kind>, kind: Kind) -> Result<(), Memory>
 fn fields_in(alloc: Global, value: &Value) -> Result<Vec<(Chars, Kind)>, Refusal>
     ensures kind { IfOk result (λ known. AreFields (tree_of value.now) known.items) }
     ensures fault { IfErr result (IsRefusal (faults as_fields (tree_of value.now))) }
+    ensures own { fits as_fields (tree_of value.now) ≡ false → IfErr result IsHere }
 {
     match value {
         Value::Object(fields) => known_fields(alloc, fields),
@@ -199,6 +205,7 @@ fn push_field(
 fn part(alloc: Global, value: &Value) -> Result<Kind, Refusal>
     ensures kind { IfOk result (IsPart (tree_of value.now)) }
     ensures fault { IfErr result (IsRefusal (faults as_part (tree_of value.now))) }
+    ensures own { fits as_part (tree_of value.now) ≡ false → IfErr result IsHere }
 {
     match optional_part(value) {
         None => description(alloc, value),

@@ -1,4 +1,4 @@
-ghost use Rattle.std.specs.Prelude.{◌≡◌, None, IfOk, MatchOption};
+ghost use Rattle.std.specs.Prelude.{◌≡◌, None, IfOk, IsErr, IsSome, MatchOption};
 ghost use Rattle.vrl_value.specs.Tree.{string};
 ghost use Rattle.vrl_kindfile.specs.Shapes.{word_tags};
 ghost use Rattle.vrl_kindfile.specs.Walk.{IsWordKind};
@@ -7,9 +7,10 @@ use std::alloc::Global;
 use vrl_kind::Kind;
 use vrl_value::{Memory, Tag};
 
-/// The kind that a word names. `None`: it names none. `Memory`: want of memory.
+/// The kind that a word names. `None`: it names none, for which no memory is wanted. `Memory`: want of memory.
 pub(crate) fn word_kind(alloc: Global, word: &str) -> Result<Option<Kind>, Memory>
-    ensures { IfOk result (λ found. MatchOption found (word_tags word.now ≡ None) (IsWordKind word.now)) }
+    ensures kind { IfOk result (λ found. MatchOption found (word_tags word.now ≡ None) (IsWordKind word.now)) }
+    ensures memory { IsErr result → IsSome (word_tags word.now) }
 {
     match word {
         "string" => Ok(Some(Kind::of(alloc, Tag::Text)?)),

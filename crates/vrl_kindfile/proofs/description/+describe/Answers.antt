@@ -1,12 +1,13 @@
 use Rattle.std.proofs.Common.{◌≡◌, ◌+◌, drop, refl, sym, ap, ◌∙◌, string_bytes, string_cmp, subst, arith}
 use Rattle.std.specs.List.Sorted.{IsStrictlySortedBy}
 use Rattle.std.specs.Map.{keys_of}
+use Rattle.std.proofs.lemmas.Bool.{true≢false}
 use Rattle.std.proofs.lemmas.Result.{IfOk-weaker, err_from_is_err_and}
 use Rattle.vrl_value.specs.View.{items_of, items_view, members_of, members_view, tree_of}
 use Rattle.vrl_value.specs.Tree.{item, member, no_items, no_members}
 use Rattle.vrl_kindfile.specs.Walk.{NamesAreOrdered}
 use Rattle.vrl_kindfile.proofs.Alternatives.{both}
-use Rattle.vrl_kindfile.proofs.Gathered.{Entry, back_refused, field_faultless, field_gathered, fields_end, fields_faultless, front_refused, halves_of, items_size-append, length-items_size, list_kind, names_ordered, next_place, no_place_left, only_kind, place_faultless, place_gathered, places_end, places_faultless, sorted_behind}
+use Rattle.vrl_kindfile.proofs.Gathered.{Entry, back_refused, field_faultless, field_gathered, fields_end, fields_faultless, front_refused, halves_of, items_size-append, length-items_size, list_kind, names_ordered, next_place, no_place_left, only_kind, place_faultless, place_gathered, places_end, places_faultless, some_items, sorted_behind}
 use Rattle.vrl_kindfile.proofs.Sizes.{items_size, members_size, size_of}
 use Rattle.vrl_kindfile.proofs.Known.{arrays_shape, objects_shape}
 use Rattle.vrl_kindfile.proofs.Optional.{optional_part, optional_refused, required_part, rest_left_out, rest_of_kind}
@@ -31,6 +32,9 @@ containers-returns-in-Some-Objects-clause-kind t c =
 
 pub joined-returns-clause-kind : goal.joined-returns-clause-kind
 joined-returns-clause-kind t c = IfOk-weaker c.joined_from.result _ _ (λ kind is. list_kind _ _ _ kind c.as_slice-items.ensures c.is_empty.ensures c.if-is_empty.false is) c.joined_from.ensures.kind
+
+pub joined-returns-clause-own : goal.joined-returns-clause-own
+joined-returns-clause-own t c none = absurd (true≢false (sym (some_items _ _ _ c.as_slice-items.ensures c.is_empty.ensures c.if-is_empty.false) ∙ none))
 
 pub joined_from-returns-in-Ok-clause-kind : goal.joined_from-returns-in-Ok-clause-kind
 joined_from-returns-in-Ok-clause-kind t c = only_kind _ _ _ _ (omega arith) c.only-item.is c.in-Ok.ensures.kind
