@@ -1,6 +1,5 @@
 -- Strings counted one after the other come to their counts.
 use Rattle.std.proofs.Common.{◌≡◌, ◌<◌, ◌+◌, ◌^◌, ℕ, zero, suc, pos, Bool, true, false, List, [], ◌∷◌, Option, Some, None, length, bytes_eq, refl, sym, ap, ◌∙◌, subst, arith, if◌then◌else◌}
-use Rattle.std.proofs.lemmas.Bool.{true≢false}
 use Rattle.std.proofs.lemmas.Int.{int_wrap_fits, wrapping_add_is}
 use Rattle.std.proofs.lemmas.Slice.Eq.{bytes_eq-Decides}
 use Rattle.std.specs.Int.{int_wrap, w64}
@@ -8,6 +7,7 @@ use Rattle.vrl_value.specs.Laws.{MembersAreMaps}
 use Rattle.vrl_value.specs.Tree.{Tree, string, integer, boolean, null, timestamp, regex, array, object, Members, no_members, find, MembersAreOrdered}
 use Rattle.vrl_value.proofs.Members.{find-put, find-put_other}
 use Rattle.vrl_value.proofs.Order.{put_ordered}
+use Rattle.vrl_builtin.proofs.GivenTags.{no}
 use Rattle.fn_object.specs.Counting.{add_count, add_counts, one_more}
 use Rattle.fn_object.specs.Tally.{count_in, counted, is_text, put_count}
 
@@ -22,9 +22,6 @@ one_up n = omega arith
 more_is : (n : ℕ) → suc n < 2 ^ 63 → one_more (shown n) ≡ pos (suc n)
 more_is zero small = refl
 more_is (suc n) small = wrapping_add_is w64 (pos (suc n)) (pos 1) (omega (arith, small)) (omega arith) ∙ ap (λ m. int_wrap w64 (pos m)) (one_up n) ∙ int_wrap_fits w64 (pos (suc (suc n))) (omega (arith, small))
-
-no : {C : Type 0} → false ≡ true → C
-no is = absurd (true≢false (sym is))
 
 -- ---- one after the other
 

@@ -19,7 +19,7 @@ three (object ms) u w ts = refl
 apart : {C : Type 0} (b : Bool) → b ≡ true → b ≡ false → C
 apart b is other = absurd (true≢false (sym is ∙ other))
 
-more_at : (n : ℕ) (b : Bool) → (suc n == 0) ≡ b → b ≡ false
+pub more_at : (n : ℕ) (b : Bool) → (suc n == 0) ≡ b → b ≡ false
 more_at n true is = let no : suc n ≡ 0 = eqb-true (suc n) 0 is in let never : ⊥ = omega (arith, no) in absurd never
 more_at n false is = refl
 

@@ -1,6 +1,6 @@
 -- Names cut at the first separator, again and again.
-use Rattle.std.proofs.Common.{◌≡◌, ◌≤◌, ◌<◌, ◌+◌, ◌-◌, ◌==◌, ◌||◌, nat_lt, ℕ, zero, suc, Bool, true, false, List, [], ◌∷◌, ◌++◌, take, drop, length, map, Option, Some, None, option_map, refl, sym, ap, ◌∙◌, subst, append_assoc, arith, if◌then◌else◌}
-use Rattle.std.proofs.lemmas.Bool.{eqb-true, true≢false}
+use Rattle.std.proofs.Common.{◌≡◌, ◌≤◌, ◌<◌, ◌+◌, ◌-◌, ◌==◌, ◌||◌, nat_lt, ℕ, zero, suc, Bool, true, false, List, [], ◌∷◌, ◌++◌, take, drop, length, map, Option, Some, None, option_map, refl, sym, ap, ◌∙◌, append_assoc, arith, if◌then◌else◌}
+use Rattle.std.proofs.lemmas.Bool.{true≢false}
 use Rattle.std.proofs.lemmas.List.{length-drop, length-map, take-append-drop}
 use Rattle.std.proofs.lemmas.Slice.Eq.{bytes_eq-Decides}
 use Rattle.std.specs.Str.Pattern.{FindsText, LacksTextAt, SplitsAroundMatch}
@@ -9,9 +9,7 @@ use Rattle.vrl_path.specs.declared.path.Step.{Step}
 use Rattle.vrl_path.specs.declared.path.Step.TheVariants.{Field}
 use Rattle.fn_object.specs.Paths.{is_writable}
 use Rattle.fn_object.specs.Unflatten.{begins, cut_at, cut_key, first_place, is_nothing, path_of}
-
-no : {C : Type 0} → false ≡ true → C
-no is = absurd (true≢false (sym is))
+use Rattle.fn_object.proofs.Pairs.{more_at}
 
 -- ---- the first place
 
@@ -105,13 +103,6 @@ cut_here separator s front back some m =
     ∙ ap (λ bs. take m.0 s ∷ cut_key (length bs) separator bs) (behind_is separator s front back m)
     ∙ ap (λ f. f ∷ cut_key (length back) separator back) (sym m.3)
 
-less_at : (separator s : List ℕ) (i : ℕ) → is_nothing separator ≡ false → first_place separator s ≡ Some i → length (drop (i + length separator) s) < length s
-less_at separator [] i some found = absurd cc
-less_at separator (b ∷ bs) i some found = let few : length (drop (i + length separator) (b ∷ bs)) ≤ length bs = shorter separator (b ∷ bs) i (length bs) some (omega arith) in omega (arith, few)
-
-pub behind_less : (separator s front back : List ℕ) → is_nothing separator ≡ false → SplitsAroundMatch (FindsText separator) s front back → length back < length s
-behind_less separator s front back some m = subst (λ (bs : List ℕ). length bs < length s) (behind_is separator s front back m) (less_at separator s m.0 some (placed separator s front back some m))
-
 pub one_more : (separator s front back : List ℕ) (items after whole : List Step) → is_nothing separator ≡ false → SplitsAroundMatch (FindsText separator) s front back → after ≡ items ++ Field front ∷ [] →
     items ++ map Field (cut_key (length s) separator s) ≡ whole → after ++ map Field (cut_key (length back) separator back) ≡ whole
 one_more separator s front back items after whole some m pushed before =
@@ -126,10 +117,6 @@ all_writable [] = refl
 all_writable (k ∷ ks) = all_writable ks
 
 -- ---- which of both it is
-
-more_at : (n : ℕ) (b : Bool) → (suc n == 0) ≡ b → b ≡ false
-more_at n true is = let none : suc n ≡ 0 = eqb-true (suc n) 0 is in let never : ⊥ = omega (arith, none) in absurd never
-more_at n false is = refl
 
 pub nothing_is : (s : List ℕ) (b : Bool) → (length s == 0) ≡ b → is_nothing s ≡ b
 nothing_is [] b is = is

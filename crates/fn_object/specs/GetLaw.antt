@@ -1,6 +1,6 @@
 -- `get` keeps the law.
 use Rattle.std.specs.Prelude.{◌≡◌, ℕ, Bool, false, List, [], ◌∷◌, Option, Some, None, codes, unwrap_or, IsTrue, IfSome, refl}
-use Rattle.vrl_value.specs.Look.{Found, there, missing, no_place, found_behind, found_if, item_at, raw_at, tag_found, IfThere}
+use Rattle.vrl_value.specs.Look.{Found, there, missing, no_place, found_behind, item_at, raw_at, tag_found, IfThere}
 use Rattle.vrl_value.specs.Tree.{Tree, null, array, object, Items, find, IsOrdered}
 use Rattle.vrl_value.specs.declared.value.Tag.{Tag}
 use Rattle.vrl_kind.specs.Kinds.{any_at}
@@ -21,15 +21,12 @@ use Rattle.vrl_builtin.proofs.GivenTags.{arrays_only, some_only}
 use Rattle.vrl_builtin.specs.Listed.{trees_in}
 use Rattle.vrl_builtin.proofs.AnswerParts.{answered, member_parts, everything, given_part, item_parts, IsPart}
 use Rattle.vrl_builtin.proofs.OtherParts.{other_given}
+use Rattle.fn_object.specs.PathLaw.{there_if}
 use Rattle.fn_object.specs.Paths.{path_answer, step_tags, steps_of}
 use Rattle.vrl_builtin.specs.PartKinds.{part_allows_other}
 
 any_allowed : (v : Tree) → IsAllowed v any_at
 any_allowed v p = subst (λ (T : Tag → Bool). IfSome (tag_found (raw_at v p)) (λ t. IsTrue (T t))) (any_tags p) (any_inhabits false v p)
-
-there_if : (P : Tree → Type 0) (o : Option Tree) → IfSome o P → IfThere (found_if o) P
-there_if P None is = tt
-there_if P (Some t) is = is
 
 item_is : (arguments : List (Option Tree)) (o : Option ℕ) (ts : Items) → EachItem (IsPart arguments) ts → IfThere (item_if o ts) (IsPart arguments)
 item_is arguments None ts each = tt

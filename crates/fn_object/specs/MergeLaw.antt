@@ -1,8 +1,8 @@
 -- `merge` keeps the law.
-use Rattle.std.specs.Prelude.{◌≡◌, ℕ, Bool, true, false, ◌&&◌, ◌||◌, not, List, [], ◌∷◌, Option, Some, None, IsTrue, IfSome, refl, bytes_eq}
+use Rattle.std.specs.Prelude.{◌≡◌, ℕ, Bool, true, false, ◌&&◌, not, List, [], ◌∷◌, Option, Some, None, IsTrue, IfSome, refl, bytes_eq}
 use Rattle.std.proofs.Common.{sym, ap, ◌∙◌, subst}
-use Rattle.std.proofs.lemmas.Cmp.{nat_list_cmp_total, tied_itself}
 use Rattle.std.proofs.lemmas.Slice.Eq.{bytes_eq-Decides}
+use Rattle.std.proofs.lemmas.Bool.{and_from, or_left, or_right}
 use Rattle.vrl_value.specs.Look.{Step, field, place, found_behind, found_if, raw_at, tag_found}
 use Rattle.vrl_value.specs.Tag.{tag_of}
 use Rattle.vrl_value.specs.Tree.{Tree, string, integer, boolean, null, timestamp, regex, array, object, Members, no_members, member, find, put, IsBefore, IsOrdered, MembersAreOrdered}
@@ -17,7 +17,7 @@ use Rattle.vrl_kind.specs.Sets.{Sets, IsAllowed}
 use Rattle.vrl_builtin.specs.Law.{KeepsLaw, IsLawful, IsOfGiven}
 use Rattle.vrl_builtin.specs.Rows.{value, argument_at, boolean_or, kind_at, literal_at, value_or}
 use Rattle.vrl_builtin.specs.TagSets.{objects}
-use Rattle.vrl_builtin.proofs.Containers.{each_found, each_put, EachMember}
+use Rattle.vrl_builtin.proofs.Containers.{each_found, each_put, found_first, later_keys, EachMember}
 use Rattle.vrl_builtin.proofs.GivenTags.{no, objects_only}
 use Rattle.vrl_builtin.specs.AnyParts.{any_of}
 use Rattle.fn_object.specs.Merge.{changed, is_shallow, laid_over, lay_all, merge_kind, merge_row, merged, overlaid_kind, put_all}
@@ -26,13 +26,6 @@ use Rattle.fn_object.specs.EachChanged.{each_replaced}
 use Rattle.vrl_builtin.proofs.AnyParts.{loosely_allowed}
 
 -- ---- what is found among members that were put over others
-
-later_keys : (k : List ℕ) (ms : Members) → IsBefore k ms → find k ms ≡ None
-later_keys k no_members before = refl
-later_keys k (member l v ms) before = rw before.0 (later_keys k ms before.1)
-
-found_first : (k : List ℕ) (v : Tree) (ms : Members) → find k (member k v ms) ≡ Some v
-found_first k v ms = rw (tied_itself nat_list_cmp_total k) refl
 
 abbrev either : Option Tree → Option Tree → Option Tree
 either None b = b
@@ -61,18 +54,6 @@ put_all_parts arguments (member k t ns) ms each are =
 
 -- ---- field by field
 
-and_both : (a b : Bool) → a ≡ true → b ≡ true → (a && b) ≡ true
-and_both true b first second = second
-and_both false b first second = first
-
-or_first : (a b : Bool) → a ≡ true → (a || b) ≡ true
-or_first true b is = refl
-or_first false b is = no is
-
-or_second : (a b : Bool) → b ≡ true → (a || b) ≡ true
-or_second true b is = refl
-or_second false b is = is
-
 is_there : (v : Tree) → not (is_absence [] (tag_of v)) ≡ true
 is_there (string s) = refl
 is_there (integer n) = refl
@@ -92,20 +73,20 @@ if_some (Some t) P Q so is = so t is
 
 over_field : (A B : Sets) (b a : Option Tree) (p : List Step) → ((q : List Step) → IfSome (at_field b q) (λ t. IsTrue (B q t))) → IfSome (at_field a p) (λ t. IsTrue (A p t)) →
     IfSome (at_field (either b a) p) (λ t. IsTrue (over_at A B p t))
-over_field A B (Some v) a [] upper lower = or_first _ (B [] tag.Absent && A [] (tag_of v)) (and_both (B [] (tag_of v)) _ (upper []) (is_there v))
+over_field A B (Some v) a [] upper lower = or_left _ (B [] tag.Absent && A [] (tag_of v)) (and_from (B [] (tag_of v)) _ (upper []) (is_there v))
 over_field A B (Some v) a (s ∷ p) upper lower =
     if_some (tag_found (raw_at v (s ∷ p))) (λ t. IsTrue (B (s ∷ p) t)) (λ t. IsTrue (over_at A B (s ∷ p) t))
-    (λ t is. or_first _ (B [] tag.Absent && A (s ∷ p) t) (and_both (B (s ∷ p) t) true is refl)) (upper (s ∷ p))
+    (λ t is. or_left _ (B [] tag.Absent && A (s ∷ p) t) (and_from (B (s ∷ p) t) true is refl)) (upper (s ∷ p))
 over_field A B None a p upper lower =
-    if_some (at_field a p) (λ t. IsTrue (A p t)) (λ t. IsTrue (over_at A B p t)) (λ t is. or_second (B p t && not (is_absence p t)) _ (and_both (B [] tag.Absent) (A p t) (upper []) is)) lower
+    if_some (at_field a p) (λ t. IsTrue (A p t)) (λ t. IsTrue (over_at A B p t)) (λ t is. or_right (B p t && not (is_absence p t)) _ (and_from (B [] tag.Absent) (A p t) (upper []) is)) lower
 
 shallow_allowed : (ms ns : Members) (K L : KindTree) → Inhabits (object ms) K → Inhabits (object ns) L → MembersAreOrdered ns → IsAllowed (object (put_all ns ms)) (overlaid_kind (Some K) (Some L))
-shallow_allowed ms ns K L first second ordered [] = and_both (tags_at K [] tag.Object) _ (first []) (and_both (tags_at L [] tag.Object) _ (second []) refl)
+shallow_allowed ms ns K L first second ordered [] = and_from (tags_at K [] tag.Object) _ (first []) (and_from (tags_at L [] tag.Object) _ (second []) refl)
 shallow_allowed ms ns K L first second ordered (place i ∷ p) = tt
 shallow_allowed ms ns K L first second ordered (field n ∷ p) =
     let A : Sets = λ q. tags_at K (field n ∷ q) in let B : Sets = λ q. tags_at L (field n ∷ q) in
     if_some (at_field (find n (put_all ns ms)) p) (λ t. IsTrue (over_at A B p t)) (λ t. IsTrue (overlaid_kind (Some K) (Some L) (field n ∷ p) t))
-    (λ t is. and_both (tags_at K [] tag.Object) _ (first []) (and_both (tags_at L [] tag.Object) _ (second []) is))
+    (λ t is. and_from (tags_at K [] tag.Object) _ (first []) (and_from (tags_at L [] tag.Object) _ (second []) is))
     (subst (λ (o : Option Tree). IfSome (at_field o p) (λ t. IsTrue (over_at A B p t))) (sym (put_all_found n ns ms ordered))
     (over_field A B (find n ns) (find n ms) p (λ q. second (field n ∷ q)) (first (field n ∷ p))))
 
@@ -168,15 +149,15 @@ and_false true true = refl
 and_false true false = refl
 and_false false b = refl
 
-not_absent : (shallow : Bool) (K L : Option KindTree) → merge_kind shallow K L [] tag.Absent ≡ false
-not_absent true None L = refl
-not_absent true (Some K) None = refl
-not_absent true (Some K) (Some L) = and_false (tags_at K [] tag.Object) (tags_at L [] tag.Object)
-not_absent false K L = refl
+pub merge_present : (shallow : Bool) (K L : Option KindTree) → merge_kind shallow K L [] tag.Absent ≡ false
+merge_present true None L = refl
+merge_present true (Some K) None = refl
+merge_present true (Some K) (Some L) = and_false (tags_at K [] tag.Object) (tags_at L [] tag.Object)
+merge_present false K L = refl
 
 pub merge-law : KeepsLaw merge_row
 merge-law = record {
-  present = λ givens sources given below. not_absent (is_shallow (kind_at 2 givens) (literal_at 2 givens)) (kind_at 0 givens) (kind_at 1 givens);
+  present = λ givens sources given below. merge_present (is_shallow (kind_at 2 givens) (literal_at 2 givens)) (kind_at 0 givens) (kind_at 1 givens);
   lawful = λ givens arguments setting given fit instances below.
       let K = kind_at 0 givens in let L = kind_at 1 givens in let shallow = is_shallow (kind_at 2 givens) (literal_at 2 givens) in let deep = boolean_or false (argument_at 2 arguments) in
       objects_only (λ a. argument_at 0 arguments ≡ a → IsOfGiven K a → IfSome a IsOrdered → IsLawful (merge_kind shallow K L) false arguments (value (merged deep (value_or null a) (value_or null (argument_at 1 arguments)))))

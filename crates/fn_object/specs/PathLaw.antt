@@ -56,7 +56,7 @@ without_is arguments (field k) (object ms) old =
 without_is arguments (place i) (array ts) old = array_part arguments _ (each_without_item (IsPart arguments) i ts (item_parts arguments ts old))
 without_is arguments s u old = old
 
-there_if : (P : Tree → Type 0) (o : Option Tree) → IfSome o P → IfThere (found_if o) P
+pub there_if : (P : Tree → Type 0) (o : Option Tree) → IfSome o P → IfThere (found_if o) P
 there_if P None is = tt
 there_if P (Some t) is = is
 

@@ -6,7 +6,7 @@ ghost use Rattle.vrl_builtin.specs.Listed.{members_in};
 
 use std::alloc::Global;
 use vrl_builtin::{
-    Applied, Arguments, Builtin, Givens, Parameter, Setting, Tags, array_of, required,
+    Applied, Arguments, Builtin, Givens, Parameter, Setting, Tags, array_of_tag, required,
 };
 use vrl_kind::Kind;
 use vrl_pattern::Patterns;
@@ -61,8 +61,7 @@ impl Builtin for Keys {
         _given: &Givens,
         _patterns: &Patterns,
     ) -> Result<Kind, Memory> {
-        let names = Kind::of(alloc, Tag::Text)?;
-        array_of(alloc, names)
+        array_of_tag(alloc, Tag::Text)
     }
 
     fn may_fail(&self, _given: &Givens) -> bool {

@@ -12,7 +12,7 @@ use std::alloc::Global;
 use std::collections::BTreeMap;
 use vrl_builtin::{
     Applied, Arguments, Builtin, Givens, Parameter, Setting, Tags, fail_at_element, first_other,
-    items_of, object_of, required,
+    items_of, object_of_tag, required,
 };
 use vrl_kind::Kind;
 use vrl_pattern::Patterns;
@@ -109,8 +109,7 @@ impl Builtin for Tally {
         _given: &Givens,
         _patterns: &Patterns,
     ) -> Result<Kind, Memory> {
-        let count = Kind::of(alloc, Tag::Int)?;
-        object_of(alloc, count)
+        object_of_tag(alloc, Tag::Int)
     }
 
     fn may_fail(&self, given: &Givens) -> bool {
