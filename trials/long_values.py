@@ -102,6 +102,7 @@ def texts():
     yield "parse_key_value, an open quote", "parse_key_value(t) ?? \"failed\"", {"t": 'a="' + "\\" * (LONG // 2)}, FAILED
     yield "parse_key_value, a delimiter that almost stands there", "length(parse_key_value(t, n) ?? {})", {"t": HALF, "n": HALF[:LONG // 4] + "b"}, 1
     yield "parse_key_value, many fields and a delimiter that almost stands there", "length(parse_key_value(t, n, \"b\") ?? {})", {"t": "aab" * 100000, "n": "a" * 100000 + "c"}, 1
+    yield "parse_key_value, a delimiter that almost stands behind each of many fields", "length(parse_key_value(t, n) ?? {})", {"t": "a " * 200000, "n": " a" * 100000 + "b"}, 1
     yield "parse_key_value, fields parted by a delimiter that almost stands there", "length(parse_key_value(t, \"=\", n) ?? {})", {"t": "a=" + HALF, "n": HALF[:LONG // 4] + "b"}, 1
     yield "parse_csv, many fields", "length(parse_csv(t))", {"t": "," * LONG}, LONG + 1
     yield "parse_csv, quotes", "parse_csv(t)", {"t": '"' * (LONG // 2)}, ['"' * (LONG // 4 - 1)]

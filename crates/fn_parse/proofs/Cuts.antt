@@ -1,16 +1,17 @@
 -- Fields and their parts, as the code cuts them.
-use Rattle.std.proofs.Common.{◌≡◌, ◌≢◌, ◌<◌, ◌≤◌, ◌==◌, ◌||◌, ℕ, zero, suc, Bool, true, false, List, [], ◌∷◌, ◌++◌, take, drop, length, get_or, Option, Some, None, unwrap_or, MatchOption, refl, sym, ap, ◌∙◌, subst, arith, codes, if◌then◌else◌, inl, inr}
+use Rattle.std.proofs.Common.{◌≡◌, ◌≢◌, ◌<◌, ◌≤◌, ◌==◌, ◌+◌, ◌-◌, ◌||◌, ℕ, zero, suc, Bool, true, false, List, [], ◌∷◌, ◌++◌, take, drop, length, get_or, max, min, Bor, Option, Some, None, unwrap_or, MatchOption, refl, sym, ap, ◌∙◌, subst, arith, codes, if◌then◌else◌, inl, inr}
 use Rattle.std.proofs.lemmas.Bool.{true≢false}
 use Rattle.std.proofs.lemmas.Bool.Decides.{eqb_tells}
-use Rattle.std.proofs.lemmas.List.{take-append-drop}
+use Rattle.std.proofs.lemmas.List.{length-drop, take-append-drop}
 use Rattle.std.proofs.lemmas.Slice.Eq.{bytes_eq-Decides}
 use Rattle.std.proofs.lemmas.Str.{IsCharBoundary-start}
 use Rattle.std.proofs.Math.Seq.{take-append_seam}
 use Rattle.std.specs.Bool.{MatchBool}
 use Rattle.std.specs.Str.{IsCharBoundary, IsUtf8}
 use Rattle.std.specs.Str.Pattern.{FindsText, FindsTextPrefix, HasPrefixMatch, LacksTextAt, MatchBeginsAt, StripsPrefix}
+use Rattle.fn_parse.specs.Found.{IsAhead, IsNext}
 use Rattle.fn_parse.specs.KeyValue.{begins, entry, fault, field_at, first_place, is_field_end, is_key_end, plain_value, quoted_up_to, value_at, with_key, with_value}
-use Rattle.fn_parse.specs.Quotes.{closing_place, unescaped, IsClosed}
+use Rattle.fn_parse.specs.Quotes.{closing_place}
 
 -- ---- what begins with a delimiter
 
@@ -36,6 +37,11 @@ end_begins f (b ∷ s) some = refl
 
 pub stripped : (d s rest : List ℕ) → StripsPrefix (FindsTextPrefix d) s rest → (begins d s ≡ true) × (rest ≡ drop (length d) s)
 stripped d s rest cut = (begins_at d s (drop cut.0 s) cut.1.1, cut.2 ∙ ap (λ n. drop n s) cut.1.0)
+
+pub stripped_or_lacks : (d s : List ℕ) (r : Option (Bor (List ℕ))) → MatchOption r (LacksTextAt d s 0) (λ rest. StripsPrefix (FindsTextPrefix d) s rest.now) →
+    MatchOption r (begins d s ≡ false) (λ rest. (begins d s ≡ true) × (rest.now ≡ drop (length d) s))
+stripped_or_lacks d s None none = lacks d s none
+stripped_or_lacks d s (Some rest) cut = stripped d s rest.now cut
 
 -- ---- the first place
 
@@ -97,6 +103,54 @@ pub found_place : (f s : List ℕ) (r : Option ℕ) → 0 < length f → MatchOp
 found_place f s None some none = no_place f s none
 found_place f s (Some i) some found = some_place f s i (drop found.0 s) some found.1.0 found.1.1.split
 
+-- ---- the next place of a delimiter
+
+pub next_is : (d s front rest : List ℕ) → (front, rest) ≡ plain_value d s → IsNext d s (length rest)
+next_is d s front rest is =
+    let back : rest ≡ drop (first_place (begins d) s) s = λ i. (is i).1 in
+    let long : length rest ≡ length s - first_place (begins d) s = ap length back ∙ length-drop (first_place (begins d) s) s in
+    let within = place_within (begins d) s in
+    omega (arith, long, within)
+
+ahead_behind : (d : List ℕ) (b : ℕ) (s : List ℕ) (n : ℕ) → IsAhead d (b ∷ s) n → IsAhead d s n
+ahead_behind d b s n known = by (begins d (b ∷ s)) known where
+  by : (t : Bool) → (n ≤ length (b ∷ s) → length (b ∷ s) ≡ place_if t (first_place (begins d) s) + n) → IsAhead d s n
+  by true known = λ few. absurd (let is = known (omega (arith, few)) in omega (arith, few, is))
+  by false known = λ few. let is = known (omega (arith, few)) in omega (arith, few, is)
+
+ahead_from : (d s : List ℕ) (m n : ℕ) → IsAhead d s n → IsAhead d (drop m s) n
+ahead_from d s zero n known = known
+ahead_from d [] (suc m) n known = known
+ahead_from d (b ∷ s) (suc m) n known = ahead_from d s m n (ahead_behind d b s n known)
+
+-- what is known of a text is known of its ends
+pub ahead_on : (d s t : List ℕ) (m n : ℕ) → t ≡ drop m s → IsAhead d s n → IsAhead d t n
+ahead_on d s t m n is known = let P : List ℕ → Type 0 = λ u. IsAhead d u n in subst P (sym is) (ahead_from d s m n known)
+
+pub begins_later : (d s : List ℕ) (n : ℕ) → IsAhead d s n → n < length s → begins d s ≡ false
+begins_later d [] n known few = absurd (omega (arith, few))
+begins_later d (b ∷ s) n known few = by (begins d (b ∷ s)) (known (omega (arith, few))) where
+  by : (t : Bool) → length (b ∷ s) ≡ place_if t (first_place (begins d) s) + n → t ≡ false
+  by false place = refl
+  by true place = absurd (omega (arith, few, place))
+
+first_of_both : (k f s : List ℕ) → first_place (is_key_end k f) s ≡ min (first_place (begins k) s) (first_place (begins f) s)
+first_of_both k f [] = omega arith
+first_of_both k f (b ∷ s) = by (begins k (b ∷ s)) (begins f (b ∷ s)) (first_of_both k f s) where
+  by : (t u : Bool) → first_place (is_key_end k f) s ≡ min (first_place (begins k) s) (first_place (begins f) s) →
+      place_if (t || u) (first_place (is_key_end k f) s) ≡ min (place_if t (first_place (begins k) s)) (place_if u (first_place (begins f) s))
+  by true u later = omega arith
+  by false true later = omega arith
+  by false false later = omega (arith, later)
+
+-- a key ends where the first of the two delimiters stands
+pub key_end : (k f s : List ℕ) (a b n : ℕ) → IsNext k s a → IsNext f s b → n ≡ max a b → length s ≡ first_place (is_key_end k f) s + n
+key_end k f s a b n key field greater =
+    let one : length s ≡ first_place (begins k) s + a = key in
+    let two : length s ≡ first_place (begins f) s + b = field in
+    let first = first_of_both k f s in
+    omega (arith, one, two, greater, first)
+
 -- ---- values
 
 pub plain_is : (f s front back : List ℕ) (n : ℕ) → n ≡ first_place (begins f) s → front ≡ take n s → back ≡ drop n s → (front, back) ≡ plain_value f s
@@ -104,18 +158,6 @@ plain_is f s front back n place front_is back_is =
     let front_too : front ≡ take (first_place (begins f) s) s = front_is ∙ ap (λ m. take m s) place in
     let back_too : back ≡ drop (first_place (begins f) s) s = back_is ∙ ap (λ m. drop m s) place in
     λ i. (front_too i, back_too i)
-
-pub quoted_is : (f s inner behind : List ℕ) → IsClosed s inner behind → is_field_end f behind ≡ true → Some (unescaped inner, behind) ≡ quoted_up_to f s (closing_place s)
-quoted_is f s inner behind cut ends =
-    let parts : (unescaped inner, behind) ≡ (unescaped (take cut.place s), drop (suc cut.place) s) = λ i. (unescaped (cut.before i), cut.rest i) in
-    ap Some parts ∙ sym (ap (λ t. if t then Some (unescaped (take cut.place s), drop (suc cut.place) s) else None) (ap (is_field_end f) (sym cut.rest) ∙ ends)) ∙ ap (quoted_up_to f s) (sym cut.closes)
-
-pub quoted_badly : (f s inner behind : List ℕ) → IsClosed s inner behind → is_field_end f behind ≡ false → None ≡ quoted_up_to f s (closing_place s)
-quoted_badly f s inner behind cut ends =
-    sym (ap (λ t. if t then Some (unescaped (take cut.place s), drop (suc cut.place) s) else None) (ap (is_field_end f) (sym cut.rest) ∙ ends)) ∙ ap (quoted_up_to f s) (sym cut.closes)
-
-pub value_in_quotes : (f s quoted : List ℕ) → s ≡ 0x22 ∷ quoted → quoted_up_to f quoted (closing_place quoted) ≡ value_at f s
-value_in_quotes f s quoted is = sym (ap (value_at f) is)
 
 pub value_without : (f s : List ℕ) → ((rest : List ℕ) → s ≢ 0x22 ∷ rest) → Some (plain_value f s) ≡ value_at f s
 value_without f [] none = refl
@@ -134,6 +176,12 @@ pub key_valued : (k f key behind text : List ℕ) (o : Option (List ℕ × List 
 key_valued k f [] behind text o some is text_is found = absurd (omega (arith, some))
 key_valued k f (b ∷ key) behind text o some is text_is found =
     ap (with_value (b ∷ key)) (found ∙ ap (value_at f) text_is) ∙ sym (ap (λ t. if t then with_value (b ∷ key) (value_at f (drop (length k) behind)) else entry (b ∷ key) None behind) is)
+
+pub field_is : (k f s key behind : List ℕ) (n : ℕ) → n ≡ first_place (is_key_end k f) s → key ≡ take n s → behind ≡ drop n s → with_key k f key behind ≡ field_at k f s
+field_is k f s key behind n place key_is behind_is =
+    let front : key ≡ take (first_place (is_key_end k f) s) s = key_is ∙ ap (λ m. take m s) place in
+    let back : behind ≡ drop (first_place (is_key_end k f) s) s = behind_is ∙ ap (λ m. drop m s) place in
+    λ i. with_key k f (front i) (back i)
 
 pub key_empty : (k f s key : List ℕ) → key ≡ take (first_place (is_key_end k f) s) s → length key ≡ 0 → fault (codes "empty key") ≡ field_at k f s
 key_empty k f s key is none = no_key key none ∙ ap (λ t. with_key k f t (drop (first_place (is_key_end k f) s) s)) is where

@@ -1,5 +1,5 @@
 -- The members of an object, as they are written one after the other.
-use Rattle.std.proofs.Common.{◌≡◌, ◌++◌, ◌==◌, ℕ, false, List, [], ◌∷◌, Option, Some, None, IsTrue, codes, length, refl, sym, ap, ◌∙◌}
+use Rattle.std.proofs.Common.{◌≡◌, ◌++◌, ◌==◌, ℕ, false, List, [], ◌∷◌, Option, Some, None, IsTrue, length, refl, sym, ap, ◌∙◌}
 use Rattle.std.proofs.lemmas.Bool.{true≢false}
 use Rattle.std.specs.List.{list_any}
 use Rattle.vrl_value.specs.Regexes.{members_regexes_below, regexes_below}
@@ -7,20 +7,12 @@ use Rattle.vrl_value.specs.Tree.{Tree, string, integer, boolean, null, timestamp
 use Rattle.vrl_builtin.specs.Conditions.{arguments_below}
 use Rattle.vrl_builtin.specs.Rows.{argument_at, members_given, optional_members, value_or}
 use Rattle.fn_parse.proofs.Below.{argument_below}
-use Rattle.fn_parse.specs.EncodeKeyValue.{field_text, fields_text, is_special, spaced_fields, wants_quotes}
+use Rattle.fn_parse.specs.EncodeKeyValue.{field_text, is_special, spaced_fields, wants_quotes}
 
 -- those that are left, the first of them behind this separator
 abbrev pub fields_behind : List (List ℕ) → List ℕ → Members → List ℕ
 fields_behind sources separator no_members = []
 fields_behind sources separator (member k t ms) = separator ++ (field_text sources k t ++ spaced_fields sources ms)
-
-pub behind_nothing : (sources : List (List ℕ)) (ms : Members) → fields_behind sources [] ms ≡ fields_text sources ms
-behind_nothing sources no_members = refl
-behind_nothing sources (member k t ms) = refl
-
-pub behind_space : (sources : List (List ℕ)) (ms : Members) → fields_behind sources (codes " ") ms ≡ spaced_fields sources ms
-behind_space sources no_members = refl
-behind_space sources (member k t ms) = refl
 
 pub quotes_wanted : (s : List ℕ) → (length s == 0) ≡ false → list_any is_special s ≡ wants_quotes s
 quotes_wanted [] some = absurd (true≢false some)

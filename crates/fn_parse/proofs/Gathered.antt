@@ -1,6 +1,5 @@
 -- Pairs that are added one after the other come to the values of each name.
 use Rattle.std.proofs.Common.{◌≡◌, ◌++◌, ℕ, Bool, true, false, List, [], ◌∷◌, map, Option, Some, None, IfSome, bytes_eq, refl, sym, ap, ◌∙◌, subst, append_assoc, if◌then◌else◌}
-use Rattle.std.proofs.lemmas.Bool.{true≢false}
 use Rattle.std.proofs.lemmas.List.{append-nil}
 use Rattle.std.proofs.lemmas.Slice.Eq.{bytes_eq-Decides}
 use Rattle.vrl_value.specs.Laws.{MembersAreMaps}
@@ -10,11 +9,9 @@ use Rattle.vrl_value.specs.View.{items_of_trees, items_view, tree_of}
 use Rattle.vrl_value.specs.declared.value.Value.{Value}
 use Rattle.vrl_value.proofs.Members.{find-put, find-put_other, find-without_other}
 use Rattle.vrl_value.proofs.Order.{find_ordered, put_ordered, without_ordered}
+use Rattle.vrl_builtin.proofs.GivenTags.{no}
 use Rattle.fn_parse.specs.Gathering.{add_pair, add_pairs, behind, one_more}
 use Rattle.fn_parse.specs.QueryString.{grouped, tree_of_values, values_of}
-
-no : {C : Type 0} → false ≡ true → C
-no is = absurd (true≢false (sym is))
 
 -- what stands at a name with these values
 abbrev told : List (List ℕ) → Option Tree

@@ -1,16 +1,13 @@
 -- Pairs that are put one after the other leave the last value of each name.
 use Rattle.std.proofs.Common.{◌≡◌, ℕ, Bool, true, false, List, [], ◌∷◌, Option, Some, None, bytes_eq, refl, sym, ap, ◌∙◌, subst}
-use Rattle.std.proofs.lemmas.Bool.{true≢false}
 use Rattle.std.proofs.lemmas.Slice.Eq.{bytes_eq-Decides}
 use Rattle.vrl_value.specs.Laws.{MembersAreMaps}
 use Rattle.vrl_value.specs.Tree.{Tree, string, Members, no_members, find, put, MembersAreOrdered}
 use Rattle.vrl_value.proofs.Members.{find-put, find-put_other}
 use Rattle.vrl_value.proofs.Order.{put_ordered}
+use Rattle.vrl_builtin.proofs.GivenTags.{no}
 use Rattle.fn_parse.specs.Gathering.{put_pair, put_pairs}
 use Rattle.fn_parse.specs.Url.{last_values, put_unless}
-
-no : {C : Type 0} → false ≡ true → C
-no is = absurd (true≢false (sym is))
 
 -- what is found, or else what was there before
 abbrev or_before : Option Tree → Option Tree → Option Tree

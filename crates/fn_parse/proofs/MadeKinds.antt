@@ -1,5 +1,5 @@
--- Kinds of either of two kinds, and of objects with known fields, by what their makers give.
-use Rattle.std.proofs.Common.{◌≡◌, ◌||◌, ◌++◌, ℕ, List, [], ◌∷◌, refl, sym, ap, ◌∙◌, subst}
+-- Kinds of objects with known fields, by what their makers give.
+use Rattle.std.proofs.Common.{◌≡◌, ◌++◌, ℕ, List, [], ◌∷◌, refl, sym, ap, ◌∙◌, subst}
 use Rattle.std.specs.Cmp.Lexicographic.{slice_cmp}
 use Rattle.std.specs.Ordering.{match_ordering, nat_cmp}
 use Rattle.std.specs.declared.cmp.Ordering.{Ordering}
@@ -8,41 +8,12 @@ use Rattle.vrl_value.specs.Look.{Step, field, place}
 use Rattle.vrl_value.specs.declared.value.Tag.{Tag}
 use Rattle.vrl_value.specs.declared.value.Tag.TheVariants as tag
 use Rattle.vrl_kind.specs.KindTree.{KindTree, KnownFields, no_fields, known_field, nothing}
-use Rattle.vrl_kind.specs.Kinds.{fields_at, or_absent, rest_at, tags_at, IsJoin, SameTags}
+use Rattle.vrl_kind.specs.Kinds.{fields_at, rest_at, tags_at, SameTags}
 use Rattle.vrl_kind.specs.Make.{last_first, named_view, object_kind}
 use Rattle.vrl_kind.specs.Sets.{Sets, SameSets}
-use Rattle.vrl_kind.specs.Tags.{same_tag, Tags}
-use Rattle.vrl_builtin.specs.Containers.{array_of, object_of}
-use Rattle.fn_parse.specs.Named.{either, named_at, object_with}
+use Rattle.vrl_kind.specs.Tags.{Tags}
+use Rattle.fn_parse.specs.Named.{named_at, object_with}
 use Rattle.fn_parse.specs.PartKinds.{AreNamed}
-
-pub told : (A B : Sets) → ((p : List Step) → A p ≡ B p) → SameSets A B
-told A B same p t = ap (λ T. T t) (same p)
-
-absent_so : (p : List Step) (T U : Tags) (t : Tag) → T t ≡ U t → or_absent p T t ≡ or_absent p U t
-absent_so [] T U t same = ap (λ b. b || same_tag tag.Absent t) same
-absent_so (s ∷ p) T U t same = same
-
-array_so : (A B : Sets) → SameSets A B → SameSets (array_of A) (array_of B)
-array_so A B same [] t = refl
-array_so A B same (place i ∷ p) t = absent_so p (A p) (B p) t (same p t)
-array_so A B same (field n ∷ p) t = refl
-
-object_so : (A B : Sets) → SameSets A B → SameSets (object_of A) (object_of B)
-object_so A B same [] t = refl
-object_so A B same (field n ∷ p) t = absent_so p (A p) (B p) t (same p t)
-object_so A B same (place i ∷ p) t = refl
-
-pub array_made : (A B : Sets) (K : KindTree) → SameSets A B → SameSets (tags_at K) (array_of A) → SameSets (tags_at K) (array_of B)
-array_made A B K same made p t = made p t ∙ array_so A B same p t
-
-pub object_made : (A B : Sets) (K : KindTree) → SameSets A B → SameSets (tags_at K) (object_of A) → SameSets (tags_at K) (object_of B)
-object_made A B K same made p t = made p t ∙ object_so A B same p t
-
-pub either_made : (K L M : KindTree) (A B : Sets) → SameSets (tags_at K) A → SameSets (tags_at L) B → IsJoin K L M → SameSets (tags_at M) (either A B)
-either_made K L M A B first second joined p t = joined p t ∙ ap (λ b. b || tags_at L p t) (first p t) ∙ ap (λ b. A p t || b) (second p t)
-
--- ---- known fields
 
 last_is_first : (es : List (List ℕ × KindTree)) (n : List ℕ) (K : KindTree) (fs : KnownFields) → last_first (es ++ (n, K) ∷ []) fs ≡ known_field n K (last_first es fs)
 last_is_first [] n K fs = refl

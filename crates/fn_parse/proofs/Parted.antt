@@ -1,6 +1,6 @@
 -- Only a text with fields is read as an object.
 use Rattle.std.proofs.Common.{◌≡◌, ◌<◌, ◌≤◌, ◌==◌, ◌&&◌, ◌||◌, ◌⊎◌, ℕ, zero, suc, Bool, true, false, List, [], ◌∷◌, ◌++◌, take, drop, length, Option, Some, None, option_map, codes, refl, sym, ap, ◌∙◌, subst, arith, if◌then◌else◌, inl, inr}
-use Rattle.std.proofs.lemmas.Bool.{true≢false}
+use Rattle.std.proofs.lemmas.Bool.{and_parts, true≢false}
 use Rattle.std.proofs.lemmas.Bool.Decides.{eqb_tells}
 use Rattle.std.proofs.lemmas.List.{length-drop, take-append-drop}
 use Rattle.std.specs.Prelude.{⊤}
@@ -53,10 +53,6 @@ closed_first : (b : ℕ) (s : List ℕ) (m : ℕ) → b ≡ 0x22 → 0 ≡ m →
 closed_first b s zero same is = record { written = no_byte; parts = ap (λ c. c ∷ s) same }
 closed_first b s (suc m) same is = absurd cc
 
-and_both : (a b : Bool) → (a && b) ≡ true → (a ≡ true) × (b ≡ true)
-and_both true b is = (refl, is)
-and_both false b is = absurd (true≢false (sym is))
-
 one_of : (c : ℕ) → is_mark c ≡ true → (c ≡ 0x22) ⊎ (c ≡ 0x5C)
 one_of c is = elim (eqb_tells c 0x22) [
   | inl same ↦ inl same.1
@@ -71,7 +67,7 @@ is_byte b n is = elim (eqb_tells b n) [ inl same ↦ same.1 | inr apart ↦ absu
 
 two_written : (b c : ℕ) (inner : List ℕ) → (b == 0x5C && is_mark c) ≡ true → IsWritten inner (unescaped inner) → IsWritten (b ∷ (c ∷ inner)) (unescaped (b ∷ (c ∷ inner)))
 two_written b c inner is written =
-    let both = and_both (b == 0x5C) (is_mark c) is in
+    let both = and_parts (b == 0x5C) (is_mark c) is in
     let P : ℕ → ℕ → Type 0 = λ x y. IsWritten (x ∷ (y ∷ inner)) (unescaped (x ∷ (y ∷ inner))) in
     let first : 0x5C ≡ b = sym (is_byte b 0x5C both.0) in
     elim (one_of c both.1) [

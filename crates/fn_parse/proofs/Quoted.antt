@@ -44,12 +44,6 @@ next_no_longer b left rest next is next_is =
     let same : length next ≡ length (behind_unit b rest) = ap length next_is in
     let less : length (behind_unit b rest) ≤ length rest = no_longer b rest in omega (arith, long, same, less)
 
-pub next_shorter : (b : ℕ) (left rest next : List ℕ) → left ≡ b ∷ rest → next ≡ behind_unit b rest → length next < length left
-next_shorter b left rest next is next_is =
-    let long : length left ≡ suc (length rest) = ap length is in
-    let same : length next ≡ length (behind_unit b rest) = ap length next_is in
-    let less : length (behind_unit b rest) ≤ length rest = no_longer b rest in omega (arith, long, same, less)
-
 pub next_within : (b T : ℕ) (left rest next : List ℕ) → left ≡ b ∷ rest → next ≡ behind_unit b rest → length left ≤ T → length next ≤ T
 next_within b T left rest next is next_is few = let less = next_no_longer b left rest next is next_is in omega (arith, few, less)
 

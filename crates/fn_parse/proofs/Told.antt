@@ -1,6 +1,6 @@
 -- A text with fields is read as their object.
-use Rattle.std.proofs.Common.{◌≡◌, ◌<◌, ◌==◌, ◌&&◌, ◌||◌, ℕ, suc, Bool, true, false, List, [], ◌∷◌, ◌++◌, take, drop, length, Some, None, option_map, codes, refl, sym, ap, ◌∙◌, arith, if◌then◌else◌, inl, inr}
-use Rattle.std.proofs.lemmas.Bool.{true≢false}
+use Rattle.std.proofs.Common.{◌≡◌, ◌<◌, ◌==◌, ◌&&◌, ℕ, suc, Bool, true, false, List, [], ◌∷◌, ◌++◌, take, drop, length, Some, None, option_map, codes, refl, sym, ap, ◌∙◌, arith, if◌then◌else◌, inl, inr}
+use Rattle.std.proofs.lemmas.Bool.{or_from, or_left, or_parts, or_right, true≢false}
 use Rattle.std.proofs.lemmas.Bool.Decides.{eqb_tells}
 use Rattle.std.proofs.Math.Seq.{take-append_seam, drop-append_seam}
 use Rattle.std.specs.Prelude.{⊤}
@@ -29,26 +29,14 @@ key_cut k f key rest is stops =
     ap (λ n. with_key k f (take n (key ++ rest)) (drop n (key ++ rest))) (front_place (is_key_end k f) key rest is.1 stops)
     ∙ ap (λ t. with_key k f t (drop (length key) (key ++ rest))) (take-append_seam key rest) ∙ ap (with_key k f key) (drop-append_seam key rest)
 
-or_first : (a b : Bool) → a ≡ true → (a || b) ≡ true
-or_first true b is = refl
-or_first false b is = absurd (true≢false (sym is))
-
-or_second : (a b : Bool) → b ≡ true → (a || b) ≡ true
-or_second true b is = refl
-or_second false b is = is
-
-pub second_not : (a b : Bool) → (a || b) ≡ false → b ≡ false
-second_not true b is = absurd (true≢false is)
-second_not false b is = is
-
 -- a field's end ends a key, and so does the delimiter of keys
 end_stops : (k f s : List ℕ) → is_field_end f s ≡ true → Stops (is_key_end k f) s
 end_stops k f [] ends = tt
-end_stops k f (b ∷ s) ends = or_second (begins k (b ∷ s)) (begins f (b ∷ s)) ends
+end_stops k f (b ∷ s) ends = or_right (begins k (b ∷ s)) (begins f (b ∷ s)) ends
 
 key_stops : (k f rest : List ℕ) → 0 < length k → Stops (is_key_end k f) (k ++ rest)
 key_stops [] f rest some = absurd (omega (arith, some))
-key_stops (c ∷ k) f rest some = or_first (begins (c ∷ k) (c ∷ (k ++ rest))) (begins f (c ∷ (k ++ rest))) (begins_at (c ∷ k) (c ∷ (k ++ rest)) rest refl)
+key_stops (c ∷ k) f rest some = or_left (begins (c ∷ k) (c ∷ (k ++ rest))) (begins f (c ∷ (k ++ rest))) (begins_at (c ∷ k) (c ∷ (k ++ rest)) rest refl)
 
 value_stops : (f s : List ℕ) → is_field_end f s ≡ true → Stops (begins f) s
 value_stops f [] ends = tt
@@ -113,7 +101,7 @@ some_byte (b ∷ key) rest some = not_none (length (key ++ rest)) where
 
 key_starts : (k f key rest : List ℕ) → IsKey k f key rest → begins f (key ++ rest) ≡ false
 key_starts k f [] rest is = absurd (let some = is.0 in omega (arith, some))
-key_starts k f (b ∷ key) rest is = second_not (begins k (b ∷ (key ++ rest))) (begins f (b ∷ (key ++ rest))) is.1.0
+key_starts k f (b ∷ key) rest is = (or_parts (begins k (b ∷ (key ++ rest))) (begins f (b ∷ (key ++ rest))) is.1.0).1
 
 -- a key with the value behind its delimiter
 valued : (k f key rest : List ℕ) (v s : List ℕ) (ms : Members) → 0 < length k → IsKey k f key (k ++ rest) → Some (v, s) ≡ value_at f rest →
@@ -137,9 +125,6 @@ some_is : (d : List ℕ) → 0 < length d → is_nothing d ≡ false
 some_is [] some = absurd (omega (arith, some))
 some_is (b ∷ d) some = refl
 
-both_some : (a b : Bool) → a ≡ false → b ≡ false → (a || b) ≡ false
-both_some a b first second = ap (λ t. t || b) first ∙ second
-
 pub fields_are_read : FieldsAreRead
 fields_are_read k f s es some_k some_f has =
-    ap (λ t. if t then failure (codes "empty delimiter") else fields_from k f 0 s no_members) (both_some (is_nothing k) (is_nothing f) (some_is k some_k) (some_is f some_f)) ∙ read_all k f some_k some_f has no_members
+    ap (λ t. if t then failure (codes "empty delimiter") else fields_from k f 0 s no_members) (or_from (is_nothing k) (is_nothing f) (some_is k some_k) (some_is f some_f)) ∙ read_all k f some_k some_f has no_members

@@ -4,9 +4,11 @@ use Rattle.std.proofs.lemmas.Bool.{eqb-true, true≢false}
 use Rattle.std.proofs.lemmas.List.{drop-drop, length-drop, length-take}
 use Rattle.vrl_value.specs.Tree.{Members, object, put}
 use Rattle.vrl_builtin.specs.Rows.{failure, value}
+use Rattle.fn_parse.specs.Found.{IsAhead}
 use Rattle.fn_parse.specs.KeyValue.{begins, entry, fault, field_at, first_place, is_field_end, is_key_end, plain_value, quoted_up_to, value_at, with_key, with_value}
 use Rattle.fn_parse.specs.ParseKeyValue.{field_tree, fields_from, with_field}
 use Rattle.fn_parse.specs.Quotes.{closing_place, unescaped}
+use Rattle.fn_parse.proofs.Cuts.{ahead_on}
 
 -- ---- what is passed over
 
@@ -102,6 +104,11 @@ pub field_shorter : (k f s key behind : List ℕ) (v : Option (List ℕ)) → (l
 field_shorter k f [] key behind v some found = absurd (true≢false some)
 field_shorter k f (b ∷ s) key behind v some found =
     let end = field_end k f b s key v behind (sym found) in let long : length behind ≡ length s - end.0 = ap length end.1 ∙ length-drop end.0 s in omega (arith, long)
+
+-- what is known of the text is known of what stands behind the field
+pub field_ahead : (k f d s key behind : List ℕ) (v : Option (List ℕ)) (n : ℕ) → (length s == 0) ≡ false → entry key v behind ≡ field_at k f s → IsAhead d s n → IsAhead d behind n
+field_ahead k f d [] key behind v n some found known = absurd (true≢false some)
+field_ahead k f d (b ∷ s) key behind v n some found known = let end = field_end k f b s key v behind (sym found) in ahead_on d (b ∷ s) behind (suc end.0) n end.1 known
 
 pub fault_on : (k f s words : List ℕ) (ms : Members) → (length s == 0) ≡ false → begins f s ≡ false → fault words ≡ field_at k f s → fields_from k f 0 s ms ≡ failure words
 fault_on k f [] words ms some starts found = absurd (true≢false some)

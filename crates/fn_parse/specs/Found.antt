@@ -1,8 +1,8 @@
 -- What the code finds in a text, as the definitions tell it.
-use Rattle.std.specs.Prelude.{ℕ, List, Option, Some, None, Ok, Err, Result, codes, option_map}
+use Rattle.std.specs.Prelude.{◌≡◌, ◌≤◌, ◌+◌, ℕ, List, length, Option, Some, None, Ok, Err, Result, codes, option_map}
 use Rattle.vrl_value.specs.Tree.{object, Members}
 use Rattle.vrl_builtin.specs.Rows.{Answer, value, failure}
-use Rattle.fn_parse.specs.KeyValue.{FieldAt, entry, fault}
+use Rattle.fn_parse.specs.KeyValue.{begins, first_place, FieldAt, entry, fault}
 use Rattle.fn_parse.specs.Quotes.{unescaped}
 use Rattle.fn_parse.specs.declared.key_value.Fault.{Fault}
 use Rattle.fn_parse.specs.declared.key_value.Fault.TheVariants.{EmptyKey, BadQuotes}
@@ -10,6 +10,14 @@ use Rattle.fn_parse.specs.declared.key_value.Field.{Field}
 use Rattle.fn_parse.specs.declared.key_value.Written.{Written}
 use Rattle.fn_parse.specs.declared.key_value.Written.TheVariants.{Plain, Quoted}
 use Rattle.fn_parse.specs.declared.key_value.WrittenAt.{WrittenAt}
+
+-- so many bytes are left of the text from the delimiter's first place on, and none where it stands nowhere
+abbrev pub IsNext : List ℕ → List ℕ → ℕ → Type 0
+IsNext d s n = length s ≡ first_place (begins d) s + n
+
+-- the same, unless that place stands before the text
+abbrev pub IsAhead : List ℕ → List ℕ → ℕ → Type 0
+IsAhead d s n = n ≤ length s → IsNext d s n
 
 -- the text that is written so
 abbrev pub written_text : Written → List ℕ

@@ -1,7 +1,6 @@
 -- `parse_json` and `encode_json` keep the law.
-use Rattle.std.specs.Prelude.{◌≡◌, ℕ, Bool, true, false, ◌&&◌, List, [], ◌∷◌, Option, codes, refl}
-use Rattle.std.proofs.Common.{sym}
-use Rattle.std.proofs.lemmas.Bool.{true≢false}
+use Rattle.std.specs.Prelude.{◌≡◌, ℕ, true, List, [], ◌∷◌, Option, codes, refl}
+use Rattle.std.proofs.lemmas.Bool.{and_parts}
 use Rattle.vrl_value.specs.Look.{field, place}
 use Rattle.vrl_value.specs.Tree.{Tree, string, integer, boolean, null, timestamp, regex, array, object, Items, no_items, item, Members, no_members, member, is_json, items_are_json, members_are_json, IsOrdered, ItemsAreOrdered, MembersAreOrdered}
 use Rattle.vrl_kind.specs.Kinds.{json_at}
@@ -14,23 +13,13 @@ use Rattle.vrl_builtin.specs.Law.{IsLawful, KeepsLaw}
 use Rattle.vrl_builtin.specs.OneTag.{KeepsOneTag}
 use Rattle.vrl_builtin.specs.Rows.{named, text_at}
 use Rattle.vrl_builtin.proofs.Containers.{array_is_lawful, object_is_lawful, plain_part, EachItem, EachMember, IsLawfulPart}
+use Rattle.vrl_builtin.proofs.GivenTags.{no}
 use Rattle.fn_parse.specs.Json.{answer_to, encode_json_row, parse_json_row}
 
 pub encode_json-law : KeepsOneTag encode_json_row
 encode_json-law = record { present = refl; lawful = λ givens arguments setting fit instances. (tt, refl) }
 
 -- ---- what JSON holds is of its kind
-
-no : {C : Type 0} → false ≡ true → C
-no is = absurd (true≢false (sym is))
-
-first_of : (a b : Bool) → (a && b) ≡ true → a ≡ true
-first_of true b both = refl
-first_of false b both = both
-
-second_of : (a b : Bool) → (a && b) ≡ true → b ≡ true
-second_of true b both = both
-second_of false b both = no both
 
 array_allowed : (ts : Items) → IsAllowed (array ts) (array_of json_at) → IsAllowed (array ts) json_at
 array_allowed ts of [] = refl
@@ -59,11 +48,11 @@ mutual
 
   json_items : (arguments : List (Option Tree)) (ts : Items) → items_are_json ts ≡ true → ItemsAreOrdered ts → EachItem (IsLawfulPart json_at arguments) ts
   json_items arguments no_items json ordered = tt
-  json_items arguments (item t ts) json ordered = (json_part arguments t (first_of _ _ json) ordered.0, json_items arguments ts (second_of _ _ json) ordered.1)
+  json_items arguments (item t ts) json ordered = (json_part arguments t (and_parts _ _ json).0 ordered.0, json_items arguments ts (and_parts _ _ json).1 ordered.1)
 
   json_members : (arguments : List (Option Tree)) (ms : Members) → members_are_json ms ≡ true → MembersAreOrdered ms → EachMember (IsLawfulPart json_at arguments) ms
   json_members arguments no_members json ordered = tt
-  json_members arguments (member k t ms) json ordered = (json_part arguments t (first_of _ _ json) ordered.1, json_members arguments ms (second_of _ _ json) ordered.2)
+  json_members arguments (member k t ms) json ordered = (json_part arguments t (and_parts _ _ json).0 ordered.1, json_members arguments ms (and_parts _ _ json).1 ordered.2)
 
 answer_lawful : (arguments : List (Option Tree)) (s : List ℕ) (r : Reading) → reading_of s ≡ r → IsLawful json_at true arguments (named (codes "parse_json") (answer_to r))
 answer_lawful arguments s not_json is = refl

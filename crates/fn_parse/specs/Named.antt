@@ -1,5 +1,5 @@
--- Kinds of what is of either of two kinds, and of objects with known fields and no others.
-use Rattle.std.specs.Prelude.{◌||◌, false, ℕ, List, [], ◌∷◌}
+-- Kinds of objects with known fields and no others.
+use Rattle.std.specs.Prelude.{false, ℕ, List, [], ◌∷◌}
 use Rattle.std.specs.Cmp.Lexicographic.{slice_cmp}
 use Rattle.std.specs.Ordering.{match_ordering, nat_cmp}
 use Rattle.vrl_value.specs.Look.{Step, field, place}
@@ -7,10 +7,6 @@ use Rattle.vrl_value.specs.declared.value.Tag.TheVariants as tag
 use Rattle.vrl_kind.specs.Kinds.{never_at, or_absent}
 use Rattle.vrl_kind.specs.Sets.{Sets}
 use Rattle.vrl_kind.specs.Tags.{Tags, same_tag}
-
--- what either allows
-abbrev pub either : Sets → Sets → Sets
-either A B p t = A p t || B p t
 
 -- the sets of the field with a name; where none has it, nothing may stand there
 abbrev pub named_at : List (List ℕ × Sets) → List ℕ → List Step → Tags

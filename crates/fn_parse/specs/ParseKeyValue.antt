@@ -4,11 +4,10 @@ use Rattle.vrl_value.specs.Tree.{Tree, string, boolean, object, Members, no_memb
 use Rattle.vrl_value.specs.declared.value.Tag.TheVariants as tag
 use Rattle.vrl_kind.specs.Kinds.{only_at}
 use Rattle.vrl_kind.specs.Sets.{Sets}
-use Rattle.vrl_builtin.specs.Containers.{object_of}
+use Rattle.vrl_builtin.specs.Containers.{either, object_of}
 use Rattle.vrl_builtin.specs.Rows.{Row, Answer, value, failure, named, any_literal, parameter, optional_parameter, text_at}
 use Rattle.vrl_builtin.specs.TagSets.{strings}
 use Rattle.fn_parse.specs.KeyValue.{begins, field_at, FieldAt, entry, fault}
-use Rattle.fn_parse.specs.Named.{either}
 
 -- a key without a value is true
 abbrev pub field_tree : Option (List ℕ) → Tree

@@ -5,10 +5,9 @@ use Rattle.vrl_value.specs.View.{items_of_trees}
 use Rattle.vrl_value.specs.declared.value.Tag.TheVariants as tag
 use Rattle.vrl_kind.specs.Kinds.{only_at}
 use Rattle.vrl_kind.specs.Sets.{Sets}
-use Rattle.vrl_builtin.specs.Containers.{array_of, object_of}
+use Rattle.vrl_builtin.specs.Containers.{array_of, either, object_of}
 use Rattle.vrl_builtin.specs.Rows.{Row, value, any_literal, parameter, text_at}
 use Rattle.vrl_builtin.specs.TagSets.{strings}
-use Rattle.fn_parse.specs.Named.{either}
 use Rattle.fn_parse.specs.Pairs.{pairs_of}
 
 -- what stands behind a `?` at the start, or all

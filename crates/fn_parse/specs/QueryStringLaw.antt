@@ -1,5 +1,6 @@
 -- `parse_query_string` keeps the law.
-use Rattle.std.specs.Prelude.{◌≡◌, ℕ, Bool, true, false, ◌||◌, List, [], ◌∷◌, map, Option, Some, None, IsTrue, IfSome, refl}
+use Rattle.std.specs.Prelude.{ℕ, false, ◌||◌, List, [], ◌∷◌, map, Option, Some, None, IsTrue, IfSome, refl}
+use Rattle.std.proofs.lemmas.Bool.{or_right}
 use Rattle.vrl_value.specs.Look.{raw_at, tag_found}
 use Rattle.vrl_value.specs.Tree.{Tree, string, array, Members, MembersAreOrdered}
 use Rattle.vrl_value.specs.View.{items_of_trees}
@@ -9,28 +10,19 @@ use Rattle.vrl_value.proofs.Order.{put_ordered}
 use Rattle.vrl_kind.specs.Kinds.{only_at}
 use Rattle.vrl_kind.specs.Sets.{Sets, IsAllowed}
 use Rattle.vrl_kind.specs.Tags.{Tags}
-use Rattle.vrl_builtin.specs.Containers.{array_of}
+use Rattle.vrl_builtin.specs.Containers.{array_of, either}
 use Rattle.vrl_builtin.specs.Law.{KeepsLaw}
 use Rattle.vrl_builtin.specs.Rows.{text_at}
-use Rattle.vrl_builtin.proofs.Containers.{array_is_lawful, each_put, object_is_lawful, plain_part, EachItem, EachMember, IsLawfulPart}
-use Rattle.fn_parse.specs.Named.{either}
+use Rattle.vrl_builtin.proofs.Containers.{array_is_lawful, each_put, each_text, object_is_lawful, plain_part, EachMember, IsLawfulPart}
 use Rattle.fn_parse.specs.Pairs.{pairs_of}
 use Rattle.fn_parse.specs.QueryString.{form_in, grouped, parse_query_string_row, tree_of_values, values_at, values_of}
 
-or_second : (a b : Bool) → b ≡ true → (a || b) ≡ true
-or_second true b is = refl
-or_second false b is = is
-
 if_second : (T U : Tags) (o : Option Tag) → IfSome o (λ t. IsTrue (U t)) → IfSome o (λ t. IsTrue (T t || U t))
 if_second T U None is = tt
-if_second T U (Some t) is = or_second (T t) (U t) is
+if_second T U (Some t) is = or_right (T t) (U t) is
 
 second_allowed : (A B : Sets) (v : Tree) → IsAllowed v B → IsAllowed v (either A B)
 second_allowed A B v of p = if_second (A p) (B p) (tag_found (raw_at v p)) (of p)
-
-pub each_text : (P : Tree → Type 0) (ss : List (List ℕ)) → ((s : List ℕ) → P (string s)) → EachItem P (items_of_trees (map string ss))
-each_text P [] so = tt
-each_text P (s ∷ ss) so = (so s, each_text P ss so)
 
 texts_part : (arguments : List (Option Tree)) (ss : List (List ℕ)) → IsLawfulPart values_at arguments (array (items_of_trees (map string ss)))
 texts_part arguments ss =

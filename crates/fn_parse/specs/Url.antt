@@ -7,10 +7,10 @@ use Rattle.vrl_value.specs.Tree.{Tree, string, integer, null, object, Members, n
 use Rattle.vrl_value.specs.declared.value.Tag.TheVariants as tag
 use Rattle.vrl_kind.specs.Kinds.{only_at}
 use Rattle.vrl_kind.specs.Sets.{Sets}
-use Rattle.vrl_builtin.specs.Containers.{object_of}
+use Rattle.vrl_builtin.specs.Containers.{either, object_of}
 use Rattle.vrl_builtin.specs.Rows.{Row, Answer, value, failure, named, any_literal, parameter, text_at}
 use Rattle.vrl_builtin.specs.TagSets.{strings}
-use Rattle.fn_parse.specs.Named.{either, object_with}
+use Rattle.fn_parse.specs.Named.{object_with}
 use Rattle.fn_parse.specs.Pairs.{pairs_of}
 
 -- what is found, or the member that is put where nothing is

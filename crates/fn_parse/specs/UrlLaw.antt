@@ -9,7 +9,6 @@ use Rattle.url.specs.Parser.{Parsed, parse_url}
 use Rattle.url.specs.Parts.{Parts, nonempty_host}
 use Rattle.vrl_value.specs.Look.{Step, field, place, found_behind, found_if, raw_at, tag_found}
 use Rattle.vrl_value.specs.Tree.{Tree, string, integer, null, object, Members, no_members, member, find, IsBefore, MembersAreOrdered}
-use Rattle.vrl_value.specs.declared.value.Tag.{Tag}
 use Rattle.vrl_value.proofs.Order.{put_ordered}
 use Rattle.vrl_kind.specs.Kinds.{never_at, or_absent}
 use Rattle.vrl_kind.specs.Sets.{Sets, IsAllowed}
@@ -18,6 +17,7 @@ use Rattle.vrl_builtin.specs.Containers.{object_of}
 use Rattle.vrl_builtin.specs.Law.{IsLawful, KeepsLaw}
 use Rattle.vrl_builtin.specs.Rows.{named, text_at, value}
 use Rattle.vrl_builtin.proofs.Containers.{each_put, object_is_lawful, plain_part, EachMember, IsLawfulPart}
+use Rattle.vrl_builtin.proofs.AnswerParts.{any_part, everything}
 use Rattle.fn_parse.specs.Named.{named_at, object_with}
 use Rattle.fn_parse.specs.Pairs.{pairs_of}
 use Rattle.fn_parse.specs.Url.{last_values, members_of_url, number_or_null, numbers_or_null, parse_url_row, put_unless, text_or_null, texts, texts_or_null, url_answer, url_fields}
@@ -60,16 +60,6 @@ object_allowed ms es are (field n ∷ p) = named_allowed ms es n p are
 object_allowed ms es are (place i ∷ p) = tt
 
 -- ---- the parts of a URL
-
-abbrev everything : Sets
-everything p t = true
-
-any_if : (o : Option Tag) → IfSome o (λ t. IsTrue true)
-any_if None = tt
-any_if (Some t) = refl
-
-any_part : (A : Sets) (arguments : List (Option Tree)) (v : Tree) → IsLawfulPart A arguments v → IsLawfulPart everything arguments v
-any_part A arguments v part = record { allowed = λ p. any_if (tag_found (raw_at v p)); ordered = part.ordered; regexes = part.regexes }
 
 -- members that are of these sets, may be answered, and are in order
 record AreKnown (arguments : List (Option Tree)) (ms : Members) (es : List (List ℕ × Sets)) : Type 0 where

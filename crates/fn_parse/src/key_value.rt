@@ -1,6 +1,6 @@
-ghost use Rattle.std.specs.Prelude.{◌≡◌, ◌<◌, [], false, length, take, drop, option_map};
-ghost use Rattle.fn_parse.specs.KeyValue.{begins, field_at, first_place, is_field_end, is_key_end, plain_value, quoted_up_to, value_at, with_key};
-ghost use Rattle.fn_parse.specs.Found.{field_found, value_found, words_of};
+ghost use Rattle.std.specs.Prelude.{◌≡◌, ◌<◌, false, length, drop, option_map, true, MatchOption};
+ghost use Rattle.fn_parse.specs.KeyValue.{begins, field_at, is_field_end, plain_value, quoted_up_to, value_at, with_key};
+ghost use Rattle.fn_parse.specs.Found.{field_found, value_found, words_of, IsAhead, IsNext};
 ghost use Rattle.fn_parse.specs.Quotes.{closing_place};
 
 use crate::quotes::split_quoted;
@@ -53,51 +53,61 @@ impl Fault {
     }
 }
 
-// Whether the text begins with the delimiter.
-fn begins(text: &[u8], delimiter: &[u8]) -> bool
-    ensures { result ≡ begins delimiter.now text.now }
+// ---- delimiters
+
+// What stands before the first place where the delimiter stands, and what is left from there on: the text and nothing where it stands nowhere.
+fn split_before<'a>(text: &'a str, delimiter: &str) -> (&'a str, &'a str)
+    requires { 0 < length delimiter.now }
+    ensures { (result.0.now, result.1.now) ≡ plain_value delimiter.now text.now }
 {
-    match text.get(..delimiter.len()) {
-        Some(first) => first == delimiter,
-        None => false,
+    let length = text.find(delimiter).unwrap_or(text.len());
+    text.split_at(length)
+}
+
+/// How many bytes are left from the first place on where the delimiter stands; none where it stands nowhere.
+pub(crate) fn left_from(text: &str, delimiter: &str) -> usize
+    requires { 0 < length delimiter.now }
+    ensures { IsNext delimiter.now text.now result }
+{
+    let (_before, rest) = split_before(text, delimiter);
+    rest.len()
+}
+
+/// The same of a text with which another one ends, of which it is known. The delimiter is looked for only where its first place there is passed.
+pub(crate) fn left_later(text: &str, delimiter: &str, known: usize) -> usize
+    requires delimiter { 0 < length delimiter.now }
+    requires known { IsAhead delimiter.now text.now known }
+    ensures { IsNext delimiter.now text.now result }
+{
+    if known <= text.len() {
+        known
+    } else {
+        left_from(text, delimiter)
     }
 }
 
-// How many bytes stand before the first of two delimiters, or before the end.
-fn key_length(text: &[u8], key_delimiter: &[u8], field_delimiter: &[u8]) -> usize
-    ensures { result ≡ first_place (is_key_end key_delimiter.now field_delimiter.now) text.now }
+// What stands behind the delimiter with which the text begins. `None`: it doesn't begin with it. What is known to be left from the delimiter's next
+// place on tells where the two needn't be compared.
+fn behind_delimiter<'a>(text: &'a str, delimiter: &str, left: usize) -> Option<&'a str>
+    requires { IsAhead delimiter.now text.now left }
+    ensures { MatchOption result
+        (begins delimiter.now text.now ≡ false)
+        (λ behind. (begins delimiter.now text.now ≡ true) × (behind.now ≡ drop (length delimiter.now) text.now)) }
 {
-    let mut left = text;
-    while !begins(left, key_delimiter) && !begins(left, field_delimiter) {
-        match left.split_first() {
-            Some((_first, rest)) => left = rest,
-            None => return text.len(),
-        }
+    if left < text.len() {
+        return None;
     }
-    text.len() - left.len()
+    text.strip_prefix(delimiter)
 }
 
-// A key, which goes up to the first delimiter, or the end, and what stands behind it.
-fn split_key<'a>(text: &'a str, key_delimiter: &str, field_delimiter: &str) -> (&'a str, &'a str)
-    requires key_delimiter { 0 < length key_delimiter.now }
-    requires field_delimiter { 0 < length field_delimiter.now }
-    ensures key { result.0.now ≡ take (first_place (is_key_end key_delimiter.now field_delimiter.now) text.now) text.now }
-    ensures behind { result.1.now ≡ drop (first_place (is_key_end key_delimiter.now field_delimiter.now) text.now) text.now }
-{
-    text.split_at(key_length(
-        text.as_bytes(),
-        key_delimiter.as_bytes(),
-        field_delimiter.as_bytes(),
-    ))
-}
+// ---- values
 
 // A value without quotes, which goes up to the next field delimiter, or the end.
 fn plain_value<'a>(text: &'a str, field_delimiter: &str) -> WrittenAt<'a>
     requires { 0 < length field_delimiter.now }
     ensures { value_found result ≡ plain_value field_delimiter.now text.now }
 {
-    let length = text.find(field_delimiter).unwrap_or(text.len());
-    let (plain, behind) = text.split_at(length);
+    let (plain, behind) = split_before(text, field_delimiter);
     WrittenAt {
         written: Written::Plain(plain),
         behind,
@@ -136,18 +146,22 @@ fn value_at<'a>(text: &'a str, field_delimiter: &str) -> Option<WrittenAt<'a>>
     }
 }
 
-// The field with this key, before what stands behind it.
+// ---- fields
+
+// The field with this key, before what stands behind it, of which it may be known how many bytes are left from the next key delimiter on.
 fn with_key<'a>(
     key: &'a str,
     behind: &'a str,
     key_delimiter: &str,
+    key_left: usize,
     field_delimiter: &str,
 ) -> Result<Field<'a>, Fault>
     requires key { 0 < length key.now }
+    requires key_left { IsAhead key_delimiter.now behind.now key_left }
     requires field_delimiter { 0 < length field_delimiter.now }
     ensures { field_found result ≡ with_key key_delimiter.now field_delimiter.now key.now behind.now }
 {
-    let Some(text) = behind.strip_prefix(key_delimiter) else {
+    let Some(text) = behind_delimiter(behind, key_delimiter, key_left) else {
         return Ok(Field {
             key,
             written: None,
@@ -164,19 +178,25 @@ fn with_key<'a>(
     }
 }
 
-/// The field that a text begins with, which is neither empty nor begins with a field delimiter. `Err`: it begins with no field.
+/// The field that a text begins with, which is neither empty nor begins with a field delimiter, and of which so many bytes are left from the first key
+/// delimiter on. Its key goes up to the first delimiter, or the end. `Err`: it begins with no field.
 pub(crate) fn field_at<'a>(
     text: &'a str,
     key_delimiter: &str,
+    key_left: usize,
     field_delimiter: &str,
 ) -> Result<Field<'a>, Fault>
     requires key_delimiter { 0 < length key_delimiter.now }
+    requires key_left { IsNext key_delimiter.now text.now key_left }
     requires field_delimiter { 0 < length field_delimiter.now }
     ensures { field_found result ≡ field_at key_delimiter.now field_delimiter.now text.now }
 {
-    let (key, behind) = split_key(text, key_delimiter, field_delimiter);
+    let field_left = left_from(text, field_delimiter);
+    let left = key_left.max(field_left);
+    let key_length = text.len() - left;
+    let (key, behind) = text.split_at(key_length);
     if key.is_empty() {
         return Err(Fault::EmptyKey);
     }
-    with_key(key, behind, key_delimiter, field_delimiter)
+    with_key(key, behind, key_delimiter, key_left, field_delimiter)
 }

@@ -12,7 +12,7 @@ ghost use Rattle.fn_parse.specs.Gathering.{fields_found};
 use csv::{ByteRecord, ReaderBuilder};
 use std::alloc::Global;
 use vrl_builtin::{
-    Applied, Arguments, Builtin, Givens, Parameter, Setting, Tags, array_of, fail, optional,
+    Applied, Arguments, Builtin, Givens, Parameter, Setting, Tags, array_of_tag, fail, optional,
     required,
 };
 use vrl_kind::Kind;
@@ -120,8 +120,7 @@ impl Builtin for ParseCsv {
         _given: &Givens,
         _patterns: &Patterns,
     ) -> Result<Kind, Memory> {
-        let field = Kind::of(alloc, Tag::Text)?;
-        array_of(alloc, field)
+        array_of_tag(alloc, Tag::Text)
     }
 
     fn may_fail(&self, given: &Givens) -> bool {

@@ -1,25 +1,23 @@
 ghost use Rattle.std.specs.Prelude.{◌≡◌, ◌<◌, ◌≤◌, ℕ, List, codes, false, length, option_map, IfOk, OnOk};
 ghost use Rattle.vrl_value.specs.Tree.{Members, no_members, put};
 ghost use Rattle.vrl_value.specs.View.{members_of, tree_of};
-ghost use Rattle.vrl_kind.specs.Kinds.{tags_at};
-ghost use Rattle.vrl_kind.specs.Sets.{SameSets};
 ghost use Rattle.vrl_builtin.specs.Rows.{named};
 ghost use Rattle.vrl_builtin.specs.View.{Applies};
 ghost use Rattle.fn_parse.specs.KeyValue.{begins};
-ghost use Rattle.fn_parse.specs.Found.{ended, written_text};
+ghost use Rattle.fn_parse.specs.Found.{ended, written_text, IsAhead};
 ghost use Rattle.fn_parse.specs.KeyValueText.{FieldsAreRead, OnlyFieldsAreRead};
-ghost use Rattle.fn_parse.specs.ParseKeyValue.{field_tree, fields_from, parse_key_value_row, parsed, string_or_boolean};
+ghost use Rattle.fn_parse.specs.ParseKeyValue.{field_tree, fields_from, parse_key_value_row, parsed};
 ghost use Rattle.fn_parse.specs.KeyValueLaw.{parse_key_value-law};
 
-use crate::key_value::{Fault, Field, Written, field_at};
+use crate::key_value::{Fault, Field, Written, field_at, left_from, left_later};
 use crate::quotes::unescaped;
 use std::alloc::Global;
 use std::collections::BTreeMap;
 use vrl_builtin::{
-    Applied, Arguments, Builtin, Givens, Parameter, Setting, Tags, fail, object_of, optional,
-    required,
+    Applied, Arguments, Builtin, Givens, Parameter, Setting, Tags, either_tag, fail, object_of,
+    optional, required,
 };
-use vrl_kind::{Kind, join};
+use vrl_kind::Kind;
 use vrl_pattern::Patterns;
 use vrl_value::{Chars, Fields, Memory, Tag, Value};
 
@@ -80,6 +78,7 @@ fn next_start<'a>(text: &'a str, field_delimiter: &str) -> &'a str
     requires { 0 < length field_delimiter.now }
     ensures same { (k : List ℕ) (ms : Members) → fields_from k field_delimiter.now 0 text.now ms ≡ fields_from k field_delimiter.now 0 result.now ms }
     ensures starts { begins field_delimiter.now result.now ≡ false }
+    ensures ahead { (d : List ℕ) (n : ℕ) → IsAhead d text.now n → IsAhead d result.now n }
     ensures within { length result.now ≤ length text.now }
 {
     let mut left = text;
@@ -102,11 +101,13 @@ fn put_fields(
     ensures { IfOk result (λ why. fields_from key_delimiter.now field_delimiter.now 0 text.now (members_of fields.old) ≡ ended why (members_of fields.new)) }
 {
     let mut left = next_start(text, field_delimiter);
+    let mut key_left = left_from(left, key_delimiter);
     while !left.is_empty() {
-        match field_at(left, key_delimiter, field_delimiter) {
+        match field_at(left, key_delimiter, key_left, field_delimiter) {
             Ok(field) => {
                 put_field(alloc, fields, &field)?;
                 left = next_start(field.behind, field_delimiter);
+                key_left = left_later(left, key_delimiter, key_left);
             }
             Err(fault) => return Ok(Some(fault)),
         }
@@ -138,15 +139,6 @@ fn parsed(alloc: Global, text: &str, key_delimiter: &str, field_delimiter: &str)
     answer(alloc, text, key_delimiter, field_delimiter)
 }
 
-// The kind of a field's value. `Memory`: want of memory.
-fn field_kind(alloc: Global) -> Result<Kind, Memory>
-    ensures { IfOk result (λ kind. SameSets (tags_at kind) string_or_boolean) }
-{
-    let text = Kind::of(alloc, Tag::Text)?;
-    let truth = Kind::of(alloc, Tag::Bool)?;
-    join(alloc, &text, &truth)
-}
-
 impl Builtin for ParseKeyValue {
     ghost row = { λ _. parse_key_value_row };
 
@@ -168,7 +160,8 @@ impl Builtin for ParseKeyValue {
         _given: &Givens,
         _patterns: &Patterns,
     ) -> Result<Kind, Memory> {
-        object_of(alloc, field_kind(alloc)?)
+        let field = either_tag(alloc, Tag::Text, Tag::Bool)?;
+        object_of(alloc, field)
     }
 
     fn may_fail(&self, _given: &Givens) -> bool {

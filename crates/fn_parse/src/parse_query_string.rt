@@ -13,7 +13,8 @@ use crate::pairs::texts_of;
 use std::alloc::Global;
 use std::collections::BTreeMap;
 use vrl_builtin::{
-    Applied, Arguments, Builtin, Givens, Parameter, Setting, Tags, array_of, object_of, required,
+    Applied, Arguments, Builtin, Givens, Parameter, Setting, Tags, array_of_tag, object_of,
+    required,
 };
 use vrl_kind::{Kind, join};
 use vrl_pattern::Patterns;
@@ -102,7 +103,7 @@ fn values_kind(alloc: Global) -> Result<Kind, Memory>
     ensures { IfOk result (λ kind. SameSets (tags_at kind) values_at) }
 {
     let text = Kind::of(alloc, Tag::Text)?;
-    let texts = array_of(alloc, Kind::of(alloc, Tag::Text)?)?;
+    let texts = array_of_tag(alloc, Tag::Text)?;
     join(alloc, &text, &texts)
 }
 

@@ -6,9 +6,8 @@ ghost use Rattle.fn_parse.specs.Named.{object_with};
 ghost use Rattle.fn_parse.specs.PartKinds.{sets_of, AreNamed};
 ghost use Rattle.fn_parse.specs.Url.{url_fields};
 
-use crate::joined::or_null;
 use std::alloc::Global;
-use vrl_builtin::object_of;
+use vrl_builtin::{either_tag, object_of_tag};
 use vrl_kind::{Kind, Rest};
 use vrl_value::{Chars, Memory, Tag};
 
@@ -31,9 +30,9 @@ fn kind_of(alloc: Global, part: Part) -> Result<Kind, Memory>
 {
     match part {
         Part::Text => Kind::of(alloc, Tag::Text),
-        Part::TextOrNull => or_null(alloc, Tag::Text),
-        Part::NumberOrNull => or_null(alloc, Tag::Int),
-        Part::Texts => object_of(alloc, Kind::of(alloc, Tag::Text)?),
+        Part::TextOrNull => either_tag(alloc, Tag::Text, Tag::Null),
+        Part::NumberOrNull => either_tag(alloc, Tag::Int, Tag::Null),
+        Part::Texts => object_of_tag(alloc, Tag::Text),
     }
 }
 

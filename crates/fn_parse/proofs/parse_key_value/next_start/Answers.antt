@@ -1,5 +1,5 @@
-use Rattle.std.proofs.Common.{rules, ◌∙◌, arith}
-use Rattle.fn_parse.proofs.Cuts.{lacks, stripped}
+use Rattle.std.proofs.Common.{rules, ◌∙◌, length, arith}
+use Rattle.fn_parse.proofs.Cuts.{ahead_on, lacks, stripped}
 use Rattle.fn_parse.proofs.Walked.{delimiter_on}
 use Rattle.fn_parse.proofs.parse_key_value.next_start.Goals as goal
 
@@ -14,6 +14,7 @@ loop-behind-preserved c =
       search rules,
       (λ k ms. c.loop-behind.invariant.1 k ms ∙ delimiter_on k f left behind ms c.requires cut.0 cut.1),
       omega (arith, long, within),
+      (λ d n known. ahead_on d left behind (length f) n cut.1 (c.loop-behind.invariant.3 d n known)),
     )
 
 pub returns-clause-starts : goal.returns-clause-starts

@@ -2,7 +2,7 @@ use Rattle.std.proofs.lemmas.Result.{IfOk-weaker}
 use Rattle.vrl_kind.specs.KindTree.{KindTree}
 use Rattle.vrl_kind.specs.Kinds.{tags_at}
 use Rattle.fn_parse.specs.QueryString.{values_at}
-use Rattle.fn_parse.proofs.MadeKinds.{object_made}
+use Rattle.vrl_builtin.proofs.Containers.{object_made}
 use Rattle.fn_parse.proofs.parse_query_string.ParseQueryStringBuiltin.result_kind.Goals as goal
 
 pub returns : goal.returns
