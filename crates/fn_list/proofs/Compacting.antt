@@ -12,7 +12,7 @@ use Rattle.std.specs.Prelude.{⊤}
 use Rattle.vrl_value.specs.Tree.{Tree, Items, item, Members, no_members, member, put, IsBefore}
 use Rattle.vrl_value.specs.View.{items_of_trees, items_view, members_view}
 use Rattle.vrl_value.specs.declared.value.Value.{Value}
-use Rattle.fn_list.specs.Compact.{compact_items, compact_members, compacted, full, is_hollow}
+use Rattle.fn_list.specs.Compact.{compact_items, compact_members, compacted, is_hollow}
 use Rattle.vrl_builtin.specs.Listed.{trees_in}
 use Rattle.vrl_builtin.proofs.Listed.{listed_again}
 use Rattle.vrl_builtin.proofs.Sizes.{members_size}
@@ -22,9 +22,6 @@ use Rattle.vrl_builtin.proofs.Sizes.{members_size}
 by_item : (b : Bool) (t : Tree) (ts : Items) → trees_in (if b then ts else item t ts) ≡ (if b then [] else t ∷ []) ++ trees_in ts
 by_item true t ts = refl
 by_item false t ts = refl
-
-pub item_step : (t : Tree) (ts : Items) → trees_in (compact_items (item t ts)) ≡ full (compacted t) ++ trees_in (compact_items ts)
-item_step t ts = by_item (is_hollow (compacted t)) (compacted t) (compact_items ts)
 
 -- ---- members
 

@@ -1,20 +1,10 @@
 -- That two values are the same is that their trees are equal.
-use Rattle.std.proofs.Common.{◌≡◌, Bool, true, false, ◌&&◌, ◌↔◌, IsTrue, refl, sym, ap, ◌∙◌}
+use Rattle.std.proofs.Common.{◌≡◌, Bool, true, false, ◌↔◌, IsTrue, refl, sym, ap, ◌∙◌}
 use Rattle.std.proofs.lemmas.Slice.Eq.{bytes_eq-Decides}
+use Rattle.std.proofs.lemmas.Bool.{and_from, and_parts}
 use Rattle.std.specs.Cmp.{signed_Decides, unsigned_Decides}
 use Rattle.vrl_value.specs.Tree.{Tree, string, integer, boolean, null, timestamp, regex, array, object, Items, no_items, item, Members, no_members, member}
 use Rattle.fn_list.specs.Same.{same, same_items, same_members}
-
-first_true : (a b : Bool) → (a && b) ≡ true → a ≡ true
-first_true true b is = refl
-first_true false b is = is
-
-second_true : (a b : Bool) → (a && b) ≡ true → b ≡ true
-second_true true b is = is
-second_true false b is = cc
-
-both_true : (a b : Bool) → a ≡ true → b ≡ true → (a && b) ≡ true
-both_true a b first second = ap (λ c. c && b) first ∙ second
 
 -- what is the same is equal
 mutual
@@ -35,18 +25,18 @@ mutual
   equal_items : (ts us : Items) → same_items ts us ≡ true → ts ≡ us
   equal_items no_items no_items is = refl
   equal_items (item t ts) (item u us) is =
-      let one : t ≡ u = equal t u (first_true (same t u) _ is) in
-      let others : ts ≡ us = equal_items ts us (second_true (same t u) _ is) in
+      let one : t ≡ u = equal t u (and_parts (same t u) _ is).0 in
+      let others : ts ≡ us = equal_items ts us (and_parts (same t u) _ is).1 in
       λ i. item (one i) (others i)
   equal_items ts us is = cc
 
   equal_members : (ms ns : Members) → same_members ms ns ≡ true → ms ≡ ns
   equal_members no_members no_members is = refl
   equal_members (member k t ms) (member l u ns) is =
-      let behind = second_true _ _ is in
-      let name : k ≡ l = (bytes_eq-Decides k l).0 (first_true _ _ is) in
-      let one : t ≡ u = equal t u (first_true (same t u) _ behind) in
-      let others : ms ≡ ns = equal_members ms ns (second_true (same t u) _ behind) in
+      let behind = (and_parts _ _ is).1 in
+      let name : k ≡ l = (bytes_eq-Decides k l).0 (and_parts _ _ is).0 in
+      let one : t ≡ u = equal t u (and_parts (same t u) _ behind).0 in
+      let others : ms ≡ ns = equal_members ms ns (and_parts (same t u) _ behind).1 in
       λ i. member (name i) (one i) (others i)
   equal_members ms ns is = cc
 
@@ -65,11 +55,11 @@ mutual
 
   itself_items : (ts : Items) → same_items ts ts ≡ true
   itself_items no_items = refl
-  itself_items (item t ts) = both_true _ _ (itself t) (itself_items ts)
+  itself_items (item t ts) = and_from _ _ (itself t) (itself_items ts)
 
   itself_members : (ms : Members) → same_members ms ms ≡ true
   itself_members no_members = refl
-  itself_members (member k t ms) = both_true _ _ ((bytes_eq-Decides k k).1 refl) (both_true _ _ (itself t) (itself_members ms))
+  itself_members (member k t ms) = and_from _ _ ((bytes_eq-Decides k k).1 refl) (and_from _ _ (itself t) (itself_members ms))
 
 pub equality_is_told : (v w : Tree) → same v w ≡ true ↔ (v ≡ w)
 equality_is_told v w = (equal v w, λ one. ap (λ u. same v u) (sym one) ∙ itself v)

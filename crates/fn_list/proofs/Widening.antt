@@ -1,7 +1,8 @@
 -- Places of arrays: whether all are sure, one after the other, and joined where they aren't sure.
-use Rattle.std.proofs.Common.{◌≡◌, ◌<◌, ◌≤◌, ◌+◌, ℕ, zero, suc, Bool, true, false, ◌&&◌, ◌||◌, List, [], ◌∷◌, ◌++◌, drop, get_or, length, map, refl, sym, ap, ◌∙◌, subst, append_assoc, if◌then◌else◌}
-use Rattle.std.proofs.lemmas.List.{append-nil, drop_more}
+use Rattle.std.proofs.Common.{◌≡◌, ◌≤◌, ◌+◌, ℕ, zero, suc, Bool, true, false, ◌&&◌, ◌||◌, List, [], ◌∷◌, ◌++◌, drop, length, map, refl, sym, ap, ◌∙◌, subst, if◌then◌else◌}
+use Rattle.std.proofs.lemmas.List.{append-nil}
 use Rattle.std.proofs.Math.ListN.{drop_of_length-le}
+use Rattle.std.proofs.Math.Bool.{and-false}
 use Rattle.std.specs.List.{list_all, list_any}
 use Rattle.vrl_value.specs.Look.{Step, field, place}
 use Rattle.vrl_value.specs.declared.value.Tag.{Tag}
@@ -13,7 +14,7 @@ use Rattle.vrl_kind.specs.Sets.{Sets, SameSets}
 use Rattle.vrl_kind.specs.View.{places_view}
 use Rattle.fn_list.specs.Append.{appended_at}
 use Rattle.fn_list.specs.Sure.{all_sure, chosen, is_known, is_sure, is_there, joined, placed, then_places, widened}
-use Rattle.fn_list.specs.Widened.{AreWidened, IsWidened}
+use Rattle.fn_list.specs.Widened.{AreWidened}
 use Rattle.fn_list.specs.Zip.{pair_at}
 use Rattle.vrl_builtin.proofs.Containers.{absent_so}
 
@@ -25,17 +26,6 @@ pub then_view : (ks ls : List KindTree) → places_view (ks ++ ls) ≡ then_plac
 then_view [] ls = refl
 then_view (k ∷ ks) ls = ap (known_place k) (then_view ks ls)
 
-pub more_widened : (A : Sets) (ks : List KindTree) (i : ℕ) (sure now : Bool) (k l : KindTree) (done : List KindTree) → i < length ks → k ≡ get_or ks i k → now ≡ (sure && is_there k) → IsWidened now A k l →
-    ((more : List KindTree) → AreWidened sure A (drop i ks) more → AreWidened true A ks (done ++ more)) → (more : List KindTree) → AreWidened now A (drop (i + 1) ks) more → AreWidened true A ks ((done ++ l ∷ []) ++ more)
-more_widened A ks i sure now k l done below is told one before more rest =
-    subst (λ (ls : List KindTree). AreWidened true A ks ls) (sym (append_assoc done (l ∷ []) more))
-    (before (l ∷ more) (subst (λ (ms : List KindTree). AreWidened sure A ms (l ∷ more)) (sym (drop_more ks i k below ∙ ap (λ m. m ∷ drop (i + 1) ks) (sym is)))
-    (subst (λ (b : Bool). IsWidened b A k l) told one, subst (λ (b : Bool). AreWidened b A (drop (i + 1) ks) more) told rest)))
-
-and_false : (b : Bool) → (b && false) ≡ false
-and_false true = refl
-and_false false = refl
-
 and_assoc : (a b c : Bool) → ((a && b) && c) ≡ (a && (b && c))
 and_assoc true b c = refl
 and_assoc false b c = refl
@@ -43,7 +33,7 @@ and_assoc false b c = refl
 wide_at : (sure : Bool) (A : Sets) (ks ls : List KindTree) (r : RestTree) (own : KindTree) → AreWidened sure A ks ls → ((p : List Step) (t : Tag) → tags_at own p t ≡ (rest_at r p t || A p t)) → (i : ℕ) (p : List Step) (t : Tag) →
     places_at (places_view ls) i p (rest_at (exact own) p) t ≡ (if sure && is_sure (places_view ks) i then places_at (places_view ks) i p (rest_at r p) t else joined (λ q. places_at (places_view ks) i q (rest_at r q)) A p t)
 wide_at sure A [] [] r own wide is i p t =
-    absent_so p (tags_at own p) (λ u. rest_at r p u || A p u) t (is p t) ∙ ap (λ b. if b then rest_at r p t else joined (rest_at r) A p t) (sym (and_false sure))
+    absent_so p (tags_at own p) (λ u. rest_at r p u || A p u) t (is p t) ∙ ap (λ b. if b then rest_at r p t else joined (rest_at r) A p t) (sym (and-false sure))
 wide_at sure A (k ∷ ks) (l ∷ ls) r own wide is zero p t = wide.0 p t
 wide_at sure A (k ∷ ks) (l ∷ ls) r own wide is (suc i) p t =
     wide_at (sure && is_there k) A ks ls r own wide.1 is i p t

@@ -1,6 +1,7 @@
 -- `append` keeps the law.
 use Rattle.std.specs.Prelude.{◌≡◌, false, ◌&&◌, List, [], ◌∷◌, Option, Some, None, IfSome, refl}
 use Rattle.std.proofs.Common.{subst, sym}
+use Rattle.std.proofs.lemmas.Bool.{and_parts}
 use Rattle.vrl_value.specs.Look.{place}
 use Rattle.vrl_value.specs.Tree.{Tree, null, array, Items, IsOrdered}
 use Rattle.vrl_value.specs.declared.value.Tag.TheVariants as tag
@@ -19,7 +20,7 @@ use Rattle.vrl_builtin.proofs.GivenTags.{arrays_only, no}
 use Rattle.vrl_builtin.proofs.Listed.{each_joined, each_list, listed_again}
 use Rattle.vrl_builtin.proofs.PartKinds.{given_items}
 use Rattle.vrl_builtin.specs.Listed.{trees_in}
-use Rattle.fn_list.specs.Placing.{and_first, and_second, choice_absent, choice_allowed, exactly_allowed, join_fit, known_sure, nothing_known, widely_allowed, FitPlaces}
+use Rattle.fn_list.specs.Placing.{choice_absent, choice_allowed, exactly_allowed, join_fit, known_sure, nothing_known, widely_allowed, FitPlaces}
 use Rattle.fn_list.specs.Sure.{is_known, placed, then_places, widened}
 
 appended_allowed : (ts us : Items) (K L : KindTree) (A : Sets) → Inhabits (array ts) K → Inhabits (array us) L → EachItem (λ v. IsAllowed v A) us →
@@ -30,8 +31,8 @@ appended_allowed ts us (kind s (list_part ps r) o) (kind u (list_part qs m) q) A
     choice_allowed (appended (array ts) (array us)) (is_known ps r && is_known qs m) (tags_at (array_kind (then_places ps qs) nothing)) (placed (widened ps r A))
     (λ known.
     exactly_allowed _ _
-    (join_fit ts (trees_in us) ps qs nothing (known_sure ps r (and_first (is_known ps r) (is_known qs m) known)) (nothing_known ts ps r (and_first (is_known ps r) (is_known qs m) known) (λ i p. first (place i ∷ p)))
-    (subst (λ (vs : Items). FitPlaces vs qs nothing) (sym (listed_again us)) (nothing_known us qs m (and_second (is_known ps r) (is_known qs m) known) (λ i p. second (place i ∷ p))))))
+    (join_fit ts (trees_in us) ps qs nothing (known_sure ps r (and_parts (is_known ps r) (is_known qs m) known).0) (nothing_known ts ps r (and_parts (is_known ps r) (is_known qs m) known).0 (λ i p. first (place i ∷ p)))
+    (subst (λ (vs : Items). FitPlaces vs qs nothing) (sym (listed_again us)) (nothing_known us qs m (and_parts (is_known ps r) (is_known qs m) known).1 (λ i p. second (place i ∷ p))))))
     (λ other. widely_allowed ts (trees_in us) ps r A (λ i p. first (place i ∷ p)) (each_list (λ v. IsAllowed v A) us each))
 
 appended_lawful : (ts us : Items) (K L : Option KindTree) (arguments : List (Option Tree)) → argument_at 0 arguments ≡ Some (array ts) → argument_at 1 arguments ≡ Some (array us) →
@@ -50,14 +51,14 @@ never_absent (kind s no_list o) L A = refl
 never_absent (kind s (list_part ps r) o) (kind u no_list q) A = refl
 never_absent (kind s (list_part ps r) o) (kind u (list_part qs m) q) A = choice_absent (is_known ps r && is_known qs m) (tags_at (array_kind (then_places ps qs) nothing)) (placed (widened ps r A)) refl refl
 
-not_absent : (K L : Option KindTree) → append_kind K L [] tag.Absent ≡ false
-not_absent None L = refl
-not_absent (Some K) None = refl
-not_absent (Some K) (Some L) = never_absent K L (array_parts_at (Some L))
+pub append_present : (K L : Option KindTree) → append_kind K L [] tag.Absent ≡ false
+append_present None L = refl
+append_present (Some K) None = refl
+append_present (Some K) (Some L) = never_absent K L (array_parts_at (Some L))
 
 pub append-law : KeepsLaw append_row
 append-law = record {
-  present = λ givens sources given below. not_absent (kind_at 0 givens) (kind_at 1 givens);
+  present = λ givens sources given below. append_present (kind_at 0 givens) (kind_at 1 givens);
   lawful = λ givens arguments setting given fit instances below.
       let K = kind_at 0 givens in let L = kind_at 1 givens in
       arrays_only (λ a. argument_at 0 arguments ≡ a → IsOfGiven K a → IfSome a IsOrdered → IsLawful (append_kind K L) false arguments (value (appended (value_or null a) (value_or null (argument_at 1 arguments)))))

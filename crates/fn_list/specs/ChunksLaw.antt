@@ -1,5 +1,5 @@
 -- `chunks` keeps the law.
-use Rattle.std.specs.Prelude.{◌≡◌, ℕ, pos, true, List, [], ◌∷◌, map, Option, Some, None, codes, unsigned_abs, IsTrue, IfSome, refl}
+use Rattle.std.specs.Prelude.{◌≡◌, pos, true, [], map, Option, Some, None, codes, unsigned_abs, IsTrue, IfSome, refl}
 use Rattle.std.proofs.Common.{sym, ap, ◌∙◌}
 use Rattle.vrl_value.specs.Tree.{Tree, string, integer, array}
 use Rattle.vrl_value.specs.View.{items_of_trees}
@@ -8,13 +8,9 @@ use Rattle.vrl_kind.specs.Kinds.{only_at}
 use Rattle.vrl_builtin.specs.Containers.{array_of}
 use Rattle.vrl_builtin.specs.Law.{KeepsLaw, IsLawful}
 use Rattle.vrl_builtin.specs.Rows.{value, failure, named, argument_at, integer_at, integer_or, literal_at, text_at}
-use Rattle.vrl_builtin.proofs.Containers.{array_is_lawful, plain_part, EachItem, IsLawfulPart}
+use Rattle.vrl_builtin.proofs.Containers.{array_is_lawful, each_text, plain_part, IsLawfulPart}
 use Rattle.vrl_builtin.proofs.Lawful.{choice_is}
 use Rattle.fn_list.specs.Chunks.{chunks_row, is_small, may_be_small, pieces_of}
-
-each_text : (P : Tree → Type 0) (ss : List (List ℕ)) → ((s : List ℕ) → P (string s)) → EachItem P (items_of_trees (map string ss))
-each_text P [] so = tt
-each_text P (s ∷ ss) so = (so s, each_text P ss so)
 
 small_fails : (literal argument : Option Tree) → IfSome literal (λ v. argument ≡ Some v) → is_small (integer_or (pos 1) argument) ≡ true → IsTrue (may_be_small literal)
 small_fails None argument same small = refl

@@ -1,6 +1,7 @@
 -- Arrays with more items are of the kinds with more places.
-use Rattle.std.specs.Prelude.{◌≡◌, ℕ, zero, suc, Bool, true, false, ◌&&◌, ◌||◌, not, List, [], ◌∷◌, ◌++◌, Option, Some, None, IsTrue, IfSome, refl, if◌then◌else◌}
+use Rattle.std.specs.Prelude.{◌≡◌, ℕ, zero, suc, Bool, true, false, ◌||◌, not, List, [], ◌∷◌, ◌++◌, Option, Some, None, IsTrue, IfSome, refl, if◌then◌else◌}
 use Rattle.std.proofs.Common.{sym, ◌∙◌, subst}
+use Rattle.std.proofs.lemmas.Bool.{and_parts, false_from_ne_true, or_left, or_right}
 use Rattle.vrl_value.specs.Look.{Step, field, place, found_behind, found_if, item_at, raw_at, tag_found}
 use Rattle.vrl_value.specs.Tag.{tag_of}
 use Rattle.vrl_value.specs.Tree.{Tree, string, integer, boolean, null, timestamp, regex, array, object, Items, no_items, item}
@@ -16,22 +17,6 @@ use Rattle.vrl_builtin.proofs.Containers.{each_at, EachItem}
 use Rattle.vrl_builtin.proofs.GivenTags.{no}
 use Rattle.vrl_builtin.specs.Listed.{trees_in}
 use Rattle.fn_list.specs.Sure.{all_sure, chosen, is_known, is_nothing, is_sure, is_there, joined, placed, then_places, widened}
-
-pub and_first : (a b : Bool) → (a && b) ≡ true → a ≡ true
-and_first true b is = refl
-and_first false b is = is
-
-pub and_second : (a b : Bool) → (a && b) ≡ true → b ≡ true
-and_second true b is = is
-and_second false b is = no is
-
-or_first : (a b : Bool) → a ≡ true → (a || b) ≡ true
-or_first true b is = refl
-or_first false b is = no is
-
-or_second : (a b : Bool) → b ≡ true → (a || b) ≡ true
-or_second true b is = refl
-or_second false b is = is
 
 -- what may be absent isn't there
 absent_not_there : {C : Type 0} (b : Bool) → b ≡ true → not b ≡ true → C
@@ -61,11 +46,11 @@ FitPlaces ts ps r = (i : ℕ) (p : List Step) → IfSome (at_place (item_at i ts
 pub join_fit : (ts : Items) (us : List Tree) (ps qs : Places) (r : RestTree) → all_sure ps ≡ true → FitPlaces ts ps nothing → FitPlaces (items_of_trees us) qs r →
     FitPlaces (items_of_trees (trees_in ts ++ us)) (then_places ps qs) r
 join_fit no_items us no_places qs r sure first second i p = second i p
-join_fit no_items us (known_place k ps) qs r sure first second i p = absent_not_there (tags_at k [] tag.Absent) (first zero []) (and_first (is_there k) (all_sure ps) sure)
+join_fit no_items us (known_place k ps) qs r sure first second i p = absent_not_there (tags_at k [] tag.Absent) (first zero []) (and_parts (is_there k) (all_sure ps) sure).0
 join_fit (item t ts) us no_places qs r sure first second i p = no (sym (not_absent t) ∙ first zero [])
 join_fit (item t ts) us (known_place k ps) qs r sure first second zero p = first zero p
 join_fit (item t ts) us (known_place k ps) qs r sure first second (suc i) p =
-    join_fit ts us ps qs r (and_second (is_there k) (all_sure ps) sure) (λ j q. first (suc j) q) second i p
+    join_fit ts us ps qs r (and_parts (is_there k) (all_sure ps) sure).1 (λ j q. first (suc j) q) second i p
 
 pub nothing_behind : (p : List Step) → IfSome (at_place None p) (λ t. IsTrue (or_absent p (never_at p) t))
 nothing_behind [] = refl
@@ -85,15 +70,15 @@ exactly_allowed ts ps fit (field n ∷ p) = tt
 sure_there : {C : Type 0} (ps : Places) (i : ℕ) (T : Tag → Bool) → is_sure ps i ≡ true → places_at ps i [] T tag.Absent ≡ true → C
 sure_there no_places i T sure absent = no sure
 sure_there (known_place k ps) zero T sure absent = absent_not_there (tags_at k [] tag.Absent) absent sure
-sure_there (known_place k ps) (suc i) T sure absent = sure_there ps i T (and_second (is_there k) (is_sure ps i) sure) absent
+sure_there (known_place k ps) (suc i) T sure absent = sure_there ps i T (and_parts (is_there k) (is_sure ps i) sure).1 absent
 
 in_first : (B A : Sets) (p : List Step) (t : Tag) → IsTrue (B p t) → IsTrue (joined B A p t)
-in_first B A [] t is = or_first (B [] t || A [] t) (same_tag tag.Absent t) (or_first (B [] t) (A [] t) is)
-in_first B A (s ∷ p) t is = or_first (B (s ∷ p) t) (A (s ∷ p) t) is
+in_first B A [] t is = or_left (B [] t || A [] t) (same_tag tag.Absent t) (or_left (B [] t) (A [] t) is)
+in_first B A (s ∷ p) t is = or_left (B (s ∷ p) t) (A (s ∷ p) t) is
 
 in_second : (B A : Sets) (p : List Step) (t : Tag) → IsTrue (A p t) → IsTrue (joined B A p t)
-in_second B A [] t is = or_first (B [] t || A [] t) (same_tag tag.Absent t) (or_second (B [] t) (A [] t) is)
-in_second B A (s ∷ p) t is = or_second (B (s ∷ p) t) (A (s ∷ p) t) is
+in_second B A [] t is = or_left (B [] t || A [] t) (same_tag tag.Absent t) (or_right (B [] t) (A [] t) is)
+in_second B A (s ∷ p) t is = or_right (B (s ∷ p) t) (A (s ∷ p) t) is
 
 stays_in : (b : Bool) (B A : Sets) (p : List Step) (t : Tag) → IsTrue (B p t) → IsTrue (if b then B p t else joined B A p t)
 stays_in true B A p t is = is
@@ -110,10 +95,6 @@ some_so : (o : Option Tag) (P Q : Tag → Type 0) → ((t : Tag) → P t → Q t
 some_so None P Q so is = tt
 some_so (Some t) P Q so is = so t is
 
-unsure : (b : Bool) → (b ≡ true → ⊥) → b ≡ false
-unsure true never = absurd (never refl)
-unsure false never = refl
-
 -- an item of the two lists is one of the first, or there is none there
 at_joined : (ts : Items) (us : List Tree) (i : ℕ) (P : Tree → Type 0) (C : Option Tree → Type 0) → EachItem P (items_of_trees us) → ((v : Tree) → item_at i ts ≡ Some v → C (Some v)) →
     (item_at i ts ≡ None → (o : Option Tree) → IfSome o P → C o) → C (item_at i (items_of_trees (trees_in ts ++ us)))
@@ -127,7 +108,7 @@ new_item ps r A i None [] absent allowed = absent_in (is_sure ps i) (λ q. place
 new_item ps r A i None (s ∷ p) absent allowed = tt
 new_item ps r A i (Some v) p absent allowed =
     some_so (tag_found (raw_at v p)) (λ t. IsTrue (A p t)) (λ t. IsTrue (widened ps r A i p t))
-    (λ t is. comes_in (is_sure ps i) (λ q. places_at ps i q (rest_at r q)) A p t (unsure (is_sure ps i) (λ sure. sure_there ps i (rest_at r []) sure absent)) is) (allowed p)
+    (λ t is. comes_in (is_sure ps i) (λ q. places_at ps i q (rest_at r q)) A p t (false_from_ne_true (is_sure ps i) (λ sure. sure_there ps i (rest_at r []) sure absent)) is) (allowed p)
 
 pub wide_fit : (ts : Items) (us : List Tree) (ps : Places) (r : RestTree) (A : Sets) → FitPlaces ts ps r → EachItem (λ v. IsAllowed v A) (items_of_trees us) → (i : ℕ) (p : List Step) →
     IfSome (at_place (item_at i (items_of_trees (trees_in ts ++ us))) p) (λ t. IsTrue (widened ps r A i p t))
@@ -161,4 +142,4 @@ nothing_known ts ps any_rest known fit = no known
 nothing_known ts ps (exact k) known fit = no known
 
 pub known_sure : (ps : Places) (r : RestTree) → is_known ps r ≡ true → all_sure ps ≡ true
-known_sure ps r known = and_second (is_nothing r) (all_sure ps) known
+known_sure ps r known = (and_parts (is_nothing r) (all_sure ps) known).1

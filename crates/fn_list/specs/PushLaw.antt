@@ -38,15 +38,15 @@ pushed_lawful ts v (Some K) (Some L) arguments first second of fits ordered in_o
     (each_list (IsLawfulPart everything arguments) ts (each_item_so (IsLawfulPart (array_parts_at (Some K)) arguments) (IsLawfulPart everything arguments) ts (λ u part. any_part _ arguments u part) (given_items (Some K) 0 ts arguments first of ordered)))
     (given_part 1 v arguments second in_order, tt))
 
-not_absent : (K L : Option KindTree) → push_kind K L [] tag.Absent ≡ false
-not_absent None L = refl
-not_absent (Some K) None = refl
-not_absent (Some (kind s no_list o)) (Some L) = refl
-not_absent (Some (kind s (list_part ps r) o)) (Some L) = choice_absent (is_known ps r) (tags_at (array_kind (then_places ps (known_place L no_places)) nothing)) (placed (widened ps r (tags_at L))) refl refl
+pub push_present : (K L : Option KindTree) → push_kind K L [] tag.Absent ≡ false
+push_present None L = refl
+push_present (Some K) None = refl
+push_present (Some (kind s no_list o)) (Some L) = refl
+push_present (Some (kind s (list_part ps r) o)) (Some L) = choice_absent (is_known ps r) (tags_at (array_kind (then_places ps (known_place L no_places)) nothing)) (placed (widened ps r (tags_at L))) refl refl
 
 pub push-law : KeepsLaw push_row
 push-law = record {
-  present = λ givens sources given below. not_absent (kind_at 0 givens) (kind_at 1 givens);
+  present = λ givens sources given below. push_present (kind_at 0 givens) (kind_at 1 givens);
   lawful = λ givens arguments setting given fit instances below.
       let K = kind_at 0 givens in let L = kind_at 1 givens in
       arrays_only (λ a. argument_at 0 arguments ≡ a → IsOfGiven K a → IfSome a IsOrdered → IsLawful (push_kind K L) false arguments (value (pushed (value_or null a) (value_or null (argument_at 1 arguments)))))

@@ -9,7 +9,7 @@ ghost use Rattle.fn_list.specs.Pieces.{all_pieces, last_piece, seen, with_charac
 
 use std::alloc::Global;
 use vrl_builtin::{
-    Applied, Arguments, Builtin, Givens, Parameter, Setting, Tags, array_of, fail, required,
+    Applied, Arguments, Builtin, Givens, Parameter, Setting, Tags, array_of_tag, fail, required,
 };
 use vrl_kind::Kind;
 use vrl_pattern::Patterns;
@@ -140,8 +140,7 @@ impl Builtin for Chunks {
         _given: &Givens,
         _patterns: &Patterns,
     ) -> Result<Kind, Memory> {
-        let piece = Kind::of(alloc, Tag::Text)?;
-        array_of(alloc, piece)
+        array_of_tag(alloc, Tag::Text)
     }
 
     fn may_fail(&self, given: &Givens) -> bool {
