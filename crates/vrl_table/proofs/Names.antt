@@ -1,7 +1,7 @@
 -- Functions and their names. What holds of all functions is found by one test over the table, and holds of each.
-use Rattle.std.proofs.Common.{◌≡◌, ◌≢◌, ℕ, Bool, true, false, not, cond, ◌&&◌, List, [], ◌∷◌, Option, Some, None, is_none, MatchOption, find, bytes_eq, refl, sym, ap, subst, ◌∙◌}
+use Rattle.std.proofs.Common.{◌≡◌, ◌≢◌, ℕ, Bool, true, false, not, cond, List, [], ◌∷◌, Option, Some, None, is_none, MatchOption, find, bytes_eq, refl, sym, ap, subst, ◌∙◌}
 use Rattle.std.specs.List.{list_all}
-use Rattle.std.proofs.lemmas.Bool.{true≢false}
+use Rattle.std.proofs.lemmas.Bool.{and_parts, true≢false}
 use Rattle.std.proofs.lemmas.Slice.Eq.{bytes_eq-Decides}
 use Rattle.vrl_syntax.specs.Calls.{form_named}
 use Rattle.vrl_table.specs.Laws.{is_entry}
@@ -18,16 +18,12 @@ some_is : {A : Type 0} {a b : A} → Some a ≡ Some b → a ≡ b
 some_is is = cc
 
 -- both parts of a test of all hold
-both_hold : (a b : Bool) → (a && b) ≡ true → (a ≡ true) × (b ≡ true)
-both_hold true b holds = (refl, holds)
-both_hold false b wrong = absurd (true≢false (sym wrong))
-
 -- what is found in a list passes each test that all of the list pass
 found_passes : {A : Type 0} (named test : A → Bool) (x : A) (xs : List A) → find named xs ≡ Some x → list_all test xs ≡ true → test x ≡ true
 found_passes named test x [] found all = absurd (Some≢None (sym found))
-found_passes named test x (y ∷ ys) found all = by (named y) found (λ later. found_passes named test x ys later (both_hold (test y) (list_all test ys) all).1) where
+found_passes named test x (y ∷ ys) found all = by (named y) found (λ later. found_passes named test x ys later (and_parts (test y) (list_all test ys) all).1) where
   by : (here : Bool) → cond here (Some y) (find named ys) ≡ Some x → (find named ys ≡ Some x → test x ≡ true) → test x ≡ true
-  by true is later = subst (λ z. test z ≡ true) (some_is is) (both_hold (test y) (list_all test ys) all).0
+  by true is later = subst (λ z. test z ≡ true) (some_is is) (and_parts (test y) (list_all test ys) all).0
   by false is later = later is
 
 -- what a test over the table finds of all functions holds of each
