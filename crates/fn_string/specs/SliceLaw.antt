@@ -1,6 +1,6 @@
 -- `slice` keeps the law: the parts of what it answers are parts of the array that was given.
 use Rattle.std.specs.Prelude.{◌≡◌, ℕ, zero, suc, ◌-◌, ℤ, pos, Bool, true, false, ◌&&◌, ◌||◌, List, [], Option, Some, None, codes, IfSome, refl}
-use Rattle.std.proofs.lemmas.Bool.{and_from, or_left, or_right, true≢false}
+use Rattle.std.proofs.lemmas.Bool.{and_from, or_left, or_right}
 use Rattle.vrl_value.specs.Look.{Step, raw_at, tag_found}
 use Rattle.vrl_value.specs.Parts.{count_of}
 use Rattle.vrl_value.specs.Tree.{Tree, string, null, array, Items, no_items, item, IsOrdered}

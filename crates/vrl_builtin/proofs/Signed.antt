@@ -1,5 +1,5 @@
 -- Texts of whole numbers, as std reads them.
-use Rattle.std.proofs.Common.{◌≡◌, ◌≤◌, nat_lt, ℕ, ℤ, pos, negsuc, Bool, true, false, ◌&&◌, List, [], ◌∷◌, Some, None, FitsSigned, refl, sym, ap, ◌∙◌, arith, if◌then◌else◌}
+use Rattle.std.proofs.Common.{◌≡◌, ◌≤◌, nat_lt, ℕ, ℤ, pos, negsuc, Bool, true, false, List, [], ◌∷◌, Some, None, FitsSigned, refl, sym, ap, ◌∙◌, arith, if◌then◌else◌}
 use Rattle.std.proofs.lemmas.Bool.{and_parts, le-leb, leb-true, lt-ltb, ltb-true, true≢false}
 use Rattle.std.specs.Char.{digit_value}
 use Rattle.std.specs.List.{list_all}
