@@ -12,7 +12,7 @@ use Rattle.vrl_syntax.specs.Tree.{Args, Arms, Closure, Else, Expr, expr, Exprs, 
 use Rattle.vrl_syntax.specs.declared.root.Op.{Op}
 use Rattle.vrl_syntax.specs.declared.root.Target.{Target}
 use Rattle.vrl_syntax.specs.declared.root.Target.TheVariants.{Nowhere, Place}
-use Rattle.vrl_table.specs.Binding.{path_parameters}
+use Rattle.vrl_binding.specs.Binding.{path_parameters}
 use Rattle.vrl_table.specs.Table.{row_of, ParametersAreToldApart}
 use Rattle.vrl_judge.specs.Closures.{ClosureBody, Try, of_body}
 use Rattle.vrl_judge.specs.Rules.{Argument, Judgement, Loop, is_alive, is_comparison, is_compared, is_event, is_fallible, is_known, is_message_wrong, is_needless, is_no_event, is_nowhere, is_other, is_equality, at, chained, no_objects, of_assignment, of_error_assignment, of_message, of_predicate, when, with_codes}

@@ -6,7 +6,7 @@ use Rattle.std.proofs.lemmas.Bool.{true≢false}
 use Rattle.std.proofs.lemmas.List.Quantifiers.{position-Some}
 use Rattle.std.proofs.lemmas.Slice.Eq.{bytes_eq-Decides}
 use Rattle.vrl_builtin.specs.Rows.{ParameterRow}
-use Rattle.vrl_table.specs.Binding.{bound_from, is_keyword, keyword_at, positional_at, Keywords}
+use Rattle.vrl_binding.specs.Binding.{bound_from, is_keyword, keyword_at, positional_at, Keywords}
 use Rattle.vrl_table.specs.Table.{has_name_twice}
 use Rattle.vrl_check.specs.Apart.{one_if}
 

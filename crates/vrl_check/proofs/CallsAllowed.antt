@@ -14,9 +14,9 @@ use Rattle.vrl_kind.specs.KindTree.{KindTree}
 use Rattle.vrl_builtin.specs.Conditions.{AreGiven, AreGivenFrom, IsGiven, IsLiteral, IsThere}
 use Rattle.vrl_builtin.specs.Rows.{GivenTree, ParameterRow, Row, held}
 use Rattle.vrl_builtin.specs.declared.tags.Tags.{Tags as TagSet}
-use Rattle.vrl_table.specs.Binding.{binding, bound_from, bound_or_missing, bound_or_unknown, first_missing, first_unknown, is_keyword, is_unknown, is_wrong_number, keyword_at, keywords_of, positional_at, Keywords}
+use Rattle.vrl_binding.specs.Binding.{binding, bound_from, bound_or_missing, bound_or_unknown, first_missing, first_unknown, is_keyword, is_unknown, is_wrong_number, keyword_at, keywords_of, positional_at, Keywords}
 use Rattle.vrl_table.specs.Table.{row_of}
-use Rattle.vrl_table.specs.declared.binding.BindFault.{BindFault}
+use Rattle.vrl_binding.specs.declared.binding.BindFault.{BindFault}
 use Rattle.vrl_table.specs.declared.function.Fun.{Fun}
 use Rattle.vrl_check.specs.Calling.{written, HasCodes, MayBeAsked}
 use Rattle.vrl_syntax.specs.Calls.{literal_of}
@@ -24,7 +24,7 @@ use Rattle.vrl_diag.specs.Refusal.{is_error}
 use Rattle.vrl_judge.specs.Rules.{Argument, argument_at, at, is_disjoint, is_fallible, is_known, when}
 use Rattle.vrl_check.specs.Judgement.{bound, of_argument, of_arguments, of_call, of_closure, of_found, of_unknown, places_in, wants_literal, AreAskedAbout, IsAskedAbout}
 use Rattle.vrl_check.specs.declared.calls.Arguments.{Arguments}
-use Rattle.vrl_table.specs.declared.binding.BindFault.TheVariants as fault
+use Rattle.vrl_binding.specs.declared.binding.BindFault.TheVariants as fault
 use Rattle.vrl_check.specs.declared.calls.Callee.TheVariants as callee
 
 -- ---- places that are bound

@@ -6,8 +6,8 @@ use Rattle.vrl_syntax.specs.declared.tree.Arg.{Arg as CodeArg}
 use Rattle.vrl_builtin.specs.Rows.{ParameterRow}
 use Rattle.vrl_builtin.specs.View.{parameter_row}
 use Rattle.vrl_builtin.specs.declared.parameter.Parameter.{Parameter}
-use Rattle.vrl_table.specs.Binding.{IsBound}
-use Rattle.vrl_table.specs.declared.binding.BindFault.{BindFault}
+use Rattle.vrl_binding.specs.Binding.{IsBound}
+use Rattle.vrl_binding.specs.declared.binding.BindFault.{BindFault}
 use Rattle.vrl_check.specs.Calling.{callee_parameters, callee_wants, written, AreTold}
 use Rattle.vrl_judge.specs.Rules.{Argument, argument_at}
 use Rattle.vrl_check.specs.Judgement.{bound, of_arguments, of_found}
@@ -18,7 +18,7 @@ use Rattle.vrl_judge.specs.declared.checker.Checker.{Checker}
 use Rattle.vrl_judge.specs.declared.ends.Ends.{Ends}
 use Rattle.vrl_judge.proofs.Deleted.{empty_list}
 use Rattle.vrl_judge.proofs.Parts.{reported_more, reported_none}
-use Rattle.vrl_table.specs.declared.binding.BindFault.TheVariants as fault
+use Rattle.vrl_binding.specs.declared.binding.BindFault.TheVariants as fault
 
 -- ---- the codes of the arguments
 

@@ -10,7 +10,7 @@ use Rattle.vrl_syntax.specs.Tree.{Args, Closure, Form, call}
 use Rattle.vrl_kind.specs.Canonical.{any_kind, never_kind}
 use Rattle.vrl_kind.specs.KindTree.{KindTree}
 use Rattle.vrl_state.specs.States.{IsJoined, IsRootKind, RootMap}
-use Rattle.vrl_table.specs.Binding.{binding, keywords_of}
+use Rattle.vrl_binding.specs.Binding.{binding, keywords_of}
 use Rattle.vrl_table.specs.Table.{row_of}
 use Rattle.vrl_table.specs.declared.function.Fun.{Fun}
 use Rattle.vrl_check.specs.Calling.{callee_codes, callee_parameters, with_call_codes, AreRootKinds, AreTold, HasArguments, HasCodes, IsAnsweredAs, IsBoundCallAs, IsDeletedAs, IsPassed, IsTold, IsUnknown}

@@ -19,8 +19,8 @@ use Rattle.vrl_syntax.specs.declared.tree.Call.{Call as CodeCall, out-Call}
 use Rattle.vrl_syntax.specs.declared.tree.Closure.{Closure as CodeClosure}
 use Rattle.vrl_syntax.specs.declared.tree.Form.{the_lemmas}
 use Rattle.vrl_syntax.proofs.PartSizes.{closure_size, exprs_size}
-use Rattle.vrl_table.specs.Binding.{binding, bound_from, collection_parameters, collections, first_missing, first_unknown, has_twice, is_unknown, is_wrong_number, Keywords}
-use Rattle.vrl_table.specs.declared.binding.BindFault.{BindFault}
+use Rattle.vrl_binding.specs.Binding.{binding, bound_from, collection_parameters, collections, first_missing, first_unknown, has_twice, is_unknown, is_wrong_number, Keywords}
+use Rattle.vrl_binding.specs.declared.binding.BindFault.{BindFault}
 use Rattle.vrl_judge.specs.Closures.{of_wanted_closure}
 use Rattle.vrl_judge.specs.Rules.{at, when, Argument}
 use Rattle.vrl_judge.proofs.Deleted.{empty_list}
@@ -31,7 +31,7 @@ use Rattle.vrl_check.specs.Walking.{FormCanBeJudged, ItemsCanBeJudged}
 use Rattle.vrl_check.proofs.CallsAllowed.{no_memory_found, outcome, unknown_found, unknown_told}
 use Rattle.vrl_check.proofs.CallsFound.{call_seen}
 use Rattle.vrl_check.proofs.Capable.{closure_can, none_of_both}
-use Rattle.vrl_table.specs.declared.binding.BindFault.TheVariants as fault
+use Rattle.vrl_binding.specs.declared.binding.BindFault.TheVariants as fault
 
 -- ---- codes that were told
 

@@ -7,15 +7,15 @@ use Rattle.vrl_syntax.specs.Tree.{Args, Closure, Expr, no_closure, closure, span
 use Rattle.vrl_syntax.specs.Calls.{has_shape}
 use Rattle.vrl_syntax.specs.declared.call_form.CallForm.{CallForm}
 use Rattle.vrl_builtin.specs.Rows.{ParameterRow}
-use Rattle.vrl_table.specs.Binding.{binding, bound_from, bound_or_missing, bound_or_unknown, collection_parameters, first_missing, first_unknown, is_wrong_number, keywords_of, Keywords}
+use Rattle.vrl_binding.specs.Binding.{binding, bound_from, bound_or_missing, bound_or_unknown, collection_parameters, first_missing, first_unknown, is_wrong_number, keywords_of, Keywords}
 use Rattle.vrl_table.specs.Table.{has_name_twice}
-use Rattle.vrl_table.specs.declared.binding.BindFault.{BindFault}
+use Rattle.vrl_binding.specs.declared.binding.BindFault.{BindFault}
 use Rattle.vrl_judge.specs.Closures.{is_wrong_body, of_body, of_wanted_closure}
 use Rattle.vrl_judge.specs.Rules.{Argument, Judgement, at, banged, is_disjoint, is_fallible, is_known, is_needless, when, IsBehind}
 use Rattle.vrl_check.specs.Apart.{one_if, same_span, times, Weights}
 use Rattle.vrl_check.specs.Judgement.{behind_arguments, bound, of_arguments, of_closure, of_closure_call, of_found, of_unknown, own_codes}
 use Rattle.vrl_check.proofs.BoundOnce.{bound_once, hits}
-use Rattle.vrl_table.specs.declared.binding.BindFault.TheVariants as fault
+use Rattle.vrl_binding.specs.declared.binding.BindFault.TheVariants as fault
 
 module _ (code : ℕ) (here : Span) where
   -- how often a code at a place is this one

@@ -33,7 +33,7 @@ use Rattle.vrl_place.specs.Sets.{is_alone}
 use Rattle.vrl_state.specs.States.{HasNow, IsCutOf, IsEachTurned, IsEither, IsEitherVariable, IsJoined, IsKnownWithin, RootMap, Variables, kind_of, with_kind, with_names}
 use Rattle.vrl_builtin.specs.Rows.{GivenTree, ParameterRow, Row}
 use Rattle.vrl_builtin.specs.declared.tags.Tags.{Tags as TagSet}
-use Rattle.vrl_table.specs.Binding.{binding, collections, keywords_of, path_parameters}
+use Rattle.vrl_binding.specs.Binding.{binding, collections, keywords_of, path_parameters}
 use Rattle.vrl_table.specs.Table.{row_of, function_named, FormsAreNoFunctions, FunctionsAreFound}
 use Rattle.vrl_table.specs.declared.function.Fun.{Fun}
 use Rattle.vrl_syntax.specs.Calls.{form_named, is_closure_form, is_exists, literal_of, is_del}

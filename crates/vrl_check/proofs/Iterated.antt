@@ -14,7 +14,7 @@ use Rattle.vrl_syntax.specs.declared.tree.Closure.{Closure as CodeClosure}
 use Rattle.vrl_kind.specs.Canonical.{any_kind, never_kind}
 use Rattle.vrl_kind.specs.KindTree.{KindTree}
 use Rattle.vrl_state.specs.States.{IsCutOf, IsPresent, IsRootKind, RootMap, Scope}
-use Rattle.vrl_table.specs.Binding.{collections}
+use Rattle.vrl_binding.specs.Binding.{collections}
 use Rattle.vrl_judge.specs.Closures.{call_at, of_body}
 use Rattle.vrl_judge.specs.Judging.{known_on, way, AreEnds, HasEnds, HasGathered, HasJudged, IsReported}
 use Rattle.vrl_judge.specs.Rules.{at, banged, gives, has_others, if_state, when, with_codes, Argument, Judgement, Loop}

@@ -22,7 +22,7 @@ use Rattle.vrl_kind.specs.KindTree.{KindTree}
 use Rattle.vrl_kind.specs.Kinds.{root_tags}
 use Rattle.vrl_kind.specs.PartSets.{parts_at}
 use Rattle.vrl_place.specs.Sets.{is_alone}
-use Rattle.vrl_table.specs.Binding.{binding, collections, keywords_of}
+use Rattle.vrl_binding.specs.Binding.{binding, collections, keywords_of}
 use Rattle.vrl_table.specs.Table.{row_of, ResultsArePresent}
 use Rattle.vrl_table.specs.declared.function.Fun.{Fun}
 use Rattle.vrl_state.specs.Laws.{ForgettingWidens, RootKindsJoinThemselves}

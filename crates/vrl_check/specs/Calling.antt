@@ -12,7 +12,7 @@ use Rattle.vrl_kind.specs.Canonical.{never_kind}
 use Rattle.vrl_builtin.specs.Conditions.{AreGiven}
 use Rattle.vrl_builtin.specs.Rows.{GivenTree, ParameterRow, Row}
 use Rattle.vrl_state.specs.States.{IsRootKind, RootMap}
-use Rattle.vrl_table.specs.Binding.{binding, collection_parameters, keywords_of, path_parameters}
+use Rattle.vrl_binding.specs.Binding.{binding, collection_parameters, keywords_of, path_parameters}
 use Rattle.vrl_table.specs.Table.{row_of}
 use Rattle.vrl_table.specs.declared.function.Fun.{Fun}
 use Rattle.vrl_judge.specs.Branching.{IsOrFail}

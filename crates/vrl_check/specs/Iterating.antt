@@ -11,7 +11,7 @@ use Rattle.vrl_kind.specs.KindTree.{KindTree}
 use Rattle.vrl_kind.specs.PartSets.{parts_at}
 use Rattle.vrl_state.specs.States.{IsCutOf, IsForgotten, IsJoined, IsKnownWithin, IsPresent, IsRootKind, RootMap, State}
 use Rattle.vrl_syntax.specs.Calls.{for_names}
-use Rattle.vrl_table.specs.Binding.{collections}
+use Rattle.vrl_binding.specs.Binding.{collections}
 use Rattle.vrl_judge.specs.Branching.{IsOrFail}
 use Rattle.vrl_judge.specs.Closures.{call_at, first_try, is_possible, is_wrong_body, key_tags, of_body, second_try, third_try, ClosureBody, IsNextTry, IsTakenBack, Try}
 use Rattle.vrl_judge.specs.Judging.{branches_known, known_on, way, AreEnds, AreJoinedEnds, HasJudged, IsReported}

@@ -33,9 +33,9 @@ use Rattle.vrl_state.specs.States.{RootMap, State, kind_of, with_names, IsCutOf,
 use Rattle.vrl_builtin.specs.CutDown.{cut_to}
 use Rattle.vrl_builtin.specs.Rows.{GivenTree, ParameterRow, Row}
 use Rattle.vrl_builtin.specs.declared.tags.Tags.{Tags as TagSet}
-use Rattle.vrl_table.specs.Binding.{binding, collection_parameters, collections, keywords_of, path_parameters}
+use Rattle.vrl_binding.specs.Binding.{binding, collection_parameters, collections, keywords_of, path_parameters}
 use Rattle.vrl_table.specs.Table.{row_of}
-use Rattle.vrl_table.specs.declared.binding.BindFault.{BindFault}
+use Rattle.vrl_binding.specs.declared.binding.BindFault.{BindFault}
 use Rattle.vrl_table.specs.declared.function.Fun.{Fun}
 use Rattle.vrl_check.specs.Loops.{closures_in_closure, closures_in_expr, closures_in_exprs, unjudged}
 use Rattle.vrl_check.specs.OpenRules.{OpenRules}
@@ -45,7 +45,7 @@ use Rattle.vrl_judge.specs.Rules.{IsReadAt, scalars_at, IsScalar, array_at, obje
 use Rattle.vrl_value.specs.declared.value.Tag.TheVariants as tag
 use Rattle.vrl_path.specs.declared.path.Step as steps
 use Rattle.vrl_syntax.specs.declared.root.Op.TheVariants as op
-use Rattle.vrl_table.specs.declared.binding.BindFault.TheVariants as fault
+use Rattle.vrl_binding.specs.declared.binding.BindFault.TheVariants as fault
 
 -- ---- what isn't judged
 

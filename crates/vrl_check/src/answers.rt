@@ -19,12 +19,13 @@ ghost use Rattle.vrl_value.specs.declared.value.Tag.TheVariants as tags;
 
 use crate::calls::{Arguments, Callee, argument_at};
 use std::alloc::Global;
+use vrl_binding::Bound;
 use vrl_builtin::{Given, Givens, Parameter, cut_down};
 use vrl_judge::{Argument, Checker, Outcome, SharedKind, cut, either_of, part_has_others, scalar};
 use vrl_kind::kind_is_canonical;
 use vrl_pattern::Patterns;
 use vrl_syntax::{Arg, Args, Call, Expr};
-use vrl_table::{Bound, Fun, functions_keep_law, may_fail, parameters, result_kind};
+use vrl_table::{Fun, functions_keep_law, may_fail, parameters, result_kind};
 use vrl_value::{Memory, Tag, Value};
 
 // What a function says of its result before it is called.

@@ -16,21 +16,20 @@ ghost use Rattle.vrl_kind.specs.Canonical.{any_kind};
 ghost use Rattle.vrl_syntax.specs.Calls.{literal_of, path_of, takes_closure};
 ghost use Rattle.vrl_syntax.specs.Regexes.{args_regexes_below, expr_regexes_below};
 ghost use Rattle.vrl_syntax.specs.View.{args_of, args_view, call_of, closure_in, closure_of, expr_of};
-ghost use Rattle.vrl_table.specs.Binding.{binding, keywords_of};
+ghost use Rattle.vrl_binding.specs.Binding.{binding, keywords_of};
 ghost use Rattle.vrl_table.specs.Table.{row_of};
 ghost use Rattle.vrl_value.specs.View.{tree_of};
-ghost use Rattle.vrl_table.specs.declared.binding.BindFault.TheVariants as faults;
+ghost use Rattle.vrl_binding.specs.declared.binding.BindFault.TheVariants as faults;
 
 use crate::answers::answer_call;
 use crate::passing::pass_closure;
 use std::alloc::Global;
+use vrl_binding::{BindFault, Bound, bind_to, collection_parameters};
 use vrl_builtin::{Given, Givens, Parameter, Tags};
 use vrl_diag::{Span, code};
 use vrl_judge::{Argument, Checker, Ends, Outcome, SharedKind, is_disjoint};
 use vrl_syntax::{Arg, Args, Call, CallForm, Closure, Expr, has_shape};
-use vrl_table::{
-    BindFault, Bound, Fun, bind_to, collection_parameters, lookup, parameters, wrong_literal,
-};
+use vrl_table::{Fun, lookup, parameters, wrong_literal};
 use vrl_value::{Memory, Value};
 
 // What a call names.

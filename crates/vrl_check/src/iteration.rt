@@ -10,6 +10,7 @@ ghost use Rattle.vrl_syntax.specs.Calls.{for_names, form_named, is_closure_form,
 use crate::answers::only_kind;
 use crate::calls::Arguments;
 use std::alloc::Global;
+use vrl_binding::collections;
 use vrl_builtin::{Tags, cut_down};
 use vrl_diag::{Span, code};
 use vrl_judge::{
@@ -19,7 +20,6 @@ use vrl_judge::{
 use vrl_kind::{Kind, kind_is_canonical};
 use vrl_state::Branch;
 use vrl_syntax::{Call, CallForm, Closure};
-use vrl_table::collections;
 use vrl_value::Memory;
 
 // The collection that a closure is run for.

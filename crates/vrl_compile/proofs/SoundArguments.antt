@@ -13,7 +13,7 @@ use Rattle.vrl_syntax.specs.Tree.{Expr, expr, literal, Args, arg}
 use Rattle.vrl_kind.specs.Kinds.{Inhabits}
 use Rattle.vrl_state.specs.Stores.{FitsKnown, Store}
 use Rattle.vrl_builtin.specs.Rows.{SettingTree}
-use Rattle.vrl_table.specs.Binding.{keywords_of}
+use Rattle.vrl_binding.specs.Binding.{keywords_of}
 use Rattle.vrl_store.specs.Outcomes.{Outcome, value, error, returned, ends}
 use Rattle.vrl_store.specs.WellFormed.{AreWellFormedArgs, IsWellFormed, IsWellFormedOutcome, IsWellFormedStore}
 use Rattle.vrl_judge.specs.Rules.{Argument, Judgement}

@@ -10,9 +10,9 @@ use Rattle.vrl_diag.specs.declared.diagnostic.Span.{Span}
 use Rattle.vrl_syntax.specs.Tree.{Expr, Closure, no_closure, closure, span_of}
 use Rattle.vrl_builtin.specs.Rows.{ParameterRow}
 use Rattle.vrl_builtin.specs.declared.tags.Tags.{Tags as TagSet}
-use Rattle.vrl_table.specs.Binding.{binding, bound_from, bound_or_missing, bound_or_unknown, first_missing, first_unknown, has_twice, is_keyword, is_unknown, is_wrong_number, keyword_at, positional_at, Keywords}
-use Rattle.vrl_table.specs.declared.binding.BindFault.{BindFault}
-use Rattle.vrl_table.specs.declared.binding.BindFault.TheVariants as fault
+use Rattle.vrl_binding.specs.Binding.{binding, bound_from, bound_or_missing, bound_or_unknown, first_missing, first_unknown, has_twice, is_keyword, is_unknown, is_wrong_number, keyword_at, positional_at, Keywords}
+use Rattle.vrl_binding.specs.declared.binding.BindFault.{BindFault}
+use Rattle.vrl_binding.specs.declared.binding.BindFault.TheVariants as fault
 use Rattle.vrl_judge.specs.Rules.{Argument, argument_at, at, is_disjoint, is_fallible, is_known, when}
 use Rattle.vrl_check.specs.Judgement.{bound, of_argument, of_arguments, of_closure, of_unknown, own_codes}
 use Rattle.vrl_compile.specs.Sound.{HasNoError}

@@ -12,7 +12,7 @@ use Rattle.vrl_syntax.specs.Tree.{Expr, expr, read, Args, no_args, arg, no_closu
 use Rattle.vrl_syntax.specs.declared.root.Root.{Root}
 use Rattle.vrl_state.specs.Stores.{Store}
 use Rattle.vrl_builtin.specs.Rows.{ParameterRow, Row}
-use Rattle.vrl_table.specs.Binding.{binding, keywords_of, path_parameters}
+use Rattle.vrl_binding.specs.Binding.{binding, keywords_of, path_parameters}
 use Rattle.vrl_table.specs.Table.{function_named, row_of, FunctionsAreFound}
 use Rattle.vrl_table.specs.declared.function.Fun.{Fun}
 use Rattle.vrl_store.specs.Outcomes.{Outcome, value, error, returned, Ended, banged_if, ends}

@@ -17,9 +17,9 @@ use Rattle.vrl_state.specs.States.{IsCutOf, IsJoined, RootMap}
 use Rattle.vrl_state.specs.Stores.{FitsKnown, Store}
 use Rattle.vrl_builtin.specs.Law.{IsLawful}
 use Rattle.vrl_builtin.specs.Rows.{Answer, value as answered, failure, Row, SettingTree}
-use Rattle.vrl_table.specs.Binding.{binding, keywords_of}
+use Rattle.vrl_binding.specs.Binding.{binding, keywords_of}
 use Rattle.vrl_table.specs.Table.{row_of}
-use Rattle.vrl_table.specs.declared.binding.BindFault.{BindFault}
+use Rattle.vrl_binding.specs.declared.binding.BindFault.{BindFault}
 use Rattle.vrl_table.specs.declared.function.Fun.{Fun}
 use Rattle.vrl_store.specs.Outcomes.{value, deep, on_value}
 use Rattle.vrl_store.specs.Places.{is_within}

@@ -22,9 +22,9 @@ use Rattle.vrl_builtin.specs.Listed.{list_in, trees_in}
 use Rattle.vrl_builtin.specs.Rows.{ParameterRow, SettingTree}
 use Rattle.vrl_builtin.specs.TagSets.{allows}
 use Rattle.vrl_builtin.specs.declared.tags.Tags.{Tags as TagSet}
-use Rattle.vrl_table.specs.Binding.{binding, collection_parameters, collections, keywords_of}
-use Rattle.vrl_table.specs.declared.binding.BindFault.{BindFault}
-use Rattle.vrl_table.specs.declared.binding.BindFault.TheVariants as fault
+use Rattle.vrl_binding.specs.Binding.{binding, collection_parameters, collections, keywords_of}
+use Rattle.vrl_binding.specs.declared.binding.BindFault.{BindFault}
+use Rattle.vrl_binding.specs.declared.binding.BindFault.TheVariants as fault
 use Rattle.vrl_store.specs.Outcomes.{ends}
 use Rattle.vrl_store.specs.WellFormed.{AreWellFormedExprs, IsWellFormedStore}
 use Rattle.vrl_judge.specs.Closures.{call_at, is_wrong_body, key_tags, of_body, of_wanted_closure}

@@ -31,7 +31,7 @@ use Rattle.vrl_state.specs.Stores.{AreOfKinds, FitsKnown, Store}
 use Rattle.vrl_builtin.specs.Containers.{object_of}
 use Rattle.vrl_builtin.specs.PartKinds.{arrays_alone}
 use Rattle.vrl_builtin.specs.TagSets.{allows}
-use Rattle.vrl_table.specs.Binding.{collections}
+use Rattle.vrl_binding.specs.Binding.{collections}
 use Rattle.vrl_store.specs.Operators.{is_true}
 use Rattle.vrl_store.specs.WellFormed.{AreWellFormed, IsWellFormed}
 use Rattle.vrl_judge.specs.Closures.{call_at, filtered_at, is_possible, is_wrong_body, key_tags, mapped_at, mapped_part}

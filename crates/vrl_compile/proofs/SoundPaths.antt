@@ -16,7 +16,7 @@ use Rattle.vrl_kind.specs.Tags.{only}
 use Rattle.vrl_state.specs.States.{RootMap}
 use Rattle.vrl_state.specs.Stores.{FitsKnown, Store}
 use Rattle.vrl_builtin.specs.Rows.{SettingTree}
-use Rattle.vrl_table.specs.Binding.{binding, keywords_of, path_parameters}
+use Rattle.vrl_binding.specs.Binding.{binding, keywords_of, path_parameters}
 use Rattle.vrl_store.specs.Outcomes.{Ended, on_value}
 use Rattle.vrl_store.specs.Places.{is_there, read_in, removed}
 use Rattle.vrl_store.specs.WellFormed.{AreWellFormedArgs, IsWellFormedStore}

@@ -6,8 +6,8 @@ use Rattle.std.specs.Option.{option_map_or}
 use Rattle.std.specs.declared.result.Result.TheVariants.{Ok, Err}
 use Rattle.vrl_builtin.specs.Conditions.{IsThere}
 use Rattle.vrl_builtin.specs.Rows.{ParameterRow}
-use Rattle.vrl_table.specs.Binding.{binding, bound_from, bound_or_missing, bound_or_unknown, first_missing, first_unknown, is_wrong_number, keyword_at, positional_at, Keywords}
-use Rattle.vrl_table.specs.declared.binding.BindFault.TheVariants as fault
+use Rattle.vrl_binding.specs.Binding.{binding, bound_from, bound_or_missing, bound_or_unknown, first_missing, first_unknown, is_wrong_number, keyword_at, positional_at, Keywords}
+use Rattle.vrl_binding.specs.declared.binding.BindFault.TheVariants as fault
 
 -- a parameter has the place of one of so many arguments, or none, where none must be given
 abbrev pub IsPlaced : ParameterRow → ℕ → Option ℕ → Type 0

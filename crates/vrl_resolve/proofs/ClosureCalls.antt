@@ -12,7 +12,7 @@ use Rattle.vrl_syntax.specs.declared.call_form.CallForm.{CallForm}
 use Rattle.vrl_syntax.specs.declared.tree.Call.{Call as CodeCall, out-Call}
 use Rattle.vrl_syntax.specs.declared.tree.Closure.{Closure as CodeClosure, out-Closure}
 use Rattle.vrl_syntax.specs.declared.tree.Form.{the_lemmas}
-use Rattle.vrl_table.specs.Binding.{binding, collection_parameters, keywords_of}
+use Rattle.vrl_binding.specs.Binding.{binding, collection_parameters, keywords_of}
 use Rattle.vrl_store.specs.StoreView.{Names}
 use Rattle.vrl_resolve.specs.Calls as called
 use Rattle.vrl_resolve.specs.Linked as linked

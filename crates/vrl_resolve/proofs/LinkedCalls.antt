@@ -13,7 +13,7 @@ use Rattle.vrl_syntax.specs.declared.root.Root.{Root}
 use Rattle.vrl_syntax.specs.declared.tree.Call.{Call as CodeCall, out-Call}
 use Rattle.vrl_syntax.specs.declared.tree.Closure.{Closure as CodeClosure}
 use Rattle.vrl_syntax.specs.declared.tree.Form.{the_lemmas}
-use Rattle.vrl_table.specs.Binding.{binding, keywords_of, path_parameters}
+use Rattle.vrl_binding.specs.Binding.{binding, keywords_of, path_parameters}
 use Rattle.vrl_store.specs.StoreView.{Names}
 use Rattle.vrl_resolve.specs.Calls as called
 use Rattle.vrl_resolve.specs.Linked as linked

@@ -25,9 +25,9 @@ use Rattle.vrl_syntax.specs.declared.root.Root.{Root}
 use Rattle.vrl_syntax.specs.declared.root.Target.{Target}
 use Rattle.vrl_syntax.specs.declared.root.Target.TheVariants as target
 use Rattle.vrl_builtin.specs.Rows.{ParameterRow}
-use Rattle.vrl_table.specs.Binding.{binding, collection_parameters, keywords_of, path_parameters}
+use Rattle.vrl_binding.specs.Binding.{binding, collection_parameters, keywords_of, path_parameters}
 use Rattle.vrl_table.specs.Table.{function_named, row_of}
-use Rattle.vrl_table.specs.declared.binding.BindFault.{BindFault}
+use Rattle.vrl_binding.specs.declared.binding.BindFault.{BindFault}
 use Rattle.vrl_table.specs.declared.function.Fun.{Fun}
 use Rattle.vrl_store.specs.StoreView.{Names}
 use Rattle.vrl_store.specs.declared.place.Place.{Place}

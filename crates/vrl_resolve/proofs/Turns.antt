@@ -19,7 +19,7 @@ use Rattle.vrl_syntax.specs.declared.call_form.CallForm.TheVariants as form
 use Rattle.vrl_syntax.specs.Stores.{Store}
 use Rattle.vrl_builtin.specs.Listed.{list_in, trees_in}
 use Rattle.vrl_builtin.specs.TagSets.{allows}
-use Rattle.vrl_table.specs.Binding.{collection_parameters, collections}
+use Rattle.vrl_binding.specs.Binding.{collection_parameters, collections}
 use Rattle.vrl_store.specs.Operators.{is_true, put_all}
 use Rattle.vrl_store.specs.Outcomes.{Ended, Outcome, value, error, aborted, returned, banged, deep, ends, on_value, value_then}
 use Rattle.vrl_store.specs.Results.{Ends, Gives, Stops}

@@ -8,7 +8,7 @@ use Rattle.vrl_syntax.specs.declared.call_form.CallForm.{CallForm}
 use Rattle.vrl_syntax.specs.declared.call_form.CallForm.TheVariants as form
 use Rattle.vrl_builtin.specs.Listed.{list_in}
 use Rattle.vrl_builtin.specs.Rows.{Answer, value as answered, failure, Row, SettingTree}
-use Rattle.vrl_table.specs.Binding.{collection_parameters}
+use Rattle.vrl_binding.specs.Binding.{collection_parameters}
 use Rattle.vrl_table.specs.Table.{row_of}
 use Rattle.vrl_store.specs.Outcomes.{deep, value}
 use Rattle.vrl_store.specs.Places.{is_within, read_in}

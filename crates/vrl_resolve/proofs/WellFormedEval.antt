@@ -18,9 +18,9 @@ use Rattle.vrl_syntax.specs.declared.call_form.CallForm.{CallForm}
 use Rattle.vrl_syntax.specs.declared.root.Op.TheVariants as op
 use Rattle.vrl_syntax.specs.declared.root.Root.{Root}
 use Rattle.vrl_builtin.specs.Rows.{ParameterRow, SettingTree}
-use Rattle.vrl_table.specs.Binding.{binding, collection_parameters, keywords_of, path_parameters}
+use Rattle.vrl_binding.specs.Binding.{binding, collection_parameters, keywords_of, path_parameters}
 use Rattle.vrl_table.specs.Table.{function_named, row_of}
-use Rattle.vrl_table.specs.declared.binding.BindFault.{BindFault}
+use Rattle.vrl_binding.specs.declared.binding.BindFault.{BindFault}
 use Rattle.vrl_table.specs.declared.function.Fun.{Fun}
 use Rattle.vrl_store.specs.Operators.{is_true}
 use Rattle.vrl_store.specs.Outcomes.{Ended, ends, value}

@@ -18,9 +18,9 @@ use Rattle.vrl_syntax.specs.declared.root.Root.{Root}
 use Rattle.vrl_builtin.specs.Rows.{Answer, value as answered, failure, ParameterRow, Row, SettingTree, argument_at}
 use Rattle.vrl_builtin.specs.Listed.{list_in}
 use Rattle.vrl_builtin.specs.TagSets.{allows}
-use Rattle.vrl_table.specs.Binding.{binding, collection_parameters, keywords_of, path_parameters}
+use Rattle.vrl_binding.specs.Binding.{binding, collection_parameters, keywords_of, path_parameters}
 use Rattle.vrl_table.specs.Table.{function_named, row_of}
-use Rattle.vrl_table.specs.declared.binding.BindFault.{BindFault}
+use Rattle.vrl_binding.specs.declared.binding.BindFault.{BindFault}
 use Rattle.vrl_table.specs.declared.function.Fun.{Fun}
 use Rattle.vrl_store.specs.Outcomes.{Outcome, value, error, deep, Ended, ends, on_value}
 use Rattle.vrl_store.specs.Places.{is_there, is_within, read_in, removed}

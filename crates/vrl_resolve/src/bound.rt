@@ -3,20 +3,18 @@ ghost use Rattle.std.specs.Option.{option_map_or};
 ghost use Rattle.vrl_builtin.specs.View.{parameter_row};
 ghost use Rattle.vrl_syntax.specs.Calls.{form_named, literal_of};
 ghost use Rattle.vrl_syntax.specs.View.{args_of, args_view, expr_of};
-ghost use Rattle.vrl_table.specs.Binding.{binding, collection_parameters, keywords_of, IsBound};
+ghost use Rattle.vrl_binding.specs.Binding.{binding, collection_parameters, keywords_of, IsBound};
 ghost use Rattle.vrl_table.specs.Table.{function_named, row_of};
 ghost use Rattle.vrl_resolve.specs.Calls.{are_written_right as are_right, bound_iteration, is_written_right as is_right, iteration, nothing_called, values_of, written_at};
 ghost use Rattle.vrl_resolve.specs.Linking.{is_value_keyword, path_argument, IsFunctionCallee, IsRunBy, IsWrittenCallee};
 
 use crate::node::Callee;
 use std::alloc::Global;
+use vrl_binding::{BindFault, Bound, bind_to, collection_parameters};
 use vrl_builtin::{Builtin, Parameter};
 use vrl_path::Path;
 use vrl_syntax::{Arg, Args, CallForm, Expr, Root, has_shape};
-use vrl_table::{
-    BindFault, Bound, Fun, bind, bind_to, collection_parameters, functions_are_found, lookup,
-    parameters,
-};
+use vrl_table::{Fun, bind, functions_are_found, lookup, parameters};
 use vrl_value::{Chars, Memory, Names};
 
 /// The one argument of `del` or `exists`, where it is written as a path or a name.

@@ -2,7 +2,7 @@ ghost use Rattle.std.specs.Prelude.{◌≡◌, ◌++◌, ◌∷◌, [], length, 
 ghost use Rattle.vrl_value.specs.Tree.{array as array_tree, null, object as object_tree};
 ghost use Rattle.vrl_value.specs.View.{items_of, members_of, tree_of};
 ghost use Rattle.vrl_syntax.specs.declared.root.Op.TheVariants as ops;
-ghost use Rattle.vrl_table.specs.Binding.{collection_parameters};
+ghost use Rattle.vrl_binding.specs.Binding.{collection_parameters};
 ghost use Rattle.vrl_store.specs.Operators.{applied};
 ghost use Rattle.vrl_store.specs.Outcomes.{ends, on_value};
 ghost use Rattle.vrl_store.specs.WellFormed.{AreWellFormed, IsWellFormed};

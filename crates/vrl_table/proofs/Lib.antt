@@ -1,3 +1,2 @@
-pub mod Keywords
 pub mod Names
 pub mod Present

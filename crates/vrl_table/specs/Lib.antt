@@ -1,3 +1,2 @@
-pub mod Binding
 pub mod Laws
 pub mod Table

@@ -65,7 +65,7 @@ use Rattle.fn_type.specs.Only.{only_row}
 use Rattle.fn_type.specs.ToBool.{to_bool_row}
 use Rattle.fn_type.specs.ToInt.{to_int_row}
 use Rattle.fn_type.specs.ToString.{to_string_row}
-use Rattle.vrl_table.specs.Binding.{has_twice}
+use Rattle.vrl_binding.specs.Binding.{has_twice}
 use Rattle.vrl_table.specs.declared.function.Fun.{Fun}
 use Rattle.vrl_table.specs.declared.function.Fun.TheVariants as fun
 

@@ -3,13 +3,17 @@ ghost use Rattle.vrl_kind.specs.Kinds.{tags_at};
 ghost use Rattle.vrl_kind.specs.Sets.{SameSets};
 ghost use Rattle.vrl_builtin.specs.Conditions.{arguments_below, first_wrong, literals_below, AreArguments, AreGiven};
 ghost use Rattle.vrl_builtin.specs.View.{arguments_of, givens_of, parameter_row, setting_of, Applies};
+ghost use Rattle.vrl_binding.specs.Binding.{binding, keywords_of, IsBound};
+ghost use Rattle.vrl_syntax.specs.View.{args_of};
 ghost use Rattle.vrl_table.specs.Table.{row_of, FunctionsKeepLaw};
 
 use crate::function::Fun;
 use std::alloc::Global;
+use vrl_binding::{BindFault, Bound, bind_to};
 use vrl_builtin::{Applied, Arguments, Builtin, Givens, Parameter, Setting};
 use vrl_kind::Kind;
 use vrl_pattern::Patterns;
+use vrl_syntax::Args;
 use vrl_value::Memory;
 
 /// The parameters of a function, in order.
@@ -17,6 +21,13 @@ pub fn parameters(function: Fun) -> &'static [Parameter]
     ensures { map parameter_row result.now ≡ (row_of function).parameters }
 {
     function.parameters()
+}
+
+/// Binds the arguments of a call to the parameters of its function, as [`bind_to`] does.
+pub fn bind(alloc: Global, function: Fun, arguments: &Args) -> Result<Bound, BindFault>
+    ensures { IsBound (binding (row_of function).parameters (keywords_of (args_of arguments.now))) result }
+{
+    bind_to(alloc, function.parameters(), arguments)
 }
 
 /// The place of the first parameter that wants a literal and was given one that the function doesn't allow. `None`: there is no such

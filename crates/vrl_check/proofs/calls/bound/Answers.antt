@@ -1,5 +1,5 @@
 use Rattle.std.proofs.Common.{◌≡◌, ◌++◌, Ok, Err, ap, ◌∙◌, subst}
-use Rattle.vrl_table.specs.Binding.{binding, keywords_of, IsBound}
+use Rattle.vrl_binding.specs.Binding.{binding, keywords_of, IsBound}
 use Rattle.vrl_check.specs.Calling.{call_args, call_closure, callee_closure, callee_parameters, callee_wants}
 use Rattle.vrl_check.specs.Judgement.{bound, of_arguments, own_codes, places_in}
 use Rattle.vrl_judge.specs.Judging.{IsReported}

@@ -16,7 +16,7 @@ use Rattle.vrl_check.proofs.Partway.{can_at, else_at, form_at, items_at, array_c
 use Rattle.vrl_judge.proofs.Results.{by_both}
 use Rattle.vrl_state.specs.States.{IsRootKind}
 use Rattle.vrl_syntax.specs.Calls.{for_names, form_named, takes_closure}
-use Rattle.vrl_table.specs.Binding.{binding, collection_parameters, keywords_of}
+use Rattle.vrl_binding.specs.Binding.{binding, collection_parameters, keywords_of}
 use Rattle.vrl_judge.specs.Closures.{first_try as first}
 use Rattle.vrl_judge.specs.Judging.{AreEnds, HasJudged, IsMoved, IsReported, IsWay}
 use Rattle.vrl_judge.specs.Rules.{if_state, Judgement}

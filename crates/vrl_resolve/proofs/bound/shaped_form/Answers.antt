@@ -1,7 +1,7 @@
 use Rattle.std.proofs.Common.{◌≡◌, false, true, Some, rules, subst}
 use Rattle.vrl_syntax.specs.Calls.{has_shape, is_closure_form}
 use Rattle.vrl_syntax.specs.View.{args_of}
-use Rattle.vrl_table.specs.Binding.{binding, keywords_of, IsBound}
+use Rattle.vrl_binding.specs.Binding.{binding, keywords_of, IsBound}
 use Rattle.vrl_resolve.proofs.ClosureCalls.{run_by, run_by_none, run_by_other}
 use Rattle.vrl_resolve.proofs.bound.shaped_form.Goals as goal
 

@@ -10,7 +10,7 @@ use Rattle.vrl_store.specs.Results.{Ends, Stops}
 use Rattle.vrl_store.specs.StoreView.{present_of}
 use Rattle.vrl_store.specs.WellFormed.{IsWellFormed}
 use Rattle.vrl_builtin.specs.TagSets.{allows}
-use Rattle.vrl_table.specs.Binding.{collections}
+use Rattle.vrl_binding.specs.Binding.{collections}
 use Rattle.vrl_value.specs.Look.{item_at}
 use Rattle.vrl_value.specs.Tag.{tag_of}
 use Rattle.vrl_resolve.proofs.BodyNames.{bound_ready, count_within, front_again, known_slot, may_be_given_back, one_name_ends, stays_again, two_names_end}

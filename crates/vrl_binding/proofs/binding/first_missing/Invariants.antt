@@ -1,7 +1,7 @@
 use Rattle.std.proofs.Common.{◌≡◌, ◌+◌, length, map, option_map}
 use Rattle.vrl_builtin.specs.View.{parameter_row}
-use Rattle.vrl_table.specs.Binding.{first_missing}
-use Rattle.vrl_table.proofs.binding.first_missing.Given as goal
+use Rattle.vrl_binding.specs.Binding.{first_missing}
+use Rattle.vrl_binding.proofs.binding.first_missing.Given as goal
 
 abbrev pub invariant-loop-parameter : goal.invariant-loop-parameter
 invariant-loop-parameter l =

@@ -1,9 +1,9 @@
 use Rattle.std.proofs.Common.{◌∙◌, Some, None, refl, sym, ap, map}
 use Rattle.std.specs.declared.result.Result.TheVariants.{Ok}
 use Rattle.vrl_builtin.specs.View.{parameter_row}
-use Rattle.vrl_table.specs.Binding.{first_missing, names_of}
-use Rattle.vrl_table.proofs.Keywords.{bound_seen, known_bound, places_bound, unknown_place, wrong_bound}
-use Rattle.vrl_table.proofs.binding.bind_to.Goals as goal
+use Rattle.vrl_binding.specs.Binding.{first_missing, names_of}
+use Rattle.vrl_binding.proofs.Keywords.{bound_seen, known_bound, places_bound, unknown_place, wrong_bound}
+use Rattle.vrl_binding.proofs.binding.bind_to.Goals as goal
 
 pub returns-then-is_wrong_number : goal.returns-then-is_wrong_number
 returns-then-is_wrong_number c =

@@ -2,13 +2,11 @@ ghost use Rattle.std.specs.Prelude.{◌≡◌, map, position, bytes_eq, IfOk};
 ghost use Rattle.std.specs.List.{list_any};
 ghost use Rattle.vrl_builtin.specs.View.{parameter_row};
 ghost use Rattle.vrl_syntax.specs.View.{args_of};
-ghost use Rattle.vrl_table.specs.Binding.{binding, bound_from, first_missing, has_twice, is_keyword, is_repeated, is_unknown, is_wrong_number, keywords_of, names_of, positional_at, IsBound};
-ghost use Rattle.vrl_table.specs.Table.{row_of};
+ghost use Rattle.vrl_binding.specs.Binding.{binding, bound_from, first_missing, has_twice, is_keyword, is_repeated, is_unknown, is_wrong_number, keywords_of, names_of, positional_at, IsBound};
 
-use crate::function::Fun;
 use std::alloc::Global;
 use std::marker::Model;
-use vrl_builtin::{Builtin, Parameter};
+use vrl_builtin::Parameter;
 use vrl_syntax::{Arg, Args};
 use vrl_value::Memory;
 
@@ -64,7 +62,7 @@ pub enum BindFault {
 
 impl From<Memory> for BindFault {
     ghost use Rattle.std.specs.Prelude.{◌≡◌};
-    ghost use Rattle.vrl_table.specs.declared.binding.BindFault.{BindFault};
+    ghost use Rattle.vrl_binding.specs.declared.binding.BindFault.{BindFault};
 
     ghost from_gives = { λ _ fault. fault ≡ BindFault.Memory };
 
@@ -245,11 +243,4 @@ pub fn bind_to(
         Some(place) => Err(BindFault::Missing(place)),
         None => Ok(Bound::new(places)),
     }
-}
-
-/// Binds the arguments of a call to the parameters of its function, as [`bind_to`] does.
-pub fn bind(alloc: Global, function: Fun, arguments: &Args) -> Result<Bound, BindFault>
-    ensures { IsBound (binding (row_of function).parameters (keywords_of (args_of arguments.now))) result }
-{
-    bind_to(alloc, function.parameters(), arguments)
 }

@@ -1,7 +1,7 @@
 //! What the functions that run a closure take.
 ghost use Rattle.std.specs.Prelude.{◌≡◌, map};
 ghost use Rattle.vrl_builtin.specs.View.{parameter_row};
-ghost use Rattle.vrl_table.specs.Binding.{collection_parameters, collections};
+ghost use Rattle.vrl_binding.specs.Binding.{collection_parameters, collections};
 
 use vrl_builtin::{Parameter, Tags, required};
 use vrl_syntax::CallForm;

@@ -1,7 +1,7 @@
 use Rattle.std.proofs.Common.{◌≡◌, ◌++◌, ◌+◌, ◌≤◌, length, map}
 use Rattle.vrl_builtin.specs.View.{parameter_row}
-use Rattle.vrl_table.specs.Binding.{bound_from, names_of}
-use Rattle.vrl_table.proofs.binding.places_of.Given as goal
+use Rattle.vrl_binding.specs.Binding.{bound_from, names_of}
+use Rattle.vrl_binding.proofs.binding.places_of.Given as goal
 
 abbrev pub invariant-loop-parameter : goal.invariant-loop-parameter
 invariant-loop-parameter l =

@@ -13,9 +13,9 @@ use Rattle.vrl_syntax.specs.Tree.{Args}
 use Rattle.vrl_syntax.specs.View.{arg_of, args_view}
 use Rattle.vrl_syntax.specs.declared.tree.Arg.{Arg}
 use Rattle.vrl_syntax.specs.declared.tree.Form.{the_lemmas}
-use Rattle.vrl_table.specs.Binding.{binding, bound_from, bound_or_missing, bound_or_unknown, first_missing, first_unknown, is_keyword, is_repeated, is_unknown, is_wrong_number, keyword_at, keywords_of, names_of, positional_at, Keywords}
-use Rattle.vrl_table.specs.declared.binding.BindFault.{BindFault}
-use Rattle.vrl_table.specs.declared.binding.BindFault.TheVariants as fault
+use Rattle.vrl_binding.specs.Binding.{binding, bound_from, bound_or_missing, bound_or_unknown, first_missing, first_unknown, is_keyword, is_repeated, is_unknown, is_wrong_number, keyword_at, keywords_of, names_of, positional_at, Keywords}
+use Rattle.vrl_binding.specs.declared.binding.BindFault.{BindFault}
+use Rattle.vrl_binding.specs.declared.binding.BindFault.TheVariants as fault
 
 any_of_map : {A B : Type 0} (p : B → Bool) (f : A → B) (xs : List A) → list_any (λ x. p (f x)) xs ≡ list_any p (map f xs)
 any_of_map p f [] = refl

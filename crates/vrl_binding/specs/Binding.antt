@@ -11,8 +11,8 @@ use Rattle.vrl_syntax.specs.declared.call_form.CallForm.{CallForm}
 use Rattle.vrl_syntax.specs.declared.call_form.CallForm.TheVariants as form
 use Rattle.vrl_syntax.specs.Tree.{Args, no_args, arg}
 use Rattle.vrl_syntax.specs.declared.tree.Arg.{Arg}
-use Rattle.vrl_table.specs.declared.binding.BindFault.{BindFault}
-use Rattle.vrl_table.specs.declared.binding.BindFault.TheVariants as fault
+use Rattle.vrl_binding.specs.declared.binding.BindFault.{BindFault}
+use Rattle.vrl_binding.specs.declared.binding.BindFault.TheVariants as fault
 
 -- the keywords of a call's arguments: none for an argument without
 abbrev pub Keywords : Type 0

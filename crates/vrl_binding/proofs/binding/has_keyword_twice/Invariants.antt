@@ -1,6 +1,6 @@
 use Rattle.std.proofs.Common.{◌≡◌, length}
-use Rattle.vrl_table.specs.Binding.{has_twice, names_of}
-use Rattle.vrl_table.proofs.binding.has_keyword_twice.Given as goal
+use Rattle.vrl_binding.specs.Binding.{has_twice, names_of}
+use Rattle.vrl_binding.proofs.binding.has_keyword_twice.Given as goal
 
 abbrev pub invariant-loop-first : goal.invariant-loop-first
 invariant-loop-first l = has_twice (names_of l.arguments) ≡ has_twice (names_of l.left)

@@ -1,7 +1,7 @@
 use Rattle.std.proofs.Common.{◌≡◌, ◌∷◌, ◌++◌, ◌∙◌, [], Some, sym, rules, arith}
-use Rattle.vrl_table.proofs.Keywords.{named_more, positional_more}
-use Rattle.vrl_table.specs.Binding.{names_of, positional_at}
-use Rattle.vrl_table.proofs.binding.places_of.Goals as goal
+use Rattle.vrl_binding.proofs.Keywords.{named_more, positional_more}
+use Rattle.vrl_binding.specs.Binding.{names_of, positional_at}
+use Rattle.vrl_binding.proofs.binding.places_of.Goals as goal
 
 pub loop-parameter-preserved-in_ok-push-in-Some-place_of_keyword : goal.loop-parameter-preserved-in_ok-push-in-Some-place_of_keyword
 loop-parameter-preserved-in_ok-push-in-Some-place_of_keyword c =
