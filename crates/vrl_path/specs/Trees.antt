@@ -4,6 +4,7 @@ use Rattle.vrl_value.specs.Look.{Step, Found, there, missing, no_place, item_at,
 use Rattle.vrl_value.specs.Parts.{put_item, replace, replace_item}
 use Rattle.vrl_value.specs.Tree.{Tree, null, array, object, Items, Members, find, put}
 use Rattle.vrl_path.specs.Parts.{with_part, replace_part, without_part}
+use Rattle.vrl_path.specs.Read.{read_at}
 use Rattle.vrl_path.specs.Remove.{plain_removable_at}
 use Rattle.vrl_path.specs.Steps.{plain}
 use Rattle.vrl_path.specs.declared.path.Step.{Step as CodeStep}
@@ -60,6 +61,11 @@ remove_in_fields k ms p = members_if (find k ms) (λ u. replace k (plain_remove_
 
 abbrev pub remove_in_items : ℕ → Items → List Step → Items
 remove_in_items i ts p = items_if (item_at i ts) (λ u. replace_item i (plain_remove_tree u p) ts) ts
+
+-- what a read at the path finds in a tree, if there is one
+abbrev pub read_in : Option Tree → List CodeStep → Option Tree
+read_in None p = None
+read_in (Some u) p = read_at u p
 
 -- what a removal at the path takes out of a tree, if there is one
 abbrev pub removable_in : Option Tree → List Step → Option Tree

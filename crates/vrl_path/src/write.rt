@@ -1,9 +1,11 @@
-ghost use Rattle.std.specs.Prelude.{◌<◌, ◌≡◌, ◌≤◌, OnErr, OnOk};
+ghost use Rattle.std.specs.Prelude.{◌<◌, ◌≡◌, ◌≢◌, ◌≤◌, IsOk, IsSome, OnErr, OnOk};
+ghost use Rattle.vrl_path.specs.Read.{read_at};
 ghost use Rattle.vrl_path.specs.Steps.{plain, IsWritable};
-ghost use Rattle.vrl_path.specs.Trees.{plain_set_tree, set_in_fields, set_in_items, set_tree};
+ghost use Rattle.vrl_path.specs.Trees.{plain_set_tree, read_in, set_in_fields, set_in_items, set_tree};
 ghost use Rattle.vrl_path.specs.Write.{depth_limit, IsAsDeep, IsSet, IsTooDeep};
 ghost use Rattle.vrl_value.specs.Depth.{depth_of};
-ghost use Rattle.vrl_value.specs.Tree.{IsOrdered};
+ghost use Rattle.vrl_value.specs.Look.{item_at};
+ghost use Rattle.vrl_value.specs.Tree.{find, IsOrdered};
 ghost use Rattle.vrl_value.specs.View.{items_of, members_of, tree_of};
 
 use crate::build::built;
@@ -17,7 +19,8 @@ use vrl_value::{
 
 /// Sets a value at a path: a step into what is no fitting container replaces it by one, and an array is
 /// filled up with nulls. The new value is moved in. `TooDeep`: the result would be deeper than 128; `Memory`:
-/// want of memory. At both the value stays as it was, and the new one is gone.
+/// want of memory, but not where something stands at the path already. At both the value stays as it was, and
+/// the new one is gone.
 ///
 /// It is one walk down the path with one change at its end. Before that, the new value is walked through for
 /// its depth, and, unless that and the path settle it, so is each part of the value beside the path: where
@@ -31,6 +34,7 @@ pub fn set(alloc: Global, value: &mut Value, path: &Path, new: Value) -> Result<
     ensures deeper { result ≡ Err SetFault.TooDeep → depth_limit < depth_of (set_tree (tree_of value.old) path.now (tree_of new)) }
     ensures deep { depth_limit < depth_of (set_tree (tree_of value.old) path.now (tree_of new)) → result ≡ Err SetFault.TooDeep }
     ensures too_deep { result ≡ Err SetFault.TooDeep → IsTooDeep (tree_of value.old) path.now (tree_of new) }
+    ensures there { IsSome (read_at (tree_of value.old) path.now) → result ≢ Err SetFault.Memory }
     ensures err { OnErr result (tree_of value.new ≡ tree_of value.old) }
 {
     members_are_maps();
@@ -43,14 +47,16 @@ pub fn set(alloc: Global, value: &mut Value, path: &Path, new: Value) -> Result<
     Ok(())
 }
 
-/// Sets a value at a path as [`set`] does, whatever the depth. `Memory`: want of memory; the value stays as
-/// it was, and the new one is gone. It is one walk down the path with one change at its end.
+/// Sets a value at a path as [`set`] does, whatever the depth. `Memory`: want of memory, but not where
+/// something stands at the path already; the value stays as it was, and the new one is gone. It is one walk
+/// down the path with one change at its end.
 pub fn put(alloc: Global, value: &mut Value, path: &Path, new: Value) -> Result<(), Memory>
     requires { IsWritable path.now }
     ensures set { OnOk result (IsSet (tree_of value.old) path.now (tree_of new) (tree_of value.new)) }
     ensures tree { OnOk result (tree_of value.new ≡ set_tree (tree_of value.old) path.now (tree_of new)) }
     ensures depth { OnOk result (IsAsDeep (tree_of value.old) path.now (tree_of new) (tree_of value.new)) }
     ensures ordered { IsOrdered (tree_of value.old) → IsOrdered (tree_of new) → IsOrdered (tree_of value.new) }
+    ensures there { IsSome (read_at (tree_of value.old) path.now) → IsOk result }
     ensures err { OnErr result (tree_of value.new ≡ tree_of value.old) }
 {
     members_are_maps();
@@ -59,11 +65,13 @@ pub fn put(alloc: Global, value: &mut Value, path: &Path, new: Value) -> Result<
     put_at(alloc, value, path.as_slice(), new)
 }
 
-// Sets a value at the end of the steps. `Memory`: want of memory; the value stays as it was.
+// Sets a value at the end of the steps. `Memory`: want of memory, where nothing stands there; the value stays
+// as it was.
 #[cycle(put)]
 fn put_at(alloc: Global, value: &mut Value, steps: &[Step], new: Value) -> Result<(), Memory>
     requires { IsWritable steps.now }
     ensures ok { OnOk result (tree_of value.new ≡ plain_set_tree (tree_of value.old) (plain steps.now) (tree_of new)) }
+    ensures there { IsSome (read_at (tree_of value.old) steps.now) → IsOk result }
     ensures err { OnErr result (tree_of value.new ≡ tree_of value.old) }
 {
     let [step, rest @ ..] = steps else {
@@ -101,6 +109,7 @@ fn put_in_fields(
 ) -> Result<(), Memory>
     requires { IsWritable steps.now }
     ensures ok { OnOk result (members_of fields.new ≡ set_in_fields name.now (members_of fields.old) (plain steps.now) (tree_of new)) }
+    ensures there { IsSome (read_in (find name.now (members_of fields.old)) steps.now) → IsOk result }
     ensures err { OnErr result (members_of fields.new ≡ members_of fields.old) }
 {
     match fields.get_mut(name.as_str()) {
@@ -123,6 +132,7 @@ fn put_in_items(
 ) -> Result<(), Memory>
     requires { IsWritable steps.now }
     ensures ok { OnOk result (items_of items.new ≡ set_in_items place (items_of items.old) (plain steps.now) (tree_of new)) }
+    ensures there { IsSome (read_in (item_at place (items_of items.old)) steps.now) → IsOk result }
     ensures err { OnErr result (items_of items.new ≡ items_of items.old) }
 {
     match items.get_mut(place) {

@@ -1,4 +1,4 @@
-ghost use Rattle.std.specs.Prelude.{◌≡◌, ◌≢◌, ◌<◌, IfOk, OnErr, OnOk, [], ◌∷◌, None, false, length, true};
+ghost use Rattle.std.specs.Prelude.{◌≡◌, ◌≢◌, ◌<◌, IfOk, IsOk, List, ℕ, OnErr, OnOk, [], ◌∷◌, None, false, length, true};
 ghost use Rattle.vrl_kind.specs.Canonical.{IsCanonical};
 ghost use Rattle.vrl_kind.specs.Fields.{knows_field, IsTaken};
 ghost use Rattle.vrl_kind.specs.KindTree.{KindTree};
@@ -6,6 +6,8 @@ ghost use Rattle.vrl_kind.specs.Kinds.{Inhabits, tags_at};
 ghost use Rattle.vrl_kind.specs.Sets.{SameSets};
 ghost use Rattle.vrl_path.specs.Steps.{plain, IsPlain};
 ghost use Rattle.vrl_path.specs.Remove.{IsRemoved, removable_at};
+ghost use Rattle.vrl_path.specs.declared.path.Step.{Step as CodeStep};
+ghost use Rattle.vrl_path.specs.declared.path.Step.TheVariants.{Field};
 ghost use Rattle.vrl_place.specs.Inner.{spot_sets};
 ghost use Rattle.vrl_place.specs.Remove.{plain_remove, remove};
 ghost use Rattle.vrl_value.specs.Look.{field, place};
@@ -22,7 +24,7 @@ use vrl_value::{Chars, Memory, Tag};
 
 /// Makes the kind of a value that of the value once what stands at the path is removed: a field is absent, from
 /// a place on each has what the next one had, and all else stays. At an empty path nothing is removed. `Memory`:
-/// want of memory; the kind stays as it was.
+/// want of memory, but neither there nor at a field of what is never an object; the kind stays as it was.
 ///
 /// It goes down the fields of the path in place, as long as the kind knows the field by itself, and looks at
 /// none beside them. What stands beside the rest of the path it copies once.
@@ -34,6 +36,9 @@ pub fn remove_kind(alloc: Global, kind: &mut Kind, path: &Path) -> Result<(), Me
     ensures unchanged { OnOk result ((value : Tree) → Inhabits value kind.old
         → removable_at value path.now ≡ None → Inhabits value kind.new) }
     ensures root { OnOk result ((t : Tag) → tags_at kind.new [] t ≡ tags_at kind.old [] t) }
+    ensures whole { path.now ≡ [] → IsOk result }
+    ensures none { (name : List ℕ) (behind : List CodeStep) → path.now ≡ Field name ∷ behind
+        → tags_at kind.old [] tag.Object ≡ false → IsOk result }
     ensures err { OnErr result (kind.new ≡ kind.old) }
 {
     remove_in(alloc, kind, path.as_slice())
@@ -44,6 +49,9 @@ pub fn remove_kind(alloc: Global, kind: &mut Kind, path: &Path) -> Result<(), Me
 fn remove_in(alloc: Global, kind: &mut Kind, steps: &[Step]) -> Result<(), Memory>
     requires { IsPlain steps.now }
     ensures ok { OnOk result (SameSets (tags_at kind.new) (plain_remove (tags_at kind.old) (plain steps.now))) }
+    ensures whole { steps.now ≡ [] → IsOk result }
+    ensures none { (name : List ℕ) (behind : List CodeStep) → steps.now ≡ Field name ∷ behind
+        → tags_at kind.old [] tag.Object ≡ false → IsOk result }
     ensures err { OnErr result (kind.new ≡ kind.old) }
 {
     match steps.split_first() {
@@ -75,6 +83,7 @@ fn remove_behind(
     requires { IsPlain behind.now }
     ensures ok { OnOk result (SameSets (tags_at kind.new)
         (plain_remove (tags_at kind.old) (field name.now ∷ plain behind.now))) }
+    ensures none { tags_at kind.old [] tag.Object ≡ false → IsOk result }
     ensures err { OnErr result (kind.new ≡ kind.old) }
 {
     if !has(kind, Tag::Object) {

@@ -1,4 +1,4 @@
-ghost use Rattle.std.specs.Prelude.{◌≡◌, IfOk, OnErr, OnOk, [], ◌∷◌, false, pos, true};
+ghost use Rattle.std.specs.Prelude.{◌≡◌, IfOk, IsOk, OnErr, OnOk, [], ◌∷◌, false, pos, true};
 ghost use Rattle.vrl_kind.specs.Canonical.{IsCanonical};
 ghost use Rattle.vrl_kind.specs.Fields.{knows_field, IsTaken};
 ghost use Rattle.vrl_kind.specs.KindTree.{KindTree};
@@ -23,7 +23,7 @@ use vrl_value::{Chars, Memory, Tag};
 
 /// Makes the kind of a value that of the value once one of `new` is set at the path: the container of the first
 /// step alone, so that another tag of the kind stays nowhere on the way, and a place below that of the path has
-/// null where it could be absent. `Memory`: want of memory; the kind stays as it was.
+/// null where it could be absent. `Memory`: want of memory, but not at an empty path; the kind stays as it was.
 ///
 /// It goes down the fields of the path in place, as long as the kind is that of an object alone and knows the
 /// field by itself, and looks at none beside them. What stands beside the rest of the path it copies once.
@@ -36,6 +36,7 @@ pub fn write_kind(alloc: Global, kind: &mut Kind, path: &Path, new: Kind) -> Res
     ensures container { OnOk result (IsContainerFor path.now (tags_at kind.new [])) }
     ensures present { OnOk result (tags_at new [] tag.Absent ≡ false
         → tags_at kind.new [] tag.Absent ≡ false) }
+    ensures whole { path.now ≡ [] → IsOk result }
     ensures err { OnErr result (kind.new ≡ kind.old) }
 {
     write_in(alloc, kind, path.as_slice(), new)
@@ -47,6 +48,7 @@ fn write_in(alloc: Global, kind: &mut Kind, steps: &[Step], new: Kind) -> Result
     requires { IsWritable steps.now }
     ensures ok { OnOk result (SameSets (tags_at kind.new)
         (plain_write (tags_at kind.old) (plain steps.now) (tags_at new))) }
+    ensures whole { steps.now ≡ [] → IsOk result }
     ensures err { OnErr result (kind.new ≡ kind.old) }
 {
     match steps.split_first() {
