@@ -5,6 +5,8 @@
 #[cfg(test)]
 mod answers;
 #[cfg(test)]
+mod branches;
+#[cfg(test)]
 mod forms;
 #[cfg(test)]
 mod generated;
