@@ -1,5 +1,5 @@
 // Calls over devices that come in pieces, and that fail at each of their calls in turn.
-use crate::calls::{Written, store, words_of};
+use crate::program::{Written, store, words_of};
 use remap_call::remap;
 use std::alloc::Global;
 use std::process::Abort;

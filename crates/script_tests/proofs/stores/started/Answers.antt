@@ -1,6 +1,6 @@
 use Rattle.std.proofs.Common.{[], ◌∷◌, refl}
 use Rattle.std.proofs.lemmas.Result.{IfOk-weaker}
-use Rattle.run_tests.proofs.stores.started.Goals as goal
+use Rattle.script_tests.proofs.stores.started.Goals as goal
 
 -- two names that differ stand for the variables
 pub returns : goal.returns

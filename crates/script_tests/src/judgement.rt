@@ -1,17 +1,16 @@
 ghost use Rattle.std.specs.Prelude.{◌≡◌, IfOk, IfSome};
-ghost use Rattle.vrl_kind.specs.KindTree.{no_fields, json_rest};
-ghost use Rattle.vrl_kind.specs.Make.{object_kind};
 ghost use Rattle.vrl_syntax.specs.Limits.{KeepsLimits};
 ghost use Rattle.vrl_syntax.specs.View.{exprs_of};
 ghost use Rattle.vrl_check.specs.Answer.{IsJudged};
 ghost use Rattle.vrl_judge.specs.Rules.{Judgement};
 
 // Scripts without calls: what is wrong with them, the kind of what they give, and what is known then.
+use crate::running::event_kind;
 use std::alloc::Global;
 use std::process::Abort;
 use vrl_check::{Judged, check, ending};
 use vrl_diag::{Diagnostic, render};
-use vrl_kind::{Kind, Rest, equal_tags_are_one_kind, kind_is_canonical, print};
+use vrl_kind::{Kind, print};
 use vrl_parse::parse;
 use vrl_pattern::{BuildFault, Patterns};
 use vrl_state::{Known, RootKind};
@@ -41,16 +40,6 @@ fn script_of(alloc: Global, text: &str) -> Result<Option<Script>, Memory> {
         Err(SyntaxFault::Fault(_fault)) => Ok(None),
         Err(SyntaxFault::Memory) => Err(Memory),
     }
-}
-
-// Objects of JSON.
-fn event_kind(alloc: Global) -> Result<Kind, Memory>
-    ensures { IfOk result (λ kind. kind ≡ object_kind no_fields json_rest) }
-{
-    equal_tags_are_one_kind();
-    let kind = Kind::object(alloc, Vec::new(alloc), Rest::Json)?;
-    kind_is_canonical(&kind);
-    Ok(kind)
 }
 
 // What a script is judged to be over objects of JSON. `None`: it isn't judged.
