@@ -4,9 +4,9 @@ and the processor seconds of its proof, of the proof of its tests and of its edi
 told to take nothing of it (`--anew`), and there names of crates, as `docs/measure-gate.py vrl_kind`, measure these and those below
 them alone. What rt says goes to standard error.
 
-The seconds are those of the processes that rt starts, read from /proc five times a second, so a process counts some
-hundredths of a second less than it took. The edits have with them the proof of the crate that they begin with. Behind the rows stands how much of the processors' time
-the machine's host took away for others: where it is much, the same work takes more seconds too."""
+The seconds are those of the processes that rt starts, read from /proc five times a second, so a process counts some hundredths of a
+second less than it took. The edits have with them the proof of the crate that they begin with. Behind the rows stands how much of the
+processors' time the machine's host took away for others: where it is much, the same work takes more seconds too."""
 import glob, os, subprocess, sys, time
 
 TOP = os.path.dirname(os.path.dirname(os.path.realpath(__file__)))
