@@ -19,6 +19,8 @@ pub mod Causes
 pub mod Counted
 pub mod CountedCodes
 pub mod Determined
+pub mod DeterminedCalls
+pub mod DeterminedPremises
 pub mod Forms
 pub mod Iterated
 pub mod Partway

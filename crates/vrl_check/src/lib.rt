@@ -5,8 +5,9 @@
 //! codes in their order. Within a script the judgement of an expression is `Judges`.
 //!
 //! Files: `script.rt` has `check` and `ending`. `walk.rt` judges the forms: each part by the walk itself, and what is made of the parts by a function of
-//! `vrl_judge`. `calls.rt` has what comes behind the arguments of a call, and `answers.rt` what the called gives; both ask `vrl_table` and no function by name; `iteration.rt` has what comes
-//! before the runs of a closure, between its tries and behind them. `passing.rt` has what isn't judged, of which `empties.rt` gathers the empty values and
+//! `vrl_judge`; operators, branches, assignments and calls with a closure stand in files of `walk/`. `calls.rt` has what comes behind the arguments of a
+//! call, and `answers.rt` what the called gives; both ask `vrl_table` and no function by name; `iteration.rt` has what comes before the runs of a
+//! closure, between its tries and behind them. `passing.rt` has what isn't judged, of which `empties.rt` gathers the empty values and
 //! `loops.rt` the closures. `judged.rt` has the answer, and `laws.rt` the laws.
 #![tactic(auto)]
 

@@ -369,191 +369,191 @@ sequence-returns t c =
     let l = c.loop-item in
     sequence_end _ _ _ _ _ (no_item_left c.as_slice-item-items.result.now l.item-index c.loop-item-test.false) l.invariant
 
-pub binary-returns-in-Coalesce : goal.binary-returns-in-Coalesce
-binary-returns-in-Coalesce t c =
+pub operators::binary-returns-in-Coalesce : goal.operators::binary-returns-in-Coalesce
+operators::binary-returns-in-Coalesce t c =
     rw c.in-Coalesce.is (c.coalescing.ensures)
 
-pub binary-returns-in-Or : goal.binary-returns-in-Or
-binary-returns-in-Or t c =
+pub operators::binary-returns-in-Or : goal.operators::binary-returns-in-Or
+operators::binary-returns-in-Or t c =
     rw c.in-Or.is (IfOk-weaker c.disjunction.result _ _ (λ outcome given. given c.args.span) c.disjunction.ensures)
 
-pub binary-returns-in-And : goal.binary-returns-in-And
-binary-returns-in-And t c =
+pub operators::binary-returns-in-And : goal.operators::binary-returns-in-And
+operators::binary-returns-in-And t c =
     rw c.in-And.is (IfOk-weaker c.conjunction.result _ _ (λ outcome given. given c.args.span) c.conjunction.ensures)
 
-pub binary-returns-in-Merge : goal.binary-returns-in-Merge
-binary-returns-in-Merge t c =
+pub operators::binary-returns-in-Merge : goal.operators::binary-returns-in-Merge
+operators::binary-returns-in-Merge t c =
     rw c.in-Merge.is (IfOk-weaker c.merge.result _ _ (λ outcome given. given c.args.span) c.merge.ensures)
 
-pub negation-returns : goal.negation-returns
-negation-returns t c =
+pub operators::negation-returns : goal.operators::negation-returns
+operators::negation-returns t c =
     IfOk-weaker c.negated.result _ _
     (λ outcome negates. negation_given c.args.span (expr_of c.args.inner.now) c.args.checker.now c.expr.new.checker c.negated.new.self c.in_ok-part.part outcome c.in_ok-part.ensures negates)
     c.negated.ensures
 
-pub operands-beside-requires : goal.operands-beside-requires
-operands-beside-requires t c =
+pub operators::operands-beside-requires : goal.operators::operands-beside-requires
+operators::operands-beside-requires t c =
     (omega (arith, c.decreases), (can_at c.args.checker.now c.expr.new.checker (expr_of c.args.right.now) c.in_ok-left.ensures.2.gathered.patterns c.requires.right, here_are c.args.checker.now c.expr.new.checker c.in_ok-left.left c.in_ok-left.ensures.0 c.in_ok-left.ensures.2))
 
-pub operands-returns : goal.operands-returns
-operands-returns t c =
+pub operators::operands-returns : goal.operators::operands-returns
+operators::operands-returns t c =
     IfOk-weaker c.beside.result _ _
     (λ parts beside. operands_given (expr_of c.args.left.now) (expr_of c.args.right.now) c.args.checker.now c.expr.new.checker c.beside.new.checker c.in_ok-left.left parts c.in_ok-left.ensures beside)
     c.beside.ensures
 
-pub beside-paired-requires : goal.beside-paired-requires
-beside-paired-requires t c =
+pub operators::beside-paired-requires : goal.operators::beside-paired-requires
+operators::beside-paired-requires t c =
     both_common c.args.checker.now c.expr.new.checker c.args.left c.in_ok-right.right (expr_of c.args.right.now) c.requires.ends c.in_ok-right.ensures
 
-pub beside-returns : goal.beside-returns
-beside-returns t c =
+pub operators::beside-returns : goal.operators::beside-returns
+operators::beside-returns t c =
     IfOk-weaker c.paired.result _ _
     (λ parts paired. beside_given (expr_of c.args.right.now) c.args.checker.now c.expr.new.checker c.args.left c.in_ok-right.right c.is_other-left_no_object.result parts c.is_other-left_no_object.ensures c.in_ok-right.ensures paired)
     c.paired.ensures
 
-pub equality-returns : goal.equality-returns
-equality-returns t c =
+pub operators::equality-returns : goal.operators::equality-returns
+operators::equality-returns t c =
     IfOk-weaker c.equated.result _ _
     (λ outcome equates. equality_given c.args.span c.args.op (expr_of c.args.left.now) (expr_of c.args.right.now) c.args.checker.now c.operands.new.checker c.equated.new.self c.is_chained.result c.in_ok-parts.parts outcome c.requires.op c.is_chained.ensures c.in_ok-parts.ensures equates)
     c.equated.ensures
 
-pub of_table-combined-requires : goal.of_table-combined-requires
-of_table-combined-requires t c =
+pub operators::of_table-combined-requires : goal.operators::of_table-combined-requires
+operators::of_table-combined-requires t c =
     operands_are (expr_of c.args.left.now) (expr_of c.args.right.now) c.args.checker.now c.operands.new.checker c.in_ok-parts.parts c.in_ok-parts.ensures
 
-pub of_table-returns : goal.of_table-returns
-of_table-returns t c =
+pub operators::of_table-returns : goal.operators::of_table-returns
+operators::of_table-returns t c =
     IfOk-weaker c.combined.result _ _
     (λ outcome combines. table_given c.args.span c.args.op c.args.table (expr_of c.args.left.now) (expr_of c.args.right.now) c.args.checker.now c.operands.new.checker c.combined.new.self c.is_chained.result c.in_ok-parts.parts outcome c.requires.op c.is_chained.ensures c.in_ok-parts.ensures combines)
     c.combined.ensures
 
-pub merge-returns : goal.merge-returns
-merge-returns t c =
+pub operators::merge-returns : goal.operators::merge-returns
+operators::merge-returns t c =
     let left_is : c.args.left.now.span ≡ span_of (expr_of c.args.left.now) = search (rules, the_lemmas) in
     let right_is : c.args.right.now.span ≡ span_of (expr_of c.args.right.now) = search (rules, the_lemmas) in
     IfOk-weaker c.merged.result _ _
     (λ outcome merges. merge_given (expr_of c.args.left.now) (expr_of c.args.right.now) c.args.left.now.span c.args.right.now.span c.args.checker.now c.operands.new.checker c.merged.new.self c.in_ok-parts.parts outcome left_is right_is c.in_ok-parts.ensures merges)
     c.merged.ensures
 
-pub merge_into-beside-requires : goal.merge_into-beside-requires
-merge_into-beside-requires t c =
+pub operators::merge_into-beside-requires : goal.operators::merge_into-beside-requires
+operators::merge_into-beside-requires t c =
     (omega (arith, c.decreases), (can_at c.args.checker.now c.read.new.checker (expr_of c.args.value.now) c.in_ok-read.ensures.judged.1.gathered.patterns c.requires, place_are c.args.checker.now c.read.new.checker c.in_ok-read.read c.in_ok-left.left c.in_ok-read.ensures.judged.0 c.in_ok-read.ensures.judged.1 c.in_ok-left.ensures))
 
-pub merge_into-returns-clause-given : goal.merge_into-returns-clause-given
-merge_into-returns-clause-given t c =
+pub operators::merge_into-returns-clause-given : goal.operators::merge_into-returns-clause-given
+operators::merge_into-returns-clause-given t c =
     let right_is : c.args.value.now.span ≡ span_of (expr_of c.args.value.now) = search (rules, the_lemmas) in
     IfOk-weaker c.merged.result _ _
     (λ outcome merges. merge_into_given (expr_of c.args.value.now) c.args.place c.args.value.now.span c.args.root.now c.args.path.now c.args.checker.now c.read.new.checker c.beside.new.checker c.merged.new.self c.in_ok-read.read c.in_ok-left.left c.in_ok-parts.parts outcome right_is c.in_ok-read.ensures.given c.in_ok-left.ensures c.in_ok-parts.ensures merges)
     c.merged.ensures
 
-pub merge_into-returns-clause-judged : goal.merge_into-returns-clause-judged
-merge_into-returns-clause-judged t c =
+pub operators::merge_into-returns-clause-judged : goal.operators::merge_into-returns-clause-judged
+operators::merge_into-returns-clause-judged t c =
     IfOk-weaker c.merged.result _ _
     (λ outcome merges. merge_into_judged (expr_of c.args.value.now) c.args.place c.args.value.now.span c.args.checker.now c.read.new.checker c.beside.new.checker c.merged.new.self c.in_ok-read.read c.in_ok-left.left c.in_ok-parts.parts outcome c.in_ok-read.ensures.judged.0 c.in_ok-read.ensures.judged.1 c.in_ok-left.ensures c.in_ok-parts.ensures merges)
     c.merged.ensures
 
-pub conjunction-left_of_and-requires : goal.conjunction-left_of_and-requires
-conjunction-left_of_and-requires t c =
+pub branches::conjunction-left_of_and-requires : goal.branches::conjunction-left_of_and-requires
+branches::conjunction-left_of_and-requires t c =
     expr_ends (expr_of c.args.left.now) c.args.checker.now c.expr.new.checker c.in_ok-part.part c.in_ok-part.ensures
 
-pub conjunction-expr-requires-2 : goal.conjunction-expr-requires-2
-conjunction-expr-requires-2 t c =
+pub branches::conjunction-expr-requires-2 : goal.branches::conjunction-expr-requires-2
+branches::conjunction-expr-requires-2 t c =
     let same = c.in_ok-side.ensures.side.moved.patterns ∙ c.in_ok-part.ensures.2.gathered.patterns in
     (omega (arith, c.decreases), can_at c.args.checker.now c.left_of_and.new.self (expr_of c.args.right.now) same c.requires.right)
 
-pub conjunction-conjoined-requires : goal.conjunction-conjoined-requires
-conjunction-conjoined-requires t c =
+pub branches::conjunction-conjoined-requires : goal.branches::conjunction-conjoined-requires
+branches::conjunction-conjoined-requires t c =
     record {
       left = stands_here (expr_of c.args.right.now) _ _ c.expr.new.checker c.left_of_and.new.self c.expr-2.new.checker c.in_ok-side.side c.in_ok-other.other c.in_ok-side.ensures.side c.in_ok-other.ensures;
       right = expr_ends (expr_of c.args.right.now) c.left_of_and.new.self c.expr-2.new.checker c.in_ok-other.other c.in_ok-other.ensures;
     }
 
-pub conjunction-returns : goal.conjunction-returns
-conjunction-returns t c =
+pub branches::conjunction-returns : goal.branches::conjunction-returns
+branches::conjunction-returns t c =
     IfOk-weaker c.conjoined.result _ _
     (λ outcome last. conjunction_judged (expr_of c.args.left.now) (expr_of c.args.right.now) c.args.checker.now c.expr.new.checker c.left_of_and.new.self c.expr-2.new.checker c.conjoined.new.self c.in_ok-part.part c.in_ok-other.other outcome c.in_ok-side.side
     c.in_ok-part.ensures c.in_ok-side.ensures.side c.in_ok-side.ensures.ends c.in_ok-other.ensures last)
     c.conjoined.ensures
 
-pub disjunction-left_of_or-requires : goal.disjunction-left_of_or-requires
-disjunction-left_of_or-requires t c =
+pub branches::disjunction-left_of_or-requires : goal.branches::disjunction-left_of_or-requires
+branches::disjunction-left_of_or-requires t c =
     expr_ends (expr_of c.args.left.now) c.args.checker.now c.expr.new.checker c.in_ok-part.part c.in_ok-part.ensures
 
-pub disjunction-expr-requires-2 : goal.disjunction-expr-requires-2
-disjunction-expr-requires-2 t c =
+pub branches::disjunction-expr-requires-2 : goal.branches::disjunction-expr-requires-2
+branches::disjunction-expr-requires-2 t c =
     let same = c.in_ok-side.ensures.side.moved.patterns ∙ c.in_ok-part.ensures.2.gathered.patterns in
     (omega (arith, c.decreases), can_at c.args.checker.now c.left_of_or.new.self (expr_of c.args.right.now) same c.requires.right)
 
-pub disjunction-disjoined-requires : goal.disjunction-disjoined-requires
-disjunction-disjoined-requires t c =
+pub branches::disjunction-disjoined-requires : goal.branches::disjunction-disjoined-requires
+branches::disjunction-disjoined-requires t c =
     record {
       left = stands_here (expr_of c.args.right.now) _ _ c.expr.new.checker c.left_of_or.new.self c.expr-2.new.checker c.in_ok-side.side c.in_ok-other.other c.in_ok-side.ensures.side c.in_ok-other.ensures;
       right = expr_ends (expr_of c.args.right.now) c.left_of_or.new.self c.expr-2.new.checker c.in_ok-other.other c.in_ok-other.ensures;
     }
 
-pub disjunction-returns : goal.disjunction-returns
-disjunction-returns t c =
+pub branches::disjunction-returns : goal.branches::disjunction-returns
+branches::disjunction-returns t c =
     by_both c.disjoined.result _ _ _
     (λ outcome. disjunction_judged (expr_of c.args.left.now) (expr_of c.args.right.now) c.args.checker.now c.expr.new.checker c.left_of_or.new.self c.expr-2.new.checker c.disjoined.new.self c.in_ok-part.part c.in_ok-other.other outcome c.in_ok-side.side
     c.in_ok-part.ensures c.in_ok-side.ensures.side c.in_ok-side.ensures.part c.in_ok-other.ensures)
     c.disjoined.ensures.kind c.disjoined.ensures.sides
 
-pub coalescing-left_of_coalescing-requires : goal.coalescing-left_of_coalescing-requires
-coalescing-left_of_coalescing-requires t c =
+pub branches::coalescing-left_of_coalescing-requires : goal.branches::coalescing-left_of_coalescing-requires
+branches::coalescing-left_of_coalescing-requires t c =
     expr_ends (expr_of c.args.left.now) c.args.checker.now c.expr.new.checker c.in_ok-part.part c.in_ok-part.ensures
 
-pub coalescing-expr-requires-2 : goal.coalescing-expr-requires-2
-coalescing-expr-requires-2 t c =
+pub branches::coalescing-expr-requires-2 : goal.branches::coalescing-expr-requires-2
+branches::coalescing-expr-requires-2 t c =
     let same = c.in_ok-side.ensures.side.moved.patterns ∙ c.in_ok-part.ensures.2.gathered.patterns in
     (omega (arith, c.decreases), can_at c.args.checker.now c.left_of_coalescing.new.self (expr_of c.args.right.now) same c.requires.right)
 
-pub coalescing-coalesced-requires : goal.coalescing-coalesced-requires
-coalescing-coalesced-requires t c =
+pub branches::coalescing-coalesced-requires : goal.branches::coalescing-coalesced-requires
+branches::coalescing-coalesced-requires t c =
     record {
       left = stands_here (expr_of c.args.right.now) _ _ c.expr.new.checker c.left_of_coalescing.new.self c.expr-2.new.checker c.in_ok-side.side c.in_ok-other.other c.in_ok-side.ensures.side c.in_ok-other.ensures;
       right = expr_ends (expr_of c.args.right.now) c.left_of_coalescing.new.self c.expr-2.new.checker c.in_ok-other.other c.in_ok-other.ensures;
     }
 
-pub coalescing-returns : goal.coalescing-returns
-coalescing-returns t c =
+pub branches::coalescing-returns : goal.branches::coalescing-returns
+branches::coalescing-returns t c =
     by_both c.reported.result _ _ _
     (λ outcome same reported. subst (IsGivenAs c.args.span (binary ops.Coalesce (expr_of c.args.left.now) (expr_of c.args.right.now)) c.args.checker.now c.reported.new.self) (sym same)
     (coalescing_judged c.args.span (expr_of c.args.left.now) (expr_of c.args.right.now) c.args.checker.now c.expr.new.checker c.left_of_coalescing.new.self c.expr-2.new.checker c.coalesced.new.self c.reported.new.self c.in_ok-part.part c.in_ok-other.other c.in_ok-both.both c.in_ok-side.side outcome.ends c.is_needless-needless.result
     c.in_ok-part.ensures c.is_needless-needless.ensures c.in_ok-side.ensures.side c.in_ok-side.ensures.part c.in_ok-other.ensures c.in_ok-both.ensures.kind c.in_ok-both.ensures.sides reported))
     c.reported.ensures.same c.reported.ensures.reported
 
-pub conditional-loop-arm-init : goal.conditional-loop-arm-init
-conditional-loop-arm-init t c =
+pub branches::conditional-loop-arm-init : goal.branches::conditional-loop-arm-init
+branches::conditional-loop-arm-init t c =
     first_arms (arms_of c.args.arms.now) (else_of (option_map exprs_of c.args.otherwise.now)) c.as_slice-arm-items.result.now c.args.checker.now c.in_ok-ways.ways c.as_slice-arm-items.ensures c.in_ok-ways.ensures c.requires.arms
 
-pub conditional-add_arm-requires : goal.conditional-add_arm-requires
-conditional-add_arm-requires t c =
+pub branches::conditional-add_arm-requires : goal.branches::conditional-add_arm-requires
+branches::conditional-add_arm-requires t c =
     let l = c.loop-arm in
     let items = c.as_slice-arm-items.result.now in
     let can = next_can (arms_of c.args.arms.now) (arms_view (drop (l.arm-index + 1) items)) (else_of (option_map exprs_of c.args.otherwise.now)) (arm_of c.arm-item.result) (arms_view (drop l.arm-index items)) c.args.checker.now l.checker l.ways (next_arm items l.arm-index c.arm-item.result c.loop-arm-test.true c.arm-item.is) l.invariant in
     (omega (arith, c.decreases, l.invariant.size, ap arms_size (next_arm items l.arm-index c.arm-item.result c.loop-arm-test.true c.arm-item.is)), (can.0, (can.1, ways_here c.args.checker.now l.checker l.ways l.invariant.w l.invariant.told)))
 
-pub conditional-loop-arm-preserved : goal.conditional-loop-arm-preserved
-conditional-loop-arm-preserved t c =
+pub branches::conditional-loop-arm-preserved : goal.branches::conditional-loop-arm-preserved
+branches::conditional-loop-arm-preserved t c =
     let l = c.loop-arm in
     let items = c.as_slice-arm-items.result.now in
     more_arms (arms_of c.args.arms.now) (arms_view (drop (l.arm-index + 1) items)) (else_of (option_map exprs_of c.args.otherwise.now)) (arm_of c.arm-item.result) (arms_view (drop l.arm-index items)) c.args.checker.now l.checker c.add_arm.new.checker l.ways c.add_arm.new.ways (next_arm items l.arm-index c.arm-item.result c.loop-arm-test.true c.arm-item.is) l.invariant c.in_ok-add_arm.ensures
 
-pub conditional-last_way-requires : goal.conditional-last_way-requires
-conditional-last_way-requires t c =
+pub branches::conditional-last_way-requires : goal.branches::conditional-last_way-requires
+branches::conditional-last_way-requires t c =
     let l = c.loop-arm in
     (omega (arith, c.decreases), else_at c.args.checker.now l.checker (else_of (option_map exprs_of c.args.otherwise.now)) l.invariant.told.patterns c.requires.otherwise)
 
-pub conditional-add_last-requires : goal.conditional-add_last-requires
-conditional-add_last-requires t c =
+pub branches::conditional-add_last-requires : goal.branches::conditional-add_last-requires
+branches::conditional-add_last-requires t c =
     let l = c.loop-arm in
     record {
       ways = ways_behind (else_of (option_map exprs_of c.args.otherwise.now)) c.args.checker.now l.checker c.last_way.new.checker l.ways l.invariant.w c.in_ok-last.last l.invariant.told c.in_ok-last.ensures;
       last = last_ends (else_of (option_map exprs_of c.args.otherwise.now)) l.checker c.last_way.new.checker c.in_ok-last.last c.in_ok-last.ensures;
     }
 
-pub conditional-returns : goal.conditional-returns
-conditional-returns t c =
+pub branches::conditional-returns : goal.branches::conditional-returns
+branches::conditional-returns t c =
     let l = c.loop-arm in
     let whole = arms_of c.args.arms.now in
     let behind_all = else_of (option_map exprs_of c.args.otherwise.now) in
@@ -563,38 +563,38 @@ conditional-returns t c =
     (subst (λ rest. AreJudged whole behind_all rest c.args.checker.now l.checker l.ways) (no_arm_left items l.arm-index c.loop-arm-test.false) l.invariant) c.in_ok-last.ensures behind)
     c.add_last.ensures
 
-pub add_arm-expr-requires : goal.add_arm-expr-requires
-add_arm-expr-requires t c =
+pub branches::add_arm-expr-requires : goal.branches::add_arm-expr-requires
+branches::add_arm-expr-requires t c =
     let a = out-Arm c.args.arm.now in
     let is : arm_of c.args.arm.now ≡ (expr_of a.predicate, exprs_of a.body) = search (rules, the_lemmas) in
     (omega (arith, c.decreases, ap (λ a. expr_size a.0 + exprs_size a.1) is), subst (λ t. ExprCanBeJudged c.args.checker.now.patterns.now t.0) is c.requires.predicate)
 
-pub add_arm-add_predicate-requires : goal.add_arm-add_predicate-requires
-add_arm-add_predicate-requires t c =
+pub branches::add_arm-add_predicate-requires : goal.branches::add_arm-add_predicate-requires
+branches::add_arm-add_predicate-requires t c =
     let a = out-Arm c.args.arm.now in
     record {
       ways = ways_in c.args.ways.now c.args.checker.now.state.scopes c.expr.new.checker.state.scopes (sym c.in_ok-part.ensures.2.gathered.scopes) c.requires.ways;
       part = expr_ends (expr_of a.predicate) c.args.checker.now c.expr.new.checker c.in_ok-part.part c.in_ok-part.ensures;
     }
 
-pub add_arm-block-requires : goal.add_arm-block-requires
-add_arm-block-requires t c =
+pub branches::add_arm-block-requires : goal.branches::add_arm-block-requires
+branches::add_arm-block-requires t c =
     let a = out-Arm c.args.arm.now in
     let is : arm_of c.args.arm.now ≡ (expr_of a.predicate, exprs_of a.body) = search (rules, the_lemmas) in
     let same = c.in_ok-add_predicate.ensures.reported.patterns ∙ c.in_ok-part.ensures.2.gathered.patterns in
     let here = subst (λ t. ItemsCanBeJudged c.args.checker.now.patterns.now t.1) is c.requires.block in
     (omega (arith, c.decreases, ap (λ a. expr_size a.0 + exprs_size a.1) is), items_at c.args.checker.now c.add_predicate.new.self (exprs_of a.body) same here)
 
-pub add_arm-add_block-requires : goal.add_arm-add_block-requires
-add_arm-add_block-requires t c =
+pub branches::add_arm-add_block-requires : goal.branches::add_arm-add_block-requires
+branches::add_arm-add_block-requires t c =
     let a = out-Arm c.args.arm.now in
     record {
       ways = middle_here (expr_of a.predicate) (exprs_of a.body) a.predicate.span c.args.checker.now c.expr.new.checker c.add_predicate.new.self c.block.new.checker c.mark.new.self c.args.ways.now c.add_predicate.new.ways c.in_ok-part.part c.in_ok-block.block c.in_ok-add_predicate.ensures c.mark.ensures.state c.in_ok-block.ensures;
       block = block_ends (exprs_of a.body) _ c.block.new.checker c.in_ok-block.block c.in_ok-block.ensures;
     }
 
-pub add_arm-returns : goal.add_arm-returns
-add_arm-returns t c =
+pub branches::add_arm-returns : goal.branches::add_arm-returns
+branches::add_arm-returns t c =
     let a = out-Arm c.args.arm.now in
     let is : arm_of c.args.arm.now ≡ (expr_of a.predicate, exprs_of a.body) = search (rules, the_lemmas) in
     let span_is : a.predicate.span ≡ span_of (expr_of a.predicate) = search (rules, the_lemmas) in
@@ -604,17 +604,17 @@ add_arm-returns t c =
     c.in_ok-part.ensures span_is c.in_ok-add_predicate.ensures c.mark.ensures.state c.in_ok-mark.ensures.mark c.in_ok-block.ensures behind))
     c.add_block.ensures
 
-pub last_way-block-requires : goal.last_way-block-requires
-last_way-block-requires t c =
+pub branches::last_way-block-requires : goal.branches::last_way-block-requires
+branches::last_way-block-requires t c =
     let can = subst (λ o. ElseCanBeJudged c.args.checker.now.patterns.now (else_of (option_map exprs_of o))) c.in-Some.is c.requires in
     (omega (arith, c.decreases, ap (λ o. else_size (else_of (option_map exprs_of o))) c.in-Some.is), record { limits = can.limits; regexes = can.regexes })
 
-pub last_way-returns-in-Some : goal.last_way-returns-in-Some
-last_way-returns-in-Some t c =
+pub branches::last_way-returns-in-Some : goal.branches::last_way-returns-in-Some
+branches::last_way-returns-in-Some t c =
     subst (λ o. IfOk c.block.result (IsElseAs (else_of (option_map exprs_of o)) c.args.checker.now c.block.new.checker)) (sym c.in-Some.is) c.block.ensures
 
-pub last_way-returns-in-None : goal.last_way-returns-in-None
-last_way-returns-in-None t c =
+pub branches::last_way-returns-in-None : goal.branches::last_way-returns-in-None
+branches::last_way-returns-in-None t c =
     subst (λ o. IfOk c.missing_else.result (IsElseAs (else_of (option_map exprs_of o)) c.args.checker.now c.missing_else.new.checker)) (sym c.in-None.is) c.missing_else.ensures
 
 pub return_with-returned-requires : goal.return_with-returned-requires
@@ -641,48 +641,48 @@ abort_with-returns t c =
     (λ outcome last. abort_judged (expr_of c.args.message.now) c.args.message.now.span c.args.checker.now c.expr.new.checker c.aborted.new.self c.in_ok-part.part outcome span_is c.in_ok-part.ensures last)
     c.aborted.ensures
 
-pub assignment-assigned-requires-clause-present : goal.assignment-assigned-requires-clause-present
-assignment-assigned-requires-clause-present t c =
+pub assignments::assignment-assigned-requires-clause-present : goal.assignments::assignment-assigned-requires-clause-present
+assignments::assignment-assigned-requires-clause-present t c =
     judged_present c.args.checker.now c.expr.new.checker c.in_ok-part.part c.in_ok-part.ensures.0 c.in_ok-part.ensures.2
 
-pub assignment-returns : goal.assignment-returns
-assignment-returns t c =
+pub assignments::assignment-returns : goal.assignments::assignment-returns
+assignments::assignment-returns t c =
     IfOk-weaker c.assigned.result _ _
     (λ outcome assigned. assignment_judged c.args.span c.args.target.now (expr_of c.args.value.now) c.args.checker.now c.expr.new.checker c.assigned.new.self c.in_ok-part.part outcome c.in_ok-part.ensures assigned)
     c.assigned.ensures
 
-pub merge_assignment-returns-in_ok-part-in-Nowhere : goal.merge_assignment-returns-in_ok-part-in-Nowhere
-merge_assignment-returns-in_ok-part-in-Nowhere t c =
+pub assignments::merge_assignment-returns-in_ok-part-in-Nowhere : goal.assignments::merge_assignment-returns-in_ok-part-in-Nowhere
+assignments::merge_assignment-returns-in_ok-part-in-Nowhere t c =
     by_both c.reported.result _ _ _
     (λ outcome same reported. subst (IsGivenAs c.args.span (merge c.args.target.now (expr_of c.args.value.now)) c.args.checker.now c.reported.new.self) (sym same)
     (nowhere_judged c.args.span c.args.target.now (expr_of c.args.value.now) c.args.checker.now c.expr.new.checker c.reported.new.self c.in_ok-part-in-Nowhere.part outcome.ends c.in-Nowhere.is c.in_ok-part-in-Nowhere.ensures reported))
     c.reported.ensures.same c.reported.ensures.reported
 
-pub merge_assignment-assigned-requires-clause-present : goal.merge_assignment-assigned-requires-clause-present
-merge_assignment-assigned-requires-clause-present t c =
+pub assignments::merge_assignment-assigned-requires-clause-present : goal.assignments::merge_assignment-assigned-requires-clause-present
+assignments::merge_assignment-assigned-requires-clause-present t c =
     settled_present c.args.checker.now c.merge_into.new.checker c.in_ok-whole-in-Place.whole c.in_ok-merged-in-Place.merged c.in_ok-whole-in-Place.ensures.judged c.in_ok-merged-in-Place.ensures
 
-pub merge_assignment-returns-in_ok-merged-in-Place : goal.merge_assignment-returns-in_ok-merged-in-Place
-merge_assignment-returns-in_ok-merged-in-Place t c =
+pub assignments::merge_assignment-returns-in_ok-merged-in-Place : goal.assignments::merge_assignment-returns-in_ok-merged-in-Place
+assignments::merge_assignment-returns-in_ok-merged-in-Place t c =
     IfOk-weaker c.assigned.result _ _
     (λ outcome assigned. merge_judged c.args.span c.in-Place.place c.in-Place.root c.in-Place.path c.args.target.now (expr_of c.args.value.now) c.args.checker.now c.merge_into.new.checker c.assigned.new.self c.in_ok-whole-in-Place.whole c.in_ok-merged-in-Place.merged outcome c.in-Place.is c.in_ok-whole-in-Place.ensures.given c.in_ok-merged-in-Place.ensures assigned)
     c.assigned.ensures
 
-pub error_assignment-both_assigned-requires-clause-kind : goal.error_assignment-both_assigned-requires-clause-kind
-error_assignment-both_assigned-requires-clause-kind t c =
+pub assignments::error_assignment-both_assigned-requires-clause-kind : goal.assignments::error_assignment-both_assigned-requires-clause-kind
+assignments::error_assignment-both_assigned-requires-clause-kind t c =
     expr_root (expr_of c.args.value.now) _ c.expr.new.checker c.in_ok-part.part c.in_ok-part.ensures
 
-pub error_assignment-both_assigned-requires-clause-ends : goal.error_assignment-both_assigned-requires-clause-ends
-error_assignment-both_assigned-requires-clause-ends t c =
+pub assignments::error_assignment-both_assigned-requires-clause-ends : goal.assignments::error_assignment-both_assigned-requires-clause-ends
+assignments::error_assignment-both_assigned-requires-clause-ends t c =
     expr_ends (expr_of c.args.value.now) _ c.expr.new.checker c.in_ok-part.part c.in_ok-part.ensures
 
-pub error_assignment-both_assigned-requires-clause-place : goal.error_assignment-both_assigned-requires-clause-place
-error_assignment-both_assigned-requires-clause-place t c =
+pub assignments::error_assignment-both_assigned-requires-clause-place : goal.assignments::error_assignment-both_assigned-requires-clause-place
+assignments::error_assignment-both_assigned-requires-clause-place t c =
     let counted : vec_len c.args.checker.now.empties ≡ length c.args.checker.now.empties.items = search rules in
     place_stands c.len-place.result c.args.checker.now.empties.items _ _ c.in_ok-part.ensures.0.empties (c.len-place.ensures ∙ counted) c.in_ok-push.ensures.items c.in_ok-part.ensures.2.gathered.empties
 
-pub error_assignment-returns : goal.error_assignment-returns
-error_assignment-returns t c =
+pub assignments::error_assignment-returns : goal.assignments::error_assignment-returns
+assignments::error_assignment-returns t c =
     let counted : vec_len c.args.checker.now.empties ≡ length c.args.checker.now.empties.items = search rules in
     IfOk-weaker c.both_assigned.result _ _
     (λ outcome last. error_judged c.args.span c.args.ok.now c.args.err.now (expr_of c.args.value.now) c.args.checker.now _ c.expr.new.checker c.both_assigned.new.self c.len-place.result c.in_ok-part.part outcome refl refl refl refl refl c.in_ok-push.ensures.items (c.len-place.ensures ∙ counted) c.in_ok-part.ensures last)
@@ -731,8 +731,8 @@ call-returns-in-None t c =
     (λ outcome called. call_given c.args.span (call_of c.args.call.now) (args_of a.args) c.args.checker.now c.arguments.new.checker c.called.new.checker c.in_ok-arguments.arguments outcome c.in_ok-arguments.ensures called)
     c.called.ensures
 
-pub closure_call-iterated-requires : goal.closure_call-iterated-requires
-closure_call-iterated-requires t c =
+pub closures::closure_call-iterated-requires : goal.closures::closure_call-iterated-requires
+closures::closure_call-iterated-requires t c =
     let x = c.args.call.now in
     let cl = c.in-Some.closure.now in
     let there = c.in-Some.ensures.1 in
@@ -748,8 +748,8 @@ closure_call-iterated-requires t c =
       ),
     )
 
-pub closure_call-returns-in_ok-outcome-in-Some : goal.closure_call-returns-in_ok-outcome-in-Some
-closure_call-returns-in_ok-outcome-in-Some t c =
+pub closures::closure_call-returns-in_ok-outcome-in-Some : goal.closures::closure_call-returns-in_ok-outcome-in-Some
+closures::closure_call-returns-in_ok-outcome-in-Some t c =
     let x = c.args.call.now in
     let gs = call_args x in
     let cl = c.in-Some.closure.now in
@@ -768,8 +768,8 @@ closure_call-returns-in_ok-outcome-in-Some t c =
     (λ g ready. c.in_ok-outcome-in-Some.ensures before gs g j ready) (λ k made. bangs before k made)))
     c.banged.ensures
 
-pub closure_call-returns-in-None : goal.closure_call-returns-in-None
-closure_call-returns-in-None t c =
+pub closures::closure_call-returns-in-None : goal.closures::closure_call-returns-in-None
+closures::closure_call-returns-in-None t c =
     let x = c.args.call.now in
     let gs = call_args x in
     IfOk-weaker c.passed_call.result _ _
@@ -781,8 +781,8 @@ closure_call-returns-in-None t c =
     c.requires.form c.requires.four judged has (c.in_ok-wrong.ensures.reported js has.told) some (λ k ends gathered. passes before k ends gathered)))
     c.passed_call.ensures
 
-pub iterated-all_runs-requires : goal.iterated-all_runs-requires
-iterated-all_runs-requires t c =
+pub closures::iterated-all_runs-requires : goal.closures::iterated-all_runs-requires
+closures::iterated-all_runs-requires t c =
     let names = c.in_ok-names.ensures in
     let kinds : c.deref.result.now ≡ for_names c.args.form names.key names.value = c.deref.ensures.value ∙ names.names in (
       omega (arith, c.decreases),
@@ -793,23 +793,23 @@ iterated-all_runs-requires t c =
       },
     )
 
-pub iterated-made_of-requires-clause-ends : goal.iterated-made_of-requires-clause-ends
-iterated-made_of-requires-clause-ends t c =
+pub closures::iterated-made_of-requires-clause-ends : goal.closures::iterated-made_of-requires-clause-ends
+closures::iterated-made_of-requires-clause-ends t c =
     let same = c.in_ok-run.ensures.judged.gathered.scopes ∙ ap (λ x. x.state.scopes) c.collection_of.ensures.checker in
     subst (λ e. AreEnds c.all_runs.new.checker.state.scopes e) (sym c.in_ok-collection.ensures.ends) (subst (λ s. AreEnds s c.args.arguments.ends) (sym same) c.requires.ends)
 
-pub iterated-made_of-requires-clause-fail : goal.iterated-made_of-requires-clause-fail
-iterated-made_of-requires-clause-fail t c =
+pub closures::iterated-made_of-requires-clause-fail : goal.closures::iterated-made_of-requires-clause-fail
+closures::iterated-made_of-requires-clause-fail t c =
     let same = c.in_ok-run.ensures.judged.gathered.scopes ∙ ap (λ x. x.state.scopes) c.collection_of.ensures.checker in
     subst (λ s. IsWay s c.in_ok-collection.collection.fail) (sym same) c.in_ok-collection.ensures.fail
 
-pub iterated-made_of-requires-clause-run : goal.iterated-made_of-requires-clause-run
-iterated-made_of-requires-clause-run t c =
+pub closures::iterated-made_of-requires-clause-run : goal.closures::iterated-made_of-requires-clause-run
+closures::iterated-made_of-requires-clause-run t c =
     let run = c.in_ok-run.ensures in
     subst (λ s. AreEnds s c.in_ok-run.run'.outcome.ends) (sym run.judged.gathered.scopes) run.judged.ends.are
 
-pub iterated-returns : goal.iterated-returns
-iterated-returns t c =
+pub closures::iterated-returns : goal.closures::iterated-returns
+closures::iterated-returns t c =
     let cl = c.args.closure.now in
     let names = c.in_ok-names.ensures in
     let still = c.collection_of.ensures.checker in
@@ -819,118 +819,118 @@ iterated-returns t c =
     (subst (λ Ks. AreRuns c.args.form (body_in cl Ks c.in_ok-names.names.runs) c.collection_of.new.checker c.all_runs.new.checker c.in_ok-run.run') c.deref.ensures.value c.in_ok-run.ensures)) made)
     c.made_of.ensures
 
-pub all_runs-first_try-requires : goal.all_runs-first_try-requires
-all_runs-first_try-requires t c =
+pub closures::all_runs-first_try-requires : goal.closures::all_runs-first_try-requires
+closures::all_runs-first_try-requires t c =
     (omega (arith, c.decreases), c.requires)
 
-pub all_runs-keep_loop-requires : goal.all_runs-keep_loop-requires
-all_runs-keep_loop-requires t c =
+pub closures::all_runs-keep_loop-requires : goal.closures::all_runs-keep_loop-requires
+closures::all_runs-keep_loop-requires t c =
     let counted : vec_len c.args.checker.now.loops ≡ length c.args.checker.now.loops.items = search rules in
     place_kept c.len-place.result c.args.checker.now.loops.items _ c.first_try.new.checker.loops.items c.in_ok-run.ensures.k.loops (c.len-place.ensures ∙ counted) c.in_ok-push.ensures.items c.in_ok-run.ensures.judged.gathered.loops
 
-pub all_runs-returns : goal.all_runs-returns
-all_runs-returns t c =
+pub closures::all_runs-returns : goal.closures::all_runs-returns
+closures::all_runs-returns t c =
     let counted : vec_len c.args.checker.now.loops ≡ length c.args.checker.now.loops.items = search rules in
     all_runs c.args.form (body_in c.args.closure.now c.args.kinds.now c.args.runs) c.len-place.result c.args.checker.now _ c.first_try.new.checker c.keep_loop.new.checker c.in_ok-run.run' refl refl refl refl refl (c.len-place.ensures ∙ counted) c.in_ok-push.ensures.items c.in_ok-run.ensures
     c.in_ok-keep_loop.ensures.loops c.in_ok-keep_loop.ensures.others
 
-pub first_try-one_try-requires : goal.first_try-one_try-requires
-first_try-one_try-requires t c =
+pub closures::first_try-one_try-requires : goal.closures::first_try-one_try-requires
+closures::first_try-one_try-requires t c =
     (omega (arith, c.decreases), c.requires)
 
-pub first_try-returns-in-Stable : goal.first_try-returns-in-Stable
-first_try-returns-in-Stable t c =
+pub closures::first_try-returns-in-Stable : goal.closures::first_try-returns-in-Stable
+closures::first_try-returns-in-Stable t c =
     last_try c.args.form (body_in c.args.closure.now c.args.kinds.now c.args.runs) first _ _ c.in-Stable.run' (as_stable c.args.form (body_in c.args.closure.now c.args.kinds.now c.args.runs) _ c.one_try.new.checker c.in_ok-attempt.attempt c.in-Stable.run' c.in-Stable.is c.in_ok-attempt.ensures)
 
-pub first_try-second_try-requires : goal.first_try-second_try-requires
-first_try-second_try-requires t c =
+pub closures::first_try-second_try-requires : goal.closures::first_try-second_try-requires
+closures::first_try-second_try-requires t c =
     let unstable = as_unstable c.args.form (body_in c.args.closure.now c.args.kinds.now c.args.runs) _ c.one_try.new.checker c.in_ok-attempt.attempt c.in-Unstable.behind c.in-Unstable.is c.in_ok-attempt.ensures in
     (omega (arith, c.decreases), (body_at c.args.checker.now c.one_try.new.checker c.args.closure.now c.args.kinds.now unstable.alike.patterns c.requires, unstable.behind_scopes ∙ sym unstable.alike.scopes))
 
-pub first_try-returns-in-Unstable : goal.first_try-returns-in-Unstable
-first_try-returns-in-Unstable t c =
+pub closures::first_try-returns-in-Unstable : goal.closures::first_try-returns-in-Unstable
+closures::first_try-returns-in-Unstable t c =
     IfOk-weaker c.second_try.result _ _
     (λ run are. tries_behind c.args.form (body_in c.args.closure.now c.args.kinds.now c.args.runs) c.args.checker.now c.one_try.new.checker c.second_try.new.checker c.in-Unstable.behind run (as_unstable c.args.form (body_in c.args.closure.now c.args.kinds.now c.args.runs) _ c.one_try.new.checker c.in_ok-attempt.attempt c.in-Unstable.behind c.in-Unstable.is c.in_ok-attempt.ensures) are)
     c.second_try.ensures
 
-pub second_try-widened-requires : goal.second_try-widened-requires
-second_try-widened-requires t c =
+pub closures::second_try-widened-requires : goal.closures::second_try-widened-requires
+closures::second_try-widened-requires t c =
     c.requires.behind
 
-pub second_try-one_try-requires : goal.second_try-one_try-requires
-second_try-one_try-requires t c =
+pub closures::second_try-one_try-requires : goal.closures::second_try-one_try-requires
+closures::second_try-one_try-requires t c =
     (omega (arith, c.decreases), body_at c.args.checker.now c.widened.new.self c.args.closure.now c.args.kinds.now c.widened.ensures.others.patterns c.requires.body)
 
-pub second_try-returns-in-Stable : goal.second_try-returns-in-Stable
-second_try-returns-in-Stable t c =
+pub closures::second_try-returns-in-Stable : goal.closures::second_try-returns-in-Stable
+closures::second_try-returns-in-Stable t c =
     let b = body_in c.args.closure.now c.args.kinds.now c.args.runs in
     second_stable c.args.form b c.args.behind.known c.args.checker.now c.widened.new.self _ c.in-Stable.run' c.widened.ensures.others (c.in_ok-widened.ensures.known b (sym c.in_ok-roots.ensures)) (as_stable c.args.form (body_in c.args.closure.now c.args.kinds.now c.args.runs) _ c.one_try.new.checker c.in_ok-attempt.attempt c.in-Stable.run' c.in-Stable.is c.in_ok-attempt.ensures)
 
-pub second_try-third_try-requires : goal.second_try-third_try-requires
-second_try-third_try-requires t c =
+pub closures::second_try-third_try-requires : goal.closures::second_try-third_try-requires
+closures::second_try-third_try-requires t c =
     let unstable = as_unstable c.args.form (body_in c.args.closure.now c.args.kinds.now c.args.runs) _ c.one_try.new.checker c.in_ok-attempt.attempt c.in-Unstable._behind c.in-Unstable.is c.in_ok-attempt.ensures in
     (omega (arith, c.decreases), (body_at c.args.checker.now c.one_try.new.checker c.args.closure.now c.args.kinds.now (unstable.alike.patterns ∙ c.widened.ensures.others.patterns) c.requires.body, c.in_ok-roots.ensures))
 
-pub second_try-returns : goal.second_try-returns
-second_try-returns t c =
+pub closures::second_try-returns : goal.closures::second_try-returns
+closures::second_try-returns t c =
     let b = body_in c.args.closure.now c.args.kinds.now c.args.runs in
     IfOk-weaker c.third_try.result _ _
     (λ run last. second_unstable c.args.form b c.args.behind.known _ c.args.checker.now c.widened.new.self c.one_try.new.checker c.third_try.new.checker run c.widened.ensures.others (c.in_ok-widened.ensures.known b (sym c.in_ok-roots.ensures)) (as_unstable c.args.form (body_in c.args.closure.now c.args.kinds.now c.args.runs) _ c.one_try.new.checker c.in_ok-attempt.attempt c.in-Unstable._behind c.in-Unstable.is c.in_ok-attempt.ensures) last)
     c.third_try.ensures
 
-pub third_try-one_try-requires : goal.third_try-one_try-requires
-third_try-one_try-requires t c =
+pub closures::third_try-one_try-requires : goal.closures::third_try-one_try-requires
+closures::third_try-one_try-requires t c =
     (omega (arith, c.decreases), body_at c.args.checker.now c.forgotten.new.self c.args.closure.now c.args.kinds.now c.forgotten.ensures.others.patterns c.requires.body)
 
-pub third_try-returns : goal.third_try-returns
-third_try-returns t c =
+pub closures::third_try-returns : goal.closures::third_try-returns
+closures::third_try-returns t c =
     let b = body_in c.args.closure.now c.args.kinds.now c.args.runs in
     third_stable c.args.form b c.args.checker.now c.forgotten.new.self _ c.in-Stable.run' c.forgotten.ensures.others (c.in_ok-forgotten.ensures.known b None (sym c.requires.roots)) (as_stable c.args.form (body_in c.args.closure.now c.args.kinds.now c.args.runs) _ c.one_try.new.checker c.in_ok-attempt.attempt c.in-Stable.run' c.in-Stable.is c.in_ok-attempt.ensures)
 
-pub third_try-unreachable-requires : goal.third_try-unreachable-requires
-third_try-unreachable-requires t c =
+pub closures::third_try-unreachable-requires : goal.closures::third_try-unreachable-requires
+closures::third_try-unreachable-requires t c =
     let b = body_in c.args.closure.now c.args.kinds.now c.args.runs in
     third_unstable c.third_tries_are_stable.ensures b c.args.checker.now c.forgotten.new.self _ _ c.requires.body.kinds c.have_root_kinds.ensures (c.in_ok-forgotten.ensures.known b None (sym c.requires.roots)) (as_unstable c.args.form (body_in c.args.closure.now c.args.kinds.now c.args.runs) _ c.one_try.new.checker c.in_ok-attempt.attempt c.in-Unstable._behind c.in-Unstable.is c.in_ok-attempt.ensures)
 
-pub one_try-body-requires : goal.one_try-body-requires
-one_try-body-requires t c =
+pub closures::one_try-body-requires : goal.closures::one_try-body-requires
+closures::one_try-body-requires t c =
     let same = c.go_on_if.ensures.others.patterns ∙ ap (λ x. x.patterns) c.here.ensures.checker in
     (omega (arith, c.decreases), body_at c.args.checker.now c.go_on_if.new.self c.args.closure.now c.args.kinds.now same c.requires)
 
-pub one_try-end_try-requires : goal.one_try-end_try-requires
-one_try-end_try-requires t c =
+pub closures::one_try-end_try-requires : goal.closures::one_try-end_try-requires
+closures::one_try-end_try-requires t c =
     let still = c.here.ensures.checker in
     let has = (c.in_ok-part.ensures c.args.runs).2 in
     ap (λ s. s.scopes) c.in_ok-start.ensures.branch ∙ ap (λ x. x.state.scopes) (sym still) ∙ sym c.go_on_if.ensures.others.scopes ∙ sym has.gathered.scopes
 
-pub one_try-returns : goal.one_try-returns
-one_try-returns t c =
+pub closures::one_try-returns : goal.closures::one_try-returns
+closures::one_try-returns t c =
     let b = body_in c.args.closure.now c.args.kinds.now c.args.runs in
     let still = c.here.ensures.checker in
     let known = c.go_on_if.ensures.known ∙ ap (λ x. if_state c.args.runs x.state.known) still in
     let moved = subst (λ x. IsMoved x c.go_on_if.new.self) still c.go_on_if.ensures.others in
     tried_judged c.args.form b c.args.checker.now c.go_on_if.new.self c.body.new.checker c.end_try.new.checker c.in_ok-start.start c.held-held.result c.in_ok-part.part c.end_try.result c.in_ok-start.ensures.branch known moved c.held-held.ensures (c.in_ok-part.ensures c.args.runs) c.end_try.ensures
 
-pub body-returns-then-is_dead : goal.body-returns-then-is_dead
-body-returns-then-is_dead t c =
+pub closures::body-returns-then-is_dead : goal.closures::body-returns-then-is_dead
+closures::body-returns-then-is_dead t c =
     IfOk-weaker c.pass_items.result _ _ (λ outcome has runs. body_passed (body_in c.args.closure.now c.args.kinds.now runs) _ _ outcome (c.is_dead.ensures.0 c.if-is_dead.true) has) c.pass_items.ensures
 
-pub body-enter_body-requires-clause-count : goal.body-enter_body-requires-clause-count
-body-enter_body-requires-clause-count t c = c.requires.count
+pub closures::body-enter_body-requires-clause-count : goal.closures::body-enter_body-requires-clause-count
+closures::body-enter_body-requires-clause-count t c = c.requires.count
 
-pub body-enter_body-requires-clause-kinds : goal.body-enter_body-requires-clause-kinds
-body-enter_body-requires-clause-kinds t c = c.requires.kinds
+pub closures::body-enter_body-requires-clause-kinds : goal.closures::body-enter_body-requires-clause-kinds
+closures::body-enter_body-requires-clause-kinds t c = c.requires.kinds
 
-pub body-block-requires : goal.body-block-requires
-body-block-requires t c =
+pub closures::body-block-requires : goal.closures::body-block-requires
+closures::body-block-requires t c =
     (omega (arith, c.decreases), items_at c.args.checker.now c.enter_body.new.self (closure_items c.args.closure.now) (ap (λ x. x.patterns) c.in_ok-enter_body.ensures.others) c.requires.items)
 
-pub body-end_body-requires : goal.body-end_body-requires
-body-end_body-requires t c =
+pub closures::body-end_body-requires : goal.closures::body-end_body-requires
+closures::body-end_body-requires t c =
     in_body (body_in c.args.closure.now c.args.kinds.now true) _ c.enter_body.new.self c.block.new.checker c.in_ok-part.part c.in_ok-enter_body.ensures c.in_ok-part.ensures
 
-pub body-returns : goal.body-returns
-body-returns t c runs =
+pub closures::body-returns : goal.closures::body-returns
+closures::body-returns t c runs =
     body_reached (body_in c.args.closure.now c.args.kinds.now runs) c.args.checker.now _ c.enter_body.new.self c.block.new.checker c.end_body.new.self _ c.in_ok-part.part c.in_ok-outcome.outcome (λ dead. true≢false (sym (c.is_dead.ensures.1 dead) ∙ c.if-is_dead.false)) refl c.in_ok-enter_body.ensures c.in_ok-part.ensures c.in_ok-outcome.ensures refl
 
 pub arguments-loop-arg-init : goal.arguments-loop-arg-init

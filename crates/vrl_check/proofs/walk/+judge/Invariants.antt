@@ -12,20 +12,20 @@ use Rattle.vrl_check.proofs.walk.+judge.Given as goal
 abbrev pub decreases-abort_with : goal.decreases-abort_with
 decreases-abort_with l = 16 * expr_size (expr_of l.message.now) + 1
 
-abbrev pub decreases-add_arm : goal.decreases-add_arm
-decreases-add_arm l = 16 * (expr_size (arm_of l.arm.now).0 + exprs_size (arm_of l.arm.now).1) + 5
+abbrev pub decreases-branches::add_arm : goal.decreases-branches::add_arm
+decreases-branches::add_arm l = 16 * (expr_size (arm_of l.arm.now).0 + exprs_size (arm_of l.arm.now).1) + 5
 
 abbrev pub decreases-array : goal.decreases-array
 decreases-array l = 16 * exprs_size (exprs_of l.exprs.now) + 1
 
-abbrev pub decreases-assignment : goal.decreases-assignment
-decreases-assignment l = 16 * expr_size (expr_of l.value.now) + 1
+abbrev pub decreases-assignments::assignment : goal.decreases-assignments::assignment
+decreases-assignments::assignment l = 16 * expr_size (expr_of l.value.now) + 1
 
-abbrev pub decreases-beside : goal.decreases-beside
-decreases-beside l = 16 * expr_size (expr_of l.right.now) + 1
+abbrev pub decreases-operators::beside : goal.decreases-operators::beside
+decreases-operators::beside l = 16 * expr_size (expr_of l.right.now) + 1
 
-abbrev pub decreases-binary : goal.decreases-binary
-decreases-binary l = 16 * (expr_size (expr_of l.left.now) + expr_size (expr_of l.right.now)) + 10
+abbrev pub decreases-operators::binary : goal.decreases-operators::binary
+decreases-operators::binary l = 16 * (expr_size (expr_of l.left.now) + expr_size (expr_of l.right.now)) + 10
 
 abbrev pub decreases-block : goal.decreases-block
 decreases-block l = 16 * exprs_size (exprs_of l.items.now) + 2
@@ -36,47 +36,47 @@ decreases-arguments l = 16 * args_size (args_of l.args.now) + 1
 abbrev pub decreases-call : goal.decreases-call
 decreases-call l = 16 * form_size (call_of l.call.now) + 11
 
-abbrev pub decreases-closure_call : goal.decreases-closure_call
-decreases-closure_call l = 16 * closure_size (call_closure l.call.now) + 10
+abbrev pub decreases-closures::closure_call : goal.decreases-closures::closure_call
+decreases-closures::closure_call l = 16 * closure_size (call_closure l.call.now) + 10
 
-abbrev pub decreases-iterated : goal.decreases-iterated
-decreases-iterated l = 16 * exprs_size (closure_items l.closure.now) + 9
+abbrev pub decreases-closures::iterated : goal.decreases-closures::iterated
+decreases-closures::iterated l = 16 * exprs_size (closure_items l.closure.now) + 9
 
-abbrev pub decreases-all_runs : goal.decreases-all_runs
-decreases-all_runs l = 16 * exprs_size (closure_items l.closure.now) + 8
+abbrev pub decreases-closures::all_runs : goal.decreases-closures::all_runs
+decreases-closures::all_runs l = 16 * exprs_size (closure_items l.closure.now) + 8
 
-abbrev pub decreases-first_try : goal.decreases-first_try
-decreases-first_try l = 16 * exprs_size (closure_items l.closure.now) + 7
+abbrev pub decreases-closures::first_try : goal.decreases-closures::first_try
+decreases-closures::first_try l = 16 * exprs_size (closure_items l.closure.now) + 7
 
-abbrev pub decreases-second_try : goal.decreases-second_try
-decreases-second_try l = 16 * exprs_size (closure_items l.closure.now) + 6
+abbrev pub decreases-closures::second_try : goal.decreases-closures::second_try
+decreases-closures::second_try l = 16 * exprs_size (closure_items l.closure.now) + 6
 
-abbrev pub decreases-third_try : goal.decreases-third_try
-decreases-third_try l = 16 * exprs_size (closure_items l.closure.now) + 5
+abbrev pub decreases-closures::third_try : goal.decreases-closures::third_try
+decreases-closures::third_try l = 16 * exprs_size (closure_items l.closure.now) + 5
 
-abbrev pub decreases-one_try : goal.decreases-one_try
-decreases-one_try l = 16 * exprs_size (closure_items l.closure.now) + 4
+abbrev pub decreases-closures::one_try : goal.decreases-closures::one_try
+decreases-closures::one_try l = 16 * exprs_size (closure_items l.closure.now) + 4
 
-abbrev pub decreases-body : goal.decreases-body
-decreases-body l = 16 * exprs_size (closure_items l.closure.now) + 3
+abbrev pub decreases-closures::body : goal.decreases-closures::body
+decreases-closures::body l = 16 * exprs_size (closure_items l.closure.now) + 3
 
-abbrev pub decreases-coalescing : goal.decreases-coalescing
-decreases-coalescing l = 16 * (expr_size (expr_of l.left.now) + expr_size (expr_of l.right.now)) + 5
+abbrev pub decreases-branches::coalescing : goal.decreases-branches::coalescing
+decreases-branches::coalescing l = 16 * (expr_size (expr_of l.left.now) + expr_size (expr_of l.right.now)) + 5
 
-abbrev pub decreases-conditional : goal.decreases-conditional
-decreases-conditional l = 16 * (arms_size (arms_of l.arms.now) + else_size (else_of (option_map exprs_of l.otherwise.now))) + 6
+abbrev pub decreases-branches::conditional : goal.decreases-branches::conditional
+decreases-branches::conditional l = 16 * (arms_size (arms_of l.arms.now) + else_size (else_of (option_map exprs_of l.otherwise.now))) + 6
 
-abbrev pub decreases-conjunction : goal.decreases-conjunction
-decreases-conjunction l = 16 * (expr_size (expr_of l.left.now) + expr_size (expr_of l.right.now)) + 5
+abbrev pub decreases-branches::conjunction : goal.decreases-branches::conjunction
+decreases-branches::conjunction l = 16 * (expr_size (expr_of l.left.now) + expr_size (expr_of l.right.now)) + 5
 
-abbrev pub decreases-disjunction : goal.decreases-disjunction
-decreases-disjunction l = 16 * (expr_size (expr_of l.left.now) + expr_size (expr_of l.right.now)) + 5
+abbrev pub decreases-branches::disjunction : goal.decreases-branches::disjunction
+decreases-branches::disjunction l = 16 * (expr_size (expr_of l.left.now) + expr_size (expr_of l.right.now)) + 5
 
-abbrev pub decreases-equality : goal.decreases-equality
-decreases-equality l = 16 * (expr_size (expr_of l.left.now) + expr_size (expr_of l.right.now)) + 5
+abbrev pub decreases-operators::equality : goal.decreases-operators::equality
+decreases-operators::equality l = 16 * (expr_size (expr_of l.left.now) + expr_size (expr_of l.right.now)) + 5
 
-abbrev pub decreases-error_assignment : goal.decreases-error_assignment
-decreases-error_assignment l = 16 * expr_size (expr_of l.value.now) + 1
+abbrev pub decreases-assignments::error_assignment : goal.decreases-assignments::error_assignment
+decreases-assignments::error_assignment l = 16 * expr_size (expr_of l.value.now) + 1
 
 abbrev pub decreases-expr : goal.decreases-expr
 decreases-expr l = 16 * expr_size (expr_of l.expr.now)
@@ -84,29 +84,29 @@ decreases-expr l = 16 * expr_size (expr_of l.expr.now)
 abbrev pub decreases-form : goal.decreases-form
 decreases-form l = 16 * form_size (form_of l.form.now) + 15
 
-abbrev pub decreases-merge : goal.decreases-merge
-decreases-merge l = 16 * (expr_size (expr_of l.left.now) + expr_size (expr_of l.right.now)) + 5
+abbrev pub decreases-operators::merge : goal.decreases-operators::merge
+decreases-operators::merge l = 16 * (expr_size (expr_of l.left.now) + expr_size (expr_of l.right.now)) + 5
 
-abbrev pub decreases-merge_assignment : goal.decreases-merge_assignment
-decreases-merge_assignment l = 16 * expr_size (expr_of l.value.now) + 5
+abbrev pub decreases-assignments::merge_assignment : goal.decreases-assignments::merge_assignment
+decreases-assignments::merge_assignment l = 16 * expr_size (expr_of l.value.now) + 5
 
-abbrev pub decreases-merge_into : goal.decreases-merge_into
-decreases-merge_into l = 16 * expr_size (expr_of l.value.now) + 3
+abbrev pub decreases-operators::merge_into : goal.decreases-operators::merge_into
+decreases-operators::merge_into l = 16 * expr_size (expr_of l.value.now) + 3
 
-abbrev pub decreases-negation : goal.decreases-negation
-decreases-negation l = 16 * expr_size (expr_of l.inner.now) + 1
+abbrev pub decreases-operators::negation : goal.decreases-operators::negation
+decreases-operators::negation l = 16 * expr_size (expr_of l.inner.now) + 1
 
 abbrev pub decreases-object : goal.decreases-object
 decreases-object l = 16 * pairs_size (pairs_of l.pairs.now) + 1
 
-abbrev pub decreases-of_table : goal.decreases-of_table
-decreases-of_table l = 16 * (expr_size (expr_of l.left.now) + expr_size (expr_of l.right.now)) + 5
+abbrev pub decreases-operators::of_table : goal.decreases-operators::of_table
+decreases-operators::of_table l = 16 * (expr_size (expr_of l.left.now) + expr_size (expr_of l.right.now)) + 5
 
-abbrev pub decreases-operands : goal.decreases-operands
-decreases-operands l = 16 * (expr_size (expr_of l.left.now) + expr_size (expr_of l.right.now)) + 4
+abbrev pub decreases-operators::operands : goal.decreases-operators::operands
+decreases-operators::operands l = 16 * (expr_size (expr_of l.left.now) + expr_size (expr_of l.right.now)) + 4
 
-abbrev pub decreases-last_way : goal.decreases-last_way
-decreases-last_way l = 16 * else_size (else_of (option_map exprs_of l.otherwise.now)) + 3
+abbrev pub decreases-branches::last_way : goal.decreases-branches::last_way
+decreases-branches::last_way l = 16 * else_size (else_of (option_map exprs_of l.otherwise.now)) + 3
 
 abbrev pub decreases-query : goal.decreases-query
 decreases-query l = 16 * expr_size (expr_of l.inner.now) + 1
@@ -130,8 +130,8 @@ abbrev pub invariant-sequence-loop-item : goal.invariant-sequence-loop-item
 invariant-sequence-loop-item l = IsSequencePartway l.initial.checker l.checker (exprs_of l.items) (exprs_view (drop l.item-index l.item-items)) l.last
 
 -- what the arms that are left give from here, all of them give from the start
-abbrev pub invariant-conditional-loop-arm : goal.invariant-conditional-loop-arm
-invariant-conditional-loop-arm l = AreJudged (arms_of l.arms) (else_of (option_map exprs_of l.otherwise)) (arms_view (drop l.arm-index l.arm-items)) l.initial.checker l.checker l.ways
+abbrev pub invariant-branches::conditional-loop-arm : goal.invariant-branches::conditional-loop-arm
+invariant-branches::conditional-loop-arm l = AreJudged (arms_of l.arms) (else_of (option_map exprs_of l.otherwise)) (arms_view (drop l.arm-index l.arm-items)) l.initial.checker l.checker l.ways
 
 -- what is judged of the arguments that are left, behind those so far, is judged of all
 abbrev pub invariant-arguments-loop-arg : goal.invariant-arguments-loop-arg

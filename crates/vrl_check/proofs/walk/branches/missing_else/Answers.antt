@@ -3,7 +3,7 @@ use Rattle.std.proofs.Common.{subst}
 use Rattle.vrl_judge.specs.Judging.{no_ends, IsSettledAs}
 use Rattle.vrl_check.proofs.Between.{else_missing}
 use Rattle.vrl_check.proofs.Forms.{outcome_is}
-use Rattle.vrl_check.proofs.walk.missing_else.Goals as goal
+use Rattle.vrl_check.proofs.walk.branches.missing_else.Goals as goal
 
 pub returns : goal.returns
 returns c = IfOk-weaker c.settled.result _ _ (λ last settles. else_missing c.args.checker.now c.in_ok-kind.kind last c.in_ok-kind.ensures
