@@ -1,5 +1,6 @@
 pub mod ApartParts
 pub mod Compiling
+pub mod CountedParts
 pub mod Determined
 pub mod MalformedLiterals
 pub mod PassingWords

@@ -1,39 +1,36 @@
-ghost use Rattle.std.specs.Prelude.{◌≡◌, ◌++◌, ◌∷◌, [], length, map, true, IfOk, IfSome};
-ghost use Rattle.vrl_value.specs.Tree.{array as array_tree, null, object as object_tree};
-ghost use Rattle.vrl_value.specs.View.{items_of, members_of, tree_of};
+ghost use Rattle.std.specs.Prelude.{◌≡◌, [], length, map, IfOk, IfSome};
+ghost use Rattle.vrl_value.specs.Tree.{null};
+ghost use Rattle.vrl_value.specs.View.{tree_of};
 ghost use Rattle.vrl_syntax.specs.declared.root.Op.TheVariants as ops;
-ghost use Rattle.vrl_binding.specs.Binding.{collection_parameters};
 ghost use Rattle.vrl_store.specs.Operators.{applied};
 ghost use Rattle.vrl_store.specs.Outcomes.{ends, on_value};
-ghost use Rattle.vrl_store.specs.WellFormed.{AreWellFormed, IsWellFormed};
-ghost use Rattle.vrl_resolve.specs.Calls as called;
-ghost use Rattle.vrl_resolve.specs.Calls.{acts, first_unfit, items_in, iterated};
-ghost use Rattle.vrl_resolve.specs.Iterating.{body_in, bound_values, bound_variables, takes_arrays};
+ghost use Rattle.vrl_resolve.specs.Calls.{acts, items_in};
 ghost use Rattle.vrl_resolve.specs.Linked as linked;
-ghost use Rattle.vrl_resolve.specs.Linked.{arms_view, call_of, else_view, iteration_of, linked_of, message_view, pairs_view, parts_view};
-ghost use Rattle.vrl_resolve.specs.LinkedMeaning.{all_mean, body_means, callee_in, form_in, items_mean, means, no_body, slots_in};
+ghost use Rattle.vrl_resolve.specs.Linked.{arms_view, call_of, else_view, linked_of, message_view, pairs_view, parts_view};
+ghost use Rattle.vrl_resolve.specs.LinkedMeaning.{all_mean, callee_in, items_mean, means, no_body};
 ghost use Rattle.vrl_resolve.specs.Meaning.{both_sides};
-ghost use Rattle.vrl_resolve.specs.Fits.{AreKnownSlots, IsCallee, IsKnownSlot, IsTarget};
-ghost use Rattle.vrl_resolve.specs.Walking.{meant, names_in, setting_in, store_at, AllEnd, AllFitIn, ArmsFitIn, ElseFitsIn, EndsIn, EndsTrue, FitsIn, GivesBoth, IsReadyStore, MessageFitsIn, PairsFitIn, Stays};
+ghost use Rattle.vrl_resolve.specs.Fits.{IsCallee};
+ghost use Rattle.vrl_resolve.specs.Walking.{meant, names_in, setting_in, store_at, AllEnd, AllFitIn, ArmsFitIn, ElseFitsIn, EndsIn, EndsTrue, FitsIn, IsReadyStore, MessageFitsIn, PairsFitIn, Stays};
+
+mod assignments;
+mod closures;
 
 use crate::calls::{act, peek, run_before};
-use crate::iteration::{
-    Bindings, bind, field_bindings, finish_fields, finish_items, first_of, item_bindings,
-    no_fields, push_item, put_field, refuse, takes_arrays, unbind, values_in,
-};
 use crate::laws::meanings_stay_well_formed;
-use crate::node::{Arm, Call, Callee, Form, Iteration, Loop, Node};
-use crate::steps::{aborted, asked_copy, at_target, both_values, part_of, write_to};
+use crate::node::{Arm, Call, Callee, Form, Node};
+use crate::steps::{aborted, part_of};
+use crate::walk::assignments::{assign, both, merge};
+use crate::walk::closures::iteration;
 use std::alloc::Global;
 use std::collections::BTreeMap;
 use vrl_builtin::Setting;
 use vrl_path::Path;
 use vrl_store::{
-    Operand, Place, Stop, Store, apply, apply_to_borrowed, banged, is_falsy, is_true, negated,
-    truth, unless_error,
+    Operand, Stop, Store, apply, apply_to_borrowed, banged, is_falsy, is_true, negated, truth,
+    unless_error,
 };
 use vrl_syntax::Op;
-use vrl_value::{Chars, Fields, Items, Names, Tag, Value};
+use vrl_value::{Chars, Fields, Items, Names, Value};
 
 /// What stays the same while a script runs over an event.
 #[derive(Clone, Copy)]
@@ -378,89 +375,6 @@ fn conjunction(
 }
 
 #[cycle(walk)]
-fn assign(
-    store: &mut Store,
-    context: &Context<'_>,
-    is_asked: bool,
-    target: &Option<Place>,
-    part: &Node,
-) -> Result<Value, Stop>
-    requires ready { IsReadyStore context.now store.old }
-    requires target { IsTarget (length (names_in context.now)) target.now }
-    requires fits { FitsIn context.now (linked_of part.now) }
-    ensures ended { EndsIn context.now (meant context.now (linked.assign is_asked target.now (linked_of part.now)) store.old) store.new result }
-    ensures stays { Stays store.old store.new }
-{
-    let value = eval(store, context, part)?;
-    let copy = asked_copy(context.alloc, is_asked, &value)?;
-    write_to(store, context, target, value)?;
-    Ok(copy)
-}
-
-// Writes the value at a target, null where it takes nothing, with the fields of another one over it.
-#[cycle(walk)]
-fn merge(
-    store: &mut Store,
-    context: &Context<'_>,
-    is_asked: bool,
-    target: &Option<Place>,
-    part: &Node,
-) -> Result<Value, Stop>
-    requires ready { IsReadyStore context.now store.old }
-    requires target { IsTarget (length (names_in context.now)) target.now }
-    requires fits { FitsIn context.now (linked_of part.now) }
-    ensures ended { EndsIn context.now (meant context.now (linked.merge is_asked target.now (linked_of part.now)) store.old) store.new result }
-    ensures stays { Stays store.old store.new }
-{
-    let current = at_target(store, context, target)?;
-    let value = beside(store, context, Op::Merge, current, part)?;
-    let copy = asked_copy(context.alloc, is_asked, &value)?;
-    write_to(store, context, target, value)?;
-    Ok(copy)
-}
-
-// The values that an error assignment writes: the value and null, or at an error the empty value and the text.
-#[cycle(walk)]
-fn outcome(
-    store: &mut Store,
-    context: &Context<'_>,
-    tag: Tag,
-    part: &Node,
-) -> Result<(Value, Value), Stop>
-    requires ready { IsReadyStore context.now store.old }
-    requires fits { FitsIn context.now (linked_of part.now) }
-    ensures ended { GivesBoth tag (meant context.now (linked_of part.now) store.old) (store_at context.now store.new) result }
-    ensures stays { Stays store.old store.new }
-{
-    let given = eval(store, context, part);
-    both_values(context.alloc, tag, given)
-}
-
-#[cycle(walk)]
-fn both(
-    store: &mut Store,
-    context: &Context<'_>,
-    is_asked: bool,
-    ok: &Option<Place>,
-    err: &Option<Place>,
-    tag: Tag,
-    part: &Node,
-) -> Result<Value, Stop>
-    requires ready { IsReadyStore context.now store.old }
-    requires ok { IsTarget (length (names_in context.now)) ok.now }
-    requires err { IsTarget (length (names_in context.now)) err.now }
-    requires fits { FitsIn context.now (linked_of part.now) }
-    ensures ended { EndsIn context.now (meant context.now (linked.both is_asked ok.now err.now tag (linked_of part.now)) store.old) store.new result }
-    ensures stays { Stays store.old store.new }
-{
-    let (value, error) = outcome(store, context, tag, part)?;
-    let copy = asked_copy(context.alloc, is_asked, &value)?;
-    write_to(store, context, ok, value)?;
-    write_to(store, context, err, error)?;
-    Ok(copy)
-}
-
-#[cycle(walk)]
 fn call(store: &mut Store, context: &Context<'_>, call: &Call) -> Result<Value, Stop>
     requires ready { IsReadyStore context.now store.old }
     requires fits { FitsIn context.now (call_of call.now) }
@@ -491,183 +405,6 @@ fn answer(
     let count = run_before(args);
     let run = values(store, context, &args[..count])?;
     act(store, context, callee, run, args)
-}
-
-// A call that runs a closure.
-#[cycle(walk)]
-fn iteration(store: &mut Store, context: &Context<'_>, iteration: &Iteration) -> Result<Value, Stop>
-    requires ready { IsReadyStore context.now store.old }
-    requires fits { FitsIn context.now (iteration_of iteration.now) }
-    ensures ended { EndsIn context.now (meant context.now (iteration_of iteration.now) store.old) store.new result }
-    ensures stays { Stays store.old store.new }
-{
-    let value = iterate(
-        store,
-        context,
-        iteration.function,
-        &iteration.args,
-        &iteration.body,
-    );
-    if iteration.bang {
-        return banged(value);
-    }
-    value
-}
-
-#[cycle(walk)]
-fn iterate(
-    store: &mut Store,
-    context: &Context<'_>,
-    function: Loop,
-    args: &[Node],
-    body: &[Node],
-) -> Result<Value, Stop>
-    requires ready { IsReadyStore context.now store.old }
-    requires slots { AreKnownSlots (length (names_in context.now)) (slots_in function) }
-    requires args { AllFitIn context.now (parts_view args.now) }
-    requires body { AllFitIn context.now (parts_view body.now) }
-    ensures ended { EndsIn context.now (on_value (all_mean (names_in context.now) (setting_in context.now) (parts_view args.now) [] (store_at context.now store.old)) (λ vs after. acts (setting_in context.now) (called.iteration (form_in function)) (body_in context.now function (parts_view body.now)) (items_in vs) after)) store.new result }
-    ensures stays { Stays store.old store.new }
-{
-    meanings_stay_well_formed();
-    let run = values(store, context, args)?;
-    match first_of(run) {
-        Some(collection) => over(store, context, function, collection, body),
-        None => Ok(Value::Null),
-    }
-}
-
-// The runs of a closure for the parts of a collection, and what is made of them.
-#[cycle(walk)]
-fn over(
-    store: &mut Store,
-    context: &Context<'_>,
-    function: Loop,
-    collection: Value,
-    body: &[Node],
-) -> Result<Value, Stop>
-    requires ready { IsReadyStore context.now store.old }
-    requires slots { AreKnownSlots (length (names_in context.now)) (slots_in function) }
-    requires fits { AllFitIn context.now (parts_view body.now) }
-    requires formed { IsWellFormed (length (setting_in context.now).sources) (tree_of collection) }
-    ensures ended { EndsIn context.now (iterated (form_in function) (body_in context.now function (parts_view body.now)) (tree_of collection) (first_unfit 0 (collection_parameters (form_in function)) (Some (tree_of collection) ∷ [])) (store_at context.now store.old)) store.new result }
-    ensures stays { Stays store.old store.new }
-{
-    match collection {
-        Value::List(items) => {
-            if !takes_arrays(function) {
-                return refuse(context.alloc, function, Tag::List);
-            }
-            over_items(store, context, function, items, body)
-        }
-        Value::Object(fields) => over_fields(store, context, function, fields, body),
-        other => refuse(context.alloc, function, other.tag()),
-    }
-}
-
-#[cycle(walk)]
-fn over_items(
-    store: &mut Store,
-    context: &Context<'_>,
-    function: Loop,
-    items: Items,
-    body: &[Node],
-) -> Result<Value, Stop>
-    requires ready { IsReadyStore context.now store.old }
-    requires slots { AreKnownSlots (length (names_in context.now)) (slots_in function) }
-    requires fits { AllFitIn context.now (parts_view body.now) }
-    requires takes { takes_arrays function ≡ true }
-    requires formed { IsWellFormed (length (setting_in context.now).sources) (array_tree (items_of items)) }
-    ensures ended { EndsIn context.now (iterated (form_in function) (body_in context.now function (parts_view body.now)) (array_tree (items_of items)) None (store_at context.now store.old)) store.new result }
-    ensures stays { Stays store.old store.new }
-{
-    meanings_stay_well_formed();
-    let mut made = Vec::new(context.alloc);
-    let mut place = 0;
-    let items = values_in(items);
-    for item in items {
-        let (bindings, held) = item_bindings(context.alloc, function, place, item)?;
-        let given = run(store, context, bindings, body)?;
-        push_item(function, &mut made, held, given)?;
-        place += 1;
-    }
-    finish_items(function, made)
-}
-
-#[cycle(walk)]
-fn over_fields(
-    store: &mut Store,
-    context: &Context<'_>,
-    function: Loop,
-    fields: Fields,
-    body: &[Node],
-) -> Result<Value, Stop>
-    requires ready { IsReadyStore context.now store.old }
-    requires slots { AreKnownSlots (length (names_in context.now)) (slots_in function) }
-    requires fits { AllFitIn context.now (parts_view body.now) }
-    requires formed { IsWellFormed (length (setting_in context.now).sources) (object_tree (members_of fields)) }
-    ensures ended { EndsIn context.now (iterated (form_in function) (body_in context.now function (parts_view body.now)) (object_tree (members_of fields)) None (store_at context.now store.old)) store.new result }
-    ensures stays { Stays store.old store.new }
-{
-    meanings_stay_well_formed();
-    let mut made = no_fields(context.alloc);
-    for (name, part) in fields.into_map() {
-        let (bindings, held) = field_bindings(context.alloc, function, Chars::new(name), part)?;
-        let given = run(store, context, bindings, body)?;
-        put_field(&mut made, held, given)?;
-    }
-    finish_fields(context.alloc, function, made)
-}
-
-// Items with variables bound to values. Behind them, by whatever end, only those that were there before are there, and those that were bound
-// have the values that they had.
-#[cycle(walk)]
-fn run(
-    store: &mut Store,
-    context: &Context<'_>,
-    bindings: Bindings,
-    body: &[Node],
-) -> Result<Value, Stop>
-    requires ready { IsReadyStore context.now store.old }
-    requires slots { AreKnownSlots (length (names_in context.now)) (bound_variables bindings) }
-    requires values { AreWellFormed (length (setting_in context.now).sources) (bound_values bindings) }
-    requires fits { AllFitIn context.now (parts_view body.now) }
-    ensures ended { EndsIn context.now (body_means (names_in context.now) (setting_in context.now) (bound_variables bindings) (parts_view body.now) (bound_values bindings) (store_at context.now store.old)) store.new result }
-    ensures stays { Stays store.old store.new }
-{
-    match bindings {
-        Bindings::One(slot, value) => run_with(store, context, slot, value, body),
-        Bindings::Two(first, key, second, value) => {
-            let count = store.count();
-            let hidden = bind(store, first, key)?;
-            let given = run_with(store, context, second, value, body);
-            unbind(store, count, first, hidden);
-            given
-        }
-    }
-}
-
-// The same with one variable.
-#[cycle(walk)]
-fn run_with(
-    store: &mut Store,
-    context: &Context<'_>,
-    slot: Option<usize>,
-    value: Value,
-    body: &[Node],
-) -> Result<Value, Stop>
-    requires ready { IsReadyStore context.now store.old }
-    requires slot { IsKnownSlot (length (names_in context.now)) slot }
-    requires value { IsWellFormed (length (setting_in context.now).sources) (tree_of value) }
-    requires fits { AllFitIn context.now (parts_view body.now) }
-    ensures ended { EndsIn context.now (body_means (names_in context.now) (setting_in context.now) (slot ∷ []) (parts_view body.now) (tree_of value ∷ []) (store_at context.now store.old)) store.new result }
-    ensures stays { Stays store.old store.new }
-{
-    let count = store.count();
-    let hidden = bind(store, slot, value)?;
-    let given = items(store, context, body);
-    unbind(store, count, slot, hidden);
-    given
 }
 
 #[cycle(walk)]

@@ -93,26 +93,6 @@ pub array-values-requires : goal.array-values-requires
 array-values-requires t c =
     (omega (arith, c.decreases), (c.requires.ready, c.requires.fits))
 
-pub assign-eval-requires : goal.assign-eval-requires
-assign-eval-requires t c =
-    (omega (arith, c.decreases), (c.requires.ready, c.requires.fits))
-
-pub assign-returns-in_err-write_to-clause-ended : goal.assign-returns-in_err-write_to-clause-ended
-assign-returns-in_err-write_to-clause-ended t c =
-    let x = c.args.context.now in
-    let after = c.eval.new.store in
-    let are = names_after (names_in x) c.args.store.now after c.requires.ready.names c.in_ok-value.ensures.stays in
-    let told : Stops (meant x (assign c.args.is_asked c.args.target.now (linked_of c.args.part.now)) c.args.store.now) (store_at x c.write_to.new.store) c.in_err-write_to.field-0.0 =
-    assigned_stops c.args.is_asked (target_of (names_in x) c.args.target.now) (meant x (linked_of c.args.part.now) c.args.store.now) (tree_of c.in_ok-value.value) (store_at x after) (store_at x c.write_to.new.store) c.in_err-write_to.field-0.0 c.in_ok-value.ensures.ended (c.in_err-write_to.ensures.written (names_in x) are) in
-    search rules
-
-pub assign-returns-clause-ended : goal.assign-returns-clause-ended
-assign-returns-clause-ended t c =
-    let x = c.args.context.now in
-    let after = c.eval.new.store in
-    let are = names_after (names_in x) c.args.store.now after c.requires.ready.names c.in_ok-value.ensures.stays in
-    assigned_ends c.args.is_asked (target_of (names_in x) c.args.target.now) (meant x (linked_of c.args.part.now) c.args.store.now) (tree_of c.in_ok-value.value) (tree_of c.in_ok-copy.copy) (store_at x after) (store_at x c.write_to.new.store) c.in_ok-value.ensures.ended c.in_ok-copy.ensures (c.in_ok-write_to.ensures.written (names_in x) are)
-
 pub beside-eval-requires : goal.beside-eval-requires
 beside-eval-requires t c =
     (omega (arith, c.decreases), (c.requires.ready, c.requires.fits))
@@ -176,53 +156,6 @@ block-returns-clause-ended t c =
     let left = c.leave.ensures.left (names_in x) (names_after (names_in x) before middle c.requires.ready.names c.items-value.ensures.stays) in
     let store = block_store x before middle c.leave.new.self c.count-count.result c.requires.ready c.items-value.ensures.stays c.count-count.ensures left in
     subst (λ s. Ends (block_left (store_at x before) m) s c.items-value.result) store (block_ends (store_at x before) m (store_at x middle) c.items-value.result c.items-value.ensures.ended)
-
-pub both-outcome-requires : goal.both-outcome-requires
-both-outcome-requires t c =
-    (omega (arith, c.decreases), (c.requires.ready, c.requires.fits))
-
-pub both-returns-in_err-value-clause-ended : goal.both-returns-in_err-value-clause-ended
-both-returns-in_err-value-clause-ended t c =
-    let x = c.args.context.now in
-    let T = target_of (names_in x) c.args.ok.now in
-    let U = target_of (names_in x) c.args.err.now in
-    let given = meant x (linked_of c.args.part.now) c.args.store.now in
-    let told : Stops (meant x (both c.args.is_asked c.args.ok.now c.args.err.now c.args.tag (linked_of c.args.part.now)) c.args.store.now) (store_at x c.outcome.new.store) c.in_err-value.field-0.0 =
-    asked_stops c.args.is_asked (both_assigned T U c.args.tag given.outcome given.store) (store_at x c.outcome.new.store) c.in_err-value.field-0.0 (c.in_err-value.ensures.ended T U) in
-    search rules
-
-pub both-returns-in_err-write_to-2-clause-ended : goal.both-returns-in_err-write_to-2-clause-ended
-both-returns-in_err-write_to-2-clause-ended t c =
-    let x = c.args.context.now in
-    let T = target_of (names_in x) c.args.ok.now in
-    let U = target_of (names_in x) c.args.err.now in
-    let given = meant x (linked_of c.args.part.now) c.args.store.now in
-    let are = names_after (names_in x) c.args.store.now c.outcome.new.store c.requires.ready.names c.in_ok-value.ensures.stays in
-    let are_then = names_after (names_in x) c.outcome.new.store c.write_to.new.store are c.in_ok-write_to.ensures.stays in
-    let told : Stops (meant x (both c.args.is_asked c.args.ok.now c.args.err.now c.args.tag (linked_of c.args.part.now)) c.args.store.now) (store_at x c.write_to-2.new.store) c.in_err-write_to-2.field-0.0 =
-    second_stops c.args.is_asked T U (both_assigned T U c.args.tag given.outcome given.store) (tree_of c.in_ok-value.value) (tree_of c.in_ok-value.error) (store_at x c.outcome.new.store) (store_at x c.write_to.new.store) (store_at x c.write_to-2.new.store) c.in_err-write_to-2.field-0.0 (c.in_ok-value.ensures.ended T U) (c.in_ok-write_to.ensures.written (names_in x) are) (c.in_err-write_to-2.ensures.written (names_in x) are_then) in
-    search rules
-
-pub both-returns-in_err-write_to-clause-ended : goal.both-returns-in_err-write_to-clause-ended
-both-returns-in_err-write_to-clause-ended t c =
-    let x = c.args.context.now in
-    let T = target_of (names_in x) c.args.ok.now in
-    let U = target_of (names_in x) c.args.err.now in
-    let given = meant x (linked_of c.args.part.now) c.args.store.now in
-    let are = names_after (names_in x) c.args.store.now c.outcome.new.store c.requires.ready.names c.in_ok-value.ensures.stays in
-    let told : Stops (meant x (both c.args.is_asked c.args.ok.now c.args.err.now c.args.tag (linked_of c.args.part.now)) c.args.store.now) (store_at x c.write_to.new.store) c.in_err-write_to.field-0.0 =
-    first_stops c.args.is_asked T U (both_assigned T U c.args.tag given.outcome given.store) (tree_of c.in_ok-value.value) (tree_of c.in_ok-value.error) (store_at x c.outcome.new.store) (store_at x c.write_to.new.store) c.in_err-write_to.field-0.0 (c.in_ok-value.ensures.ended T U) (c.in_err-write_to.ensures.written (names_in x) are) in
-    search rules
-
-pub both-returns-clause-ended : goal.both-returns-clause-ended
-both-returns-clause-ended t c =
-    let x = c.args.context.now in
-    let T = target_of (names_in x) c.args.ok.now in
-    let U = target_of (names_in x) c.args.err.now in
-    let given = meant x (linked_of c.args.part.now) c.args.store.now in
-    let are = names_after (names_in x) c.args.store.now c.outcome.new.store c.requires.ready.names c.in_ok-value.ensures.stays in
-    let are_then = names_after (names_in x) c.outcome.new.store c.write_to.new.store are c.in_ok-write_to.ensures.stays in
-    both_end c.args.is_asked T U (both_assigned T U c.args.tag given.outcome given.store) (tree_of c.in_ok-value.value) (tree_of c.in_ok-value.error) (tree_of c.in_ok-copy.copy) (store_at x c.outcome.new.store) (store_at x c.write_to.new.store) (store_at x c.write_to-2.new.store) (c.in_ok-value.ensures.ended T U) c.in_ok-copy.ensures (c.in_ok-write_to.ensures.written (names_in x) are) (c.in_ok-write_to-2.ensures.written (names_in x) are_then)
 
 pub call-answer-value-requires : goal.call-answer-value-requires
 call-answer-value-requires t c =
@@ -551,14 +484,6 @@ eval-returns-in_ok-copy-in-Read-clause-ended t c =
     let is : linked_of c.args.node.now ≡ read c.in-Read.place = search (rules, the_lemmas) in
     ap (λ n. meant x n c.args.store.now) is ∙ ap (λ v. ends (value v) (store_at x c.args.store.now)) (sym (c.in_ok-copy-in-Read.ensures.equal ∙ c.read.ensures (names_in x) c.requires.ready.names))
 
-pub give_back-eval-requires : goal.give_back-eval-requires
-give_back-eval-requires t c =
-    (omega (arith, c.decreases), (c.requires.ready, c.requires.fits))
-
-pub holds-eval-requires : goal.holds-eval-requires
-holds-eval-requires t c =
-    (omega (arith, c.decreases), (c.requires.ready, c.requires.fits))
-
 pub eval-iteration-requires : goal.eval-iteration-requires
 eval-iteration-requires t c =
     let is = of_boxed (linked_of c.args.node.now) (λ n. iteration_of n) c.deref-in-Iteration.result.now c.in-Iteration.called.value (search rules) (search (rules, the_lemmas)) in
@@ -571,85 +496,13 @@ eval-returns-in-Iteration-clause-ended t c =
     let x = c.args.context.now in
     subst (λ n. Ends (meant x n c.args.store.now) (store_at x c.iteration.new.store) c.iteration.result) (sym is) c.iteration.ensures.ended
 
-pub iterate-over-requires : goal.iterate-over-requires
-iterate-over-requires t c =
-    let x = c.args.context.now in
-    let law = c.meanings_stay_well_formed.ensures in
-    let run = c.in_ok-run.run'.items in
-    let found : item_at 0 (items_of_trees (map tree_of run)) ≡ Some (tree_of c.in-Some.collection) = sym c.first_of.ensures ∙ ap (option_map tree_of) c.in-Some.is in (
-      omega (arith, c.decreases),
-      (
-        args_ready law x c.args.args.now c.args.store.now c.values.new.store run c.requires.args c.requires.ready c.in_ok-run.ensures.stays c.in_ok-run.ensures.ended,
-        (c.requires.slots, (c.requires.body, collection_formed law x c.args.args.now c.args.store.now c.values.new.store run (tree_of c.in-Some.collection) c.requires.args c.requires.ready c.in_ok-run.ensures.ended found)),
-      ),
-    )
+pub give_back-eval-requires : goal.give_back-eval-requires
+give_back-eval-requires t c =
+    (omega (arith, c.decreases), (c.requires.ready, c.requires.fits))
 
-pub iterate-returns-in-None-clause-ended : goal.iterate-returns-in-None-clause-ended
-iterate-returns-in-None-clause-ended t c =
-    let x = c.args.context.now in
-    let body = body_in x c.args.function (parts_view c.args.body.now) in
-    let run = c.in_ok-run.run'.items in
-    let found : item_at 0 (items_of_trees (map tree_of run)) ≡ None = sym c.first_of.ensures ∙ ap (option_map tree_of) c.in-None.is in
-    let is : tree_of values.Null ≡ null = search (rules, value_lemmas) in
-    let ended = none_given c.args.function body (store_at x c.values.new.store) ∙ ap (λ v. ends (value v) (store_at x c.values.new.store)) (sym is) in
-    iterate_ends x c.args.function body c.args.args.now run None c.args.store.now c.values.new.store (store_at x c.values.new.store) (Ok values.Null) c.in_ok-run.ensures.ended found ended
-
-pub iterate-returns-in-Some-clause-ended : goal.iterate-returns-in-Some-clause-ended
-iterate-returns-in-Some-clause-ended t c =
-    let x = c.args.context.now in
-    let body = body_in x c.args.function (parts_view c.args.body.now) in
-    let run = c.in_ok-run.run'.items in
-    let found : item_at 0 (items_of_trees (map tree_of run)) ≡ Some (tree_of c.in-Some.collection) = sym c.first_of.ensures ∙ ap (option_map tree_of) c.in-Some.is in
-    iterate_ends x c.args.function body c.args.args.now run (Some (tree_of c.in-Some.collection)) c.args.store.now c.values.new.store (store_at x c.over.new.store) c.over.result c.in_ok-run.ensures.ended found c.over.ensures.ended
-
-pub iterate-returns-in_err-run-clause-ended : goal.iterate-returns-in_err-run-clause-ended
-iterate-returns-in_err-run-clause-ended t c =
-    let x = c.args.context.now in
-    let body = body_in x c.args.function (parts_view c.args.body.now) in
-    let m = all_mean (names_in x) (setting_in x) (parts_view c.args.args.now) [] (store_at x c.args.store.now) in
-    let told : Stops (on_value m (λ vs after. acts (setting_in x) (called.iteration (form_in c.args.function)) body (items_in vs) after)) (store_at x c.values.new.store) c.in_err-run.field-0.0 =
-    after_stop m (λ vs after. acts (setting_in x) (called.iteration (form_in c.args.function)) body (items_in vs) after) (store_at x c.values.new.store) c.in_err-run.field-0.0
-    (array_stops x (map linked_of c.args.args.now) c.args.store.now (store_at x c.values.new.store) c.in_err-run.field-0.0 c.in_err-run.ensures.ended) in
-    search rules
-
-pub iterate-values-requires : goal.iterate-values-requires
-iterate-values-requires t c =
-    (omega (arith, c.decreases), (c.requires.ready, c.requires.args))
-
-pub iterate-returns-in-Some-clause-stays : goal.iterate-returns-in-Some-clause-stays
-iterate-returns-in-Some-clause-stays t c = stays_then c.args.store.now c.values.new.store c.over.new.store c.in_ok-run.ensures.stays c.over.ensures.stays
-
-pub iteration-iterate-value-requires : goal.iteration-iterate-value-requires
-iteration-iterate-value-requires t c =
-    let a = out-Iteration c.args.iteration.now in
-    let args : c.deref.result.now ≡ a.args.items = search rules in
-    let body : c.deref-2.result.now ≡ a.body.items = search rules in
-    let is : iteration_of c.args.iteration.now ≡ iterate a.function a.bang (parts_view c.deref.result.now) (parts_view c.deref-2.result.now) = search (rules, the_lemmas) in
-    let fits = subst (FitsIn c.args.context.now) is c.requires.fits in
-    (omega (arith, c.decreases, ap linked_size is), (c.requires.ready, (fits.0, (fits.1.0, fits.1.1))))
-
-pub iteration-returns-clause-ended : goal.iteration-returns-clause-ended
-iteration-returns-clause-ended t c =
-    let x = c.args.context.now in
-    let a = out-Iteration c.args.iteration.now in
-    let args : c.deref.result.now ≡ a.args.items = search rules in
-    let body : c.deref-2.result.now ≡ a.body.items = search rules in
-    let is : iteration_of c.args.iteration.now ≡ iterate a.function a.bang (parts_view c.deref.result.now) (parts_view c.deref-2.result.now) = search (rules, the_lemmas) in
-    let e = on_value (all_mean (names_in x) (setting_in x) (parts_view c.deref.result.now) [] (store_at x c.args.store.now)) (λ vs after. acts (setting_in x) (called.iteration (form_in a.function)) (body_in x a.function (parts_view c.deref-2.result.now)) (items_in vs) after) in
-    let t = store_at x c.iterate-value.new.store in
-    subst (λ n. Ends (meant x n c.args.store.now) t c.iterate-value.result) (sym is) (subst (λ b. Ends (banged_if b e) t c.iterate-value.result) (sym c.if-iteration.false) c.iterate-value.ensures.ended)
-
-pub iteration-returns-then-iteration-clause-ended : goal.iteration-returns-then-iteration-clause-ended
-iteration-returns-then-iteration-clause-ended t c =
-    let x = c.args.context.now in
-    let a = out-Iteration c.args.iteration.now in
-    let args : c.deref.result.now ≡ a.args.items = search rules in
-    let body : c.deref-2.result.now ≡ a.body.items = search rules in
-    let is : iteration_of c.args.iteration.now ≡ iterate a.function a.bang (parts_view c.deref.result.now) (parts_view c.deref-2.result.now) = search (rules, the_lemmas) in
-    let e = on_value (all_mean (names_in x) (setting_in x) (parts_view c.deref.result.now) [] (store_at x c.args.store.now)) (λ vs after. acts (setting_in x) (called.iteration (form_in a.function)) (body_in x a.function (parts_view c.deref-2.result.now)) (items_in vs) after) in
-    let t = store_at x c.iterate-value.new.store in
-    subst (λ n. Ends (meant x n c.args.store.now) t c.banged.result) (sym is)
-    (subst (λ b. Ends (banged_if b e) t c.banged.result) (sym c.if-iteration.true) (c.banged.ensures.ends e t c.iterate-value.ensures.ended))
+pub holds-eval-requires : goal.holds-eval-requires
+holds-eval-requires t c =
+    (omega (arith, c.decreases), (c.requires.ready, c.requires.fits))
 
 pub items-eval-requires : goal.items-eval-requires
 items-eval-requires t c =
@@ -666,43 +519,6 @@ items-loop-item-preserved t c =
     l.invariant.fits l.invariant.so_far c.in_ok-last.ensures.ended c.in_ok-last.ensures.stays in
     let size = parts_fewer c.args.items.now l.item-index c.item-item.result c.loop-item-test.true c.item-item.is in
     record { so_far = next.0; fits = next.1; fewer = omega (arith, l.invariant.fewer, size) }
-
-pub merge-beside-requires : goal.merge-beside-requires
-merge-beside-requires t c =
-    (omega (arith, c.decreases), (c.requires.ready, c.requires.fits))
-
-pub merge-returns-clause-ended : goal.merge-returns-clause-ended
-merge-returns-clause-ended t c =
-    let x = c.args.context.now in
-    let T = target_of (names_in x) c.args.target.now in
-    let given = meant x (linked_of c.args.part.now) c.args.store.now in
-    let current = c.in_ok-current.ensures (names_in x) c.requires.ready.names in
-    let made = subst (λ v. on_value given (λ w end. ends (applied ops.Merge v w) end) ≡ ends (value (tree_of c.in_ok-value.value)) (store_at x c.beside.new.store)) current c.in_ok-value.ensures.ended in
-    let are = names_after (names_in x) c.args.store.now c.beside.new.store c.requires.ready.names c.in_ok-value.ensures.stays in
-    assigned_ends c.args.is_asked T (combined ops.Merge (ends (value (target_value T (store_at x c.args.store.now))) (store_at x c.args.store.now)) (λ end. means (names_in x) (setting_in x) (linked_of c.args.part.now) end)) (tree_of c.in_ok-value.value) (tree_of c.in_ok-copy.copy) (store_at x c.beside.new.store) (store_at x c.write_to.new.store) made c.in_ok-copy.ensures (c.in_ok-write_to.ensures.written (names_in x) are)
-
-pub merge-returns-in_err-value-clause-ended : goal.merge-returns-in_err-value-clause-ended
-merge-returns-in_err-value-clause-ended t c =
-    let x = c.args.context.now in
-    let T = target_of (names_in x) c.args.target.now in
-    let given = meant x (linked_of c.args.part.now) c.args.store.now in
-    let current = c.in_ok-current.ensures (names_in x) c.requires.ready.names in
-    let made = subst (λ v. Stops (on_value given (λ w end. ends (applied ops.Merge v w) end)) (store_at x c.beside.new.store) c.in_err-value.field-0.0) current c.in_err-value.ensures.ended in
-    let told : Stops (meant x (merge c.args.is_asked c.args.target.now (linked_of c.args.part.now)) c.args.store.now) (store_at x c.beside.new.store) c.in_err-value.field-0.0 =
-    asked_stops c.args.is_asked (assigned T (combined ops.Merge (ends (value (target_value T (store_at x c.args.store.now))) (store_at x c.args.store.now)) (λ end. means (names_in x) (setting_in x) (linked_of c.args.part.now) end))) (store_at x c.beside.new.store) c.in_err-value.field-0.0 (after_stop (combined ops.Merge (ends (value (target_value T (store_at x c.args.store.now))) (store_at x c.args.store.now)) (λ end. means (names_in x) (setting_in x) (linked_of c.args.part.now) end)) (λ v after. writes_to T v after (λ end. ends (value v) end)) (store_at x c.beside.new.store) c.in_err-value.field-0.0 made) in
-    search rules
-
-pub merge-returns-in_err-write_to-clause-ended : goal.merge-returns-in_err-write_to-clause-ended
-merge-returns-in_err-write_to-clause-ended t c =
-    let x = c.args.context.now in
-    let T = target_of (names_in x) c.args.target.now in
-    let given = meant x (linked_of c.args.part.now) c.args.store.now in
-    let current = c.in_ok-current.ensures (names_in x) c.requires.ready.names in
-    let made = subst (λ v. on_value given (λ w end. ends (applied ops.Merge v w) end) ≡ ends (value (tree_of c.in_ok-value.value)) (store_at x c.beside.new.store)) current c.in_ok-value.ensures.ended in
-    let are = names_after (names_in x) c.args.store.now c.beside.new.store c.requires.ready.names c.in_ok-value.ensures.stays in
-    let told : Stops (meant x (merge c.args.is_asked c.args.target.now (linked_of c.args.part.now)) c.args.store.now) (store_at x c.write_to.new.store) c.in_err-write_to.field-0.0 =
-    assigned_stops c.args.is_asked T (combined ops.Merge (ends (value (target_value T (store_at x c.args.store.now))) (store_at x c.args.store.now)) (λ end. means (names_in x) (setting_in x) (linked_of c.args.part.now) end)) (tree_of c.in_ok-value.value) (store_at x c.beside.new.store) (store_at x c.write_to.new.store) c.in_err-write_to.field-0.0 made (c.in_err-write_to.ensures.written (names_in x) are) in
-    search rules
 
 pub negation-eval-requires : goal.negation-eval-requires
 negation-eval-requires t c =
@@ -731,343 +547,9 @@ object-returns-clause-ended t c =
     let is : tree_of (values.Object l.fields) ≡ members (members_of l.fields) = search (rules, value_lemmas) in
     pairs_end c.args.context.now c.args.store.now l.store c.args.pairs.now l.name-index (members_of l.fields) (tree_of (values.Object l.fields)) _ c.loop-name-test.false is l.invariant.so_far
 
-pub outcome-eval-given-requires : goal.outcome-eval-given-requires
-outcome-eval-given-requires t c =
-    (omega (arith, c.decreases), (c.requires.ready, c.requires.fits))
-
-pub outcome-returns-clause-ended : goal.outcome-returns-clause-ended
-outcome-returns-clause-ended t c = c.both_values.ensures.gives (meant c.args.context.now (linked_of c.args.part.now) c.args.store.now) (store_at c.args.context.now c.eval-given.new.store) c.eval-given.ensures.ended
-
-pub over-over_fields-requires : goal.over-over_fields-requires
-over-over_fields-requires t c =
-    let x = c.args.context.now in
-    let is : tree_of c.args.collection ≡ members (members_of c.in-Object.fields) = search (rules, value_lemmas) in
-    (omega (arith, c.decreases), (c.requires.ready, (c.requires.slots, (c.requires.fits, subst (IsWellFormed (length (setting_in x).sources)) is c.requires.formed))))
-
-pub over-over_items-requires : goal.over-over_items-requires
-over-over_items-requires t c =
-    let x = c.args.context.now in
-    let is : tree_of c.args.collection ≡ items (items_of c.in-List.items) = search (rules, value_lemmas) in
-    let takes : takes_arrays c.args.function ≡ true = search rules in
-    (omega (arith, c.decreases), (c.requires.ready, (c.requires.slots, (c.requires.fits, (takes, subst (IsWellFormed (length (setting_in x).sources)) is c.requires.formed)))))
-
-pub over-returns-else-not-takes_arrays-clause-ended : goal.over-returns-else-not-takes_arrays-clause-ended
-over-returns-else-not-takes_arrays-clause-ended t c =
-    let x = c.args.context.now in
-    let f = c.args.function in
-    let ts = items_of c.in-List.items in
-    let is : tree_of c.args.collection ≡ items ts = search (rules, value_lemmas) in
-    let takes : takes_arrays f ≡ true = search rules in
-    taken_ends f (body_in x f (parts_view c.args.body.now)) (items ts) (tree_of c.args.collection) (store_at x c.args.store.now) (store_at x c.over_items.new.store) c.over_items.result is
-    (ap (λ v. allows (collections (form_in f)) (tag_of v)) is ∙ arrays_taken f ts ∙ takes) c.over_items.ensures.ended
-
-pub over-returns-in-Object-clause-ended : goal.over-returns-in-Object-clause-ended
-over-returns-in-Object-clause-ended t c =
-    let x = c.args.context.now in
-    let f = c.args.function in
-    let ms = members_of c.in-Object.fields in
-    let is : tree_of c.args.collection ≡ members ms = search (rules, value_lemmas) in
-    taken_ends f (body_in x f (parts_view c.args.body.now)) (members ms) (tree_of c.args.collection) (store_at x c.args.store.now) (store_at x c.over_fields.new.store) c.over_fields.result is
-    (ap (λ v. allows (collections (form_in f)) (tag_of v)) is ∙ objects_taken f ms) c.over_fields.ensures.ended
-
-pub over-returns-then-not-takes_arrays-clause-ended : goal.over-returns-then-not-takes_arrays-clause-ended
-over-returns-then-not-takes_arrays-clause-ended t c =
-    let x = c.args.context.now in
-    let f = c.args.function in
-    let ts = items_of c.in-List.items in
-    let is : tree_of c.args.collection ≡ items ts = search (rules, value_lemmas) in
-    let refused : takes_arrays f ≡ false = search rules in
-    refused_ends f (body_in x f (parts_view c.args.body.now)) (tree_of c.args.collection) tags.List (store_at x c.args.store.now) c.refuse.result (ap tag_of (sym is))
-    (ap (λ v. allows (collections (form_in f)) (tag_of v)) is ∙ arrays_taken f ts ∙ refused) c.refuse.ensures
-
-pub over-returns-in_default-clause-ended : goal.over-returns-in_default-clause-ended
-over-returns-in_default-clause-ended t c =
-    let x = c.args.context.now in
-    let f = c.args.function in
-    let plain : is_container (tree_of c.args.collection) ≡ false = search (rules, value_lemmas) in
-    refused_ends f (body_in x f (parts_view c.args.body.now)) (tree_of c.args.collection) c.tag.result (store_at x c.args.store.now) c.refuse-in_default.result c.tag.ensures
-    (other_is_refused f (tree_of c.args.collection) plain) c.refuse-in_default.ensures
-
-pub over_fields-loop-name-init : goal.over_fields-loop-name-init
-over_fields-loop-name-init t c =
-    let it = c.into_iter-name-iterator.result in
-    let made = c.no_fields-made.result in
-    let same : members_view it ≡ members_of c.args.fields = search rules in
-    fields_begin c.args.context.now c.args.function (parts_view c.args.body.now) c.args.store.now (members_of c.args.fields) (members_view it) (members_of made.fields) made.are_named c.requires.ready c.requires.formed same
-    c.no_fields-made.ensures.fields c.no_fields-made.ensures.named
-
-pub over_fields-loop-name-preserved : goal.over_fields-loop-name-preserved
-over_fields-loop-name-preserved t c =
-    let l = c.loop-name in
-    let x = c.args.context.now in
-    let f = c.args.function in
-    let left = c.next.new.self in
-    let k = string_bytes c.in-Some.name in
-    let part = tree_of c.in-Some.part in
-    let binds = subst (λ name. Binds f (string name) part c.in_ok-bindings.bindings) c.new.ensures c.in_ok-bindings.ensures.binds in
-    let kept = subst (λ name. IsFieldHeld f name part c.in_ok-bindings.held) c.new.ensures c.in_ok-bindings.ensures.held in
-    fields_turn c.meanings_stay_well_formed.ensures x f (parts_view c.args.body.now) c.args.store.now l.store c.run.new.store (members_view l.name-iterator) (members_view left) k part (tree_of c.in_ok-given.given) l.made c.put_field.new.made _
-    c.in_ok-bindings.bindings c.in_ok-bindings.held c.requires.fits l.invariant (ap members_view c.in-Some.ensures.steps) binds c.in_ok-given.ensures.ended c.in_ok-given.ensures.stays kept c.in_ok-put_field.ensures
-
-pub over_fields-returns-clause-stays : goal.over_fields-returns-clause-stays
-over_fields-returns-clause-stays t c = c.loop-name.invariant.so_far.stays
-
-pub over_fields-returns-in_err-given-clause-stays : goal.over_fields-returns-in_err-given-clause-stays
-over_fields-returns-in_err-given-clause-stays t c = stays_then c.args.store.now c.loop-name.store c.run.new.store c.loop-name.invariant.so_far.stays c.in_err-given.ensures.stays
-
-pub over_fields-returns-in_err-put_field-clause-stays : goal.over_fields-returns-in_err-put_field-clause-stays
-over_fields-returns-in_err-put_field-clause-stays t c = stays_then c.args.store.now c.loop-name.store c.run.new.store c.loop-name.invariant.so_far.stays c.in_ok-given.ensures.stays
-
-pub over_fields-returns-in_err-bindings-clause-stays : goal.over_fields-returns-in_err-bindings-clause-stays
-over_fields-returns-in_err-bindings-clause-stays t c = c.loop-name.invariant.so_far.stays
-
-pub over_fields-returns-clause-ended : goal.over_fields-returns-clause-ended
-over_fields-returns-clause-ended t c =
-    let l = c.loop-name in
-    let x = c.args.context.now in
-    let none : l.name-iterator ≡ [] = search rules in
-    let made = made_in c.args.function l.made no_members [] in
-    let whole = fields_end x c.args.function (parts_view c.args.body.now) c.args.store.now l.store (members_view l.name-iterator) l.made _ l.invariant (ap members_view none) in
-    subst (λ e. Ends e (store_at x l.store) c.finish_fields.result) (sym whole) (gives_ends made (store_at x l.store) c.finish_fields.result c.finish_fields.ensures)
-
-pub over_fields-returns-in_err-given-clause-ended : goal.over_fields-returns-in_err-given-clause-ended
-over_fields-returns-in_err-given-clause-ended t c =
-    let l = c.loop-name in
-    let x = c.args.context.now in
-    let f = c.args.function in
-    let body = body_in x f (parts_view c.args.body.now) in
-    let left = c.next.new.self in
-    let k = string_bytes c.in-Some.name in
-    let part = tree_of c.in-Some.part in
-    let binds = subst (λ name. Binds f (string name) part c.in_ok-bindings.bindings) c.new.ensures c.in_ok-bindings.ensures.binds in
-    let whole = iterated (form_in f) body (members (members_of c.args.fields)) None (store_at x c.args.store.now) in
-    let told : Stops whole (store_at x c.run.new.store) c.in_err-given.field-0.0 =
-    fields_stop x f (parts_view c.args.body.now) c.args.store.now l.store (members_view l.name-iterator) (members_view left) k part _ whole c.in_ok-bindings.bindings (store_at x c.run.new.store) c.in_err-given.field-0.0
-    l.invariant (ap members_view c.in-Some.ensures.steps) binds c.in_err-given.ensures.ended in
-    search rules
-
-pub over_fields-run-requires : goal.over_fields-run-requires
-over_fields-run-requires t c =
-    let l = c.loop-name in
-    let x = c.args.context.now in
-    let f = c.args.function in
-    let left = c.next.new.self in
-    let k = string_bytes c.in-Some.name in
-    let part = tree_of c.in-Some.part in
-    let binds = subst (λ name. Binds f (string name) part c.in_ok-bindings.bindings) c.new.ensures c.in_ok-bindings.ensures.binds in (
-      omega (arith, c.decreases),
-      (
-        l.invariant.so_far.ready,
-        (
-          subst (AreKnownSlots (length (names_in x))) (sym binds.variables) c.requires.slots,
-          (
-            field_values x f (parts_view c.args.body.now) c.args.store.now l.store (members_view l.name-iterator) (members_view left) k part _ _ c.in_ok-bindings.bindings l.invariant (ap members_view c.in-Some.ensures.steps) binds,
-            c.requires.fits,
-          ),
-        ),
-      ),
-    )
-
-pub over_items-item_bindings-requires : goal.over_items-item_bindings-requires
-over_items-item_bindings-requires t c =
-    let steps = c.in-Some.ensures.steps in
-    let longer = ap length steps.0 in
-    omega (arith, c.loop-item.invariant.small, longer)
-
-pub over_items-loop-item-init : goal.over_items-loop-item-init
-over_items-loop-item-init t c =
-    let it = c.into_iter-item-iterator in
-    let same = it.ensures.into_iter_gives.0 in
-    let longer = ap length same in
-    record {
-      so_far = items_begin c.args.context.now c.args.function (parts_view c.args.body.now) c.args.store.now 0 (items_of c.args.items) _ _ c.requires.takes c.requires.ready c.requires.formed
-          (ap items_view same ∙ c.values_in-items.ensures.values) refl (ap (map tree_of) c.new-made.ensures.items);
-      as_many = search rules;
-      small = omega (arith, c.values_in-items.ensures.small, longer);
-    }
-
-pub over_items-loop-item-preserved : goal.over_items-loop-item-preserved
-over_items-loop-item-preserved t c =
-    let l = c.loop-item in
-    let x = c.args.context.now in
-    let ns = parts_view c.args.body.now in
-    let left = into_iter_items c.next.new.self in
-    let steps = c.in-Some.ensures.steps in
-    let longer = ap length steps.0 in
-    record {
-      so_far = items_turn c.meanings_stay_well_formed.ensures x c.args.function ns c.args.store.now l.store c.run.new.store l.place (l.place + 1) _ (items_view left) (tree_of c.in-Some.item) (tree_of c.in_ok-given.given) (map tree_of l.made.items)
-          (map tree_of c.push_item.new.made.items) _ c.in_ok-bindings.bindings c.in_ok-bindings.held c.requires.fits l.invariant.so_far (ap items_view steps.0) (omega arith) c.in_ok-bindings.ensures.binds c.in_ok-given.ensures.ended c.in_ok-given.ensures.stays
-          c.in_ok-bindings.ensures.held c.in_ok-push_item.ensures;
-      as_many = one_gone (into_iter_items l.item-iterator) left c.in-Some.item _ _ steps.0 steps.1 l.invariant.as_many;
-      small = omega (arith, l.invariant.small, longer);
-    }
-
-pub over_items-overflow_add-place : goal.over_items-overflow_add-place
-over_items-overflow_add-place t c = omega (arith, c.loop-item.invariant.small)
-
-pub over_items-returns-clause-stays : goal.over_items-returns-clause-stays
-over_items-returns-clause-stays t c = c.loop-item.invariant.so_far.so_far.stays
-
-pub over_items-returns-in_err-given-clause-stays : goal.over_items-returns-in_err-given-clause-stays
-over_items-returns-in_err-given-clause-stays t c = stays_then c.args.store.now c.loop-item.store c.run.new.store c.loop-item.invariant.so_far.so_far.stays c.in_err-given.ensures.stays
-
-pub over_items-returns-in_err-push_item-clause-stays : goal.over_items-returns-in_err-push_item-clause-stays
-over_items-returns-in_err-push_item-clause-stays t c = stays_then c.args.store.now c.loop-item.store c.run.new.store c.loop-item.invariant.so_far.so_far.stays c.in_ok-given.ensures.stays
-
-pub over_items-returns-in_err-bindings-clause-stays : goal.over_items-returns-in_err-bindings-clause-stays
-over_items-returns-in_err-bindings-clause-stays t c = c.loop-item.invariant.so_far.so_far.stays
-
-pub over_items-returns-clause-ended : goal.over_items-returns-clause-ended
-over_items-returns-clause-ended t c =
-    let l = c.loop-item in
-    let x = c.args.context.now in
-    let none = none_left (into_iter_items l.item-iterator) _ l.invariant.as_many c.in-None.ensures.steps.0 in
-    let made = made_items c.args.function (map tree_of l.made.items) no_items [] in
-    let whole = items_end x c.args.function (parts_view c.args.body.now) c.args.store.now l.store l.place _ (map tree_of l.made.items) _ l.invariant.so_far (ap items_view none) in
-    subst (λ e. Ends e (store_at x l.store) c.finish_items.result) (sym whole) (gives_ends made (store_at x l.store) c.finish_items.result c.finish_items.ensures)
-
-pub over_items-returns-in_err-given-clause-ended : goal.over_items-returns-in_err-given-clause-ended
-over_items-returns-in_err-given-clause-ended t c =
-    let l = c.loop-item in
-    let x = c.args.context.now in
-    let f = c.args.function in
-    let body = body_in x f (parts_view c.args.body.now) in
-    let left = into_iter_items c.next.new.self in
-    let whole = iterated (form_in f) body (items (items_of c.args.items)) None (store_at x c.args.store.now) in
-    let told : Stops whole (store_at x c.run.new.store) c.in_err-given.field-0.0 =
-    items_stop x f (parts_view c.args.body.now) c.args.store.now l.store l.place _ (items_view left) (tree_of c.in-Some.item) (map tree_of l.made.items) whole c.in_ok-bindings.bindings (store_at x c.run.new.store) c.in_err-given.field-0.0
-    l.invariant.so_far (ap items_view c.in-Some.ensures.steps.0) c.in_ok-bindings.ensures.binds c.in_err-given.ensures.ended in
-    search rules
-
-pub over_items-run-requires : goal.over_items-run-requires
-over_items-run-requires t c =
-    let l = c.loop-item in
-    let x = c.args.context.now in
-    let left = into_iter_items c.next.new.self in (
-      omega (arith, c.decreases),
-      (
-        l.invariant.so_far.so_far.ready,
-        (
-          subst (AreKnownSlots (length (names_in x))) (sym c.in_ok-bindings.ensures.binds.variables) c.requires.slots,
-          (
-            item_values x c.args.function (parts_view c.args.body.now) c.args.store.now l.store l.place _ (items_view left) (tree_of c.in-Some.item) (map tree_of l.made.items) _ c.in_ok-bindings.bindings l.invariant.so_far
-                (ap items_view c.in-Some.ensures.steps.0) c.in_ok-bindings.ensures.binds,
-            c.requires.fits,
-          ),
-        ),
-      ),
-    )
-
 pub query-eval-requires : goal.query-eval-requires
 query-eval-requires t c =
     (omega (arith, c.decreases), (c.requires.ready, c.requires.fits))
-
-pub run-bind-requires : goal.run-bind-requires
-run-bind-requires t c = known_slot c.args.context.now c.in-Two.first c.args.store.now c.requires.ready (rw c.in-Two.is at c.requires.slots).0
-
-pub run-returns-in-One-clause-ended : goal.run-returns-in-One-clause-ended
-run-returns-in-One-clause-ended t c = rw c.in-One.is c.run_with.ensures.ended
-
-pub run-returns-in_ok-hidden-in-Two-clause-ended : goal.run-returns-in_ok-hidden-in-Two-clause-ended
-run-returns-in_ok-hidden-in-Two-clause-ended t c =
-    let x = c.args.context.now in
-    let before = c.args.store.now in
-    let bound = c.bind.new.store in
-    let middle = c.run_with-given.new.store in
-    let first : Stays before bound = record { front = c.in_ok-hidden-in-Two.ensures.front; as_many = c.in_ok-hidden-in-Two.ensures.as_many } in
-    let stays = stays_then before bound middle first c.run_with-given.ensures.stays in
-    rw c.in-Two.is (two_names_end x c.in-Two.first c.in-Two.second (tree_of c.in-Two.key) (tree_of c.in-Two.value) (parts_view c.args.body.now) c.in_ok-hidden-in-Two.hidden before bound middle c.unbind.new.store c.count-count.result c.run_with-given.result
-    c.requires.ready stays c.count-count.ensures c.in_ok-hidden-in-Two.ensures.hidden (c.in_ok-hidden-in-Two.ensures.bound (names_in x) c.requires.ready.names) c.run_with-given.ensures.ended
-    (c.unbind.ensures.left (names_in x) (names_after (names_in x) before middle c.requires.ready.names stays)))
-
-pub run-returns-in_ok-hidden-in-Two-clause-stays : goal.run-returns-in_ok-hidden-in-Two-clause-stays
-run-returns-in_ok-hidden-in-Two-clause-stays t c =
-    let before = c.args.store.now in
-    let bound = c.bind.new.store in
-    let middle = c.run_with-given.new.store in
-    let first : Stays before bound = record { front = c.in_ok-hidden-in-Two.ensures.front; as_many = c.in_ok-hidden-in-Two.ensures.as_many } in
-    let stays = stays_then before bound middle first c.run_with-given.ensures.stays in
-    stays_again before middle c.unbind.new.store c.count-count.result stays c.count-count.ensures c.unbind.ensures.present c.unbind.ensures.as_many
-
-pub run-unbind-requires-clause-there : goal.run-unbind-requires-clause-there
-run-unbind-requires-clause-there t c =
-    let before = c.args.store.now in
-    let bound = c.bind.new.store in
-    let middle = c.run_with-given.new.store in
-    let first : Stays before bound = record { front = c.in_ok-hidden-in-Two.ensures.front; as_many = c.in_ok-hidden-in-Two.ensures.as_many } in
-    let stays = stays_then before bound middle first c.run_with-given.ensures.stays in
-    may_be_given_back c.in-Two.first c.in_ok-hidden-in-Two.hidden before (take c.count-count.result (present_of middle)) c.in_ok-hidden-in-Two.ensures.hidden (front_again before middle c.count-count.result stays c.count-count.ensures)
-
-pub run-unbind-requires-clause-within : goal.run-unbind-requires-clause-within
-run-unbind-requires-clause-within t c =
-    let before = c.args.store.now in
-    let bound = c.bind.new.store in
-    let middle = c.run_with-given.new.store in
-    let first : Stays before bound = record { front = c.in_ok-hidden-in-Two.ensures.front; as_many = c.in_ok-hidden-in-Two.ensures.as_many } in
-    count_within before middle c.count-count.result (stays_then before bound middle first c.run_with-given.ensures.stays) c.count-count.ensures
-
-pub run-run_with-given-requires : goal.run-run_with-given-requires
-run-run_with-given-requires t c =
-    let x = c.args.context.now in
-    let before = c.args.store.now in
-    let bound = c.bind.new.store in
-    let stays : Stays before bound = record { front = c.in_ok-hidden-in-Two.ensures.front; as_many = c.in_ok-hidden-in-Two.ensures.as_many } in
-    let slots = rw c.in-Two.is at c.requires.slots in
-    let formed = rw c.in-Two.is at c.requires.values in
-    (omega (arith, c.decreases), (bound_ready x c.in-Two.first (tree_of c.in-Two.key) before bound c.requires.ready stays formed.0 c.in_ok-hidden-in-Two.ensures.bound, (slots.1.0, (formed.1.0, c.requires.fits))))
-
-pub run-run_with-requires : goal.run-run_with-requires
-run-run_with-requires t c =
-    let slots = rw c.in-One.is at c.requires.slots in
-    let formed = rw c.in-One.is at c.requires.values in
-    (omega (arith, c.decreases), (c.requires.ready, (slots.0, (formed.0, c.requires.fits))))
-
-pub run_with-bind-requires : goal.run_with-bind-requires
-run_with-bind-requires t c = known_slot c.args.context.now c.args.slot c.args.store.now c.requires.ready c.requires.slot
-
-pub run_with-items-given-requires : goal.run_with-items-given-requires
-run_with-items-given-requires t c =
-    let x = c.args.context.now in
-    let stays : Stays c.args.store.now c.bind.new.store = record { front = c.in_ok-hidden.ensures.front; as_many = c.in_ok-hidden.ensures.as_many } in
-    (omega (arith, c.decreases), (bound_ready x c.args.slot (tree_of c.args.value) c.args.store.now c.bind.new.store c.requires.ready stays c.requires.value c.in_ok-hidden.ensures.bound, c.requires.fits))
-
-pub run_with-returns-clause-ended : goal.run_with-returns-clause-ended
-run_with-returns-clause-ended t c =
-    let x = c.args.context.now in
-    let before = c.args.store.now in
-    let bound = c.bind.new.store in
-    let middle = c.items-given.new.store in
-    let first : Stays before bound = record { front = c.in_ok-hidden.ensures.front; as_many = c.in_ok-hidden.ensures.as_many } in
-    let stays = stays_then before bound middle first c.items-given.ensures.stays in
-    one_name_ends x c.args.slot (tree_of c.args.value) (parts_view c.args.body.now) c.in_ok-hidden.hidden before bound middle c.unbind.new.store c.count-count.result c.items-given.result
-    c.requires.ready stays c.count-count.ensures c.in_ok-hidden.ensures.hidden (c.in_ok-hidden.ensures.bound (names_in x) c.requires.ready.names) c.items-given.ensures.ended
-    (c.unbind.ensures.left (names_in x) (names_after (names_in x) before middle c.requires.ready.names stays))
-
-pub run_with-returns-clause-stays : goal.run_with-returns-clause-stays
-run_with-returns-clause-stays t c =
-    let before = c.args.store.now in
-    let bound = c.bind.new.store in
-    let middle = c.items-given.new.store in
-    let first : Stays before bound = record { front = c.in_ok-hidden.ensures.front; as_many = c.in_ok-hidden.ensures.as_many } in
-    let stays = stays_then before bound middle first c.items-given.ensures.stays in
-    stays_again before middle c.unbind.new.store c.count-count.result stays c.count-count.ensures c.unbind.ensures.present c.unbind.ensures.as_many
-
-pub run_with-unbind-requires-clause-there : goal.run_with-unbind-requires-clause-there
-run_with-unbind-requires-clause-there t c =
-    let before = c.args.store.now in
-    let bound = c.bind.new.store in
-    let middle = c.items-given.new.store in
-    let first : Stays before bound = record { front = c.in_ok-hidden.ensures.front; as_many = c.in_ok-hidden.ensures.as_many } in
-    let stays = stays_then before bound middle first c.items-given.ensures.stays in
-    may_be_given_back c.args.slot c.in_ok-hidden.hidden before (take c.count-count.result (present_of middle)) c.in_ok-hidden.ensures.hidden (front_again before middle c.count-count.result stays c.count-count.ensures)
-
-pub run_with-unbind-requires-clause-within : goal.run_with-unbind-requires-clause-within
-run_with-unbind-requires-clause-within t c =
-    let before = c.args.store.now in
-    let bound = c.bind.new.store in
-    let middle = c.items-given.new.store in
-    let first : Stays before bound = record { front = c.in_ok-hidden.ensures.front; as_many = c.in_ok-hidden.ensures.as_many } in
-    count_within before middle c.count-count.result (stays_then before bound middle first c.items-given.ensures.stays) c.count-count.ensures
 
 pub values-eval-requires : goal.values-eval-requires
 values-eval-requires t c =
@@ -1098,3 +580,521 @@ values-returns-in_err-value-clause-ended t c =
     let x = c.args.context.now in
     let p = err_from_is_err_and c.from_residual-in_err-value.result c.from_residual-in_err-value.ensures.1 in
     rw (p.1, p.2) (λ more. parts_stop x c.args.store.now l.store c.args.nodes.now l.node-index c.node-item.result (map tree_of l.values.items) _ _ c.in_err-value.field-0.0 c.loop-node-test.true c.node-item.is l.invariant.so_far c.in_err-value.ensures.ended more)
+
+pub assignments::assign-eval-requires : goal.assignments::assign-eval-requires
+assignments::assign-eval-requires t c =
+    (omega (arith, c.decreases), (c.requires.ready, c.requires.fits))
+
+pub assignments::assign-returns-in_err-write_to-clause-ended : goal.assignments::assign-returns-in_err-write_to-clause-ended
+assignments::assign-returns-in_err-write_to-clause-ended t c =
+    let x = c.args.context.now in
+    let after = c.eval.new.store in
+    let are = names_after (names_in x) c.args.store.now after c.requires.ready.names c.in_ok-value.ensures.stays in
+    let told : Stops (meant x (assign c.args.is_asked c.args.target.now (linked_of c.args.part.now)) c.args.store.now) (store_at x c.write_to.new.store) c.in_err-write_to.field-0.0 =
+    assigned_stops c.args.is_asked (target_of (names_in x) c.args.target.now) (meant x (linked_of c.args.part.now) c.args.store.now) (tree_of c.in_ok-value.value) (store_at x after) (store_at x c.write_to.new.store) c.in_err-write_to.field-0.0 c.in_ok-value.ensures.ended (c.in_err-write_to.ensures.written (names_in x) are) in
+    search rules
+
+pub assignments::assign-returns-clause-ended : goal.assignments::assign-returns-clause-ended
+assignments::assign-returns-clause-ended t c =
+    let x = c.args.context.now in
+    let after = c.eval.new.store in
+    let are = names_after (names_in x) c.args.store.now after c.requires.ready.names c.in_ok-value.ensures.stays in
+    assigned_ends c.args.is_asked (target_of (names_in x) c.args.target.now) (meant x (linked_of c.args.part.now) c.args.store.now) (tree_of c.in_ok-value.value) (tree_of c.in_ok-copy.copy) (store_at x after) (store_at x c.write_to.new.store) c.in_ok-value.ensures.ended c.in_ok-copy.ensures (c.in_ok-write_to.ensures.written (names_in x) are)
+
+pub assignments::both-outcome-requires : goal.assignments::both-outcome-requires
+assignments::both-outcome-requires t c =
+    (omega (arith, c.decreases), (c.requires.ready, c.requires.fits))
+
+pub assignments::both-returns-in_err-value-clause-ended : goal.assignments::both-returns-in_err-value-clause-ended
+assignments::both-returns-in_err-value-clause-ended t c =
+    let x = c.args.context.now in
+    let T = target_of (names_in x) c.args.ok.now in
+    let U = target_of (names_in x) c.args.err.now in
+    let given = meant x (linked_of c.args.part.now) c.args.store.now in
+    let told : Stops (meant x (both c.args.is_asked c.args.ok.now c.args.err.now c.args.tag (linked_of c.args.part.now)) c.args.store.now) (store_at x c.outcome.new.store) c.in_err-value.field-0.0 =
+    asked_stops c.args.is_asked (both_assigned T U c.args.tag given.outcome given.store) (store_at x c.outcome.new.store) c.in_err-value.field-0.0 (c.in_err-value.ensures.ended T U) in
+    search rules
+
+pub assignments::both-returns-in_err-write_to-2-clause-ended : goal.assignments::both-returns-in_err-write_to-2-clause-ended
+assignments::both-returns-in_err-write_to-2-clause-ended t c =
+    let x = c.args.context.now in
+    let T = target_of (names_in x) c.args.ok.now in
+    let U = target_of (names_in x) c.args.err.now in
+    let given = meant x (linked_of c.args.part.now) c.args.store.now in
+    let are = names_after (names_in x) c.args.store.now c.outcome.new.store c.requires.ready.names c.in_ok-value.ensures.stays in
+    let are_then = names_after (names_in x) c.outcome.new.store c.write_to.new.store are c.in_ok-write_to.ensures.stays in
+    let told : Stops (meant x (both c.args.is_asked c.args.ok.now c.args.err.now c.args.tag (linked_of c.args.part.now)) c.args.store.now) (store_at x c.write_to-2.new.store) c.in_err-write_to-2.field-0.0 =
+    second_stops c.args.is_asked T U (both_assigned T U c.args.tag given.outcome given.store) (tree_of c.in_ok-value.value) (tree_of c.in_ok-value.error) (store_at x c.outcome.new.store) (store_at x c.write_to.new.store) (store_at x c.write_to-2.new.store) c.in_err-write_to-2.field-0.0 (c.in_ok-value.ensures.ended T U) (c.in_ok-write_to.ensures.written (names_in x) are) (c.in_err-write_to-2.ensures.written (names_in x) are_then) in
+    search rules
+
+pub assignments::both-returns-in_err-write_to-clause-ended : goal.assignments::both-returns-in_err-write_to-clause-ended
+assignments::both-returns-in_err-write_to-clause-ended t c =
+    let x = c.args.context.now in
+    let T = target_of (names_in x) c.args.ok.now in
+    let U = target_of (names_in x) c.args.err.now in
+    let given = meant x (linked_of c.args.part.now) c.args.store.now in
+    let are = names_after (names_in x) c.args.store.now c.outcome.new.store c.requires.ready.names c.in_ok-value.ensures.stays in
+    let told : Stops (meant x (both c.args.is_asked c.args.ok.now c.args.err.now c.args.tag (linked_of c.args.part.now)) c.args.store.now) (store_at x c.write_to.new.store) c.in_err-write_to.field-0.0 =
+    first_stops c.args.is_asked T U (both_assigned T U c.args.tag given.outcome given.store) (tree_of c.in_ok-value.value) (tree_of c.in_ok-value.error) (store_at x c.outcome.new.store) (store_at x c.write_to.new.store) c.in_err-write_to.field-0.0 (c.in_ok-value.ensures.ended T U) (c.in_err-write_to.ensures.written (names_in x) are) in
+    search rules
+
+pub assignments::both-returns-clause-ended : goal.assignments::both-returns-clause-ended
+assignments::both-returns-clause-ended t c =
+    let x = c.args.context.now in
+    let T = target_of (names_in x) c.args.ok.now in
+    let U = target_of (names_in x) c.args.err.now in
+    let given = meant x (linked_of c.args.part.now) c.args.store.now in
+    let are = names_after (names_in x) c.args.store.now c.outcome.new.store c.requires.ready.names c.in_ok-value.ensures.stays in
+    let are_then = names_after (names_in x) c.outcome.new.store c.write_to.new.store are c.in_ok-write_to.ensures.stays in
+    both_end c.args.is_asked T U (both_assigned T U c.args.tag given.outcome given.store) (tree_of c.in_ok-value.value) (tree_of c.in_ok-value.error) (tree_of c.in_ok-copy.copy) (store_at x c.outcome.new.store) (store_at x c.write_to.new.store) (store_at x c.write_to-2.new.store) (c.in_ok-value.ensures.ended T U) c.in_ok-copy.ensures (c.in_ok-write_to.ensures.written (names_in x) are) (c.in_ok-write_to-2.ensures.written (names_in x) are_then)
+
+pub assignments::merge-beside-requires : goal.assignments::merge-beside-requires
+assignments::merge-beside-requires t c =
+    (omega (arith, c.decreases), (c.requires.ready, c.requires.fits))
+
+pub assignments::merge-returns-clause-ended : goal.assignments::merge-returns-clause-ended
+assignments::merge-returns-clause-ended t c =
+    let x = c.args.context.now in
+    let T = target_of (names_in x) c.args.target.now in
+    let given = meant x (linked_of c.args.part.now) c.args.store.now in
+    let current = c.in_ok-current.ensures (names_in x) c.requires.ready.names in
+    let made = subst (λ v. on_value given (λ w end. ends (applied ops.Merge v w) end) ≡ ends (value (tree_of c.in_ok-value.value)) (store_at x c.beside.new.store)) current c.in_ok-value.ensures.ended in
+    let are = names_after (names_in x) c.args.store.now c.beside.new.store c.requires.ready.names c.in_ok-value.ensures.stays in
+    assigned_ends c.args.is_asked T (combined ops.Merge (ends (value (target_value T (store_at x c.args.store.now))) (store_at x c.args.store.now)) (λ end. means (names_in x) (setting_in x) (linked_of c.args.part.now) end)) (tree_of c.in_ok-value.value) (tree_of c.in_ok-copy.copy) (store_at x c.beside.new.store) (store_at x c.write_to.new.store) made c.in_ok-copy.ensures (c.in_ok-write_to.ensures.written (names_in x) are)
+
+pub assignments::merge-returns-in_err-value-clause-ended : goal.assignments::merge-returns-in_err-value-clause-ended
+assignments::merge-returns-in_err-value-clause-ended t c =
+    let x = c.args.context.now in
+    let T = target_of (names_in x) c.args.target.now in
+    let given = meant x (linked_of c.args.part.now) c.args.store.now in
+    let current = c.in_ok-current.ensures (names_in x) c.requires.ready.names in
+    let made = subst (λ v. Stops (on_value given (λ w end. ends (applied ops.Merge v w) end)) (store_at x c.beside.new.store) c.in_err-value.field-0.0) current c.in_err-value.ensures.ended in
+    let told : Stops (meant x (merge c.args.is_asked c.args.target.now (linked_of c.args.part.now)) c.args.store.now) (store_at x c.beside.new.store) c.in_err-value.field-0.0 =
+    asked_stops c.args.is_asked (assigned T (combined ops.Merge (ends (value (target_value T (store_at x c.args.store.now))) (store_at x c.args.store.now)) (λ end. means (names_in x) (setting_in x) (linked_of c.args.part.now) end))) (store_at x c.beside.new.store) c.in_err-value.field-0.0 (after_stop (combined ops.Merge (ends (value (target_value T (store_at x c.args.store.now))) (store_at x c.args.store.now)) (λ end. means (names_in x) (setting_in x) (linked_of c.args.part.now) end)) (λ v after. writes_to T v after (λ end. ends (value v) end)) (store_at x c.beside.new.store) c.in_err-value.field-0.0 made) in
+    search rules
+
+pub assignments::merge-returns-in_err-write_to-clause-ended : goal.assignments::merge-returns-in_err-write_to-clause-ended
+assignments::merge-returns-in_err-write_to-clause-ended t c =
+    let x = c.args.context.now in
+    let T = target_of (names_in x) c.args.target.now in
+    let given = meant x (linked_of c.args.part.now) c.args.store.now in
+    let current = c.in_ok-current.ensures (names_in x) c.requires.ready.names in
+    let made = subst (λ v. on_value given (λ w end. ends (applied ops.Merge v w) end) ≡ ends (value (tree_of c.in_ok-value.value)) (store_at x c.beside.new.store)) current c.in_ok-value.ensures.ended in
+    let are = names_after (names_in x) c.args.store.now c.beside.new.store c.requires.ready.names c.in_ok-value.ensures.stays in
+    let told : Stops (meant x (merge c.args.is_asked c.args.target.now (linked_of c.args.part.now)) c.args.store.now) (store_at x c.write_to.new.store) c.in_err-write_to.field-0.0 =
+    assigned_stops c.args.is_asked T (combined ops.Merge (ends (value (target_value T (store_at x c.args.store.now))) (store_at x c.args.store.now)) (λ end. means (names_in x) (setting_in x) (linked_of c.args.part.now) end)) (tree_of c.in_ok-value.value) (store_at x c.beside.new.store) (store_at x c.write_to.new.store) c.in_err-write_to.field-0.0 made (c.in_err-write_to.ensures.written (names_in x) are) in
+    search rules
+
+pub assignments::outcome-eval-given-requires : goal.assignments::outcome-eval-given-requires
+assignments::outcome-eval-given-requires t c =
+    (omega (arith, c.decreases), (c.requires.ready, c.requires.fits))
+
+pub assignments::outcome-returns-clause-ended : goal.assignments::outcome-returns-clause-ended
+assignments::outcome-returns-clause-ended t c = c.both_values.ensures.gives (meant c.args.context.now (linked_of c.args.part.now) c.args.store.now) (store_at c.args.context.now c.eval-given.new.store) c.eval-given.ensures.ended
+
+pub closures::iterate-over-requires : goal.closures::iterate-over-requires
+closures::iterate-over-requires t c =
+    let x = c.args.context.now in
+    let law = c.meanings_stay_well_formed.ensures in
+    let run = c.in_ok-run.run'.items in
+    let found : item_at 0 (items_of_trees (map tree_of run)) ≡ Some (tree_of c.in-Some.collection) = sym c.first_of.ensures ∙ ap (option_map tree_of) c.in-Some.is in (
+      omega (arith, c.decreases),
+      (
+        args_ready law x c.args.args.now c.args.store.now c.values.new.store run c.requires.args c.requires.ready c.in_ok-run.ensures.stays c.in_ok-run.ensures.ended,
+        (c.requires.slots, (c.requires.body, collection_formed law x c.args.args.now c.args.store.now c.values.new.store run (tree_of c.in-Some.collection) c.requires.args c.requires.ready c.in_ok-run.ensures.ended found)),
+      ),
+    )
+
+pub closures::iterate-returns-in-None-clause-ended : goal.closures::iterate-returns-in-None-clause-ended
+closures::iterate-returns-in-None-clause-ended t c =
+    let x = c.args.context.now in
+    let body = body_in x c.args.function (parts_view c.args.body.now) in
+    let run = c.in_ok-run.run'.items in
+    let found : item_at 0 (items_of_trees (map tree_of run)) ≡ None = sym c.first_of.ensures ∙ ap (option_map tree_of) c.in-None.is in
+    let is : tree_of values.Null ≡ null = search (rules, value_lemmas) in
+    let ended = none_given c.args.function body (store_at x c.values.new.store) ∙ ap (λ v. ends (value v) (store_at x c.values.new.store)) (sym is) in
+    iterate_ends x c.args.function body c.args.args.now run None c.args.store.now c.values.new.store (store_at x c.values.new.store) (Ok values.Null) c.in_ok-run.ensures.ended found ended
+
+pub closures::iterate-returns-in-Some-clause-ended : goal.closures::iterate-returns-in-Some-clause-ended
+closures::iterate-returns-in-Some-clause-ended t c =
+    let x = c.args.context.now in
+    let body = body_in x c.args.function (parts_view c.args.body.now) in
+    let run = c.in_ok-run.run'.items in
+    let found : item_at 0 (items_of_trees (map tree_of run)) ≡ Some (tree_of c.in-Some.collection) = sym c.first_of.ensures ∙ ap (option_map tree_of) c.in-Some.is in
+    iterate_ends x c.args.function body c.args.args.now run (Some (tree_of c.in-Some.collection)) c.args.store.now c.values.new.store (store_at x c.over.new.store) c.over.result c.in_ok-run.ensures.ended found c.over.ensures.ended
+
+pub closures::iterate-returns-in_err-run-clause-ended : goal.closures::iterate-returns-in_err-run-clause-ended
+closures::iterate-returns-in_err-run-clause-ended t c =
+    let x = c.args.context.now in
+    let body = body_in x c.args.function (parts_view c.args.body.now) in
+    let m = all_mean (names_in x) (setting_in x) (parts_view c.args.args.now) [] (store_at x c.args.store.now) in
+    let told : Stops (on_value m (λ vs after. acts (setting_in x) (called.iteration (form_in c.args.function)) body (items_in vs) after)) (store_at x c.values.new.store) c.in_err-run.field-0.0 =
+    after_stop m (λ vs after. acts (setting_in x) (called.iteration (form_in c.args.function)) body (items_in vs) after) (store_at x c.values.new.store) c.in_err-run.field-0.0
+    (array_stops x (map linked_of c.args.args.now) c.args.store.now (store_at x c.values.new.store) c.in_err-run.field-0.0 c.in_err-run.ensures.ended) in
+    search rules
+
+pub closures::iterate-values-requires : goal.closures::iterate-values-requires
+closures::iterate-values-requires t c =
+    (omega (arith, c.decreases), (c.requires.ready, c.requires.args))
+
+pub closures::iterate-returns-in-Some-clause-stays : goal.closures::iterate-returns-in-Some-clause-stays
+closures::iterate-returns-in-Some-clause-stays t c = stays_then c.args.store.now c.values.new.store c.over.new.store c.in_ok-run.ensures.stays c.over.ensures.stays
+
+pub closures::iteration-iterate-value-requires : goal.closures::iteration-iterate-value-requires
+closures::iteration-iterate-value-requires t c =
+    let a = out-Iteration c.args.iteration.now in
+    let args : c.deref.result.now ≡ a.args.items = search rules in
+    let body : c.deref-2.result.now ≡ a.body.items = search rules in
+    let is : iteration_of c.args.iteration.now ≡ iterate a.function a.bang (parts_view c.deref.result.now) (parts_view c.deref-2.result.now) = search (rules, the_lemmas) in
+    let fits = subst (FitsIn c.args.context.now) is c.requires.fits in
+    (omega (arith, c.decreases, ap linked_size is), (c.requires.ready, (fits.0, (fits.1.0, fits.1.1))))
+
+pub closures::iteration-returns-clause-ended : goal.closures::iteration-returns-clause-ended
+closures::iteration-returns-clause-ended t c =
+    let x = c.args.context.now in
+    let a = out-Iteration c.args.iteration.now in
+    let args : c.deref.result.now ≡ a.args.items = search rules in
+    let body : c.deref-2.result.now ≡ a.body.items = search rules in
+    let is : iteration_of c.args.iteration.now ≡ iterate a.function a.bang (parts_view c.deref.result.now) (parts_view c.deref-2.result.now) = search (rules, the_lemmas) in
+    let e = on_value (all_mean (names_in x) (setting_in x) (parts_view c.deref.result.now) [] (store_at x c.args.store.now)) (λ vs after. acts (setting_in x) (called.iteration (form_in a.function)) (body_in x a.function (parts_view c.deref-2.result.now)) (items_in vs) after) in
+    let t = store_at x c.iterate-value.new.store in
+    subst (λ n. Ends (meant x n c.args.store.now) t c.iterate-value.result) (sym is) (subst (λ b. Ends (banged_if b e) t c.iterate-value.result) (sym c.if-iteration.false) c.iterate-value.ensures.ended)
+
+pub closures::iteration-returns-then-iteration-clause-ended : goal.closures::iteration-returns-then-iteration-clause-ended
+closures::iteration-returns-then-iteration-clause-ended t c =
+    let x = c.args.context.now in
+    let a = out-Iteration c.args.iteration.now in
+    let args : c.deref.result.now ≡ a.args.items = search rules in
+    let body : c.deref-2.result.now ≡ a.body.items = search rules in
+    let is : iteration_of c.args.iteration.now ≡ iterate a.function a.bang (parts_view c.deref.result.now) (parts_view c.deref-2.result.now) = search (rules, the_lemmas) in
+    let e = on_value (all_mean (names_in x) (setting_in x) (parts_view c.deref.result.now) [] (store_at x c.args.store.now)) (λ vs after. acts (setting_in x) (called.iteration (form_in a.function)) (body_in x a.function (parts_view c.deref-2.result.now)) (items_in vs) after) in
+    let t = store_at x c.iterate-value.new.store in
+    subst (λ n. Ends (meant x n c.args.store.now) t c.banged.result) (sym is)
+    (subst (λ b. Ends (banged_if b e) t c.banged.result) (sym c.if-iteration.true) (c.banged.ensures.ends e t c.iterate-value.ensures.ended))
+
+pub closures::over-over_fields-requires : goal.closures::over-over_fields-requires
+closures::over-over_fields-requires t c =
+    let x = c.args.context.now in
+    let is : tree_of c.args.collection ≡ members (members_of c.in-Object.fields) = search (rules, value_lemmas) in
+    (omega (arith, c.decreases), (c.requires.ready, (c.requires.slots, (c.requires.fits, subst (IsWellFormed (length (setting_in x).sources)) is c.requires.formed))))
+
+pub closures::over-over_items-requires : goal.closures::over-over_items-requires
+closures::over-over_items-requires t c =
+    let x = c.args.context.now in
+    let is : tree_of c.args.collection ≡ items (items_of c.in-List.items) = search (rules, value_lemmas) in
+    let takes : takes_arrays c.args.function ≡ true = search rules in
+    (omega (arith, c.decreases), (c.requires.ready, (c.requires.slots, (c.requires.fits, (takes, subst (IsWellFormed (length (setting_in x).sources)) is c.requires.formed)))))
+
+pub closures::over-returns-else-not-takes_arrays-clause-ended : goal.closures::over-returns-else-not-takes_arrays-clause-ended
+closures::over-returns-else-not-takes_arrays-clause-ended t c =
+    let x = c.args.context.now in
+    let f = c.args.function in
+    let ts = items_of c.in-List.items in
+    let is : tree_of c.args.collection ≡ items ts = search (rules, value_lemmas) in
+    let takes : takes_arrays f ≡ true = search rules in
+    taken_ends f (body_in x f (parts_view c.args.body.now)) (items ts) (tree_of c.args.collection) (store_at x c.args.store.now) (store_at x c.over_items.new.store) c.over_items.result is
+    (ap (λ v. allows (collections (form_in f)) (tag_of v)) is ∙ arrays_taken f ts ∙ takes) c.over_items.ensures.ended
+
+pub closures::over-returns-in-Object-clause-ended : goal.closures::over-returns-in-Object-clause-ended
+closures::over-returns-in-Object-clause-ended t c =
+    let x = c.args.context.now in
+    let f = c.args.function in
+    let ms = members_of c.in-Object.fields in
+    let is : tree_of c.args.collection ≡ members ms = search (rules, value_lemmas) in
+    taken_ends f (body_in x f (parts_view c.args.body.now)) (members ms) (tree_of c.args.collection) (store_at x c.args.store.now) (store_at x c.over_fields.new.store) c.over_fields.result is
+    (ap (λ v. allows (collections (form_in f)) (tag_of v)) is ∙ objects_taken f ms) c.over_fields.ensures.ended
+
+pub closures::over-returns-then-not-takes_arrays-clause-ended : goal.closures::over-returns-then-not-takes_arrays-clause-ended
+closures::over-returns-then-not-takes_arrays-clause-ended t c =
+    let x = c.args.context.now in
+    let f = c.args.function in
+    let ts = items_of c.in-List.items in
+    let is : tree_of c.args.collection ≡ items ts = search (rules, value_lemmas) in
+    let refused : takes_arrays f ≡ false = search rules in
+    refused_ends f (body_in x f (parts_view c.args.body.now)) (tree_of c.args.collection) tags.List (store_at x c.args.store.now) c.refuse.result (ap tag_of (sym is))
+    (ap (λ v. allows (collections (form_in f)) (tag_of v)) is ∙ arrays_taken f ts ∙ refused) c.refuse.ensures
+
+pub closures::over-returns-in_default-clause-ended : goal.closures::over-returns-in_default-clause-ended
+closures::over-returns-in_default-clause-ended t c =
+    let x = c.args.context.now in
+    let f = c.args.function in
+    let plain : is_container (tree_of c.args.collection) ≡ false = search (rules, value_lemmas) in
+    refused_ends f (body_in x f (parts_view c.args.body.now)) (tree_of c.args.collection) c.tag.result (store_at x c.args.store.now) c.refuse-in_default.result c.tag.ensures
+    (other_is_refused f (tree_of c.args.collection) plain) c.refuse-in_default.ensures
+
+pub closures::over_fields-loop-name-init : goal.closures::over_fields-loop-name-init
+closures::over_fields-loop-name-init t c =
+    let it = c.into_iter-name-iterator.result in
+    let made = c.no_fields-made.result in
+    let same : members_view it ≡ members_of c.args.fields = search rules in
+    fields_begin c.args.context.now c.args.function (parts_view c.args.body.now) c.args.store.now (members_of c.args.fields) (members_view it) (members_of made.fields) made.are_named c.requires.ready c.requires.formed same
+    c.no_fields-made.ensures.fields c.no_fields-made.ensures.named
+
+pub closures::over_fields-loop-name-preserved : goal.closures::over_fields-loop-name-preserved
+closures::over_fields-loop-name-preserved t c =
+    let l = c.loop-name in
+    let x = c.args.context.now in
+    let f = c.args.function in
+    let left = c.next.new.self in
+    let k = string_bytes c.in-Some.name in
+    let part = tree_of c.in-Some.part in
+    let binds = subst (λ name. Binds f (string name) part c.in_ok-bindings.bindings) c.new.ensures c.in_ok-bindings.ensures.binds in
+    let kept = subst (λ name. IsFieldHeld f name part c.in_ok-bindings.held) c.new.ensures c.in_ok-bindings.ensures.held in
+    fields_turn c.meanings_stay_well_formed.ensures x f (parts_view c.args.body.now) c.args.store.now l.store c.run.new.store (members_view l.name-iterator) (members_view left) k part (tree_of c.in_ok-given.given) l.made c.put_field.new.made _
+    c.in_ok-bindings.bindings c.in_ok-bindings.held c.requires.fits l.invariant (ap members_view c.in-Some.ensures.steps) binds c.in_ok-given.ensures.ended c.in_ok-given.ensures.stays kept c.in_ok-put_field.ensures
+
+pub closures::over_fields-returns-clause-stays : goal.closures::over_fields-returns-clause-stays
+closures::over_fields-returns-clause-stays t c = c.loop-name.invariant.so_far.stays
+
+pub closures::over_fields-returns-in_err-given-clause-stays : goal.closures::over_fields-returns-in_err-given-clause-stays
+closures::over_fields-returns-in_err-given-clause-stays t c = stays_then c.args.store.now c.loop-name.store c.run.new.store c.loop-name.invariant.so_far.stays c.in_err-given.ensures.stays
+
+pub closures::over_fields-returns-in_err-put_field-clause-stays : goal.closures::over_fields-returns-in_err-put_field-clause-stays
+closures::over_fields-returns-in_err-put_field-clause-stays t c = stays_then c.args.store.now c.loop-name.store c.run.new.store c.loop-name.invariant.so_far.stays c.in_ok-given.ensures.stays
+
+pub closures::over_fields-returns-in_err-bindings-clause-stays : goal.closures::over_fields-returns-in_err-bindings-clause-stays
+closures::over_fields-returns-in_err-bindings-clause-stays t c = c.loop-name.invariant.so_far.stays
+
+pub closures::over_fields-returns-clause-ended : goal.closures::over_fields-returns-clause-ended
+closures::over_fields-returns-clause-ended t c =
+    let l = c.loop-name in
+    let x = c.args.context.now in
+    let none : l.name-iterator ≡ [] = search rules in
+    let made = made_in c.args.function l.made no_members [] in
+    let whole = fields_end x c.args.function (parts_view c.args.body.now) c.args.store.now l.store (members_view l.name-iterator) l.made _ l.invariant (ap members_view none) in
+    subst (λ e. Ends e (store_at x l.store) c.finish_fields.result) (sym whole) (gives_ends made (store_at x l.store) c.finish_fields.result c.finish_fields.ensures)
+
+pub closures::over_fields-returns-in_err-given-clause-ended : goal.closures::over_fields-returns-in_err-given-clause-ended
+closures::over_fields-returns-in_err-given-clause-ended t c =
+    let l = c.loop-name in
+    let x = c.args.context.now in
+    let f = c.args.function in
+    let body = body_in x f (parts_view c.args.body.now) in
+    let left = c.next.new.self in
+    let k = string_bytes c.in-Some.name in
+    let part = tree_of c.in-Some.part in
+    let binds = subst (λ name. Binds f (string name) part c.in_ok-bindings.bindings) c.new.ensures c.in_ok-bindings.ensures.binds in
+    let whole = iterated (form_in f) body (members (members_of c.args.fields)) None (store_at x c.args.store.now) in
+    let told : Stops whole (store_at x c.run.new.store) c.in_err-given.field-0.0 =
+    fields_stop x f (parts_view c.args.body.now) c.args.store.now l.store (members_view l.name-iterator) (members_view left) k part _ whole c.in_ok-bindings.bindings (store_at x c.run.new.store) c.in_err-given.field-0.0
+    l.invariant (ap members_view c.in-Some.ensures.steps) binds c.in_err-given.ensures.ended in
+    search rules
+
+pub closures::over_fields-run-requires : goal.closures::over_fields-run-requires
+closures::over_fields-run-requires t c =
+    let l = c.loop-name in
+    let x = c.args.context.now in
+    let f = c.args.function in
+    let left = c.next.new.self in
+    let k = string_bytes c.in-Some.name in
+    let part = tree_of c.in-Some.part in
+    let binds = subst (λ name. Binds f (string name) part c.in_ok-bindings.bindings) c.new.ensures c.in_ok-bindings.ensures.binds in (
+      omega (arith, c.decreases),
+      (
+        l.invariant.so_far.ready,
+        (
+          subst (AreKnownSlots (length (names_in x))) (sym binds.variables) c.requires.slots,
+          (
+            field_values x f (parts_view c.args.body.now) c.args.store.now l.store (members_view l.name-iterator) (members_view left) k part _ _ c.in_ok-bindings.bindings l.invariant (ap members_view c.in-Some.ensures.steps) binds,
+            c.requires.fits,
+          ),
+        ),
+      ),
+    )
+
+pub closures::over_items-item_bindings-requires : goal.closures::over_items-item_bindings-requires
+closures::over_items-item_bindings-requires t c =
+    let steps = c.in-Some.ensures.steps in
+    let longer = ap length steps.0 in
+    omega (arith, c.loop-item.invariant.small, longer)
+
+pub closures::over_items-loop-item-init : goal.closures::over_items-loop-item-init
+closures::over_items-loop-item-init t c =
+    let it = c.into_iter-item-iterator in
+    let same = it.ensures.into_iter_gives.0 in
+    let longer = ap length same in
+    record {
+      so_far = items_begin c.args.context.now c.args.function (parts_view c.args.body.now) c.args.store.now 0 (items_of c.args.items) _ _ c.requires.takes c.requires.ready c.requires.formed
+          (ap items_view same ∙ c.values_in-items.ensures.values) refl (ap (map tree_of) c.new-made.ensures.items);
+      as_many = search rules;
+      small = omega (arith, c.values_in-items.ensures.small, longer);
+    }
+
+pub closures::over_items-loop-item-preserved : goal.closures::over_items-loop-item-preserved
+closures::over_items-loop-item-preserved t c =
+    let l = c.loop-item in
+    let x = c.args.context.now in
+    let ns = parts_view c.args.body.now in
+    let left = into_iter_items c.next.new.self in
+    let steps = c.in-Some.ensures.steps in
+    let longer = ap length steps.0 in
+    record {
+      so_far = items_turn c.meanings_stay_well_formed.ensures x c.args.function ns c.args.store.now l.store c.run.new.store l.place (l.place + 1) _ (items_view left) (tree_of c.in-Some.item) (tree_of c.in_ok-given.given) (map tree_of l.made.items)
+          (map tree_of c.push_item.new.made.items) _ c.in_ok-bindings.bindings c.in_ok-bindings.held c.requires.fits l.invariant.so_far (ap items_view steps.0) (omega arith) c.in_ok-bindings.ensures.binds c.in_ok-given.ensures.ended c.in_ok-given.ensures.stays
+          c.in_ok-bindings.ensures.held c.in_ok-push_item.ensures;
+      as_many = one_gone (into_iter_items l.item-iterator) left c.in-Some.item _ _ steps.0 steps.1 l.invariant.as_many;
+      small = omega (arith, l.invariant.small, longer);
+    }
+
+pub closures::over_items-overflow_add-place : goal.closures::over_items-overflow_add-place
+closures::over_items-overflow_add-place t c = omega (arith, c.loop-item.invariant.small)
+
+pub closures::over_items-returns-clause-stays : goal.closures::over_items-returns-clause-stays
+closures::over_items-returns-clause-stays t c = c.loop-item.invariant.so_far.so_far.stays
+
+pub closures::over_items-returns-in_err-given-clause-stays : goal.closures::over_items-returns-in_err-given-clause-stays
+closures::over_items-returns-in_err-given-clause-stays t c = stays_then c.args.store.now c.loop-item.store c.run.new.store c.loop-item.invariant.so_far.so_far.stays c.in_err-given.ensures.stays
+
+pub closures::over_items-returns-in_err-push_item-clause-stays : goal.closures::over_items-returns-in_err-push_item-clause-stays
+closures::over_items-returns-in_err-push_item-clause-stays t c = stays_then c.args.store.now c.loop-item.store c.run.new.store c.loop-item.invariant.so_far.so_far.stays c.in_ok-given.ensures.stays
+
+pub closures::over_items-returns-in_err-bindings-clause-stays : goal.closures::over_items-returns-in_err-bindings-clause-stays
+closures::over_items-returns-in_err-bindings-clause-stays t c = c.loop-item.invariant.so_far.so_far.stays
+
+pub closures::over_items-returns-clause-ended : goal.closures::over_items-returns-clause-ended
+closures::over_items-returns-clause-ended t c =
+    let l = c.loop-item in
+    let x = c.args.context.now in
+    let none = none_left (into_iter_items l.item-iterator) _ l.invariant.as_many c.in-None.ensures.steps.0 in
+    let made = made_items c.args.function (map tree_of l.made.items) no_items [] in
+    let whole = items_end x c.args.function (parts_view c.args.body.now) c.args.store.now l.store l.place _ (map tree_of l.made.items) _ l.invariant.so_far (ap items_view none) in
+    subst (λ e. Ends e (store_at x l.store) c.finish_items.result) (sym whole) (gives_ends made (store_at x l.store) c.finish_items.result c.finish_items.ensures)
+
+pub closures::over_items-returns-in_err-given-clause-ended : goal.closures::over_items-returns-in_err-given-clause-ended
+closures::over_items-returns-in_err-given-clause-ended t c =
+    let l = c.loop-item in
+    let x = c.args.context.now in
+    let f = c.args.function in
+    let body = body_in x f (parts_view c.args.body.now) in
+    let left = into_iter_items c.next.new.self in
+    let whole = iterated (form_in f) body (items (items_of c.args.items)) None (store_at x c.args.store.now) in
+    let told : Stops whole (store_at x c.run.new.store) c.in_err-given.field-0.0 =
+    items_stop x f (parts_view c.args.body.now) c.args.store.now l.store l.place _ (items_view left) (tree_of c.in-Some.item) (map tree_of l.made.items) whole c.in_ok-bindings.bindings (store_at x c.run.new.store) c.in_err-given.field-0.0
+    l.invariant.so_far (ap items_view c.in-Some.ensures.steps.0) c.in_ok-bindings.ensures.binds c.in_err-given.ensures.ended in
+    search rules
+
+pub closures::over_items-run-requires : goal.closures::over_items-run-requires
+closures::over_items-run-requires t c =
+    let l = c.loop-item in
+    let x = c.args.context.now in
+    let left = into_iter_items c.next.new.self in (
+      omega (arith, c.decreases),
+      (
+        l.invariant.so_far.so_far.ready,
+        (
+          subst (AreKnownSlots (length (names_in x))) (sym c.in_ok-bindings.ensures.binds.variables) c.requires.slots,
+          (
+            item_values x c.args.function (parts_view c.args.body.now) c.args.store.now l.store l.place _ (items_view left) (tree_of c.in-Some.item) (map tree_of l.made.items) _ c.in_ok-bindings.bindings l.invariant.so_far
+                (ap items_view c.in-Some.ensures.steps.0) c.in_ok-bindings.ensures.binds,
+            c.requires.fits,
+          ),
+        ),
+      ),
+    )
+
+pub closures::run-bind-requires : goal.closures::run-bind-requires
+closures::run-bind-requires t c = known_slot c.args.context.now c.in-Two.first c.args.store.now c.requires.ready (rw c.in-Two.is at c.requires.slots).0
+
+pub closures::run-returns-in-One-clause-ended : goal.closures::run-returns-in-One-clause-ended
+closures::run-returns-in-One-clause-ended t c = rw c.in-One.is c.run_with.ensures.ended
+
+pub closures::run-returns-in_ok-hidden-in-Two-clause-ended : goal.closures::run-returns-in_ok-hidden-in-Two-clause-ended
+closures::run-returns-in_ok-hidden-in-Two-clause-ended t c =
+    let x = c.args.context.now in
+    let before = c.args.store.now in
+    let bound = c.bind.new.store in
+    let middle = c.run_with-given.new.store in
+    let first : Stays before bound = record { front = c.in_ok-hidden-in-Two.ensures.front; as_many = c.in_ok-hidden-in-Two.ensures.as_many } in
+    let stays = stays_then before bound middle first c.run_with-given.ensures.stays in
+    rw c.in-Two.is (two_names_end x c.in-Two.first c.in-Two.second (tree_of c.in-Two.key) (tree_of c.in-Two.value) (parts_view c.args.body.now) c.in_ok-hidden-in-Two.hidden before bound middle c.unbind.new.store c.count-count.result c.run_with-given.result
+    c.requires.ready stays c.count-count.ensures c.in_ok-hidden-in-Two.ensures.hidden (c.in_ok-hidden-in-Two.ensures.bound (names_in x) c.requires.ready.names) c.run_with-given.ensures.ended
+    (c.unbind.ensures.left (names_in x) (names_after (names_in x) before middle c.requires.ready.names stays)))
+
+pub closures::run-returns-in_ok-hidden-in-Two-clause-stays : goal.closures::run-returns-in_ok-hidden-in-Two-clause-stays
+closures::run-returns-in_ok-hidden-in-Two-clause-stays t c =
+    let before = c.args.store.now in
+    let bound = c.bind.new.store in
+    let middle = c.run_with-given.new.store in
+    let first : Stays before bound = record { front = c.in_ok-hidden-in-Two.ensures.front; as_many = c.in_ok-hidden-in-Two.ensures.as_many } in
+    let stays = stays_then before bound middle first c.run_with-given.ensures.stays in
+    stays_again before middle c.unbind.new.store c.count-count.result stays c.count-count.ensures c.unbind.ensures.present c.unbind.ensures.as_many
+
+pub closures::run-unbind-requires-clause-there : goal.closures::run-unbind-requires-clause-there
+closures::run-unbind-requires-clause-there t c =
+    let before = c.args.store.now in
+    let bound = c.bind.new.store in
+    let middle = c.run_with-given.new.store in
+    let first : Stays before bound = record { front = c.in_ok-hidden-in-Two.ensures.front; as_many = c.in_ok-hidden-in-Two.ensures.as_many } in
+    let stays = stays_then before bound middle first c.run_with-given.ensures.stays in
+    may_be_given_back c.in-Two.first c.in_ok-hidden-in-Two.hidden before (take c.count-count.result (present_of middle)) c.in_ok-hidden-in-Two.ensures.hidden (front_again before middle c.count-count.result stays c.count-count.ensures)
+
+pub closures::run-unbind-requires-clause-within : goal.closures::run-unbind-requires-clause-within
+closures::run-unbind-requires-clause-within t c =
+    let before = c.args.store.now in
+    let bound = c.bind.new.store in
+    let middle = c.run_with-given.new.store in
+    let first : Stays before bound = record { front = c.in_ok-hidden-in-Two.ensures.front; as_many = c.in_ok-hidden-in-Two.ensures.as_many } in
+    count_within before middle c.count-count.result (stays_then before bound middle first c.run_with-given.ensures.stays) c.count-count.ensures
+
+pub closures::run-run_with-given-requires : goal.closures::run-run_with-given-requires
+closures::run-run_with-given-requires t c =
+    let x = c.args.context.now in
+    let before = c.args.store.now in
+    let bound = c.bind.new.store in
+    let stays : Stays before bound = record { front = c.in_ok-hidden-in-Two.ensures.front; as_many = c.in_ok-hidden-in-Two.ensures.as_many } in
+    let slots = rw c.in-Two.is at c.requires.slots in
+    let formed = rw c.in-Two.is at c.requires.values in
+    (omega (arith, c.decreases), (bound_ready x c.in-Two.first (tree_of c.in-Two.key) before bound c.requires.ready stays formed.0 c.in_ok-hidden-in-Two.ensures.bound, (slots.1.0, (formed.1.0, c.requires.fits))))
+
+pub closures::run-run_with-requires : goal.closures::run-run_with-requires
+closures::run-run_with-requires t c =
+    let slots = rw c.in-One.is at c.requires.slots in
+    let formed = rw c.in-One.is at c.requires.values in
+    (omega (arith, c.decreases), (c.requires.ready, (slots.0, (formed.0, c.requires.fits))))
+
+pub closures::run_with-bind-requires : goal.closures::run_with-bind-requires
+closures::run_with-bind-requires t c = known_slot c.args.context.now c.args.slot c.args.store.now c.requires.ready c.requires.slot
+
+pub closures::run_with-items-given-requires : goal.closures::run_with-items-given-requires
+closures::run_with-items-given-requires t c =
+    let x = c.args.context.now in
+    let stays : Stays c.args.store.now c.bind.new.store = record { front = c.in_ok-hidden.ensures.front; as_many = c.in_ok-hidden.ensures.as_many } in
+    (omega (arith, c.decreases), (bound_ready x c.args.slot (tree_of c.args.value) c.args.store.now c.bind.new.store c.requires.ready stays c.requires.value c.in_ok-hidden.ensures.bound, c.requires.fits))
+
+pub closures::run_with-returns-clause-ended : goal.closures::run_with-returns-clause-ended
+closures::run_with-returns-clause-ended t c =
+    let x = c.args.context.now in
+    let before = c.args.store.now in
+    let bound = c.bind.new.store in
+    let middle = c.items-given.new.store in
+    let first : Stays before bound = record { front = c.in_ok-hidden.ensures.front; as_many = c.in_ok-hidden.ensures.as_many } in
+    let stays = stays_then before bound middle first c.items-given.ensures.stays in
+    one_name_ends x c.args.slot (tree_of c.args.value) (parts_view c.args.body.now) c.in_ok-hidden.hidden before bound middle c.unbind.new.store c.count-count.result c.items-given.result
+    c.requires.ready stays c.count-count.ensures c.in_ok-hidden.ensures.hidden (c.in_ok-hidden.ensures.bound (names_in x) c.requires.ready.names) c.items-given.ensures.ended
+    (c.unbind.ensures.left (names_in x) (names_after (names_in x) before middle c.requires.ready.names stays))
+
+pub closures::run_with-returns-clause-stays : goal.closures::run_with-returns-clause-stays
+closures::run_with-returns-clause-stays t c =
+    let before = c.args.store.now in
+    let bound = c.bind.new.store in
+    let middle = c.items-given.new.store in
+    let first : Stays before bound = record { front = c.in_ok-hidden.ensures.front; as_many = c.in_ok-hidden.ensures.as_many } in
+    let stays = stays_then before bound middle first c.items-given.ensures.stays in
+    stays_again before middle c.unbind.new.store c.count-count.result stays c.count-count.ensures c.unbind.ensures.present c.unbind.ensures.as_many
+
+pub closures::run_with-unbind-requires-clause-there : goal.closures::run_with-unbind-requires-clause-there
+closures::run_with-unbind-requires-clause-there t c =
+    let before = c.args.store.now in
+    let bound = c.bind.new.store in
+    let middle = c.items-given.new.store in
+    let first : Stays before bound = record { front = c.in_ok-hidden.ensures.front; as_many = c.in_ok-hidden.ensures.as_many } in
+    let stays = stays_then before bound middle first c.items-given.ensures.stays in
+    may_be_given_back c.args.slot c.in_ok-hidden.hidden before (take c.count-count.result (present_of middle)) c.in_ok-hidden.ensures.hidden (front_again before middle c.count-count.result stays c.count-count.ensures)
+
+pub closures::run_with-unbind-requires-clause-within : goal.closures::run_with-unbind-requires-clause-within
+closures::run_with-unbind-requires-clause-within t c =
+    let before = c.args.store.now in
+    let bound = c.bind.new.store in
+    let middle = c.items-given.new.store in
+    let first : Stays before bound = record { front = c.in_ok-hidden.ensures.front; as_many = c.in_ok-hidden.ensures.as_many } in
+    count_within before middle c.count-count.result (stays_then before bound middle first c.items-given.ensures.stays) c.count-count.ensures

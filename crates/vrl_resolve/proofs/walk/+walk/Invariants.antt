@@ -26,9 +26,6 @@ decreases-answer l = 16 * parts_size (parts_view l.args.now) + 17
 abbrev pub decreases-array : goal.decreases-array
 decreases-array l = 16 * parts_size (parts_view l.parts.now) + 17
 
-abbrev pub decreases-assign : goal.decreases-assign
-decreases-assign l = 16 * linked_size (linked_of l.part.now) + 16
-
 abbrev pub decreases-beside : goal.decreases-beside
 decreases-beside l = 16 * linked_size (linked_of l.right.now) + 16
 
@@ -37,9 +34,6 @@ decreases-binary l = 16 * (linked_size (linked_of l.left.now) + linked_size (lin
 
 abbrev pub decreases-block : goal.decreases-block
 decreases-block l = 16 * parts_size (parts_view l.body.now) + 17
-
-abbrev pub decreases-both : goal.decreases-both
-decreases-both l = 16 * linked_size (linked_of l.part.now) + 17
 
 abbrev pub decreases-call : goal.decreases-call
 decreases-call l = 16 * linked_size (call_of l.call.now) + 14
@@ -65,44 +59,50 @@ decreases-holds l = 16 * linked_size (linked_of l.node.now) + 16
 abbrev pub decreases-items : goal.decreases-items
 decreases-items l = 16 * parts_size (parts_view l.items.now) + 16
 
-abbrev pub decreases-iterate : goal.decreases-iterate
-decreases-iterate l = 16 * (parts_size (parts_view l.args.now) + parts_size (parts_view l.body.now)) + 21
-
-abbrev pub decreases-iteration : goal.decreases-iteration
-decreases-iteration l = 16 * linked_size (iteration_of l.iteration.now) + 14
-
-abbrev pub decreases-merge : goal.decreases-merge
-decreases-merge l = 16 * linked_size (linked_of l.part.now) + 18
-
 abbrev pub decreases-negation : goal.decreases-negation
 decreases-negation l = 16 * linked_size (linked_of l.part.now) + 16
 
 abbrev pub decreases-object : goal.decreases-object
 decreases-object l = 16 * pairs_size (pairs_view l.pairs.now) + 16
 
-abbrev pub decreases-outcome : goal.decreases-outcome
-decreases-outcome l = 16 * linked_size (linked_of l.part.now) + 16
-
-abbrev pub decreases-over : goal.decreases-over
-decreases-over l = 16 * parts_size (parts_view l.body.now) + 20
-
-abbrev pub decreases-over_fields : goal.decreases-over_fields
-decreases-over_fields l = 16 * parts_size (parts_view l.body.now) + 19
-
-abbrev pub decreases-over_items : goal.decreases-over_items
-decreases-over_items l = 16 * parts_size (parts_view l.body.now) + 19
-
 abbrev pub decreases-query : goal.decreases-query
 decreases-query l = 16 * linked_size (linked_of l.part.now) + 16
 
-abbrev pub decreases-run : goal.decreases-run
-decreases-run l = 16 * parts_size (parts_view l.body.now) + 18
-
-abbrev pub decreases-run_with : goal.decreases-run_with
-decreases-run_with l = 16 * parts_size (parts_view l.body.now) + 17
-
 abbrev pub decreases-values : goal.decreases-values
 decreases-values l = 16 * parts_size (parts_view l.nodes.now) + 16
+
+abbrev pub decreases-assignments::assign : goal.decreases-assignments::assign
+decreases-assignments::assign l = 16 * linked_size (linked_of l.part.now) + 16
+
+abbrev pub decreases-assignments::both : goal.decreases-assignments::both
+decreases-assignments::both l = 16 * linked_size (linked_of l.part.now) + 17
+
+abbrev pub decreases-assignments::merge : goal.decreases-assignments::merge
+decreases-assignments::merge l = 16 * linked_size (linked_of l.part.now) + 18
+
+abbrev pub decreases-assignments::outcome : goal.decreases-assignments::outcome
+decreases-assignments::outcome l = 16 * linked_size (linked_of l.part.now) + 16
+
+abbrev pub decreases-closures::iterate : goal.decreases-closures::iterate
+decreases-closures::iterate l = 16 * (parts_size (parts_view l.args.now) + parts_size (parts_view l.body.now)) + 21
+
+abbrev pub decreases-closures::iteration : goal.decreases-closures::iteration
+decreases-closures::iteration l = 16 * linked_size (iteration_of l.iteration.now) + 14
+
+abbrev pub decreases-closures::over : goal.decreases-closures::over
+decreases-closures::over l = 16 * parts_size (parts_view l.body.now) + 20
+
+abbrev pub decreases-closures::over_fields : goal.decreases-closures::over_fields
+decreases-closures::over_fields l = 16 * parts_size (parts_view l.body.now) + 19
+
+abbrev pub decreases-closures::over_items : goal.decreases-closures::over_items
+decreases-closures::over_items l = 16 * parts_size (parts_view l.body.now) + 19
+
+abbrev pub decreases-closures::run : goal.decreases-closures::run
+decreases-closures::run l = 16 * parts_size (parts_view l.body.now) + 18
+
+abbrev pub decreases-closures::run_with : goal.decreases-closures::run_with
+decreases-closures::run_with l = 16 * parts_size (parts_view l.body.now) + 17
 
 -- the values of what is left, behind those so far, are those of all, whatever stands behind them
 abbrev pub invariant-values-loop-node : goal.invariant-values-loop-node
@@ -146,15 +146,15 @@ invariant-conditional-loop-arm l = record {
 }
 
 -- what is left gives, behind what was made so far, what all gives
-abbrev pub invariant-over_items-loop-item : goal.invariant-over_items-loop-item
-invariant-over_items-loop-item l = record {
+abbrev pub invariant-closures::over_items-loop-item : goal.invariant-closures::over_items-loop-item
+invariant-closures::over_items-loop-item l = record {
   so_far : IsOverItems l.context l.function (parts_view l.body) l.initial.store l.store l.place (items_view (into_iter_items l.item-iterator)) (map tree_of l.made.items)
       (iterated (form_in l.function) (body_in l.context l.function (parts_view l.body)) (array_tree (items_of l.fn.items)) None (store_at l.context l.initial.store));
   as_many : into_iter_len l.item-iterator ≡ length (into_iter_items l.item-iterator);
   small : l.place + length (into_iter_items l.item-iterator) < 2 ^ 63;
 }
 
-abbrev pub invariant-over_fields-loop-name : goal.invariant-over_fields-loop-name
-invariant-over_fields-loop-name l =
+abbrev pub invariant-closures::over_fields-loop-name : goal.invariant-closures::over_fields-loop-name
+invariant-closures::over_fields-loop-name l =
     IsOverFields l.context l.function (parts_view l.body) l.initial.store l.store (members_view l.name-iterator) (made_in l.function l.made (members_view l.name-iterator))
     (iterated (form_in l.function) (body_in l.context l.function (parts_view l.body)) (object_tree (members_of l.fn.fields)) None (store_at l.context l.initial.store))
