@@ -1,6 +1,9 @@
-//! The tests of the language's functions: each with arguments in text, what it answers, and what is known before it is called.
+//! The tests of the language's functions: how a call's arguments are bound to the parameters of one; and each with arguments in text, what it answers, and
+//! what is known before it is called.
 #![tactic(auto)]
 
+#[cfg(test)]
+mod binding;
 #[cfg(test)]
 mod calling;
 #[cfg(test)]
