@@ -1,13 +1,13 @@
 // Branches, blocks and calls by themselves, and how they end.
-use crate::running::{Row, expect_rows};
+use crate::running::{Row, expect_rows, unchanged};
 use vrl_value::Memory;
 
 // Blocks, branches and ends.
 const BRANCHES: [Row; 22] = [
-    ("{ x = 1 }", "{}", "= 1", "{}", "{}"),
+    unchanged!("{ x = 1 }", "= 1"),
     ("x = 1\n{ x = 2; y = 3 }\nx", "{}", "= 2", "{}", "{\"x\":2}"),
-    ("({ x = 1; to_int(\"q\") }) ?? 2", "{}", "= 2", "{}", "{}"),
-    ("{ x = 1; return x }", "{}", "= 1", "{}", "{}"),
+    unchanged!("({ x = 1; to_int(\"q\") }) ?? 2", "= 2"),
+    unchanged!("{ x = 1; return x }", "= 1"),
     (
         "{ x = {\"a\":1} }\nx.b = 2",
         "{}",
@@ -15,7 +15,7 @@ const BRANCHES: [Row; 22] = [
         "{}",
         "{\"x\":{\"b\":2}}",
     ),
-    ("if true { x = 1 }", "{}", "= 1", "{}", "{}"),
+    unchanged!("if true { x = 1 }", "= 1"),
     (
         "if (x = true) { y = 1 }\nx",
         "{}",
@@ -23,15 +23,9 @@ const BRANCHES: [Row; 22] = [
         "{}",
         "{\"x\":true}",
     ),
-    (
-        "if false { 1 } else if true { 2 } else { 3 }",
-        "{}",
-        "= 2",
-        "{}",
-        "{}",
-    ),
-    ("if false { 1 } else { 3 }", "{}", "= 3", "{}", "{}"),
-    ("if false { 1 }", "{}", "= null", "{}", "{}"),
+    unchanged!("if false { 1 } else if true { 2 } else { 3 }", "= 2"),
+    unchanged!("if false { 1 } else { 3 }", "= 3"),
+    unchanged!("if false { 1 }", "= null"),
     ("y = { 1; 2 }", "{}", "= 2", "{}", "{\"y\":2}"),
     (
         "y = if true { .a = 5 } else { 1 }",
@@ -48,11 +42,11 @@ const BRANCHES: [Row; 22] = [
         "{\"a\":2}",
         "{}",
     ),
-    ("abort", "{}", "abort", "{}", "{}"),
-    ("abort \"a\" + \"b\"", "{}", "abort ab", "{}", "{}"),
+    unchanged!("abort", "abort"),
+    unchanged!("abort \"a\" + \"b\"", "abort ab"),
     (".b = 1\nabort", "{}", "abort", "{\"b\":1}", "{}"),
-    ("return .a\n.b = 1", "{\"a\":2}", "= 2", "{\"a\":2}", "{}"),
-    ("x = [1, (abort), 2]", "{}", "abort", "{}", "{}"),
+    unchanged!("return .a\n.b = 1", "{\"a\":2}", "= 2"),
+    unchanged!("x = [1, (abort), 2]", "abort"),
     (
         "[(x = 1), (x = 2), x]",
         "{}",
@@ -60,13 +54,7 @@ const BRANCHES: [Row; 22] = [
         "{}",
         "{\"x\":2}",
     ),
-    (
-        "{\"a\": 1, \"a\": 2, \"b\": 3}",
-        "{}",
-        "= {\"a\":2,\"b\":3}",
-        "{}",
-        "{}",
-    ),
+    unchanged!("{\"a\": 1, \"a\": 2, \"b\": 3}", "= {\"a\":2,\"b\":3}"),
     (
         "{\"b\": (x = 1), \"a\": (x = 2)}",
         "{}",
@@ -85,7 +73,7 @@ const CALLS: [Row; 13] = [
         "{}",
         "{\"e\":\"mod: modulus is 0\",\"x\":0}",
     ),
-    ("mod(modulus: 4, value: 7)", "{}", "= 3", "{}", "{}"),
+    unchanged!("mod(modulus: 4, value: 7)", "= 3"),
     ("mod((x = 7), (x = 4)) ?? 0", "{}", "= 3", "{}", "{\"x\":4}"),
     (
         "mod(modulus: (x = 4), value: (x = 7)) ?? 0",
@@ -123,12 +111,10 @@ const CALLS: [Row; 13] = [
         "{\"b\":[]}",
         "{\"e\":\"mod: argument modulus is array\",\"x\":0}",
     ),
-    (
+    unchanged!(
         "x = 1\ny = abs!((x = .a))",
         "{\"a\":\"s\"}",
-        "bang abs: argument value is string",
-        "{\"a\":\"s\"}",
-        "{}",
+        "bang abs: argument value is string"
     ),
     (
         ".b = 2\nx = int!(.a)",
@@ -137,14 +123,12 @@ const CALLS: [Row; 13] = [
         "{\"a\":\"s\",\"b\":2}",
         "{}",
     ),
-    (
+    unchanged!(
         "x = mod!(.a, (to_int!(.a)))",
         "{\"a\":\"s\"}",
-        "bang to_int: not a whole number",
-        "{\"a\":\"s\"}",
-        "{}",
+        "bang to_int: not a whole number"
     ),
-    ("is_empty([]) && exists(.a)", "{}", "= false", "{}", "{}"),
+    unchanged!("is_empty([]) && exists(.a)", "= false"),
 ];
 
 #[test]

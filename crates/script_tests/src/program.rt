@@ -2,11 +2,11 @@
 use remap_call::remap;
 use std::alloc::Global;
 use std::process::Abort;
-use std::sync::atomic::{AtomicU64, Ordering};
 use std::thread::Threads;
 use vrl_batch::{FreeGate, Gate};
 use vrl_io::{MemoryClock, MemorySink, MemorySource, MemoryStore};
 use vrl_run::Status;
+use vrl_tests::Meeting;
 use vrl_value::{Bytes, Chars, Memory};
 
 // What is written by a call: its status, and what its sinks hold.
@@ -131,37 +131,6 @@ fn batches_are_written(rt: HostRuntime) -> Result<(), Memory> {
     Ok(())
 }
 
-// Notes that place 0 or place 32 has come, and then waits for the other one. It notes a miss where that doesn't come.
-#[derive(Drop)]
-struct Meeting {
-    first: AtomicU64,
-    second: AtomicU64,
-    missed: AtomicU64,
-}
-
-impl Meeting {
-    fn meet(&self, mine: &AtomicU64, other: &AtomicU64) {
-        mine.store(1, Ordering::SeqCst);
-        for _ in 0..100_000_000u32 {
-            if other.load(Ordering::SeqCst) == 1 {
-                return;
-            }
-        }
-        self.missed.store(1, Ordering::SeqCst);
-    }
-}
-
-impl Gate for Meeting {
-    fn pass(&self, place: usize) {
-        if place == 0 {
-            self.meet(&self.first, &self.second);
-        }
-        if place == 32 {
-            self.meet(&self.second, &self.first);
-        }
-    }
-}
-
 // Whether place 0 and place 32 of 64 lines meet.
 fn is_met<R: Threads + Sync>(
     rt: &R,
@@ -169,17 +138,9 @@ fn is_met<R: Threads + Sync>(
     words: &[&str],
     size: usize,
 ) -> Result<bool, Memory> {
-    let meeting = Meeting {
-        first: AtomicU64::new(0),
-        second: AtomicU64::new(0),
-        missed: AtomicU64::new(0),
-    };
+    let meeting = Meeting::within(100_000_000);
     let written = call(rt, alloc, words, 64, None, &meeting)?;
-    Ok(
-        written.status == Status::Done
-            && written.output.len() >= size
-            && meeting.missed.load(Ordering::SeqCst) == 0,
-    )
+    Ok(written.status == Status::Done && written.output.len() >= size && !meeting.is_missed())
 }
 
 #[test]

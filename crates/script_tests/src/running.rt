@@ -24,6 +24,18 @@ pub(crate) type Row = (
     &'static str,
 );
 
+// The row of a script that leaves its event as it was, `{}` where none is given, and no variable.
+macro_rules! unchanged {
+    ($script:expr, $end:expr) => {
+        unchanged!($script, "{}", $end)
+    };
+    ($script:expr, $event:expr, $end:expr) => {
+        ($script, $event, $end, $event, "{}")
+    };
+}
+
+pub(crate) use unchanged;
+
 // The kind of events: objects of JSON.
 pub(crate) fn event_kind(alloc: Global) -> Result<Kind, Memory>
     ensures { IfOk result (λ kind. kind ≡ object_kind no_fields json_rest) }

@@ -8,7 +8,8 @@ use std::alloc::Global;
 use std::process::Abort;
 use vrl_path::{Path, SetFault, Step};
 use vrl_store::{Base, Place, Store};
-use vrl_value::{Chars, Items, Memory, Value};
+use vrl_tests::nested_arrays;
+use vrl_value::{Chars, Memory, Value};
 
 // Where something is done.
 #[derive(Clone, Copy)]
@@ -200,17 +201,6 @@ fn write(alloc: Global, store: &mut Store, place: &Place, value: Value) -> Resul
     }
 }
 
-// Arrays in one another, this many.
-fn nest(alloc: Global, depth: u64) -> Result<Value, Memory> {
-    let mut value = Value::Null;
-    for _level in 0..depth {
-        let mut items = Vec::new(alloc);
-        items.push(value)?;
-        value = Value::List(Items::new(items));
-    }
-    Ok(value)
-}
-
 // Does a step, and gives what it gives; null for a block that ends.
 fn done(
     alloc: Global,
@@ -225,7 +215,7 @@ fn done(
     let place = place_of(alloc, root, field)?;
     match act {
         Act::Write(text) => write(alloc, store, &place, json_of(alloc, text)?),
-        Act::WriteDeep(depth) => write(alloc, store, &place, nest(alloc, depth)?),
+        Act::WriteDeep(depth) => write(alloc, store, &place, nested_arrays(alloc, depth)?),
         Act::Take => store.take(alloc, &place),
         Act::Leave(count) => {
             if count <= store.count() {

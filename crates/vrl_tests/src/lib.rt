@@ -14,6 +14,8 @@ mod kind_files;
 mod kinds;
 #[cfg(test)]
 mod lines;
+mod meeting;
+mod nesting;
 #[cfg(test)]
 mod paths;
 #[cfg(test)]
@@ -26,4 +28,6 @@ mod values;
 #[cfg(test)]
 mod workers;
 
+pub use meeting::Meeting;
+pub use nesting::nested_arrays;
 pub use sharing::shareable;

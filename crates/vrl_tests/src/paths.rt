@@ -1,6 +1,7 @@
 ghost use Rattle.std.specs.Prelude.{IfOk};
 ghost use Rattle.vrl_path.specs.Steps.{IsPlain, IsWritable};
 
+use crate::nesting::nested_arrays;
 use std::alloc::Global;
 use std::collections::BTreeMap;
 use std::process::Abort;
@@ -53,17 +54,6 @@ fn array(alloc: Global, numbers: &[i64]) -> Result<Value, Memory> {
         })?;
     }
     Ok(Value::List(Items::new(items)))
-}
-
-// Arrays in one another, this many.
-fn nest(alloc: Global, depth: u64) -> Result<Value, Memory> {
-    let mut value = Value::Null;
-    for _level in 0..depth {
-        let mut items = Vec::new(alloc);
-        items.push(value)?;
-        value = Value::List(Items::new(items));
-    }
-    Ok(value)
 }
 
 // Whether the number read at `.a[place]` in `{"a":[1,2]}` is this one.
@@ -151,13 +141,13 @@ fn removals(rt: HostRuntime) -> Result<(), Memory> {
 // Sets `.a` to arrays in one another, this many; `put` where it may be too deep.
 fn set_nest(alloc: Global, value: &mut Value, depth: u64) -> Result<Result<(), SetFault>, Memory> {
     let field = field(alloc)?;
-    let inner = nest(alloc, depth)?;
+    let inner = nested_arrays(alloc, depth)?;
     Ok(set(alloc, value, &field, inner))
 }
 
 fn put_nest(alloc: Global, value: &mut Value, depth: u64) -> Result<bool, Memory> {
     let field = field(alloc)?;
-    let inner = nest(alloc, depth)?;
+    let inner = nested_arrays(alloc, depth)?;
     Ok(put(alloc, value, &field, inner).is_ok())
 }
 

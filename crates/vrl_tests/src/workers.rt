@@ -1,4 +1,5 @@
 // Workers on the lines of a batch.
+use crate::meeting::Meeting;
 use std::alloc::Global;
 use std::process::Abort;
 use std::sync::atomic::{AtomicU64, Ordering};
@@ -84,52 +85,11 @@ fn results_in_order(rt: HostRuntime) -> Result<(), Memory> {
     Ok(())
 }
 
-// Notes that place 0 or place 32 has come, and then waits for the other one, for so many turns. It notes a miss where that doesn't come.
-#[derive(Drop)]
-struct Meeting {
-    first: AtomicU64,
-    second: AtomicU64,
-    missed: AtomicU64,
-    turns: u32,
-}
-
-impl Meeting {
-    fn within(turns: u32) -> Meeting {
-        Meeting {
-            first: AtomicU64::new(0),
-            second: AtomicU64::new(0),
-            missed: AtomicU64::new(0),
-            turns,
-        }
-    }
-
-    fn meet(&self, mine: &AtomicU64, other: &AtomicU64) {
-        mine.store(1, Ordering::SeqCst);
-        for _ in 0..self.turns {
-            if other.load(Ordering::SeqCst) == 1 {
-                return;
-            }
-        }
-        self.missed.store(1, Ordering::SeqCst);
-    }
-}
-
-impl Gate for Meeting {
-    fn pass(&self, place: usize) {
-        if place == 0 {
-            self.meet(&self.first, &self.second);
-        }
-        if place == 32 {
-            self.meet(&self.second, &self.first);
-        }
-    }
-}
-
 #[test]
 fn two_workers_meet(rt: HostRuntime) -> Result<(), Memory> {
     let meeting = Meeting::within(100_000_000);
     assert!(rt; is_mapped(&rt, rt.alloc(), 64, 2, &meeting)?);
-    assert!(rt; meeting.missed.load(Ordering::SeqCst) == 0);
+    assert!(rt; !meeting.is_missed());
     Ok(())
 }
 
@@ -137,7 +97,7 @@ fn two_workers_meet(rt: HostRuntime) -> Result<(), Memory> {
 fn one_worker_meets_nobody(rt: HostRuntime) -> Result<(), Memory> {
     let meeting = Meeting::within(10_000_000);
     assert!(rt; is_mapped(&rt, rt.alloc(), 64, 1, &meeting)?);
-    assert!(rt; meeting.missed.load(Ordering::SeqCst) == 1);
+    assert!(rt; meeting.is_missed());
     Ok(())
 }
 

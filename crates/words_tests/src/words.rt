@@ -3,72 +3,43 @@ use std::alloc::{AllocError, Global};
 use std::process::Abort;
 use std::test::Fail;
 
+/// What the name of a script alone asks for.
+const PLAIN: Invocation = Invocation {
+    script: "s",
+    kind: None,
+    jobs: 1,
+    drop_on_error: false,
+    keep_on_abort: false,
+    mode: Mode::Lines,
+};
+
 /// Lists of words, which stand between strokes, and what they ask for.
 const READ: [(&str, Option<Invocation>); 9] = [
-    (
-        "s",
-        Some(Invocation {
-            script: "s",
-            kind: None,
-            jobs: 1,
-            drop_on_error: false,
-            keep_on_abort: false,
-            mode: Mode::Lines,
-        }),
-    ),
-    (
-        "s|--jobs|08",
-        Some(Invocation {
-            script: "s",
-            kind: None,
-            jobs: 8,
-            drop_on_error: false,
-            keep_on_abort: false,
-            mode: Mode::Lines,
-        }),
-    ),
-    (
-        "--jobs=32|s",
-        Some(Invocation {
-            script: "s",
-            kind: None,
-            jobs: 32,
-            drop_on_error: false,
-            keep_on_abort: false,
-            mode: Mode::Lines,
-        }),
-    ),
+    ("s", Some(PLAIN)),
+    ("s|--jobs|08", Some(Invocation { jobs: 8, ..PLAIN })),
+    ("--jobs=32|s", Some(Invocation { jobs: 32, ..PLAIN })),
     (
         "--drop-on-error|--|-s",
         Some(Invocation {
             script: "-s",
-            kind: None,
-            jobs: 1,
             drop_on_error: true,
-            keep_on_abort: false,
-            mode: Mode::Lines,
+            ..PLAIN
         }),
     ),
     (
         "--keep-on-abort|--check|s|--kind|k",
         Some(Invocation {
-            script: "s",
             kind: Some("k"),
-            jobs: 1,
-            drop_on_error: false,
             keep_on_abort: true,
             mode: Mode::Check,
+            ..PLAIN
         }),
     ),
     (
         "s|--kind=-x",
         Some(Invocation {
-            script: "s",
             kind: Some("-x"),
-            jobs: 1,
-            drop_on_error: false,
-            keep_on_abort: false,
-            mode: Mode::Lines,
+            ..PLAIN
         }),
     ),
     (
@@ -76,35 +47,24 @@ const READ: [(&str, Option<Invocation>); 9] = [
         Some(Invocation {
             script: "--",
             kind: Some("a=b"),
-            jobs: 1,
-            drop_on_error: false,
-            keep_on_abort: false,
-            mode: Mode::Lines,
+            ..PLAIN
         }),
     ),
     (
         "--generate|1:1|s",
         Some(Invocation {
-            script: "s",
-            kind: None,
-            jobs: 1,
-            drop_on_error: false,
-            keep_on_abort: false,
             mode: Mode::Generate { count: 1, seed: 1 },
+            ..PLAIN
         }),
     ),
     (
         "s|--generate=1000000:4294967295",
         Some(Invocation {
-            script: "s",
-            kind: None,
-            jobs: 1,
-            drop_on_error: false,
-            keep_on_abort: false,
             mode: Mode::Generate {
                 count: 1_000_000,
                 seed: 4_294_967_295,
             },
+            ..PLAIN
         }),
     ),
 ];
