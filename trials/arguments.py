@@ -4,12 +4,20 @@
 length of a text, paths that a value has, digits of a base, delimiters that stand in a text.
 """
 
-import functions
-import json_lines
-import patterns
-import urls
-from functions import SHA2, TAGS, UNITS, WHITE
-from values import flag, objects, text, moment_text
+import base64
+
+import some_json_lines
+import some_patterns
+import some_urls
+from reading import dates, json_lines, urls
+from reading.functions import ROWS
+from reading.functions_of_codecs import SHA2
+from reading.functions_of_numbers import DIGITS
+from reading.functions_of_strings import WHITE
+from reading.functions_of_time import UNITS
+from reading.kinds import TAGS
+from reading.moments import FIRST_SECOND, LAST_SECOND, moment_text
+from reading.values import flag, objects, plain, text
 
 LEAST, GREATEST = -2 ** 63, 2 ** 63 - 1
 LETTERS = ["a", "b", "B", "c", "z", "Z", "@", "[", "`", "{", "0", "9", "-", "_", ".", " ", "=", ",", ";", "\"", "\\", "'", "\n", "\t", "\r", "\0", "\x7f", "é", "É", "ß", "İ", "ſ", "\u212a",
@@ -17,7 +25,7 @@ LETTERS = ["a", "b", "B", "c", "z", "Z", "@", "[", "`", "{", "0", "9", "-", "_",
 WORDS = ["", "a", "ab", "abc", "aXb,a", "a,b,c", "é", "aéa", "k=v", "hello world", "-", "null", "true", "1", "x" * 40]
 BLANKS = list(WHITE) + ["\u200b", "\ufeff", "\x1c", "\x1f", "\u180e"]
 SIZES = [0, 1, 2, 3, 55, 56, 57, 63, 64, 65, 111, 112, 113, 119, 120, 127, 128, 129, 135, 136, 200, 1000]
-SECONDS = [functions.dates.FIRST, functions.dates.FIRST + 1, functions.dates.LAST, functions.dates.LAST - 1, 0, -1, 1, 59, 60, 86399, 86400, -86400, 951782399, 951782400, 1709164800, 4107542399,
+SECONDS = [FIRST_SECOND, FIRST_SECOND + 1, LAST_SECOND, LAST_SECOND - 1, 0, -1, 1, 59, 60, 86399, 86400, -86400, 951782399, 951782400, 1709164800, 4107542399,
            -2203891200, -2208988800, -9223372037, -9223372036, 9223372036, 9223372037, 1700000000]
 FRACTIONS = [0, 0, 1, 10, 999, 1000, 120000, 999999, 1000000, 500000000, 123456789, 999999999, 999000000]
 NUMBERS = [0, 1, -1, 2, -2, 3, 7, 8, 9, 10, 16, 36, 37, 63, 64, 255, 256, 65535, 65536, -65536, 2 ** 31 - 1, 2 ** 31, -2 ** 31, 2 ** 32, 2 ** 53, 2 ** 62, GREATEST, GREATEST - 1, LEAST, LEAST + 1]
@@ -33,7 +41,7 @@ class Arguments:
     def __init__(self, rng, sources):
         """sources: the regexes that arguments may have, as many as a script may hold."""
         self.rng, self.sources = rng, sources
-        self.urls, self.lines = urls.Maker(rng), json_lines.Maker(rng)
+        self.urls, self.lines = some_urls.Maker(rng), some_json_lines.Maker(rng)
 
     # ---- values of each tag
 
@@ -61,7 +69,7 @@ class Arguments:
         return self.rng.choice([0, 0, 1, -1, size, size - 1, size + 1, -size, -size - 1, 1 - size, size // 2, -(size // 2), self.rng.randint(-size - 2, size + 2)])
 
     def moment(self):
-        seconds = self.rng.choice(SECONDS) if self.chance(0.6) else self.rng.randint(functions.dates.FIRST, functions.dates.LAST)
+        seconds = self.rng.choice(SECONDS) if self.chance(0.6) else self.rng.randint(FIRST_SECOND, LAST_SECOND)
         return seconds * 10 ** 9 + self.rng.choice(FRACTIONS)
 
     def value(self, tag, depth=2, json=False):
@@ -96,7 +104,7 @@ class Arguments:
 
     def draw(self, name, given):
         """Values for these parameters, of tags that they allow but for a few."""
-        row = functions.ROWS[name]
+        row = ROWS[name]
         make = getattr(self, "for_" + name, None)
         made = make(given) if make else {}
         for one in row.parameters:
@@ -127,7 +135,7 @@ class Arguments:
             radix, prefix = rng.choice([(10, ""), (10, ""), (16, "0x"), (2, "0b"), (8, "0o"), (8, "0")])
         digits = ""
         while number or not digits:
-            digits = functions.DIGITS[number % radix] + digits
+            digits = DIGITS[number % radix] + digits
             number //= radix
         if self.chance(0.3):
             digits = digits.upper()
@@ -136,7 +144,7 @@ class Arguments:
         told = rng.choice(["", "", "-", "+"]) + prefix + digits
         if self.chance(0.1):
             place = rng.randrange(len(told) + 1)
-            told = told[:place] + rng.choice(["_", " ", "g", "z", "9", "x", "-", "é", functions.DIGITS[radix] if radix < 36 else "{"]) + told[place:]
+            told = told[:place] + rng.choice(["_", " ", "g", "z", "9", "x", "-", "é", DIGITS[radix] if radix < 36 else "{"]) + told[place:]
         return told
 
     def for_to_int(self, given):
@@ -288,7 +296,7 @@ class Arguments:
         return bytes(self.rng.choice([0, 1, 0x41, 0x7f, 0x80, 0xbf, 0xc0, 0xc3, 0xa9, 0xe2, 0x82, 0xac, 0xed, 0xa0, 0xf0, 0x9f, 0x98, 0x80, 0xf4, 0x90, 0xff, 0xfb, 0xef]) for _ in range(self.rng.randrange(6)))
 
     def for_decode_base64(self, given):
-        told = functions.base64.b64encode(self.data()).decode()
+        told = base64.b64encode(self.data()).decode()
         return {"value": text(self.spoilt(told, ["=", "==", "-", "_", "+", "/", "A", "B", "\n", " ", "é", "*"]))}
 
     def for_decode_base16(self, given):
@@ -314,7 +322,7 @@ class Arguments:
             value = pattern.join(self.rng.choice(["", "a", "b", "ab", "é", ","]) for _ in range(self.rng.randrange(5))) if self.chance(0.8) else self.string(8)
             made = {"pattern": text(pattern)}
         else:
-            value, made = patterns.text_of(self.rng), {"pattern": ("regex", self.rng.randrange(len(self.sources)))}
+            value, made = some_patterns.text_of(self.rng), {"pattern": ("regex", self.rng.randrange(len(self.sources)))}
         size = len(value.encode())
         return {**made, "value": text(value), "limit": ("integer", self.rng.choice([0, 1, 1, 2, 3, self.near(3)])), "with": text(self.rng.choice(TEMPLATES)),
                 "count": ("integer", self.rng.choice([-1, 0, 1, 2, self.near(2)])), "from": ("integer", self.near(size) if self.chance(0.4) else self.rng.randint(0, size))}
@@ -322,18 +330,18 @@ class Arguments:
     for_replace = for_find = for_split
 
     def for_match(self, given):
-        return {"value": text(patterns.text_of(self.rng))}
+        return {"value": text(some_patterns.text_of(self.rng))}
 
     for_parse_regex = for_parse_regex_all = for_match
 
     def for_match_any(self, given):
         every = tuple(("regex", self.rng.randrange(len(self.sources))) if not self.chance(0.05) else self.any(1) for _ in range(self.rng.randrange(4)))
-        return {"value": text(patterns.text_of(self.rng)), "patterns": ("array", every)}
+        return {"value": text(some_patterns.text_of(self.rng)), "patterns": ("array", every)}
 
     # ---- parsers
 
     def for_parse_json(self, given):
-        data = self.lines.line() if self.chance(0.8) else functions.json_lines.write(functions.plain(self.any(3, True), self.sources)).encode()
+        data = self.lines.line() if self.chance(0.8) else json_lines.write(plain(self.any(3, True), self.sources)).encode()
         try:
             return {"value": text(data.decode())}
         except UnicodeDecodeError:
@@ -379,8 +387,8 @@ class Arguments:
             told = self.spoilt(told.replace("Z", self.rng.choice(["Z", "z", "+00:00", "-00:00", "+01:00", "-23:59", "+24:00", "+0100"])), list("0129:.-+TtZz é"))
         else:
             shift = self.rng.choice([0, 0, 60, 3600, -3600, 93540, -93540, self.rng.randint(-86400, 86400) // 60 * 60])
-            local = max(functions.dates.FIRST, min(functions.dates.LAST, moment // 10 ** 9 + shift))
-            told = functions.dates.show(format_, local * 10 ** 9)
+            local = max(FIRST_SECOND, min(LAST_SECOND, moment // 10 ** 9 + shift))
+            told = dates.show(format_, local * 10 ** 9)
             told = told.replace("+0000", "%s%02d%02d" % ("-" if shift < 0 else "+", abs(shift) // 3600, abs(shift) // 60 % 60))
             told = self.spoilt(told, list("0129:.-+ \té%") + ["60", "00", "31"])
         return {"value": text(told), "format": text(format_)}
@@ -394,7 +402,7 @@ class Arguments:
     def for_from_unix_timestamp(self, given):
         unit = self.rng.choice(sorted(UNITS)) if "unit" in given else "seconds"
         scale = 10 ** 9 // UNITS[unit]
-        edge = self.rng.choice([functions.dates.FIRST, functions.dates.LAST + 1, 0, 1, -1, self.rng.randint(functions.dates.FIRST, functions.dates.LAST)]) * scale + self.rng.choice([0, 1, -1, self.rng.randrange(scale)])
+        edge = self.rng.choice([FIRST_SECOND, LAST_SECOND + 1, 0, 1, -1, self.rng.randint(FIRST_SECOND, LAST_SECOND)]) * scale + self.rng.choice([0, 1, -1, self.rng.randrange(scale)])
         return {"value": ("integer", max(LEAST, min(GREATEST, edge)) if self.chance(0.85) else self.number()), "unit": text(unit)}
 
 

@@ -1,5 +1,4 @@
-"""Reads and shows dates by formats of the eight conversions, for the rows of functions, as `jiff` describes its strptime and
-strftime. This file runs nothing by itself but its rows.
+"""Random trial of dates in formats: what is read and shown, against Python's own calendar.
 
     python3 trials/dates.py [--seed N] [--count N] [--program PATH] [--show N]
 
@@ -11,90 +10,21 @@ import argparse
 import datetime
 import json
 import random
-import re
 import sys
 
 sys.dont_write_bytecode = True
 
 import programs
-
-FIRST, LAST = -62167219200, 253402127999
-WHITE = rb"[ \t\n\f\r]*"
-# A conversion's text: white space, then as many digits as it may have; a year's sign stands before the white space.
-READ = {"Y": rb"([+-]?)" + WHITE + rb"([0-9]{1,4})", "z": rb"([+-])([0-9]{2})([0-9]{2})([0-9]{2})?", "%": rb"%"}
-READ.update({letter: WHITE + rb"([0-9]{1,2})" for letter in "mdHMS"})
-WITHIN = {"m": range(1, 13), "d": range(1, 32), "H": range(24), "M": range(60), "S": range(61)}
-
-
-def days_before(year, month, day):
-    """Days from 1970-01-01 to a date of the calendar that goes on in both directions."""
-    year, month = (year, month - 3) if month > 2 else (year - 1, month + 9)
-    era, of_era = divmod(year, 400)
-    return era * 146097 + of_era * 365 + of_era // 4 - of_era // 100 + (153 * month + 2) // 5 + day - 1 - 719468
-
-
-def exists(year, month, day):
-    size = 29 if month == 2 and year % 4 == 0 and (year % 100 or year % 400 == 0) else (31, 28, 31, 30, 31, 30, 31, 31, 30, 31, 30, 31)[month - 1]
-    return day <= size
-
-
-def pieces(format_):
-    """Each conversion as its letter, each other byte by itself."""
-    return [(one[1], None) if len(one) == 2 else (None, one.encode()) for one in re.findall("%.|[^%]", format_, re.S)]
-
-
-def fields_of(format_, text):
-    """The fields that a text has in a format, None where it hasn't this form."""
-    data, at, fields = text.encode(), 0, {}
-    for letter, plain in pieces(format_):
-        if letter is None and plain in b" \t\n\f\r":
-            at = re.compile(WHITE).match(data, at).end()
-            continue
-        found = re.compile(READ[letter] if letter else re.escape(plain)).match(data, at)
-        if not found:
-            return None
-        at = found.end()
-        if letter == "Y":
-            fields["Y"] = int(found[2]) * (-1 if found[1] == b"-" else 1)
-        elif letter == "z":
-            hours, minutes, seconds = (int(one or 0) for one in found.groups()[1:])
-            if hours > 25 or minutes > 59 or seconds > 59:
-                return None
-            fields["z"] = (hours * 3600 + minutes * 60 + seconds) * (-1 if found[1] == b"-" else 1)
-        elif letter in WITHIN:
-            fields[letter] = int(found[1])
-            if fields[letter] not in WITHIN[letter]:
-                return None
-    return fields if at == len(data) else None
-
-
-def read(format_, text):
-    """The moment that a text gives in a format that has the seven conversions, in nanoseconds; None where there is none."""
-    one = fields_of(format_, text)
-    if one is None or not exists(one["Y"], one["m"], one["d"]):
-        return None
-    # A leap second is the second before it.
-    seconds = days_before(one["Y"], one["m"], one["d"]) * 86400 + one["H"] * 3600 + one["M"] * 60 + min(one["S"], 59) - one["z"]
-    return seconds * 10 ** 9 if FIRST <= seconds <= LAST else None
-
-
-def show(format_, nanos):
-    """A moment in a format of the eight conversions, in UTC."""
-    days, rest = divmod(nanos // 10 ** 9, 86400)
-    year = next(y for y in range(1970 + days // 366 - 2 if days > 0 else 1970 + days // 365 - 2, 10001) if days_before(y + 1, 1, 1) > days)
-    month = max(m for m in range(1, 13) if days_before(year, m, 1) <= days)
-    told = {"Y": "%04d" % year, "m": "%02d" % month, "d": "%02d" % (days - days_before(year, month, 1) + 1), "H": "%02d" % (rest // 3600),
-            "M": "%02d" % (rest // 60 % 60), "S": "%02d" % (rest % 60), "z": "+0000", "%": "%"}
-    return re.sub(r"%(.)", lambda m: told[m[1]], format_)
-
+from reading.dates import read, show
+from reading.moments import FIRST_SECOND, LAST_SECOND
 
 USUAL = "%Y-%m-%d %H:%M:%S %z"
 ROWS = [
     ("2024-01-02 03:04:05 +0100", 1704161045), ("2024-01-02 03:04:60 +0000", 1704164699), ("2024-02-30 00:00:00 +0000", None), ("2024-1-2 3:4:5 +0000", 1704164645),
     ("+2024-01-02 03:04:05 +0000", 1704164645), ("  2024-01-02 03:04:05 +0000", 1704164645), ("2024-01-02    03:04:05\t+0000", 1704164645), ("2024-01-0203:04:05+0000", 1704164645),
     ("2024-01-02 03:04:05 +000030", 1704164615), ("2024-01-02 03:04:05 +00", None), ("2024-01-02 03:04:05 +00:00", None), ("2024-01-02 03:04:05 Z", None), ("2024-01-02 03:04:05 +2600", None),
-    ("2024-01-02 03:04:05 +0000 ", None), ("2024-01-02 24:04:05 +0000", None), ("2024-13-02 03:04:05 +0000", None), ("0000-01-01 00:00:00 +0001", None), ("-0001-12-31 23:00:00 -0100", FIRST),
-    ("-1-12-31 23:00:00 -0100", FIRST), ("9999-12-29 23:59:59 +0000", LAST), ("9999-12-30 00:00:00 +0000", None), ("9999-12-30 00:00:00 +0001", LAST - 59), ("", None), ("2023-02-29 00:00:00 +0000", None),
+    ("2024-01-02 03:04:05 +0000 ", None), ("2024-01-02 24:04:05 +0000", None), ("2024-13-02 03:04:05 +0000", None), ("0000-01-01 00:00:00 +0001", None), ("-0001-12-31 23:00:00 -0100", FIRST_SECOND),
+    ("-1-12-31 23:00:00 -0100", FIRST_SECOND), ("9999-12-29 23:59:59 +0000", LAST_SECOND), ("9999-12-30 00:00:00 +0000", None), ("9999-12-30 00:00:00 +0001", LAST_SECOND - 59), ("", None), ("2023-02-29 00:00:00 +0000", None),
     ("2024-001-02 03:04:05 +0000", None), ("20240-01-02 03:04:05 +0000", None), ("2024-01-02 03:04:05 +0000", 1704164645), ("\u00a02024-01-02 03:04:05 +0000", None),
 ]
 
@@ -104,7 +34,7 @@ def self_check():
         assert read(USUAL, text) == (None if want is None else want * 10 ** 9), (text, read(USUAL, text), want)
     assert read("%Y%m%d%H%M%S%z%%é", "20240102030405+0100%é") == 1704161045 * 10 ** 9 and read("%z%Y%m%d%H%M%S", "+010020240102030405") is None
     assert show("%Y/%m/%d %H.%M.%S %z %%é", 1704164645 * 10 ** 9 + 1) == "2024/01/02 03.04.05 +0000 %é"
-    assert show("%Y-%m-%d", FIRST * 10 ** 9) == "0000-01-01" and show("%Y-%m-%d", LAST * 10 ** 9) == "9999-12-29" and show("%S", -1) == "59"
+    assert show("%Y-%m-%d", FIRST_SECOND * 10 ** 9) == "0000-01-01" and show("%Y-%m-%d", LAST_SECOND * 10 ** 9) == "9999-12-29" and show("%S", -1) == "59"
     return len(ROWS) + 5
 
 
@@ -146,7 +76,7 @@ def through_program(program, rng, count, show_):
                     moment = None
             seconds = None if moment is None else (moment - EPOCH) // datetime.timedelta(seconds=1)
             lines.append(json.dumps({"t": told}))
-            if moment is None or not FIRST <= seconds <= LAST:
+            if moment is None or not FIRST_SECOND <= seconds <= LAST_SECOND:
                 no_days += 1
                 wanted.append({"e": "parse_timestamp: no match"})
             else:

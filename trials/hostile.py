@@ -14,10 +14,11 @@ import sys
 
 sys.dont_write_bytecode = True
 
-import judgement
-import kinds
-import meaning
 import programs
+from reading.judgement import Verdict
+from reading.kind_files import kind_file
+from reading.kinds import EVENT
+from reading.runs import run_lines
 
 LONGEST = 65536
 LINE = 1048576
@@ -305,13 +306,13 @@ DEAR = {
 
 def wanted_of(script, data, file):
     """Output, report and status by the outside reading."""
-    start = kinds.EVENT if file is None else kinds.kind_file(file)
+    start = EVENT if file is None else kind_file(file)
     if isinstance(start, str):
         return b"", programs.joined([start]), 6
-    found = judgement.Verdict(script, start)
+    found = Verdict(script, start)
     if not found.accepted:
         return b"", programs.joined(found.diagnostics), 1
-    output, report, status = meaning.run_lines(found, start, data)
+    output, report, status = run_lines(found, start, data)
     return programs.joined(output), programs.joined(report), status
 
 

@@ -14,8 +14,8 @@ import sys
 
 sys.dont_write_bytecode = True
 
-import json_lines
 import programs
+from reading.json_lines import LONGEST
 
 # A text of about so many bytes, and an array of about so many numbers, fill a line.
 LONG = 1000000
@@ -254,7 +254,7 @@ def case(title, body, event, wanted, whole=False):
     """A use's script and its line, and what is wanted of it."""
     script = (BEGIN + (body if whole else ".r = " + body) + END).encode()
     line = json.dumps(event, separators=(",", ":"), ensure_ascii=False).encode()
-    assert len(line) <= json_lines.LONGEST and len(script) <= 65536, (title, len(line), len(script))
+    assert len(line) <= LONGEST and len(script) <= 65536, (title, len(line), len(script))
     if wanted is MEMORY:
         return script, line, (b"", b"", 5)
     if wanted is EITHER:

@@ -5,7 +5,7 @@
 Each set and each removal is held against what look-up must find afterwards at every path to depth three over the fields
 and places that occur. Each is also held against kinds: where a value inhabits a kind, what is read, written and left
 inhabits the kind of the read, the write and the removal, and a path that may not be absent is there. With --out the
-cases go to FILE, a JSON object a line, values written as `kinds.py` writes them:
+cases go to FILE, a JSON object a line, values written as `cases.py` tells:
 
     get             value, path             want: a value, or null where there is none
     exists          value, path             want: true or false
@@ -21,8 +21,10 @@ import sys
 
 sys.dont_write_bytecode = True
 
-import kinds
-from values import NULL, cut_out, depth, get, objects, put
+import some_kinds
+from cases import described_value
+from reading import kinds
+from reading.values import NULL, cut_out, depth, get, objects, put
 
 GONE, NOWHERE = "absent", "no place"
 EMPTY = {"array": ("array", ()), "object": ("object", ())}
@@ -88,7 +90,7 @@ def agrees(value, told, above):
 
 class Maker:
     def __init__(self, rng):
-        self.rng, self.shapes = rng, kinds.Maker(rng)
+        self.rng, self.shapes = rng, some_kinds.Maker(rng)
 
     def value(self, depth_):
         how = self.rng.random()
@@ -165,7 +167,7 @@ class Maker:
 def line_of(one):
     told = {}
     for name, held in one.items():
-        told[name] = kinds.described_value(held) if isinstance(held, tuple) and name != "path" else list(held) if name == "path" else held
+        told[name] = described_value(held) if isinstance(held, tuple) and name != "path" else list(held) if name == "path" else held
     return json.dumps(told) + "\n"
 
 

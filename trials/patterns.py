@@ -1,186 +1,24 @@
-"""Matches of patterns, for the rows of functions, and a trial of that reading.
+"""Random trial of the outside reading of patterns, against Rust's `regex` crate.
 
     python3 trials/patterns.py --outside PATH [--seed N] [--count N] [--program PATH] [--show N]
 
-Matches are told by Python's `re`, on patterns where it agrees with Rust's `regex`: `safe` makes such at random. Once `ask`
-was given the program of `trials/outside`, matches are told by the `regex` crate, on any pattern that it takes: `wild` makes
-those. The trial holds both against one another, and what is made of matches (pieces, replacements) against the crate's own.
-With --program, patterns that may be malformed are the literals of scripts: those that the program calls malformed are those
-that the crate doesn't read. Spellings that only later editions of the crate read are passed over.
+Matches that Python's `re` tells, and what is made of them (pieces, replacements), are held against the crate's own, on patterns
+where the two agree. With --program, patterns that may be malformed are the literals of scripts: those that the program calls malformed
+are those that the crate doesn't read. Spellings that only later editions of the crate read are passed over.
 """
 
 import argparse
-import functools
 import random
 import re
-import subprocess
 import sys
 
 sys.dont_write_bytecode = True
 
 import programs
+from reading.patterns import Outside, expanded, group_names, matches
+from some_patterns import Maker, text_of
 
-
-class Outside:
-    """The program of `trials/outside`: a line for each question, its fields in hex."""
-
-    def __init__(self, path):
-        self.process = subprocess.Popen([path], stdin=subprocess.PIPE, stdout=subprocess.PIPE)
-
-    def ask(self, *fields):
-        told = " ".join("x" + one.encode().hex() if isinstance(one, str) and place else str(one) for place, one in enumerate(fields))
-        self.process.stdin.write(told.encode() + b"\n")
-        self.process.stdin.flush()
-        return self.process.stdout.readline().decode().split()
-
-
-OUTSIDE = None
 WANT_OF_MEMORY = 5
-
-
-def ask(path):
-    global OUTSIDE
-    OUTSIDE = Outside(path)
-    matches.cache_clear()
-
-
-def texts(words):
-    return [None if one == "-" else bytes.fromhex(one[1:]).decode() for one in words]
-
-
-@functools.lru_cache(maxsize=4096)
-def compiled(source):
-    """The pattern for Python: group names have a `P`, and `$` stands at the end alone."""
-    return re.compile(re.sub(r"\\.|\[\^?\]?(?:\\.|[^\]])*\]|\(\?<(?![=!])|\$", lambda m: {"(?<": "(?P<", "$": r"\Z", r"\z": r"\Z"}.get(m[0], m[0]), source, flags=re.S))
-
-
-@functools.lru_cache(maxsize=65536)
-def matches(source, text):
-    """The matches from the left, each with its groups from the whole on, as pairs of places in characters or None."""
-    if OUTSIDE:
-        return matches_outside(source, text)
-    found, at, last = [], 0, None
-    while at <= len(text):
-        one = compiled(source).search(text, at)
-        if not one:
-            break
-        if one.start() == one.end() == last:
-            at = one.end() + 1
-            one = compiled(source).search(text, at) if at <= len(text) else None
-            if not one:
-                break
-        found.append(tuple(None if one.start(n) < 0 else one.span(n) for n in range(one.re.groups + 1)))
-        at = last = one.end()
-    return tuple(found)
-
-
-def matches_outside(source, text):
-    told = OUTSIDE.ask("matches", source, text)
-    assert told[0] == "ok", (source, told)
-    places, at = {}, 0
-    for number, c in enumerate(text):
-        places[at] = number
-        at += len(c.encode())
-    places[at] = len(text)
-    found = []
-    for one in told[1:]:
-        if one == "|":
-            found.append([])
-        else:
-            found[-1].append(None if one == "-" else tuple(places[int(place)] for place in one.split(":")))
-    return tuple(tuple(one) for one in found)
-
-
-def group_names(source):
-    """One entry for each capturing group from the whole match on, None for a group without a name."""
-    found, at, classes = [None], 0, 0
-    while at < len(source):
-        if source[at] == "\\":
-            at += 1
-        elif source[at] == "[":
-            classes += 1
-            at += source[at + 1:at + 2] == "^"
-            at += source[at + 1:at + 2] == "]"
-        elif source[at] == "]" and classes:
-            classes -= 1
-        elif source[at] == "(" and not classes:
-            named = re.compile(r"\(\?P?<([^>=!][^>]*|)(?:>|$)").match(source, at)
-            if source[at + 1:at + 2] != "?":
-                found.append(None)
-            elif named:
-                found.append(named[1] or None)
-                at = named.end() - 1
-        at += 1
-    return found
-
-
-def group_of(name, names, groups, text):
-    """The text that a template's group stands for."""
-    plain = re.fullmatch(r"\+?([0-9]+)", name, re.A)
-    number = int(plain[1].lstrip("0")[:30] or 0) if plain else names.index(name) if name in names else len(groups)
-    return text[slice(*groups[number])] if number < len(groups) and groups[number] else ""
-
-
-def expanded(template, names, groups, text):
-    return re.sub(r"\$(?:(\$)|([0-9A-Za-z_]+)|\{([^}]*)\})", lambda m: "$" if m[1] else group_of(m[2] or m[3] or "", names, groups, text), template, flags=re.A)
-
-
-# ---- patterns at random
-
-TEXTS = ["", "a", "b", "ab", "ba", "aab", "abc", "a,b,c", "é", "aéa", "éé", " a b ", "k=v", "a1b22", "x\ny", "a\r\nb", "\U0001f600a", "中a文", "aaaa", "abab", "A", "aB", "_a-", "٣3"]
-
-
-def text_of(rng):
-    return "".join(rng.choice(["a", "b", "c", "é", "1", "=", ",", " ", "\n", "A", "中", "\U0001f600"]) for _ in range(rng.randrange(8))) if rng.random() < 0.5 else rng.choice(TEXTS)
-
-
-class Maker:
-    """Patterns that mean the same to Python and to the crate, and wild ones that only the crate reads. A part comes with whether it may match no text."""
-
-    def __init__(self, rng, wild=False):
-        self.rng, self.wild, self.names = rng, wild, 0
-
-    def pattern(self):
-        self.names = 0
-        return self.choice(3)[0]
-
-    def choice(self, depth):
-        every = [self.sequence(depth) for _ in range(self.rng.choice([1, 1, 1, 2, 3] if depth else [1]))]
-        return "|".join(one for one, _ in every), any(empty for _, empty in every)
-
-    def sequence(self, depth):
-        every = [self.repeated(depth) for _ in range(self.rng.choice([0, 1, 1, 2, 2, 3]))]
-        return "".join(one for one, _ in every), all(empty for _, empty in every)
-
-    def repeated(self, depth):
-        one, empty = self.atom(depth)
-        if self.rng.random() < 0.6 or one in ("^", "$", r"\b", r"\A", r"\z", r"\B") or (empty and not self.wild):
-            return one, empty
-        # Editions of the crate differ in the groups of what is repeated no times, and where what may match no text is repeated without end.
-        signs = ["?", "{2}", "{1,2}", "{0,3}"] if empty else ["*", "+", "?", "{2}", "{1,2}", "{0,3}", "{2,}"]
-        sign = self.rng.choice(signs + ["{0}"] * ("(" not in one))
-        return one + sign + self.rng.choice(["", "", "?"]), empty or sign in ("*", "?", "{0,3}", "{0}")
-
-    def atom(self, depth):
-        pick = self.rng.choice
-        how = self.rng.random()
-        if depth and how < 0.3:
-            inner, empty = self.choice(depth - 1)
-            self.names += 1
-            return pick(["(", "(", "(?:", f"(?P<n{self.names}>", f"(?<k{self.names}>"]) + inner + ")", empty
-        if how < 0.4:
-            return pick(["^", "$", r"\b", r"\A", r"\z"]), True
-        if how < 0.6:
-            return pick(["[ab]", "[^a]", "[a-c]", "[^,=]", "[é,]", "[0-9]", "[]a]", r"[\]a]", "[^]a]", r"[a\-c]"]), False
-        if how < 0.7:
-            return pick([".", r"\d", r"\w", r"\s", r"\W", r"\D", r"\S"]), False
-        if self.wild and how < 0.8:
-            one = pick([r"\pL", r"\p{Greek}", r"[[:alpha:]]", "(?i:a)", "(?i:É)", "(?s:.)", r"[a-z&&[^b]]", "[a[bc]]", r"\x61", r"\u{e9}", r"(?x: a b # c" + "\n)", "(?U:a+)", r"\B",
-                        "(?-u:a)", r"[\d--1]", "(?m:^)", "(?m:$)", r"\t", "[^\x00-\x7f]", r"\PN"])
-            return one, one in (r"\B", "(?m:^)", "(?m:$)")
-        return pick(["a", "a", "b", "c", "é", ",", "=", "1", r"\.", "中", " "]), False
-
-
 NOISE = list("()[]{}*+?|\\^$.-,:<>!=&~#PpdDwWsSbBAzxuUtnrQk0123456789 aimsé") + ["(?", "(?:", "(?P<", "[^", "[[:", ":]]", "&&", "--", "~~", "\\p{", "\\x{", "\\u{", "(?i", "(?#", "(?=", "\\b", "{2,1}", "{1001}", "{,2}"]
 # What only later editions read: names beyond ASCII, half word boundaries, the flag R, {,n} as a count, all signs after a backslash, and classes without a character.
 LATER = re.compile(r"\\b\{|\\[ !\"%',/:;<=>@_`]|\(\?[a-zA-Z-]*R|\{\s*,|\(\?P?<[^>]*[^\x00-\x7f]|&&|--|~~|\[\^\\[a-zA-Z]")
@@ -241,6 +79,10 @@ def literals(program, outside, rng, count, show):
                 if differences <= show:
                     print("difference on", repr(one), "malformed there:", wanted, "by the program:", number in told)
     return tried, bad, large, spared, differences
+
+
+def texts(words):
+    return [None if one == "-" else bytes.fromhex(one[1:]).decode() for one in words]
 
 
 def main():

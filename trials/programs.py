@@ -1,6 +1,7 @@
 """The program under trial, for the other trials: one process for each script, over files. This file runs nothing by itself."""
 
 import contextlib
+import json
 import os
 import resource
 import tempfile
@@ -33,6 +34,11 @@ class Program:
         with open(path, "wb") as file:
             file.write(data)
         return path
+
+    def words_of(self, file, drop=False, keep=False):
+        """The words for a kind file of this value, none for None, and for both flags."""
+        more = ["--kind", self.write("kind.json", json.dumps(file).encode())] if file is not None else []
+        return more + [word for word, on in (("--drop-on-error", drop), ("--keep-on-abort", keep)) if on]
 
     def run(self, script, data=b"", words=(), limits=()):
         """The bytes of output and report, and the status, of `PATH SCRIPTFILE WORDS < DATA` within these limits; for a signal its negative number."""

@@ -2,7 +2,7 @@
 
     python3 trials/rows.py [--seed N] [--count N] [--only NAME,NAME ..] [--out FILE]
 
-Each of `count` cases of each function is worked out by the rows of `functions.py` and held against their law: the result
+Each of `count` cases of each function is worked out by the rows of `reading/functions.py` and held against their law: the result
 kind doesn't allow absent, a value inhabits it, and a failure comes only where the row may fail. `run_calls.py` holds the
 program against the rows. With --out the cases go to FILE, a JSON object a line:
 
@@ -10,7 +10,7 @@ program against the rows. With --out the cases go to FILE, a JSON object a line:
     kinds (each parameter's kind, within the tags that it allows, in which its value is), kind (the result kind's text),
     may_fail, want: {"value": VALUE} or {"failed": TEXT}
 
-with kinds and values written as `kinds.py` writes them.
+with kinds and values written as `cases.py` tells.
 """
 
 import argparse
@@ -20,9 +20,14 @@ import sys
 
 sys.dont_write_bytecode = True
 
-import functions
-import kinds
-from values import Failed, objects, text
+import some_kinds
+from cases import described_value, description
+from reading import kinds
+from reading.function_rows import Given, cut_to
+from reading.functions import ROWS
+from reading.functions_of_codecs import SHA2
+from reading.functions_of_time import UNITS
+from reading.values import Failed, objects, text
 
 # Patterns that match no empty text, so that each reader of patterns walks over the same matches.
 SOURCES = ["a", r"\d+", r"(?P<k>\w)=(?P<v>\w)", "(?<c>[a-z])(x)?", "[^,]+", "^a", "(a)(b)?", "[,;]", "é", r"\.", "(?P<k>a)|(?P<m>b)"]
@@ -36,14 +41,14 @@ NUMBERS = [0, 1, -1, 2, 3, -3, 5, 7, 8, 10, 16, 36, 37, -2, 65535, 65536, 170000
 MOMENTS = [0, 1500000000, -1, 1704164645 * 10 ** 9, -62167219200 * 10 ** 9, 253402127999 * 10 ** 9 + 999999999, 10 ** 18 + 120000000, 9223372036854775808]
 WITH = ["", "x", "[$1]", "$k-$v", "${k}", "$$", "$1x", "${1}x", "$", "a$"]
 WORDS = {"with": WITH, "pattern": ["", "a", ",", "b", "é", "."], "separator": ["", ".", "-", ","], "suffix": ["", ".."], "delimiter": [",", ";", "", "ab", '"', "\n", "é"],
-         "key_value_delimiter": ["=", ":", "", "=="], "field_delimiter": [" ", ",", "", "  "], "variant": sorted(functions.SHA2), "format": ["%+", "%Y-%m-%d %H:%M:%S %z"],
-         "unit": sorted(functions.UNITS), "substring": ["", "a", "B", "é", "ab"]}
+         "key_value_delimiter": ["=", ":", "", "=="], "field_delimiter": [" ", ",", "", "  "], "variant": sorted(SHA2), "format": ["%+", "%Y-%m-%d %H:%M:%S %z"],
+         "unit": sorted(UNITS), "substring": ["", "a", "B", "é", "ab"]}
 FORMATS = ["%+", "%Y", "%Y-%m-%d %H:%M:%S %z", "%%", "", "a%da", "%S.%M"]
 
 
 class Maker:
     def __init__(self, rng):
-        self.rng, self.shapes = rng, kinds.Maker(rng)
+        self.rng, self.shapes = rng, some_kinds.Maker(rng)
 
     def value(self, tag, depth=2):
         pick = self.rng.choice
@@ -66,7 +71,7 @@ class Maker:
                      "timestamp": lambda: pick(MOMENTS), "regex": lambda: self.rng.randrange(len(SOURCES))}[tag]()
 
     def any(self, depth):
-        return self.value(self.rng.choice(functions.TAGS + ("array", "object")), max(0, depth))
+        return self.value(self.rng.choice(kinds.TAGS + ("array", "object")), max(0, depth))
 
     def argument(self, name, parameter):
         tag = self.rng.choice(sorted(parameter.tags))
@@ -89,7 +94,7 @@ class Maker:
             wide = kinds.join(exact, self.shapes.kind(2))
         elif how < 0.7:
             wide = kinds.join(exact, kinds.kind_of(self.value(value[0])))
-        return functions.cut_to(wide, *parameter.tags)
+        return cut_to(wide, *parameter.tags)
 
     def case(self, row):
         args, given, literals = {}, {}, []
@@ -99,7 +104,7 @@ class Maker:
             value = self.argument(row.name, one)
             literal = value[0] not in ("array", "object") and (one.literal or self.rng.random() < 0.3)
             args[one.name] = value
-            given[one.name] = functions.Given(kinds.kind_of(value) if literal else self.kind(value, one), value if literal else None)
+            given[one.name] = Given(kinds.kind_of(value) if literal else self.kind(value, one), value if literal else None)
             literals += [one.name] if literal else []
         return args, given, literals
 
@@ -134,7 +139,7 @@ def main():
     words.add_argument("--out")
     given = words.parse_args()
     maker = Maker(random.Random(given.seed))
-    rows = [row for row in functions.ROWS.values() if row.apply]
+    rows = [row for row in ROWS.values() if row.apply]
     if given.only:
         rows = [row for row in rows if row.name in given.only.split(",")]
     cases, failures = 0, 0
@@ -146,9 +151,9 @@ def main():
             cases += 1
             failures += word == "failed"
             if out:
-                one = {"function": row.name, "sources": SOURCES, "args": {n: kinds.described_value(v) for n, v in args.items()}, "literals": literals,
-                       "kinds": {n: kinds.description(g.kind) for n, g in kinds_given.items()}, "kind": kinds.print_kind(kind), "may_fail": may_fail,
-                       "want": {word: kinds.described_value(held) if word == "value" else held}}
+                one = {"function": row.name, "sources": SOURCES, "args": {n: described_value(v) for n, v in args.items()}, "literals": literals,
+                       "kinds": {n: description(g.kind) for n, g in kinds_given.items()}, "kind": kinds.print_kind(kind), "may_fail": may_fail,
+                       "want": {word: described_value(held) if word == "value" else held}}
                 out.write(json.dumps(one) + "\n")
     if out:
         out.close()

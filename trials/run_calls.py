@@ -22,15 +22,16 @@ import time
 sys.dont_write_bytecode = True
 
 import arguments
-import functions
-import grammar
-import judgement
-import kinds
-import meaning
-import patterns
 import programs
-from json_lines import write
-from values import moment_text, plain
+import some_patterns
+from reading import kinds, patterns
+from reading.functions import ROWS
+from reading.json_lines import write
+from reading.judgement import Verdict
+from reading.kind_files import kind_file
+from reading.moments import moment_text
+from reading.runs import run_lines, summary
+from reading.values import objects, plain
 
 CALLS = [6, 16]            # calls a script
 LINES = [1, 4, 12]          # lines a run
@@ -86,7 +87,7 @@ class Site:
 
     def call(self):
         words, positional = [], True
-        for parameter in functions.ROWS[self.name].parameters:
+        for parameter in ROWS[self.name].parameters:
             if parameter.name not in self.spelt:
                 positional = False
                 continue
@@ -117,7 +118,7 @@ class Trial:
 
     def sources(self):
         """Regexes for a script."""
-        made, safe, wild = [], patterns.Maker(self.rng), patterns.Maker(self.rng, True)
+        made, safe, wild = [], some_patterns.Maker(self.rng), some_patterns.Maker(self.rng, True)
         while len(made) < 8:
             one = (wild if self.wild and self.rng.random() < 0.4 else safe).pattern()
             if "'" in one or (patterns.OUTSIDE and patterns.OUTSIDE.ask("matches", one, "")[0] != "ok"):
@@ -130,7 +131,7 @@ class Trial:
     def site(self, name, number, maker, deep=False):
         """A call at random, and how its fields are drawn for a line."""
         rng = self.rng
-        row = functions.ROWS[name]
+        row = ROWS[name]
         given = [one.name for one in row.parameters if one.required or rng.random() < 0.6]
         fixed = maker.draw(name, given)
         spelt = {}
@@ -192,7 +193,7 @@ class Trial:
             data = json.dumps(file_of(kind)).encode()
         except RecursionError:
             return kinds.EVENT, None
-        read = kinds.kind_file(data)
+        read = kind_file(data)
         return (read, data) if isinstance(read, kinds.Kind) else (kinds.EVENT, None)
 
     def script(self, sites, start, deep=False):
@@ -200,10 +201,10 @@ class Trial:
         kept, lines = [], []
         for site in sites:
             line = f"r{site.number}, e{site.number} = {site.call()}"
-            found = judgement.Verdict(line.encode(), start)
+            found = Verdict(line.encode(), start)
             if not found.accepted and {code for _, _, code in found.codes} == {104}:
                 line = f"r{site.number} = {site.call()}"
-                found = judgement.Verdict(line.encode(), start)
+                found = Verdict(line.encode(), start)
             if found.accepted:
                 kept.append(site)
                 lines.append(line)
@@ -222,11 +223,11 @@ class Trial:
 
     def run(self, script, start, file, data):
         """What is wanted and what is told for a script over lines: output, report, status; None where the script isn't accepted."""
-        found = judgement.Verdict(script.encode(), start)
+        found = Verdict(script.encode(), start)
         if not found.accepted:
             return None
         words = ["--kind", self.program.write("kind.json", file)] if file is not None else []
-        output, report, status = meaning.run_lines(found, start, data)
+        output, report, status = run_lines(found, start, data)
         wanted = programs.joined(output), programs.joined(report), status
         printed = programs.joined(["result " + found.result] + found.end), programs.joined(found.diagnostics), 0
         return wanted, self.program.run(script.encode(), data, words), printed, self.program.run(script.encode(), words=["--check"] + words)
@@ -269,7 +270,7 @@ class Trial:
             inner = ("array", (inner,)) if self.rng.random() < 0.5 else ("object", (("a", inner),))
         if tag == "array":
             return tag, held[1:] + (inner,)
-        return functions.objects({**dict(held), "a": inner}) if tag == "object" else value
+        return objects({**dict(held), "a": inner}) if tag == "object" else value
 
     def differ_in(self, name, sites, start, file, data, told, place):
         """Tells a difference by one call, over one line, where that shows it."""
@@ -302,7 +303,7 @@ class Trial:
 
     def refused_literals(self, name):
         maker = arguments.Arguments(self.rng, self.sources())
-        row = functions.ROWS[name]
+        row = ROWS[name]
         lines = []
         for number in range(20):
             site, _ = self.site(name, number, maker)
@@ -311,7 +312,7 @@ class Trial:
                           if one.name in site.spelt or one.name == literal}
             lines.append(f"_, e = {site.call()}")
         script = "\n".join(["x = \"%+\""] + lines)
-        found = judgement.Verdict(script.encode())
+        found = Verdict(script.encode())
         told = self.program.run(script.encode())
         self.count(name, "literals", 20)
         self.count(name, "1013", sum(code == 1013 for _, _, code in found.codes))
@@ -324,9 +325,9 @@ class Trial:
         """`now` over made lines, whose moments are told."""
         for _ in range(max(1, count // 400)):
             script = b'.t = now()\n.u = [now() == now(), is_timestamp(now()), now() > t\'2023-11-14T22:13:25Z\']'
-            found = judgement.Verdict(script)
+            found = Verdict(script)
             seed = self.rng.randrange(2 ** 32)
-            lines, status = meaning.summary(found, kinds.EVENT, 100, seed)
+            lines, status = summary(found, kinds.EVENT, 100, seed)
             told = self.program.run(script, words=["--generate", f"100:{seed}"])
             self.count("now", "calls", 400)
             if told != (programs.joined(lines), b"", status):
@@ -346,7 +347,7 @@ def main():
         patterns.ask(given.outside)
     began = time.monotonic()
     with programs.Program(given.program) as program:
-        names = given.only.split(",") if given.only else [name for name in sorted(functions.ROWS) if functions.ROWS[name].apply]
+        names = given.only.split(",") if given.only else [name for name in sorted(ROWS) if ROWS[name].apply]
         trial = None
         differences = 0
         every = {}
@@ -356,7 +357,7 @@ def main():
                 trial.moments(given.count)
             while name != "now" and trial.told.get(name, {}).get("calls", 0) < given.count:
                 trial.some_calls(name)
-            row = functions.ROWS[name]
+            row = ROWS[name]
             if any(one.literal for one in row.parameters):
                 for _ in range(max(1, given.count // 400)):
                     trial.refused_literals(name)

@@ -17,18 +17,19 @@ import time
 
 sys.dont_write_bytecode = True
 
-import functions
-import grammar
 import hostile
-import json_lines
-import judgement
 import programs
 import some_calls
+import some_json_lines
+import some_scripts
+import some_texts
+from reading.functions import ROWS
+from reading.judgement import Verdict
 
 SCRIPT, LINE, KIND = 65536, 1048576, 65536
 # The seconds that the outside reading may take.
 READING = 30
-TOKENS = grammar.BINARIES + grammar.LITERALS + grammar.NAMES + grammar.FIELDS + grammar.ODD + [
+TOKENS = some_texts.BINARIES + some_texts.LITERALS + some_texts.NAMES + some_texts.FIELDS + some_texts.ODD + [
     "=", "|=", "(", ")", "[", "]", "{", "}", ",", ":", ";", "\n", "!", "->", "|", "if", "else", "abort", "return", ".", ".a", "del(", "exists(", "to_int(", "upcase!(", "{}", "[]", "??"]
 BRACKETS = [("(", ")"), ("[", "]"), ("{", "}"), ('{"a":', "}"), ("if true {", "}"), ("!(", ")"), ("abs(", ")"), ("x = (", ")"), ("1 + (", ")"), (".a ?? (", ")"), ("[1, ", "]"), ("return (", ")")]
 SIGNS = ["{", "}", "[", "]", ",", ":", '"a"', '"b"', '""', '"\\u0061"', "0", "-1", "1.5", "9223372036854775807", "9223372036854775808", "1e9", "true", "false", "null", " ", "\t", '"\\n\\\\"', "-", '"', "\\", "é", "\U0001f600"]
@@ -93,15 +94,15 @@ class Scripts:
 
     def __init__(self, rng, names):
         self.rng = rng
-        self.texts = grammar.Maker(rng)
-        self.items = judgement.Maker(rng, some_calls, names)
+        self.texts = some_texts.Maker(rng)
+        self.items = some_scripts.Maker(rng, some_calls, names)
 
     def accepted(self, size):
         """Accepted scripts in blocks, each of which begins with an event of which nothing is known."""
         out = b""
         while True:
             script = self.items.script().encode()
-            found = judgement.Verdict(script)
+            found = Verdict(script)
             if not found.accepted or found.judged.ok is None:
                 continue
             more = b". = object!(.z)\n{\n" + script + b"\n}\n"
@@ -130,7 +131,7 @@ class Lines:
 
     def __init__(self, rng):
         self.rng = rng
-        self.values = json_lines.Maker(rng)
+        self.values = some_json_lines.Maker(rng)
 
     def event(self, size):
         """An object of values, or of one list of them."""
@@ -253,7 +254,7 @@ def main():
     uses, unread, met, most = programs.Uses(), 0, {}, 0
     end = time.monotonic() + given.seconds
     with programs.Program(given.program) as program:
-        makers = {"scripts": Scripts(rng, [name for name in sorted(functions.ROWS) if name != "now"]), "lines": Lines(rng), "kinds": Kinds(rng)}
+        makers = {"scripts": Scripts(rng, [name for name in sorted(ROWS) if name != "now"]), "lines": Lines(rng), "kinds": Kinds(rng)}
         for number in range(given.count):
             for which in [given.only] if given.only else makers:
                 if time.monotonic() > end:

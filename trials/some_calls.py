@@ -1,6 +1,7 @@
 """Calls of functions for the other trials: at random, for scripts, and the rows' own examples. This file runs nothing by itself."""
 
-from functions import ROWS, TAGS
+from reading.functions import ROWS
+from reading.kinds import TAGS
 
 LITERALS = {
     "string": ['"s"', '""', '"a,b"', '"12"', '"a"', '"{\\"a\\": 1}"', '"k=v"', '"aGk="', '"2024-01-02T03:04:05Z"', '"-"', '"yes"', '"é b"', "s'0x1f'", '"http://u@h:81/p?q=1&q=2#f"',

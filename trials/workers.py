@@ -20,12 +20,15 @@ import time
 
 sys.dont_write_bytecode = True
 
-import functions
-import judgement
-import meaning
 import programs
 import some_calls
-import urls
+import some_scripts
+from reading import urls
+from reading.functions import ROWS as FUNCTIONS
+from reading.judgement import Verdict
+from reading.kind_files import start_of
+from reading.runs import run_lines
+from some_lines import some_lines
 
 JOBS = (1, 2, 3, 4, 8, 32)
 SECONDS = 120
@@ -72,12 +75,12 @@ def over_pipe(program, words, data, rng, closed_after=None):
 
 def many_lines(rng, start):
     """Lines: a few, or some hundreds made of a few kinds of them."""
-    few = meaning.some_lines(rng, start)
+    few = some_lines(rng, start)
     if rng.random() < 0.5:
         return few, True
     lines = few.split(b"\n")
     for _ in range(3):
-        lines += meaning.some_lines(rng, start).split(b"\n")
+        lines += some_lines(rng, start).split(b"\n")
     return b"\n".join(rng.choice(lines) for _ in range(rng.choice([255, 256, 257, 300, 513, 800]))) + rng.choice([b"", b"\n"]), False
 
 
@@ -91,15 +94,15 @@ def main():
     words.add_argument("--show", type=int, default=10)
     given = words.parse_args()
     rng = random.Random(given.seed)
-    maker = judgement.Maker(rng, some_calls)
+    maker = some_scripts.Maker(rng, some_calls)
     made = inputs = several = closed = lines = differences = 0
     end = time.monotonic() + given.seconds
     with programs.Program(given.program) as program:
-        maker.names = [name for name in sorted(functions.ROWS) if name != "now"]
+        maker.names = [name for name in sorted(FUNCTIONS) if name != "now"]
         while made < given.count and time.monotonic() < end:
             script, file = maker.script(), maker.kind_file()
-            start = judgement.start_of(file)
-            found = judgement.Verdict(script.encode(), start)
+            start = start_of(file)
+            found = Verdict(script.encode(), start)
             if not found.accepted:
                 continue
             made += 1
@@ -110,15 +113,14 @@ def main():
                 inputs += 1
                 several += not is_few
                 options = {"drop": rng.random() < 0.3, "keep": rng.random() < 0.3}
-                wanted = meaning.told_by(program, script, file, data, options)
+                more = program.words_of(file, **options)
+                wanted = program.run(script.encode(), data, more)
                 differ = []
                 with contextlib.suppress(urls.Unknown):
                     if is_few:
-                        read = meaning.run_lines(found, start, data, watch=lambda *_: None, **options)
+                        read = run_lines(found, start, data, watch=lambda *_: None, **options)
                         if wanted != (programs.joined(read[0]), programs.joined(read[1]), read[2]):
                             differ.append(("the outside reading", read))
-                more = ["--kind", os.path.join(program.folder.name, "kind.json")] if file is not None else []
-                more += [word for word, on in (("--drop-on-error", options["drop"]), ("--keep-on-abort", options["keep"])) if on]
                 for jobs in JOBS:
                     told = over_pipe(program, ["--jobs", str(jobs), *more], data, rng)
                     if told != wanted:

@@ -1,13 +1,15 @@
-"""Values for the other trials: pairs of a tag and what it holds.
+"""Values: pairs of a tag and what it holds.
 
 Arrays hold a tuple of values, objects a tuple of pairs of name and value by the bytes of the name, timestamps
-nanoseconds since 1970, regexes their number in the script. This file runs nothing by itself.
+nanoseconds since 1970, regexes their number in the script.
 """
 
-import grammar
-import kinds
+from reading.kinds import fit
+from reading.moments import moment_text
 
 NULL = ("null", None)
+# The numbers of 64 signed bits.
+SIXTY_FOUR = range(-2 ** 63, 2 ** 63)
 
 
 class Failed(Exception):
@@ -40,7 +42,7 @@ def depth(value):
 def part(value, step):
     """The part below one step, None where there is none."""
     tag, held = value
-    if tag != kinds.fit(step):
+    if tag != fit(step):
         return None
     if tag == "object":
         return dict(held).get(step)
@@ -58,7 +60,7 @@ def put(value, steps, new):
     if not steps:
         return new
     step, behind = steps[0], steps[1:]
-    tag, held = value if value[0] == kinds.fit(step) else (kinds.fit(step), ())
+    tag, held = value if value[0] == fit(step) else (fit(step), ())
     inner = put(part((tag, held), step) or NULL, behind, new)
     if tag == "object":
         return objects({**dict(held), step: inner})
@@ -78,27 +80,6 @@ def cut_out(value, steps):
     if tag == "object":
         return objects({name: one for name, one in held if name != step})
     return tag, held[:step] + held[step + 1:]
-
-
-def date_of(days):
-    """Year, month and day of a count of days from 1970."""
-    year = max(0, 1970 + min(days // 365, days // 366) - 1)
-    while grammar.days_before(year + 1, 1, 1) <= days:
-        year += 1
-    month = max(m for m in range(1, 13) if grammar.days_before(year, m, 1) <= days)
-    return year, month, days - grammar.days_before(year, month, 1) + 1
-
-
-def moment_text(nanos):
-    seconds, fraction = divmod(nanos, 10 ** 9)
-    days, rest = divmod(seconds, 86400)
-    told = "%04d-%02d-%02dT%02d:%02d:%02d" % (date_of(days) + (rest // 3600, rest // 60 % 60, rest % 60))
-    if fraction:
-        digits = "%09d" % fraction
-        while digits.endswith("000"):
-            digits = digits[:-3]
-        told += "." + digits
-    return told + "Z"
 
 
 def plain(value, sources):

@@ -1,0 +1,141 @@
+"""Scripts and kind files at random for the other trials: over the event and the variables x and y, and scripts about the limits of kinds.
+This file runs nothing by itself."""
+
+from reading.moments import read_moment
+from some_texts import some_moment
+
+
+class Maker:
+    """Scripts over the event and the variables x and y."""
+
+    PLACES = [".", ".a", ".b", ".a.b", ".a[0]", ".b[1]", "x", "y", "x.a", "x[0]", "y.a", ".a[-1]", "x.a.b"]
+    TARGETS = [".", ".a", ".b", ".a.b", ".a[0]", ".b[1]", "x", "x", "y", "x.a", "x[0]", "y.a", "x.a[1]", "_", "_.a"]
+    LITERALS = ["1", '"s"', "true", "null", "t'2024-01-02T03:04:05Z'", "r'a'", "-2", '""', "false"]
+    SIGNS = ["+", "+", "+", "-", "*", "==", "!=", "<", ">=", "|", "|", "&&", "&&", "||", "||", "??", "??", "??"]
+
+    def __init__(self, rng, calls=None, names=None):
+        """names: those that calls are made of, all where there are none."""
+        self.rng, self.calls, self.names = rng, calls, names
+
+    def pick(self, *weighted):
+        return self.rng.choices([w[0] for w in weighted], [w[1] for w in weighted])[0]
+
+    def atom(self):
+        if self.rng.random() < 0.02:
+            moment = some_moment(self.rng)
+            return moment if read_moment(moment[2:-1]) is not None else "1"
+        return self.rng.choice(self.LITERALS) if self.rng.random() < 0.45 else self.rng.choice(self.PLACES)
+
+    def expression(self, depth):
+        if depth <= 0:
+            return self.atom()
+        how = self.pick(("atom", 4), ("binary", 6), ("group", 2), ("not", 1), ("array", 1), ("map", 2), ("block", 1.5), ("if", 1.5), ("query", 0.7),
+                        ("call", 4 if self.calls else 0))
+        inner = lambda: self.expression(depth - 1)
+        if how == "atom":
+            return self.atom()
+        if how == "binary":
+            return f"{self.tight(depth)} {self.rng.choice(self.SIGNS)} {self.tight(depth)}"
+        if how == "group":
+            return "(" + self.item(depth - 1) + ")"
+        if how == "not":
+            return "!" + self.tight(depth)
+        if how == "array":
+            return "[" + ", ".join(inner() for _ in range(self.rng.randrange(3))) + "]" + self.rng.choice(["", "", "", "[0]", "[-1]", ".a"])
+        if how == "map":
+            return "{" + ", ".join(f'"{self.rng.choice("ab")}": {inner()}' for _ in range(self.rng.randrange(3))) + "}"
+        if how == "block":
+            return "{ " + self.items(depth - 1) + " }"
+        if how == "if":
+            return self.condition(depth)
+        if how == "call":
+            return self.calls.call(self, depth)
+        return "(" + self.item(depth - 1) + ")" + self.rng.choice([".a", "[0]", ".a.b", "[-1]"])
+
+    def tight(self, depth):
+        """An operand, in a group more often than not where it has signs."""
+        text = self.expression(depth - 1)
+        return f"({text})" if " " in text and self.rng.random() < 0.7 else text
+
+    def condition(self, depth):
+        test = lambda: self.pick((self.rng.choice(["true", ".a == 1", "x == .b", '.a != "s"', "!(.a == .b)", ".b == x.a", ".a < 1", "(x > 1 ?? true)",
+                                                   "1 == .a == true"]), 3),
+                                 (self.expression(depth - 1), 1), ("(" + self.item(depth - 1) + ")", 0.5))
+        text = f"if {test()} {{ {self.items(depth - 1)} }}"
+        if self.rng.random() < 0.25:
+            text += f" else if {test()} {{ {self.items(depth - 1)} }}"
+        return text + (f" else {{ {self.items(depth - 1)} }}" if self.rng.random() < 0.5 else "")
+
+    def items(self, depth):
+        return "; ".join(self.item(depth) for _ in range(self.pick((0, 1), (1, 6), (2, 3))))
+
+    def item(self, depth):
+        how = self.pick(("assign", 8), ("merge", 1), ("both", 2.5), ("return", 0.4), ("abort", 0.3), ("expression", 3), ("guarded", 2),
+                        ("called", 4 if self.calls else 0))
+        target = lambda: self.rng.choice(self.TARGETS)
+        if how == "assign":
+            return f"{target()} = {self.single(depth - 1) if self.rng.random() < 0.08 else self.expression(depth)}"
+        if how == "called":
+            call = self.calls.call(self, depth)
+            return self.pick((f"{target()} = {call}", 2), (f"{target()} = {call} ?? {self.atom()}", 2), (f"{target()}, {target()} = {call}", 2), (call, 2))
+        if how == "guarded":
+            return f"{target()} = {self.tight(depth)} ?? {self.atom()}"
+        if how == "merge":
+            return f"{target()} |= {self.expression(depth)}"
+        if how == "both":
+            return f"{target()}, {target()} = {self.expression(depth)}"
+        if how == "return":
+            return f"return {self.expression(depth)}"
+        if how == "abort":
+            return "abort" + self.pick(("", 1), (' "m"', 1), (" " + self.expression(depth - 1), 1))
+        return self.expression(depth)
+
+    def single(self, depth):
+        """What stands to the right of a target and isn't an operand."""
+        target = self.rng.choice(self.TARGETS)
+        return self.pick((f"{target} = {self.expression(depth)}", 3), (f"{target} |= {self.expression(depth)}", 1),
+                         (f"return {self.expression(depth)}", 1), ("abort", 1), (f"abort {self.expression(depth)}", 1))
+
+    def script(self):
+        lines = []
+        if self.rng.random() < 0.7:
+            lines.append("x = " + self.rng.choice(["1", '"s"', "{}", '{"a": 1}', "[1]", "null", ".a", "true", "."]))
+        if self.rng.random() < 0.5:
+            lines.append("y = " + self.rng.choice(["1", '"s"', "{}", '{"a": "s"}', "[]", "null", ".b", "x"]))
+        if self.calls and self.rng.random() < 0.1:
+            lines.append(self.calls.loop(self))
+        if self.rng.random() < 0.08:
+            lines.append(self.rng.choice(["x = {\"a\": [.]}", ".c.a.b = .", "x = [[.a]]", ".b[1].a = .a", ". = {\"a\": {\"a\": .}}", "y = [[[.c]]]"]))
+        lines += [self.item(self.rng.choice([1, 2, 3])) for _ in range(self.rng.randrange(1, 5))]
+        return "\n".join(lines)
+
+    def kind_file(self):
+        """A kind file of two levels, None for an object with rest json."""
+        if self.rng.random() < 0.5:
+            return None
+        word = lambda: self.rng.choice(["string", "integer", "boolean", "null", "json"])
+
+        def inner(depth):
+            how = self.rng.randrange(5)
+            if depth == 0 or how < 2:
+                return word()
+            if how == 2:
+                return [inner(depth - 1), word()]
+            if how == 3:
+                return {"object": {n: part(depth - 1) for n in "ab" if self.rng.random() < 0.6}, "rest": self.rng.choice(["nothing", "json", word()])}
+            return {"array": [part(depth - 1) for _ in range(self.rng.randrange(3))], "rest": self.rng.choice(["nothing", "json", word()])}
+
+        def part(depth):
+            return {"optional": inner(depth)} if self.rng.random() < 0.3 else inner(depth)
+        return {"object": {n: part(2) for n in "ab" if self.rng.random() < 0.8}, "rest": self.rng.choice(["nothing", "json", word()])}
+
+
+def hard_scripts():
+    """Kinds about the limits of levels and nodes."""
+    for size in (30, 31, 32, 33, 34):
+        for start in ("1", "[]", ".", "{}"):
+            for wrap in ("[x]", '{"a": x}', '{"a": [x]}'):
+                yield f"x = {start}\n" + f"x = {wrap}\n" * (size if wrap != '{"a": [x]}' else size // 2) + 'y = x[0] || x.a\n.x = x\ny.a'
+    for size in (998, 999, 1000, 1001):
+        yield "\n".join(f".k{i} = 1" for i in range(size)) + "\n.k7 + 1"
+    yield "x = {}\n" + "\n".join(f"x.k{i} = 1" for i in range(999)) + "\nx.k7 + 1\ny = [x]\ny[0].k7 + 1"
