@@ -8,6 +8,7 @@ pub mod Find
 pub mod Listed
 pub mod Looks
 pub mod Members
+pub mod Nested
 pub mod OneTree
 pub mod Order
 pub mod Ordered
