@@ -1,4 +1,4 @@
-use Rattle.std.proofs.Common.{◌≡◌, ◌+◌, ◌≤◌, drop, length, length-take-le, ap, ◌∙◌, rules}
+use Rattle.std.proofs.Common.{◌≡◌, ◌+◌, ◌≤◌, drop, length, length-take, length-take-le, length-append, length-drop, arith, ap, ◌∙◌, rules}
 use Rattle.vrl_batch.proofs.Windows.{in_front, window_is}
 use Rattle.vrl_batch.specs.Pieces.{PieceHeld}
 use Rattle.vrl_batch.proofs.piece.Piece.take.Goals as goal
@@ -19,3 +19,6 @@ returns-clause-piece g c =
       within = search rules;
       most = search rules;
     }
+
+pub invariant_of-self : goal.invariant_of-self
+invariant_of-self g c = (search rules, search rules, simp (length-take, length-append, length-drop) (omega arith), search rules)
