@@ -7,6 +7,7 @@ pub mod Inclusion
 pub mod Inhabiting
 pub mod Joins
 pub mod Known
+pub mod Lighter
 pub mod Making
 pub mod Merging
 pub mod Namewise

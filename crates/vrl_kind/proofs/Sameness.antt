@@ -1,7 +1,8 @@
 -- When two kinds, and two lists of their parts, are one.
-use Rattle.std.proofs.Common.{◌≡◌, ℕ, zero, suc, ◌<◌, ◌&&◌, ◌||◌, Bool, true, false, IsTrue, List, [], ◌∷◌, length, take, get_or, refl, sym, ap, ◌∙◌, arith}
+use Rattle.std.proofs.Common.{◌≡◌, ℕ, zero, suc, ◌+◌, ◌<◌, ◌≤◌, ◌&&◌, ◌||◌, Bool, true, false, IsTrue, List, [], ◌∷◌, ◌++◌, length, take, get_or, refl, sym, ap, ◌∙◌, arith}
 use Rattle.std.proofs.Math.Bool.{beq}
 use Rattle.std.proofs.lemmas.Bool.{true≢false, and_parts}
+use Rattle.std.proofs.lemmas.List.{take_all, take_more}
 use Rattle.vrl_kind.specs.KindTree.{KindTree, Places, no_places, known_place, KnownFields, no_fields, known_field}
 use Rattle.vrl_kind.specs.declared.scalars.Scalars.{Scalars}
 use Rattle.vrl_kind.specs.Scalars.{scalar_union, ScalarsAreWithin}
@@ -49,6 +50,14 @@ take_one (u ∷ xs) (v ∷ ys) (suc i) next x y n below also a b e same =
     let more : take (suc i) xs ≡ take (suc i) ys = take_one xs ys i (suc i) x y refl (omega arith) (omega arith) a b (cc) same in
     let first : u ≡ v = cc in
     rw n (λ j. first j ∷ more j)
+
+-- all of two lists that are as long, and one as far as a place at their end
+pub all_one : {A : Type 0} (xs ys : List A) (i : ℕ) → length xs ≤ i → length xs ≡ length ys → take i xs ≡ take i ys → xs ≡ ys
+all_one xs ys i above lengths same = sym (take_all i xs above) ∙ same ∙ take_all i ys (omega arith)
+
+-- a copy of what stands at a place, put behind the copies of what stands before it
+pub copied_on : {A : Type 0} (xs copies pushed : List A) (i : ℕ) (x copy : A) → i < length xs → x ≡ get_or xs i x → copy ≡ x → pushed ≡ copies ++ copy ∷ [] → copies ≡ take i xs → pushed ≡ take (i + 1) xs
+copied_on xs copies pushed i x copy below is same push before = let more = take_more xs i x below in cc
 
 beq_one : (a b : Bool) → beq a b ≡ true → a ≡ b
 beq_one true true e = refl

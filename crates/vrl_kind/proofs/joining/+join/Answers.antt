@@ -11,6 +11,7 @@ use Rattle.vrl_kind.proofs.Ahead.{fields_sorted}
 use Rattle.vrl_kind.proofs.Inclusion.{uncovered, end_of}
 use Rattle.vrl_kind.proofs.Joins.{join_rests, join_rests_other, join_parts, places_next, list_join, object_join, join_allows, join_along, list_join_along, object_join_along}
 use Rattle.vrl_kind.proofs.Namewise.{names_first, names_next, names_end}
+use Rattle.vrl_kind.proofs.Lighter.{rest_lighter, turn_lighter, list_lighter, object_lighter, join_shorter, join_parts_shorter, turn_shorter}
 use Rattle.vrl_kind.proofs.joining.+join.Goals as goal
 
 pub join_seen-returns-then-covers-clause-union : goal.join_seen-returns-then-covers-clause-union
@@ -59,3 +60,28 @@ join_fields-returns-clause-union t c = IfOk-weaker _ _ _ (λ part made. object_j
 
 pub join_fields-of-requires-clause-absent : goal.join_fields-of-requires-clause-absent
 join_fields-of-requires-clause-absent t c = join_allows c.in_ok-own.own (part_rest c.args.a.rest) (part_rest c.args.b.rest) (join_along _ _ _ _ _ c.of_rest.ensures.tree c.of_rest-2.ensures.tree c.in_ok-own.ensures.union)
+
+pub join_places-join_seen-requires : goal.join_places-join_seen-requires
+join_places-join_seen-requires t c =
+    (join_shorter _ _ _ _ _ c.place.ensures.lighter c.place-in-loop-at.ensures.lighter c.decreases, tt)
+
+pub join_places-join_seen-requires-2 : goal.join_places-join_seen-requires-2
+join_places-join_seen-requires-2 t c =
+    (join_shorter _ _ _ _ _ (rest_lighter _ _ _ c.of_rest.ensures.nodes) (rest_lighter _ _ _ c.of_rest-2.ensures.nodes) c.decreases, tt)
+
+pub join_known-join_seen-requires : goal.join_known-join_seen-requires
+join_known-join_seen-requires t c =
+    let left = turn_lighter _ _ _ _ _ _ _ c.known_or_rest.ensures.lighter c.in-Some.ensures.left c.loop-pair.invariant.left_nodes in
+    let right = turn_lighter _ _ _ _ _ _ _ c.known_or_rest-in-Some.ensures.lighter c.in-Some.ensures.right c.loop-pair.invariant.right_nodes in
+    (join_shorter _ _ _ _ _ left right c.decreases, tt)
+
+pub join_parts-join_lists-requires : goal.join_parts-join_lists-requires
+join_parts-join_lists-requires t c =
+    (join_parts_shorter _ _ _ _ _ (list_lighter _ _ _ c.list.ensures.tree) (list_lighter _ _ _ c.list-2.ensures.tree) c.requires c.decreases, (c.list.ensures.canonical, c.list-2.ensures.canonical))
+
+pub join_parts-join_objects-requires : goal.join_parts-join_objects-requires
+join_parts-join_objects-requires t c =
+    (join_parts_shorter _ _ _ _ _ (object_lighter _ _ _ c.object.ensures.tree) (object_lighter _ _ _ c.object-2.ensures.tree) c.requires c.decreases, (c.object.ensures.canonical, c.object-2.ensures.canonical))
+
+pub join_known-loop-pair-smaller : goal.join_known-loop-pair-smaller
+join_known-loop-pair-smaller t c = turn_shorter _ _ _ _ _ _ _ c.in-Some.ensures

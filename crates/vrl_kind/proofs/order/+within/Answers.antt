@@ -7,6 +7,7 @@ use Rattle.vrl_kind.specs.Scalars.{ScalarsAreWithin}
 use Rattle.vrl_kind.specs.Seen.{part_rest}
 use Rattle.vrl_kind.proofs.Ahead.{fields_sorted}
 use Rattle.vrl_kind.proofs.Inclusion.{none, along, absent_to, covers_within, not_covered, none_exact, exact_nodes, scalars_within, lists_within, objects_within, parts_within, places_to, places_from, each_place, rest_place, fields_to, fields_from, so_far_first, so_far_next, so_far_pair, so_far_rest, so_far_end, end_of}
+use Rattle.vrl_kind.proofs.Lighter.{rest_lighter, turn_lighter, list_lighter, object_lighter, within_shorter, within_parts_shorter, turn_shorter}
 use Rattle.vrl_kind.proofs.order.+within.Goals as goal
 
 pub within_seen-returns-then-not-implies : goal.within_seen-returns-then-not-implies
@@ -62,3 +63,32 @@ pub within_seen-parts_within-requires : goal.within_seen-parts_within-requires
 within_seen-parts_within-requires t c =
     let some : 1 ≤ rest_nodes (part_rest c.args.a.part) + rest_nodes (part_rest c.args.b.part) = exact_nodes _ _ (sym c.if-not-some_exact.ensures) in
     (omega (arith, c.decreases), some)
+
+pub places_within-within_seen-requires : goal.places_within-within_seen-requires
+places_within-within_seen-requires t c =
+    (within_shorter _ _ _ _ _ c.place.ensures.lighter c.place-in-loop-at.ensures.lighter c.decreases, tt)
+
+pub places_within-within_seen-requires-2 : goal.places_within-within_seen-requires-2
+places_within-within_seen-requires-2 t c =
+    (within_shorter _ _ _ _ _ (rest_lighter _ _ _ c.of_rest.ensures.nodes) (rest_lighter _ _ _ c.of_rest-2.ensures.nodes) c.decreases, tt)
+
+pub fields_within-within_seen-requires : goal.fields_within-within_seen-requires
+fields_within-within_seen-requires t c =
+    let left = turn_lighter _ _ _ _ _ _ _ c.known_or_rest.ensures.lighter c.in-Some.ensures.left c.loop-pair.invariant.left_nodes in
+    let right = turn_lighter _ _ _ _ _ _ _ c.known_or_rest-in-Some.ensures.lighter c.in-Some.ensures.right c.loop-pair.invariant.right_nodes in
+    (within_shorter _ _ _ _ _ left right c.decreases, tt)
+
+pub fields_within-within_seen-requires-2 : goal.fields_within-within_seen-requires-2
+fields_within-within_seen-requires-2 t c =
+    (within_shorter _ _ _ _ _ (rest_lighter _ _ _ c.of_rest.ensures.nodes) (rest_lighter _ _ _ c.of_rest-2.ensures.nodes) c.decreases, tt)
+
+pub parts_within-lists_within-requires : goal.parts_within-lists_within-requires
+parts_within-lists_within-requires t c =
+    (within_parts_shorter _ _ _ _ _ (list_lighter _ _ _ c.list.ensures.tree) (list_lighter _ _ _ c.list-2.ensures.tree) c.requires c.decreases, tt)
+
+pub parts_within-objects_within-requires : goal.parts_within-objects_within-requires
+parts_within-objects_within-requires t c =
+    (within_parts_shorter _ _ _ _ _ (object_lighter _ _ _ c.object.ensures.tree) (object_lighter _ _ _ c.object-2.ensures.tree) c.requires c.decreases, (c.object.ensures.canonical, c.object-2.ensures.canonical))
+
+pub fields_within-loop-pair-smaller : goal.fields_within-loop-pair-smaller
+fields_within-loop-pair-smaller t c = turn_shorter _ _ _ _ _ _ _ c.in-Some.ensures
