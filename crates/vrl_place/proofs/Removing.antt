@@ -1,12 +1,12 @@
 -- The kind that a removal makes has the tags that a removal leaves.
-use Rattle.std.proofs.Common.{◌≡◌, ℕ, suc, ◌<◌, ◌≤◌, Bool, true, false, ◌||◌, ◌&&◌, not, List, [], ◌∷◌, length, Ordering, Less, Equal, Greater, refl, sym, ap, ◌∙◌, arith}
+use Rattle.std.proofs.Common.{◌≡◌, ℕ, suc, ◌+◌, ◌*◌, ◌<◌, ◌≤◌, Bool, true, false, ◌||◌, ◌&&◌, not, List, [], ◌∷◌, length, Ordering, Less, Equal, Greater, refl, sym, ap, ◌∙◌, subst, arith}
 use Rattle.std.proofs.lemmas.Bool.{true≢false}
 use Rattle.std.specs.Cmp.Lexicographic.{slice_cmp}
 use Rattle.std.specs.Ordering.{nat_cmp, match_ordering}
 use Rattle.vrl_value.specs.Look.{Step, field, place}
 use Rattle.vrl_value.specs.declared.value.Tag.{Tag}
 use Rattle.vrl_value.specs.declared.value.Tag.TheVariants as tag
-use Rattle.vrl_path.specs.Steps.{plain}
+use Rattle.vrl_path.specs.Steps.{plain, IsPlain}
 use Rattle.vrl_path.specs.declared.path.Step.{Step as CodeStep}
 use Rattle.vrl_kind.specs.KindTree.{KindTree, kind, no_list, list_part, no_object, object_part, RestTree}
 use Rattle.vrl_kind.specs.Kinds.{only_at, rest_at, tags_at, is_absence}
@@ -233,6 +233,13 @@ no_steps (s ∷ r) none = absurd (omega arith)
 pub some_steps : (r : List CodeStep) → 0 < length r → 0 < length (plain r)
 some_steps [] some = absurd (omega arith)
 some_steps (s ∷ r) some = omega arith
+
+-- a path of the code behind its first step
+pub rest_plain : (s : CodeStep) (r steps : List CodeStep) → steps ≡ s ∷ r → IsPlain steps → IsPlain r
+rest_plain s r steps is all = λ k d below. subst IsPlain is all (suc k) d (omega arith)
+
+pub rest_shorter : (s : CodeStep) (r steps : List CodeStep) (t : ℕ) → steps ≡ s ∷ r → 3 * length steps ≡ t → 3 * length r + 2 < t
+rest_shorter s r steps t is at = omega (arith, ap length is)
 
 -- the same of a path that is the same
 pub remove_along : (A K : Sets) (p q : List Step) → p ≡ q → SameSets K (plain_remove A p) → SameSets K (plain_remove A q)
