@@ -19,7 +19,7 @@ use Rattle.vrl_builtin.proofs.Sizes.{members_size}
 
 -- ---- items
 
-by_item : (b : Bool) (t : Tree) (ts : Items) → trees_in (if b then ts else item t ts) ≡ (if b then [] else t ∷ []) ++ trees_in ts
+pub by_item : (b : Bool) (t : Tree) (ts : Items) → trees_in (if b then ts else item t ts) ≡ (if b then [] else t ∷ []) ++ trees_in ts
 by_item true t ts = refl
 by_item false t ts = refl
 

@@ -1,7 +1,9 @@
 mod Chunking
 mod Compacting
+mod Compared
 mod Equality
 mod Firsts
 mod Found
+mod Itemwise
 mod Leaves
 mod Widening

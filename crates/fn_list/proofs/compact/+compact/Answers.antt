@@ -1,4 +1,4 @@
-use Rattle.std.proofs.Common.{rules, ◌≡◌, [], drop, map, ap, ◌∙◌, subst, arith, String, Global, List, string_cmp}
+use Rattle.std.proofs.Common.{rules, ◌≡◌, ◌++◌, [], drop, map, ap, ◌∙◌, subst, arith, String, Global, List, string_cmp}
 use Rattle.std.proofs.Math.ListN.{drop_of_length-le}
 use Rattle.std.specs.List.Sorted.{IsStrictlySortedBy}
 use Rattle.std.specs.Map.{keys_of}
@@ -6,9 +6,11 @@ use Rattle.vrl_value.specs.Tree.{no_members, array, object}
 use Rattle.vrl_value.specs.View.{items_of, items_view, members_of, members_view, tree_of}
 use Rattle.vrl_value.specs.declared.value.Value.{Value, the_lemmas}
 use Rattle.vrl_value.specs.declared.value.Value.TheVariants as value
-use Rattle.fn_list.specs.Compact.{compact_items, compact_members}
-use Rattle.fn_list.proofs.Compacting.{begun, ended, items_ended, no_more, one_fewer, step, IsPartway}
-use Rattle.vrl_builtin.proofs.Sizes.{members_size}
+use Rattle.fn_list.specs.Compact.{compact_items, compact_members, compacted, full, is_hollow}
+use Rattle.fn_list.proofs.Compacting.{begun, by_item, ended, items_ended, no_more, one_fewer, step, IsPartway}
+use Rattle.fn_list.proofs.Itemwise.{fewer_left, walked}
+use Rattle.vrl_builtin.specs.Listed.{trees_in}
+use Rattle.vrl_builtin.proofs.Sizes.{items_size, members_size}
 use Rattle.fn_list.proofs.compact.+compact.Goals as goal
 
 pub compact_fields-loop-name-init : goal.compact_fields-loop-name-init
@@ -45,3 +47,17 @@ compact_items-returns t c =
     let seen : tree_of (value.List c.new.result) ≡ array (items_of c.new.result) = search (rules, the_lemmas) in
     let none : drop l.item-index c.args.items.now ≡ [] = drop_of_length-le c.args.items.now (omega (arith, c.loop-item-test.false)) in
     seen ∙ ap array (c.new.ensures ∙ items_ended (map tree_of l.kept.items) (drop l.item-index c.args.items.now) (compact_items (items_view c.args.items.now)) none l.invariant.whole)
+
+pub compact_items-compacted-requires : goal.compact_items-compacted-requires
+compact_items-compacted-requires t c =
+    let fewer = fewer_left c.args.items.now c.loop-item.item-index c.item-item.result (items_size (items_view c.args.items.now)) c.loop-item-test.true c.item-item.is c.loop-item.invariant.fewer in
+    (omega (arith, fewer), tt)
+
+pub compact_items-loop-item-preserved : goal.compact_items-loop-item-preserved
+compact_items-loop-item-preserved t c =
+    let l = c.loop-item in
+    let u = compacted (tree_of c.item-item.result) in record {
+      whole = walked (λ ts. trees_in (compact_items ts)) c.args.items.now c.loop-item.item-index c.item-item.result (full u) (map tree_of l.kept.items) (map tree_of c.push_full.new.kept.items) _ c.loop-item-test.true c.item-item.is
+          (λ ts. by_item (is_hollow u) u (compact_items ts)) (c.in_ok-push_full.ensures ∙ ap (λ w. map tree_of l.kept.items ++ full w) c.in_ok-part.ensures) l.invariant.whole;
+      fewer = (fewer_left c.args.items.now c.loop-item.item-index c.item-item.result _ c.loop-item-test.true c.item-item.is l.invariant.fewer).1;
+    }
