@@ -1,9 +1,12 @@
 -- The members of an object, as they are written one after the other.
-use Rattle.std.proofs.Common.{◌≡◌, ◌++◌, ◌==◌, ℕ, false, List, [], ◌∷◌, Option, Some, None, IsTrue, length, refl, sym, ap, ◌∙◌}
-use Rattle.std.proofs.lemmas.Bool.{true≢false}
+use Rattle.std.proofs.Common.{◌≡◌, ◌++◌, ◌==◌, ℕ, false, List, [], ◌∷◌, Option, Some, None, IsTrue, String, Global, codes, string_bytes, length, refl, sym, ap, ◌∙◌, append_assoc}
+use Rattle.std.proofs.lemmas.Bool.{and_parts, true≢false}
+use Rattle.std.proofs.lemmas.List.{append-nil}
 use Rattle.std.specs.List.{list_any}
 use Rattle.vrl_value.specs.Regexes.{members_regexes_below, regexes_below}
 use Rattle.vrl_value.specs.Tree.{Tree, string, integer, boolean, null, timestamp, regex, array, object, Members, no_members, member}
+use Rattle.vrl_value.specs.View.{members_view, tree_of}
+use Rattle.vrl_value.specs.declared.value.Value.{Value}
 use Rattle.vrl_builtin.specs.Conditions.{arguments_below}
 use Rattle.vrl_builtin.specs.Rows.{argument_at, members_given, optional_members, value_or}
 use Rattle.fn_parse.proofs.Below.{argument_below}
@@ -13,6 +16,30 @@ use Rattle.fn_parse.specs.EncodeKeyValue.{field_text, is_special, spaced_fields,
 abbrev pub fields_behind : List (List ℕ) → List ℕ → Members → List ℕ
 fields_behind sources separator no_members = []
 fields_behind sources separator (member k t ms) = separator ++ (field_text sources k t ++ spaced_fields sources ms)
+
+space_behind : (sources : List (List ℕ)) (ms : Members) → spaced_fields sources ms ≡ fields_behind sources (codes " ") ms
+space_behind sources no_members = refl
+space_behind sources (member k t ms) = refl
+
+-- one field more is written, and then those that are left
+pub one_written : (sources : List (List ℕ)) (separator before after whole : List ℕ) (es left : List (String Global × Value)) (e : String Global × Value) → es ≡ e ∷ left →
+    after ≡ before ++ (separator ++ field_text sources (string_bytes e.0) (tree_of e.1)) → before ++ fields_behind sources separator (members_view es) ≡ whole →
+    after ++ fields_behind sources (codes " ") (members_view left) ≡ whole
+one_written sources separator before after whole es left e is added told =
+    let field = field_text sources (string_bytes e.0) (tree_of e.1) in
+    let others = spaced_fields sources (members_view left) in
+    sym (ap (λ s. after ++ s) (space_behind sources (members_view left))) ∙ ap (λ s. s ++ others) added ∙ append_assoc before (separator ++ field) others
+    ∙ ap (λ s. before ++ s) (append_assoc separator field others) ∙ sym (ap (λ fs. before ++ fields_behind sources separator (members_view fs)) is) ∙ told
+
+-- where none is left, all are written
+pub all_written : (sources : List (List ℕ)) (separator before whole : List ℕ) (es : List (String Global × Value)) → es ≡ [] → before ++ fields_behind sources separator (members_view es) ≡ whole → before ≡ whole
+all_written sources separator before whole es none told = sym (append-nil before) ∙ sym (ap (λ fs. before ++ fields_behind sources separator (members_view fs)) none) ∙ told
+
+-- each field's regexes are in order where those of all that are left are
+pub first_regexes_below : (count : ℕ) (es left : List (String Global × Value)) (e : String Global × Value) → es ≡ e ∷ left → IsTrue (members_regexes_below count (members_view es)) →
+    IsTrue (regexes_below count (tree_of e.1)) × IsTrue (members_regexes_below count (members_view left))
+first_regexes_below count es left e is below =
+    and_parts (regexes_below count (tree_of e.1)) _ (sym (ap (λ fs. members_regexes_below count (members_view fs)) is) ∙ below)
 
 pub quotes_wanted : (s : List ℕ) → (length s == 0) ≡ false → list_any is_special s ≡ wants_quotes s
 quotes_wanted [] some = absurd (true≢false some)
