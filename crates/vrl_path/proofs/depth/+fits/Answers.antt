@@ -1,4 +1,5 @@
 use Rattle.std.proofs.Common.{◌≤◌, sym, ap, subst, arith, refl}
+use Rattle.std.proofs.lemmas.Grind.{common_steps}
 use Rattle.vrl_value.specs.Depth.{depth_of, items_depth, members_depth}
 use Rattle.vrl_value.specs.View.{items_of, members_of, tree_of}
 use Rattle.vrl_path.specs.Steps.{plain, IsWritableStep}
@@ -57,3 +58,12 @@ pub fits_at-returns-in-None-items_of : goal.fits_at-returns-in-None-items_of
 fits_at-returns-in-None-items_of t c = λ n room.
     let writable = subst IsWritableStep (sym c.step-item.is) (c.requires.writable 0 c.step-item.result (omega arith)) in
     (λ yes. no_array_fits (tree_of c.args.value.now) c.args.steps.now c.step-item.result c.in-Place.place n c.args.limit c.step-item.is c.in-Place.is writable c.in-len1-up.len_at_least c.in-None-items_of.ensures room, λ fits. refl)
+
+pub fits_at-returns-in_default : goal.fits_at-returns-in_default
+fits_at-returns-in_default t c = grind (arith, common_steps)
+
+pub fits_at-returns-in-Some : goal.fits_at-returns-in-Some
+fits_at-returns-in-Some t c = grind (arith, common_steps)
+
+pub fits_at-returns-in-Some-items_of : goal.fits_at-returns-in-Some-items_of
+fits_at-returns-in-Some-items_of t c = grind (arith, common_steps)

@@ -1,4 +1,6 @@
-use Rattle.std.proofs.Common.{sym, ◌∙◌, subst, ◌≤◌}
+use Rattle.std.proofs.Common.{sym, ◌∙◌, subst, ◌≤◌, arith}
+use Rattle.std.proofs.lemmas.Grind.{common_steps}
+use Rattle.vrl_value.specs.declared.value.Value.{the_lemmas}
 use Rattle.vrl_value.specs.Parts.{count_of}
 use Rattle.vrl_value.specs.View.{items_of, members_of, tree_of}
 use Rattle.vrl_path.specs.Steps.{plain}
@@ -33,3 +35,18 @@ put_in_items-returns-in-Some-clause-err t c =
     let w = c.put_at.new.value in
     let lent = from_some c.get_mut.result c.in-Some.part _ c.in-Some.is (c.get_mut.follows.holds w) in
     on_err c.put_at.result _ _ (λ same. lent ∙ same_item c.args.place (items_of c.args.items.now) (tree_of c.in-Some.part.now) (tree_of w) c.in-Some.ensures.value same) c.put_at.ensures.err
+
+pub put_at-returns-in_default-clause-ok : goal.put_at-returns-in_default-clause-ok
+put_at-returns-in_default-clause-ok t c = grind (arith, common_steps)
+
+pub put_at-returns-in-Object-clause-ok : goal.put_at-returns-in-Object-clause-ok
+put_at-returns-in-Object-clause-ok t c = grind (the_lemmas, arith, common_steps)
+
+pub put_at-returns-in-Object-clause-there : goal.put_at-returns-in-Object-clause-there
+put_at-returns-in-Object-clause-there t c = grind (the_lemmas, arith, common_steps)
+
+pub put_at-returns-in-List-clause-ok : goal.put_at-returns-in-List-clause-ok
+put_at-returns-in-List-clause-ok t c = grind (the_lemmas, arith, common_steps)
+
+pub put_at-returns-in-List-clause-there : goal.put_at-returns-in-List-clause-there
+put_at-returns-in-List-clause-there t c = grind (the_lemmas, arith, common_steps)
