@@ -1,4 +1,5 @@
-use Rattle.std.proofs.Common.{◌++◌, rules}
+use Rattle.std.proofs.Common.{◌++◌, rules, arith}
+use Rattle.std.proofs.lemmas.Grind.{common_steps}
 use Rattle.vrl_token.proofs.Walks.{walked_all, walked_more}
 use Rattle.vrl_token.proofs.path.Gathering.gather.Goals as goal
 
@@ -13,3 +14,6 @@ loop-segment-preserved c = (
 
 pub returns : goal.returns
 returns c = λ before gathered. walked_all (c.loop-segment.invariant.1 before gathered) c.in_default.ensures
+
+pub loop-segment-smaller : goal.loop-segment-smaller
+loop-segment-smaller c = grind (arith, common_steps)
