@@ -47,3 +47,6 @@ pub returns-clause-told : goal.returns-clause-told
 returns-clause-told c =
     let one : map_of (members_of c.loop-variable.fields) ≡ variables_of c.args.names.now (trees_of c.args.variables.items) = grind (arith, common_steps) in
     λ count all. c.loop-variable.invariant.formed count (subst (λ m. (x : List ℕ) → IfSome (finite.get m x) (IsWellFormed count)) one all)
+
+pub returns-clause-variables : goal.returns-clause-variables
+returns-clause-variables c = grind (arith, common_steps)

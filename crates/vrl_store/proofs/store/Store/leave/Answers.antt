@@ -1,4 +1,5 @@
 use Rattle.std.proofs.Common.{◌≡◌, length, map, take, ap, ◌∙◌, arith}
+use Rattle.std.proofs.lemmas.Grind.{common_steps}
 use Rattle.std.specs.FinMap as finite
 use Rattle.vrl_value.specs.View.{tree_of}
 use Rattle.vrl_store.specs.Kept.{trees_of}
@@ -22,3 +23,9 @@ returns-clause-left c = λ names are.
     let all = left ∙ ap (λ ps. finite.retain_keys (variables_of names (trees_of before.variables.items)) (λ x. is_among x (map (name_at names) ps))) present in
     let event = ap tree_of c.loop-self.invariant.event in
     λ i. record { event = event i; variables = all i }
+
+pub loop-self-init : goal.loop-self-init
+loop-self-init c = grind (arith, common_steps)
+
+pub loop-self-preserved : goal.loop-self-preserved
+loop-self-preserved c = grind (arith, common_steps)

@@ -1,4 +1,5 @@
-use Rattle.std.proofs.Common.{◌≡◌, ◌<◌, length, get_or, set, Some, None, rules, sym, ap, ◌∙◌, subst}
+use Rattle.std.proofs.Common.{◌≡◌, ◌<◌, length, get_or, set, Some, None, rules, sym, ap, ◌∙◌, subst, arith}
+use Rattle.std.proofs.lemmas.Grind.{common_steps}
 use Rattle.vrl_value.specs.View.{tree_of}
 use Rattle.vrl_value.specs.declared.value.Value.TheVariants as value
 use Rattle.vrl_store.specs.Kept.{is_numbered, trees_of, IsShallow}
@@ -61,3 +62,9 @@ invariant_of-self-in-Some c =
     let is : Some c.in-Some.variable ≡ get_or s.variables.items n (Some c.in-Some.variable) = search rules in
     let shallow : IsShallow (tree_of c.replace-in-Some.new.dest) = subst (λ v. IsShallow (tree_of v)) (sym c.replace-in-Some.ensures.after) null_shallow in
     record { kept = kept_there s.are_shallow s.variables.items s.present.items n c.in-Some.variable c.replace-in-Some.new.dest s.kept within is (λ marked. shallow); within = s.within; nothing = s.nothing }
+
+pub invariant_of-self-in-None : goal.invariant_of-self-in-None
+invariant_of-self-in-None c = grind (arith, common_steps)
+
+pub returns-in_err-begin-in-None-clause-same : goal.returns-in_err-begin-in-None-clause-same
+returns-in_err-begin-in-None-clause-same c = grind (arith, common_steps)
