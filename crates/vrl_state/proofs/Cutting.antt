@@ -224,3 +224,11 @@ sorted_behind a u b m s = second _ _ (sorted_back a (u ∷ (b ++ m)) (subst IsSo
 -- what stands before an entry of the right side
 pub sorted_upto : (a : List Entry) (e : Entry) (b : List Entry) (u : Entry) (r : List Entry) → IsSorted (a ++ e ∷ (b ++ u ∷ r)) → IsSorted (a ++ e ∷ b)
 sorted_upto a e b u r s = sorted_front (a ++ e ∷ b) (u ∷ r) (subst IsSorted (sym (append_assoc a (e ∷ b) (u ∷ r))) s)
+
+-- ---- two sides that share what stands between them
+
+pub shared : (a : List Entry) (u : Entry) (b m left right : List Entry) → left ≡ a ++ u ∷ b → right ≡ b ++ m → left ++ m ≡ a ++ u ∷ right
+shared a u b m left right p q = ap (λ es. es ++ m) p ∙ append_assoc a (u ∷ b) m ∙ ap (λ es. a ++ u ∷ es) (sym q)
+
+pub shared_twice : (a : List Entry) (u : Entry) (l : List Entry) (v : Entry) (r m left right : List Entry) → left ≡ a ++ u ∷ l → right ≡ r ++ m → left ++ v ∷ right ≡ a ++ u ∷ ((l ++ v ∷ r) ++ m)
+shared_twice a u l v r m left right p q = shared a u l (v ∷ right) left _ p (shared l v r m _ right refl q)

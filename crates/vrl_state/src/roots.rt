@@ -26,10 +26,19 @@ use vrl_syntax::Root;
 use vrl_value::Memory;
 
 /// The kinds of the event and of the variables that are known.
-#[derive(Drop)]
 pub(crate) struct KnownRoots {
     event: Rc<Kind>,
     variables: VariableKinds,
+}
+
+// Written out, so that the kinds are let go by one call.
+impl Drop for KnownRoots {
+    fn drop(self) {
+        let KnownRoots {
+            event: _,
+            variables: _,
+        } = self;
+    }
 }
 
 impl Model for KnownRoots {

@@ -14,9 +14,16 @@ use vrl_value::Memory;
 
 /// The scopes that are open, the innermost first: a list that is shared with other states.
 #[cycle(scopes)]
-#[derive(Drop)]
 pub(crate) struct Scopes {
     pub(crate) innermost: Option<Rc<OpenScope>>,
+}
+
+// Written out, so that scopes are let go by one call.
+impl Drop for Scopes {
+    #[cycle(let_scopes_go)]
+    fn drop(self) {
+        let Scopes { innermost: _ } = self;
+    }
 }
 
 /// A scope that is open: the version of the variables where it began, the names that it hides with the kinds

@@ -10,18 +10,31 @@ use vrl_kind::Kind;
 use vrl_value::Memory;
 
 /// A name with its kind, both shared.
-#[derive(Drop)]
 pub(crate) struct Entry {
     pub(crate) name: Rc<String>,
     pub(crate) kind: Rc<Kind>,
 }
 
+// Written out, so that an entry is let go by one call.
+impl Drop for Entry {
+    fn drop(self) {
+        let Entry { name: _, kind: _ } = self;
+    }
+}
+
 /// A version of an ordered tree of names, each with its kind. Nodes are shared with other versions, and never
 /// written after they were made; the heights of a node's sides differ by at most one.
 #[cycle(tree)]
-#[derive(Drop)]
 pub(crate) struct NameTree {
     pub(crate) node: Option<Rc<Node>>,
+}
+
+// Written out, so that a version is let go by one call.
+impl Drop for NameTree {
+    #[cycle(let_tree_go)]
+    fn drop(self) {
+        let NameTree { node: _ } = self;
+    }
 }
 
 /// An entry of a version, with the entries before and behind it.

@@ -14,9 +14,15 @@ use vrl_kind::Kind;
 use vrl_value::Memory;
 
 /// The kinds of the variables that are known, by their names: a version of the tree.
-#[derive(Drop)]
 pub(crate) struct VariableKinds {
     tree: NameTree,
+}
+
+// Written out, so that the kinds are let go by one call.
+impl Drop for VariableKinds {
+    fn drop(self) {
+        let VariableKinds { tree: _ } = self;
+    }
 }
 
 impl Model for VariableKinds {
