@@ -15,7 +15,7 @@ use crate::judged::{Ending, Judged};
 use crate::walk::expr;
 use std::alloc::Global;
 use vrl_diag::{Diagnostics, code};
-use vrl_judge::{Checker, Ends, Outcome, SharedKind, either, ordered, scalar};
+use vrl_judge::{Checker, Outcome, SharedKind, either, ordered, scalar};
 use vrl_kind::Kind;
 use vrl_pattern::Patterns;
 use vrl_state::{Branch, Known, Knowns, State};
@@ -52,11 +52,7 @@ pub fn check(
     let diagnostics = ordered(checker.diagnostics)?;
     let ok = branch_of(alloc, checker.state)?;
     let Outcome { kind, ends } = outcome;
-    let Ends {
-        fail,
-        ret,
-        poisoned: _,
-    } = ends;
+    let (fail, ret, _) = ends.into_parts();
     let fail = or_dead(alloc, fail)?;
     let kind = kind.into_kind(alloc)?;
     Ok(Judged {

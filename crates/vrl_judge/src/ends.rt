@@ -11,7 +11,6 @@ use vrl_state::Branch;
 use vrl_value::Memory;
 
 /// How a script may return.
-#[derive(Drop)]
 pub struct Returned {
     /// The kind of what is returned.
     pub kind: Kind,
@@ -19,8 +18,14 @@ pub struct Returned {
     pub state: Branch,
 }
 
+// Written out, so that a return is let go by one call.
+impl Drop for Returned {
+    fn drop(self) {
+        let Returned { kind: _, state: _ } = self;
+    }
+}
+
 /// The ends of what was judged, but for that with a value, where the checker's state is what is known.
-#[derive(Drop)]
 pub struct Ends {
     /// What is known where it ends with an error. `None`: it can't.
     pub fail: Option<Branch>,
@@ -28,6 +33,17 @@ pub struct Ends {
     pub ret: Option<Returned>,
     /// An error code stands on it or in it.
     pub poisoned: bool,
+}
+
+// Written out, so that the ends are let go by one call.
+impl Drop for Ends {
+    fn drop(self) {
+        let Ends {
+            fail: _,
+            ret: _,
+            poisoned: _,
+        } = self;
+    }
 }
 
 impl Ends {
@@ -40,6 +56,20 @@ impl Ends {
             ret: None,
             poisoned: false,
         }
+    }
+
+    /// Where it ends with an error, how it may return, and whether a code stands.
+    pub fn into_parts(self) -> (Option<Branch>, Option<Returned>, bool)
+        ensures fail { result.0 ≡ self.fail }
+        ensures ret { result.1 ≡ self.ret }
+        ensures poisoned { result.2 ≡ self.poisoned }
+    {
+        let Ends {
+            fail,
+            ret,
+            poisoned,
+        } = self;
+        (fail, ret, poisoned)
     }
 
     /// Whether it can't end with an error, and no error code tells why.
@@ -55,9 +85,10 @@ impl Ends {
         ensures joined { OnOk result (AreJoinedEnds self.old part self.new) }
         ensures scopes { OnOk result ((scopes : List Scope) → AreEnds scopes self.old → AreEnds scopes part → AreEnds scopes self.new) }
     {
-        add_way(&mut self.fail, part.fail)?;
-        add_return(&mut self.ret, alloc, part.ret)?;
-        self.poisoned = either_of(self.poisoned, part.poisoned);
+        let (fail, ret, poisoned) = part.into_parts();
+        add_way(&mut self.fail, fail)?;
+        add_return(&mut self.ret, alloc, ret)?;
+        self.poisoned = either_of(self.poisoned, poisoned);
         Ok(())
     }
 

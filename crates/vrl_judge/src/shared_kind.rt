@@ -8,9 +8,15 @@ use vrl_kind::Kind;
 use vrl_value::Memory;
 
 /// The kind of a part that was judged, which may be shared, with the state where it is that of a whole root. A contract sees the kind.
-#[derive(Drop)]
 pub struct SharedKind {
     kind: Rc<Kind>,
+}
+
+// Written out, so that it is let go by one call.
+impl Drop for SharedKind {
+    fn drop(self) {
+        let SharedKind { kind: _ } = self;
+    }
 }
 
 impl Model for SharedKind {
@@ -73,7 +79,8 @@ impl SharedKind {
     pub fn into_kind(self, alloc: Global) -> Result<Kind, Memory>
         ensures { IfOk result (λ kind. kind ≡ self) }
     {
-        match Rc::try_unwrap(self.kind) {
+        let SharedKind { kind } = self;
+        match Rc::try_unwrap(kind) {
             Ok(kind) => Ok(kind),
             Err(shared) => shared.copy(alloc),
         }

@@ -1,4 +1,4 @@
-use Rattle.std.proofs.Common.{false, map, refl, sym, subst, ap, ◌∙◌}
+use Rattle.std.proofs.Common.{false, map, sym, subst, ap, ◌∙◌}
 use Rattle.vrl_syntax.specs.View.{exprs_of}
 use Rattle.vrl_judge.specs.Judging.{branches_known}
 use Rattle.vrl_judge.specs.Ordered.{AreOrdered}
@@ -17,8 +17,8 @@ returns c =
     let before : Checker = record { alloc = c.args.alloc; patterns = c.args.patterns; state = c.in_ok-state.state; diagnostics = c.new.result; empties = c.new-2.result; loops = c.new-3.result; inside = false } in
     let outcome = c.in_ok-outcome.outcome in
     let after = c.script_items.new.checker in
-    let judged : Judged = record { kind = c.in_ok-kind.kind; ok = c.in_ok-ok.ok; fail = c.in_ok-fail.fail; ret = outcome.ends.ret; empties = c.new-4.result; loops = c.in_ok-loops.loops; diagnostics = c.new-5.result } in
-    let answered : AreAnswered after.state outcome judged = record { kind = c.in_ok-kind.ensures; ok = c.in_ok-ok.ensures; fail = c.in_ok-fail.ensures; ret = refl } in
+    let judged : Judged = record { kind = c.in_ok-kind.kind; ok = c.in_ok-ok.ok; fail = c.in_ok-fail.fail; ret = c.into_parts-fail.result.1; empties = c.new-4.result; loops = c.in_ok-loops.loops; diagnostics = c.new-5.result } in
+    let answered : AreAnswered after.state outcome judged = record { kind = c.in_ok-kind.ensures; ok = c.in_ok-ok.ensures; fail = rw c.into_parts-fail.ensures.fail at c.in_ok-fail.ensures; ret = c.into_parts-fail.ensures.ret } in
     let listed = c.in_ok-loops.ensures.loops ∙ ap (λ bs. map known_as (branches_known bs)) c.deref.ensures.value in
     script_judged c.args.start.now (exprs_of c.args.script.now.items) before after outcome judged c.in_ok-state.ensures.state c.new.ensures.items c.new-2.ensures.items c.new-3.ensures.items c.in_ok-outcome.ensures
     answered c.new-4.ensures listed c.in_ok-loops.ensures.roots (subst (AreOrdered after.diagnostics.items) (sym c.new-5.ensures) c.in_ok-diagnostics.ensures)
