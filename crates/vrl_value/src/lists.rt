@@ -6,9 +6,15 @@ use std::alloc::Global;
 use std::marker::Model;
 
 /// A text: bytes that are UTF-8 (RFC 3629). A contract sees the list of its bytes.
-#[derive(Drop)]
 pub struct Chars {
     text: String,
+}
+
+// Written out, so that the text is let go by one call.
+impl Drop for Chars {
+    fn drop(self) {
+        let Chars { text: _ } = self;
+    }
 }
 
 impl Model for Chars {
@@ -58,7 +64,8 @@ impl Chars {
     pub fn into_string(self) -> String
         ensures { string_bytes result ≡ self }
     {
-        self.text
+        let Chars { text } = self;
+        text
     }
 
     /// An equal text. `Memory`: want of memory.

@@ -168,9 +168,16 @@ impl Tag {
 
 /// The parts of an array, in order.
 #[cycle(value)]
-#[derive(Drop)]
 pub struct Items {
     items: Vec<Value>,
+}
+
+// Written out, so that they are let go by one call.
+impl Drop for Items {
+    #[cycle(let_go)]
+    fn drop(self) {
+        let Items { items: _ } = self;
+    }
 }
 
 impl Items {
@@ -244,7 +251,8 @@ impl Items {
     pub fn into_vec(self) -> Vec<Value>
         ensures { items_view result.items ≡ items_of self }
     {
-        self.items
+        let Items { items } = self;
+        items
     }
 
     // The greatest depth of a part, 0 where there is none, and at most 2^64 - 1.
@@ -292,9 +300,16 @@ impl Items {
 
 /// The fields of an object, in the order of their names' bytes. No name comes twice.
 #[cycle(value)]
-#[derive(Drop)]
 pub struct Fields {
     map: BTreeMap<String, Value>,
+}
+
+// Written out, so that they are let go by one call.
+impl Drop for Fields {
+    #[cycle(let_go)]
+    fn drop(self) {
+        let Fields { map: _ } = self;
+    }
 }
 
 impl Fields {
@@ -411,6 +426,7 @@ impl Fields {
     pub fn into_map(self) -> BTreeMap<String, Value>
         ensures { members_view result.entries ≡ members_of self }
     {
-        self.map
+        let Fields { map } = self;
+        map
     }
 }
