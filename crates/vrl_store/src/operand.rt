@@ -1,17 +1,28 @@
-ghost use Rattle.std.specs.Prelude.{◌≡◌, IfOk};
-ghost use Rattle.vrl_value.specs.View.{tree_of};
+ghost use Rattle.std.specs.Prelude.{◌≡◌, IfOk, OnOk};
+ghost use Rattle.vrl_value.specs.Tree.{object, Members};
+ghost use Rattle.vrl_value.specs.View.{members_of, tree_of};
+ghost use Rattle.vrl_store.specs.Operators.{put_all};
 ghost use Rattle.vrl_store.specs.Results.{operand_tree};
 
 use std::alloc::Global;
-use vrl_value::{Memory, Value};
+use vrl_value::{Chars, Fields, Memory, Value};
 
 /// A value that an operator looks at: one that it may keep, or one that stands elsewhere.
-#[derive(Drop)]
 pub enum Operand<'a> {
     /// It may be kept.
     Owned(Value),
     /// It stands elsewhere.
     Borrowed(&'a Value),
+}
+
+// Written out, so that it is let go by one call.
+impl Drop for Operand<'_> {
+    fn drop(self) {
+        match self {
+            Operand::Owned(_value) => {}
+            Operand::Borrowed(_value) => {}
+        }
+    }
 }
 
 impl Operand<'_> {
@@ -34,4 +45,39 @@ impl Operand<'_> {
             Operand::Borrowed(value) => value.copy(alloc),
         }
     }
+
+    /// Puts each field of an object among fields, in place of one with its name; what is no object has none. `Memory`: want of memory; some may be put.
+    pub(crate) fn put_into(self, alloc: Global, fields: &mut Fields) -> Result<(), Memory>
+        ensures { OnOk result ((ms : Members) → operand_tree self.entry ≡ object ms → members_of fields.new ≡ put_all ms (members_of fields.old)) }
+    {
+        match self {
+            Operand::Owned(value) => match value {
+                Value::Object(others) => put_owned(fields, others),
+                _ => Ok(()),
+            },
+            Operand::Borrowed(value) => match value {
+                Value::Object(others) => put_copies(alloc, fields, others),
+                _ => Ok(()),
+            },
+        }
+    }
+}
+
+fn put_owned(fields: &mut Fields, others: Fields) -> Result<(), Memory>
+    ensures { OnOk result (members_of fields.new ≡ put_all (members_of others) (members_of fields.old)) }
+{
+    for (name, value) in others.into_map() {
+        fields.insert(Chars::new(name), value)?;
+    }
+    Ok(())
+}
+
+fn put_copies(alloc: Global, fields: &mut Fields, others: &Fields) -> Result<(), Memory>
+    ensures { OnOk result (members_of fields.new ≡ put_all (members_of others.now) (members_of fields.old)) }
+{
+    for (name, value) in others.as_map().iter() {
+        let name = Chars::copy_of(alloc, name.as_str())?;
+        fields.insert(name, value.copy(alloc)?)?;
+    }
+    Ok(())
 }

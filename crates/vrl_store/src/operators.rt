@@ -1,4 +1,4 @@
-ghost use Rattle.std.specs.Prelude.{◌≡◌, ◌≢◌, ◌++◌, ℕ, List, IfOk, IsOk, IsTrue, OnOk};
+ghost use Rattle.std.specs.Prelude.{◌≡◌, ◌≢◌, ◌++◌, ℕ, List, IfOk, IsOk, IsTrue};
 ghost use Rattle.vrl_value.specs.Tree.{object, string, Members};
 ghost use Rattle.vrl_value.specs.View.{members_of, tree_of};
 ghost use Rattle.vrl_store.specs.Operators as spec;
@@ -213,7 +213,7 @@ fn merge(alloc: Global, left: Operand<'_>, right: Operand<'_>) -> Result<Value, 
     match (left.value(), right.value()) {
         (Value::Object(_), Value::Object(_)) => {
             let mut fields = fields_of(alloc, left)?;
-            put_all(alloc, &mut fields, right)?;
+            right.put_into(alloc, &mut fields)?;
             Ok(Value::Object(fields))
         }
         (first, second) => Err(cannot_apply(alloc, Op::Merge, first, second)),
@@ -228,41 +228,6 @@ fn fields_of(alloc: Global, operand: Operand<'_>) -> Result<Fields, Memory>
         Value::Object(fields) => Ok(fields),
         _ => Ok(Fields::new(BTreeMap::new(alloc))),
     }
-}
-
-// Puts each field of an object among fields, in place of one with its name. `Memory`: want of memory; some may be put.
-fn put_all(alloc: Global, fields: &mut Fields, operand: Operand<'_>) -> Result<(), Memory>
-    ensures { OnOk result ((ms : Members) → operand_tree operand.entry ≡ object ms → members_of fields.new ≡ spec.put_all ms (members_of fields.old)) }
-{
-    match operand {
-        Operand::Owned(value) => match value {
-            Value::Object(others) => put_owned(fields, others),
-            _ => Ok(()),
-        },
-        Operand::Borrowed(value) => match value {
-            Value::Object(others) => put_copies(alloc, fields, others),
-            _ => Ok(()),
-        },
-    }
-}
-
-fn put_owned(fields: &mut Fields, others: Fields) -> Result<(), Memory>
-    ensures { OnOk result (members_of fields.new ≡ spec.put_all (members_of others) (members_of fields.old)) }
-{
-    for (name, value) in others.into_map() {
-        fields.insert(Chars::new(name), value)?;
-    }
-    Ok(())
-}
-
-fn put_copies(alloc: Global, fields: &mut Fields, others: &Fields) -> Result<(), Memory>
-    ensures { OnOk result (members_of fields.new ≡ spec.put_all (members_of others.now) (members_of fields.old)) }
-{
-    for (name, value) in others.as_map().iter() {
-        let name = Chars::copy_of(alloc, name.as_str())?;
-        fields.insert(name, value.copy(alloc)?)?;
-    }
-    Ok(())
 }
 
 /// Whether a value is null or false.
