@@ -7,12 +7,21 @@ use vrl_kind::{Kind, has};
 use vrl_value::{Tag, Value};
 
 /// What is known of the argument of a parameter before the call is made.
-#[derive(Drop)]
 pub struct Given {
     /// Its kind. `None`: no argument is given.
     pub kind: Option<Kind>,
     /// Its value, where it is written as a literal.
     pub literal: Option<Value>,
+}
+
+// Written out, so that what is known of an argument is let go by one call.
+impl Drop for Given {
+    fn drop(self) {
+        let Given {
+            kind: _,
+            literal: _,
+        } = self;
+    }
 }
 
 /// What is known of each argument of a call, by the place of its parameter. A contract sees `givens_of` it.

@@ -59,11 +59,20 @@ fn is_parting(token: &Token) -> bool
 }
 
 // The stretches that go on at a place, each with a number.
-#[derive(Drop)]
 struct Stretches {
     innermost: usize,
     // The numbers of those that hold it, from the outermost on.
     around: Vec<usize>,
+}
+
+// Written out, so that the stretches are let go by one call.
+impl Drop for Stretches {
+    fn drop(self) {
+        let Stretches {
+            innermost: _,
+            around: _,
+        } = self;
+    }
 }
 
 impl Stretches {
@@ -141,10 +150,19 @@ fn nesting_inside(around: Option<usize>, count: usize) -> usize
 }
 
 // How many counted tokens each stretch has so far, by the place at which it begins.
-#[derive(Drop)]
 struct Tally {
     counts: Vec<usize>,
     stretches: Stretches,
+}
+
+// Written out, so that a tally is let go by one call.
+impl Drop for Tally {
+    fn drop(self) {
+        let Tally {
+            counts: _,
+            stretches: _,
+        } = self;
+    }
 }
 
 impl Tally {
@@ -181,6 +199,17 @@ impl Tally {
         self.stretches.add(token, place)?;
         Ok(())
     }
+
+    // How many counted tokens each stretch has.
+    fn into_counts(self) -> Vec<usize>
+        ensures { result ≡ self.counts }
+    {
+        let Tally {
+            counts,
+            stretches: _,
+        } = self;
+        counts
+    }
 }
 
 // How many counted tokens each stretch has, by the place at which it begins.
@@ -191,14 +220,23 @@ fn counts_of(alloc: Global, tokens: &[Spanned]) -> Result<Vec<usize>, Memory>
     for spanned in tokens {
         tally.add(&spanned.token)?;
     }
-    Ok(tally.counts)
+    Ok(tally.into_counts())
 }
 
 // A place among tokens: how deep the stretches are nested that go on there, and what the tokens before it say.
-#[derive(Drop)]
 struct Place {
     nestings: Stretches,
     before: Before,
+}
+
+// Written out, so that a place is let go by one call.
+impl Drop for Place {
+    fn drop(self) {
+        let Place {
+            nestings: _,
+            before: _,
+        } = self;
+    }
 }
 
 impl Place {

@@ -12,4 +12,5 @@ loop-spanned-preserved c =
 
 pub returns : goal.returns
 returns c =
-    subst (λ tokens. AreCounts (backwards tokens) c.loop-spanned.tally.counts.items) (take_all c.loop-spanned.spanned-index c.args.tokens.now c.loop-spanned-test.false) c.loop-spanned.invariant.counts
+    let counted = subst (λ tokens. AreCounts (backwards tokens) c.loop-spanned.tally.counts.items) (take_all c.loop-spanned.spanned-index c.args.tokens.now c.loop-spanned-test.false) c.loop-spanned.invariant.counts in
+    subst (λ counts. AreCounts (backwards c.args.tokens.now) counts.items) (sym c.into_counts.ensures) counted
