@@ -18,6 +18,7 @@ pub mod Parts
 pub mod Print
 pub mod Scalars
 pub mod Seen
+pub mod Separated
 pub mod Sets
 pub mod Tags
 pub mod TreeTest

@@ -1,6 +1,7 @@
-ghost use Rattle.std.specs.Prelude.{◌≡◌, ◌&&◌, ℕ, List, ◌++◌, ◌∷◌, [], IfOk, OnOk, codes, Some};
+ghost use Rattle.std.specs.Prelude.{◌≡◌, ◌&&◌, ℕ, List, ◌++◌, [], IfOk, MatchOption, OnOk, codes, Some, string_bytes};
 ghost use Rattle.json.specs.Print.{quoted};
-ghost use Rattle.vrl_kind.specs.Print.{absent_mark, field_words, is_any_kind, is_json_kind, is_never, is_rest, list_words, object_words, place_words, printed, rest_words, scalar_words, separated, word_if, has_rests};
+ghost use Rattle.vrl_kind.specs.Print.{absent_mark, field_words, is_any_kind, is_json_kind, is_never, is_rest, list_words, named_or, object_words, place_words, printed, rest_words, scalar_words, word_if, has_rests};
+ghost use Rattle.vrl_kind.specs.Separated.{separated_after};
 ghost use Rattle.vrl_kind.specs.KindTree.{RestTree, any_rest, json_rest};
 ghost use Rattle.vrl_kind.specs.View.{fields_view, places_view, list_of, object_of, rest_of};
 
@@ -13,146 +14,194 @@ use vrl_value::{Chars, Memory};
 /// The text of a kind, without absent at its root. `never`, `any` and `json` are these words. Else its
 /// parts stand between `|`: the scalars, an array as `[integer, ?string, ..json]` with its places and its
 /// rest, an object as `{"a"?: integer, ..any}` with its fields, as JSON strings (RFC 8259), and its rest. A
-/// `?` says that the part may be absent. It takes the time of the text's bytes for each level of the kind.
-/// `Memory`: want of memory.
+/// `?` says that the part may be absent. It takes the time of the text's bytes. `Memory`: want of memory.
 pub fn print(alloc: Global, kind: &Kind) -> Result<Chars, Memory>
     ensures { IfOk result (λ text. text ≡ printed kind.now) }
 {
-    kind_text(alloc, kind)
+    let mut text = String::new(alloc);
+    push_kind(alloc, &mut text, kind)?;
+    Ok(Chars::new(text))
 }
 
+// Writes the text of a kind.
 #[cycle(print)]
-fn kind_text(alloc: Global, kind: &Kind) -> Result<Chars, Memory>
-    ensures { IfOk result (λ text. text ≡ printed kind.now) }
+fn push_kind(alloc: Global, text: &mut String, kind: &Kind) -> Result<(), Memory>
+    ensures { OnOk result (string_bytes text.new ≡ string_bytes text.old ++ printed kind.now) }
+{
+    if let Some(word) = whole_word(kind) {
+        return Ok(text.push_str(word)?);
+    }
+    let before = push_scalars(text, kind.scalars)?;
+    let before = push_list(alloc, text, before, &kind.list)?;
+    push_object(alloc, text, before, &kind.object)
+}
+
+// The word for the whole kind. `None`: it has none.
+fn whole_word(kind: &Kind) -> Option<&'static str>
+    ensures { MatchOption result
+        ((parts : List ℕ) → named_or kind.now parts ≡ parts)
+        (λ word. (parts : List ℕ) → named_or kind.now parts ≡ word.now) }
 {
     if is_nothing(kind) {
-        return Chars::copy_of(alloc, "never");
+        return Some("never");
     }
     if is_anything(kind) {
-        return Chars::copy_of(alloc, "any");
+        return Some("any");
     }
     if is_json(kind) {
-        return Chars::copy_of(alloc, "json");
+        return Some("json");
     }
-    let mut words = scalar_texts(alloc, kind.scalars)?;
-    if let Some(list) = &kind.list {
-        words.push(list_text(alloc, list)?)?;
-    }
-    if let Some(object) = &kind.object {
-        words.push(object_text(alloc, object)?)?;
-    }
-    joined(alloc, &words, "|")
+    None
 }
 
-// The words for these scalars, in the order in which they are printed.
-fn scalar_texts(alloc: Global, scalars: Scalars) -> Result<Vec<Chars>, Memory>
-    ensures { IfOk result (λ words. words.items ≡ scalar_words scalars []) }
+// Writes the words for these scalars, in the order in which they are printed, and gives what stands before a
+// part behind them.
+fn push_scalars(text: &mut String, scalars: Scalars) -> Result<&'static str, Memory>
+    ensures { IfOk result (λ before. (more : List (List ℕ))
+        → string_bytes text.new ++ separated_after before.now (codes "|") more
+        ≡ string_bytes text.old ++ separated_after [] (codes "|") (scalar_words scalars more)) }
 {
-    let mut words = Vec::new(alloc);
-    push_if(alloc, &mut words, scalars.string, "string")?;
-    push_if(alloc, &mut words, scalars.integer, "integer")?;
-    push_if(alloc, &mut words, scalars.boolean, "boolean")?;
-    push_if(alloc, &mut words, scalars.null, "null")?;
-    push_if(alloc, &mut words, scalars.timestamp, "timestamp")?;
-    push_if(alloc, &mut words, scalars.regex, "regex")?;
-    Ok(words)
+    let before = push_if(text, "", scalars.string, "string")?;
+    let before = push_if(text, before, scalars.integer, "integer")?;
+    let before = push_if(text, before, scalars.boolean, "boolean")?;
+    let before = push_if(text, before, scalars.null, "null")?;
+    let before = push_if(text, before, scalars.timestamp, "timestamp")?;
+    push_if(text, before, scalars.regex, "regex")
 }
 
-fn push_if(alloc: Global, words: &mut Vec<Chars>, wanted: bool, word: &str) -> Result<(), Memory>
-    ensures { OnOk result (words.new.items ≡ words.old.items ++ word_if wanted word.now []) }
+// Writes a word behind what stands before it, if it is wanted, and gives what stands before a part behind it.
+fn push_if(
+    text: &mut String,
+    before: &'static str,
+    wanted: bool,
+    word: &str,
+) -> Result<&'static str, Memory>
+    ensures { IfOk result (λ next. (more : List (List ℕ))
+        → string_bytes text.new ++ separated_after next.now (codes "|") more
+        ≡ string_bytes text.old ++ separated_after before.now (codes "|") (word_if wanted word.now more)) }
 {
-    if wanted {
-        words.push(Chars::copy_of(alloc, word)?)?;
+    if !wanted {
+        return Ok(before);
     }
-    Ok(())
+    push_behind(text, before, word)?;
+    Ok("|")
 }
 
+// Writes a word behind what stands before it.
+fn push_behind(text: &mut String, before: &str, word: &str) -> Result<(), Memory>
+    ensures { OnOk result (string_bytes text.new ≡ string_bytes text.old ++ (before.now ++ word.now)) }
+{
+    text.push_str(before)?;
+    Ok(text.push_str(word)?)
+}
+
+// Writes what is known of arrays, and gives what stands before a part behind it.
 #[cycle(print)]
-fn list_text(alloc: Global, list: &ListPart) -> Result<Chars, Memory>
-    ensures { IfOk result (λ text. (text ∷ []) ≡ list_words (list_of (Some list.now)) []) }
+fn push_list(
+    alloc: Global,
+    text: &mut String,
+    before: &'static str,
+    list: &Option<ListPart>,
+) -> Result<&'static str, Memory>
+    ensures { IfOk result (λ next. (more : List (List ℕ))
+        → string_bytes text.new ++ separated_after next.now (codes "|") more
+        ≡ string_bytes text.old ++ separated_after before.now (codes "|") (list_words (list_of list.now) more)) }
 {
-    let mut words = place_texts(alloc, &list.places.kinds)?;
-    push_rest(alloc, &mut words, &list.rest)?;
-    let inside = joined(alloc, &words, ", ")?;
-    let inside = inside.as_str();
-    Ok(Chars::new(format!(in alloc; "[{inside}]")?))
+    let Some(list) = list else {
+        return Ok(before);
+    };
+    push_behind(text, before, "[")?;
+    let within = push_places(alloc, text, &list.places.kinds)?;
+    push_rest(alloc, text, within, &list.rest)?;
+    text.push_str("]")?;
+    Ok("|")
 }
 
+// Writes what is known of objects.
 #[cycle(print)]
-fn object_text(alloc: Global, object: &ObjectPart) -> Result<Chars, Memory>
-    ensures { IfOk result (λ text. (text ∷ []) ≡ object_words (object_of (Some object.now))) }
+fn push_object(
+    alloc: Global,
+    text: &mut String,
+    before: &str,
+    object: &Option<ObjectPart>,
+) -> Result<(), Memory>
+    ensures { OnOk result (string_bytes text.new
+        ≡ string_bytes text.old ++ separated_after before.now (codes "|") (object_words (object_of object.now))) }
 {
-    let mut words = field_texts(alloc, &object.fields.fields)?;
-    push_rest(alloc, &mut words, &object.rest)?;
-    let inside = joined(alloc, &words, ", ")?;
-    let inside = inside.as_str();
-    Ok(Chars::new(format!(in alloc; "{{{inside}}}")?))
+    let Some(object) = object else {
+        return Ok(());
+    };
+    push_behind(text, before, "{")?;
+    let within = push_fields(alloc, text, &object.fields.fields)?;
+    push_rest(alloc, text, within, &object.rest)?;
+    Ok(text.push_str("}")?)
 }
 
+// Writes the kinds of the places, and gives what stands before a part behind them.
 #[cycle(print)]
-fn place_texts(alloc: Global, kinds: &[Kind]) -> Result<Vec<Chars>, Memory>
-    ensures { IfOk result (λ texts. (more : List (List ℕ))
-        → place_words (places_view kinds.now) more ≡ texts.items ++ more) }
+fn push_places(alloc: Global, text: &mut String, kinds: &[Kind]) -> Result<&'static str, Memory>
+    ensures { IfOk result (λ before. (more : List (List ℕ))
+        → string_bytes text.new ++ separated_after before.now (codes ", ") more
+        ≡ string_bytes text.old ++ separated_after [] (codes ", ") (place_words (places_view kinds.now) more)) }
 {
-    let mut texts = Vec::new(alloc);
+    let mut before = "";
     for kind in kinds {
-        texts.push(place_text(alloc, kind)?)?;
+        push_behind(text, before, mark(kind))?;
+        push_kind(alloc, text, kind)?;
+        before = ", ";
     }
-    Ok(texts)
+    Ok(before)
 }
 
+// Writes the fields, and gives what stands before a part behind them.
 #[cycle(print)]
-fn place_text(alloc: Global, kind: &Kind) -> Result<Chars, Memory>
-    ensures { IfOk result (λ text. text ≡ absent_mark kind.now ++ printed kind.now) }
+fn push_fields(
+    alloc: Global,
+    text: &mut String,
+    fields: &[KindField],
+) -> Result<&'static str, Memory>
+    ensures { IfOk result (λ before. (more : List (List ℕ))
+        → string_bytes text.new ++ separated_after before.now (codes ", ") more
+        ≡ string_bytes text.old ++ separated_after [] (codes ", ") (field_words (fields_view fields.now) more)) }
 {
-    let text = kind_text(alloc, kind)?;
-    let text = text.as_str();
-    let mark = mark(kind);
-    Ok(Chars::new(format!(in alloc; "{mark}{text}")?))
-}
-
-#[cycle(print)]
-fn field_texts(alloc: Global, fields: &[KindField]) -> Result<Vec<Chars>, Memory>
-    ensures { IfOk result (λ texts. (more : List (List ℕ))
-        → field_words (fields_view fields.now) more ≡ texts.items ++ more) }
-{
-    let mut texts = Vec::new(alloc);
+    let mut before = "";
     for field in fields {
-        texts.push(field_text(alloc, field)?)?;
+        push_key(alloc, text, before, field)?;
+        push_kind(alloc, text, &field.kind)?;
+        before = ", ";
     }
-    Ok(texts)
+    Ok(before)
 }
 
-#[cycle(print)]
-fn field_text(alloc: Global, field: &KindField) -> Result<Chars, Memory>
-    ensures { IfOk result (λ text. text
-        ≡ quoted field.now.name ++ (absent_mark field.now.kind ++ (codes ": " ++ printed field.now.kind))) }
+// Writes the key of a field behind what stands before it: its name as a JSON string (RFC 8259, section 7), and
+// whether it may be absent.
+fn push_key(alloc: Global, text: &mut String, before: &str, field: &KindField) -> Result<(), Memory>
+    ensures { OnOk result (string_bytes text.new
+        ≡ string_bytes text.old ++ (before.now ++ (quoted field.now.name ++ (absent_mark field.now.kind ++ codes ": ")))) }
 {
     let name = quote(alloc, field.name.as_str())?;
-    let name = name.as_str();
-    let text = kind_text(alloc, &field.kind)?;
-    let text = text.as_str();
-    let mark = mark(&field.kind);
-    Ok(Chars::new(format!(in alloc; "{name}{mark}: {text}")?))
+    push_behind(text, before, name.as_str())?;
+    push_behind(text, mark(&field.kind), ": ")
 }
 
+// Writes the rest, if there is one, behind what stands before it.
 #[cycle(print)]
-fn push_rest(alloc: Global, words: &mut Vec<Chars>, rest: &Rest) -> Result<(), Memory>
-    ensures { OnOk result (words.new.items ≡ words.old.items ++ rest_words (rest_of rest.now)) }
+fn push_rest(alloc: Global, text: &mut String, before: &str, rest: &Rest) -> Result<(), Memory>
+    ensures { OnOk result (string_bytes text.new
+        ≡ string_bytes text.old ++ separated_after before.now (codes ", ") (rest_words (rest_of rest.now))) }
 {
     match rest {
-        Rest::Nothing => {}
-        Rest::Json => words.push(Chars::copy_of(alloc, "..json")?)?,
-        Rest::Any => words.push(Chars::copy_of(alloc, "..any")?)?,
+        Rest::Nothing => Ok(()),
+        Rest::Json => push_behind(text, before, "..json"),
+        Rest::Any => push_behind(text, before, "..any"),
         Rest::Exact(kind) => {
-            let text = kind_text(alloc, kind)?;
-            let text = text.as_str();
-            words.push(Chars::new(format!(in alloc; "..{text}")?))?;
+            push_behind(text, before, "..")?;
+            push_kind(alloc, text, kind)
         }
     }
-    Ok(())
 }
 
+// The mark of a kind that allows a part to be absent.
 fn mark(kind: &Kind) -> &'static str
     ensures { result.now ≡ absent_mark kind.now }
 {
@@ -251,20 +300,6 @@ fn is_json_rest(rest: &Rest) -> bool
         Rest::Json => true,
         Rest::Nothing | Rest::Any | Rest::Exact(_) => false,
     }
-}
-
-// The words with a text between any two.
-fn joined(alloc: Global, words: &[Chars], by: &str) -> Result<Chars, Memory>
-    ensures { IfOk result (λ text. text ≡ separated by.now words.now) }
-{
-    let mut text = String::new(alloc);
-    for at in 0..words.len() {
-        if at > 0 {
-            text.push_str(by)?;
-        }
-        text.push_str(words[at].as_str())?;
-    }
-    Ok(Chars::new(text))
 }
 
 // A text as a JSON string (RFC 8259, section 7).
