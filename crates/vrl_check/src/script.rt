@@ -51,7 +51,7 @@ pub fn check(
     let loops = listed(alloc, &checker.loops)?;
     let diagnostics = ordered(checker.diagnostics)?;
     let ok = branch_of(alloc, checker.state)?;
-    let Outcome { kind, ends } = outcome;
+    let (kind, ends) = outcome.into_parts();
     let (fail, ret, _) = ends.into_parts();
     let fail = or_dead(alloc, fail)?;
     let kind = kind.into_kind(alloc)?;

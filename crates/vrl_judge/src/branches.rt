@@ -20,7 +20,6 @@ use vrl_state::{Branch, Mark};
 use vrl_value::{Memory, Tag};
 
 /// The left side of a `&&`, a `||` or a `??`, behind which the right one is judged.
-#[derive(Drop)]
 pub struct LeftSide {
     /// What it was judged to be.
     pub part: Outcome,
@@ -28,8 +27,14 @@ pub struct LeftSide {
     pub beside: Option<Mark>,
 }
 
+// Written out, so that a left side is let go by one call.
+impl Drop for LeftSide {
+    fn drop(self) {
+        let LeftSide { part: _, beside: _ } = self;
+    }
+}
+
 /// The ways of an `if` that were judged so far.
-#[derive(Drop)]
 pub struct Ways {
     /// The kind of what they give.
     pub kind: SharedKind,
@@ -37,6 +42,17 @@ pub struct Ways {
     pub ok: Option<Branch>,
     /// Their other ends.
     pub ends: Ends,
+}
+
+// Written out, so that the ways are let go by one call.
+impl Drop for Ways {
+    fn drop(self) {
+        let Ways {
+            kind: _,
+            ok: _,
+            ends: _,
+        } = self;
+    }
 }
 
 impl Checker<'_> {
@@ -89,7 +105,8 @@ impl Checker<'_> {
     {
         let refused = self.branch_if(may_be_no_truth(&right.kind))?;
         self.go_on_if(may_be_truth(&right.kind));
-        let mut both = self.both_sides(left, right.ends)?;
+        let (_kind, ends) = right.into_parts();
+        let mut both = self.both_sides(left, ends)?;
         both.ends.add_fail(refused)?;
         both.kind = scalar(self.alloc, Tag::Bool)?;
         Ok(both)
@@ -115,8 +132,9 @@ impl Checker<'_> {
         ensures kind { IfOk result (λ outcome. IsCutOf (or_else_at left.part.kind right.kind) outcome.kind) }
         ensures sides { IfOk result (λ outcome. AreBothSides left right.ends self.old self.new outcome.ends) }
     {
-        let mut both = self.both_sides(left, right.ends)?;
-        both.kind = or_else(self.alloc, &both.kind, &right.kind)?;
+        let (kind, ends) = right.into_parts();
+        let mut both = self.both_sides(left, ends)?;
+        both.kind = or_else(self.alloc, &both.kind, &kind)?;
         Ok(both)
     }
 
@@ -141,8 +159,9 @@ impl Checker<'_> {
         ensures kind { IfOk result (λ outcome. IsEither left.part.kind right.kind outcome.kind) }
         ensures sides { IfOk result (λ outcome. AreBothSides left right.ends self.old self.new outcome.ends) }
     {
-        let mut both = self.both_sides(left, right.ends)?;
-        widen(&mut both.kind, self.alloc, &right.kind)?;
+        let (kind, ends) = right.into_parts();
+        let mut both = self.both_sides(left, ends)?;
+        widen(&mut both.kind, self.alloc, &kind)?;
         Ok(both)
     }
 
@@ -153,7 +172,7 @@ impl Checker<'_> {
         ensures kind { IfOk result (λ both. both.kind ≡ left.part.kind) }
         ensures sides { IfOk result (λ both. AreBothSides left right self.old self.new both.ends) }
     {
-        let LeftSide { mut part, beside } = left;
+        let (mut part, beside) = left.into_parts();
         self.join_behind_if(beside)?;
         part.ends.add(self.alloc, right)?;
         Ok(part)
@@ -183,11 +202,11 @@ impl Checker<'_> {
         let mut part = part;
         if part.is_fallible() {
             self.report(&mut part.ends, true, code::FALLIBLE_PREDICATE, span)?;
-            return Ok(part.ends);
+            return Ok(part.into_parts().1);
         }
         let other = self.is_other(Tag::Bool, &part);
         self.report(&mut part.ends, other, code::NON_BOOLEAN_PREDICATE, span)?;
-        Ok(part.ends)
+        Ok(part.into_parts().1)
     }
 
     /// Adds the block behind a predicate to the ways before it, and goes back to the state behind the predicate. `Memory`: want of memory.
@@ -209,7 +228,7 @@ impl Checker<'_> {
         requires last { AreEnds self.old.state.scopes last.ends }
         ensures { IfOk result (IsLastBeside ways last self.old self.new) }
     {
-        let Ways { kind, ok, ends } = ways;
+        let (kind, ok, ends) = ways.into_parts();
         self.join(ok)?;
         let mut all = Outcome { kind, ends };
         let kind = all.ends.absorb(self.alloc, last)?;
@@ -225,7 +244,7 @@ impl Checker<'_> {
         ensures { IfOk result (IsReturned span part self.old self.new) }
     {
         let inside = self.inside;
-        let Outcome { kind, mut ends } = part;
+        let (kind, mut ends) = part.into_parts();
         let here = self.return_of(kind)?;
         ends.add_return(self.alloc, here)?;
         self.report(&mut ends, inside, code::RETURN_IN_CLOSURE, span)?;
@@ -256,7 +275,28 @@ impl Checker<'_> {
     }
 }
 
+impl LeftSide {
+    // What it was judged to be, and what is known where the right side is left out.
+    fn into_parts(self) -> (Outcome, Option<Mark>)
+        ensures part { result.0 ≡ self.part }
+        ensures beside { result.1 ≡ self.beside }
+    {
+        let LeftSide { part, beside } = self;
+        (part, beside)
+    }
+}
+
 impl Ways {
+    // The kind of what they give, what is known where they end with a value, and their other ends.
+    fn into_parts(self) -> (SharedKind, Option<Branch>, Ends)
+        ensures kind { result.0 ≡ self.kind }
+        ensures ok { result.1 ≡ self.ok }
+        ensures ends { result.2 ≡ self.ends }
+    {
+        let Ways { kind, ok, ends } = self;
+        (kind, ok, ends)
+    }
+
     /// No way so far. `Memory`: want of memory.
     pub fn none(alloc: Global) -> Result<Ways, Memory>
         ensures { IfOk result (λ ways. ways ≡ no_ways) }

@@ -99,8 +99,9 @@ impl Ends {
         ensures joined { OnOk result (AreJoinedEnds self.old part.ends self.new) }
         ensures scopes { OnOk result ((scopes : List Scope) → AreEnds scopes self.old → AreEnds scopes part.ends → AreEnds scopes self.new) }
     {
-        self.add(alloc, part.ends)?;
-        Ok(part.kind)
+        let (kind, ends) = part.into_parts();
+        self.add(alloc, ends)?;
+        Ok(kind)
     }
 
     /// The same of a part that a container is made of, whose kind becomes one of its parts. `Memory`: want of memory.
@@ -110,8 +111,9 @@ impl Ends {
         ensures joined { OnOk result (AreJoinedEnds self.old part.ends self.new) }
         ensures scopes { OnOk result ((scopes : List Scope) → AreEnds scopes self.old → AreEnds scopes part.ends → AreEnds scopes self.new) }
     {
-        self.add(alloc, part.ends)?;
-        part.kind.into_kind(alloc)
+        let (kind, ends) = part.into_parts();
+        self.add(alloc, ends)?;
+        kind.into_kind(alloc)
     }
 
     /// Adds one more way to end with an error. `Memory`: want of memory.

@@ -1,4 +1,4 @@
-ghost use Rattle.std.specs.Prelude.{IfOk};
+ghost use Rattle.std.specs.Prelude.{◌≡◌, IfOk};
 ghost use Rattle.vrl_judge.specs.Judging.{AreEnds, ArePairedAs, HaveCommonScopes, IsCombinedAs, IsEquatedAs, IsMergedAs, IsNegatedAs};
 ghost use Rattle.vrl_judge.specs.Rules.{IsMerged};
 
@@ -13,7 +13,6 @@ use vrl_kind::{kind_is_canonical, overlaid};
 use vrl_value::{Memory, Tag};
 
 /// Two operands that were judged in order.
-#[derive(Drop)]
 pub struct Operands {
     /// The kind of the left one.
     pub left: SharedKind,
@@ -25,6 +24,35 @@ pub struct Operands {
     pub right_no_object: bool,
     /// The ends of both.
     pub ends: Ends,
+}
+
+// Written out, so that the operands are let go by one call.
+impl Drop for Operands {
+    fn drop(self) {
+        let Operands {
+            left: _,
+            right: _,
+            left_no_object: _,
+            right_no_object: _,
+            ends: _,
+        } = self;
+    }
+}
+
+impl Operands {
+    // The ends of both.
+    fn into_ends(self) -> Ends
+        ensures { result ≡ self.ends }
+    {
+        let Operands {
+            left: _,
+            right: _,
+            left_no_object: _,
+            right_no_object: _,
+            ends,
+        } = self;
+        ends
+    }
 }
 
 impl Checker<'_> {
@@ -51,13 +79,14 @@ impl Checker<'_> {
     {
         let right_no_object = self.is_other(Tag::Object, &right);
         let mut left = left;
-        let right_kind = left.ends.absorb(self.alloc, right)?;
+        let right = left.ends.absorb(self.alloc, right)?;
+        let (left, ends) = left.into_parts();
         Ok(Operands {
-            left: left.kind,
-            right: right_kind,
+            left,
+            right,
             left_no_object,
             right_no_object,
-            ends: left.ends,
+            ends,
         })
     }
 
@@ -68,7 +97,7 @@ impl Checker<'_> {
         let mut parts = parts;
         self.report(&mut parts.ends, chained, code::CHAINED_COMPARISON, span)?;
         let kind = scalar(self.alloc, Tag::Bool)?;
-        let ends = parts.ends;
+        let ends = parts.into_ends();
         Ok(Outcome { kind, ends })
     }
 
@@ -93,7 +122,7 @@ impl Checker<'_> {
         let takes = table.may_take(left, right);
         self.go_on_if(either_of(parts.ends.poisoned, takes));
         let kind = table.kind(self.alloc, left, right)?;
-        let ends = parts.ends;
+        let ends = parts.into_ends();
         Ok(Outcome { kind, ends })
     }
 
@@ -120,7 +149,7 @@ impl Checker<'_> {
             right_span,
         )?;
         let kind = self.merged_kind(&parts.left, &parts.right)?;
-        let ends = parts.ends;
+        let ends = parts.into_ends();
         Ok(Outcome { kind, ends })
     }
 

@@ -9,12 +9,18 @@ use std::alloc::Global;
 use vrl_value::Memory;
 
 /// What an expression was judged to be.
-#[derive(Drop)]
 pub struct Outcome {
     /// The kind of its value; never where it can't end with one, and any where it is poisoned.
     pub kind: SharedKind,
     /// Its other ends.
     pub ends: Ends,
+}
+
+// Written out, so that an outcome is let go by one call.
+impl Drop for Outcome {
+    fn drop(self) {
+        let Outcome { kind: _, ends: _ } = self;
+    }
 }
 
 impl Outcome {
@@ -25,6 +31,15 @@ impl Outcome {
     {
         let ends = Ends::none();
         Outcome { kind, ends }
+    }
+
+    /// The kind of its value, and its other ends.
+    pub fn into_parts(self) -> (SharedKind, Ends)
+        ensures kind { result.0 ≡ self.kind }
+        ensures ends { result.1 ≡ self.ends }
+    {
+        let Outcome { kind, ends } = self;
+        (kind, ends)
     }
 
     /// Nothing can happen. `Memory`: want of memory.

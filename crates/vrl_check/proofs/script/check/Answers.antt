@@ -1,9 +1,10 @@
-use Rattle.std.proofs.Common.{false, map, sym, subst, ap, ◌∙◌}
+use Rattle.std.proofs.Common.{false, map, sym, subst, ap, ◌∙◌, None, unwrap_or}
 use Rattle.vrl_syntax.specs.View.{exprs_of}
 use Rattle.vrl_judge.specs.Judging.{branches_known}
 use Rattle.vrl_judge.specs.Ordered.{AreOrdered}
 use Rattle.vrl_state.specs.Known.{known_as}
 use Rattle.vrl_judge.specs.declared.checker.Checker.{Checker}
+use Rattle.vrl_check.specs.Answer.{outside}
 use Rattle.vrl_check.specs.declared.judged.Judged.{Judged}
 use Rattle.vrl_check.proofs.Answering.{script_judged, AreAnswered}
 use Rattle.vrl_judge.proofs.Joining.{is_present}
@@ -18,7 +19,10 @@ returns c =
     let outcome = c.in_ok-outcome.outcome in
     let after = c.script_items.new.checker in
     let judged : Judged = record { kind = c.in_ok-kind.kind; ok = c.in_ok-ok.ok; fail = c.in_ok-fail.fail; ret = c.into_parts-fail.result.1; empties = c.new-4.result; loops = c.in_ok-loops.loops; diagnostics = c.new-5.result } in
-    let answered : AreAnswered after.state outcome judged = record { kind = c.in_ok-kind.ensures; ok = c.in_ok-ok.ensures; fail = rw c.into_parts-fail.ensures.fail at c.in_ok-fail.ensures; ret = c.into_parts-fail.ensures.ret } in
+    let parts = c.into_parts-kind.ensures in
+    let fail = c.into_parts-fail.ensures.fail ∙ ap (λ es. es.fail) parts.ends in
+    let ret = c.into_parts-fail.ensures.ret ∙ ap (λ es. es.ret) parts.ends in
+    let answered : AreAnswered after.state outcome judged = record { kind = c.in_ok-kind.ensures ∙ parts.kind; ok = c.in_ok-ok.ensures; fail = c.in_ok-fail.ensures ∙ ap (λ way. unwrap_or way (outside None)) fail; ret = ret } in
     let listed = c.in_ok-loops.ensures.loops ∙ ap (λ bs. map known_as (branches_known bs)) c.deref.ensures.value in
     script_judged c.args.start.now (exprs_of c.args.script.now.items) before after outcome judged c.in_ok-state.ensures.state c.new.ensures.items c.new-2.ensures.items c.new-3.ensures.items c.in_ok-outcome.ensures
     answered c.new-4.ensures listed c.in_ok-loops.ensures.roots (subst (AreOrdered after.diagnostics.items) (sym c.new-5.ensures) c.in_ok-diagnostics.ensures)
