@@ -1,5 +1,5 @@
 -- What can be judged has parts that can be judged.
-use Rattle.std.proofs.Common.{◌≡◌, ◌+◌, ℕ, Bool, false, ◌&&◌, List, [], ◌∷◌, ◌++◌, Option, refl, ap, ap₂, ◌∙◌}
+use Rattle.std.proofs.Common.{◌≡◌, ◌+◌, ℕ, Bool, false, ◌&&◌, List, [], ◌∷◌, ◌++◌, Option, refl, ap, ap₂, subst, ◌∙◌}
 use Rattle.std.proofs.lemmas.Bool.{and_parts}
 use Rattle.vrl_path.specs.declared.path.Step.{Step}
 use Rattle.vrl_diag.specs.declared.diagnostic.Span.{Span}
@@ -20,6 +20,10 @@ none_of_both [] ys none = (refl, none)
 none_of_both (x ∷ xs) ys none = absurd (cc)
 
 -- ---- the parts of a form
+
+-- a form that is seen as another
+pub seen_can : {sources : List (List ℕ)} {f g : Form} → f ≡ g → FormCanBeJudged sources f → FormCanBeJudged sources g
+seen_can {sources = sources} same can = subst (FormCanBeJudged sources) same can
 
 -- arguments whose paths keep the limits where they are deleted keep them where they aren't
 kept_faults : (deleted : Bool) (gs : Args) → args_faults deleted gs ≡ [] → args_faults false gs ≡ []
@@ -77,11 +81,11 @@ merge_can t e can =
     let limits = none_of_both (target_faults t) (expr_faults e) can.limits in
     (limits.0, record { limits = limits.1; regexes = can.regexes })
 
-pub both_can : {sources : List (List ℕ)} (t u : Target) (e : Expr) → FormCanBeJudged sources (both t u e) → (target_faults t ≡ []) × (target_faults u ≡ []) × ExprCanBeJudged sources e
+pub both_can : {sources : List (List ℕ)} (t u : Target) (e : Expr) → FormCanBeJudged sources (both t u e) → (target_faults t ≡ []) × ((target_faults u ≡ []) × ExprCanBeJudged sources e)
 both_can t u e can =
     let first = none_of_both (target_faults t) (target_faults u ++ expr_faults e) can.limits in
     let second = none_of_both (target_faults u) (expr_faults e) first.1 in
-    (first.0, second.0, record { limits = second.1; regexes = can.regexes })
+    (first.0, (second.0, record { limits = second.1; regexes = can.regexes }))
 
 -- a call: its arguments, and the paths that it may delete
 pub arguments_can : {sources : List (List ℕ)} (name : List ℕ) (span : Span) (bang : Bool) (gs : Args) (c : Closure) → FormCanBeJudged sources (call name span bang gs c) → ArgumentsCanBeJudged sources gs

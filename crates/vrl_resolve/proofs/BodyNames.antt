@@ -11,7 +11,7 @@ use Rattle.vrl_syntax.specs.declared.root.Root.TheVariants.{Name}
 use Rattle.vrl_store.specs.Kept.{is_one_of}
 use Rattle.vrl_store.specs.Outcomes.{Ended, ends}
 use Rattle.vrl_store.specs.Results.{Ends}
-use Rattle.vrl_store.specs.StoreView.{hidden_tree, is_among, left_with, name_at, present_of, store_in, AreNames, Names}
+use Rattle.vrl_store.specs.StoreView.{count_of, hidden_tree, is_among, left_with, name_at, present_of, store_in, AreNames, IsFront, Names}
 use Rattle.vrl_store.specs.WellFormed.{IsWellFormed, IsWellFormedStore}
 use Rattle.vrl_store.specs.declared.hidden_value.HiddenValue.{HiddenValue}
 use Rattle.vrl_store.specs.declared.stop.Stop.{Stop}
@@ -26,7 +26,7 @@ use Rattle.vrl_resolve.specs.Linked.{Parts}
 use Rattle.vrl_resolve.specs.Meaning.{body_left}
 use Rattle.vrl_resolve.specs.Walking.{names_in, setting_in, store_at, IsReadyStore, Stays}
 use Rattle.vrl_resolve.specs.declared.walk.Context.{Context}
-use Rattle.vrl_resolve.proofs.Walks.{names_after}
+use Rattle.vrl_resolve.proofs.Walks.{names_after, stays_then}
 use Rattle.vrl_resolve.proofs.WellFormedEnds.{with_value_is}
 
 -- ---- maps
@@ -170,6 +170,10 @@ bound_ready x slot v before after ready stays formed bound = record {
 pub known_slot : (x : Context) (slot : Option ℕ) (s : CodeStore) → IsReadyStore x s → IsKnownSlot (length (names_in x)) slot → IsKnownSlot (length s.variables.items) slot
 known_slot x None s ready known = tt
 known_slot x (Some number) s ready known = let as_many = ready.names.as_many in omega (arith, known)
+
+-- what stays where a part was run behind a name that was bound
+pub bound_then : (before bound middle : CodeStore) → IsFront (present_of before) (present_of bound) → count_of bound ≡ count_of before → Stays bound middle → Stays before middle
+bound_then before bound middle front as_many stays = stays_then before bound middle (record { front = front; as_many = as_many }) stays
 
 -- the numbers that were there before are those that are left
 pub front_again : (before middle : CodeStore) (count : ℕ) → Stays before middle → count ≡ length (present_of before) → take count (present_of middle) ≡ present_of before

@@ -17,6 +17,7 @@ pub mod LinkedMeans
 pub mod LinkedPrograms
 pub mod LinkedSizes
 pub mod Links
+pub mod NodeForms
 pub mod Partway
 pub mod RunArguments
 pub mod RunsWellFormed

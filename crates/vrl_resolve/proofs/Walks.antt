@@ -77,11 +77,6 @@ after_stop m next store stops.Memory is = tt
 pub after_error : (m : Ended) (next : List ℕ → Store → Ended) (text : List ℕ) (store t : Store) (r : Result Value Stop) → m ≡ ends (error text) store → Ends (next text store) t r → Ends (on_error m next) t r
 after_error m next text store t r is rest = subst (λ e. Ends (on_error e next) t r) (sym is) rest
 
--- ---- a node of a form whose part was taken out of a box
-
-pub of_boxed : {A : Type 0} (n : Linked) (f : A → Linked) (part box : A) → part ≡ box → n ≡ f box → n ≡ f part
-of_boxed n f part box here is = is ∙ ap f (sym here)
-
 -- ---- loops
 
 -- what is left to be run, in the store behind what was run, is all that there was to be run

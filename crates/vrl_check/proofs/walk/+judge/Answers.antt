@@ -1,4 +1,4 @@
-use Rattle.std.proofs.Common.{◌≡◌, ◌++◌, ◌∷◌, [], Some, None, false, true, All, rules, sym, ◌∙◌, subst, arith, ap, option_map, refl, ap₂, ◌+◌, drop, length, vec_len, IfOk}
+use Rattle.std.proofs.Common.{◌≡◌, ◌++◌, ◌∷◌, [], Some, None, false, true, All, rules, sym, ◌∙◌, subst, arith, ap, option_map, refl, ◌+◌, drop, length, vec_len, IfOk}
 use Rattle.std.proofs.lemmas.Bool.{true≢false}
 use Rattle.std.proofs.lemmas.Result.{IfOk-weaker}
 use Rattle.vrl_syntax.specs.Tree.{expr, abort_with, arg, array, assign, binary, block, both, call, conditional, group, literal, merge, message, negation, no_message, object, query, read, return_of, span_of}
@@ -7,8 +7,8 @@ use Rattle.vrl_syntax.specs.declared.tree.Arg.{out-Arg}
 use Rattle.vrl_syntax.specs.declared.tree.Arm.{out-Arm}
 use Rattle.vrl_syntax.specs.declared.tree.Call.{out-Call}
 use Rattle.vrl_syntax.specs.declared.tree.Form.{the_lemmas}
-use Rattle.vrl_check.specs.Walking.{ExprCanBeJudged, FormCanBeJudged, IsArmBehind, IsGivenAs, ItemsCanBeJudged, ElseCanBeJudged, IsElseAs}
-use Rattle.vrl_check.proofs.Capable.{form_can, abort_can, arguments_can, array_can, assign_can, binary_can, block_can, both_can, conditional_can, group_can, merge_can, negation_can, object_can, query_can, return_can}
+use Rattle.vrl_check.specs.Walking.{ExprCanBeJudged, IsArmBehind, IsGivenAs, ItemsCanBeJudged, ElseCanBeJudged, IsElseAs}
+use Rattle.vrl_check.proofs.Capable.{form_can, abort_can, arguments_can, array_can, assign_can, binary_can, block_can, both_can, conditional_can, group_can, merge_can, negation_can, object_can, query_can, return_can, seen_can}
 use Rattle.vrl_check.proofs.Forms.{expr_passed, expr_reached, block_given, group_given, query_given, block_passed, block_reached, in_block, negation_given, here_are, operands_given, beside_given, both_common, equality_given, operands_are, table_given, merge_given, merge_into_given, merge_into_judged, place_are}
 use Rattle.vrl_syntax.proofs.PartSizes.{expr_size, form_size, arms_size, else_size, exprs_size}
 use Rattle.vrl_value.specs.View.{tree_of}
@@ -64,8 +64,7 @@ form-returns-in-Literal t c =
 pub form-array-requires : goal.form-array-requires
 form-array-requires t c =
     let is : form_of c.args.form.now ≡ array (exprs_of c.in-Array.exprs) = search (rules, the_lemmas) in
-    let can = subst (FormCanBeJudged c.args.checker.now.patterns.now) is c.requires in
-    (omega (arith, c.decreases, ap form_size is), array_can _ can)
+    (omega (arith, c.decreases, ap form_size is), array_can _ (seen_can is c.requires))
 
 pub form-returns-in-Array : goal.form-returns-in-Array
 form-returns-in-Array t c =
@@ -75,8 +74,7 @@ form-returns-in-Array t c =
 pub form-object-requires : goal.form-object-requires
 form-object-requires t c =
     let is : form_of c.args.form.now ≡ object (pairs_of c.in-Map.pairs) = search (rules, the_lemmas) in
-    let can = subst (FormCanBeJudged c.args.checker.now.patterns.now) is c.requires in
-    (omega (arith, c.decreases, ap form_size is), object_can _ can)
+    (omega (arith, c.decreases, ap form_size is), object_can _ (seen_can is c.requires))
 
 pub form-returns-in-Map : goal.form-returns-in-Map
 form-returns-in-Map t c =
@@ -90,39 +88,28 @@ form-returns-in-Read t c =
 
 pub form-query-requires : goal.form-query-requires
 form-query-requires t c =
-    let here0 : c.deref.result.now ≡ c.in-Query.inner.value = search rules in
-    let at_box : form_of c.args.form.now ≡ query (expr_of c.in-Query.inner.value) c.in-Query.path = search (rules, the_lemmas) in
-    let is : form_of c.args.form.now ≡ query (expr_of c.deref.result.now) c.in-Query.path = at_box ∙ ap (λ x. query (expr_of x) c.in-Query.path) (sym here0) in
-    let can = subst (FormCanBeJudged c.args.checker.now.patterns.now) is c.requires in
-    (omega (arith, c.decreases, ap form_size is), query_can _ _ can)
+    let is : form_of c.args.form.now ≡ query (expr_of c.deref.result.now) c.in-Query.path = search (rules, the_lemmas) in
+    (omega (arith, c.decreases, ap form_size is), query_can _ _ (seen_can is c.requires))
 
 pub form-returns-in-Query : goal.form-returns-in-Query
 form-returns-in-Query t c =
-    let here0 : c.deref.result.now ≡ c.in-Query.inner.value = search rules in
-    let at_box : form_of c.args.form.now ≡ query (expr_of c.in-Query.inner.value) c.in-Query.path = search (rules, the_lemmas) in
-    let is : form_of c.args.form.now ≡ query (expr_of c.deref.result.now) c.in-Query.path = at_box ∙ ap (λ x. query (expr_of x) c.in-Query.path) (sym here0) in
+    let is : form_of c.args.form.now ≡ query (expr_of c.deref.result.now) c.in-Query.path = search (rules, the_lemmas) in
     rw is (IfOk-weaker c.query.result _ _ (λ outcome given. given c.args.span) c.query.ensures)
 
 pub form-expr-requires : goal.form-expr-requires
 form-expr-requires t c =
-    let here0 : c.deref-in-Group.result.now ≡ c.in-Group.inner.value = search rules in
-    let at_box : form_of c.args.form.now ≡ group (expr_of c.in-Group.inner.value) = search (rules, the_lemmas) in
-    let is : form_of c.args.form.now ≡ group (expr_of c.deref-in-Group.result.now) = at_box ∙ ap (λ x. group (expr_of x)) (sym here0) in
-    let can = subst (FormCanBeJudged c.args.checker.now.patterns.now) is c.requires in
-    (omega (arith, c.decreases, ap form_size is), group_can _ can)
+    let is : form_of c.args.form.now ≡ group (expr_of c.deref-in-Group.result.now) = search (rules, the_lemmas) in
+    (omega (arith, c.decreases, ap form_size is), group_can _ (seen_can is c.requires))
 
 pub form-returns-in-Group : goal.form-returns-in-Group
 form-returns-in-Group t c =
-    let here0 : c.deref-in-Group.result.now ≡ c.in-Group.inner.value = search rules in
-    let at_box : form_of c.args.form.now ≡ group (expr_of c.in-Group.inner.value) = search (rules, the_lemmas) in
-    let is : form_of c.args.form.now ≡ group (expr_of c.deref-in-Group.result.now) = at_box ∙ ap (λ x. group (expr_of x)) (sym here0) in
+    let is : form_of c.args.form.now ≡ group (expr_of c.deref-in-Group.result.now) = search (rules, the_lemmas) in
     rw is (IfOk-weaker c.expr.result _ _ (λ outcome judged. group_given (expr_of c.deref-in-Group.result.now) c.args.checker.now c.expr.new.checker outcome judged c.args.span) c.expr.ensures)
 
 pub form-block-requires : goal.form-block-requires
 form-block-requires t c =
     let is : form_of c.args.form.now ≡ block (exprs_of c.in-Block.items) = search (rules, the_lemmas) in
-    let can = subst (FormCanBeJudged c.args.checker.now.patterns.now) is c.requires in
-    (omega (arith, c.decreases, ap form_size is), block_can _ can)
+    (omega (arith, c.decreases, ap form_size is), block_can _ (seen_can is c.requires))
 
 pub form-returns-in-Block : goal.form-returns-in-Block
 form-returns-in-Block t c =
@@ -132,8 +119,7 @@ form-returns-in-Block t c =
 pub form-conditional-requires : goal.form-conditional-requires
 form-conditional-requires t c =
     let is : form_of c.args.form.now ≡ conditional (arms_of c.in-If.arms) (else_of (option_map exprs_of c.in-If.otherwise)) = search (rules, the_lemmas) in
-    let can = subst (FormCanBeJudged c.args.checker.now.patterns.now) is c.requires in
-    (omega (arith, c.decreases, ap form_size is), ((conditional_can _ _ can).0, (conditional_can _ _ can).1))
+    (omega (arith, c.decreases, ap form_size is), conditional_can _ _ (seen_can is c.requires))
 
 pub form-returns-in-If : goal.form-returns-in-If
 form-returns-in-If t c =
@@ -142,94 +128,62 @@ form-returns-in-If t c =
 
 pub form-negation-requires : goal.form-negation-requires
 form-negation-requires t c =
-    let here0 : c.deref-in-Not.result.now ≡ c.in-Not.inner.value = search rules in
-    let at_box : form_of c.args.form.now ≡ negation (expr_of c.in-Not.inner.value) = search (rules, the_lemmas) in
-    let is : form_of c.args.form.now ≡ negation (expr_of c.deref-in-Not.result.now) = at_box ∙ ap (λ x. negation (expr_of x)) (sym here0) in
-    let can = subst (FormCanBeJudged c.args.checker.now.patterns.now) is c.requires in
-    (omega (arith, c.decreases, ap form_size is), negation_can _ can)
+    let is : form_of c.args.form.now ≡ negation (expr_of c.deref-in-Not.result.now) = search (rules, the_lemmas) in
+    (omega (arith, c.decreases, ap form_size is), negation_can _ (seen_can is c.requires))
 
 pub form-returns-in-Not : goal.form-returns-in-Not
 form-returns-in-Not t c =
-    let here0 : c.deref-in-Not.result.now ≡ c.in-Not.inner.value = search rules in
-    let at_box : form_of c.args.form.now ≡ negation (expr_of c.in-Not.inner.value) = search (rules, the_lemmas) in
-    let is : form_of c.args.form.now ≡ negation (expr_of c.deref-in-Not.result.now) = at_box ∙ ap (λ x. negation (expr_of x)) (sym here0) in
+    let is : form_of c.args.form.now ≡ negation (expr_of c.deref-in-Not.result.now) = search (rules, the_lemmas) in
     rw is (c.negation.ensures)
 
 pub form-binary-requires : goal.form-binary-requires
 form-binary-requires t c =
-    let here0 : c.deref-in-Binary.result.now ≡ c.in-Binary.left.value = search rules in
-    let here1 : c.deref-in-Binary-2.result.now ≡ c.in-Binary.right.value = search rules in
-    let at_box : form_of c.args.form.now ≡ binary c.in-Binary.op (expr_of c.in-Binary.left.value) (expr_of c.in-Binary.right.value) = search (rules, the_lemmas) in
-    let is : form_of c.args.form.now ≡ binary c.in-Binary.op (expr_of c.deref-in-Binary.result.now) (expr_of c.deref-in-Binary-2.result.now) = at_box ∙ ap₂ (λ x y. binary c.in-Binary.op (expr_of x) (expr_of y)) (sym here0) (sym here1) in
-    let can = subst (FormCanBeJudged c.args.checker.now.patterns.now) is c.requires in
-    (omega (arith, c.decreases, ap form_size is), ((binary_can _ _ _ can).0, (binary_can _ _ _ can).1))
+    let is : form_of c.args.form.now ≡ binary c.in-Binary.op (expr_of c.deref-in-Binary.result.now) (expr_of c.deref-in-Binary-2.result.now) = search (rules, the_lemmas) in
+    (omega (arith, c.decreases, ap form_size is), binary_can _ _ _ (seen_can is c.requires))
 
 pub form-returns-in-Binary : goal.form-returns-in-Binary
 form-returns-in-Binary t c =
-    let here0 : c.deref-in-Binary.result.now ≡ c.in-Binary.left.value = search rules in
-    let here1 : c.deref-in-Binary-2.result.now ≡ c.in-Binary.right.value = search rules in
-    let at_box : form_of c.args.form.now ≡ binary c.in-Binary.op (expr_of c.in-Binary.left.value) (expr_of c.in-Binary.right.value) = search (rules, the_lemmas) in
-    let is : form_of c.args.form.now ≡ binary c.in-Binary.op (expr_of c.deref-in-Binary.result.now) (expr_of c.deref-in-Binary-2.result.now) = at_box ∙ ap₂ (λ x y. binary c.in-Binary.op (expr_of x) (expr_of y)) (sym here0) (sym here1) in
+    let is : form_of c.args.form.now ≡ binary c.in-Binary.op (expr_of c.deref-in-Binary.result.now) (expr_of c.deref-in-Binary-2.result.now) = search (rules, the_lemmas) in
     rw is (c.binary.ensures)
 
 pub form-assignment-requires : goal.form-assignment-requires
 form-assignment-requires t c =
-    let here0 : c.deref-in-Assign.result.now ≡ c.in-Assign.value.value = search rules in
-    let at_box : form_of c.args.form.now ≡ assign c.in-Assign.target (expr_of c.in-Assign.value.value) = search (rules, the_lemmas) in
-    let is : form_of c.args.form.now ≡ assign c.in-Assign.target (expr_of c.deref-in-Assign.result.now) = at_box ∙ ap (λ x. assign c.in-Assign.target (expr_of x)) (sym here0) in
-    let can = subst (FormCanBeJudged c.args.checker.now.patterns.now) is c.requires in
-    (omega (arith, c.decreases, ap form_size is), ((assign_can _ _ can).0, (assign_can _ _ can).1))
+    let is : form_of c.args.form.now ≡ assign c.in-Assign.target (expr_of c.deref-in-Assign.result.now) = search (rules, the_lemmas) in
+    (omega (arith, c.decreases, ap form_size is), assign_can _ _ (seen_can is c.requires))
 
 pub form-returns-in-Assign : goal.form-returns-in-Assign
 form-returns-in-Assign t c =
-    let here0 : c.deref-in-Assign.result.now ≡ c.in-Assign.value.value = search rules in
-    let at_box : form_of c.args.form.now ≡ assign c.in-Assign.target (expr_of c.in-Assign.value.value) = search (rules, the_lemmas) in
-    let is : form_of c.args.form.now ≡ assign c.in-Assign.target (expr_of c.deref-in-Assign.result.now) = at_box ∙ ap (λ x. assign c.in-Assign.target (expr_of x)) (sym here0) in
+    let is : form_of c.args.form.now ≡ assign c.in-Assign.target (expr_of c.deref-in-Assign.result.now) = search (rules, the_lemmas) in
     rw is (c.assignment.ensures)
 
 pub form-merge_assignment-requires : goal.form-merge_assignment-requires
 form-merge_assignment-requires t c =
-    let here0 : c.deref-in-Merge.result.now ≡ c.in-Merge.value.value = search rules in
-    let at_box : form_of c.args.form.now ≡ merge c.in-Merge.target (expr_of c.in-Merge.value.value) = search (rules, the_lemmas) in
-    let is : form_of c.args.form.now ≡ merge c.in-Merge.target (expr_of c.deref-in-Merge.result.now) = at_box ∙ ap (λ x. merge c.in-Merge.target (expr_of x)) (sym here0) in
-    let can = subst (FormCanBeJudged c.args.checker.now.patterns.now) is c.requires in
-    (omega (arith, c.decreases, ap form_size is), ((merge_can _ _ can).0, (merge_can _ _ can).1))
+    let is : form_of c.args.form.now ≡ merge c.in-Merge.target (expr_of c.deref-in-Merge.result.now) = search (rules, the_lemmas) in
+    (omega (arith, c.decreases, ap form_size is), merge_can _ _ (seen_can is c.requires))
 
 pub form-returns-in-Merge : goal.form-returns-in-Merge
 form-returns-in-Merge t c =
-    let here0 : c.deref-in-Merge.result.now ≡ c.in-Merge.value.value = search rules in
-    let at_box : form_of c.args.form.now ≡ merge c.in-Merge.target (expr_of c.in-Merge.value.value) = search (rules, the_lemmas) in
-    let is : form_of c.args.form.now ≡ merge c.in-Merge.target (expr_of c.deref-in-Merge.result.now) = at_box ∙ ap (λ x. merge c.in-Merge.target (expr_of x)) (sym here0) in
+    let is : form_of c.args.form.now ≡ merge c.in-Merge.target (expr_of c.deref-in-Merge.result.now) = search (rules, the_lemmas) in
     rw is (c.merge_assignment.ensures)
 
 pub form-error_assignment-requires : goal.form-error_assignment-requires
 form-error_assignment-requires t c =
-    let here0 : c.deref-in-Both.result.now ≡ c.in-Both.value.value = search rules in
-    let at_box : form_of c.args.form.now ≡ both c.in-Both.ok c.in-Both.err (expr_of c.in-Both.value.value) = search (rules, the_lemmas) in
-    let is : form_of c.args.form.now ≡ both c.in-Both.ok c.in-Both.err (expr_of c.deref-in-Both.result.now) = at_box ∙ ap (λ x. both c.in-Both.ok c.in-Both.err (expr_of x)) (sym here0) in
-    let can = subst (FormCanBeJudged c.args.checker.now.patterns.now) is c.requires in
-    (omega (arith, c.decreases, ap form_size is), ((both_can _ _ _ can).0, ((both_can _ _ _ can).1, (both_can _ _ _ can).2)))
+    let is : form_of c.args.form.now ≡ both c.in-Both.ok c.in-Both.err (expr_of c.deref-in-Both.result.now) = search (rules, the_lemmas) in
+    (omega (arith, c.decreases, ap form_size is), both_can _ _ _ (seen_can is c.requires))
 
 pub form-returns-in-Both : goal.form-returns-in-Both
 form-returns-in-Both t c =
-    let here0 : c.deref-in-Both.result.now ≡ c.in-Both.value.value = search rules in
-    let at_box : form_of c.args.form.now ≡ both c.in-Both.ok c.in-Both.err (expr_of c.in-Both.value.value) = search (rules, the_lemmas) in
-    let is : form_of c.args.form.now ≡ both c.in-Both.ok c.in-Both.err (expr_of c.deref-in-Both.result.now) = at_box ∙ ap (λ x. both c.in-Both.ok c.in-Both.err (expr_of x)) (sym here0) in
+    let is : form_of c.args.form.now ≡ both c.in-Both.ok c.in-Both.err (expr_of c.deref-in-Both.result.now) = search (rules, the_lemmas) in
     rw is (c.error_assignment.ensures)
 
 pub form-return_with-requires : goal.form-return_with-requires
 form-return_with-requires t c =
-    let here0 : c.deref-in-Return.result.now ≡ c.in-Return.value.value = search rules in
-    let at_box : form_of c.args.form.now ≡ return_of (expr_of c.in-Return.value.value) = search (rules, the_lemmas) in
-    let is : form_of c.args.form.now ≡ return_of (expr_of c.deref-in-Return.result.now) = at_box ∙ ap (λ x. return_of (expr_of x)) (sym here0) in
-    let can = subst (FormCanBeJudged c.args.checker.now.patterns.now) is c.requires in
-    (omega (arith, c.decreases, ap form_size is), return_can _ can)
+    let is : form_of c.args.form.now ≡ return_of (expr_of c.deref-in-Return.result.now) = search (rules, the_lemmas) in
+    (omega (arith, c.decreases, ap form_size is), return_can _ (seen_can is c.requires))
 
 pub form-returns-in-Return : goal.form-returns-in-Return
 form-returns-in-Return t c =
-    let here0 : c.deref-in-Return.result.now ≡ c.in-Return.value.value = search rules in
-    let at_box : form_of c.args.form.now ≡ return_of (expr_of c.in-Return.value.value) = search (rules, the_lemmas) in
-    let is : form_of c.args.form.now ≡ return_of (expr_of c.deref-in-Return.result.now) = at_box ∙ ap (λ x. return_of (expr_of x)) (sym here0) in
+    let is : form_of c.args.form.now ≡ return_of (expr_of c.deref-in-Return.result.now) = search (rules, the_lemmas) in
     rw is (c.return_with.ensures)
 
 pub form-returns-in-Abort-None : goal.form-returns-in-Abort-None
@@ -239,31 +193,22 @@ form-returns-in-Abort-None t c =
 
 pub form-abort_with-requires : goal.form-abort_with-requires
 form-abort_with-requires t c =
-    let here0 : c.deref-in-Abort-Some.result.now ≡ c.in-Abort-Some.message.value = search rules in
-    let at_box : form_of c.args.form.now ≡ abort_with (message (expr_of c.in-Abort-Some.message.value)) = search (rules, the_lemmas) in
-    let is : form_of c.args.form.now ≡ abort_with (message (expr_of c.deref-in-Abort-Some.result.now)) = at_box ∙ ap (λ x. abort_with (message (expr_of x))) (sym here0) in
-    let can = subst (FormCanBeJudged c.args.checker.now.patterns.now) is c.requires in
-    (omega (arith, c.decreases, ap form_size is), abort_can _ can)
+    let is : form_of c.args.form.now ≡ abort_with (message (expr_of c.deref-in-Abort-Some.result.now)) = search (rules, the_lemmas) in
+    (omega (arith, c.decreases, ap form_size is), abort_can _ (seen_can is c.requires))
 
 pub form-returns-in-Abort-Some : goal.form-returns-in-Abort-Some
 form-returns-in-Abort-Some t c =
-    let here0 : c.deref-in-Abort-Some.result.now ≡ c.in-Abort-Some.message.value = search rules in
-    let at_box : form_of c.args.form.now ≡ abort_with (message (expr_of c.in-Abort-Some.message.value)) = search (rules, the_lemmas) in
-    let is : form_of c.args.form.now ≡ abort_with (message (expr_of c.deref-in-Abort-Some.result.now)) = at_box ∙ ap (λ x. abort_with (message (expr_of x))) (sym here0) in
+    let is : form_of c.args.form.now ≡ abort_with (message (expr_of c.deref-in-Abort-Some.result.now)) = search (rules, the_lemmas) in
     rw is (IfOk-weaker c.abort_with.result _ _ (λ outcome given. given c.args.span) c.abort_with.ensures)
 
 pub form-call-requires : goal.form-call-requires
 form-call-requires t c =
-    let here0 : c.deref-in-Call.result.now ≡ c.in-Call.inner.value = search rules in
-    let at_box : form_of c.args.form.now ≡ call_of c.in-Call.inner.value = search (rules, the_lemmas) in
-    let is : form_of c.args.form.now ≡ call_of c.deref-in-Call.result.now = at_box ∙ ap call_of (sym here0) in
-    (omega (arith, c.decreases, ap form_size is), subst (FormCanBeJudged c.args.checker.now.patterns.now) is c.requires)
+    let is : form_of c.args.form.now ≡ call_of c.deref-in-Call.result.now = search (rules, the_lemmas) in
+    (omega (arith, c.decreases, ap form_size is), seen_can is c.requires)
 
 pub form-returns-in-Call : goal.form-returns-in-Call
 form-returns-in-Call t c =
-    let here0 : c.deref-in-Call.result.now ≡ c.in-Call.inner.value = search rules in
-    let at_box : form_of c.args.form.now ≡ call_of c.in-Call.inner.value = search (rules, the_lemmas) in
-    let is : form_of c.args.form.now ≡ call_of c.deref-in-Call.result.now = at_box ∙ ap call_of (sym here0) in
+    let is : form_of c.args.form.now ≡ call_of c.deref-in-Call.result.now = search (rules, the_lemmas) in
     rw is (c.call.ensures)
 
 pub array-loop-item-init : goal.array-loop-item-init
@@ -692,7 +637,7 @@ pub call-arguments-requires : goal.call-arguments-requires
 call-arguments-requires t c =
     let a = out-Call c.args.call.now in
     let is : call_of c.args.call.now ≡ call a.name a.name_span a.bang (args_of a.args) (closure_in (option_map closure_of a.closure)) = search (rules, the_lemmas) in
-    (omega (arith, c.decreases, ap form_size is), arguments_can _ _ _ _ _ (subst (FormCanBeJudged c.args.checker.now.patterns.now) is c.requires))
+    (omega (arith, c.decreases, ap form_size is), arguments_can _ _ _ _ _ (seen_can is c.requires))
 
 pub call-called-requires-clause-form : goal.call-called-requires-clause-form
 call-called-requires-clause-form t c =
@@ -864,7 +809,7 @@ closures::second_try-one_try-requires t c =
 pub closures::second_try-returns-in-Stable : goal.closures::second_try-returns-in-Stable
 closures::second_try-returns-in-Stable t c =
     let b = body_in c.args.closure.now c.args.kinds.now c.args.runs in
-    second_stable c.args.form b c.args.behind.known c.args.checker.now c.widened.new.self _ c.in-Stable.run' c.widened.ensures.others (c.in_ok-widened.ensures.known b (sym c.in_ok-roots.ensures)) (as_stable c.args.form (body_in c.args.closure.now c.args.kinds.now c.args.runs) _ c.one_try.new.checker c.in_ok-attempt.attempt c.in-Stable.run' c.in-Stable.is c.in_ok-attempt.ensures)
+    second_stable c.args.form b c.args.behind.known c.args.checker.now c.widened.new.self _ c.in-Stable.run' c.widened.ensures.others (c.in_ok-widened.ensures.known b (sym c.in_ok-roots.ensures)) (as_stable c.args.form b _ c.one_try.new.checker c.in_ok-attempt.attempt c.in-Stable.run' c.in-Stable.is c.in_ok-attempt.ensures)
 
 pub closures::second_try-third_try-requires : goal.closures::second_try-third_try-requires
 closures::second_try-third_try-requires t c =
@@ -875,7 +820,7 @@ pub closures::second_try-returns : goal.closures::second_try-returns
 closures::second_try-returns t c =
     let b = body_in c.args.closure.now c.args.kinds.now c.args.runs in
     IfOk-weaker c.third_try.result _ _
-    (λ run last. second_unstable c.args.form b c.args.behind.known _ c.args.checker.now c.widened.new.self c.one_try.new.checker c.third_try.new.checker run c.widened.ensures.others (c.in_ok-widened.ensures.known b (sym c.in_ok-roots.ensures)) (as_unstable c.args.form (body_in c.args.closure.now c.args.kinds.now c.args.runs) _ c.one_try.new.checker c.in_ok-attempt.attempt c.in-Unstable._behind c.in-Unstable.is c.in_ok-attempt.ensures) last)
+    (λ run last. second_unstable c.args.form b c.args.behind.known _ c.args.checker.now c.widened.new.self c.one_try.new.checker c.third_try.new.checker run c.widened.ensures.others (c.in_ok-widened.ensures.known b (sym c.in_ok-roots.ensures)) (as_unstable c.args.form b _ c.one_try.new.checker c.in_ok-attempt.attempt c.in-Unstable._behind c.in-Unstable.is c.in_ok-attempt.ensures) last)
     c.third_try.ensures
 
 pub closures::third_try-one_try-requires : goal.closures::third_try-one_try-requires
@@ -885,12 +830,12 @@ closures::third_try-one_try-requires t c =
 pub closures::third_try-returns : goal.closures::third_try-returns
 closures::third_try-returns t c =
     let b = body_in c.args.closure.now c.args.kinds.now c.args.runs in
-    third_stable c.args.form b c.args.checker.now c.forgotten.new.self _ c.in-Stable.run' c.forgotten.ensures.others (c.in_ok-forgotten.ensures.known b None (sym c.requires.roots)) (as_stable c.args.form (body_in c.args.closure.now c.args.kinds.now c.args.runs) _ c.one_try.new.checker c.in_ok-attempt.attempt c.in-Stable.run' c.in-Stable.is c.in_ok-attempt.ensures)
+    third_stable c.args.form b c.args.checker.now c.forgotten.new.self _ c.in-Stable.run' c.forgotten.ensures.others (c.in_ok-forgotten.ensures.known b None (sym c.requires.roots)) (as_stable c.args.form b _ c.one_try.new.checker c.in_ok-attempt.attempt c.in-Stable.run' c.in-Stable.is c.in_ok-attempt.ensures)
 
 pub closures::third_try-unreachable-requires : goal.closures::third_try-unreachable-requires
 closures::third_try-unreachable-requires t c =
     let b = body_in c.args.closure.now c.args.kinds.now c.args.runs in
-    third_unstable c.third_tries_are_stable.ensures b c.args.checker.now c.forgotten.new.self _ _ c.requires.body.kinds c.have_root_kinds.ensures (c.in_ok-forgotten.ensures.known b None (sym c.requires.roots)) (as_unstable c.args.form (body_in c.args.closure.now c.args.kinds.now c.args.runs) _ c.one_try.new.checker c.in_ok-attempt.attempt c.in-Unstable._behind c.in-Unstable.is c.in_ok-attempt.ensures)
+    third_unstable c.third_tries_are_stable.ensures b c.args.checker.now c.forgotten.new.self _ _ c.requires.body.kinds c.have_root_kinds.ensures (c.in_ok-forgotten.ensures.known b None (sym c.requires.roots)) (as_unstable c.args.form b _ c.one_try.new.checker c.in_ok-attempt.attempt c.in-Unstable._behind c.in-Unstable.is c.in_ok-attempt.ensures)
 
 pub closures::one_try-body-requires : goal.closures::one_try-body-requires
 closures::one_try-body-requires t c =

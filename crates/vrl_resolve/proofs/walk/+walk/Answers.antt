@@ -13,19 +13,20 @@ use Rattle.vrl_builtin.specs.TagSets.{allows}
 use Rattle.vrl_binding.specs.Binding.{collections}
 use Rattle.vrl_value.specs.Look.{item_at}
 use Rattle.vrl_value.specs.Tag.{tag_of}
-use Rattle.vrl_resolve.proofs.BodyNames.{bound_ready, count_within, front_again, known_slot, may_be_given_back, one_name_ends, stays_again, two_names_end}
+use Rattle.vrl_resolve.proofs.BodyNames.{bound_ready, bound_then, count_within, front_again, known_slot, may_be_given_back, one_name_ends, stays_again, two_names_end}
 use Rattle.vrl_resolve.proofs.Gives.{gives_ends}
 use Rattle.vrl_resolve.proofs.LinkedSizes.{arms_fewer, else_size, first_size, linked_size, message_size, pairs_fewer, parts_fewer}
+use Rattle.vrl_resolve.proofs.NodeForms.{ended_as, of_arm, of_boxed, of_call, of_iteration}
 use Rattle.vrl_resolve.proofs.Partway.{none_left, one_gone}
 use Rattle.vrl_resolve.proofs.Turns.{args_ready, collection_formed, field_values, fields_begin, fields_end, fields_stop, fields_turn, item_values, items_begin, items_end, items_stop, items_turn, iterate_ends, arrays_taken, none_given, is_container, objects_taken, other_is_refused, refused_ends, taken_ends}
 use Rattle.vrl_resolve.proofs.WalkArms.{arm_fits, arm_passed, arm_taken, arms_end}
 use Rattle.vrl_resolve.proofs.WalkCalls.{call_ends, call_stops, first_fit, given_are_of, given_formed, left_formed}
-use Rattle.vrl_resolve.proofs.Walks.{after_error, after_stop, array_ends, array_stops, asks_both, asked_stops, assigned_ends, assigned_stops, beside_ends, block_ends, block_store, both_end, first_stops, items_next, known_base, names_after, next_pair, next_part, of_boxed, pairs_end, pairs_next, parts_end, parts_next, parts_stop, ready_after, second_stops, stays_here, stays_then}
+use Rattle.vrl_resolve.proofs.Walks.{after_error, after_stop, array_ends, array_stops, asks_both, asked_stops, assigned_ends, assigned_stops, beside_ends, block_ends, block_store, both_end, first_stops, items_next, known_base, names_after, next_pair, next_part, pairs_end, pairs_next, parts_end, parts_next, parts_stop, ready_after, second_stops, stays_here, stays_then}
 use Rattle.vrl_resolve.specs.Calls as called
 use Rattle.vrl_resolve.specs.Calls.{acts, items_in, iterated}
 use Rattle.vrl_resolve.specs.Fits.{AreKnownSlots}
 use Rattle.vrl_resolve.specs.Iterating.{body_in, made_in, made_items, takes_arrays, Binds, IsFieldHeld}
-use Rattle.vrl_resolve.specs.Linked.{ArmTree, abort_with, arm_of, arms_view, array, assign, binary, block, both, call, call_of, conditional, else_block, else_view, iterate, iteration_of, linked_of, literal, merge, message, message_view, negation, object, pairs_view, parts_of_list, parts_view, query, read, return_of}
+use Rattle.vrl_resolve.specs.Linked.{abort_with, arms_view, array, assign, binary, block, both, call_of, conditional, else_block, else_view, iteration_of, linked_of, literal, merge, message, message_view, negation, object, pairs_view, parts_of_list, parts_view, query, read, return_of}
 use Rattle.vrl_resolve.specs.LinkedMeaning.{all_mean, arms_mean, callee_in, else_means, form_in, items_mean, means, no_body, pairs_mean, target_of}
 use Rattle.vrl_resolve.specs.Meaning.{assigned, both_assigned, combined}
 use Rattle.vrl_resolve.specs.Walking.{AllFitIn, ElseFitsIn, FitsIn, MessageFitsIn, PairsFitIn, Stays, meant, names_in, setting_in, store_at}
@@ -159,9 +160,7 @@ block-returns-clause-ended t c =
 
 pub call-answer-value-requires : goal.call-answer-value-requires
 call-answer-value-requires t c =
-    let a = out-Call c.args.call.now in
-    let args : c.deref.result.now ≡ a.args.items = search rules in
-    let is : call_of c.args.call.now ≡ call a.callee a.bang (parts_view c.deref.result.now) = search (rules, the_lemmas) in
+    let is = of_call c.args.call.now c.deref.result.now (search rules) in
     let fits = subst (FitsIn c.args.context.now) is c.requires.fits in
     (omega (arith, c.decreases, ap linked_size is), (c.requires.ready, (fits.0, fits.1)))
 
@@ -169,11 +168,10 @@ pub call-returns-then-call-clause-ended : goal.call-returns-then-call-clause-end
 call-returns-then-call-clause-ended t c =
     let x = c.args.context.now in
     let a = out-Call c.args.call.now in
-    let args : c.deref.result.now ≡ a.args.items = search rules in
-    let is : call_of c.args.call.now ≡ call a.callee a.bang (parts_view c.deref.result.now) = search (rules, the_lemmas) in
+    let is = of_call c.args.call.now c.deref.result.now (search rules) in
     let e = on_value (all_mean (names_in x) (setting_in x) (parts_view c.deref.result.now) [] (store_at x c.args.store.now)) (λ vs after. acts (setting_in x) (callee_in (names_in x) a.callee) no_body (items_in vs) after) in
     let t = store_at x c.answer-value.new.store in
-    subst (λ n. Ends (meant x n c.args.store.now) t c.banged.result) (sym is)
+    ended_as x c.args.store.now c.answer-value.new.store c.banged.result is
     (subst (λ b. Ends (banged_if b e) t c.banged.result) (sym c.if-call.true) (c.banged.ensures.ends e t c.answer-value.ensures.ended))
 
 pub coalescing-eval-requires : goal.coalescing-eval-requires
@@ -216,8 +214,7 @@ conditional-block-requires t c =
     let l = c.loop-arm in
     let x = c.args.context.now in
     let a = out-Arm c.arm-item.result in
-    let body : c.deref.result.now ≡ a.body.items = search rules in
-    let is : ◌≡◌ {A = ArmTree} (arm_of c.arm-item.result) (linked_of a.predicate, parts_view c.deref.result.now) = search (rules, the_lemmas) in
+    let is = of_arm c.arm-item.result c.deref.result.now (search rules) in
     let fits = arm_fits x c.args.arms.now l.arm-index c.arm-item.result (linked_of a.predicate) (parts_view c.deref.result.now) c.loop-arm-test.true c.arm-item.is is l.invariant.fits in
     let size = arms_fewer c.args.arms.now l.arm-index c.arm-item.result (linked_of a.predicate) (parts_view c.deref.result.now) c.loop-arm-test.true c.arm-item.is is in
     let told = c.in_ok-holds.ensures.ended in (
@@ -240,7 +237,7 @@ conditional-holds-requires t c =
     let l = c.loop-arm in
     let x = c.args.context.now in
     let a = out-Arm c.arm-item.result in
-    let is : ◌≡◌ {A = ArmTree} (arm_of c.arm-item.result) (linked_of a.predicate, parts_view a.body.items) = search (rules, the_lemmas) in
+    let is = of_arm c.arm-item.result a.body.items refl in
     let fits = arm_fits x c.args.arms.now l.arm-index c.arm-item.result (linked_of a.predicate) (parts_view a.body.items) c.loop-arm-test.true c.arm-item.is is l.invariant.fits in
     let size = arms_fewer c.args.arms.now l.arm-index c.arm-item.result (linked_of a.predicate) (parts_view a.body.items) c.loop-arm-test.true c.arm-item.is is in
     (omega (arith, c.decreases, l.invariant.fewer, size), (l.invariant.so_far.ready, fits.0))
@@ -250,7 +247,7 @@ conditional-loop-arm-preserved t c =
     let l = c.loop-arm in
     let x = c.args.context.now in
     let a = out-Arm c.arm-item.result in
-    let is : ◌≡◌ {A = ArmTree} (arm_of c.arm-item.result) (linked_of a.predicate, parts_view a.body.items) = search (rules, the_lemmas) in
+    let is = of_arm c.arm-item.result a.body.items refl in
     let told = c.in_ok-holds.ensures.ended in
     let otherwise : Store → Ended = λ after. else_means (names_in x) (setting_in x) (else_view c.args.otherwise.now) after in
     let next = arm_passed c.meanings_stay_well_formed.ensures x c.args.store.now l.store c.holds.new.store c.args.arms.now l.arm-index c.arm-item.result (linked_of a.predicate) (parts_view a.body.items) otherwise (arms_mean (names_in x) (setting_in x) (arms_view c.args.arms.now) otherwise (store_at x c.args.store.now)) c.in_ok-holds.field-0 told.0
@@ -272,8 +269,7 @@ conditional-returns-then-branch-clause-ended t c =
     let l = c.loop-arm in
     let x = c.args.context.now in
     let a = out-Arm c.arm-item.result in
-    let body : c.deref.result.now ≡ a.body.items = search rules in
-    let is : ◌≡◌ {A = ArmTree} (arm_of c.arm-item.result) (linked_of a.predicate, parts_view c.deref.result.now) = search (rules, the_lemmas) in
+    let is = of_arm c.arm-item.result c.deref.result.now (search rules) in
     let told = c.in_ok-holds.ensures.ended in
     let otherwise : Store → Ended = λ after. else_means (names_in x) (setting_in x) (else_view c.args.otherwise.now) after in
     arm_taken x c.args.store.now l.store c.holds.new.store c.args.arms.now l.arm-index c.arm-item.result (linked_of a.predicate) (parts_view c.deref.result.now) otherwise (arms_mean (names_in x) (setting_in x) (arms_view c.args.arms.now) otherwise (store_at x c.args.store.now)) c.in_ok-holds.field-0 told.0 (store_at x c.block.new.store) c.block.result
@@ -394,20 +390,17 @@ eval-read-requires t c =
 pub eval-returns-in-Abort-clause-ended : goal.eval-returns-in-Abort-clause-ended
 eval-returns-in-Abort-clause-ended t c =
     let is : linked_of c.args.node.now ≡ abort_with (message_view c.in-Abort.message) = search (rules, the_lemmas) in
-    let x = c.args.context.now in
-    subst (λ n. Ends (meant x n c.args.store.now) (store_at x c.abort.new.store) c.abort.result) (sym is) c.abort.ensures.ended
+    ended_as c.args.context.now c.args.store.now c.abort.new.store c.abort.result is c.abort.ensures.ended
 
 pub eval-returns-in-Array-clause-ended : goal.eval-returns-in-Array-clause-ended
 eval-returns-in-Array-clause-ended t c =
     let is = of_boxed (linked_of c.args.node.now) (λ n. array (parts_view n)) c.deref.result.now c.in-Array.parts.items (search rules) (search (rules, the_lemmas)) in
-    let x = c.args.context.now in
-    subst (λ n. Ends (meant x n c.args.store.now) (store_at x c.array.new.store) c.array.result) (sym is) c.array.ensures.ended
+    ended_as c.args.context.now c.args.store.now c.array.new.store c.array.result is c.array.ensures.ended
 
 pub eval-returns-in-Assign-clause-ended : goal.eval-returns-in-Assign-clause-ended
 eval-returns-in-Assign-clause-ended t c =
     let is = of_boxed (linked_of c.args.node.now) (λ n. assign c.in-Assign.is_asked c.in-Assign.target (linked_of n)) c.deref-in-Assign.result.now c.in-Assign.part.value (search rules) (search (rules, the_lemmas)) in
-    let x = c.args.context.now in
-    subst (λ n. Ends (meant x n c.args.store.now) (store_at x c.assign.new.store) c.assign.result) (sym is) c.assign.ensures.ended
+    ended_as c.args.context.now c.args.store.now c.assign.new.store c.assign.result is c.assign.ensures.ended
 
 pub eval-returns-in-Binary-clause-ended : goal.eval-returns-in-Binary-clause-ended
 eval-returns-in-Binary-clause-ended t c =
@@ -415,62 +408,52 @@ eval-returns-in-Binary-clause-ended t c =
     let here1 : c.deref-in-Binary-2.result.now ≡ c.in-Binary.right.value = search rules in
     let at_box : linked_of c.args.node.now ≡ binary c.in-Binary.op (linked_of c.in-Binary.left.value) (linked_of c.in-Binary.right.value) = search (rules, the_lemmas) in
     let is : linked_of c.args.node.now ≡ binary c.in-Binary.op (linked_of c.deref-in-Binary.result.now) (linked_of c.deref-in-Binary-2.result.now) = at_box ∙ ap₂ (λ n m. binary c.in-Binary.op (linked_of n) (linked_of m)) (sym here0) (sym here1) in
-    let x = c.args.context.now in
-    subst (λ n. Ends (meant x n c.args.store.now) (store_at x c.binary.new.store) c.binary.result) (sym is) c.binary.ensures.ended
+    ended_as c.args.context.now c.args.store.now c.binary.new.store c.binary.result is c.binary.ensures.ended
 
 pub eval-returns-in-Block-clause-ended : goal.eval-returns-in-Block-clause-ended
 eval-returns-in-Block-clause-ended t c =
     let is = of_boxed (linked_of c.args.node.now) (λ n. block (parts_view n)) c.deref-in-Block.result.now c.in-Block.items.items (search rules) (search (rules, the_lemmas)) in
-    let x = c.args.context.now in
-    subst (λ n. Ends (meant x n c.args.store.now) (store_at x c.block.new.store) c.block.result) (sym is) c.block.ensures.ended
+    ended_as c.args.context.now c.args.store.now c.block.new.store c.block.result is c.block.ensures.ended
 
 pub eval-returns-in-Both-clause-ended : goal.eval-returns-in-Both-clause-ended
 eval-returns-in-Both-clause-ended t c =
     let is = of_boxed (linked_of c.args.node.now) (λ n. both c.in-Both.is_asked c.in-Both.ok c.in-Both.err c.in-Both.tag (linked_of n)) c.deref-in-Both.result.now c.in-Both.part.value (search rules) (search (rules, the_lemmas)) in
-    let x = c.args.context.now in
-    subst (λ n. Ends (meant x n c.args.store.now) (store_at x c.both.new.store) c.both.result) (sym is) c.both.ensures.ended
+    ended_as c.args.context.now c.args.store.now c.both.new.store c.both.result is c.both.ensures.ended
 
 pub eval-returns-in-Call-clause-ended : goal.eval-returns-in-Call-clause-ended
 eval-returns-in-Call-clause-ended t c =
     let is = of_boxed (linked_of c.args.node.now) (λ n. call_of n) c.deref-in-Call.result.now c.in-Call.called.value (search rules) (search (rules, the_lemmas)) in
-    let x = c.args.context.now in
-    subst (λ n. Ends (meant x n c.args.store.now) (store_at x c.call.new.store) c.call.result) (sym is) c.call.ensures.ended
+    ended_as c.args.context.now c.args.store.now c.call.new.store c.call.result is c.call.ensures.ended
 
 pub eval-returns-in-If-clause-ended : goal.eval-returns-in-If-clause-ended
 eval-returns-in-If-clause-ended t c =
     let is = of_boxed (linked_of c.args.node.now) (λ n. conditional (arms_view n) (else_view c.in-If.otherwise)) c.deref-in-If.result.now c.in-If.arms.items (search rules) (search (rules, the_lemmas)) in
-    let x = c.args.context.now in
-    subst (λ n. Ends (meant x n c.args.store.now) (store_at x c.conditional.new.store) c.conditional.result) (sym is) c.conditional.ensures.ended
+    ended_as c.args.context.now c.args.store.now c.conditional.new.store c.conditional.result is c.conditional.ensures.ended
 
 pub eval-returns-in-Merge-clause-ended : goal.eval-returns-in-Merge-clause-ended
 eval-returns-in-Merge-clause-ended t c =
     let is = of_boxed (linked_of c.args.node.now) (λ n. merge c.in-Merge.is_asked c.in-Merge.target (linked_of n)) c.deref-in-Merge.result.now c.in-Merge.part.value (search rules) (search (rules, the_lemmas)) in
-    let x = c.args.context.now in
-    subst (λ n. Ends (meant x n c.args.store.now) (store_at x c.merge.new.store) c.merge.result) (sym is) c.merge.ensures.ended
+    ended_as c.args.context.now c.args.store.now c.merge.new.store c.merge.result is c.merge.ensures.ended
 
 pub eval-returns-in-Not-clause-ended : goal.eval-returns-in-Not-clause-ended
 eval-returns-in-Not-clause-ended t c =
     let is = of_boxed (linked_of c.args.node.now) (λ n. negation (linked_of n)) c.deref-in-Not.result.now c.in-Not.part.value (search rules) (search (rules, the_lemmas)) in
-    let x = c.args.context.now in
-    subst (λ n. Ends (meant x n c.args.store.now) (store_at x c.negation.new.store) c.negation.result) (sym is) c.negation.ensures.ended
+    ended_as c.args.context.now c.args.store.now c.negation.new.store c.negation.result is c.negation.ensures.ended
 
 pub eval-returns-in-Object-clause-ended : goal.eval-returns-in-Object-clause-ended
 eval-returns-in-Object-clause-ended t c =
     let is = of_boxed (linked_of c.args.node.now) (λ n. object (pairs_view n)) c.deref-in-Object.result.now c.in-Object.pairs.items (search rules) (search (rules, the_lemmas)) in
-    let x = c.args.context.now in
-    subst (λ n. Ends (meant x n c.args.store.now) (store_at x c.object.new.store) c.object.result) (sym is) c.object.ensures.ended
+    ended_as c.args.context.now c.args.store.now c.object.new.store c.object.result is c.object.ensures.ended
 
 pub eval-returns-in-Query-clause-ended : goal.eval-returns-in-Query-clause-ended
 eval-returns-in-Query-clause-ended t c =
     let is = of_boxed (linked_of c.args.node.now) (λ n. query (linked_of n) c.in-Query.path) c.deref-in-Query.result.now c.in-Query.part.value (search rules) (search (rules, the_lemmas)) in
-    let x = c.args.context.now in
-    subst (λ n. Ends (meant x n c.args.store.now) (store_at x c.query.new.store) c.query.result) (sym is) c.query.ensures.ended
+    ended_as c.args.context.now c.args.store.now c.query.new.store c.query.result is c.query.ensures.ended
 
 pub eval-returns-in-Return-clause-ended : goal.eval-returns-in-Return-clause-ended
 eval-returns-in-Return-clause-ended t c =
     let is = of_boxed (linked_of c.args.node.now) (λ n. return_of (linked_of n)) c.deref-in-Return.result.now c.in-Return.part.value (search rules) (search (rules, the_lemmas)) in
-    let x = c.args.context.now in
-    subst (λ n. Ends (meant x n c.args.store.now) (store_at x c.give_back.new.store) c.give_back.result) (sym is) c.give_back.ensures.ended
+    ended_as c.args.context.now c.args.store.now c.give_back.new.store c.give_back.result is c.give_back.ensures.ended
 
 pub eval-returns-in_ok-copy-in-Literal-clause-ended : goal.eval-returns-in_ok-copy-in-Literal-clause-ended
 eval-returns-in_ok-copy-in-Literal-clause-ended t c =
@@ -493,8 +476,7 @@ eval-iteration-requires t c =
 pub eval-returns-in-Iteration-clause-ended : goal.eval-returns-in-Iteration-clause-ended
 eval-returns-in-Iteration-clause-ended t c =
     let is = of_boxed (linked_of c.args.node.now) (λ n. iteration_of n) c.deref-in-Iteration.result.now c.in-Iteration.called.value (search rules) (search (rules, the_lemmas)) in
-    let x = c.args.context.now in
-    subst (λ n. Ends (meant x n c.args.store.now) (store_at x c.iteration.new.store) c.iteration.result) (sym is) c.iteration.ensures.ended
+    ended_as c.args.context.now c.args.store.now c.iteration.new.store c.iteration.result is c.iteration.ensures.ended
 
 pub give_back-eval-requires : goal.give_back-eval-requires
 give_back-eval-requires t c =
@@ -742,10 +724,7 @@ closures::iterate-returns-in-Some-clause-stays t c = stays_then c.args.store.now
 
 pub closures::iteration-iterate-value-requires : goal.closures::iteration-iterate-value-requires
 closures::iteration-iterate-value-requires t c =
-    let a = out-Iteration c.args.iteration.now in
-    let args : c.deref.result.now ≡ a.args.items = search rules in
-    let body : c.deref-2.result.now ≡ a.body.items = search rules in
-    let is : iteration_of c.args.iteration.now ≡ iterate a.function a.bang (parts_view c.deref.result.now) (parts_view c.deref-2.result.now) = search (rules, the_lemmas) in
+    let is = of_iteration c.args.iteration.now c.deref.result.now c.deref-2.result.now (search rules) (search rules) in
     let fits = subst (FitsIn c.args.context.now) is c.requires.fits in
     (omega (arith, c.decreases, ap linked_size is), (c.requires.ready, (fits.0, (fits.1.0, fits.1.1))))
 
@@ -753,23 +732,19 @@ pub closures::iteration-returns-clause-ended : goal.closures::iteration-returns-
 closures::iteration-returns-clause-ended t c =
     let x = c.args.context.now in
     let a = out-Iteration c.args.iteration.now in
-    let args : c.deref.result.now ≡ a.args.items = search rules in
-    let body : c.deref-2.result.now ≡ a.body.items = search rules in
-    let is : iteration_of c.args.iteration.now ≡ iterate a.function a.bang (parts_view c.deref.result.now) (parts_view c.deref-2.result.now) = search (rules, the_lemmas) in
+    let is = of_iteration c.args.iteration.now c.deref.result.now c.deref-2.result.now (search rules) (search rules) in
     let e = on_value (all_mean (names_in x) (setting_in x) (parts_view c.deref.result.now) [] (store_at x c.args.store.now)) (λ vs after. acts (setting_in x) (called.iteration (form_in a.function)) (body_in x a.function (parts_view c.deref-2.result.now)) (items_in vs) after) in
     let t = store_at x c.iterate-value.new.store in
-    subst (λ n. Ends (meant x n c.args.store.now) t c.iterate-value.result) (sym is) (subst (λ b. Ends (banged_if b e) t c.iterate-value.result) (sym c.if-iteration.false) c.iterate-value.ensures.ended)
+    ended_as x c.args.store.now c.iterate-value.new.store c.iterate-value.result is (subst (λ b. Ends (banged_if b e) t c.iterate-value.result) (sym c.if-iteration.false) c.iterate-value.ensures.ended)
 
 pub closures::iteration-returns-then-iteration-clause-ended : goal.closures::iteration-returns-then-iteration-clause-ended
 closures::iteration-returns-then-iteration-clause-ended t c =
     let x = c.args.context.now in
     let a = out-Iteration c.args.iteration.now in
-    let args : c.deref.result.now ≡ a.args.items = search rules in
-    let body : c.deref-2.result.now ≡ a.body.items = search rules in
-    let is : iteration_of c.args.iteration.now ≡ iterate a.function a.bang (parts_view c.deref.result.now) (parts_view c.deref-2.result.now) = search (rules, the_lemmas) in
+    let is = of_iteration c.args.iteration.now c.deref.result.now c.deref-2.result.now (search rules) (search rules) in
     let e = on_value (all_mean (names_in x) (setting_in x) (parts_view c.deref.result.now) [] (store_at x c.args.store.now)) (λ vs after. acts (setting_in x) (called.iteration (form_in a.function)) (body_in x a.function (parts_view c.deref-2.result.now)) (items_in vs) after) in
     let t = store_at x c.iterate-value.new.store in
-    subst (λ n. Ends (meant x n c.args.store.now) t c.banged.result) (sym is)
+    ended_as x c.args.store.now c.iterate-value.new.store c.banged.result is
     (subst (λ b. Ends (banged_if b e) t c.banged.result) (sym c.if-iteration.true) (c.banged.ensures.ends e t c.iterate-value.ensures.ended))
 
 pub closures::over-over_fields-requires : goal.closures::over-over_fields-requires
@@ -1004,37 +979,25 @@ closures::run-returns-in_ok-hidden-in-Two-clause-ended t c =
     let before = c.args.store.now in
     let bound = c.bind.new.store in
     let middle = c.run_with-given.new.store in
-    let first : Stays before bound = record { front = c.in_ok-hidden-in-Two.ensures.front; as_many = c.in_ok-hidden-in-Two.ensures.as_many } in
-    let stays = stays_then before bound middle first c.run_with-given.ensures.stays in
+    let stays = bound_then before bound middle c.in_ok-hidden-in-Two.ensures.front c.in_ok-hidden-in-Two.ensures.as_many c.run_with-given.ensures.stays in
     rw c.in-Two.is (two_names_end x c.in-Two.first c.in-Two.second (tree_of c.in-Two.key) (tree_of c.in-Two.value) (parts_view c.args.body.now) c.in_ok-hidden-in-Two.hidden before bound middle c.unbind.new.store c.count-count.result c.run_with-given.result
     c.requires.ready stays c.count-count.ensures c.in_ok-hidden-in-Two.ensures.hidden (c.in_ok-hidden-in-Two.ensures.bound (names_in x) c.requires.ready.names) c.run_with-given.ensures.ended
     (c.unbind.ensures.left (names_in x) (names_after (names_in x) before middle c.requires.ready.names stays)))
 
 pub closures::run-returns-in_ok-hidden-in-Two-clause-stays : goal.closures::run-returns-in_ok-hidden-in-Two-clause-stays
 closures::run-returns-in_ok-hidden-in-Two-clause-stays t c =
-    let before = c.args.store.now in
-    let bound = c.bind.new.store in
-    let middle = c.run_with-given.new.store in
-    let first : Stays before bound = record { front = c.in_ok-hidden-in-Two.ensures.front; as_many = c.in_ok-hidden-in-Two.ensures.as_many } in
-    let stays = stays_then before bound middle first c.run_with-given.ensures.stays in
-    stays_again before middle c.unbind.new.store c.count-count.result stays c.count-count.ensures c.unbind.ensures.present c.unbind.ensures.as_many
+    let stays = bound_then c.args.store.now c.bind.new.store c.run_with-given.new.store c.in_ok-hidden-in-Two.ensures.front c.in_ok-hidden-in-Two.ensures.as_many c.run_with-given.ensures.stays in
+    stays_again c.args.store.now c.run_with-given.new.store c.unbind.new.store c.count-count.result stays c.count-count.ensures c.unbind.ensures.present c.unbind.ensures.as_many
 
 pub closures::run-unbind-requires-clause-there : goal.closures::run-unbind-requires-clause-there
 closures::run-unbind-requires-clause-there t c =
-    let before = c.args.store.now in
-    let bound = c.bind.new.store in
-    let middle = c.run_with-given.new.store in
-    let first : Stays before bound = record { front = c.in_ok-hidden-in-Two.ensures.front; as_many = c.in_ok-hidden-in-Two.ensures.as_many } in
-    let stays = stays_then before bound middle first c.run_with-given.ensures.stays in
-    may_be_given_back c.in-Two.first c.in_ok-hidden-in-Two.hidden before (take c.count-count.result (present_of middle)) c.in_ok-hidden-in-Two.ensures.hidden (front_again before middle c.count-count.result stays c.count-count.ensures)
+    let stays = bound_then c.args.store.now c.bind.new.store c.run_with-given.new.store c.in_ok-hidden-in-Two.ensures.front c.in_ok-hidden-in-Two.ensures.as_many c.run_with-given.ensures.stays in
+    may_be_given_back c.in-Two.first c.in_ok-hidden-in-Two.hidden c.args.store.now (take c.count-count.result (present_of c.run_with-given.new.store)) c.in_ok-hidden-in-Two.ensures.hidden (front_again c.args.store.now c.run_with-given.new.store c.count-count.result stays c.count-count.ensures)
 
 pub closures::run-unbind-requires-clause-within : goal.closures::run-unbind-requires-clause-within
 closures::run-unbind-requires-clause-within t c =
-    let before = c.args.store.now in
-    let bound = c.bind.new.store in
-    let middle = c.run_with-given.new.store in
-    let first : Stays before bound = record { front = c.in_ok-hidden-in-Two.ensures.front; as_many = c.in_ok-hidden-in-Two.ensures.as_many } in
-    count_within before middle c.count-count.result (stays_then before bound middle first c.run_with-given.ensures.stays) c.count-count.ensures
+    let stays = bound_then c.args.store.now c.bind.new.store c.run_with-given.new.store c.in_ok-hidden-in-Two.ensures.front c.in_ok-hidden-in-Two.ensures.as_many c.run_with-given.ensures.stays in
+    count_within c.args.store.now c.run_with-given.new.store c.count-count.result stays c.count-count.ensures
 
 pub closures::run-run_with-given-requires : goal.closures::run-run_with-given-requires
 closures::run-run_with-given-requires t c =
@@ -1067,34 +1030,22 @@ closures::run_with-returns-clause-ended t c =
     let before = c.args.store.now in
     let bound = c.bind.new.store in
     let middle = c.items-given.new.store in
-    let first : Stays before bound = record { front = c.in_ok-hidden.ensures.front; as_many = c.in_ok-hidden.ensures.as_many } in
-    let stays = stays_then before bound middle first c.items-given.ensures.stays in
+    let stays = bound_then before bound middle c.in_ok-hidden.ensures.front c.in_ok-hidden.ensures.as_many c.items-given.ensures.stays in
     one_name_ends x c.args.slot (tree_of c.args.value) (parts_view c.args.body.now) c.in_ok-hidden.hidden before bound middle c.unbind.new.store c.count-count.result c.items-given.result
     c.requires.ready stays c.count-count.ensures c.in_ok-hidden.ensures.hidden (c.in_ok-hidden.ensures.bound (names_in x) c.requires.ready.names) c.items-given.ensures.ended
     (c.unbind.ensures.left (names_in x) (names_after (names_in x) before middle c.requires.ready.names stays))
 
 pub closures::run_with-returns-clause-stays : goal.closures::run_with-returns-clause-stays
 closures::run_with-returns-clause-stays t c =
-    let before = c.args.store.now in
-    let bound = c.bind.new.store in
-    let middle = c.items-given.new.store in
-    let first : Stays before bound = record { front = c.in_ok-hidden.ensures.front; as_many = c.in_ok-hidden.ensures.as_many } in
-    let stays = stays_then before bound middle first c.items-given.ensures.stays in
-    stays_again before middle c.unbind.new.store c.count-count.result stays c.count-count.ensures c.unbind.ensures.present c.unbind.ensures.as_many
+    let stays = bound_then c.args.store.now c.bind.new.store c.items-given.new.store c.in_ok-hidden.ensures.front c.in_ok-hidden.ensures.as_many c.items-given.ensures.stays in
+    stays_again c.args.store.now c.items-given.new.store c.unbind.new.store c.count-count.result stays c.count-count.ensures c.unbind.ensures.present c.unbind.ensures.as_many
 
 pub closures::run_with-unbind-requires-clause-there : goal.closures::run_with-unbind-requires-clause-there
 closures::run_with-unbind-requires-clause-there t c =
-    let before = c.args.store.now in
-    let bound = c.bind.new.store in
-    let middle = c.items-given.new.store in
-    let first : Stays before bound = record { front = c.in_ok-hidden.ensures.front; as_many = c.in_ok-hidden.ensures.as_many } in
-    let stays = stays_then before bound middle first c.items-given.ensures.stays in
-    may_be_given_back c.args.slot c.in_ok-hidden.hidden before (take c.count-count.result (present_of middle)) c.in_ok-hidden.ensures.hidden (front_again before middle c.count-count.result stays c.count-count.ensures)
+    let stays = bound_then c.args.store.now c.bind.new.store c.items-given.new.store c.in_ok-hidden.ensures.front c.in_ok-hidden.ensures.as_many c.items-given.ensures.stays in
+    may_be_given_back c.args.slot c.in_ok-hidden.hidden c.args.store.now (take c.count-count.result (present_of c.items-given.new.store)) c.in_ok-hidden.ensures.hidden (front_again c.args.store.now c.items-given.new.store c.count-count.result stays c.count-count.ensures)
 
 pub closures::run_with-unbind-requires-clause-within : goal.closures::run_with-unbind-requires-clause-within
 closures::run_with-unbind-requires-clause-within t c =
-    let before = c.args.store.now in
-    let bound = c.bind.new.store in
-    let middle = c.items-given.new.store in
-    let first : Stays before bound = record { front = c.in_ok-hidden.ensures.front; as_many = c.in_ok-hidden.ensures.as_many } in
-    count_within before middle c.count-count.result (stays_then before bound middle first c.items-given.ensures.stays) c.count-count.ensures
+    let stays = bound_then c.args.store.now c.bind.new.store c.items-given.new.store c.in_ok-hidden.ensures.front c.in_ok-hidden.ensures.as_many c.items-given.ensures.stays in
+    count_within c.args.store.now c.items-given.new.store c.count-count.result stays c.count-count.ensures
