@@ -1,7 +1,7 @@
 -- `merge`: the fields of two objects.
 use Rattle.std.specs.Prelude.{ℕ, Bool, true, false, ◌&&◌, List, [], ◌∷◌, Option, Some, None, codes, if◌then◌else◌}
 use Rattle.vrl_value.specs.Parts.{replace}
-use Rattle.vrl_value.specs.Tree.{Tree, boolean, object, Members, no_members, member, find, put}
+use Rattle.vrl_value.specs.Tree.{Tree, boolean, object, Members, no_members, member, find, put, put_all}
 use Rattle.vrl_value.specs.declared.value.Tag.TheVariants as tag
 use Rattle.vrl_kind.specs.KindTree.{KindTree}
 use Rattle.vrl_kind.specs.Kinds.{tags_at}
@@ -12,17 +12,12 @@ use Rattle.vrl_builtin.specs.TagSets.{booleans, objects}
 use Rattle.vrl_builtin.specs.Listed.{members_in}
 use Rattle.vrl_builtin.specs.AnyParts.{any_of}
 
--- the members with others put among them: of a name that both have, the other's value
-abbrev pub put_all : Members → Members → Members
-put_all no_members ms = ms
-put_all (member k t ns) ms = put_all ns (put k t ms)
-
 -- the members with what is made of the value at a name, or with another value there where none is
 abbrev pub changed : List ℕ → Option Tree → (Tree → Tree) → Tree → Members → Members
 changed k None over t ms = put k t ms
 changed k (Some u) over t ms = replace k (over u) ms
 
--- the same, but that two objects under one name are put together in the same way
+-- the members with others put among them, but that two objects under one name are put together in the same way
 abbrev mutual
   pub laid_over : Tree → Tree → Tree
   laid_over (object ns) (object ms) = object (lay_all ns ms)

@@ -5,7 +5,7 @@ use Rattle.std.proofs.lemmas.Slice.Eq.{bytes_eq-Decides}
 use Rattle.std.proofs.lemmas.Bool.{and_from, or_left, or_right}
 use Rattle.vrl_value.specs.Look.{Step, field, place, found_behind, found_if, raw_at, tag_found}
 use Rattle.vrl_value.specs.Tag.{tag_of}
-use Rattle.vrl_value.specs.Tree.{Tree, string, integer, boolean, null, timestamp, regex, array, object, Members, no_members, member, find, put, IsBefore, IsOrdered, MembersAreOrdered}
+use Rattle.vrl_value.specs.Tree.{Tree, string, integer, boolean, null, timestamp, regex, array, object, Members, no_members, member, find, put, put_all, IsBefore, IsOrdered, MembersAreOrdered}
 use Rattle.vrl_value.specs.declared.value.Tag.{Tag}
 use Rattle.vrl_value.specs.declared.value.Tag.TheVariants as tag
 use Rattle.vrl_value.proofs.Members.{find-member_other, find-put, find-put_other}
@@ -20,7 +20,7 @@ use Rattle.vrl_builtin.specs.TagSets.{objects}
 use Rattle.vrl_builtin.proofs.Containers.{each_found, each_put, found_first, later_keys, EachMember}
 use Rattle.vrl_builtin.proofs.GivenTags.{no, objects_only}
 use Rattle.vrl_builtin.specs.AnyParts.{any_of}
-use Rattle.fn_object.specs.Merge.{changed, is_shallow, laid_over, lay_all, merge_kind, merge_row, merged, overlaid_kind, put_all}
+use Rattle.fn_object.specs.Merge.{changed, is_shallow, laid_over, lay_all, merge_kind, merge_row, merged, overlaid_kind}
 use Rattle.vrl_builtin.proofs.AnswerParts.{answered, member_parts, given_part, object_part, AreParts, IsPart}
 use Rattle.fn_object.specs.EachChanged.{each_replaced}
 use Rattle.vrl_builtin.proofs.AnyParts.{loosely_allowed}

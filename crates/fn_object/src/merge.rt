@@ -4,9 +4,9 @@ ghost use Rattle.vrl_kind.specs.Kinds.{tags_at};
 ghost use Rattle.vrl_kind.specs.Sets.{SameSets};
 ghost use Rattle.vrl_builtin.specs.Rows.{kind_at, literal_at};
 ghost use Rattle.vrl_builtin.specs.View.{givens_of};
-ghost use Rattle.vrl_value.specs.Tree.{find};
+ghost use Rattle.vrl_value.specs.Tree.{find, put_all};
 ghost use Rattle.vrl_builtin.specs.Listed.{members_in};
-ghost use Rattle.fn_object.specs.Merge.{changed, is_shallow, laid_over, lay_all, merge_kind, merged, merge_row, overlaid_kind, put_all};
+ghost use Rattle.fn_object.specs.Merge.{changed, is_shallow, laid_over, lay_all, merge_kind, merged, merge_row, overlaid_kind};
 ghost use Rattle.fn_object.specs.MergeLaw.{merge-law};
 
 use std::alloc::Global;
@@ -30,18 +30,8 @@ static PARAMETERS: [Parameter; 3] = [
     optional!("deep", Tags::BOOLEAN),
 ];
 
-// Puts copies of fields among others, each in place of one with its name.
-fn put_copies(alloc: Global, fields: &mut Fields, others: &Fields) -> Result<(), Memory>
-    ensures { OnOk result (members_of fields.new ≡ put_all (members_of others.now) (members_of fields.old)) }
-{
-    for (name, value) in others.as_map().iter() {
-        let name = Chars::copy_of(alloc, name.as_str())?;
-        fields.insert(name, value.copy(alloc)?)?;
-    }
-    Ok(())
-}
-
-// The same, but that objects under one name are merged.
+// Puts copies of fields among others, each in place of one with its name, but that objects under one name are
+// merged.
 #[cycle(lay)]
 fn lay_copies(alloc: Global, fields: &mut Fields, others: &Fields) -> Result<(), Memory>
     ensures { OnOk result (members_of fields.new ≡ lay_all (members_of others.now) (members_of fields.old)) }
@@ -100,7 +90,7 @@ fn add_fields(alloc: Global, fields: &mut Fields, deep: bool, from: &Value) -> R
     if deep {
         lay_copies(alloc, fields, others)
     } else {
-        put_copies(alloc, fields, others)
+        fields.put_copies(alloc, others)
     }
 }
 

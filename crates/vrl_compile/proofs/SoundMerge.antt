@@ -9,7 +9,7 @@ use Rattle.std.specs.Ordering.{match_ordering, nat_cmp}
 use Rattle.vrl_value.specs.Laws.{MembersAreMaps}
 use Rattle.vrl_value.specs.Look.{Step, field, place, found_behind, found_if, raw_at, tag_found}
 use Rattle.vrl_value.specs.Tag.{tag_of}
-use Rattle.vrl_value.specs.Tree.{Tree, string, object, Members, no_members, member, find, put, IsBefore, MembersAreOrdered}
+use Rattle.vrl_value.specs.Tree.{Tree, string, object, Members, no_members, member, find, put, put_all, IsBefore, MembersAreOrdered}
 use Rattle.vrl_value.specs.declared.value.Tag.{Tag}
 use Rattle.vrl_value.specs.declared.value.Tag.TheVariants as tag
 use Rattle.vrl_kind.specs.KindTree.{KindTree}
@@ -19,7 +19,6 @@ use Rattle.vrl_kind.specs.Sets.{Sets, IsAllowed}
 use Rattle.vrl_kind.specs.Tags.{same_tag}
 use Rattle.vrl_state.specs.Laws.{CutsHoldTheAllowed}
 use Rattle.vrl_state.specs.States.{IsCutOf}
-use Rattle.vrl_store.specs.Operators.{put_all}
 use Rattle.vrl_judge.specs.Rules.{last_or}
 
 -- ---- what is found among members that were put among others

@@ -1,9 +1,9 @@
 -- What is made of a field and of the value that its run gave.
 use Rattle.std.proofs.Common.{◌≡◌, ℕ, Bool, true, false, List, [], ◌∷◌, Option, None, option_map, refl, sym, ap, ap₂, ◌∙◌, true≢false, if◌then◌else◌}
-use Rattle.vrl_value.specs.Tree.{Tree, string, integer, boolean, null, timestamp, regex, array as items, object as members, Members, member, put}
+use Rattle.vrl_value.specs.Tree.{Tree, string, integer, boolean, null, timestamp, regex, array as items, object as members, Members, member, put, put_all}
 use Rattle.vrl_value.specs.View.{members_of, tree_of}
 use Rattle.vrl_value.specs.declared.value.Value.{Value}
-use Rattle.vrl_store.specs.Operators.{is_true, put_all}
+use Rattle.vrl_store.specs.Operators.{is_true}
 use Rattle.vrl_store.specs.Outcomes.{error}
 use Rattle.vrl_resolve.specs.Calls.{renamed_or_else, within_limit}
 use Rattle.vrl_resolve.specs.Iterating.{made_fields, made_in, TakesField, TakesName}

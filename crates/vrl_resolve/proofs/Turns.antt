@@ -9,7 +9,7 @@ use Rattle.std.specs.declared.result.Result.TheVariants.{Ok, Err}
 use Rattle.std.proofs.lemmas.Cmp.{nat_list_cmp_total}
 use Rattle.vrl_value.specs.Look.{item_at}
 use Rattle.vrl_value.specs.Tag.{tag_of}
-use Rattle.vrl_value.specs.Tree.{Tree, string, integer, boolean, null, timestamp, regex, array as items, object as members, Items, no_items, item, Members, no_members, member, put, IsBefore, MembersAreOrdered}
+use Rattle.vrl_value.specs.Tree.{Tree, string, integer, boolean, null, timestamp, regex, array as items, object as members, Items, no_items, item, Members, no_members, member, put, put_all, IsBefore, MembersAreOrdered}
 use Rattle.vrl_value.specs.View.{items_of_trees, tree_of}
 use Rattle.vrl_value.specs.declared.value.Tag.{Tag}
 use Rattle.vrl_value.specs.declared.value.Tag.TheVariants as tag
@@ -20,7 +20,7 @@ use Rattle.vrl_syntax.specs.Stores.{Store}
 use Rattle.vrl_builtin.specs.Listed.{list_in, trees_in}
 use Rattle.vrl_builtin.specs.TagSets.{allows}
 use Rattle.vrl_binding.specs.Binding.{collection_parameters, collections}
-use Rattle.vrl_store.specs.Operators.{is_true, put_all}
+use Rattle.vrl_store.specs.Operators.{is_true}
 use Rattle.vrl_store.specs.Outcomes.{Ended, Outcome, value, error, aborted, returned, banged, deep, ends, on_value, value_then}
 use Rattle.vrl_store.specs.Results.{Ends, Gives, Stops}
 use Rattle.vrl_store.specs.WellFormed.{AreWellFormed, IsWellFormed, IsWellFormedEnded}

@@ -9,7 +9,7 @@ use Rattle.std.specs.FinMap.{nat_cmp-IsAntisymmetric, slice_cmp-IsAntisymmetric}
 use Rattle.std.specs.Ordering.{eq_by_cmp, nat_cmp}
 use Rattle.vrl_value.specs.Order.{order_of}
 use Rattle.vrl_value.specs.Regexes.{members_regexes_below, regexes_below}
-use Rattle.vrl_value.specs.Tree.{Tree, string, integer, boolean, null, object, Members, no_members, member, put}
+use Rattle.vrl_value.specs.Tree.{Tree, string, integer, boolean, null, object, Members, no_members, member, put, put_all}
 use Rattle.vrl_value.specs.declared.value.Tag.{Tag}
 use Rattle.vrl_value.specs.declared.value.Tag.TheVariants as tag
 use Rattle.vrl_path.specs.declared.path.Step.{Step}
@@ -21,7 +21,7 @@ use Rattle.vrl_syntax.specs.declared.root.Root.{Root}
 use Rattle.vrl_syntax.specs.declared.root.Root.TheVariants.{Event, Name}
 use Rattle.vrl_syntax.specs.declared.root.Target.{Target}
 use Rattle.vrl_syntax.specs.declared.root.Target.TheVariants.{Nowhere, Place}
-use Rattle.vrl_store.specs.Operators.{applied, cannot_apply, compared, difference_of, is_falsy, merged, negated, product_of, put_all, sum_of, truth_of}
+use Rattle.vrl_store.specs.Operators.{applied, cannot_apply, compared, difference_of, is_falsy, merged, negated, product_of, sum_of, truth_of}
 use Rattle.vrl_store.specs.Outcomes.{Outcome, value, error, aborted, returned, banged, deep, Ended, banged_if, block_left, ends, error_then, on_error, on_value, value_then}
 use Rattle.vrl_store.specs.Places.{is_within, part_of, read_in, removed, root_value, root_with, root_without, target_value, writes_to}
 use Rattle.vrl_store.specs.WellFormed.{AreWellFormed, IsWellFormed, IsWellFormedEnded, IsWellFormedOutcome, IsWellFormedStore}

@@ -1,13 +1,12 @@
 -- The loops over a collection: what the run for a part binds, and what is made of the parts that are left, behind what was made so far.
 use Rattle.std.specs.Prelude.{◌≡◌, ℕ, Bool, true, false, List, [], ◌∷◌, ◌++◌, Option, Some, None, option_map, IfSome, IsTrue, ⊤}
-use Rattle.vrl_value.specs.Tree.{Tree, null, array as items, object as members, Items, item, Members, member}
+use Rattle.vrl_value.specs.Tree.{Tree, null, array as items, object as members, Items, item, Members, member, put_all}
 use Rattle.vrl_value.specs.View.{items_of_trees, members_of, tree_of}
 use Rattle.vrl_value.specs.declared.value.Value.{Value}
 use Rattle.vrl_syntax.specs.Calls.{for_names}
 use Rattle.vrl_syntax.specs.Stores.{Store, value_of, with_value}
 use Rattle.vrl_syntax.specs.declared.root.Root.TheVariants.{Name}
 use Rattle.vrl_store.specs.Kept.{is_one_of}
-use Rattle.vrl_store.specs.Operators.{put_all}
 use Rattle.vrl_store.specs.Outcomes.{Outcome, value, error}
 use Rattle.vrl_store.specs.StoreView.{hidden_tree, name_at, present_of, store_in, AreNames, Names}
 use Rattle.vrl_store.specs.declared.hidden_value.HiddenValue.{HiddenValue}

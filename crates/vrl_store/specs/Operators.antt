@@ -5,7 +5,7 @@ use Rattle.std.specs.Ordering.{int_eq, is_lt, is_gt}
 use Rattle.std.specs.declared.cmp.Ordering.{Ordering}
 use Rattle.vrl_value.specs.Order.{order_of}
 use Rattle.vrl_value.specs.Tag.{tag_of, word_of}
-use Rattle.vrl_value.specs.Tree.{Tree, string, integer, boolean, null, timestamp, regex, array, object, Items, no_items, item, Members, no_members, member, put}
+use Rattle.vrl_value.specs.Tree.{Tree, string, integer, boolean, null, timestamp, regex, array, object, Items, no_items, item, Members, no_members, member, put_all}
 use Rattle.vrl_value.specs.declared.value.Tag.{Tag}
 use Rattle.vrl_syntax.specs.declared.root.Op.{Op}
 use Rattle.vrl_syntax.specs.declared.root.Op.TheVariants as op
@@ -94,10 +94,6 @@ abbrev pub comparison_of : Op → Tree → Tree → Outcome
 comparison_of o v w = compared o (order_of v w) (cannot_apply o v w)
 
 -- ---- merges of two objects: of a name that both have, the right one's value
-
-abbrev pub put_all : Members → Members → Members
-put_all no_members ms = ms
-put_all (member k t ns) ms = put_all ns (put k t ms)
 
 abbrev pub merged : Tree → Tree → Outcome
 merged (object ms) (object ns) = value (object (put_all ns ms))

@@ -1,7 +1,6 @@
 ghost use Rattle.std.specs.Prelude.{◌≡◌, IfOk, OnOk};
-ghost use Rattle.vrl_value.specs.Tree.{object, Members};
+ghost use Rattle.vrl_value.specs.Tree.{object, put_all, Members};
 ghost use Rattle.vrl_value.specs.View.{members_of, tree_of};
-ghost use Rattle.vrl_store.specs.Operators.{put_all};
 ghost use Rattle.vrl_store.specs.Results.{operand_tree};
 
 use std::alloc::Global;
@@ -56,7 +55,7 @@ impl Operand<'_> {
                 _ => Ok(()),
             },
             Operand::Borrowed(value) => match value {
-                Value::Object(others) => put_copies(alloc, fields, others),
+                Value::Object(others) => fields.put_copies(alloc, others),
                 _ => Ok(()),
             },
         }
@@ -68,16 +67,6 @@ fn put_owned(fields: &mut Fields, others: Fields) -> Result<(), Memory>
 {
     for (name, value) in others.into_map() {
         fields.insert(Chars::new(name), value)?;
-    }
-    Ok(())
-}
-
-fn put_copies(alloc: Global, fields: &mut Fields, others: &Fields) -> Result<(), Memory>
-    ensures { OnOk result (members_of fields.new ≡ put_all (members_of others.now) (members_of fields.old)) }
-{
-    for (name, value) in others.as_map().iter() {
-        let name = Chars::copy_of(alloc, name.as_str())?;
-        fields.insert(name, value.copy(alloc)?)?;
     }
     Ok(())
 }

@@ -1,10 +1,11 @@
 -- A value looked up at a name among an object's members.
-use Rattle.std.proofs.Common.{◌≡◌, ℕ, List, [], ◌∷◌, Option, Some, None, option_map, String, Global, Ordering, Less, Equal, Greater, Bor, MutBor, string_bytes, nat_cmp, is_eq, cond, refl, ap, ◌∙◌}
-use Rattle.std.specs.BTreeMap.{is_at}
+use Rattle.std.proofs.Common.{◌≡◌, ℕ, List, [], ◌∷◌, Option, Some, None, option_map, String, Global, Ordering, Less, Equal, Greater, Bor, MutBor, string_bytes, nat_cmp, is_eq, cond, refl, sym, ap, ◌∙◌, subst}
+use Rattle.std.specs.BTreeMap.{get, is_at}
 use Rattle.std.specs.Cmp.Lexicographic.{slice_cmp}
 use Rattle.std.specs.Map.{lookup}
 use Rattle.std.specs.Option.{option_copied_mut}
 use Rattle.std.specs.Ordering.{match_ordering}
+use Rattle.std.specs.String.{string_cmp}
 use Rattle.vrl_value.specs.Tree.{Tree, find}
 use Rattle.vrl_value.specs.View.{members_view, members_of, tree_of}
 use Rattle.vrl_value.specs.declared.value.Value.{Value}
@@ -34,3 +35,8 @@ tree_of-now_mut (Some value) = refl
 -- the same of the fields over a map
 pub tree_of-get : (name : List ℕ) (fields : Fields) → option_map tree_of (lookup (is_at (λ key. slice_cmp nat_cmp name (string_bytes key))) (out-Fields fields).map.entries) ≡ find name (members_of fields)
 tree_of-get name fields = tree_of-lookup name (out-Fields fields).map.entries ∙ ap (find name) (members_of-out fields)
+
+-- where the map has nothing at a name, no field has it
+pub none_found : (name : List ℕ) (fields : Fields) (key : String Global) → get string_cmp (out-Fields fields).map key ≡ None → string_bytes key ≡ name → find name (members_of fields) ≡ None
+none_found name fields key none named =
+    sym (tree_of-get name fields) ∙ subst (λ bytes. option_map tree_of (lookup (is_at (λ k. slice_cmp nat_cmp bytes (string_bytes k))) (out-Fields fields).map.entries) ≡ None) named (ap (option_map tree_of) none)

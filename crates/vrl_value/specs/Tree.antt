@@ -31,6 +31,11 @@ abbrev pub put : List ℕ → Tree → Members → Members
 put k t no_members = member k t no_members
 put k t (member l u ms) = match_ordering (slice_cmp nat_cmp k l) (member k t (member l u ms)) (member l t ms) (member l u (put k t ms))
 
+-- the members ms with each of the others put at its key
+abbrev pub put_all : Members → Members → Members
+put_all no_members ms = ms
+put_all (member k t ns) ms = put_all ns (put k t ms)
+
 -- what stands at the key k
 abbrev pub find : List ℕ → Members → Option Tree
 find k no_members = None
@@ -55,6 +60,17 @@ abbrev mutual
   pub members_are_json : Members → Bool
   members_are_json no_members = true
   members_are_json (member k t ms) = is_json t && members_are_json ms
+
+-- a text, an array or an object: a copy of it takes memory
+abbrev pub takes_memory : Tree → Bool
+takes_memory (string s) = true
+takes_memory (integer n) = false
+takes_memory (boolean b) = false
+takes_memory null = false
+takes_memory (timestamp nanos) = false
+takes_memory (regex n) = false
+takes_memory (array ts) = true
+takes_memory (object ms) = true
 
 abbrev pub is_object : Tree → Bool
 is_object (string s) = false

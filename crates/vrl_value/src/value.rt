@@ -2,11 +2,11 @@ ghost use Rattle.std.specs.Borrow.{sem};
 ghost use Rattle.vrl_value.specs.Lending.{LendsField, LendsItem};
 ghost use Rattle.vrl_value.specs.Look.{item_at};
 ghost use Rattle.vrl_value.specs.Parts.{count_of, members_count, put_item, without, without_item};
-ghost use Rattle.std.specs.Prelude.{◌≡◌, ◌≤◌, ◌↔◌, min, IfOk, IsTrue, OnErr, OnOk, option_map};
+ghost use Rattle.std.specs.Prelude.{◌≡◌, ◌≤◌, ◌↔◌, false, min, IfOk, IsOk, IsSome, IsTrue, OnErr, OnOk, option_map};
 ghost use Rattle.vrl_value.specs.Depth.{depth_of, items_depth, members_depth};
 ghost use Rattle.vrl_value.specs.Order.{order_of};
 ghost use Rattle.vrl_value.specs.Tag.{tag_of, word_of};
-ghost use Rattle.vrl_value.specs.Tree.{find, is_json, members_are_json, put, IsOrdered, ItemsAreOrdered, MembersAreOrdered};
+ghost use Rattle.vrl_value.specs.Tree.{find, is_json, members_are_json, put, put_all, takes_memory, IsOrdered, ItemsAreOrdered, MembersAreOrdered};
 ghost use Rattle.vrl_value.specs.View.{items_of, items_view, members_of, members_view, tree_of};
 
 use crate::lists::Chars;
@@ -104,12 +104,14 @@ impl Value {
         }
     }
 
-    /// An equal value, with all that is in it. `Memory`: want of memory.
+    /// An equal value, with all that is in it. `Memory`: want of memory, which a text, an array or an object may
+    /// meet alone.
     #[cycle(copy)]
     pub fn copy(&self, alloc: Global) -> Result<Value, Memory>
         ensures equal { IfOk result (λ copy. tree_of copy ≡ tree_of self.now) }
         // Objects are maps, at each level: what is in memory is in order.
         ensures ordered { OnOk result (IsOrdered (tree_of self.now)) }
+        ensures small { takes_memory (tree_of self.now) ≡ false → IsOk result }
     {
         match self {
             Value::Text(text) => Ok(Value::Text(text.copy(alloc)?)),
@@ -409,16 +411,29 @@ impl Fields {
         Ok(Fields::new(copies))
     }
 
-    /// Puts a value at a name, in place of what stood there. `Memory`: want of memory; the fields stay as
-    /// they were, and the name and the value are gone.
+    /// Puts a value at a name, in place of what stood there. `Memory`: want of memory, which a name that is there
+    /// never meets; the fields stay as they were, and the name and the value are gone.
     pub fn insert(&mut self, name: Chars, value: Value) -> Result<(), Memory>
         ensures ok { OnOk result (members_of self.new ≡ put name (tree_of value) (members_of self.old)) }
         ensures err { OnErr result (members_of self.new ≡ members_of self.old) }
         ensures json { IsTrue (is_json (tree_of value))
             → IsTrue (members_are_json (members_of self.old))
             → IsTrue (members_are_json (members_of self.new)) }
+        ensures there { IsSome (find name (members_of self.old)) → IsOk result }
     {
         self.map.insert(name.into_string(), value)?;
+        Ok(())
+    }
+
+    /// Puts a copy of each of the others' fields, in place of what stood at its name. `Memory`: want of memory;
+    /// some are put by then.
+    pub fn put_copies(&mut self, alloc: Global, others: &Fields) -> Result<(), Memory>
+        ensures { OnOk result (members_of self.new ≡ put_all (members_of others.now) (members_of self.old)) }
+    {
+        for (name, value) in others.map.iter() {
+            let name = Chars::copy_of(alloc, name.as_str())?;
+            self.insert(name, value.copy(alloc)?)?;
+        }
         Ok(())
     }
 

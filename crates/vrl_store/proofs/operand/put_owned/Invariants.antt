@@ -1,6 +1,6 @@
 use Rattle.std.proofs.Common.{◌≡◌}
+use Rattle.vrl_value.specs.Tree.{put_all}
 use Rattle.vrl_value.specs.View.{members_of, members_view}
-use Rattle.vrl_store.specs.Operators.{put_all}
 use Rattle.vrl_store.proofs.operand.put_owned.Given as goal
 
 -- to put what is left is, from here, to put all
