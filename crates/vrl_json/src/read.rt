@@ -1,4 +1,4 @@
-ghost use Rattle.std.specs.Prelude.{◌≡◌, ◌≤◌, ◌++◌, List, [], ◌∷◌, ℕ, Some, None, IfOk, IsTrue, OnOk};
+ghost use Rattle.std.specs.Prelude.{◌≡◌, ◌<◌, ◌≤◌, ◌++◌, length, List, [], ◌∷◌, ℕ, Some, None, IfOk, IsTrue, OnOk};
 ghost use Rattle.serde_json.specs.View.{view, items_view as json_items_view, members_view as json_members_view};
 ghost use Rattle.vrl_value.specs.Depth.{depth_of};
 ghost use Rattle.vrl_value.specs.Tree.{Tree, IsOrdered, is_json};
@@ -17,11 +17,13 @@ use vrl_value::{Chars, Fields, Items, Memory, Value};
 ///
 /// `NotJson`: the bytes are no such text. `NotWhole`: they are, and a number of the value is not a whole
 /// number of 64 bits with a sign in the plain form of digits; `-0` is not, nor is `1.0` or `1e2`. A number
-/// at a name that a later equal name replaces is no number of the value. `Memory`: want of memory.
+/// at a name that a later equal name replaces is no number of the value. `Memory`: want of memory, which no empty
+/// line meets.
 pub fn from_line(alloc: Global, bytes: &[u8]) -> Result<Value, JsonFault>
     ensures value { IfOk result (λ value. reading_of bytes.now ≡ whole (tree_of value)) }
     ensures not_json { result ≡ Err JsonFault.NotJson → reading_of bytes.now ≡ not_json }
     ensures not_whole { result ≡ Err JsonFault.NotWhole → reading_of bytes.now ≡ not_whole }
+    ensures memory { result ≡ Err JsonFault.Memory → 0 < length bytes.now }
 {
     let json = serde_json::Value::from_slice(alloc, bytes)?;
     value_of(alloc, json)

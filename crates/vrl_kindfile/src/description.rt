@@ -1,4 +1,4 @@
-ghost use Rattle.std.specs.Prelude.{◌≡◌, ◌≤◌, ◌+◌, ◌++◌, [], ◌∷◌, List, Some, IfErr, IfOk, OnOk, false, length};
+ghost use Rattle.std.specs.Prelude.{◌≡◌, ◌≤◌, ◌+◌, ◌++◌, [], ◌∷◌, false, length, true, List, None, Some, IfErr, IfOk, IsOk, OnOk};
 ghost use Rattle.vrl_value.specs.Look.{Step};
 ghost use Rattle.vrl_value.specs.Tree.{array, object, string};
 ghost use Rattle.vrl_value.specs.View.{items_of, items_view, members_of, tree_of};
@@ -228,6 +228,7 @@ fn or_absent(alloc: Global, kind: Kind) -> Result<Kind, Memory>
 fn rest_in(alloc: Global, value: Option<&Value>) -> Result<Rest, Refusal>
     ensures kind { IfOk result (λ rest. IsRestOf (given value.entry) (rest_of rest)) }
     ensures fault { IfErr result (IsRefusal (rest_faults (given value.entry))) }
+    ensures none { given value.entry ≡ None → IsOk result }
 {
     match value {
         None => Ok(Rest::Json),
@@ -239,6 +240,7 @@ fn rest_in(alloc: Global, value: Option<&Value>) -> Result<Rest, Refusal>
 fn rest_given(alloc: Global, value: &Value) -> Result<Rest, Refusal>
     ensures kind { IfOk result (λ rest. IsRestOf (Some (tree_of value.now)) (rest_of rest)) }
     ensures fault { IfErr result (IsRefusal (rest_faults (Some (tree_of value.now)))) }
+    ensures nothing { is_nothing (tree_of value.now) ≡ true → IsOk result }
 {
     if is_nothing(value) {
         return Ok(Rest::Nothing);

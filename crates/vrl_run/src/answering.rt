@@ -74,7 +74,8 @@ pub fn answer<R: Threads + Sync, S: Source, O: Sink, E: Sink, C: Clock, G: Gate 
 fn usage(alloc: Global) -> Result<Told, Memory>
     ensures { IfOk result (IsTold bad_words) }
 {
-    refused(alloc, Status::Usage, USAGE_LINE.as_bytes().to_vec(alloc)?)
+    let line = USAGE_LINE.as_bytes().to_vec(alloc)?;
+    Ok(refused(alloc, Status::Usage, line))
 }
 
 // Why a kind file has no kind. `Memory`: want of memory.
@@ -82,29 +83,26 @@ fn kind_refusal(alloc: Global, fault: &KindFault) -> Result<Told, Memory>
     ensures { IfOk result (IsTold (bad_kind fault.now)) }
 {
     let line = format!(in alloc; "{fault}\n")?;
-    refused(alloc, Status::KindRefused, line.into_bytes())
+    Ok(refused(alloc, Status::KindRefused, line.into_bytes()))
 }
 
 // What is wrong with a script. `Memory`: want of memory.
 fn script_refusal(alloc: Global, text: &[u8], diagnostics: &[Diagnostic]) -> Result<Told, Memory>
     ensures { IfOk result (IsTold (bad_script text.now diagnostics.now)) }
 {
-    refused(
-        alloc,
-        Status::Refused,
-        render_all(alloc, diagnostics, text)?,
-    )
+    let lines = render_all(alloc, diagnostics, text)?;
+    Ok(refused(alloc, Status::Refused, lines))
 }
 
 // A refusal, of which no event comes.
-fn refused(alloc: Global, status: Status, report: Vec<u8>) -> Result<Told, Memory>
-    ensures { IfOk result (λ told. answer_in told ≡ refusal status report.items) }
+fn refused(alloc: Global, status: Status, report: Vec<u8>) -> Told
+    ensures { answer_in result ≡ refusal status report.items }
 {
-    Ok(Told {
+    Told {
         status,
         output: Vec::new(alloc),
         report,
-    })
+    }
 }
 
 // The sum of the results of made lines. `Memory`: want of memory.

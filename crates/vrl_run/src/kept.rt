@@ -1,4 +1,4 @@
-ghost use Rattle.std.specs.Prelude.{◌≡◌, ℕ, List, [], ◌∷◌, length, map, IfOk, IsTrue};
+ghost use Rattle.std.specs.Prelude.{◌≡◌, ℕ, false, List, [], ◌∷◌, length, map, IfOk, IsOk, IsTrue};
 ghost use Rattle.vrl_value.specs.Regexes.{items_regexes_below, regexes_below};
 ghost use Rattle.vrl_value.specs.Tree.{Tree};
 ghost use Rattle.vrl_value.specs.View.{items_view, tree_of};
@@ -93,7 +93,8 @@ fn kept_items(alloc: Global, sources: &Names, events: &[Value]) -> Result<Kept, 
 
 // The event as it was read, if it is kept: the bytes of the line are read again. `Memory`: want of memory.
 fn kept_as_read(alloc: Global, sources: &Names, keep: bool, line: &Line) -> Result<Kept, Memory>
-    ensures { IfOk result (λ kept. (read : Tree) → reading_of line.now.bytes ≡ whole read → AreLinesOf sources.now (kept_if keep read) kept) }
+    ensures read { IfOk result (λ kept. (read : Tree) → reading_of line.now.bytes ≡ whole read → AreLinesOf sources.now (kept_if keep read) kept) }
+    ensures dropped { keep ≡ false → IsOk result }
 {
     if !keep {
         return Ok(nothing(alloc));

@@ -1,4 +1,4 @@
-ghost use Rattle.std.specs.Prelude.{◌≡◌, ◌⊎◌, ℕ, ℤ, List, IfOk};
+ghost use Rattle.std.specs.Prelude.{◌≡◌, ◌≢◌, ◌⊎◌, ℕ, ℤ, List, IfOk, IsOk};
 ghost use Rattle.vrl_io.specs.Faults.{HasRisen};
 ghost use Rattle.vrl_batch.specs.Sinks.{Appends, AppendsFront};
 ghost use Rattle.vrl_run.specs.Answer.{answer_to};
@@ -33,6 +33,8 @@ pub(crate) fn write_told<O: Sink, E: Sink>(
         ⊎ HasRisen (E.faults report.old) (E.faults report.new) }
     ensures write_told { (result ≡ Status.WriteFault)
         ⊎ ((O.faults output.new ≡ O.faults output.old) × (E.faults report.new ≡ E.faults report.old)) }
+    // Writing takes no memory.
+    ensures ready { IsOk told.now → result ≢ Status.Memory }
 {
     match told {
         Ok(told) => write_answer(told.status, &told.output, &told.report, output, report),
