@@ -53,10 +53,10 @@ fn appended_kind(alloc: Global, arrays: &Kind, others: &Kind, parts: &Kind) -> R
     ensures { IfOk result (λ kind. SameSets (tags_at kind) (appended_at (list_tree arrays.now) (list_tree others.now) (tags_at parts.now))) }
 {
     let Some((places, rest)) = list_part(arrays) else {
-        return Kind::never(alloc);
+        return Ok(Kind::never());
     };
     let Some((more, behind)) = list_part(others) else {
-        return Kind::never(alloc);
+        return Ok(Kind::never());
     };
     if both_known(places.as_slice(), rest, more.as_slice(), behind) {
         exact(alloc, places.as_slice(), more.as_slice())
@@ -78,10 +78,10 @@ fn given_kind(alloc: Global, given: &Givens) -> Result<Kind, Memory>
     ensures { IfOk result (λ kind. SameSets (tags_at kind) (append_kind (kind_at 0 (givens_of given.now)) (kind_at 1 (givens_of given.now)))) }
 {
     let Some(arrays) = given.kind(0) else {
-        return Kind::never(alloc);
+        return Ok(Kind::never());
     };
     let Some(others) = given.kind(1) else {
-        return Kind::never(alloc);
+        return Ok(Kind::never());
     };
     joined_kind(alloc, arrays, others)
 }

@@ -54,7 +54,7 @@ fn pushed_kind(alloc: Global, arrays: &Kind, item: &Kind) -> Result<Kind, Memory
     ensures { IfOk result (λ kind. SameSets (tags_at kind) (pushed_at (list_tree arrays.now) item.now)) }
 {
     match list_part(arrays) {
-        None => Kind::never(alloc),
+        None => Ok(Kind::never()),
         Some((places, rest)) => longer_kind(alloc, places.as_slice(), rest, item),
     }
 }
@@ -64,10 +64,10 @@ fn given_kind(alloc: Global, given: &Givens) -> Result<Kind, Memory>
     ensures { IfOk result (λ kind. SameSets (tags_at kind) (push_kind (kind_at 0 (givens_of given.now)) (kind_at 1 (givens_of given.now)))) }
 {
     let Some(arrays) = given.kind(0) else {
-        return Kind::never(alloc);
+        return Ok(Kind::never());
     };
     let Some(item) = given.kind(1) else {
-        return Kind::never(alloc);
+        return Ok(Kind::never());
     };
     pushed_kind(alloc, arrays, item)
 }

@@ -82,7 +82,7 @@ impl Builtin for Get {
         _given: &Givens,
         _patterns: &Patterns,
     ) -> Result<Kind, Memory> {
-        Kind::any(alloc)
+        Ok(Kind::any(alloc))
     }
 
     fn may_fail(&self, given: &Givens) -> bool {

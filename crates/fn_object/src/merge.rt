@@ -119,10 +119,10 @@ fn put_over(alloc: Global, to: &Kind, from: &Kind) -> Result<Kind, Memory>
     ensures { IfOk result (λ kind. SameSets (tags_at kind) (overlaid_kind (Some to.now) (Some from.now))) }
 {
     if !has(to, Tag::Object) {
-        return Kind::never(alloc);
+        return Ok(Kind::never());
     }
     if !has(from, Tag::Object) {
-        return Kind::never(alloc);
+        return Ok(Kind::never());
     }
     overlaid(alloc, to, from)
 }
@@ -132,10 +132,10 @@ fn shallow_kind(alloc: Global, given: &Givens) -> Result<Kind, Memory>
     ensures { IfOk result (λ kind. SameSets (tags_at kind) (overlaid_kind (kind_at 0 (givens_of given.now)) (kind_at 1 (givens_of given.now)))) }
 {
     let Some(to) = given.kind(0) else {
-        return Kind::never(alloc);
+        return Ok(Kind::never());
     };
     let Some(from) = given.kind(1) else {
-        return Kind::never(alloc);
+        return Ok(Kind::never());
     };
     put_over(alloc, to, from)
 }

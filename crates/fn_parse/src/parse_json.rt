@@ -53,7 +53,7 @@ impl Builtin for ParseJson {
         _given: &Givens,
         _patterns: &Patterns,
     ) -> Result<Kind, Memory> {
-        Kind::json(alloc)
+        Ok(Kind::json(alloc))
     }
 
     fn may_fail(&self, _given: &Givens) -> bool {

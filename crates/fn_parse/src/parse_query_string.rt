@@ -102,7 +102,7 @@ fn query(alloc: Global, text: &str) -> Result<Value, Memory>
 fn values_kind(alloc: Global) -> Result<Kind, Memory>
     ensures { IfOk result (λ kind. SameSets (tags_at kind) values_at) }
 {
-    let text = Kind::of(alloc, Tag::Text)?;
+    let text = Kind::of(alloc, Tag::Text);
     let texts = array_of_tag(alloc, Tag::Text)?;
     join(alloc, &text, &texts)
 }

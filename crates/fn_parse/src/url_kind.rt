@@ -29,7 +29,7 @@ fn kind_of(alloc: Global, part: Part) -> Result<Kind, Memory>
     ensures { IfOk result (λ kind. SameSets (tags_at kind) (sets_of part)) }
 {
     match part {
-        Part::Text => Kind::of(alloc, Tag::Text),
+        Part::Text => Ok(Kind::of(alloc, Tag::Text)),
         Part::TextOrNull => either_tag(alloc, Tag::Text, Tag::Null),
         Part::NumberOrNull => either_tag(alloc, Tag::Int, Tag::Null),
         Part::Texts => object_of_tag(alloc, Tag::Text),

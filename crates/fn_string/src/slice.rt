@@ -154,14 +154,14 @@ fn answer(alloc: Global, value: &Value, start: i64, end: Option<i64>) -> Applied
 
 // ---- the kind
 
-// A text, where the kind allows one. `Memory`: want of memory.
-fn text_kind(alloc: Global, kind: &Kind) -> Result<Kind, Memory>
-    ensures { IfOk result (λ texts. SameSets (tags_at texts) (text_kind kind.now)) }
+// A text, where the kind allows one.
+fn text_kind(alloc: Global, kind: &Kind) -> Kind
+    ensures { SameSets (tags_at result) (text_kind kind.now) }
 {
     if has(kind, Tag::Text) {
         Kind::of(alloc, Tag::Text)
     } else {
-        Kind::never(alloc)
+        Kind::never()
     }
 }
 
@@ -172,7 +172,7 @@ fn array_kind(alloc: Global, kind: &Kind) -> Result<Kind, Memory>
     if has(kind, Tag::List) {
         array_of(alloc, parts(alloc, kind)?)
     } else {
-        Kind::never(alloc)
+        Ok(Kind::never())
     }
 }
 
@@ -180,7 +180,7 @@ fn array_kind(alloc: Global, kind: &Kind) -> Result<Kind, Memory>
 fn slice_kind(alloc: Global, kind: &Kind) -> Result<Kind, Memory>
     ensures { IfOk result (λ both. SameSets (tags_at both) (slice_kind (Some kind.now))) }
 {
-    let texts = text_kind(alloc, kind)?;
+    let texts = text_kind(alloc, kind);
     let arrays = array_kind(alloc, kind)?;
     join(alloc, &texts, &arrays)
 }
@@ -208,7 +208,7 @@ impl Builtin for Slice {
     ) -> Result<Kind, Memory> {
         match given.kind(0) {
             Some(kind) => slice_kind(alloc, kind),
-            None => Kind::never(alloc),
+            None => Ok(Kind::never()),
         }
     }
 

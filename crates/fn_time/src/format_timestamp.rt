@@ -66,7 +66,7 @@ impl Builtin for FormatTimestamp {
         _given: &Givens,
         _patterns: &Patterns,
     ) -> Result<Kind, Memory> {
-        Kind::of(alloc, Tag::Text)
+        Ok(Kind::of(alloc, Tag::Text))
     }
 
     fn may_fail(&self, _given: &Givens) -> bool {

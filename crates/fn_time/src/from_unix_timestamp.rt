@@ -53,7 +53,7 @@ impl Builtin for FromUnixTimestamp {
         _given: &Givens,
         _patterns: &Patterns,
     ) -> Result<Kind, Memory> {
-        Kind::of(alloc, Tag::Time)
+        Ok(Kind::of(alloc, Tag::Time))
     }
 
     fn may_fail(&self, _given: &Givens) -> bool {

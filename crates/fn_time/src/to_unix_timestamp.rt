@@ -66,7 +66,7 @@ impl Builtin for ToUnixTimestamp {
         _given: &Givens,
         _patterns: &Patterns,
     ) -> Result<Kind, Memory> {
-        Kind::of(alloc, Tag::Int)
+        Ok(Kind::of(alloc, Tag::Int))
     }
 
     fn may_fail(&self, given: &Givens) -> bool {

@@ -85,9 +85,9 @@ fn given_of(alloc: Global, part: &str) -> Result<Given, Memory>
 {
     let kind = match part {
         "" => None,
-        "any" => Some(Kind::any(alloc)?),
-        "integer" => Some(Kind::of(alloc, Tag::Int)?),
-        "string" => Some(Kind::of(alloc, Tag::Text)?),
+        "any" => Some(Kind::any(alloc)),
+        "integer" => Some(Kind::of(alloc, Tag::Int)),
+        "string" => Some(Kind::of(alloc, Tag::Text)),
         _ => return literal_of(alloc, part),
     };
     Ok(Given {

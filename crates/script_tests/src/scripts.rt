@@ -13,7 +13,7 @@ use vrl_value::Memory;
 fn diagnostics_of(alloc: Global, text: &str) -> Result<Diagnostics, Memory>
     requires { length text.now ≤ 65536 }
 {
-    match compile(alloc, text, &Kind::any(alloc)?)? {
+    match compile(alloc, text, &Kind::any(alloc))? {
         Compiled::Accepted(accepted) => {
             let judged = accepted.judged;
             Ok(judged.diagnostics)
@@ -42,7 +42,7 @@ fn expect_codes(
 fn is_accepted(alloc: Global, text: &str) -> Result<bool, Memory>
     requires { length text.now ≤ 65536 }
 {
-    match compile(alloc, text, &Kind::any(alloc)?)? {
+    match compile(alloc, text, &Kind::any(alloc))? {
         Compiled::Accepted(accepted) => Ok(accepted.judged.diagnostics.as_slice().is_empty()),
         Compiled::Refused(_) => Ok(false),
     }
@@ -153,7 +153,7 @@ fn shared(program: Program) -> Program {
 #[test]
 fn an_accepted_script_is_told_whole(rt: HostRuntime) -> Result<(), Memory> {
     let alloc = rt.alloc();
-    let declared = Kind::any(alloc)?;
+    let declared = Kind::any(alloc);
     let Compiled::Accepted(accepted) = compile(alloc, ".x = .y ?? r'a'", &declared)? else {
         panic!(rt; "refused");
     };

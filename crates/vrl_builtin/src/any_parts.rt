@@ -16,7 +16,7 @@ use vrl_value::{Memory, Tag};
 pub fn any_of(alloc: Global, tags: &Tags) -> Result<Kind, Memory>
     ensures { IfOk result (λ kind. SameSets (tags_at kind) (any_of tags.now)) }
 {
-    let any = Kind::any(alloc)?;
+    let any = Kind::any(alloc);
     cut_down(alloc, &any, tags)
 }
 

@@ -58,7 +58,7 @@ impl Givens {
     {
         match self.kind(place) {
             Some(kind) => cut_down(alloc, kind, tags),
-            None => Kind::never(alloc),
+            None => Ok(Kind::never()),
         }
     }
 

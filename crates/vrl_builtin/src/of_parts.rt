@@ -36,7 +36,7 @@ pub fn object_of(alloc: Global, kind: Kind) -> Result<Kind, Memory>
 pub fn array_of_tag(alloc: Global, tag: Tag) -> Result<Kind, Memory>
     ensures { IfOk result (λ all. SameSets (tags_at all) (array_of (only_at tag))) }
 {
-    let part = Kind::of(alloc, tag)?;
+    let part = Kind::of(alloc, tag);
     array_of(alloc, part)
 }
 
@@ -44,7 +44,7 @@ pub fn array_of_tag(alloc: Global, tag: Tag) -> Result<Kind, Memory>
 pub fn object_of_tag(alloc: Global, tag: Tag) -> Result<Kind, Memory>
     ensures { IfOk result (λ all. SameSets (tags_at all) (object_of (only_at tag))) }
 {
-    let part = Kind::of(alloc, tag)?;
+    let part = Kind::of(alloc, tag);
     object_of(alloc, part)
 }
 
@@ -52,7 +52,7 @@ pub fn object_of_tag(alloc: Global, tag: Tag) -> Result<Kind, Memory>
 pub fn either_tag(alloc: Global, first: Tag, second: Tag) -> Result<Kind, Memory>
     ensures { IfOk result (λ both. SameSets (tags_at both) (either (only_at first) (only_at second))) }
 {
-    let one = Kind::of(alloc, first)?;
-    let other = Kind::of(alloc, second)?;
+    let one = Kind::of(alloc, first);
+    let other = Kind::of(alloc, second);
     join(alloc, &one, &other)
 }

@@ -70,7 +70,7 @@ impl<F: OneTag> Builtin for F {
         _given: &Givens,
         _patterns: &Patterns,
     ) -> Result<Kind, Memory> {
-        Kind::of(alloc, self.tag())
+        Ok(Kind::of(alloc, self.tag()))
     }
 
     fn may_fail(&self, given: &Givens) -> bool {

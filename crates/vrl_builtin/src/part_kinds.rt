@@ -27,7 +27,7 @@ impl Givens {
     {
         match self.kind(place) {
             Some(kind) => array_parts(alloc, kind),
-            None => Kind::never(alloc),
+            None => Ok(Kind::never()),
         }
     }
 

@@ -118,7 +118,7 @@ fn known_at(branch: &Option<Branch>) -> Result<Known, Memory>
 fn dead(alloc: Global) -> Result<State, Memory>
     ensures { IfOk result (λ state. state ≡ outside None) }
 {
-    let mut state = State::start(alloc, &Kind::never(alloc)?)?;
+    let mut state = State::start(alloc, &Kind::never())?;
     state.kill();
     Ok(state)
 }
@@ -153,7 +153,7 @@ pub fn ending(alloc: Global, judged: &Judged) -> Result<Ending, Memory>
     state.join(&judged.ok)?;
     match &judged.ret {
         None => {
-            let kind = either(alloc, &judged.kind, &Kind::never(alloc)?)?;
+            let kind = either(alloc, &judged.kind, &Kind::never())?;
             end(alloc, state, kind)
         }
         Some(ret) => {

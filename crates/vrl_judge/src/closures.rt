@@ -34,8 +34,8 @@ pub fn key_kind(alloc: Global, collection: &Kind) -> Result<SharedKind, Memory>
     ensures kind { IfOk result (IsCutOf (scalars_at (key_tags collection.now))) }
     ensures root { IfOk result IsRootKind }
 {
-    let text = kind_where(alloc, has(collection, Tag::Object), Tag::Text)?;
-    let integer = kind_where(alloc, has(collection, Tag::List), Tag::Int)?;
+    let text = kind_where(alloc, has(collection, Tag::Object), Tag::Text);
+    let integer = kind_where(alloc, has(collection, Tag::List), Tag::Int);
     either(alloc, &text, &integer)
 }
 
@@ -76,12 +76,12 @@ fn whole_kind(alloc: Global, form: CallForm, collection: &Kind, body: &Kind) -> 
     ensures { IfOk result (λ kind. SameSets (tags_at kind) (call_at form collection.now body.now)) }
 {
     match form {
-        CallForm::ForEach => Kind::of(alloc, Tag::Null),
+        CallForm::ForEach => Ok(Kind::of(alloc, Tag::Null)),
         CallForm::Filter => filtered(alloc, collection),
         CallForm::MapValues => mapped(alloc, collection, body),
         CallForm::MapKeys => renamed(alloc, collection),
-        CallForm::Del => Kind::never(alloc),
-        CallForm::Exists => Kind::never(alloc),
+        CallForm::Del => Ok(Kind::never()),
+        CallForm::Exists => Ok(Kind::never()),
     }
 }
 
@@ -199,7 +199,7 @@ fn mapped_part(alloc: Global, part: &Kind, body: &Kind) -> Result<Kind, Memory>
     ensures { IfOk result (λ kind. SameSets (tags_at kind) (put_part body.now part.now)) }
 {
     if has_alone(part, Tag::Absent) {
-        return Kind::of(alloc, Tag::Absent);
+        return Ok(Kind::of(alloc, Tag::Absent));
     }
     let kind = body.copy(alloc)?;
     if has(part, Tag::Absent) {

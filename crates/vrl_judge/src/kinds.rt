@@ -74,7 +74,7 @@ pub fn scalar(alloc: Global, tag: Tag) -> Result<SharedKind, Memory>
     requires { (same_tag tag tags.List || same_tag tag tags.Object) ≡ false }
     ensures { IfOk result (λ kind. IsScalar tag kind) }
 {
-    let kind = Kind::of(alloc, tag)?;
+    let kind = Kind::of(alloc, tag);
     kind_is_canonical(&kind);
     cut(alloc, kind)
 }

@@ -51,14 +51,14 @@ impl SharedKind {
     pub fn never(alloc: Global) -> Result<SharedKind, Memory>
         ensures tree { IfOk result (λ kind. kind ≡ never_kind) }
     {
-        SharedKind::new(alloc, Kind::never(alloc)?)
+        SharedKind::new(alloc, Kind::never())
     }
 
     /// The kind of every value, and of none. `Memory`: want of memory.
     pub fn any(alloc: Global) -> Result<SharedKind, Memory>
         ensures tree { IfOk result (λ kind. kind ≡ any_kind) }
     {
-        SharedKind::new(alloc, Kind::any(alloc)?)
+        SharedKind::new(alloc, Kind::any(alloc))
     }
 
     /// The kind.

@@ -102,9 +102,9 @@ impl Table {
     pub(crate) fn kind(self, alloc: Global, left: &Kind, right: &Kind) -> Result<SharedKind, Memory>
         ensures { IfOk result (λ kind. IsCutOf (scalars_at (table_tags (table_rule self) left.now right.now)) kind) }
     {
-        let text = kind_where(alloc, self.gives(left, right, Tag::Text), Tag::Text)?;
-        let integer = kind_where(alloc, self.gives(left, right, Tag::Int), Tag::Int)?;
-        let boolean = kind_where(alloc, self.gives(left, right, Tag::Bool), Tag::Bool)?;
+        let text = kind_where(alloc, self.gives(left, right, Tag::Text), Tag::Text);
+        let integer = kind_where(alloc, self.gives(left, right, Tag::Int), Tag::Int);
+        let boolean = kind_where(alloc, self.gives(left, right, Tag::Bool), Tag::Bool);
         let first = join(alloc, &text, &integer)?;
         let kind = join(alloc, &first, &boolean)?;
         kind_is_canonical(&kind);
@@ -112,15 +112,15 @@ impl Table {
     }
 }
 
-// The kind of a scalar's tag, or of no value. `Memory`: want of memory.
-pub(crate) fn kind_where(alloc: Global, given: bool, tag: Tag) -> Result<Kind, Memory>
+// The kind of a scalar's tag, or of no value.
+pub(crate) fn kind_where(alloc: Global, given: bool, tag: Tag) -> Kind
     requires { (same_tag tag tags.List || same_tag tag tags.Object) ≡ false }
-    ensures { IfOk result (λ kind. SameSets (tags_at kind) (scalars_at (only_where given tag))) }
+    ensures { SameSets (tags_at result) (scalars_at (only_where given tag)) }
 {
     if given {
         Kind::of(alloc, tag)
     } else {
-        Kind::never(alloc)
+        Kind::never()
     }
 }
 

@@ -47,7 +47,7 @@ impl Kind {
         ensures { IfOk result (λ kind. SameTags kind (with_list self.now (places_view places.items) (rest_of rest))) }
     {
         all_canonical(&places);
-        let own = rest.into_kind(alloc)?;
+        let own = rest.into_kind(alloc);
         let object = copy_object(alloc, Seen::of(self).object())?;
         Ok(Kind {
             scalars: self.scalars,
@@ -67,7 +67,7 @@ impl Kind {
     ) -> Result<Kind, Memory>
         ensures { IfOk result (λ kind. SameTags kind (with_object self.now (named_view fields.items) (rest_of rest))) }
     {
-        let own = rest.into_kind(alloc)?;
+        let own = rest.into_kind(alloc);
         let known = known_fields(alloc, fields, &own)?;
         let list = copy_list(alloc, Seen::of(self).list())?;
         Ok(Kind {

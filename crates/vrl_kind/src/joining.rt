@@ -35,7 +35,7 @@ pub fn parts(alloc: Global, kind: &Kind) -> Result<Kind, Memory>
     ensures { IfOk result (λ all. IsParts kind.now all) }
 {
     let seen = Seen::of(kind);
-    let places = with_places(alloc, Kind::never(alloc)?, seen.list())?;
+    let places = with_places(alloc, Kind::never(), seen.list())?;
     let all = with_fields(alloc, places, seen.object())?;
     Ok(with_either(all, false, false))
 }

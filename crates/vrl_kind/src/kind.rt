@@ -1,4 +1,4 @@
-ghost use Rattle.std.specs.Prelude.{◌≡◌, IfOk, MatchOption, Some, List, [], IsTrue};
+ghost use Rattle.std.specs.Prelude.{◌≡◌, MatchOption, Some, List, [], IsTrue};
 ghost use Rattle.vrl_value.specs.Look.{Step};
 ghost use Rattle.vrl_kind.specs.KindTree.{kind, no_list, no_object, no_places, no_fields, list_part as list_with, object_part as object_with};
 ghost use Rattle.vrl_kind.specs.Kinds.{tags_at, any_at, json_at, never_at, only_at, rest_at};
@@ -9,7 +9,7 @@ ghost use Rattle.vrl_kind.specs.View.{list_of, object_of, places_of, places_view
 use crate::scalars::Scalars;
 use std::alloc::Global;
 use std::marker::Model;
-use vrl_value::{Chars, Memory, Tag};
+use vrl_value::{Chars, Tag};
 
 /// A kind: which sorts of value may stand at each path, and where nothing may be there.
 ///
@@ -158,53 +158,52 @@ impl KindFields {
 }
 
 impl Kind {
-    /// The kind of no value. `Memory`: want of memory.
-    pub fn never(_alloc: Global) -> Result<Kind, Memory>
-        ensures tree { IfOk result (λ kind. kind ≡ never_kind) }
-        ensures tags { IfOk result (λ kind. (p : List Step) → tags_at kind p ≡ never_at p) }
+    /// The kind of no value.
+    pub fn never() -> Kind
+        ensures tree { result ≡ never_kind }
+        ensures tags { (p : List Step) → tags_at result p ≡ never_at p }
     {
-        Ok(Kind {
+        Kind {
             scalars: Scalars::NONE,
             list: None,
             object: None,
-        })
+        }
     }
 
-    /// The kind of every value. `Memory`: want of memory.
-    pub fn any(alloc: Global) -> Result<Kind, Memory>
-        ensures tree { IfOk result (λ kind. kind ≡ any_kind) }
-        ensures tags { IfOk result (λ kind. (p : List Step) → tags_at kind p ≡ any_at p) }
+    /// The kind of every value.
+    pub fn any(alloc: Global) -> Kind
+        ensures tree { result ≡ any_kind }
+        ensures tags { (p : List Step) → tags_at result p ≡ any_at p }
     {
-        Ok(Kind {
+        Kind {
             scalars: Scalars::ALL,
             list: Some(ListPart::of_rest(alloc, Rest::Any)),
             object: Some(ObjectPart::of_rest(alloc, Rest::Any)),
-        })
+        }
     }
 
     /// The kind of what JSON (RFC 8259) can hold: each value without timestamps and regexes in it.
-    /// `Memory`: want of memory.
-    pub fn json(alloc: Global) -> Result<Kind, Memory>
-        ensures tree { IfOk result (λ kind. kind ≡ json_kind) }
-        ensures tags { IfOk result (λ kind. (p : List Step) → tags_at kind p ≡ json_at p) }
+    pub fn json(alloc: Global) -> Kind
+        ensures tree { result ≡ json_kind }
+        ensures tags { (p : List Step) → tags_at result p ≡ json_at p }
     {
-        Ok(Kind {
+        Kind {
             scalars: Scalars::JSON,
             list: Some(ListPart::of_rest(alloc, Rest::Json)),
             object: Some(ObjectPart::of_rest(alloc, Rest::Json)),
-        })
+        }
     }
 
     /// The kind of the values with this tag: every array at `List`, every object at `Object`, and at
-    /// `Absent` the kind that allows only that nothing is there. `Memory`: want of memory.
-    pub fn of(alloc: Global, tag: Tag) -> Result<Kind, Memory>
-        ensures { IfOk result (λ kind. (p : List Step) → tags_at kind p ≡ only_at tag p) }
+    /// `Absent` the kind that allows only that nothing is there.
+    pub fn of(alloc: Global, tag: Tag) -> Kind
+        ensures { (p : List Step) → tags_at result p ≡ only_at tag p }
     {
-        Ok(Kind {
+        Kind {
             scalars: Scalars::only(tag),
             list: any_list(alloc, is_tag(tag, Tag::List)),
             object: any_object(alloc, is_tag(tag, Tag::Object)),
-        })
+        }
     }
 }
 

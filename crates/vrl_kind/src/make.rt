@@ -22,7 +22,7 @@ impl Kind {
     pub fn list(alloc: Global, places: Vec<Kind>, rest: Rest) -> Result<Kind, Memory>
         ensures { IfOk result (λ kind. SameTags kind (array_kind (places_view places.items) (rest_of rest))) }
     {
-        Kind::never(alloc)?.with_list(alloc, places, rest)
+        Kind::never().with_list(alloc, places, rest)
     }
 
     /// The kind of the objects with these kinds at these fields, of equal names the last, and this rest at
@@ -30,7 +30,7 @@ impl Kind {
     pub fn object(alloc: Global, fields: Vec<(Chars, Kind)>, rest: Rest) -> Result<Kind, Memory>
         ensures { IfOk result (λ kind. SameTags kind (object_kind (named_view fields.items) (rest_of rest))) }
     {
-        Kind::never(alloc)?.with_object(alloc, fields, rest)
+        Kind::never().with_object(alloc, fields, rest)
     }
 
     /// An equal kind. `Memory`: want of memory.
@@ -77,9 +77,9 @@ pub(crate) fn copy_part(alloc: Global, part: Part<'_>) -> Result<Kind, Memory>
     ensures { IfOk result (λ kind. kind ≡ bare_rest (part_rest part.entry)) }
 {
     match part {
-        Part::Nothing => Kind::never(alloc),
-        Part::Json => Kind::json(alloc),
-        Part::Any => Kind::any(alloc),
+        Part::Nothing => Ok(Kind::never()),
+        Part::Json => Ok(Kind::json(alloc)),
+        Part::Any => Ok(Kind::any(alloc)),
         Part::Exact(kind) => kind.copy(alloc),
     }
 }
@@ -167,22 +167,22 @@ impl Rest {
     pub fn kind(&self, alloc: Global) -> Result<Kind, Memory>
         ensures { IfOk result (λ kind. (p : List Step) → tags_at kind p ≡ rest_at (rest_of self.now) p) }
     {
-        self.copy(alloc)?.into_kind(alloc)
+        Ok(self.copy(alloc)?.into_kind(alloc))
     }
 
     // The same of a rest that is let go.
-    pub(crate) fn into_kind(self, alloc: Global) -> Result<Kind, Memory>
-        ensures tree { IfOk result (λ kind. kind ≡ rest_kind (rest_of self)) }
-        ensures canonical { IfOk result (λ kind. IsCanonical kind) }
+    pub(crate) fn into_kind(self, alloc: Global) -> Kind
+        ensures tree { result ≡ rest_kind (rest_of self) }
+        ensures canonical { IsCanonical result }
     {
         let mut kind = match self {
-            Rest::Nothing => Kind::never(alloc)?,
-            Rest::Json => Kind::json(alloc)?,
-            Rest::Any => Kind::any(alloc)?,
+            Rest::Nothing => Kind::never(),
+            Rest::Json => Kind::json(alloc),
+            Rest::Any => Kind::any(alloc),
             Rest::Exact(kind) => Box::into_inner(kind),
         };
         kind.scalars.absent = true;
-        Ok(kind)
+        kind
     }
 
     // The rest whose own kind this is.
@@ -193,13 +193,13 @@ impl Rest {
     {
         let mut bare = own;
         bare.scalars.absent = false;
-        if same(&bare, &Kind::never(alloc)?) {
+        if same(&bare, &Kind::never()) {
             return Ok(Rest::Nothing);
         }
-        if same(&bare, &Kind::json(alloc)?) {
+        if same(&bare, &Kind::json(alloc)) {
             return Ok(Rest::Json);
         }
-        if same(&bare, &Kind::any(alloc)?) {
+        if same(&bare, &Kind::any(alloc)) {
             return Ok(Rest::Any);
         }
         Ok(Rest::Exact(Box::new(alloc, bare)?))

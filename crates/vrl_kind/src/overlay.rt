@@ -27,7 +27,7 @@ pub fn overlaid(alloc: Global, left: &Kind, right: &Kind) -> Result<Kind, Memory
     ensures { IfOk result (λ kind. (p : List Step) (t : Tag) → tags_at kind p t ≡ overlaid_at left.now right.now p t) }
 {
     let (Some(lower), Some(upper)) = (Seen::of(left).object(), Seen::of(right).object()) else {
-        return Kind::never(alloc);
+        return Ok(Kind::never());
     };
     Ok(Kind {
         scalars: Scalars::NONE,

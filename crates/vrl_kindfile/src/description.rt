@@ -38,7 +38,7 @@ fn named_kind(alloc: Global, word: &str) -> Result<Kind, Refusal>
     ensures fault { IfErr result (IsRefusal (faults as_description (string word.now))) }
     ensures own { fits as_description (string word.now) ≡ false → IfErr result IsHere }
 {
-    match word_kind(alloc, word)? {
+    match word_kind(alloc, word) {
         Some(kind) => Ok(kind),
         None => Err(refused_here(alloc)),
     }

@@ -7,7 +7,7 @@ use crate::pointer::refused_here;
 use std::alloc::Global;
 use vrl_json::from_line;
 use vrl_kind::{Kind, LEVEL_LIMIT, NODE_LIMIT, kind_is_canonical, levels, nodes, within};
-use vrl_value::{Memory, Tag};
+use vrl_value::Tag;
 
 /// The most bytes of a kind file.
 pub const FILE_LIMIT: usize = 65536;
@@ -43,18 +43,18 @@ pub fn read_kind_file(alloc: Global, bytes: &[u8]) -> Result<Kind, KindFault>
     let value = from_line(alloc, bytes)?;
     let kind = description(alloc, &value)?;
     kind_is_canonical(&kind);
-    if !is_allowed(alloc, &kind)? {
+    if !is_allowed(alloc, &kind) {
         return Err(KindFault::from(refused_here(alloc)));
     }
     Ok(kind)
 }
 
 // Whether only objects are of the kind, and it is no larger than a kind may be.
-fn is_allowed(alloc: Global, kind: &Kind) -> Result<bool, Memory>
-    ensures { IfOk result (λ allowed. IsTrue allowed ↔ IsAllowed kind.now) }
+fn is_allowed(alloc: Global, kind: &Kind) -> bool
+    ensures { IsTrue result ↔ IsAllowed kind.now }
 {
     if nodes(kind) > NODE_LIMIT || levels(kind) > LEVEL_LIMIT {
-        return Ok(false);
+        return false;
     }
-    Ok(within(kind, &Kind::of(alloc, Tag::Object)?))
+    within(kind, &Kind::of(alloc, Tag::Object))
 }

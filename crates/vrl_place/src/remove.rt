@@ -101,7 +101,7 @@ fn remove_whole_field(alloc: Global, kind: &mut Kind, name: &Chars) -> Result<()
     ensures ok { OnOk result (SameSets (tags_at kind.new) (plain_remove (tags_at kind.old) (field name.now ∷ []))) }
     ensures err { OnErr result (kind.new ≡ kind.old) }
 {
-    let absent = Kind::of(alloc, Tag::Absent)?;
+    let absent = Kind::of(alloc, Tag::Absent);
     kind.put_field(alloc, name, absent)?;
     Ok(())
 }
@@ -208,7 +208,7 @@ fn remove_last_field(alloc: Global, spot: Spot<'_>, name: &Chars) -> Result<Kind
     ensures { IfOk result (λ kind. SameSets (tags_at kind) (plain_remove (spot_sets spot.entry) (field name.now ∷ []))) }
 {
     let fields = spot.fields();
-    let part = Kind::of(alloc, Tag::Absent)?;
+    let part = Kind::of(alloc, Tag::Absent);
     let known = fields.with(alloc, name, part, false)?;
     spot.with_object(alloc, known, fields.behind.rest(alloc)?)
 }

@@ -45,9 +45,9 @@ impl<'a> Bare<'a> {
         ensures { IfOk result (λ kind. SameSets (tags_at kind) (bare_sets self.entry)) }
     {
         match self {
-            Bare::Nothing => Kind::never(alloc),
-            Bare::Json => Kind::json(alloc),
-            Bare::Any => Kind::any(alloc),
+            Bare::Nothing => Ok(Kind::never()),
+            Bare::Json => Ok(Kind::json(alloc)),
+            Bare::Any => Ok(Kind::any(alloc)),
             Bare::Exact(kind) => kind.copy(alloc),
         }
     }
@@ -69,8 +69,8 @@ impl<'a> Bare<'a> {
     {
         match self {
             Bare::Nothing => Kind::list(alloc, places, rest),
-            Bare::Json => Kind::json(alloc)?.with_list(alloc, places, rest),
-            Bare::Any => Kind::any(alloc)?.with_list(alloc, places, rest),
+            Bare::Json => Kind::json(alloc).with_list(alloc, places, rest),
+            Bare::Any => Kind::any(alloc).with_list(alloc, places, rest),
             Bare::Exact(kind) => kind.with_list(alloc, places, rest),
         }
     }
@@ -86,8 +86,8 @@ impl<'a> Bare<'a> {
     {
         match self {
             Bare::Nothing => Kind::object(alloc, fields, rest),
-            Bare::Json => Kind::json(alloc)?.with_object(alloc, fields, rest),
-            Bare::Any => Kind::any(alloc)?.with_object(alloc, fields, rest),
+            Bare::Json => Kind::json(alloc).with_object(alloc, fields, rest),
+            Bare::Any => Kind::any(alloc).with_object(alloc, fields, rest),
             Bare::Exact(kind) => kind.with_object(alloc, fields, rest),
         }
     }

@@ -25,7 +25,7 @@ fn share(alloc: Global, kind: Kind) -> Result<Rc<Kind>, Memory>
 pub(crate) fn any(alloc: Global) -> Result<Rc<Kind>, Memory>
     ensures { IfOk result (λ kind. kind.value ≡ any_kind) }
 {
-    share(alloc, Kind::any(alloc)?)
+    share(alloc, Kind::any(alloc))
 }
 
 /// A kind, cut, to be shared. `Memory`: want of memory.

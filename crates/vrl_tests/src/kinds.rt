@@ -66,11 +66,11 @@ fn kind_of_text(alloc: Global, text: &str) -> Result<Kind, Memory> {
 // The kind of a word that tells no rest, or else that of a JSON value.
 fn kind_of_name(alloc: Global, word: &str) -> Result<Kind, Memory> {
     match word {
-        "never" => Kind::never(alloc),
-        "any" => Kind::any(alloc),
-        "json" => Kind::json(alloc),
+        "never" => Ok(Kind::never()),
+        "any" => Ok(Kind::any(alloc)),
+        "json" => Ok(Kind::json(alloc)),
         _ => match tag_of(word) {
-            Some(tag) => Kind::of(alloc, tag),
+            Some(tag) => Ok(Kind::of(alloc, tag)),
             None => kind_of_text(alloc, word),
         },
     }
@@ -85,7 +85,7 @@ fn list_around(alloc: Global, kind: Kind) -> Result<Kind, Memory> {
 
 // Arrays in one another, this many, around a number.
 fn nest(alloc: Global, depth: u64) -> Result<Kind, Memory> {
-    let mut kind = Kind::of(alloc, Tag::Int)?;
+    let mut kind = Kind::of(alloc, Tag::Int);
     for _level in 0..depth {
         kind = list_around(alloc, kind)?;
     }
@@ -102,7 +102,7 @@ fn object_with(alloc: Global, name: Chars, kind: Kind) -> Result<Kind, Memory> {
 // An object that lacks a field.
 fn object_lacking(alloc: Global, name: &str) -> Result<Kind, Memory> {
     let name = Chars::copy_of(alloc, name)?;
-    object_with(alloc, name, Kind::of(alloc, Tag::Absent)?)
+    object_with(alloc, name, Kind::of(alloc, Tag::Absent))
 }
 
 // The kind of a word, or else that of a JSON value.
@@ -127,7 +127,7 @@ fn join_word(alloc: Global, kind: &Kind, word: &str) -> Result<Kind, Memory> {
 
 // The join of the kinds of words, which stand between strokes.
 pub(crate) fn kind_of_words(alloc: Global, words: &str) -> Result<Kind, Memory> {
-    let mut kind = Kind::never(alloc)?;
+    let mut kind = Kind::never();
     for word in words.split('|') {
         kind = join_word(alloc, &kind, word)?;
     }
@@ -320,10 +320,10 @@ fn kinds_are_changed(rt: HostRuntime) -> Result<(), Memory> {
 // The objects of one kind with the fields of those of another put over their own, where both have some.
 fn objects_over(alloc: Global, lower: &Kind, upper: &Kind) -> Result<Kind, Memory> {
     if !has(lower, Tag::Object) {
-        return Kind::never(alloc);
+        return Ok(Kind::never());
     }
     if !has(upper, Tag::Object) {
-        return Kind::never(alloc);
+        return Ok(Kind::never());
     }
     overlaid(alloc, lower, upper)
 }

@@ -8,7 +8,7 @@ use Rattle.fn_parse.proofs.parse_query_string.values_kind.Goals as goal
 
 pub returns : goal.returns
 returns c =
-    let K = c.in_ok-text.text in
+    let K = c.of-text.result in
     let L = c.in_ok-texts.texts in
     let A = only_at tag.Text in
-    IfOk-weaker c.join.result _ _ (λ (kind : KindTree) joined. either_made K L kind A (array_of A) (same_sets (tags_at K) A c.in_ok-text.ensures) c.in_ok-texts.ensures joined) c.join.ensures.union
+    IfOk-weaker c.join.result _ _ (λ (kind : KindTree) joined. either_made K L kind A (array_of A) (same_sets (tags_at K) A c.of-text.ensures) c.in_ok-texts.ensures joined) c.join.ensures.union

@@ -6,6 +6,6 @@ use Rattle.vrl_builtin.proofs.of_parts.array_of_tag.Goals as goal
 
 pub returns : goal.returns
 returns c =
-    let part = c.in_ok-part.part in
+    let part = c.of-part.result in
     let A = only_at c.args.tag in
-    IfOk-weaker c.array_of.result _ _ (λ (all : KindTree) made. array_made (tags_at part) A all (same_sets (tags_at part) A c.in_ok-part.ensures) made) c.array_of.ensures
+    IfOk-weaker c.array_of.result _ _ (λ (all : KindTree) made. array_made (tags_at part) A all (same_sets (tags_at part) A c.of-part.ensures) made) c.array_of.ensures

@@ -10,7 +10,7 @@ returns-in_ok-kind-in-None c =
     let judged = c.args.judged.now in
     by_both c.end.result _ _ _
     (ended judged _ c.join.new.self.known c.join.new.self.known None c.in_ok-kind-in-None.kind c.requires.0 c.requires.1 (ap (λ s. s.known) c.in_ok-state.ensures) c.in_ok-join.ensures.known c.in-None.is (join_none c.join.new.self.known)
-    (subst (λ K. IsEither judged.kind K c.in_ok-kind-in-None.kind) c.in_ok-never-in-None.ensures.tree c.in_ok-kind-in-None.ensures))
+    (subst (λ K. IsEither judged.kind K c.in_ok-kind-in-None.kind) c.never.ensures.tree c.in_ok-kind-in-None.ensures))
     c.end.ensures.same c.end.ensures.roots
 
 pub returns-in_ok-kind-in-Some : goal.returns-in_ok-kind-in-Some

@@ -1,16 +1,11 @@
-use Rattle.std.proofs.Common.{◌≡◌, List, sym, ap, ◌∙◌}
-use Rattle.std.proofs.lemmas.Result.{IfOk-weaker}
-use Rattle.vrl_value.specs.Look.{Step}
-use Rattle.vrl_value.specs.declared.value.Tag.TheVariants as tag
-use Rattle.vrl_kind.specs.KindTree.{KindTree}
-use Rattle.vrl_kind.specs.Kinds.{only_at, or_absent, root_tags, tags_at}
+use Rattle.std.proofs.Common.{sym, ap, ◌∙◌}
+use Rattle.vrl_kind.specs.Kinds.{or_absent, root_tags, tags_at}
 use Rattle.vrl_judge.proofs.CollectionKinds.{part_gone, part_put, part_stays}
 use Rattle.vrl_judge.proofs.closures.mapped_part.Goals as goal
 
 pub returns-then-has_alone : goal.returns-then-has_alone
 returns-then-has_alone c =
-    IfOk-weaker c.of.result (λ (K : KindTree). (p : List Step) → tags_at K p ≡ only_at tag.Absent p) _
-    (λ K is. λ p t. ap (λ T. T t) (is p) ∙ part_gone (root_tags c.args.part.now) c.args.body.now (sym c.has_alone.ensures ∙ c.if-has_alone.true) p t) c.of.ensures
+    λ p t. ap (λ T. T t) (c.of.ensures p) ∙ part_gone (root_tags c.args.part.now) c.args.body.now (sym c.has_alone.ensures ∙ c.if-has_alone.true) p t
 
 pub returns-then-has : goal.returns-then-has
 returns-then-has c = λ p t.

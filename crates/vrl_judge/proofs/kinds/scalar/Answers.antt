@@ -6,6 +6,6 @@ use Rattle.vrl_judge.proofs.kinds.scalar.Goals as goal
 
 pub returns : goal.returns
 returns c =
-    IfOk-weaker c.cut.result (λ M. IsCut c.in_ok-kind.kind M) _
-    (λ M cut. record { whole = c.in_ok-kind.kind; canonical = c.kind_is_canonical.ensures; tags = λ p t. ap (λ T. T t) (c.in_ok-kind.ensures p) ∙ scalar_sets c.args.tag c.requires p t; cut = cut })
+    IfOk-weaker c.cut.result (λ M. IsCut c.of-kind.result M) _
+    (λ M cut. record { whole = c.of-kind.result; canonical = c.kind_is_canonical.ensures; tags = λ p t. ap (λ T. T t) (c.of-kind.ensures p) ∙ scalar_sets c.args.tag c.requires p t; cut = cut })
     c.cut.ensures.cases

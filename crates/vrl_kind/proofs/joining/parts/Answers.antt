@@ -7,4 +7,4 @@ use Rattle.vrl_kind.proofs.joining.parts.Goals as goal
 pub returns : goal.returns
 returns c =
     subst (IsParts c.args.kind.now) (sym c.with_either.ensures.kind)
-    (all_parts _ _ _ _ _ _ c.in_ok-never.ensures.tree (c.list.ensures.tree ∙ ap list_tree c.of-seen.ensures.tree) (c.object.ensures.tree ∙ ap object_tree c.of-seen.ensures.tree) c.in_ok-places.ensures c.in_ok-all.ensures)
+    (all_parts _ _ _ _ _ _ c.never.ensures.tree (c.list.ensures.tree ∙ ap list_tree c.of-seen.ensures.tree) (c.object.ensures.tree ∙ ap object_tree c.of-seen.ensures.tree) c.in_ok-places.ensures c.in_ok-all.ensures)

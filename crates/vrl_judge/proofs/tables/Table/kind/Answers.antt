@@ -11,9 +11,9 @@ returns c =
       canonical = c.kind_is_canonical.ensures;
       tags = table_parts c.args.self c.args.left.now c.args.right.now
           c.gives.result c.gives-2.result c.gives-3.result
-          c.in_ok-text.text c.in_ok-integer.integer c.in_ok-boolean.boolean c.in_ok-first.first c.in_ok-kind.kind
+          c.kind_where-text.result c.kind_where-integer.result c.kind_where-boolean.result c.in_ok-first.first c.in_ok-kind.kind
           c.gives.ensures c.gives-2.ensures c.gives-3.ensures
-          c.in_ok-text.ensures c.in_ok-integer.ensures c.in_ok-boolean.ensures c.in_ok-first.ensures.union c.in_ok-kind.ensures.union;
+          c.kind_where-text.ensures c.kind_where-integer.ensures c.kind_where-boolean.ensures c.in_ok-first.ensures.union c.in_ok-kind.ensures.union;
       cut = cut;
     })
     c.cut.ensures.cases

@@ -1,4 +1,4 @@
 use Rattle.vrl_kind.proofs.kind.Kind.list.Goals as goal
 
 pub returns : goal.returns
-returns c = rw (c.in_ok-never.ensures.tree) at c.with_list.ensures
+returns c = rw (c.never.ensures.tree) at c.with_list.ensures

@@ -1,4 +1,4 @@
 use Rattle.vrl_kind.proofs.kind.Kind.object.Goals as goal
 
 pub returns : goal.returns
-returns c = rw (c.in_ok-never.ensures.tree) at c.with_object.ensures
+returns c = rw (c.never.ensures.tree) at c.with_object.ensures

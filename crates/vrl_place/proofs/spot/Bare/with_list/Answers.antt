@@ -7,14 +7,14 @@ use Rattle.vrl_place.specs.Inner.{bare_sets}
 use Rattle.vrl_place.proofs.Views.{list_over}
 use Rattle.vrl_place.proofs.spot.Bare.with_list.Goals as goal
 
-pub returns-in_ok-json-in-Json : goal.returns-in_ok-json-in-Json
-returns-in_ok-json-in-Json c = IfOk-weaker c.with_list.result (λ kind. SameTags kind (with_list c.in_ok-json-in-Json.field-0 (places_view c.args.places.items) (rest_of c.args.rest))) _
-    (λ kind made. list_over c.in_ok-json-in-Json.field-0 kind (bare_sets c.args.self) _ _ (λ p t. ap (λ T. T t) (c.in_ok-json-in-Json.ensures.tags p) ∙ ap (λ b. bare_sets b p t) (sym c.in-Json.is)) made)
+pub returns-in-Json : goal.returns-in-Json
+returns-in-Json c = IfOk-weaker c.with_list.result (λ kind. SameTags kind (with_list c.json.result (places_view c.args.places.items) (rest_of c.args.rest))) _
+    (λ kind made. list_over c.json.result kind (bare_sets c.args.self) _ _ (λ p t. ap (λ T. T t) (c.json.ensures.tags p) ∙ ap (λ b. bare_sets b p t) (sym c.in-Json.is)) made)
     c.with_list.ensures
 
-pub returns-in_ok-any-in-Any : goal.returns-in_ok-any-in-Any
-returns-in_ok-any-in-Any c = IfOk-weaker c.with_list-in-Any.result (λ kind. SameTags kind (with_list c.in_ok-any-in-Any.field-0 (places_view c.args.places.items) (rest_of c.args.rest))) _
-    (λ kind made. list_over c.in_ok-any-in-Any.field-0 kind (bare_sets c.args.self) _ _ (λ p t. ap (λ T. T t) (c.in_ok-any-in-Any.ensures.tags p) ∙ ap (λ b. bare_sets b p t) (sym c.in-Any.is)) made)
+pub returns-in-Any : goal.returns-in-Any
+returns-in-Any c = IfOk-weaker c.with_list-in-Any.result (λ kind. SameTags kind (with_list c.any.result (places_view c.args.places.items) (rest_of c.args.rest))) _
+    (λ kind made. list_over c.any.result kind (bare_sets c.args.self) _ _ (λ p t. ap (λ T. T t) (c.any.ensures.tags p) ∙ ap (λ b. bare_sets b p t) (sym c.in-Any.is)) made)
     c.with_list-in-Any.ensures
 
 pub returns-in-Exact : goal.returns-in-Exact
