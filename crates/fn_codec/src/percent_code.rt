@@ -1,4 +1,4 @@
-ghost use Rattle.std.specs.Prelude.{◌≡◌, codes, IfOk, string_bytes};
+ghost use Rattle.std.specs.Prelude.{codes};
 ghost use Rattle.fn_codec.specs.Percent.{percent_of, text_of_percent};
 
 use percent_encoding::{NON_ALPHANUMERIC, percent_decode, utf8_percent_encode};

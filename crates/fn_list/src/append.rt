@@ -1,7 +1,6 @@
 ghost use Rattle.std.specs.Prelude.{◌≡◌, ◌&&◌, IfOk, Some};
 ghost use Rattle.vrl_value.specs.View.{tree_of};
 ghost use Rattle.vrl_kind.specs.Canonical.{list_tree};
-ghost use Rattle.vrl_kind.specs.KindTree.{list_part as list_with};
 ghost use Rattle.vrl_kind.specs.Kinds.{tags_at};
 ghost use Rattle.vrl_kind.specs.Sets.{SameSets};
 ghost use Rattle.vrl_kind.specs.View.{places_view, rest_of};

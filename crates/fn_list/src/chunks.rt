@@ -5,7 +5,7 @@ ghost use Rattle.vrl_builtin.specs.Rows.{named};
 ghost use Rattle.vrl_builtin.specs.View.{Applies};
 ghost use Rattle.fn_list.specs.Chunks.{chunked, chunks_row, is_small, pieces_of};
 ghost use Rattle.fn_list.specs.ChunksLaw.{chunks-law};
-ghost use Rattle.fn_list.specs.Pieces.{all_pieces, last_piece, seen, with_character};
+ghost use Rattle.fn_list.specs.Pieces.{all_pieces, seen, with_character};
 
 use std::alloc::Global;
 use vrl_builtin::{

@@ -1,4 +1,4 @@
-ghost use Rattle.std.specs.Prelude.{◌≡◌, codes, map, option_map, unwrap_or};
+ghost use Rattle.std.specs.Prelude.{codes, map, option_map, unwrap_or};
 ghost use Rattle.vrl_value.specs.Tree.{null};
 ghost use Rattle.vrl_value.specs.View.{tree_of};
 ghost use Rattle.vrl_path.specs.Read.{read_at};

@@ -16,7 +16,7 @@ use vrl_builtin::{
 use vrl_kind::Kind;
 use vrl_path::{Path, remove};
 use vrl_pattern::Patterns;
-use vrl_value::{Memory, Tag, Value};
+use vrl_value::{Memory, Value};
 
 /// `remove(value: array or object, path: array)`: array of any or object of any, where the value's kind allows either. The value without what
 /// stands at the path, whose strings are fields and whose whole numbers are places; the places behind one that is removed move down. It always

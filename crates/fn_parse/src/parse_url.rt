@@ -1,4 +1,4 @@
-ghost use Rattle.std.specs.Prelude.{◌≡◌, None, [], codes, option_map, IfOk, OnOk};
+ghost use Rattle.std.specs.Prelude.{◌≡◌, None, codes, option_map, IfOk, OnOk};
 ghost use Rattle.url.specs.Parser.{parse_url, Gives, Parsed};
 ghost use Rattle.url.specs.Parts.{Parts};
 ghost use Rattle.vrl_value.specs.Tree.{no_members, object, put, string};

@@ -1,4 +1,3 @@
-ghost use Rattle.std.specs.Prelude.{◌≡◌};
 ghost use Rattle.fn_search.specs.Laws.{match-law};
 ghost use Rattle.fn_search.specs.Match.{match_row};
 

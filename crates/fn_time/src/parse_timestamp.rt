@@ -1,5 +1,4 @@
 ghost use Rattle.std.specs.Prelude.{◌≡◌};
-ghost use Rattle.vrl_value.specs.View.{tree_of};
 ghost use Rattle.fn_time.specs.Laws.{parse_timestamp-law};
 ghost use Rattle.fn_time.specs.ParseTimestamp.{parse_timestamp_row, reads_moments};
 

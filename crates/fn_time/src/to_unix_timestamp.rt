@@ -1,9 +1,7 @@
 ghost use Rattle.std.specs.Prelude.{◌≡◌, pos, false};
 ghost use Rattle.std.specs.Int.{int_div_euclid};
-ghost use Rattle.vrl_builtin.specs.Rows.{named};
-ghost use Rattle.vrl_builtin.specs.View.{Applies};
 ghost use Rattle.fn_time.specs.Laws.{to_unix_timestamp-law};
-ghost use Rattle.fn_time.specs.ToUnixTimestamp.{counted, is_out, to_unix_timestamp_row};
+ghost use Rattle.fn_time.specs.ToUnixTimestamp.{is_out, to_unix_timestamp_row};
 ghost use Rattle.fn_time.specs.Unit.{nanos_in};
 
 use crate::format_timestamp::moment_at;

@@ -1,8 +1,7 @@
 // Whether a call may be made: a function's contract asks it of its callers, and the rows here are only known when they run.
-ghost use Rattle.std.specs.Prelude.{map, option_map, is_some, IsTrue, ℕ, Bool};
+ghost use Rattle.std.specs.Prelude.{map, option_map, IsTrue, ℕ, Bool};
 ghost use Rattle.vrl_builtin.specs.Conditions.{AreArgumentsFrom, AreGivenFrom, IsArgument, IsGiven};
 ghost use Rattle.vrl_builtin.specs.View.{arguments_of, givens_of, parameter_row};
-ghost use Rattle.vrl_kind.specs.KindTree.{KindTree};
 ghost use Rattle.vrl_value.specs.Tree.{Tree};
 ghost use Rattle.vrl_value.specs.View.{tree_of};
 

@@ -1,5 +1,5 @@
 -- What a call comes to, by what it did.
-use Rattle.std.proofs.Common.{◌≡◌, ◌⊎◌, inl, inr, ℕ, ℤ, List, [], ◌∷◌, ◌++◌, Option, Some, None, IfSome, IsTrue, refl, sym, ap, subst, ◌∙◌}
+use Rattle.std.proofs.Common.{◌≡◌, ◌⊎◌, inl, inr, ℕ, ℤ, List, [], ◌∷◌, ◌++◌, Option, Some, None, IfSome, IsTrue, refl, sym, subst, ◌∙◌}
 use Rattle.vrl_token.specs.Reading.{IsNoScript}
 use Rattle.vrl_run.specs.Answer.{answer_to}
 use Rattle.vrl_run.specs.Devices.{Devices, IsAnswered, IsWhole}

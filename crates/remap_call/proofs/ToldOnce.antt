@@ -10,7 +10,7 @@ use Rattle.vrl_compile.proofs.StrictOrder.{no_diagnostic}
 use Rattle.vrl_compile.proofs.ToldOnce.{alone_once}
 use Rattle.vrl_run.specs.Request.{Request, bad_kind, bad_script, bad_words, map_lines, map_made, tell_kinds}
 use Rattle.remap_words.specs.Words.{Invocation}
-use Rattle.remap_call.specs.Request.{AreToldOnce, Asks, AsksByScript, IsAccepted, IsRefused, Texts, diagnostics_in, has_error, no_text}
+use Rattle.remap_call.specs.Request.{AreToldOnce, Asks, AsksByScript, IsAccepted, IsRefused, diagnostics_in, has_error, no_text}
 
 refused_once : DiagnosticsStandOnce → (name file : Option (List ℕ)) (text : List ℕ) (diagnostics : List Diagnostic) → IsRefused name file text diagnostics → StandOnce diagnostics
 refused_once once name file text diagnostics (no_text none is) = alone_once diagnostics (record { code = 1009; span = record { start = 0; end = 0 } }) is

@@ -1,4 +1,4 @@
-ghost use Rattle.std.specs.Prelude.{◌≡◌, ◌⊎◌, IfOk, None, Some, string_bytes};
+ghost use Rattle.std.specs.Prelude.{◌≡◌, ◌⊎◌};
 ghost use Rattle.vrl_io.specs.Faults.{HasRisen};
 ghost use Rattle.vrl_run.specs.Devices.{devices};
 ghost use Rattle.vrl_run.specs.Status.{IsAnswer, TellsRefusal};

@@ -1,4 +1,4 @@
-ghost use Rattle.std.specs.Prelude.{◌≡◌, ◌⊎◌, ⊤, None, IfErr, IfOk, IsSomeAnd, false};
+ghost use Rattle.std.specs.Prelude.{◌≡◌, ◌⊎◌, None, IfErr, IfOk, IsSomeAnd, false};
 ghost use Rattle.clap.specs.Words.{app_of, kind_of, with_rule};
 ghost use Rattle.remap_words.specs.Command.{AreMatchesOf, bare_app, flag_rule, option_rule};
 ghost use Rattle.remap_words.specs.Command.{remap_app, script_rule, with_flag_rules, with_value_rules};

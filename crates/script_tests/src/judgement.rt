@@ -10,7 +10,7 @@ use std::alloc::Global;
 use std::process::Abort;
 use vrl_check::{Judged, check, ending};
 use vrl_diag::{Diagnostic, render};
-use vrl_kind::{Kind, print};
+use vrl_kind::print;
 use vrl_parse::parse;
 use vrl_pattern::{BuildFault, Patterns};
 use vrl_state::{Known, RootKind};

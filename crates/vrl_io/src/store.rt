@@ -1,4 +1,4 @@
-ghost use Rattle.std.specs.Prelude.{◌≡◌, ◌≤◌, ℕ, List, [], ◌∷◌, ◌++◌, Option, Some, option_map, take, length, IfOk, IfSome, MatchResult};
+ghost use Rattle.std.specs.Prelude.{◌≡◌, ◌≤◌, ℕ, List, Option, Some, option_map, take, length, IfOk, IfSome, MatchResult};
 ghost use Rattle.vrl_io.specs.Faults.{failures_after};
 
 use crate::fault::LoadFault;

@@ -2,7 +2,6 @@ ghost use Rattle.std.specs.Prelude.{◌≡◌, IfOk, Some, List};
 ghost use Rattle.vrl_value.specs.Look.{Step};
 ghost use Rattle.vrl_value.specs.View.{tree_of, items_view, members_of};
 ghost use Rattle.vrl_value.specs.Tree.{array, object as vrl_object};
-ghost use Rattle.vrl_kind.specs.Canonical.{IsCanonical};
 ghost use Rattle.vrl_kind.specs.Inference.{IsKindOf, IsListOfValue, IsObjectOfValue};
 ghost use Rattle.vrl_kind.specs.Kinds.{found_at, tags_at, Inhabits};
 ghost use Rattle.vrl_kind.specs.View.{list_of, object_of};

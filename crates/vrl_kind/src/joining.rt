@@ -12,7 +12,7 @@ use crate::make::{copy_list, copy_object, copy_part, push_known};
 use crate::merge::Merge;
 use crate::seen::{Seen, SeenList, SeenObject};
 use std::alloc::Global;
-use vrl_value::{Chars, Memory, Tag};
+use vrl_value::{Chars, Memory};
 
 /// The kind of what is of either kind: at each path it allows what either allows there, and nothing else.
 /// It walks both kinds side by side, and a rest once for each part that the other kind knows in its place, so it takes

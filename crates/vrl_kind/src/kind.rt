@@ -1,8 +1,8 @@
-ghost use Rattle.std.specs.Prelude.{◌≡◌, MatchOption, Some, List, [], IsTrue};
+ghost use Rattle.std.specs.Prelude.{◌≡◌, MatchOption, Some, List, []};
 ghost use Rattle.vrl_value.specs.Look.{Step};
 ghost use Rattle.vrl_kind.specs.KindTree.{kind, no_list, no_object, no_places, no_fields, list_part as list_with, object_part as object_with};
-ghost use Rattle.vrl_kind.specs.Kinds.{tags_at, any_at, json_at, never_at, only_at, rest_at};
-ghost use Rattle.vrl_kind.specs.Canonical.{list_tree, object_tree, rest_kind, never_kind, any_kind, json_kind, list_if, object_if, IsCanonical};
+ghost use Rattle.vrl_kind.specs.Kinds.{tags_at, any_at, json_at, never_at, only_at};
+ghost use Rattle.vrl_kind.specs.Canonical.{list_tree, object_tree, never_kind, any_kind, json_kind, list_if, object_if, IsCanonical};
 ghost use Rattle.vrl_kind.specs.Tags.{same_tag};
 ghost use Rattle.vrl_kind.specs.View.{list_of, object_of, places_of, places_view, fields_of, fields_view, rest_of};
 

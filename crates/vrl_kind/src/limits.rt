@@ -16,18 +16,17 @@ pub const NODE_LIMIT: u64 = 1000;
 /// The most levels of a kind that `cut` leaves as it is.
 pub const LEVEL_LIMIT: u64 = 32;
 
-/// The kind with its outer tags, and with every value inside its arrays and objects. `Memory`: want of
-/// memory.
-pub fn flatten(alloc: Global, kind: &Kind) -> Result<Kind, Memory>
-    ensures tags { IfOk result (λ outer. (p : List Step) → tags_at outer p ≡ flat_at kind.now p) }
-    ensures tree { IfOk result (λ outer. outer ≡ flat kind.now) }
-    ensures within { IfOk result (λ outer. IsWithin kind.now outer) }
+/// The kind with its outer tags, and with every value inside its arrays and objects. It takes no memory.
+pub fn flatten(alloc: Global, kind: &Kind) -> Kind
+    ensures tags { (p : List Step) → tags_at result p ≡ flat_at kind.now p }
+    ensures tree { result ≡ flat kind.now }
+    ensures within { IsWithin kind.now result }
 {
-    Ok(Kind {
+    Kind {
         scalars: kind.scalars,
         list: any_list(alloc, kind.list.is_some()),
         object: any_object(alloc, kind.object.is_some()),
-    })
+    }
 }
 
 /// An equal kind, where it has at most `NODE_LIMIT` nodes and `LEVEL_LIMIT` levels; else the kind with its
@@ -41,7 +40,7 @@ pub fn cut(alloc: Global, kind: &Kind) -> Result<Kind, Memory>
     ensures inhabited { IfOk result (λ small. (value : Tree) → Inhabits value kind.now → Inhabits value small) }
 {
     if nodes(kind) > NODE_LIMIT || levels(kind) > LEVEL_LIMIT {
-        flatten(alloc, kind)
+        Ok(flatten(alloc, kind))
     } else {
         kind.copy(alloc)
     }

@@ -1,6 +1,6 @@
 ghost use Rattle.std.specs.Prelude.{◌≡◌, IfOk, IsTrue, OnOk, Some, true, List, take};
 ghost use Rattle.vrl_value.specs.Look.{Step};
-ghost use Rattle.vrl_kind.specs.Canonical.{IsBeforeFields, IsCanonical, ListIsCanonical, ObjectIsCanonical, PlacesAreCanonical, FieldsAreCanonical, RestIsCanonical, NoFieldIs, allows_absent, bare_rest, rest_kind, list_tree, object_tree};
+ghost use Rattle.vrl_kind.specs.Canonical.{IsBeforeFields, IsCanonical, PlacesAreCanonical, FieldsAreCanonical, RestIsCanonical, NoFieldIs, allows_absent, bare_rest, rest_kind};
 ghost use Rattle.vrl_kind.specs.Kinds.{SameTags, rest_at, tags_at, without_at};
 ghost use Rattle.vrl_kind.specs.Make.{AreKnown, SameFields, entries_view, list_unless, object_unless, IsListOf, IsObjectOf, IsTrimmed, IsKnownPushed, array_kind, object_kind, named_view};
 ghost use Rattle.vrl_kind.specs.Merge.{FieldsAreSorted};

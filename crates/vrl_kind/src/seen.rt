@@ -1,7 +1,7 @@
 ghost use Rattle.std.specs.Prelude.{◌≡◌, ◌+◌, ◌≤◌, option_map, unwrap_or};
-ghost use Rattle.vrl_kind.specs.Canonical.{ListIsCanonical, ObjectIsCanonical, scalars_of, list_tree, object_tree, rest_kind, place_or, field_or};
-ghost use Rattle.vrl_kind.specs.Count.{nodes, rest_nodes, list_nodes, object_nodes};
-ghost use Rattle.vrl_kind.specs.View.{rest_of, places_view, fields_view};
+ghost use Rattle.vrl_kind.specs.Canonical.{ListIsCanonical, ObjectIsCanonical, scalars_of, list_tree, object_tree, rest_kind, place_or};
+ghost use Rattle.vrl_kind.specs.Count.{nodes, rest_nodes};
+ghost use Rattle.vrl_kind.specs.View.{rest_of, places_view};
 ghost use Rattle.vrl_kind.specs.Seen.{seen_tree, part_rest, seen_list, seen_object, covers, some_exact, weight, list_weight, option_nodes};
 
 use crate::kind::{Kind, KindField, Rest};

@@ -1,4 +1,4 @@
-ghost use Rattle.std.specs.Prelude.{◌≡◌, ◌++◌, [], ◌∷◌, Some, IfOk, OnOk, encode_utf8_all, string_bytes};
+ghost use Rattle.std.specs.Prelude.{◌≡◌, ◌++◌, [], ◌∷◌, IfOk, OnOk, encode_utf8_all, string_bytes};
 ghost use Rattle.std.specs.List.{flat_map};
 ghost use Rattle.vrl_value.specs.Look.{field, place};
 ghost use Rattle.vrl_kindfile.specs.Pointer.{escaped, name_text, step_text};

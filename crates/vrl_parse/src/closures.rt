@@ -1,4 +1,4 @@
-ghost use Rattle.std.specs.Prelude.{◌<◌, ◌≤◌, IfErr, IfOk, OnOk, length};
+ghost use Rattle.std.specs.Prelude.{◌<◌, IfErr, IfOk, OnOk, length};
 ghost use Rattle.vrl_syntax.specs.View.{exprs_of};
 ghost use Rattle.vrl_parse.specs.Descent.{braces, closing, names as names_rule, program_of, refused, Runs, took};
 ghost use Rattle.vrl_parse.specs.FirstWords.{OnRefusal, words_left};

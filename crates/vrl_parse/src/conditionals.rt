@@ -1,4 +1,4 @@
-ghost use Rattle.std.specs.Prelude.{◌<◌, ◌≤◌, IfErr, IfOk, OnOk, length, option_map};
+ghost use Rattle.std.specs.Prelude.{◌<◌, IfErr, IfOk, OnOk, length, option_map};
 ghost use Rattle.vrl_syntax.specs.View.{arms_of, else_of, expr_of, exprs_of};
 ghost use Rattle.vrl_parse.specs.Descent.{an_if, arms as arms_rule, operand as operand_rule, operand_program, program_of, refused, Runs, took};
 ghost use Rattle.vrl_parse.specs.FirstWords.{OnRefusal, words_left};

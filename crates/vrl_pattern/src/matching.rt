@@ -1,4 +1,4 @@
-ghost use Rattle.std.specs.Prelude.{◌≡◌, ℕ, [], ◌∷◌, List, Some, All, IfOk, IfSome, MatchOption, length, map, option_map, string_bytes, take};
+ghost use Rattle.std.specs.Prelude.{◌≡◌, ℕ, [], ◌∷◌, List, Some, All, IfOk, IfSome, MatchOption, map, option_map, take};
 ghost use Rattle.std.specs.List.{range_with_len};
 ghost use Rattle.regex.specs.Locations.{location, location_count};
 ghost use Rattle.regex.specs.Patterns.{Match, find_all_str, span};

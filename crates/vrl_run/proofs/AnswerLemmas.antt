@@ -5,7 +5,7 @@ use Rattle.vrl_io.specs.Faults.{HasRisen}
 use Rattle.vrl_batch.specs.Sinks.{AppendsFront}
 use Rattle.vrl_run.specs.Answer.{answer_so_far, answer_to, status_if}
 use Rattle.vrl_run.specs.Devices.{Devices, IsAnswered, IsAsked, IsWithinLimit, devices}
-use Rattle.vrl_run.specs.Request.{IsSame, MayCome, ReadsLines, Request, ScriptRun, bad_kind, bad_script, bad_words, map_lines, map_made, tell_kinds}
+use Rattle.vrl_run.specs.Request.{IsSame, MayCome, ReadsLines, Request, bad_kind, bad_script, bad_words, map_lines, map_made, tell_kinds}
 use Rattle.vrl_run.specs.Status.{IsAnswer, IsFinished, IsInterrupted, meaning_of}
 use Rattle.vrl_run.specs.Writing.{IsWritten}
 use Rattle.vrl_run.specs.declared.status.Status.{Status}

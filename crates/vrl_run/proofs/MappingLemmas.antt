@@ -8,7 +8,7 @@ use Rattle.vrl_batch.specs.Limits.{input_limit}
 use Rattle.vrl_batch.specs.Lines.{event_lines, event_lines_from, line_at}
 use Rattle.vrl_batch.specs.Moments.{MovesOn, lines_at, lines_by}
 use Rattle.vrl_batch.specs.Reads.{ReadsBatch, StopsReading, Stream, Takes}
-use Rattle.vrl_batch.specs.Runs.{HasReadFront, HasReadWhole, RunsBegin, RunsEnd, RunsFront, RunsGoOn, RunsStop}
+use Rattle.vrl_batch.specs.Runs.{HasReadFront, RunsBegin, RunsEnd, RunsFront, RunsGoOn, RunsStop}
 use Rattle.vrl_batch.specs.Sinks.{Appends, AppendsFront}
 use Rattle.vrl_batch.specs.declared.line.Line.{Line}
 use Rattle.vrl_batch.specs.declared.work.LineOut.{LineOut}

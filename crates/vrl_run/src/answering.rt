@@ -1,7 +1,7 @@
 ghost use Rattle.std.specs.Prelude.{◌≡◌, ◌≤◌, IfOk};
 ghost use Rattle.vrl_run.specs.Answer.{refusal};
 ghost use Rattle.vrl_run.specs.Devices.{devices, IsAnswered};
-ghost use Rattle.vrl_run.specs.Request.{bad_kind, bad_script, bad_words, map_made, tell_kinds, request_of, run_of, IsReadyRequest, IsReadyScript, IsSame, MayCome};
+ghost use Rattle.vrl_run.specs.Request.{bad_kind, bad_script, bad_words, map_made, tell_kinds, request_of, run_of, IsReadyRequest, IsReadyScript, IsSame};
 ghost use Rattle.vrl_run.specs.Writing.{answer_in, IsTold};
 
 use crate::kinds::kind_lines;

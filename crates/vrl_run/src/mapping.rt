@@ -1,5 +1,4 @@
 ghost use Rattle.std.specs.Prelude.{◌≡◌, ◌⊎◌, ◌≤◌, ◌||◌, [], List, None, IfErr, IfOk, OnOk};
-ghost use Rattle.vrl_batch.specs.Limits.{input_limit};
 ghost use Rattle.vrl_batch.specs.Reads.{stream};
 ghost use Rattle.vrl_batch.specs.Sinks.{Appends, AppendsFront};
 ghost use Rattle.vrl_batch.specs.declared.line.Line.{Line};

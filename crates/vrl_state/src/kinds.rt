@@ -58,7 +58,7 @@ pub(crate) fn cut_copy(alloc: Global, kind: &Kind) -> Result<Rc<Kind>, Memory>
 pub(crate) fn flattened(alloc: Global, kind: &Rc<Kind>) -> Result<Rc<Kind>, Memory>
     ensures { IfOk result (λ outer. outer.value ≡ flat kind.now.value) }
 {
-    share(alloc, flatten(alloc, kind)?)
+    share(alloc, flatten(alloc, kind))
 }
 
 // Whether a kind is within another.

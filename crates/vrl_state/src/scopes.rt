@@ -2,7 +2,7 @@ ghost use Rattle.std.specs.Prelude.{◌≡◌, ◌∷◌, [], ℕ, IfOk, List, S
 ghost use Rattle.std.specs.FinMap as finite;
 ghost use Rattle.vrl_state.specs.Laws.{HideRootKinds};
 ghost use Rattle.vrl_state.specs.Merging.{IsFirstJoined};
-ghost use Rattle.vrl_state.specs.States.{hiding, scope_names, IsEachScopeJoined, IsHiding, IsRootKind, IsRootKindIf};
+ghost use Rattle.vrl_state.specs.States.{hiding, scope_names, IsEachScopeJoined, IsHiding, IsRootKindIf};
 ghost use Rattle.vrl_state.specs.View.{scope_of};
 
 use crate::variables::VariableKinds;

@@ -1,4 +1,4 @@
-ghost use Rattle.std.specs.Prelude.{◌≡◌, ◌++◌, ◌∷◌, [], ◌≤◌, ◌+◌, IfNone, IfOk, List, ℕ, max, string_bytes, option_map};
+ghost use Rattle.std.specs.Prelude.{◌≡◌, ◌++◌, ◌∷◌, [], ◌+◌, IfNone, IfOk, max, option_map};
 ghost use Rattle.vrl_state.specs.Ordered.{first_of, found, put_entry, rest_of, without_name, IsSorted, DifferByAtMost, IsHeightOf, IsHigher};
 ghost use Rattle.vrl_state.specs.EntryView.{entry_of};
 

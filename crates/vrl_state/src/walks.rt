@@ -1,5 +1,5 @@
 // Walks over the entries of a version.
-ghost use Rattle.std.specs.Prelude.{◌≡◌, ◌++◌, ◌∷◌, ◌↔◌, [], ℕ, IfOk, IsTrue, List, OnOk, Some, is_some, map, option_map};
+ghost use Rattle.std.specs.Prelude.{◌≡◌, ◌++◌, ◌∷◌, ◌↔◌, [], ℕ, IsTrue, List, OnOk, Some, is_some, map, option_map};
 ghost use Rattle.vrl_state.specs.EntryView.{entry_of};
 ghost use Rattle.vrl_state.specs.Known.{variable_kind};
 ghost use Rattle.std.specs.declared.cmp.Ordering.TheVariants.{Less, Greater};

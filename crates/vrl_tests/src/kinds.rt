@@ -167,7 +167,7 @@ fn changed(alloc: Global, change: Change, kind: &Kind) -> Result<Kind, Memory> {
     match change {
         Change::Nothing => kind.copy(alloc),
         Change::Parts => parts(alloc, kind),
-        Change::Flat => flatten(alloc, kind),
+        Change::Flat => Ok(flatten(alloc, kind)),
         Change::WithoutNull => without(alloc, kind, Tag::Null),
         Change::Cut => cut(alloc, kind),
     }

@@ -2,7 +2,7 @@ ghost use Rattle.std.specs.Prelude.{◌≡◌, ◌<◌, ◌^◌, ◌++◌, ◌�
 ghost use Rattle.std.specs.Int.{w64};
 ghost use Rattle.std.specs.Option.{SomeIff};
 ghost use Rattle.vrl_token.specs.Lexical.{BeginsInside, BeginsOutside, IsDigit};
-ghost use Rattle.vrl_token.specs.Numbers.{DigitsGoOn, IsDigits, IsExponent, IsFloat, IsFraction, IsDigitRun, IsNumber, decimal_value, signed};
+ghost use Rattle.vrl_token.specs.Numbers.{DigitsGoOn, IsDigits, IsExponent, IsFloat, IsFraction, IsDigitRun, decimal_value, signed};
 ghost use Rattle.vrl_token.specs.Numerals.{IsDigitsCut, NoPowerLetter, PowerLetter, PowerSign, value_with};
 
 use crate::scan::{Class, begins_in, split_run, strip_mark};

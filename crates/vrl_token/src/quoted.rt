@@ -1,4 +1,4 @@
-ghost use Rattle.std.specs.Prelude.{◌≡◌, ◌≢◌, ◌<◌, List, [], ◌∷◌, IfOk, MatchOption, length, string_bytes};
+ghost use Rattle.std.specs.Prelude.{◌≡◌, ◌≢◌, ◌<◌, List, [], ◌∷◌, IfOk, MatchOption, length};
 ghost use Rattle.std.specs.List.{AllByRecursion};
 ghost use Rattle.vrl_token.specs.Characters.{Character, IsEscape, IsKnown, IsUnclosed, escape_of, raw_of, text_of};
 ghost use Rattle.vrl_token.specs.Quoted.{IsClosedAt, IsCut, IsInner, RawPair};

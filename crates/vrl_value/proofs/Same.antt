@@ -1,7 +1,6 @@
 -- Arrays that are equal part by part.
 use Rattle.std.proofs.Common.{◌≡◌, ℕ, suc, ◌+◌, ◌<◌, ◌≤◌, ◌↔◌, IsTrue, false, true≢false, nat_eq, eqb-true, eq-eqb, List, [], ◌∷◌, length, get_or, drop, refl, sym, ap, ◌∙◌, arith}
 use Rattle.std.proofs.lemmas.List.{drop_all}
-use Rattle.vrl_value.specs.Tree.{item}
 use Rattle.vrl_value.specs.View.{items_of, items_view, tree_of}
 use Rattle.vrl_value.specs.declared.value.Value.{Value}
 use Rattle.vrl_value.specs.declared.value.Items.{Items, out-Items}

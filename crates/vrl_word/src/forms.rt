@@ -1,6 +1,6 @@
 // Expressions from their parts.
 ghost use Rattle.std.specs.Prelude.{◌≡◌, IfOk, None, Some, option_map};
-ghost use Rattle.vrl_syntax.specs.Tree.{abort_with, array as array_form, assign, binary, block as block_form, both as both_form, call as call_form, closure as closure_form, conditional as conditional_form, else_block, expr, group as group_form, literal as literal_form, merge as merge_form, message, negation as negation_form, no_closure, no_else, object as object_form, query, read as read_form, return_of, span_of};
+ghost use Rattle.vrl_syntax.specs.Tree.{abort_with, array as array_form, assign, binary, block as block_form, both as both_form, call as call_form, closure as closure_form, conditional as conditional_form, expr, group as group_form, literal as literal_form, merge as merge_form, message, negation as negation_form, no_closure, object as object_form, query, read as read_form, return_of, span_of};
 ghost use Rattle.vrl_syntax.specs.View.{arg_of, args_of, arm_of, arms_of, else_of, expr_of, exprs_of, message_of, pairs_of};
 ghost use Rattle.vrl_value.specs.View.{tree_of};
 ghost use Rattle.vrl_word.specs.Words.{name_span as name_place, over as place_over};

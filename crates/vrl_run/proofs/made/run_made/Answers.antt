@@ -3,7 +3,7 @@ use Rattle.std.proofs.Crossing.{crosses}
 use Rattle.std.proofs.MapsCrossing.{crosses as maps}
 use Rattle.vrl_resolve.proofs.Shared.{program_sync}
 use Rattle.vrl_run.proofs.Shared.{kind_sync, kind_field_sync}
-use Rattle.std.proofs.Common.{◌≡◌, ◌∙◌, ap, map, refl, rules, sym, true, []}
+use Rattle.std.proofs.Common.{◌∙◌, ap, map, rules, sym}
 use Rattle.vrl_generate.specs.Made.{made_lines}
 use Rattle.vrl_run.specs.Request.{run_of}
 use Rattle.vrl_run.proofs.MadeLemmas.{all_made, few_enough, is_made_to-batch, nothing_left}

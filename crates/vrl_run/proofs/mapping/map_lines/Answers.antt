@@ -1,6 +1,5 @@
-use Rattle.std.proofs.Common.{◌≡◌, ◌∙◌, Err, ap, inl, inr, refl, rules, subst, sym}
+use Rattle.std.proofs.Common.{◌≡◌, ◌∙◌, Err, ap, inl, inr, refl, rules}
 use Rattle.vrl_batch.specs.Sinks.{Appends}
-use Rattle.vrl_io.specs.Faults.{HasRisen}
 use Rattle.vrl_run.specs.Request.{run_of}
 use Rattle.vrl_run.specs.declared.status.Status.TheVariants as Status
 use Rattle.vrl_run.proofs.MappingLemmas.{of_err, of_ok, stopped_answered, warned_answered, whole_answered}

@@ -3,7 +3,7 @@ use Rattle.std.proofs.Crossing.{crosses}
 use Rattle.std.proofs.MapsCrossing.{crosses as maps}
 use Rattle.vrl_resolve.proofs.Shared.{program_sync}
 use Rattle.vrl_run.proofs.Shared.{kind_sync, kind_field_sync}
-use Rattle.std.proofs.Common.{◌∙◌, ap, map, rules}
+use Rattle.std.proofs.Common.{◌∙◌, ap, map}
 use Rattle.vrl_run.specs.Request.{run_of}
 use Rattle.vrl_run.proofs.MappingLemmas.{tells_more, wrote}
 use Rattle.vrl_run.proofs.mapping.map_next.Goals as goal

@@ -1,7 +1,6 @@
 use Rattle.std.proofs.Common.{ap, ◌∙◌}
 use Rattle.vrl_kind.specs.Canonical.{rest_kind}
 use Rattle.vrl_kind.specs.Kinds.{tags_at}
-use Rattle.vrl_kind.specs.View.{rest_of}
 use Rattle.vrl_kind.proofs.Known.{rest_tags}
 use Rattle.vrl_kind.proofs.kind.Rest.kind.Goals as goal
 

@@ -1,4 +1,4 @@
-use Rattle.std.proofs.Common.{◌≡◌, true, get_or, set, Some, option_map, rules, sym, ap, ◌∙◌, subst}
+use Rattle.std.proofs.Common.{◌≡◌, true, get_or, set, option_map, rules, sym, ap, ◌∙◌, subst}
 use Rattle.std.specs.Prelude.{IfSome}
 use Rattle.vrl_value.specs.View.{tree_of}
 use Rattle.vrl_store.specs.Kept.{trees_of, AreKept, IsShallow}

@@ -1,7 +1,5 @@
-use Rattle.std.proofs.Common.{◌≡◌, ◌<◌, length, ap, ◌∙◌, arith}
-use Rattle.vrl_store.specs.Kept.{is_numbered, trees_of}
-use Rattle.vrl_store.proofs.Left.{numbered_within, present_numbered}
-use Rattle.vrl_store.proofs.StoreReads.{length_map, seen, variable_given}
+use Rattle.std.proofs.Common.{ap, ◌∙◌}
+use Rattle.vrl_store.proofs.StoreReads.{seen, variable_given}
 use Rattle.vrl_store.proofs.Bound.{number_there, number_within}
 use Rattle.vrl_store.proofs.store.Store.give_back.Goals as goal
 
