@@ -7,7 +7,7 @@ ghost use Rattle.fn_parse.specs.JsonLaw.{parse_json-law};
 
 use std::alloc::Global;
 use vrl_builtin::{Applied, Arguments, Builtin, Givens, Parameter, Setting, Tags, fail, required};
-use vrl_json::{JsonFault, from_line};
+use vrl_json::{JsonFault, Scratch, from_line};
 use vrl_kind::Kind;
 use vrl_pattern::Patterns;
 use vrl_value::{Memory, Value};
@@ -24,7 +24,7 @@ static PARAMETERS: [Parameter; 1] = [required!("value", Tags::STRING)];
 fn parsed(alloc: Global, text: &str) -> Applied
     ensures { Applies (named (codes "parse_json") (answer_to (reading_of text.now))) result }
 {
-    match from_line(alloc, text.as_bytes()) {
+    match from_line(alloc, text.as_bytes(), &mut Scratch::new(alloc)) {
         Ok(value) => Applied::Value(value),
         Err(JsonFault::NotJson) => fail(alloc, "parse_json", "not JSON"),
         Err(JsonFault::NotWhole) => fail(alloc, "parse_json", "not whole numbers"),

@@ -10,7 +10,7 @@ use crate::fitting::{are_arguments, are_given};
 use std::alloc::Global;
 use std::process::Abort;
 use vrl_builtin::{Applied, Arguments, Given, Givens, Setting};
-use vrl_json::{JsonFault, from_line, json_needs_no_sources, lines_are_json};
+use vrl_json::{JsonFault, Scratch, from_line, json_needs_no_sources, lines_are_json};
 use vrl_kind::{Kind, kind_of, print};
 use vrl_pattern::Patterns;
 use vrl_table::{Fun, apply, lookup, may_fail, parameters, result_kind};
@@ -22,7 +22,7 @@ fn json_of(alloc: Global, text: &str) -> Result<Value, Memory>
 {
     lines_are_json();
     json_needs_no_sources();
-    match from_line(alloc, text.as_bytes()) {
+    match from_line(alloc, text.as_bytes(), &mut Scratch::new(alloc)) {
         Ok(value) => Ok(value),
         Err(JsonFault::Memory) => Err(Memory),
         Err(_fault) => Ok(Value::Null),

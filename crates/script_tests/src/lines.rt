@@ -7,6 +7,7 @@ use crate::running::{accepted, event_kind};
 use std::alloc::Global;
 use std::process::Abort;
 use vrl_batch::{Line, LineOut, Outcome};
+use vrl_json::Scratch;
 use vrl_kind::Kind;
 use vrl_resolve::Program;
 use vrl_run::{Options, run_line};
@@ -56,7 +57,15 @@ fn made_of(
 {
     let options = shareable(options_of(row.1));
     let line = shareable(line_of(alloc, row.2, row.3)?);
-    let made = run_line(alloc, program, sources, declared, &options, &line)?;
+    let made = run_line(
+        alloc,
+        program,
+        sources,
+        declared,
+        &options,
+        &line,
+        &mut Scratch::new(alloc),
+    )?;
     Ok(shareable(made))
 }
 

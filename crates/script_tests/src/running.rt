@@ -9,7 +9,9 @@ ghost use Rattle.vrl_run.specs.LineResult.{HandlesErrors};
 use std::alloc::Global;
 use std::process::Abort;
 use vrl_compile::{Accepted, Compiled, SCRIPT_LIMIT, compile};
-use vrl_json::{JsonFault, from_line, json_needs_no_sources, lines_are_json, lines_are_ordered};
+use vrl_json::{
+    JsonFault, Scratch, from_line, json_needs_no_sources, lines_are_json, lines_are_ordered,
+};
 use vrl_kind::{Kind, Rest, equal_tags_are_one_kind, inhabits, kind_is_canonical};
 use vrl_resolve::{Ended, Program, Ran, run};
 use vrl_value::{Chars, Fields, Memory, Moment, Value};
@@ -67,7 +69,7 @@ pub(crate) fn accepted(
 
 // A value of JSON; null where the text is none.
 pub(crate) fn json_of(alloc: Global, text: &str) -> Result<Value, Memory> {
-    match from_line(alloc, text.as_bytes()) {
+    match from_line(alloc, text.as_bytes(), &mut Scratch::new(alloc)) {
         Ok(value) => Ok(value),
         Err(JsonFault::Memory) => Err(Memory),
         Err(_fault) => Ok(Value::Null),
@@ -86,7 +88,7 @@ fn ran_over(
     lines_are_json();
     lines_are_ordered();
     json_needs_no_sources();
-    match from_line(alloc, event.as_bytes()) {
+    match from_line(alloc, event.as_bytes(), &mut Scratch::new(alloc)) {
         Ok(value) => {
             if inhabits(&value, declared) {
                 Ok(Some(run(alloc, program, value, Moment::epoch())?))

@@ -6,6 +6,7 @@ use crate::gate::Gate;
 use crate::line::Line;
 use crate::outs::Outs;
 use crate::work::Work;
+use json::Scratch;
 use std::alloc::Global;
 use std::thread;
 use std::thread::Threads;
@@ -61,10 +62,11 @@ fn chunk_outs<W: Work, G: Gate>(
     ensures { IfOk result (λ outs. outs ≡ map (W.makes work.now) chunk.now) }
 {
     let mut outs = Vec::with_capacity(alloc, chunk.len())?;
+    let mut scratch = Scratch::new(alloc);
     let mut place = start;
     for line in chunk {
         gate.pass(place);
-        outs.push(work.one(alloc, line)?)?;
+        outs.push(work.one(alloc, line, &mut scratch)?)?;
         place += 1;
     }
     Ok(Outs::new(outs))

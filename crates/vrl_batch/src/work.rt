@@ -1,4 +1,5 @@
 use crate::line::Line;
+use json::Scratch;
 use std::alloc::Global;
 use vrl_value::{Bytes, Memory};
 
@@ -37,7 +38,8 @@ pub trait Work {
     /// What it makes of a line.
     ghost makes: { Self → Line → LineOut };
 
-    /// What it makes of a line. `Memory`: want of memory.
-    fn one(&self, alloc: Global, line: &Line) -> Result<LineOut, Memory>
+    /// What it makes of a line. `scratch` is what reading JSON needs; a worker keeps one from line to line, and what is
+    /// made doesn't depend on its contents. `Memory`: want of memory.
+    fn one(&self, alloc: Global, line: &Line, scratch: &mut Scratch) -> Result<LineOut, Memory>
         ensures { IfOk result (λ out. out ≡ makes self.now line.now) };
 }

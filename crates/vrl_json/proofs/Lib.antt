@@ -3,6 +3,8 @@ pub mod Lines
 pub mod Members
 pub mod Ordered
 pub mod ReadBack
+pub mod Reading
 pub mod Shallow
 pub mod Sizes
+pub mod Turns
 pub mod Written

@@ -1,17 +1,16 @@
 -- The tree of a line, by what `serde_json` reads in it.
-use Rattle.std.proofs.Common.{◌≡◌, ℕ, ◌<◌, List, [], ◌∷◌, length, Bool, true, false, cond, Option, Some, None, option_map, refl, sym, ap, ◌∙◌, arith}
+use Rattle.std.proofs.Common.{◌≡◌, ℕ, List, Bool, true, false, cond, Option, Some, None, option_map, refl, sym, ap, ◌∙◌}
 use Rattle.std.specs.Str.{IsUtf8, is_utf8}
 use Rattle.std.proofs.lemmas.Str.{IsUtf8-from_is_utf8, is_utf8-from_IsUtf8}
 use Rattle.serde_json.specs.Data as json
 use Rattle.serde_json.specs.Read.{read}
-use Rattle.serde_json.proofs.OnLiterals.{serde_json_on_literals}
 use Rattle.vrl_value.specs.Tree.{Tree, Items, Members, array, object, is_json, items_are_json, members_are_json}
 use Rattle.vrl_json.proofs.Members.{parts_of}
 use Rattle.vrl_json.specs.Line.{json_of, whole_number, whole_tree, whole_items, whole_members, reading_of_tree, reading_of_json, reading_of, whole}
 
--- what was read is the JSON of the bytes
-pub json_of-read : (bytes : List ℕ) (d : json.Data) → IsUtf8 bytes → read bytes ≡ Some d → json_of bytes ≡ Some d
-json_of-read bytes d text is = rw (is_utf8-from_IsUtf8 bytes text) is
+-- bytes that are a text are read as it is
+pub reading_of-text : (bytes : List ℕ) → IsUtf8 bytes → reading_of bytes ≡ reading_of_json (read bytes)
+reading_of-text bytes text = rw (is_utf8-from_IsUtf8 bytes text) refl
 
 refused_at : (b : Bool) (o : Option json.Data) → (b ≡ true → o ≡ None) → cond b o None ≡ None
 refused_at true o none = none refl
@@ -20,18 +19,6 @@ refused_at false o none = refl
 -- bytes that are refused are the text of none
 pub json_of-refused : (bytes : List ℕ) → (IsUtf8 bytes → read bytes ≡ None) → json_of bytes ≡ None
 json_of-refused bytes none = refused_at (is_utf8 bytes) (read bytes) (λ text. none (IsUtf8-from_is_utf8 bytes text))
-
-empty_is_none : read [] ≡ None
-unfolding serde_json_on_literals
-empty_is_none = refl
-
-none_is_some : {d : json.Data} → None ≡ Some d → ⊥
-none_is_some is = absurd cc
-
--- the text of a JSON value has a byte
-pub some_byte : (bytes : List ℕ) (d : json.Data) → read bytes ≡ Some d → 0 < length bytes
-some_byte [] d is = absurd (none_is_some (sym empty_is_none ∙ is))
-some_byte (b ∷ bytes) d is = omega arith
 
 -- ---- what a line stands for is the tree of the JSON in it
 

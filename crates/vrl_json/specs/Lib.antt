@@ -1,4 +1,5 @@
 pub mod Faults
 pub mod Line
+pub mod Marked
 pub mod Tokens
 pub mod Held

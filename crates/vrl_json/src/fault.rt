@@ -1,3 +1,4 @@
+use json::Invalid;
 use std::error::Error;
 use std::fmt;
 use vrl_value::Memory;
@@ -41,19 +42,13 @@ impl From<Memory> for JsonFault {
     }
 }
 
-impl From<serde_json::Error> for JsonFault {
-    ghost use Rattle.std.specs.Prelude.{◌≡◌, ◌↔◌, ◌⊎◌};
-    ghost use Rattle.serde_json.specs.Errors.{IsMemory};
-    ghost use Rattle.vrl_json.specs.declared.fault.JsonFault.TheVariants.{Memory, NotJson};
+impl From<Invalid> for JsonFault {
+    ghost use Rattle.std.specs.Prelude.{◌≡◌};
+    ghost use Rattle.vrl_json.specs.declared.fault.JsonFault.{JsonFault};
 
-    ghost from_gives = { λ refused fault. ((fault ≡ Memory) ↔ IsMemory refused)
-        × ((fault ≡ Memory) ⊎ (fault ≡ NotJson)) };
+    ghost from_gives = { λ _ fault. fault ≡ JsonFault.NotJson };
 
-    fn from(refused: serde_json::Error) -> JsonFault {
-        if refused.is_memory() {
-            JsonFault::Memory
-        } else {
-            JsonFault::NotJson
-        }
+    fn from(_invalid: Invalid) -> JsonFault {
+        JsonFault::NotJson
     }
 }

@@ -1,15 +1,22 @@
-ghost use Rattle.std.specs.Prelude.{◌≡◌, ◌<◌, ◌≤◌, ◌++◌, length, List, [], ◌∷◌, ℕ, Some, None, IfOk, IsTrue, OnOk};
-ghost use Rattle.serde_json.specs.View.{view, items_view as json_items_view, members_view as json_members_view};
+ghost use Rattle.std.specs.Prelude.{◌≡◌, ◌<◌, ◌≤◌, length, List, [], ◌∷◌, ◌++◌, ℕ, Err, Some, None, IfOk, IsTrue, OnOk};
+ghost use Rattle.json.specs.Json.{value, items, members};
+ghost use Rattle.serde_json.specs.Data as json;
+ghost use Rattle.serde_json.specs.Read.{converted, of_items, of_json, of_members, read};
 ghost use Rattle.vrl_value.specs.Depth.{depth_of};
-ghost use Rattle.vrl_value.specs.Tree.{Tree, IsOrdered, is_json};
+ghost use Rattle.vrl_value.specs.Tree.{Tree, IsOrdered, is_json, items_are_json, members_are_json};
 ghost use Rattle.vrl_value.specs.View.{tree_of, items_of, members_of};
-ghost use Rattle.vrl_json.specs.Faults.{has_parts};
-ghost use Rattle.vrl_json.specs.Line.{not_json, not_whole, whole, reading_of, whole_tree, whole_items, whole_members};
+ghost use Rattle.vrl_json.specs.Line.{not_json, not_whole, whole, reading_of, reading_of_json};
+ghost use Rattle.vrl_json.specs.Marked.{marked, marked_items, marked_members, marked_tree};
 
 use crate::fault::JsonFault;
+use crate::number::number_in;
+use json::{Reader, Scratch, Token};
 use std::alloc::Global;
 use std::collections::BTreeMap;
 use vrl_value::{Chars, Fields, Items, Memory, Value};
+
+/// How deep arrays and objects may nest.
+const DEPTH_LIMIT: usize = 127;
 
 /// The value of a line: one JSON text (RFC 8259) in UTF-8 (RFC 3629), with or without white space around
 /// it. Arrays and objects nest at most 127 deep. Of equal names in an object the last counts, which section
@@ -19,14 +26,18 @@ use vrl_value::{Chars, Fields, Items, Memory, Value};
 /// number of 64 bits with a sign in the plain form of digits; `-0` is not, nor is `1.0` or `1e2`. A number
 /// at a name that a later equal name replaces is no number of the value. `Memory`: want of memory, which no empty
 /// line meets.
-pub fn from_line(alloc: Global, bytes: &[u8]) -> Result<Value, JsonFault>
+///
+/// `scratch` is what reading needs beside the value. Its contents don't matter; keep one from line to line.
+pub fn from_line(alloc: Global, bytes: &[u8], scratch: &mut Scratch) -> Result<Value, JsonFault>
     ensures value { IfOk result (λ value. reading_of bytes.now ≡ whole (tree_of value)) }
     ensures not_json { result ≡ Err JsonFault.NotJson → reading_of bytes.now ≡ not_json }
     ensures not_whole { result ≡ Err JsonFault.NotWhole → reading_of bytes.now ≡ not_whole }
     ensures memory { result ≡ Err JsonFault.Memory → 0 < length bytes.now }
 {
-    let json = serde_json::Value::from_slice(alloc, bytes)?;
-    value_of(alloc, json)
+    let Ok(text) = simdutf8::compat::from_utf8(bytes) else {
+        return Err(JsonFault::NotJson);
+    };
+    read_text(alloc, text, scratch)
 }
 
 /// What a line stands for has neither a timestamp nor a regex in it. This takes no time: it is a law about
@@ -46,50 +57,95 @@ pub fn lines_are_ordered()
     ensures { (line : List ℕ) (tree : Tree) → reading_of line ≡ whole tree → IsOrdered tree }
 {}
 
-// The value that JSON stands for. Texts are moved, which takes no memory.
-#[cycle(convert)]
-#[inline(always)]
-fn value_of(alloc: Global, json: serde_json::Value) -> Result<Value, JsonFault>
-    ensures value { IfOk result (λ value. whole_tree (view json) ≡ Some (tree_of value)) }
-    ensures not_json { result ≡ Err JsonFault.NotJson → ⊥ }
-    ensures not_whole { result ≡ Err JsonFault.NotWhole → whole_tree (view json) ≡ None }
-    ensures memory { result ≡ Err JsonFault.Memory → IsTrue (has_parts (view json)) }
+// The value of a text. Strings with escapes are written to `scratch` first.
+fn read_text(alloc: Global, text: &str, scratch: &mut Scratch) -> Result<Value, JsonFault>
+    ensures value { IfOk result (λ value. reading_of_json (read text.now) ≡ whole (tree_of value)) }
+    ensures not_json { result ≡ Err JsonFault.NotJson → read text.now ≡ None }
+    ensures not_whole { result ≡ Err JsonFault.NotWhole → reading_of_json (read text.now) ≡ not_whole }
+    ensures memory { result ≡ Err JsonFault.Memory → 0 < length text.now }
 {
-    match json {
-        serde_json::Value::Null => Ok(Value::Null),
-        serde_json::Value::Bool(truth) => Ok(Value::Bool(truth)),
-        serde_json::Value::Number(number) => match number.as_i64() {
-            Some(number) => Ok(Value::Int(number)),
-            None => Err(JsonFault::NotWhole),
-        },
-        serde_json::Value::String(text) => Ok(Value::Text(Chars::new(text))),
-        serde_json::Value::Array(parts) => Ok(Value::List(items_of(alloc, parts)?)),
-        serde_json::Value::Object(map) => Ok(Value::Object(fields_of(alloc, map)?)),
+    let Ok(mut reader) = Reader::new(text, scratch) else {
+        return Err(JsonFault::Memory);
+    };
+    let value = read_value(alloc, &mut reader, DEPTH_LIMIT)?;
+    if reader.next().is_some() {
+        return Err(JsonFault::NotJson);
+    }
+    if is_unmarked(&value) {
+        Ok(value)
+    } else {
+        Err(JsonFault::NotWhole)
     }
 }
 
-// The values of an array, in order.
-#[cycle(convert)]
-#[inline(never)]
-fn items_of(alloc: Global, parts: Vec<serde_json::Value>) -> Result<Items, JsonFault>
-    ensures value { IfOk result
-        (λ items. whole_items (json_items_view parts.items) ≡ Some (items_of items)) }
-    ensures not_json { result ≡ Err JsonFault.NotJson → ⊥ }
-    ensures not_whole { result ≡ Err JsonFault.NotWhole
-        → whole_items (json_items_view parts.items) ≡ None }
+// The next value of the reader, with a mark for each number that is not whole. Arrays and objects may nest `depth` deep.
+#[cycle(read)]
+#[inline(always)]
+fn read_value(alloc: Global, reader: &mut Reader<'_>, depth: usize) -> Result<Value, JsonFault>
+    ensures ok { IfOk result (λ found. (d : json.Data)
+        × (converted of_json (value depth reader.old) ≡ Some (d, reader.new))
+        × (tree_of found ≡ marked_tree d)) }
+    ensures shorter { OnOk result (length reader.new < length reader.old) }
+    ensures not_json { result ≡ Err JsonFault.NotJson → converted of_json (value depth reader.old) ≡ None }
+    ensures not_whole { result ≡ Err JsonFault.NotWhole → ⊥ }
+    ensures memory { result ≡ Err JsonFault.Memory → 0 < length reader.old }
 {
-    let mut found = room_for(alloc, parts.len())?;
-    for json in parts {
-        let value = value_of(alloc, json)?;
+    let Some(token) = reader.next() else {
+        return Err(JsonFault::NotJson);
+    };
+    match token {
+        Token::String(text) => Ok(Value::Text(Chars::copy_of(alloc, text)?)),
+        Token::Number(text) => match number_in(text) {
+            Some(number) => Ok(marked(number)),
+            None => Err(JsonFault::NotJson),
+        },
+        Token::Bool(truth) => Ok(Value::Bool(truth)),
+        Token::Null => Ok(Value::Null),
+        Token::EndObject | Token::EndArray | Token::Key(_) | Token::Bad => Err(JsonFault::NotJson),
+        Token::BeginArray => {
+            if depth == 0 {
+                return Err(JsonFault::NotJson);
+            }
+            Ok(Value::List(read_items(alloc, reader, depth - 1)?))
+        }
+        Token::BeginObject => {
+            if depth == 0 {
+                return Err(JsonFault::NotJson);
+            }
+            Ok(Value::Object(read_fields(alloc, reader, depth - 1)?))
+        }
+    }
+}
+
+// The value of a number that was read. A regex, which no line has, marks one that is not whole, until it is known
+// whether a later equal name replaces it.
+fn marked(number: Option<i64>) -> Value
+    ensures { tree_of result ≡ marked number }
+{
+    match number {
+        Some(number) => Value::Int(number),
+        None => Value::Pattern(0),
+    }
+}
+
+// The values of an array that has begun, up to its end.
+#[cycle(read)]
+#[inline(never)]
+fn read_items(alloc: Global, reader: &mut Reader<'_>, depth: usize) -> Result<Items, JsonFault>
+    ensures ok { IfOk result (λ found. (ds : json.Items)
+        × (converted of_items (items (value depth) (length reader.old) reader.old) ≡ Some (ds, reader.new))
+        × (items_of found ≡ marked_items ds)) }
+    ensures shorter { OnOk result (length reader.new < length reader.old) }
+    ensures not_json { result ≡ Err JsonFault.NotJson
+        → converted of_items (items (value depth) (length reader.old) reader.old) ≡ None }
+    ensures not_whole { result ≡ Err JsonFault.NotWhole → ⊥ }
+{
+    let mut found = Vec::new(alloc);
+    'items: while !reader.take_end_array() {
+        let value = read_value(alloc, reader, depth)?;
         push(&mut found, value)?;
     }
     Ok(Items::new(found))
-}
-
-fn room_for(alloc: Global, count: usize) -> Result<Vec<Value>, Memory>
-    ensures { IfOk result (λ values. values.items ≡ []) }
-{
-    Ok(Vec::with_capacity(alloc, count)?)
 }
 
 fn push(values: &mut Vec<Value>, value: Value) -> Result<(), Memory>
@@ -98,20 +154,61 @@ fn push(values: &mut Vec<Value>, value: Value) -> Result<(), Memory>
     Ok(values.push(value)?)
 }
 
-// The members of an object, each moved into its place.
-#[cycle(convert)]
+// The members of an object that has begun, up to its end. Of equal names the last counts.
+#[cycle(read)]
 #[inline(never)]
-fn fields_of(alloc: Global, map: BTreeMap<String, serde_json::Value>) -> Result<Fields, JsonFault>
-    ensures value { IfOk result
-        (λ fields. whole_members (json_members_view map.entries) ≡ Some (members_of fields)) }
-    ensures not_json { result ≡ Err JsonFault.NotJson → ⊥ }
-    ensures not_whole { result ≡ Err JsonFault.NotWhole
-        → whole_members (json_members_view map.entries) ≡ None }
+fn read_fields(alloc: Global, reader: &mut Reader<'_>, depth: usize) -> Result<Fields, JsonFault>
+    ensures ok { IfOk result (λ found. (ms : json.Members)
+        × (converted (λ ms. of_members ms json.no_members) (members (value depth) (length reader.old) reader.old) ≡ Some (ms, reader.new))
+        × (members_of found ≡ marked_members ms)) }
+    ensures shorter { OnOk result (length reader.new < length reader.old) }
+    ensures not_json { result ≡ Err JsonFault.NotJson
+        → converted (λ ms. of_members ms json.no_members) (members (value depth) (length reader.old) reader.old) ≡ None }
+    ensures not_whole { result ≡ Err JsonFault.NotWhole → ⊥ }
 {
     let mut found = Fields::new(BTreeMap::new(alloc));
-    for (name, json) in map {
-        let value = value_of(alloc, json)?;
-        found.insert(Chars::new(name), value)?;
+    'members: while let Some(name) = reader.next_key()? {
+        let name = Chars::copy_of(alloc, name)?;
+        let value = read_value(alloc, reader, depth)?;
+        found.insert(name, value)?;
     }
     Ok(found)
+}
+
+// ---- whether a value has no mark
+
+#[cycle(unmarked)]
+fn is_unmarked(value: &Value) -> bool
+    ensures { result ≡ is_json (tree_of value.now) }
+{
+    match value {
+        Value::Text(_) | Value::Int(_) | Value::Bool(_) | Value::Null => true,
+        Value::Time(_) | Value::Pattern(_) => false,
+        Value::List(items) => items_are_unmarked(items),
+        Value::Object(fields) => fields_are_unmarked(fields),
+    }
+}
+
+#[cycle(unmarked)]
+fn items_are_unmarked(items: &Items) -> bool
+    ensures { result ≡ items_are_json (items_of items.now) }
+{
+    for item in items.as_slice() {
+        if !is_unmarked(item) {
+            return false;
+        }
+    }
+    true
+}
+
+#[cycle(unmarked)]
+fn fields_are_unmarked(fields: &Fields) -> bool
+    ensures { result ≡ members_are_json (members_of fields.now) }
+{
+    for (_name, value) in fields.as_map().iter() {
+        if !is_unmarked(value) {
+            return false;
+        }
+    }
+    true
 }

@@ -5,7 +5,7 @@ use crate::description::description;
 use crate::fault::KindFault;
 use crate::pointer::refused_here;
 use std::alloc::Global;
-use vrl_json::from_line;
+use vrl_json::{Scratch, from_line};
 use vrl_kind::{Kind, LEVEL_LIMIT, NODE_LIMIT, kind_is_canonical, levels, nodes, within};
 use vrl_value::Tag;
 
@@ -40,7 +40,7 @@ pub fn read_kind_file(alloc: Global, bytes: &[u8]) -> Result<Kind, KindFault>
     if bytes.len() > FILE_LIMIT {
         return Err(KindFault::TooLong);
     }
-    let value = from_line(alloc, bytes)?;
+    let value = from_line(alloc, bytes, &mut Scratch::new(alloc))?;
     let kind = description(alloc, &value)?;
     kind_is_canonical(&kind);
     if !is_allowed(alloc, &kind) {

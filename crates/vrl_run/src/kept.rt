@@ -10,7 +10,7 @@ ghost use Rattle.vrl_run.specs.Ran.{end_in, AreLinesOf};
 use crate::options::Options;
 use std::alloc::Global;
 use vrl_batch::Line;
-use vrl_json::{from_line, json_needs_no_sources, lines_are_json, to_line};
+use vrl_json::{Scratch, from_line, json_needs_no_sources, lines_are_json, to_line};
 use vrl_resolve::{Ended, Ran};
 use vrl_value::{Bytes, Memory, Names, Value};
 
@@ -102,7 +102,7 @@ fn kept_as_read(alloc: Global, sources: &Names, keep: bool, line: &Line) -> Resu
     lines_are_json();
     json_needs_no_sources();
     // They were read before, so nothing else than memory can be wanting.
-    let Ok(event) = from_line(alloc, line.bytes.as_slice()) else {
+    let Ok(event) = from_line(alloc, line.bytes.as_slice(), &mut Scratch::new(alloc)) else {
         return Err(Memory);
     };
     kept_one(alloc, sources, &event)

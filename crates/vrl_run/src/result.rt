@@ -16,14 +16,17 @@ use crate::reason::Reason;
 use crate::report::{end_report, report_line};
 use std::alloc::Global;
 use vrl_batch::{Line, LineOut, Outcome};
-use vrl_json::{JsonFault, from_line, json_needs_no_sources, lines_are_json, lines_are_ordered};
+use vrl_json::{
+    JsonFault, Scratch, from_line, json_needs_no_sources, lines_are_json, lines_are_ordered,
+};
 use vrl_kind::{Kind, inhabits, inhabits_is_computed};
 use vrl_resolve::{Ended, Program, Ran, run};
 use vrl_value::{Bytes, Memory, Names, Value};
 
 /// Runs a program over the event that a line stands for. `sources` are those of the program's regex literals, and over no event of the
 /// declared kind does the program end with an error that it doesn't handle, as `vrl_compile` promises of each that it accepts. A line that is too long, is no
-/// JSON text or has a number that isn't whole, or whose value is not of the declared kind, is refused. `Memory`: want of memory.
+/// JSON text or has a number that isn't whole, or whose value is not of the declared kind, is refused. `scratch` is what reading needs; keep one from
+/// line to line. `Memory`: want of memory.
 pub fn run_line(
     alloc: Global,
     program: &Program,
@@ -31,6 +34,7 @@ pub fn run_line(
     declared: &Kind,
     options: &Options,
     line: &Line,
+    scratch: &mut Scratch,
 ) -> Result<LineOut, Memory>
     requires sources { sources.now ≡ (program_of program.now).sources }
     requires handled { HandlesErrors declared.now (program_of program.now) }
@@ -39,7 +43,7 @@ pub fn run_line(
     if line.long {
         return refused(alloc, line.number, Reason::TooLong);
     }
-    let event = match from_line(alloc, line.bytes.as_slice()) {
+    let event = match from_line(alloc, line.bytes.as_slice(), scratch) {
         Ok(event) => event,
         Err(fault) => return unread(alloc, line.number, fault),
     };

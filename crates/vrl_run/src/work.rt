@@ -6,6 +6,7 @@ use crate::options::Options;
 use crate::result::run_line;
 use std::alloc::Global;
 use vrl_batch::{Line, LineOut, Work};
+use vrl_json::Scratch;
 use vrl_kind::Kind;
 use vrl_resolve::Program;
 use vrl_value::{Memory, Names};
@@ -27,7 +28,7 @@ impl Work for LineWork<'_> {
 
     ghost makes = { result_by };
 
-    fn one(&self, alloc: Global, line: &Line) -> Result<LineOut, Memory> {
+    fn one(&self, alloc: Global, line: &Line, scratch: &mut Scratch) -> Result<LineOut, Memory> {
         run_line(
             alloc,
             self.program,
@@ -35,6 +36,7 @@ impl Work for LineWork<'_> {
             self.declared,
             &self.options,
             line,
+            scratch,
         )
     }
 }

@@ -2,7 +2,7 @@
 use crate::sharing::shareable;
 use std::alloc::Global;
 use std::process::Abort;
-use vrl_json::{JsonFault, from_line};
+use vrl_json::{JsonFault, Scratch, from_line};
 use vrl_kind::{
     Kind, Rest, cut, flatten, has, inhabits, join, kind_of, levels, nodes, overlaid, parts, print,
     within, without,
@@ -11,7 +11,7 @@ use vrl_value::{Chars, Memory, Tag, Value};
 
 // The value of a text, or null where it has none.
 fn value_of(alloc: Global, text: &str) -> Result<Value, Memory> {
-    match from_line(alloc, text.as_bytes()) {
+    match from_line(alloc, text.as_bytes(), &mut Scratch::new(alloc)) {
         Ok(value) => Ok(value),
         Err(JsonFault::Memory) => Err(Memory),
         Err(_) => Ok(Value::Null),

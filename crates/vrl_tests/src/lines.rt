@@ -1,5 +1,5 @@
 use std::alloc::Global;
-use vrl_json::{JsonFault, from_line, json_needs_no_sources, lines_are_json, to_line};
+use vrl_json::{JsonFault, Scratch, from_line, json_needs_no_sources, lines_are_json, to_line};
 use vrl_value::{Bytes, Chars, Items, Memory, Moment, Value};
 
 // Lines, and what is written of what they stand for, or why they are refused.
@@ -47,7 +47,7 @@ fn lines_read_and_written(rt: HostRuntime) -> Result<(), Memory> {
 fn rewritten(alloc: Global, line: &[u8]) -> Result<Bytes, Memory> {
     lines_are_json();
     json_needs_no_sources();
-    match from_line(alloc, line) {
+    match from_line(alloc, line, &mut Scratch::new(alloc)) {
         Ok(value) => Ok(to_line(alloc, &value, &[])?),
         Err(fault) => Ok(Bytes::new(format!(in alloc; "{fault}")?.into_bytes())),
     }
@@ -59,7 +59,10 @@ fn nesting(rt: HostRuntime) -> Result<(), Memory> {
         let mut line = Vec::new(rt.alloc());
         line.resize(depth, b'[')?;
         line.resize(depth + depth, b']')?;
-        assert!(rt; from_line(rt.alloc(), &line).err() == fault, "at {depth}");
+        assert!(rt;
+            from_line(rt.alloc(), &line, &mut Scratch::new(rt.alloc())).err() == fault,
+            "at {depth}"
+        );
     }
     Ok(())
 }

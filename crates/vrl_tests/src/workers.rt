@@ -5,6 +5,7 @@ use std::process::Abort;
 use std::sync::atomic::{AtomicU64, Ordering};
 use std::thread::Threads;
 use vrl_batch::{Batch, FreeGate, Gate, Line, LineOut, Outcome, Work, map_batch};
+use vrl_json::Scratch;
 use vrl_value::{Bytes, Memory, Moment};
 
 // Gives each line back, and its number as the count of events.
@@ -15,7 +16,7 @@ impl Work for Copies {
 
     ghost makes = { λ _ line. record { output = line.bytes; report = line.bytes; kept = line.number; outcome = Fine } };
 
-    fn one(&self, alloc: Global, line: &Line) -> Result<LineOut, Memory> {
+    fn one(&self, alloc: Global, line: &Line, _scratch: &mut Scratch) -> Result<LineOut, Memory> {
         Ok(LineOut {
             output: Bytes::new(line.bytes.as_slice().to_vec(alloc)?),
             report: Bytes::new(line.bytes.as_slice().to_vec(alloc)?),
@@ -121,11 +122,11 @@ impl Work for Turns {
 
     ghost makes = { λ _ line. record { output = line.bytes; report = line.bytes; kept = line.number; outcome = Fine } };
 
-    fn one(&self, alloc: Global, line: &Line) -> Result<LineOut, Memory> {
+    fn one(&self, alloc: Global, line: &Line, scratch: &mut Scratch) -> Result<LineOut, Memory> {
         if self.passed.load(Ordering::SeqCst) != line.number {
             self.wrong.store(1, Ordering::SeqCst);
         }
-        Copies.one(alloc, line)
+        Copies.one(alloc, line, scratch)
     }
 }
 

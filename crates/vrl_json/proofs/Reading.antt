@@ -1,0 +1,122 @@
+-- The parts of an array or an object that were read, beside the tree of them in which a mark stands for each number that isn't whole.
+use Rattle.std.proofs.Common.{◌≡◌, ℕ, ℤ, ◌<◌, List, [], ◌∷◌, ◌++◌, length, Bool, true, false, ◌&&◌, cond, Option, Some, None, option_map, option_and_then, Ordering, Less, Equal, Greater, nat_cmp, refl, ap, ◌∙◌, arith}
+use Rattle.std.specs.Cmp.Lexicographic.{slice_cmp}
+use Rattle.std.specs.Ordering.{match_ordering}
+use Rattle.json.specs.Token.{Token}
+use Rattle.json.specs.Json.{parse_map, value}
+use Rattle.json.specs.Lex.{lex, punctuate, tokens}
+use Rattle.json.proofs.Grammar.{value_is}
+use Rattle.serde_json.specs.Data as json
+use Rattle.serde_json.specs.Read.{converted, number_of, of_json}
+use Rattle.vrl_value.specs.Tree.{Tree, integer, array, object, item, member, put, is_json, items_are_json, members_are_json}
+use Rattle.vrl_value.specs.View.{tree_of, items_view}
+use Rattle.vrl_value.specs.declared.value.Value.{Value}
+use Rattle.vrl_json.specs.Line.{whole_number, whole_tree, whole_items, whole_members, reading_of_tree, whole, not_whole}
+use Rattle.vrl_json.specs.Marked.{marked, marked_tree, marked_items, marked_members}
+use Rattle.vrl_json.proofs.Lines.{map_inverse}
+
+-- ---- an array that grows at its end
+
+-- the second parts behind the first
+abbrev pub joined : json.Items → json.Items → json.Items
+joined json.no_items later = later
+joined (json.item d ds) later = json.item d (joined ds later)
+
+pub joined-no_items : (ds : json.Items) → joined ds json.no_items ≡ ds
+joined-no_items json.no_items = refl
+joined-no_items (json.item d ds) = ap (json.item d) (joined-no_items ds)
+
+joined-item : (ds : json.Items) (d : json.Data) (later : json.Items) → joined ds (json.item d later) ≡ joined (joined ds (json.item d json.no_items)) later
+joined-item json.no_items d later = refl
+joined-item (json.item e ds) d later = ap (json.item e) (joined-item ds d later)
+
+pub none_yet : (left : Option (json.Items × List Token)) → left ≡ parse_map (joined json.no_items) left
+none_yet None = refl
+none_yet (Some p) = refl
+
+pub one_more : (ds : json.Items) (d : json.Data) (left : Option (json.Items × List Token)) → parse_map (joined ds) (parse_map (json.item d) left) ≡ parse_map (joined (joined ds (json.item d json.no_items))) left
+one_more ds d None = refl
+one_more ds d (Some p) = ap (λ all. Some (all, p.1)) (joined-item ds d p.0)
+
+pub marked_items-pushed : (ds : json.Items) (d : json.Data) (vs : List Value) (v : Value) → items_view vs ≡ marked_items ds → tree_of v ≡ marked_tree d
+    → items_view (vs ++ v ∷ []) ≡ marked_items (joined ds (json.item d json.no_items))
+marked_items-pushed json.no_items d [] v same last = rw last refl
+marked_items-pushed json.no_items d (w ∷ vs) v same last = absurd (cc)
+marked_items-pushed (json.item e ds) d [] v same last = absurd (cc)
+marked_items-pushed (json.item e ds) d (w ∷ vs) v same last =
+    let first : tree_of w ≡ marked_tree e = cc in
+    rw (first, marked_items-pushed ds d vs v (cc) last) refl
+
+-- ---- an object in which a name comes again
+
+marked_put_at : (o : Ordering) (k l : List ℕ) (d e : json.Data) (ms : json.Members) → marked_members (json.put k d ms) ≡ put k (marked_tree d) (marked_members ms)
+    → marked_members (match_ordering o (json.member k d (json.member l e ms)) (json.member l d ms) (json.member l e (json.put k d ms)))
+    ≡ match_ordering o (member k (marked_tree d) (member l (marked_tree e) (marked_members ms))) (member l (marked_tree d) (marked_members ms)) (member l (marked_tree e) (put k (marked_tree d) (marked_members ms)))
+marked_put_at Less k l d e ms later = refl
+marked_put_at Equal k l d e ms later = refl
+marked_put_at Greater k l d e ms later = ap (member l (marked_tree e)) later
+
+pub marked_members-put : (k : List ℕ) (d : json.Data) (ms : json.Members) → marked_members (json.put k d ms) ≡ put k (marked_tree d) (marked_members ms)
+marked_members-put k d json.no_members = refl
+marked_members-put k d (json.member l e ms) = marked_put_at (slice_cmp nat_cmp k l) k l d e ms (marked_members-put k d ms)
+
+-- ---- a tree without a mark is that of the JSON
+
+map_if : {A B : Type 0} (f : A → B) (b : Bool) (a : A) → option_map f (cond b (Some a) None) ≡ cond b (Some (f a)) None
+map_if f true a = refl
+map_if f false a = refl
+
+both_if : {A B : Type 0} (join : Tree → A → B) (b c : Bool) (t : Tree) (a : A) → option_and_then (λ t. option_map (join t) (cond c (Some a) None)) (cond b (Some t) None) ≡ cond (b && c) (Some (join t a)) None
+both_if join true true t a = refl
+both_if join true false t a = refl
+both_if join false true t a = refl
+both_if join false false t a = refl
+
+number_unmarked : (n : Option ℤ) → option_map integer n ≡ cond (is_json (marked n)) (Some (marked n)) None
+number_unmarked None = refl
+number_unmarked (Some n) = refl
+
+mutual
+  tree_unmarked : (d : json.Data) → whole_tree d ≡ cond (is_json (marked_tree d)) (Some (marked_tree d)) None
+  tree_unmarked json.null = refl
+  tree_unmarked (json.boolean b) = refl
+  tree_unmarked (json.number n) = number_unmarked (whole_number n)
+  tree_unmarked (json.string s) = refl
+  tree_unmarked (json.array ds) = ap (option_map array) (items_unmarked ds) ∙ map_if array (items_are_json (marked_items ds)) (marked_items ds)
+  tree_unmarked (json.object ms) = ap (option_map object) (members_unmarked ms) ∙ map_if object (members_are_json (marked_members ms)) (marked_members ms)
+
+  items_unmarked : (ds : json.Items) → whole_items ds ≡ cond (items_are_json (marked_items ds)) (Some (marked_items ds)) None
+  items_unmarked json.no_items = refl
+  items_unmarked (json.item d ds) = rw (tree_unmarked d, items_unmarked ds) (both_if item (is_json (marked_tree d)) (items_are_json (marked_items ds)) (marked_tree d) (marked_items ds))
+
+  members_unmarked : (ms : json.Members) → whole_members ms ≡ cond (members_are_json (marked_members ms)) (Some (marked_members ms)) None
+  members_unmarked json.no_members = refl
+  members_unmarked (json.member k d ms) = rw (tree_unmarked d, members_unmarked ms) (both_if (member k) (is_json (marked_tree d)) (members_are_json (marked_members ms)) (marked_tree d) (marked_members ms))
+
+pub reading-unmarked : (d : json.Data) (t : Tree) → t ≡ marked_tree d → is_json t ≡ true → reading_of_tree (whole_tree d) ≡ whole t
+reading-unmarked d t same json = rw (tree_unmarked d, ← same, json) refl
+
+pub reading-marked : (d : json.Data) (t : Tree) → t ≡ marked_tree d → is_json t ≡ false → reading_of_tree (whole_tree d) ≡ not_whole
+reading-marked d t same json = rw (tree_unmarked d, ← same, json) refl
+
+-- ---- a text with a token has a byte
+
+pub some_text : (text : List ℕ) → 0 < length (tokens text) → 0 < length text
+unfolding lex punctuate
+some_text [] some = some
+some_text (b ∷ text) some = omega arith
+
+-- ---- a number that was read
+
+pub number_read : (depth : ℕ) (s : List ℕ) (later : List Token) (n : Option ℤ) → option_map whole_number (number_of s) ≡ Some n
+    → (d : json.Data) × (converted of_json (value depth (Token.number s ∷ later)) ≡ Some (d, later)) × (marked n ≡ marked_tree d)
+number_read depth s later n read =
+    let number = map_inverse whole_number (number_of s) n read in
+    (json.number number.0, ap (converted of_json) (value_is depth (Token.number s ∷ later)) ∙ ap (λ o. option_map (λ d. (d, later)) (option_map json.number o)) number.1, ap marked number.2)
+
+none_mapped : {A B : Type 0} (f : A → B) (o : Option A) → option_map f o ≡ None → o ≡ None
+none_mapped f None none = refl
+none_mapped f (Some a) none = absurd (cc)
+
+pub number_refused : (depth : ℕ) (s : List ℕ) (later : List Token) → option_map whole_number (number_of s) ≡ None → converted of_json (value depth (Token.number s ∷ later)) ≡ None
+number_refused depth s later none = ap (converted of_json) (value_is depth (Token.number s ∷ later)) ∙ rw (none_mapped whole_number (number_of s) none)

@@ -1,0 +1,26 @@
+use Rattle.std.proofs.Common.{◌≡◌, [], sym, ap, ◌∙◌, arith, rules}
+use Rattle.std.proofs.lemmas.Grind.{common_steps}
+use Rattle.json.specs.Json.{value}
+use Rattle.json.specs.Lex.{tokens}
+use Rattle.vrl_value.specs.View.{tree_of}
+use Rattle.vrl_json.specs.Line.{reading_of_json}
+use Rattle.vrl_json.proofs.Reading.{reading-marked, reading-unmarked, some_text}
+use Rattle.vrl_json.proofs.Turns.{alone-read}
+use Rattle.vrl_json.proofs.read.read_text.Goals as goal
+
+pub returns-in_err-value-clause-memory : goal.returns-in_err-value-clause-memory
+returns-in_err-value-clause-memory c full = some_text c.args.text.now (rw c.in-Ok.ensures.ok at (c.read_value.ensures.memory (grind (arith, common_steps))))
+
+pub returns-then-is_unmarked-clause-value : goal.returns-then-is_unmarked-clause-value
+returns-then-is_unmarked-clause-value c =
+    let found = c.in_ok-value.ensures.ok in
+    let none : c.read_value.new.reader ≡ [] = search rules in
+    let whole = alone-read (value 127 (tokens c.args.text.now)) found.0 (rw (c.in-Ok.ensures.ok, none) at found.1) in
+    ap reading_of_json whole ∙ reading-unmarked found.0 (tree_of c.in_ok-value.value) found.2 (sym c.is_unmarked.ensures ∙ c.if-is_unmarked.true)
+
+pub returns-else-is_unmarked-clause-not_whole : goal.returns-else-is_unmarked-clause-not_whole
+returns-else-is_unmarked-clause-not_whole c refused =
+    let found = c.in_ok-value.ensures.ok in
+    let none : c.read_value.new.reader ≡ [] = search rules in
+    let whole = alone-read (value 127 (tokens c.args.text.now)) found.0 (rw (c.in-Ok.ensures.ok, none) at found.1) in
+    ap reading_of_json whole ∙ reading-marked found.0 (tree_of c.in_ok-value.value) found.2 (sym c.is_unmarked.ensures ∙ c.if-is_unmarked.false)
