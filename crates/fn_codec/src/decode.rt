@@ -62,7 +62,12 @@ impl<F: Decode> OneTag for Decoded<F> {
         true
     }
 
-    fn apply(&self, alloc: Global, arguments: &Arguments<'_>, _setting: &Setting<'_>) -> Applied {
+    fn apply(
+        &self,
+        alloc: Global,
+        arguments: &Arguments<'_>,
+        _setting: &Setting<'_, '_>,
+    ) -> Applied {
         match self.0.bytes(alloc, arguments.text(0, "")) {
             Ok(Some(bytes)) => text_of(alloc, self.0.name(), bytes),
             Ok(None) => fail(alloc, self.0.name(), self.0.words()),

@@ -150,7 +150,12 @@ impl Builtin for Chunks {
         }
     }
 
-    fn apply(&self, alloc: Global, arguments: &Arguments<'_>, _setting: &Setting<'_>) -> Applied {
+    fn apply(
+        &self,
+        alloc: Global,
+        arguments: &Arguments<'_>,
+        _setting: &Setting<'_, '_>,
+    ) -> Applied {
         chunked(alloc, arguments.text(0, ""), arguments.integer(1, 1))
     }
 

@@ -176,7 +176,12 @@ impl Builtin for Flatten {
         false
     }
 
-    fn apply(&self, alloc: Global, arguments: &Arguments<'_>, _setting: &Setting<'_>) -> Applied {
+    fn apply(
+        &self,
+        alloc: Global,
+        arguments: &Arguments<'_>,
+        _setting: &Setting<'_, '_>,
+    ) -> Applied {
         let separator = arguments.text(1, ".");
         Applied::value(flattened(alloc, separator, arguments.value(0)))
     }

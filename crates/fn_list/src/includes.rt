@@ -45,7 +45,12 @@ impl OneTag for Includes {
         false
     }
 
-    fn apply(&self, _alloc: Global, arguments: &Arguments<'_>, _setting: &Setting<'_>) -> Applied {
+    fn apply(
+        &self,
+        _alloc: Global,
+        arguments: &Arguments<'_>,
+        _setting: &Setting<'_, '_>,
+    ) -> Applied {
         Applied::Value(Value::Bool(is_included(arguments.value(0), arguments.value(1))))
     }
 

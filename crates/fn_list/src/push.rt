@@ -100,7 +100,12 @@ impl Builtin for Push {
         false
     }
 
-    fn apply(&self, alloc: Global, arguments: &Arguments<'_>, _setting: &Setting<'_>) -> Applied {
+    fn apply(
+        &self,
+        alloc: Global,
+        arguments: &Arguments<'_>,
+        _setting: &Setting<'_, '_>,
+    ) -> Applied {
         Applied::value(pushed(alloc, arguments.value(0), arguments.value(1)))
     }
 

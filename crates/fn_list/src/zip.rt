@@ -109,7 +109,12 @@ impl Builtin for Zip {
         false
     }
 
-    fn apply(&self, alloc: Global, arguments: &Arguments<'_>, _setting: &Setting<'_>) -> Applied {
+    fn apply(
+        &self,
+        alloc: Global,
+        arguments: &Arguments<'_>,
+        _setting: &Setting<'_, '_>,
+    ) -> Applied {
         Applied::value(zipped(alloc, arguments.value(0), arguments.value(1)))
     }
 

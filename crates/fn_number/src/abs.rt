@@ -31,7 +31,12 @@ impl OneTag for Abs {
         false
     }
 
-    fn apply(&self, _alloc: Global, arguments: &Arguments<'_>, _setting: &Setting<'_>) -> Applied {
+    fn apply(
+        &self,
+        _alloc: Global,
+        arguments: &Arguments<'_>,
+        _setting: &Setting<'_, '_>,
+    ) -> Applied {
         Applied::Value(Value::Int(arguments.integer(0, 0).wrapping_abs()))
     }
 

@@ -42,7 +42,12 @@ impl OneTag for FormatInt {
         }
     }
 
-    fn apply(&self, alloc: Global, arguments: &Arguments<'_>, _setting: &Setting<'_>) -> Applied {
+    fn apply(
+        &self,
+        alloc: Global,
+        arguments: &Arguments<'_>,
+        _setting: &Setting<'_, '_>,
+    ) -> Applied {
         let base = arguments.integer(1, 10);
         if !(2..=36).contains(&base) {
             return fail(alloc, self.name(), "bad base");

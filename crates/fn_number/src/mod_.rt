@@ -37,7 +37,12 @@ impl OneTag for Mod {
         }
     }
 
-    fn apply(&self, alloc: Global, arguments: &Arguments<'_>, _setting: &Setting<'_>) -> Applied {
+    fn apply(
+        &self,
+        alloc: Global,
+        arguments: &Arguments<'_>,
+        _setting: &Setting<'_, '_>,
+    ) -> Applied {
         let modulus = arguments.integer(1, 0);
         if modulus == 0 {
             fail(alloc, self.name(), "modulus is 0")

@@ -40,7 +40,12 @@ impl OneTag for ParseInt {
         true
     }
 
-    fn apply(&self, alloc: Global, arguments: &Arguments<'_>, _setting: &Setting<'_>) -> Applied {
+    fn apply(
+        &self,
+        alloc: Global,
+        arguments: &Arguments<'_>,
+        _setting: &Setting<'_, '_>,
+    ) -> Applied {
         let text = arguments.text(0, "");
         let number = match arguments.optional_integer(1) {
             None => read_by_prefix(text),

@@ -89,7 +89,12 @@ impl Builtin for Get {
         given.part_allows_other(1, &STEP_TAGS)
     }
 
-    fn apply(&self, alloc: Global, arguments: &Arguments<'_>, _setting: &Setting<'_>) -> Applied {
+    fn apply(
+        &self,
+        alloc: Global,
+        arguments: &Arguments<'_>,
+        _setting: &Setting<'_, '_>,
+    ) -> Applied {
         got(alloc, arguments.value(0), arguments.value(1))
     }
 

@@ -178,7 +178,12 @@ impl Builtin for Merge {
         false
     }
 
-    fn apply(&self, alloc: Global, arguments: &Arguments<'_>, _setting: &Setting<'_>) -> Applied {
+    fn apply(
+        &self,
+        alloc: Global,
+        arguments: &Arguments<'_>,
+        _setting: &Setting<'_, '_>,
+    ) -> Applied {
         let deep = arguments.boolean(2, false);
         Applied::value(merged(alloc, deep, arguments.value(0), arguments.value(1)))
     }

@@ -146,7 +146,12 @@ impl Builtin for ObjectFromArray {
         true
     }
 
-    fn apply(&self, alloc: Global, arguments: &Arguments<'_>, _setting: &Setting<'_>) -> Applied {
+    fn apply(
+        &self,
+        alloc: Global,
+        arguments: &Arguments<'_>,
+        _setting: &Setting<'_, '_>,
+    ) -> Applied {
         made(alloc, items_of(arguments.value(0)))
     }
 

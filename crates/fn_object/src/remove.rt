@@ -91,7 +91,12 @@ impl Builtin for Remove {
         true
     }
 
-    fn apply(&self, alloc: Global, arguments: &Arguments<'_>, _setting: &Setting<'_>) -> Applied {
+    fn apply(
+        &self,
+        alloc: Global,
+        arguments: &Arguments<'_>,
+        _setting: &Setting<'_, '_>,
+    ) -> Applied {
         removed_at(alloc, arguments.value(0), arguments.value(1))
     }
 

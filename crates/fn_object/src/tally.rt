@@ -116,7 +116,12 @@ impl Builtin for Tally {
         given.part_allows_other(0, &Tags::STRING)
     }
 
-    fn apply(&self, alloc: Global, arguments: &Arguments<'_>, _setting: &Setting<'_>) -> Applied {
+    fn apply(
+        &self,
+        alloc: Global,
+        arguments: &Arguments<'_>,
+        _setting: &Setting<'_, '_>,
+    ) -> Applied {
         tallied(alloc, arguments.value(0))
     }
 

@@ -166,7 +166,12 @@ impl Builtin for Unflatten {
         false
     }
 
-    fn apply(&self, alloc: Global, arguments: &Arguments<'_>, _setting: &Setting<'_>) -> Applied {
+    fn apply(
+        &self,
+        alloc: Global,
+        arguments: &Arguments<'_>,
+        _setting: &Setting<'_, '_>,
+    ) -> Applied {
         let separator = arguments.text(1, ".");
         Applied::value(unflattened(alloc, separator, arguments.value(0)))
     }

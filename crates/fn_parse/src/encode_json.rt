@@ -48,7 +48,12 @@ impl OneTag for EncodeJson {
         false
     }
 
-    fn apply(&self, alloc: Global, arguments: &Arguments<'_>, setting: &Setting<'_>) -> Applied {
+    fn apply(
+        &self,
+        alloc: Global,
+        arguments: &Arguments<'_>,
+        setting: &Setting<'_, '_>,
+    ) -> Applied {
         let sources = setting.patterns.sources();
         Applied::text(json_text(alloc, arguments.value(0), sources))
     }

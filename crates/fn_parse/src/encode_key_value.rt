@@ -172,7 +172,12 @@ impl OneTag for EncodeKeyValue {
         false
     }
 
-    fn apply(&self, alloc: Global, arguments: &Arguments<'_>, setting: &Setting<'_>) -> Applied {
+    fn apply(
+        &self,
+        alloc: Global,
+        arguments: &Arguments<'_>,
+        setting: &Setting<'_, '_>,
+    ) -> Applied {
         Applied::text(given_text(alloc, arguments, setting.patterns.sources()))
     }
 

@@ -131,7 +131,12 @@ impl Builtin for ParseCsv {
         }
     }
 
-    fn apply(&self, alloc: Global, arguments: &Arguments<'_>, _setting: &Setting<'_>) -> Applied {
+    fn apply(
+        &self,
+        alloc: Global,
+        arguments: &Arguments<'_>,
+        _setting: &Setting<'_, '_>,
+    ) -> Applied {
         parsed(alloc, arguments.text(0, ""), arguments.text(1, ","))
     }
 

@@ -168,7 +168,12 @@ impl Builtin for ParseKeyValue {
         true
     }
 
-    fn apply(&self, alloc: Global, arguments: &Arguments<'_>, _setting: &Setting<'_>) -> Applied {
+    fn apply(
+        &self,
+        alloc: Global,
+        arguments: &Arguments<'_>,
+        _setting: &Setting<'_, '_>,
+    ) -> Applied {
         let (key_delimiter, field_delimiter) = (arguments.text(1, "="), arguments.text(2, " "));
         parsed(alloc, arguments.text(0, ""), key_delimiter, field_delimiter)
     }

@@ -11,7 +11,7 @@ use vrl_builtin::{
     Applied, Arguments, Builtin, Givens, Parameter, Setting, Tags, either_tag, optional, required,
 };
 use vrl_kind::Kind;
-use vrl_pattern::Patterns;
+use vrl_pattern::{Patterns, Searches};
 use vrl_value::{Memory, Tag, Value};
 
 /// `find(value: string, pattern: string or regex, from: integer = 0)`: integer or null. The byte at which the pattern first stands in the text, from byte
@@ -47,7 +47,7 @@ fn text_place(part: &str, text: &str) -> Option<usize>
 // The byte at which a text or a regex first stands in a text. `None`: it doesn't. `Memory`: want of memory.
 fn first_place(
     alloc: Global,
-    patterns: &Patterns,
+    patterns: &Searches<'_>,
     text: &str,
     pattern: &Value,
 ) -> Result<Option<usize>, Memory>
@@ -92,7 +92,7 @@ fn number_of(place: Option<usize>, start: usize) -> Value
 // Where the pattern stands in what is left from a byte on. `Memory`: want of memory.
 fn place_behind(
     alloc: Global,
-    patterns: &Patterns,
+    patterns: &Searches<'_>,
     left: &str,
     pattern: &Value,
     start: usize,
@@ -108,7 +108,7 @@ fn place_behind(
 // The byte at which a text or a regex first stands from a byte on, or null. `Memory`: want of memory.
 fn place_from(
     alloc: Global,
-    patterns: &Patterns,
+    patterns: &Searches<'_>,
     text: &str,
     pattern: &Value,
     from: i64,
@@ -151,7 +151,12 @@ impl Builtin for Find {
         false
     }
 
-    fn apply(&self, alloc: Global, arguments: &Arguments<'_>, setting: &Setting<'_>) -> Applied {
+    fn apply(
+        &self,
+        alloc: Global,
+        arguments: &Arguments<'_>,
+        setting: &Setting<'_, '_>,
+    ) -> Applied {
         let (text, from) = (arguments.text(0, ""), arguments.integer(2, 0));
         Applied::value(place_from(alloc, setting.patterns, text, arguments.value(1), from))
     }

@@ -12,7 +12,7 @@ use vrl_builtin::{
     Applied, Arguments, Givens, OneTag, Parameter, Setting, Tags, fail_at_element, first_other,
     required,
 };
-use vrl_pattern::Patterns;
+use vrl_pattern::Searches;
 use vrl_value::{Memory, Tag, Value};
 
 /// `match_any(value: string, patterns: array)`: boolean. Whether one of the regexes in the array matches somewhere in the text. It may fail where a
@@ -29,7 +29,7 @@ static PARAMETERS: [Parameter; 2] = [
 // Whether one of the values is a regex that matches somewhere in the text. `Memory`: want of memory.
 fn some_matches(
     alloc: Global,
-    patterns: &Patterns,
+    patterns: &Searches<'_>,
     text: &str,
     items: &[Value],
 ) -> Result<bool, Memory>
@@ -47,7 +47,7 @@ fn some_matches(
 }
 
 // What the function answers to this text and these parts.
-fn answer(alloc: Global, patterns: &Patterns, text: &str, items: &[Value]) -> Applied
+fn answer(alloc: Global, patterns: &Searches<'_>, text: &str, items: &[Value]) -> Applied
     requires { IsTrue (items_regexes_below (length patterns.now) (items_view items.now)) }
     ensures { Applies (named (codes "match_any") (match_any_answer patterns.now text.now (items_view items.now))) result }
 {
@@ -76,7 +76,12 @@ impl OneTag for MatchAny {
         given.part_allows_other(1, &Tags::REGEX)
     }
 
-    fn apply(&self, alloc: Global, arguments: &Arguments<'_>, setting: &Setting<'_>) -> Applied {
+    fn apply(
+        &self,
+        alloc: Global,
+        arguments: &Arguments<'_>,
+        setting: &Setting<'_, '_>,
+    ) -> Applied {
         let text = arguments.text(0, "");
         answer(alloc, setting.patterns, text, arguments.items(1))
     }

@@ -34,7 +34,12 @@ impl OneTag for Match {
         false
     }
 
-    fn apply(&self, alloc: Global, arguments: &Arguments<'_>, setting: &Setting<'_>) -> Applied {
+    fn apply(
+        &self,
+        alloc: Global,
+        arguments: &Arguments<'_>,
+        setting: &Setting<'_, '_>,
+    ) -> Applied {
         let text = arguments.text(0, "");
         Applied::boolean(is_match(alloc, setting.patterns, text, arguments.value(1)))
     }

@@ -21,7 +21,7 @@ use vrl_builtin::{
     optional_literal, required, required_literal,
 };
 use vrl_kind::Kind;
-use vrl_pattern::{Groups, Patterns};
+use vrl_pattern::{Groups, Patterns, Searches};
 use vrl_value::{Chars, Items, Memory, Value};
 
 /// `parse_regex(value: string, pattern: regex literal, numeric_groups: boolean literal = false)`: object. The text of each group of the first match that
@@ -118,7 +118,7 @@ fn objects(
 // The objects of the first so many matches of a regex. `Memory`: want of memory.
 fn objects_of(
     alloc: Global,
-    patterns: &Patterns,
+    patterns: &Searches<'_>,
     number: u32,
     numbered: bool,
     text: &str,
@@ -148,7 +148,7 @@ fn answer_of_first(alloc: Global, objects: Result<Vec<Value>, Memory>) -> Applie
 // What is answered of the first match.
 fn parsed(
     alloc: Global,
-    patterns: &Patterns,
+    patterns: &Searches<'_>,
     pattern: Option<u32>,
     numbered: bool,
     text: &str,
@@ -168,7 +168,7 @@ fn parsed(
 // What is answered of all matches. `Memory`: want of memory.
 fn all_parsed(
     alloc: Global,
-    patterns: &Patterns,
+    patterns: &Searches<'_>,
     pattern: Option<u32>,
     numbered: bool,
     text: &str,
@@ -214,7 +214,12 @@ impl Builtin for ParseRegex {
         true
     }
 
-    fn apply(&self, alloc: Global, arguments: &Arguments<'_>, setting: &Setting<'_>) -> Applied {
+    fn apply(
+        &self,
+        alloc: Global,
+        arguments: &Arguments<'_>,
+        setting: &Setting<'_, '_>,
+    ) -> Applied {
         let (text, numbered) = (arguments.text(0, ""), arguments.boolean(2, false));
         let pattern = arguments.optional_regex(1);
         parsed(alloc, setting.patterns, pattern, numbered, text)
@@ -252,7 +257,12 @@ impl Builtin for ParseRegexAll {
         false
     }
 
-    fn apply(&self, alloc: Global, arguments: &Arguments<'_>, setting: &Setting<'_>) -> Applied {
+    fn apply(
+        &self,
+        alloc: Global,
+        arguments: &Arguments<'_>,
+        setting: &Setting<'_, '_>,
+    ) -> Applied {
         let (text, numbered) = (arguments.text(0, ""), arguments.boolean(2, false));
         let pattern = arguments.optional_regex(1);
         Applied::value(all_parsed(alloc, setting.patterns, pattern, numbered, text))

@@ -10,7 +10,7 @@ use std::alloc::Global;
 use vrl_builtin::{
     Applied, Arguments, Givens, OneTag, Parameter, Setting, Tags, optional, required,
 };
-use vrl_pattern::Patterns;
+use vrl_pattern::Searches;
 use vrl_value::{Chars, Memory, Tag, Value};
 
 /// `replace(value: string, pattern: string or regex, with: string, count: integer = -1)`: string. The text with the first `count` matches of the pattern
@@ -50,7 +50,7 @@ fn cuts_of(text: &str, count: Option<u64>) -> usize
 // The text with the first so many matches of a text or a regex replaced, or each. `Memory`: want of memory.
 fn replace_by(
     alloc: Global,
-    patterns: &Patterns,
+    patterns: &Searches<'_>,
     text: &str,
     pattern: &Value,
     with: &str,
@@ -85,7 +85,12 @@ impl OneTag for Replace {
         false
     }
 
-    fn apply(&self, alloc: Global, arguments: &Arguments<'_>, setting: &Setting<'_>) -> Applied {
+    fn apply(
+        &self,
+        alloc: Global,
+        arguments: &Arguments<'_>,
+        setting: &Setting<'_, '_>,
+    ) -> Applied {
         let (text, with) = (arguments.text(0, ""), arguments.text(2, ""));
         let count = count_of(arguments.integer(3, -1));
         Applied::text(replace_by(

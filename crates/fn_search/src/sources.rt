@@ -4,13 +4,13 @@ ghost use Rattle.vrl_value.specs.View.{tree_of};
 ghost use Rattle.fn_search.specs.Sources.{is_match};
 
 use std::alloc::Global;
-use vrl_pattern::Patterns;
+use vrl_pattern::Searches;
 use vrl_value::{Memory, Value};
 
 /// Whether the value is a regex that matches somewhere in the text. `Memory`: want of memory.
 pub(crate) fn is_match(
     alloc: Global,
-    patterns: &Patterns,
+    patterns: &Searches<'_>,
     text: &str,
     value: &Value,
 ) -> Result<bool, Memory>

@@ -12,7 +12,7 @@ use vrl_builtin::{
     Applied, Arguments, Builtin, Givens, Parameter, Setting, Tags, array_of_tag, optional, required,
 };
 use vrl_kind::Kind;
-use vrl_pattern::Patterns;
+use vrl_pattern::{Patterns, Searches};
 use vrl_value::{Items, Memory, Tag, Value};
 
 /// `split(value: string, pattern: string or regex, limit: integer)`: array of string. The parts of the text between the matches of the pattern, from the
@@ -42,7 +42,7 @@ fn most_parts(limit: Option<i64>, text: &str) -> usize
 // The parts of a text between the matches of a text or a regex, at most so many. `Memory`: want of memory.
 fn split_by(
     alloc: Global,
-    patterns: &Patterns,
+    patterns: &Searches<'_>,
     text: &str,
     pattern: &Value,
     most: usize,
@@ -61,7 +61,7 @@ fn split_by(
 // The same as a value. `Memory`: want of memory.
 fn parts(
     alloc: Global,
-    patterns: &Patterns,
+    patterns: &Searches<'_>,
     text: &str,
     pattern: &Value,
     limit: Option<i64>,
@@ -101,7 +101,12 @@ impl Builtin for Split {
         false
     }
 
-    fn apply(&self, alloc: Global, arguments: &Arguments<'_>, setting: &Setting<'_>) -> Applied {
+    fn apply(
+        &self,
+        alloc: Global,
+        arguments: &Arguments<'_>,
+        setting: &Setting<'_, '_>,
+    ) -> Applied {
         let (text, limit) = (arguments.text(0, ""), arguments.optional_integer(2));
         Applied::value(parts(alloc, setting.patterns, text, arguments.value(1), limit))
     }

@@ -77,7 +77,12 @@ impl OneTag for Join {
         given.part_allows_other(0, &Tags::STRING)
     }
 
-    fn apply(&self, alloc: Global, arguments: &Arguments<'_>, _setting: &Setting<'_>) -> Applied {
+    fn apply(
+        &self,
+        alloc: Global,
+        arguments: &Arguments<'_>,
+        _setting: &Setting<'_, '_>,
+    ) -> Applied {
         answer(alloc, arguments.items(0), arguments.text(1, ""))
     }
 

@@ -53,7 +53,12 @@ impl OneTag for Length {
         false
     }
 
-    fn apply(&self, _alloc: Global, arguments: &Arguments<'_>, _setting: &Setting<'_>) -> Applied {
+    fn apply(
+        &self,
+        _alloc: Global,
+        arguments: &Arguments<'_>,
+        _setting: &Setting<'_, '_>,
+    ) -> Applied {
         Applied::Value(Value::Int(length_of(arguments.value(0)) as i64))
     }
 

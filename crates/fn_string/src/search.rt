@@ -73,7 +73,12 @@ impl<F: SearchTest> OneTag for Search<F> {
         false
     }
 
-    fn apply(&self, alloc: Global, arguments: &Arguments<'_>, _setting: &Setting<'_>) -> Applied {
+    fn apply(
+        &self,
+        alloc: Global,
+        arguments: &Arguments<'_>,
+        _setting: &Setting<'_, '_>,
+    ) -> Applied {
         let (text, part) = (arguments.text(0, ""), arguments.text(1, ""));
         let sensitive = arguments.boolean(2, true);
         Applied::boolean(is_found(alloc, &self.0, part, text, sensitive))

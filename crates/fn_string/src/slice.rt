@@ -216,7 +216,12 @@ impl Builtin for Slice {
         true
     }
 
-    fn apply(&self, alloc: Global, arguments: &Arguments<'_>, _setting: &Setting<'_>) -> Applied {
+    fn apply(
+        &self,
+        alloc: Global,
+        arguments: &Arguments<'_>,
+        _setting: &Setting<'_, '_>,
+    ) -> Applied {
         let (start, end) = (arguments.integer(1, 0), arguments.optional_integer(2));
         answer(alloc, arguments.value(0), start, end)
     }

@@ -39,7 +39,12 @@ impl OneTag for StrLen {
         false
     }
 
-    fn apply(&self, _alloc: Global, arguments: &Arguments<'_>, _setting: &Setting<'_>) -> Applied {
+    fn apply(
+        &self,
+        _alloc: Global,
+        arguments: &Arguments<'_>,
+        _setting: &Setting<'_, '_>,
+    ) -> Applied {
         Applied::Value(Value::Int(count_of_characters(arguments.text(0, "")) as i64))
     }
 

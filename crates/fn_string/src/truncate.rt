@@ -74,7 +74,12 @@ impl OneTag for Truncate {
         false
     }
 
-    fn apply(&self, alloc: Global, arguments: &Arguments<'_>, _setting: &Setting<'_>) -> Applied {
+    fn apply(
+        &self,
+        alloc: Global,
+        arguments: &Arguments<'_>,
+        _setting: &Setting<'_, '_>,
+    ) -> Applied {
         let limit = limit_of(arguments.integer(1, 0));
         let (text, suffix) = (arguments.text(0, ""), arguments.text(2, ""));
         Applied::text(truncated(alloc, text, limit, suffix))

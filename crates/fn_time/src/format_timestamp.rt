@@ -73,7 +73,12 @@ impl Builtin for FormatTimestamp {
         false
     }
 
-    fn apply(&self, alloc: Global, arguments: &Arguments<'_>, _setting: &Setting<'_>) -> Applied {
+    fn apply(
+        &self,
+        alloc: Global,
+        arguments: &Arguments<'_>,
+        _setting: &Setting<'_, '_>,
+    ) -> Applied {
         Applied::text(text_shown(alloc, arguments.text(1, ""), moment_at(arguments, 0)))
     }
 

@@ -60,7 +60,12 @@ impl Builtin for FromUnixTimestamp {
         true
     }
 
-    fn apply(&self, alloc: Global, arguments: &Arguments<'_>, _setting: &Setting<'_>) -> Applied {
+    fn apply(
+        &self,
+        alloc: Global,
+        arguments: &Arguments<'_>,
+        _setting: &Setting<'_, '_>,
+    ) -> Applied {
         match moment_after(arguments.text(1, "seconds"), arguments.integer(0, 0)) {
             Some(moment) => Applied::Value(Value::Time(moment)),
             None => fail(alloc, "from_unix_timestamp", "out of range"),

@@ -28,7 +28,12 @@ impl OneTag for Now {
         false
     }
 
-    fn apply(&self, _alloc: Global, _arguments: &Arguments<'_>, setting: &Setting<'_>) -> Applied {
+    fn apply(
+        &self,
+        _alloc: Global,
+        _arguments: &Arguments<'_>,
+        setting: &Setting<'_, '_>,
+    ) -> Applied {
         Applied::Value(Value::Time(setting.moment))
     }
 

@@ -62,7 +62,12 @@ impl Builtin for ParseTimestamp {
         true
     }
 
-    fn apply(&self, alloc: Global, arguments: &Arguments<'_>, _setting: &Setting<'_>) -> Applied {
+    fn apply(
+        &self,
+        alloc: Global,
+        arguments: &Arguments<'_>,
+        _setting: &Setting<'_, '_>,
+    ) -> Applied {
         match moment_read(arguments.text(1, ""), arguments.text(0, "")) {
             Some(moment) => Applied::Value(Value::Time(moment)),
             None => fail(alloc, "parse_timestamp", "no match"),

@@ -74,7 +74,12 @@ impl Builtin for ToUnixTimestamp {
         }
     }
 
-    fn apply(&self, alloc: Global, arguments: &Arguments<'_>, _setting: &Setting<'_>) -> Applied {
+    fn apply(
+        &self,
+        alloc: Global,
+        arguments: &Arguments<'_>,
+        _setting: &Setting<'_, '_>,
+    ) -> Applied {
         let unit = arguments.text(1, "seconds");
         let moment = moment_at(arguments, 0);
         if is_out(unit, moment) {

@@ -33,7 +33,12 @@ impl<F: OfTag> OneTag for Is<F> {
         false
     }
 
-    fn apply(&self, _alloc: Global, arguments: &Arguments<'_>, _setting: &Setting<'_>) -> Applied {
+    fn apply(
+        &self,
+        _alloc: Global,
+        arguments: &Arguments<'_>,
+        _setting: &Setting<'_, '_>,
+    ) -> Applied {
         Applied::Value(Value::Bool(arguments.value(0).tag() == self.0.tag()))
     }
 

@@ -51,7 +51,12 @@ impl OneTag for IsEmpty {
         false
     }
 
-    fn apply(&self, _alloc: Global, arguments: &Arguments<'_>, _setting: &Setting<'_>) -> Applied {
+    fn apply(
+        &self,
+        _alloc: Global,
+        arguments: &Arguments<'_>,
+        _setting: &Setting<'_, '_>,
+    ) -> Applied {
         Applied::Value(Value::Bool(is_empty(arguments.value(0))))
     }
 

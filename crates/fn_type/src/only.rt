@@ -77,7 +77,12 @@ impl<F: OfTag> Builtin for Only<F> {
         given.allows_other(0, self.0.tag())
     }
 
-    fn apply(&self, alloc: Global, arguments: &Arguments<'_>, _setting: &Setting<'_>) -> Applied {
+    fn apply(
+        &self,
+        alloc: Global,
+        arguments: &Arguments<'_>,
+        _setting: &Setting<'_, '_>,
+    ) -> Applied {
         where_tagged(alloc, self.0.name(), self.0.tag(), arguments.value(0))
     }
 

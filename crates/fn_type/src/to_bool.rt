@@ -83,7 +83,12 @@ impl OneTag for ToBool {
         given.allows(0, Tag::Text)
     }
 
-    fn apply(&self, alloc: Global, arguments: &Arguments<'_>, _setting: &Setting<'_>) -> Applied {
+    fn apply(
+        &self,
+        alloc: Global,
+        arguments: &Arguments<'_>,
+        _setting: &Setting<'_, '_>,
+    ) -> Applied {
         match truth_of(arguments.value(0)) {
             Some(truth) => Applied::Value(Value::Bool(truth)),
             None => fail(alloc, self.name(), "not a boolean word"),

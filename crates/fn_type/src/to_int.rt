@@ -66,7 +66,12 @@ impl OneTag for ToInt {
         given.allows(0, Tag::Text)
     }
 
-    fn apply(&self, alloc: Global, arguments: &Arguments<'_>, _setting: &Setting<'_>) -> Applied {
+    fn apply(
+        &self,
+        alloc: Global,
+        arguments: &Arguments<'_>,
+        _setting: &Setting<'_, '_>,
+    ) -> Applied {
         match whole_number(arguments.value(0)) {
             Some(number) => Applied::Value(Value::Int(number)),
             None => fail(alloc, self.name(), "not a whole number"),

@@ -63,7 +63,12 @@ impl OneTag for ToString {
         false
     }
 
-    fn apply(&self, alloc: Global, arguments: &Arguments<'_>, _setting: &Setting<'_>) -> Applied {
+    fn apply(
+        &self,
+        alloc: Global,
+        arguments: &Arguments<'_>,
+        _setting: &Setting<'_, '_>,
+    ) -> Applied {
         Applied::text(text_of(alloc, arguments.value(0)))
     }
 

@@ -12,7 +12,7 @@ use std::process::Abort;
 use vrl_builtin::{Applied, Arguments, Given, Givens, Setting};
 use vrl_json::{JsonFault, Scratch, from_line, json_needs_no_sources, lines_are_json};
 use vrl_kind::{Kind, kind_of, print};
-use vrl_pattern::Patterns;
+use vrl_pattern::{Patterns, Searches};
 use vrl_table::{Fun, apply, lookup, may_fail, parameters, result_kind};
 use vrl_value::{Chars, Memory, Moment, Names, Tag, Value};
 
@@ -137,9 +137,10 @@ fn answers(alloc: Global, function: Fun, arguments: &str, wanted: &str) -> Resul
         return Ok(false);
     }
     let patterns = one_pattern(alloc)?;
+    let searches = Searches::new(alloc, &patterns)?;
     let setting = Setting {
         moment: Moment::epoch(),
-        patterns: &patterns,
+        patterns: &searches,
     };
     is_answer(alloc, apply(alloc, function, &arguments, &setting), wanted)
 }

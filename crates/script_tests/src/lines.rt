@@ -60,6 +60,7 @@ fn made_of(
     let made = run_line(
         alloc,
         program,
+        &program.searches(alloc)?,
         sources,
         declared,
         &options,

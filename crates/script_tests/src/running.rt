@@ -91,7 +91,8 @@ fn ran_over(
     match from_line(alloc, event.as_bytes(), &mut Scratch::new(alloc)) {
         Ok(value) => {
             if inhabits(&value, declared) {
-                Ok(Some(run(alloc, program, value, Moment::epoch())?))
+                let searches = program.searches(alloc)?;
+                Ok(Some(run(alloc, program, &searches, value, Moment::epoch())?))
             } else {
                 Ok(None)
             }

@@ -2,11 +2,12 @@
 //!
 //! Files: `line.rt` has what a line is, `reader.rt` the reader of batches, over `piece.rt` (a take), `part.rt` (a line that is begun), `begun.rt` (a batch that
 //! is begun), `lines.rt` (where a line ends, and whether it is blank), `batch.rt` and `fault.rt`; `laws.rt` has what holds over any number of batches; `work.rt` has what is
-//! made of a line, `mapping.rt` the workers, `outs.rt` their results and `gate.rt` what they pass; `giving.rt` has bytes for a sink.
+//! made of a line, `mapping.rt` the workers, `chunk.rt` the lines of each, `outs.rt` their results and `gate.rt` what they pass; `giving.rt` has bytes for a sink.
 #![tactic(auto)]
 
 mod batch;
 mod begun;
+mod chunk;
 mod fault;
 mod gate;
 mod giving;
@@ -21,6 +22,7 @@ mod reader;
 mod work;
 
 pub use batch::Batch;
+pub use chunk::Chunk;
 pub use fault::BatchFault;
 pub use gate::{FreeGate, Gate};
 pub use giving::give_all;

@@ -2,11 +2,11 @@ ghost use Rattle.std.specs.Prelude.{◌≡◌, ◌+◌, ◌-◌, ◌/◌, ◌^�
 ghost use Rattle.vrl_batch.specs.Outs.{Joins};
 
 use crate::batch::Batch;
+use crate::chunk::Chunk;
 use crate::gate::Gate;
 use crate::line::Line;
 use crate::outs::Outs;
 use crate::work::Work;
-use json::Scratch;
 use std::alloc::Global;
 use std::thread;
 use std::thread::Threads;
@@ -35,7 +35,7 @@ pub fn map_batch<R: Threads + Sync, W: Work + Sync, G: Gate + Sync>(
     let chunk = |start: usize, chunk: &[Line]| -> Result<Outs, Memory>
         requires { start + length chunk.now < 2 ^ 64 }
         ensures { IfOk result (λ outs. outs ≡ map (W.makes work.entry.now) chunk.now) }
-    { chunk_outs(alloc, start, chunk, work, gate) };
+    { work.each(alloc, Chunk::new(start, chunk, gate)) };
     let parts = thread::map_chunks(rt, alloc, lines, size, &chunk)?;
     joined(alloc, parts)
 }
@@ -48,28 +48,6 @@ fn chunk_size(lines: usize, jobs: usize) -> usize
     ensures some { 0 < result }
 {
     (lines + jobs - 1) / jobs
-}
-
-// What is made of the lines of a chunk that begins at this place.
-fn chunk_outs<W: Work, G: Gate>(
-    alloc: Global,
-    start: usize,
-    chunk: &[Line],
-    work: &W,
-    gate: &G,
-) -> Result<Outs, Memory>
-    requires { start + length chunk.now < 2 ^ 64 }
-    ensures { IfOk result (λ outs. outs ≡ map (W.makes work.now) chunk.now) }
-{
-    let mut outs = Vec::with_capacity(alloc, chunk.len())?;
-    let mut scratch = Scratch::new(alloc);
-    let mut place = start;
-    for line in chunk {
-        gate.pass(place);
-        outs.push(work.one(alloc, line, &mut scratch)?)?;
-        place += 1;
-    }
-    Ok(Outs::new(outs))
 }
 
 // The results of all chunks.

@@ -1,5 +1,6 @@
-use crate::line::Line;
-use json::Scratch;
+use crate::chunk::Chunk;
+use crate::gate::Gate;
+use crate::outs::Outs;
 use std::alloc::Global;
 use vrl_value::{Bytes, Memory};
 
@@ -31,15 +32,14 @@ pub struct LineOut {
 
 /// What is done with each line.
 pub trait Work {
-    ghost use Rattle.std.specs.Prelude.{◌≡◌, IfOk};
+    ghost use Rattle.std.specs.Prelude.{◌≡◌, map, IfOk};
     ghost use Rattle.vrl_batch.specs.declared.line.Line.{Line};
     ghost use Rattle.vrl_batch.specs.declared.work.LineOut.{LineOut};
 
     /// What it makes of a line.
     ghost makes: { Self → Line → LineOut };
 
-    /// What it makes of a line. `scratch` is what reading JSON needs; a worker keeps one from line to line, and what is
-    /// made doesn't depend on its contents. `Memory`: want of memory.
-    fn one(&self, alloc: Global, line: &Line, scratch: &mut Scratch) -> Result<LineOut, Memory>
-        ensures { IfOk result (λ out. out ≡ makes self.now line.now) };
+    /// What one worker makes of the lines of a chunk, in their order. What it keeps from line to line is its own. `Memory`: want of memory.
+    fn each<G: Gate>(&self, alloc: Global, chunk: Chunk<'_, G>) -> Result<Outs, Memory>
+        ensures { IfOk result (λ outs. outs ≡ map (makes self.now) chunk.entry) };
 }

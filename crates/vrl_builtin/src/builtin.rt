@@ -76,7 +76,7 @@ pub trait Builtin {
     /// Calls the function. Each required parameter has an argument, each argument has a tag that its parameter allows and is a literal that
     /// the function allows where one is wanted, and each regex in the arguments is one of the patterns. `Failed` comes exactly where the row
     /// has a text. `Memory`: want of memory.
-    fn apply(&self, alloc: Global, arguments: &Arguments<'_>, setting: &Setting<'_>) -> Applied
+    fn apply(&self, alloc: Global, arguments: &Arguments<'_>, setting: &Setting<'_, '_>) -> Applied
         requires arguments { AreArguments (row self.now) (arguments_of arguments.now) }
         requires regexes { IsTrue (arguments_below (length setting.now.patterns.now) (arguments_of arguments.now)) }
         ensures { Applies ((row self.now).means (arguments_of arguments.now) (setting_of setting.now)) result };

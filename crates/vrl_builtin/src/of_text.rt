@@ -51,7 +51,12 @@ impl<F: FromText> OneTag for OfText<F> {
         false
     }
 
-    fn apply(&self, alloc: Global, arguments: &Arguments<'_>, _setting: &Setting<'_>) -> Applied {
+    fn apply(
+        &self,
+        alloc: Global,
+        arguments: &Arguments<'_>,
+        _setting: &Setting<'_, '_>,
+    ) -> Applied {
         Applied::text(self.0.make(alloc, arguments.text(0, "")))
     }
 

@@ -40,7 +40,7 @@ pub trait OneTag {
 
     /// Calls the function. The conditions are those of [`Builtin::apply`]. `Failed` comes exactly where the row has words. `Memory`: want of
     /// memory.
-    fn apply(&self, alloc: Global, arguments: &Arguments<'_>, setting: &Setting<'_>) -> Applied
+    fn apply(&self, alloc: Global, arguments: &Arguments<'_>, setting: &Setting<'_, '_>) -> Applied
         requires arguments { AreArguments (whole_row (one_tag_row self.now)) (arguments_of arguments.now) }
         requires regexes { IsTrue (arguments_below (length setting.now.patterns.now) (arguments_of arguments.now)) }
         ensures { Applies (named (one_tag_row self.now).name ((one_tag_row self.now).means (arguments_of arguments.now) (setting_of setting.now))) result };
@@ -77,7 +77,12 @@ impl<F: OneTag> Builtin for F {
         OneTag::may_fail(self, given)
     }
 
-    fn apply(&self, alloc: Global, arguments: &Arguments<'_>, setting: &Setting<'_>) -> Applied {
+    fn apply(
+        &self,
+        alloc: Global,
+        arguments: &Arguments<'_>,
+        setting: &Setting<'_, '_>,
+    ) -> Applied {
         OneTag::apply(self, alloc, arguments, setting)
     }
 

@@ -1,11 +1,11 @@
-use vrl_pattern::Patterns;
+use vrl_pattern::Searches;
 use vrl_value::Moment;
 
 /// What a call finds beside its arguments.
 #[derive(Clone, Copy)]
-pub struct Setting<'a> {
+pub struct Setting<'a, 'r> {
     /// The moment of the line that the script runs over.
     pub moment: Moment,
-    /// The regexes of the script.
-    pub patterns: &'a Patterns,
+    /// The regexes of the script, and what their searches write to.
+    pub patterns: &'a Searches<'r>,
 }

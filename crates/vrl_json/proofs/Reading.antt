@@ -1,10 +1,9 @@
 -- The parts of an array or an object that were read, beside the tree of them in which a mark stands for each number that isn't whole.
-use Rattle.std.proofs.Common.{◌≡◌, ℕ, ℤ, ◌<◌, List, [], ◌∷◌, ◌++◌, length, Bool, true, false, ◌&&◌, cond, Option, Some, None, option_map, option_and_then, Ordering, Less, Equal, Greater, nat_cmp, refl, ap, ◌∙◌, arith}
+use Rattle.std.proofs.Common.{◌≡◌, ℕ, ℤ, List, [], ◌∷◌, ◌++◌, Bool, true, false, ◌&&◌, cond, Option, Some, None, option_map, option_and_then, Ordering, Less, Equal, Greater, nat_cmp, refl, ap, ◌∙◌}
 use Rattle.std.specs.Cmp.Lexicographic.{slice_cmp}
 use Rattle.std.specs.Ordering.{match_ordering}
 use Rattle.json.specs.Token.{Token}
 use Rattle.json.specs.Json.{parse_map, value}
-use Rattle.json.specs.Lex.{lex, punctuate, tokens}
 use Rattle.json.proofs.Grammar.{value_is}
 use Rattle.serde_json.specs.Data as json
 use Rattle.serde_json.specs.Read.{converted, number_of, of_json}
@@ -98,13 +97,6 @@ reading-unmarked d t same json = rw (tree_unmarked d, ← same, json) refl
 
 pub reading-marked : (d : json.Data) (t : Tree) → t ≡ marked_tree d → is_json t ≡ false → reading_of_tree (whole_tree d) ≡ not_whole
 reading-marked d t same json = rw (tree_unmarked d, ← same, json) refl
-
--- ---- a text with a token has a byte
-
-pub some_text : (text : List ℕ) → 0 < length (tokens text) → 0 < length text
-unfolding lex punctuate
-some_text [] some = some
-some_text (b ∷ text) some = omega arith
 
 -- ---- a number that was read
 

@@ -1,10 +1,13 @@
-ghost use Rattle.std.specs.Prelude.{◌≡◌, ◌<◌, ◌≤◌, length, List, [], ◌∷◌, ◌++◌, ℕ, Err, Some, None, IfOk, IsTrue, OnOk};
+ghost use Rattle.std.specs.Prelude.{◌≡◌, ◌<◌, ◌≤◌, ◌⊎◌, length, List, [], ◌∷◌, ◌++◌, ℕ, Err, Some, None, IfOk, IsTrue, IsUtf8, OnOk};
 ghost use Rattle.json.specs.Json.{value, items, members};
+ghost use Rattle.json.specs.Lex.{tokens};
+ghost use Rattle.json.specs.Scratch.{room};
 ghost use Rattle.serde_json.specs.Data as json;
 ghost use Rattle.serde_json.specs.Read.{converted, of_items, of_json, of_members, read};
 ghost use Rattle.vrl_value.specs.Depth.{depth_of};
 ghost use Rattle.vrl_value.specs.Tree.{Tree, IsOrdered, is_json, items_are_json, members_are_json};
 ghost use Rattle.vrl_value.specs.View.{tree_of, items_of, members_of};
+ghost use Rattle.vrl_json.specs.Faults.{takes_memory};
 ghost use Rattle.vrl_json.specs.Line.{not_json, not_whole, whole, reading_of, reading_of_json};
 ghost use Rattle.vrl_json.specs.Marked.{marked, marked_items, marked_members, marked_tree};
 
@@ -24,15 +27,16 @@ const DEPTH_LIMIT: usize = 127;
 ///
 /// `NotJson`: the bytes are no such text. `NotWhole`: they are, and a number of the value is not a whole
 /// number of 64 bits with a sign in the plain form of digits; `-0` is not, nor is `1.0` or `1e2`. A number
-/// at a name that a later equal name replaces is no number of the value. `Memory`: want of memory, which no empty
-/// line meets.
+/// at a name that a later equal name replaces is no number of the value. `Memory`: want of memory, for a value that
+/// begins as a text, an array or an object, or where `scratch` has not yet room for so many bytes.
 ///
 /// `scratch` is what reading needs beside the value. Its contents don't matter; keep one from line to line.
 pub fn from_line(alloc: Global, bytes: &[u8], scratch: &mut Scratch) -> Result<Value, JsonFault>
     ensures value { IfOk result (λ value. reading_of bytes.now ≡ whole (tree_of value)) }
     ensures not_json { result ≡ Err JsonFault.NotJson → reading_of bytes.now ≡ not_json }
     ensures not_whole { result ≡ Err JsonFault.NotWhole → reading_of bytes.now ≡ not_whole }
-    ensures memory { result ≡ Err JsonFault.Memory → 0 < length bytes.now }
+    ensures memory { result ≡ Err JsonFault.Memory → IsUtf8 bytes.now
+        × (IsTrue (takes_memory 127 (tokens bytes.now)) ⊎ (room scratch.old < length bytes.now)) }
 {
     let Ok(text) = simdutf8::compat::from_utf8(bytes) else {
         return Err(JsonFault::NotJson);
@@ -62,7 +66,8 @@ fn read_text(alloc: Global, text: &str, scratch: &mut Scratch) -> Result<Value, 
     ensures value { IfOk result (λ value. reading_of_json (read text.now) ≡ whole (tree_of value)) }
     ensures not_json { result ≡ Err JsonFault.NotJson → read text.now ≡ None }
     ensures not_whole { result ≡ Err JsonFault.NotWhole → reading_of_json (read text.now) ≡ not_whole }
-    ensures memory { result ≡ Err JsonFault.Memory → 0 < length text.now }
+    ensures memory { result ≡ Err JsonFault.Memory
+        → IsTrue (takes_memory 127 (tokens text.now)) ⊎ (room scratch.old < length text.now) }
 {
     let Ok(mut reader) = Reader::new(text, scratch) else {
         return Err(JsonFault::Memory);
@@ -88,7 +93,7 @@ fn read_value(alloc: Global, reader: &mut Reader<'_>, depth: usize) -> Result<Va
     ensures shorter { OnOk result (length reader.new < length reader.old) }
     ensures not_json { result ≡ Err JsonFault.NotJson → converted of_json (value depth reader.old) ≡ None }
     ensures not_whole { result ≡ Err JsonFault.NotWhole → ⊥ }
-    ensures memory { result ≡ Err JsonFault.Memory → 0 < length reader.old }
+    ensures memory { result ≡ Err JsonFault.Memory → IsTrue (takes_memory depth reader.old) }
 {
     let Some(token) = reader.next() else {
         return Err(JsonFault::NotJson);

@@ -1,10 +1,11 @@
 -- What is read of the matches, one after the other.
-use Rattle.std.proofs.Common.{◌≡◌, ◌≢◌, ℕ, zero, suc, ◌+◌, ◌-◌, ◌<◌, ◌==◌, Bool, true, false, if◌then◌else◌, List, [], ◌∷◌, ◌++◌, map, take, drop, Option, Some, None, option_map, refl, sym, ap, ◌∙◌, arith, append_assoc, ne_eqb}
+use Rattle.std.proofs.Common.{◌≡◌, ◌≢◌, ℕ, zero, suc, ◌+◌, ◌-◌, ◌<◌, ◌==◌, Bool, true, false, if◌then◌else◌, List, [], ◌∷◌, ◌++◌, map, take, drop, Option, Some, None, option_map, refl, sym, ap, ◌∙◌, arith, add-one, append_assoc, ne_eqb}
 use Rattle.std.proofs.lemmas.List.{append-nil}
 use Rattle.std.proofs.lemmas.List.FromFn.{map-range_with_len_more}
 use Rattle.std.specs.List.{range_with_len}
 use Rattle.regex.specs.Locations.{location, location_count, AreLocationsOf}
-use Rattle.regex.specs.Patterns.{Match}
+use Rattle.regex.specs.Patterns.{Match, Re, find_all_str, find_str}
+use Rattle.regex_hir.specs.Find.{matches_from}
 use Rattle.regex.specs.Search.{as_limit, take_limit}
 use Rattle.regex.specs.Replace.{replaced_by}
 use Rattle.regex.specs.declared.locations.CaptureLocations.{CaptureLocations}
@@ -52,6 +53,16 @@ matches_go_on f found after all g m before ms (suc n) some is one adds so_far =
     let less : suc n - 1 ≡ n = omega arith in
     ap (λ xs. xs ++ map f (take (suc n - 1) ms)) adds ∙ append_assoc found (g ∷ []) (map f (take (suc n - 1) ms))
     ∙ (λ i. found ++ (one i ∷ map f (take (less i) ms))) ∙ ap (λ xs. found ++ map f (take (suc n) xs)) (sym is) ∙ so_far
+
+abbrev pub at_most_one : Option Match → List Match
+at_most_one None = []
+at_most_one (Some m) = m ∷ []
+
+-- the first of all matches is the leftmost one
+pub first_of_all : (re : Re) (text : List ℕ) (o : Option Match) → find_str re text 0 ≡ o → take 1 (find_all_str re text) ≡ at_most_one o
+unfolding matches_from
+first_of_all re text None is = rw (is, add-one) refl
+first_of_all re text (Some m) is = rw (is, add-one) refl
 
 take_none : {A : Type 0} (n : ℕ) (xs : List A) → xs ≡ [] → take n xs ≡ []
 take_none zero xs none = refl

@@ -1,33 +1,31 @@
 ghost use Rattle.std.specs.Prelude.{◌≡◌, ℕ, [], ◌∷◌, List, Some, All, IfOk, IfSome, MatchOption, map, option_map, take};
 ghost use Rattle.std.specs.List.{range_with_len};
 ghost use Rattle.regex.specs.Locations.{location, location_count};
-ghost use Rattle.regex.specs.Patterns.{Match, find_all_str, span};
-ghost use Rattle.regex.specs.Search.{first_or_all, as_limit};
-ghost use Rattle.regex.specs.Strings.{captures_left, regex_pattern, IsWrittenBy};
+ghost use Rattle.regex.specs.Patterns.{Match, find_all_str, find_str, span};
+ghost use Rattle.regex.specs.Search.{first_or_all};
+ghost use Rattle.regex.specs.Strings.{captures_left, matcher_pattern, IsWrittenBy};
 ghost use Rattle.vrl_value.specs.Tree.{string};
 ghost use Rattle.vrl_value.specs.View.{items_of, items_of_trees, tree_of};
 ghost use Rattle.vrl_pattern.specs.Built.{IsBuiltOf};
-ghost use Rattle.vrl_pattern.specs.Matches.{all_matches, first_match, group_place, group_places, pieces, replaced};
+ghost use Rattle.vrl_pattern.specs.Matches.{all_matches, group_place, group_places, pieces};
 ghost use Rattle.vrl_pattern.specs.Places.{place_span, AreParts, IsPart};
 
 use crate::place::{Groups, Matches, Place};
-use regex::{CaptureLocations, CaptureMatches, Regex, Template};
+use regex::{CaptureLocations, CaptureMatches, Matcher, Regex, Template};
 use std::alloc::Global;
 use vrl_value::{Chars, Items, Memory, Value};
 
-/// Where the leftmost match lies. `None`: there is none. `Memory`: want of memory.
-pub(crate) fn first_place(alloc: Global, regex: &Regex, text: &str) -> Result<Option<Place>, Memory>
-    ensures found { (source : List ℕ) → IsBuiltOf source regex.now → IfOk result (λ place. option_map place_span place ≡ option_map span (first_match source text.now)) }
-    ensures within { IfOk result (λ place. IfSome place (λ place. IsPart text.now (place_span place))) }
+/// Where the leftmost match lies. `None`: there is none.
+pub(crate) fn first_place(matcher: &mut Matcher<'_>, text: &str) -> Option<Place>
+    ensures found { option_map place_span result ≡ option_map span (find_str (matcher_pattern matcher.old) text.now 0) }
+    ensures within { IfSome result (λ place. IsPart text.now (place_span place)) }
+    ensures same { matcher_pattern matcher.new ≡ matcher_pattern matcher.old }
 {
-    let mut matcher = regex.matcher(alloc)?;
-    match matcher.find(text) {
-        Some(found) => Ok(Some(Place {
-            start: found.start(),
-            end: found.end(),
-        })),
-        None => Ok(None),
-    }
+    let found = matcher.find(text)?;
+    Some(Place {
+        start: found.start(),
+        end: found.end(),
+    })
 }
 
 // ---- groups
@@ -91,6 +89,25 @@ fn groups_left(
     Ok(found)
 }
 
+/// Where the groups of the first match lie, for as many groups as there is room for, if there is one. `Memory`: want of memory.
+pub(crate) fn first_groups(
+    alloc: Global,
+    matcher: &mut Matcher<'_>,
+    locations: &mut CaptureLocations,
+    text: &str,
+) -> Result<Matches, Memory>
+    ensures found { IfOk result (λ found. found ≡ map (λ m. map (group_place m) (range_with_len 0 (location_count locations.old))) (take 1 (find_all_str (matcher_pattern matcher.old) text.now))) }
+    ensures within { IfOk result (λ found. All (AreParts text.now) found) }
+    ensures same { matcher_pattern matcher.new ≡ matcher_pattern matcher.old }
+{
+    let mut found = Vec::new(alloc);
+    let Some(_) = matcher.captures_read(locations, text) else {
+        return Ok(Matches::new(found));
+    };
+    found.push(groups_in(alloc, locations)?)?;
+    Ok(Matches::new(found))
+}
+
 /// Where the groups of the first so many matches lie. `Memory`: want of memory.
 pub(crate) fn places(alloc: Global, regex: &Regex, text: &str, most: u64) -> Result<Matches, Memory>
     ensures found { (source : List ℕ) → IsBuiltOf source regex.now → IfOk result (λ found. found ≡ map (group_places source) (take most (all_matches source text.now))) }
@@ -126,62 +143,16 @@ pub(crate) fn split(alloc: Global, regex: &Regex, text: &str, limit: u64) -> Res
 
 // ---- replacing
 
-// The text with the first so many matches replaced by what the template writes; with each, where the number is 0. `Memory`: want of memory.
-fn replaced_by(
+/// The text with the first so many matches replaced by what the template writes; with each, where the number is 0. `Memory`: want of memory.
+pub(crate) fn replaced_by(
     alloc: Global,
-    regex: &Regex,
+    matcher: &mut Matcher<'_>,
     text: &str,
     template: &Template,
     limit: usize,
 ) -> Result<Chars, Memory>
-    ensures { IfOk result (λ changed. IsWrittenBy template.now text.now (first_or_all limit (find_all_str (regex_pattern regex.now) text.now)) changed) }
+    ensures written { IfOk result (λ changed. IsWrittenBy template.now text.now (first_or_all limit (find_all_str (matcher_pattern matcher.old) text.now)) changed) }
+    ensures same { matcher_pattern matcher.new ≡ matcher_pattern matcher.old }
 {
-    let mut matcher = regex.matcher(alloc)?;
     Ok(Chars::new(matcher.replacen(alloc, text, limit, template)?))
-}
-
-// The text with the first so many matches replaced; with each, where the number is 0. `Memory`: want of memory.
-fn replace_some(
-    alloc: Global,
-    regex: &Regex,
-    text: &str,
-    with: &str,
-    limit: usize,
-) -> Result<Chars, Memory>
-    ensures { (source : List ℕ) → IsBuiltOf source regex.now → IfOk result (λ changed. changed ≡ replaced source text.now with.now (as_limit limit)) }
-{
-    let template = Template::new(alloc, regex.capture_names(), with)?;
-    replaced_by(alloc, regex, text, &template, limit)
-}
-
-// The text with the first so many matches replaced. `Memory`: want of memory.
-fn replace_first(
-    alloc: Global,
-    regex: &Regex,
-    text: &str,
-    with: &str,
-    count: usize,
-) -> Result<Chars, Memory>
-    ensures { (source : List ℕ) → IsBuiltOf source regex.now → IfOk result (λ changed. changed ≡ replaced source text.now with.now (Some count)) }
-{
-    if count == 0 {
-        return Chars::copy_of(alloc, text);
-    }
-    replace_some(alloc, regex, text, with, count)
-}
-
-/// The text with the first so many matches replaced by what the template writes; with each, where no number is given. `Memory`: want of memory.
-pub(crate) fn replace(
-    alloc: Global,
-    regex: &Regex,
-    text: &str,
-    with: &str,
-    count: Option<u64>,
-) -> Result<Chars, Memory>
-    ensures { (source : List ℕ) → IsBuiltOf source regex.now → IfOk result (λ changed. changed ≡ replaced source text.now with.now count) }
-{
-    match count {
-        Some(count) => replace_first(alloc, regex, text, with, count as usize),
-        None => replace_some(alloc, regex, text, with, 0),
-    }
 }

@@ -1,26 +1,19 @@
-ghost use Rattle.std.specs.Prelude.{◌≡◌, ◌≢◌, ◌<◌, [], All, IfOk, IfErr, IfSome, OnOk, length, map, option_map, slice_index_or, take};
-ghost use Rattle.regex.specs.Patterns.{span};
-ghost use Rattle.vrl_value.specs.Tree.{string};
-ghost use Rattle.vrl_value.specs.View.{items_of, items_of_trees};
+ghost use Rattle.std.specs.Prelude.{◌≡◌, ◌≢◌, ◌<◌, [], IfOk, IfErr, OnOk, length, slice_index_or};
 ghost use Rattle.vrl_pattern.specs.Built.{IsBuiltOf};
 ghost use Rattle.vrl_pattern.specs.Groups.{groups_of};
 ghost use Rattle.vrl_pattern.specs.Malformed.{malformed_from, IsFaultOf};
-ghost use Rattle.vrl_pattern.specs.Matches.{all_matches, first_match, group_places, pieces, replaced};
-ghost use Rattle.vrl_pattern.specs.Places.{place_span, AreParts, IsPart};
 
 use crate::building::Building;
 use crate::fault::{BuildFault, Numbers};
 use crate::groups::group_names;
-use crate::matching;
-use crate::place::{Matches, Place};
 use regex::Regex;
 use std::alloc::Global;
 use std::marker::Model;
-use vrl_value::{Chars, Items, Memory, Names};
+use vrl_value::{Chars, Memory, Names};
 
 /// The regex literals of a script, built. A contract sees the list of their sources, none of which is malformed.
 ///
-/// What a search writes to is made for each call, and let go at its end, so that a table is lent to threads, of which each has one at most.
+/// It doesn't change, so threads share it; each searches by [`Searches`](crate::Searches) of its own.
 pub struct Patterns {
     sources: Vec<Chars>,
     regexes: Vec<Regex>,
@@ -109,61 +102,10 @@ impl Patterns {
     }
 
     // The regex with this number.
-    fn regex(&self, number: u32) -> &Regex
+    pub(crate) fn regex(&self, number: u32) -> &Regex
         requires { number < length self.now }
         ensures { IsBuiltOf (slice_index_or self.now number []) result.now }
     {
         &self.regexes[number as usize]
-    }
-
-    /// Where the leftmost match of the regex with this number lies in the text, between characters. `None`: it has no match. `Memory`: want of
-    /// memory.
-    pub fn find(&self, alloc: Global, number: u32, text: &str) -> Result<Option<Place>, Memory>
-        requires { number < length self.now }
-        ensures found { IfOk result (λ place. option_map place_span place ≡ option_map span (first_match (slice_index_or self.now number []) text.now)) }
-        ensures within { IfOk result (λ place. IfSome place (λ place. IsPart text.now (place_span place))) }
-    {
-        matching::first_place(alloc, self.regex(number), text)
-    }
-
-    /// Where the groups of the regex with this number lie in the first `most` of its matches in the text, which are taken from the left, none
-    /// over another; each part lies between characters. `Memory`: want of memory.
-    pub fn groups(
-        &self,
-        alloc: Global,
-        number: u32,
-        text: &str,
-        most: u64,
-    ) -> Result<Matches, Memory>
-        requires { number < length self.now }
-        ensures found { IfOk result (λ found. found ≡ map (group_places (slice_index_or self.now number [])) (take most (all_matches (slice_index_or self.now number []) text.now))) }
-        ensures within { IfOk result (λ found. All (AreParts text.now) found) }
-    {
-        matching::places(alloc, self.regex(number), text, most)
-    }
-
-    /// The parts of the text between the matches of the regex with this number, as strings: at most `limit`, the last of which holds the rest.
-    /// `Memory`: want of memory.
-    pub fn split(&self, alloc: Global, number: u32, text: &str, limit: u64) -> Result<Items, Memory>
-        requires { number < length self.now }
-        ensures { IfOk result (λ parts. items_of parts ≡ items_of_trees (map string (pieces (slice_index_or self.now number []) text.now limit))) }
-    {
-        matching::split(alloc, self.regex(number), text, limit)
-    }
-
-    /// The text with the first `count` matches of the regex with this number replaced, or each where there is no count: what the template `with`
-    /// of the crate `regex` writes stands in the place of each. `Memory`: want of memory.
-    pub fn replace(
-        &self,
-        alloc: Global,
-        number: u32,
-        text: &str,
-        with: &str,
-        count: Option<u64>,
-    ) -> Result<Chars, Memory>
-        requires { number < length self.now }
-        ensures { IfOk result (λ changed. changed ≡ replaced (slice_index_or self.now number []) text.now with.now count) }
-    {
-        matching::replace(alloc, self.regex(number), text, with, count)
     }
 }

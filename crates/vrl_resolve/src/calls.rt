@@ -104,7 +104,7 @@ fn arguments<'a>(
 /// What a call comes to, whose first arguments were run and gave these values.
 pub(crate) fn act(
     store: &mut Store,
-    context: &Context<'_>,
+    context: &Context<'_, '_>,
     callee: &Callee,
     run: Vec<Value>,
     args: &[Node],
@@ -133,7 +133,7 @@ pub(crate) fn act(
 // What a function answers to its arguments, of which the first were run and gave these values.
 fn call_function(
     store: &Store,
-    context: &Context<'_>,
+    context: &Context<'_, '_>,
     function: Fun,
     places: &[Option<usize>],
     run: &[Value],
@@ -155,7 +155,11 @@ fn call_function(
 
 // What a function answers to its arguments. `Error`: one has a tag that its parameter doesn't allow, or the function fails; `Deep`: its
 // value is nested too deeply.
-fn answer(context: &Context<'_>, function: Fun, arguments: &Arguments<'_>) -> Result<Value, Stop>
+fn answer(
+    context: &Context<'_, '_>,
+    function: Fun,
+    arguments: &Arguments<'_>,
+) -> Result<Value, Stop>
     // But for their tags they are arguments that the function takes.
     requires arguments { first_unfit 0 (row_of function).parameters (arguments_of arguments.now) ≡ None → AreArguments (row_of function) (arguments_of arguments.now) }
     requires regexes { IsTrue (arguments_below (length context.now.setting.patterns.now) (arguments_of arguments.now)) }

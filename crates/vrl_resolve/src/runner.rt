@@ -1,4 +1,4 @@
-ghost use Rattle.std.specs.Prelude.{length, IfOk, IsErr, IsTrue};
+ghost use Rattle.std.specs.Prelude.{◌≡◌, length, IfOk, IsErr, IsTrue};
 ghost use Rattle.vrl_value.specs.Regexes.{regexes_below};
 ghost use Rattle.vrl_value.specs.View.{members_of, tree_of};
 ghost use Rattle.vrl_store.specs.Outcomes as meaning;
@@ -16,13 +16,31 @@ use crate::walk::{Context, items};
 use std::alloc::Global;
 use std::collections::BTreeMap;
 use vrl_builtin::Setting;
+use vrl_pattern::Searches;
 use vrl_store::{Stop, Store};
 use vrl_value::{Fields, Memory, Moment, Names, Value};
 
+impl Program {
+    /// What searches for its regexes write to. A thread keeps it from run to run. `Memory`: want of memory.
+    #[tactic(auto, unfolding(crate::specs::Program::program_of))]
+    pub fn searches(&self, alloc: Global) -> Result<Searches<'_>, Memory>
+        ensures { IfOk result (λ searches. searches ≡ (program_of self.now).sources) }
+    {
+        Searches::new(alloc, &self.patterns)
+    }
+}
+
 /// Runs a program over an event, at a moment, from which it ends with no error that it doesn't handle. Each regex in the event is one of the
-/// program's. `Memory`: want of memory; the event is gone then.
+/// program's, and `searches` are [`Program::searches`]. `Memory`: want of memory; the event is gone then.
 #[tactic(auto, unfolding(crate::specs::Program::program_of))]
-pub fn run(alloc: Global, program: &Program, event: Value, moment: Moment) -> Result<Ran, Memory>
+pub fn run(
+    alloc: Global,
+    program: &Program,
+    searches: &Searches<'_>,
+    event: Value,
+    moment: Moment,
+) -> Result<Ran, Memory>
+    requires searches { searches.now ≡ (program_of program.now).sources }
     requires handled { ¬ IsUnhandled (ended_over (program_of program.now) moment (tree_of event)).outcome }
     requires event { IsTrue (regexes_below (length (program_of program.now).sources) (tree_of event)) }
     ensures ran { IfOk result (IsRan (ended_over (program_of program.now) moment (tree_of event))) }
@@ -33,7 +51,7 @@ pub fn run(alloc: Global, program: &Program, event: Value, moment: Moment) -> Re
         alloc,
         setting: Setting {
             moment,
-            patterns: &program.patterns,
+            patterns: searches,
         },
         names: &program.names,
     };

@@ -21,7 +21,7 @@ use vrl_value::{Chars, Memory, Tag, Value};
 /// Writes a value where the target takes one.
 pub(crate) fn write_to(
     store: &mut Store,
-    context: &Context<'_>,
+    context: &Context<'_, '_>,
     target: &Option<Place>,
     value: Value,
 ) -> Result<(), Stop>
@@ -48,7 +48,7 @@ pub(crate) fn asked_copy(alloc: Global, is_asked: bool, value: &Value) -> Result
 /// The value at a target; null where it takes nothing. `Memory`: want of memory.
 pub(crate) fn at_target(
     store: &Store,
-    context: &Context<'_>,
+    context: &Context<'_, '_>,
     target: &Option<Place>,
 ) -> Result<Value, Memory>
     requires target { IsTarget (count_of store.now) target.now }

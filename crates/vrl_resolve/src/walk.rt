@@ -34,18 +34,18 @@ use vrl_value::{Chars, Fields, Items, Names, Value};
 
 /// What stays the same while a script runs over an event.
 #[derive(Clone, Copy)]
-pub(crate) struct Context<'a> {
+pub(crate) struct Context<'a, 'r> {
     /// Where memory comes from.
     pub(crate) alloc: Global,
     /// The moment of the line, and the regexes of the script.
-    pub(crate) setting: Setting<'a>,
+    pub(crate) setting: Setting<'a, 'r>,
     /// The names of the variables, by their numbers.
     pub(crate) names: &'a Names,
 }
 
 /// Runs an expression: its value, or why it ends without one. What was written before stays.
 #[cycle(walk)]
-pub(crate) fn eval(store: &mut Store, context: &Context<'_>, node: &Node) -> Result<Value, Stop>
+pub(crate) fn eval(store: &mut Store, context: &Context<'_, '_>, node: &Node) -> Result<Value, Stop>
     requires ready { IsReadyStore context.now store.old }
     requires fits { FitsIn context.now (linked_of node.now) }
     ensures ended { EndsIn context.now (meant context.now (linked_of node.now) store.old) store.new result }
@@ -87,7 +87,7 @@ pub(crate) fn eval(store: &mut Store, context: &Context<'_>, node: &Node) -> Res
 
 // The values of expressions in order.
 #[cycle(walk)]
-fn values(store: &mut Store, context: &Context<'_>, nodes: &[Node]) -> Result<Vec<Value>, Stop>
+fn values(store: &mut Store, context: &Context<'_, '_>, nodes: &[Node]) -> Result<Vec<Value>, Stop>
     requires ready { IsReadyStore context.now store.old }
     requires fits { AllFitIn context.now (parts_view nodes.now) }
     ensures ended { AllEnd context.now (map linked_of nodes.now) store.old store.new result }
@@ -104,7 +104,7 @@ fn values(store: &mut Store, context: &Context<'_>, nodes: &[Node]) -> Result<Ve
 }
 
 #[cycle(walk)]
-fn array(store: &mut Store, context: &Context<'_>, parts: &[Node]) -> Result<Value, Stop>
+fn array(store: &mut Store, context: &Context<'_, '_>, parts: &[Node]) -> Result<Value, Stop>
     requires ready { IsReadyStore context.now store.old }
     requires fits { AllFitIn context.now (parts_view parts.now) }
     ensures ended { EndsIn context.now (meant context.now (linked.array (parts_view parts.now)) store.old) store.new result }
@@ -115,7 +115,11 @@ fn array(store: &mut Store, context: &Context<'_>, parts: &[Node]) -> Result<Val
 }
 
 #[cycle(walk)]
-fn object(store: &mut Store, context: &Context<'_>, pairs: &[(Chars, Node)]) -> Result<Value, Stop>
+fn object(
+    store: &mut Store,
+    context: &Context<'_, '_>,
+    pairs: &[(Chars, Node)],
+) -> Result<Value, Stop>
     requires ready { IsReadyStore context.now store.old }
     requires fits { PairsFitIn context.now (pairs_view pairs.now) }
     ensures ended { EndsIn context.now (meant context.now (linked.object (pairs_view pairs.now)) store.old) store.new result }
@@ -131,7 +135,12 @@ fn object(store: &mut Store, context: &Context<'_>, pairs: &[(Chars, Node)]) -> 
 }
 
 #[cycle(walk)]
-fn query(store: &mut Store, context: &Context<'_>, part: &Node, path: &Path) -> Result<Value, Stop>
+fn query(
+    store: &mut Store,
+    context: &Context<'_, '_>,
+    part: &Node,
+    path: &Path,
+) -> Result<Value, Stop>
     requires ready { IsReadyStore context.now store.old }
     requires fits { FitsIn context.now (linked_of part.now) }
     ensures ended { EndsIn context.now (meant context.now (linked.query (linked_of part.now) path.now) store.old) store.new result }
@@ -146,7 +155,11 @@ fn query(store: &mut Store, context: &Context<'_>, part: &Node, path: &Path) -> 
 
 // Items in order: the value of the last, null where there is none.
 #[cycle(walk)]
-pub(crate) fn items(store: &mut Store, context: &Context<'_>, items: &[Node]) -> Result<Value, Stop>
+pub(crate) fn items(
+    store: &mut Store,
+    context: &Context<'_, '_>,
+    items: &[Node],
+) -> Result<Value, Stop>
     requires ready { IsReadyStore context.now store.old }
     requires fits { AllFitIn context.now (parts_view items.now) }
     ensures ended { EndsIn context.now (items_mean (names_in context.now) (setting_in context.now) null (parts_view items.now) (store_at context.now store.old)) store.new result }
@@ -162,7 +175,7 @@ pub(crate) fn items(store: &mut Store, context: &Context<'_>, items: &[Node]) ->
 
 // Items whose variables end with them, by whatever end.
 #[cycle(walk)]
-fn block(store: &mut Store, context: &Context<'_>, body: &[Node]) -> Result<Value, Stop>
+fn block(store: &mut Store, context: &Context<'_, '_>, body: &[Node]) -> Result<Value, Stop>
     requires ready { IsReadyStore context.now store.old }
     requires fits { AllFitIn context.now (parts_view body.now) }
     ensures ended { EndsIn context.now (meant context.now (linked.block (parts_view body.now)) store.old) store.new result }
@@ -177,7 +190,7 @@ fn block(store: &mut Store, context: &Context<'_>, body: &[Node]) -> Result<Valu
 #[cycle(walk)]
 fn conditional(
     store: &mut Store,
-    context: &Context<'_>,
+    context: &Context<'_, '_>,
     arms: &[Arm],
     otherwise: &Option<Vec<Node>>,
 ) -> Result<Value, Stop>
@@ -201,7 +214,7 @@ fn conditional(
 
 // Whether an expression's value is true.
 #[cycle(walk)]
-fn holds(store: &mut Store, context: &Context<'_>, node: &Node) -> Result<bool, Stop>
+fn holds(store: &mut Store, context: &Context<'_, '_>, node: &Node) -> Result<bool, Stop>
     requires ready { IsReadyStore context.now store.old }
     requires fits { FitsIn context.now (linked_of node.now) }
     ensures ended { EndsTrue (meant context.now (linked_of node.now) store.old) (store_at context.now store.new) result }
@@ -215,7 +228,7 @@ fn holds(store: &mut Store, context: &Context<'_>, node: &Node) -> Result<bool, 
 }
 
 #[cycle(walk)]
-fn negation(store: &mut Store, context: &Context<'_>, part: &Node) -> Result<Value, Stop>
+fn negation(store: &mut Store, context: &Context<'_, '_>, part: &Node) -> Result<Value, Stop>
     requires ready { IsReadyStore context.now store.old }
     requires fits { FitsIn context.now (linked_of part.now) }
     ensures ended { EndsIn context.now (meant context.now (linked.negation (linked_of part.now)) store.old) store.new result }
@@ -231,7 +244,7 @@ fn negation(store: &mut Store, context: &Context<'_>, part: &Node) -> Result<Val
 #[cycle(walk)]
 fn binary(
     store: &mut Store,
-    context: &Context<'_>,
+    context: &Context<'_, '_>,
     op: Op,
     left: &Node,
     right: &Node,
@@ -260,7 +273,7 @@ fn binary(
 // An operator between two sides that stand somewhere already. `None`: one of them doesn't.
 fn look(
     store: &Store,
-    context: &Context<'_>,
+    context: &Context<'_, '_>,
     op: Op,
     left: &Node,
     right: &Node,
@@ -280,7 +293,7 @@ fn look(
 #[cycle(walk)]
 fn beside(
     store: &mut Store,
-    context: &Context<'_>,
+    context: &Context<'_, '_>,
     op: Op,
     left: Value,
     right: &Node,
@@ -311,7 +324,7 @@ fn beside(
 #[cycle(walk)]
 fn coalescing(
     store: &mut Store,
-    context: &Context<'_>,
+    context: &Context<'_, '_>,
     left: &Node,
     right: &Node,
 ) -> Result<Value, Stop>
@@ -333,7 +346,7 @@ fn coalescing(
 #[cycle(walk)]
 fn disjunction(
     store: &mut Store,
-    context: &Context<'_>,
+    context: &Context<'_, '_>,
     left: &Node,
     right: &Node,
 ) -> Result<Value, Stop>
@@ -355,7 +368,7 @@ fn disjunction(
 #[cycle(walk)]
 fn conjunction(
     store: &mut Store,
-    context: &Context<'_>,
+    context: &Context<'_, '_>,
     left: &Node,
     right: &Node,
 ) -> Result<Value, Stop>
@@ -375,7 +388,7 @@ fn conjunction(
 }
 
 #[cycle(walk)]
-fn call(store: &mut Store, context: &Context<'_>, call: &Call) -> Result<Value, Stop>
+fn call(store: &mut Store, context: &Context<'_, '_>, call: &Call) -> Result<Value, Stop>
     requires ready { IsReadyStore context.now store.old }
     requires fits { FitsIn context.now (call_of call.now) }
     ensures ended { EndsIn context.now (meant context.now (call_of call.now) store.old) store.new result }
@@ -391,7 +404,7 @@ fn call(store: &mut Store, context: &Context<'_>, call: &Call) -> Result<Value, 
 #[cycle(walk)]
 fn answer(
     store: &mut Store,
-    context: &Context<'_>,
+    context: &Context<'_, '_>,
     callee: &Callee,
     args: &[Node],
 ) -> Result<Value, Stop>
@@ -408,7 +421,7 @@ fn answer(
 }
 
 #[cycle(walk)]
-fn give_back(store: &mut Store, context: &Context<'_>, part: &Node) -> Result<Value, Stop>
+fn give_back(store: &mut Store, context: &Context<'_, '_>, part: &Node) -> Result<Value, Stop>
     requires ready { IsReadyStore context.now store.old }
     requires fits { FitsIn context.now (linked_of part.now) }
     ensures ended { EndsIn context.now (meant context.now (linked.return_of (linked_of part.now)) store.old) store.new result }
@@ -421,7 +434,7 @@ fn give_back(store: &mut Store, context: &Context<'_>, part: &Node) -> Result<Va
 #[cycle(walk)]
 fn abort(
     store: &mut Store,
-    context: &Context<'_>,
+    context: &Context<'_, '_>,
     message: &Option<Box<Node>>,
 ) -> Result<Value, Stop>
     requires ready { IsReadyStore context.now store.old }

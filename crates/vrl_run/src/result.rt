@@ -20,22 +20,25 @@ use vrl_json::{
     JsonFault, Scratch, from_line, json_needs_no_sources, lines_are_json, lines_are_ordered,
 };
 use vrl_kind::{Kind, inhabits, inhabits_is_computed};
+use vrl_pattern::Searches;
 use vrl_resolve::{Ended, Program, Ran, run};
 use vrl_value::{Bytes, Memory, Names, Value};
 
 /// Runs a program over the event that a line stands for. `sources` are those of the program's regex literals, and over no event of the
 /// declared kind does the program end with an error that it doesn't handle, as `vrl_compile` promises of each that it accepts. A line that is too long, is no
-/// JSON text or has a number that isn't whole, or whose value is not of the declared kind, is refused. `scratch` is what reading needs; keep one from
-/// line to line. `Memory`: want of memory.
+/// JSON text or has a number that isn't whole, or whose value is not of the declared kind, is refused. `searches` are those of the program, and
+/// `scratch` is what reading needs; keep both from line to line. `Memory`: want of memory.
 pub fn run_line(
     alloc: Global,
     program: &Program,
+    searches: &Searches<'_>,
     sources: &Names,
     declared: &Kind,
     options: &Options,
     line: &Line,
     scratch: &mut Scratch,
 ) -> Result<LineOut, Memory>
+    requires searches { searches.now ≡ (program_of program.now).sources }
     requires sources { sources.now ≡ (program_of program.now).sources }
     requires handled { HandlesErrors declared.now (program_of program.now) }
     ensures { IfOk result (λ out. out ≡ result_of_line (program_of program.now) declared.now options.now line.now) }
@@ -54,7 +57,7 @@ pub fn run_line(
     lines_are_json();
     lines_are_ordered();
     json_needs_no_sources();
-    run_event(alloc, program, sources, options, line, event)
+    run_event(alloc, program, searches, sources, options, line, event)
 }
 
 // Why a line is refused from which no value was read. `Memory`: that was for want of memory, and the line isn't refused.
@@ -93,18 +96,20 @@ fn refused(alloc: Global, number: u64, reason: Reason) -> Result<LineOut, Memory
 fn run_event(
     alloc: Global,
     program: &Program,
+    searches: &Searches<'_>,
     sources: &Names,
     options: &Options,
     line: &Line,
     event: Value,
 ) -> Result<LineOut, Memory>
+    requires searches { searches.now ≡ (program_of program.now).sources }
     requires sources { sources.now ≡ (program_of program.now).sources }
     requires read { reading_of line.now.bytes ≡ whole (tree_of event) }
     requires handled { ¬ IsUnhandled (ended_over (program_of program.now) line.now.moment (tree_of event)).outcome }
     requires below { IsTrue (regexes_below (length sources.now) (tree_of event)) }
     ensures { IfOk result (λ out. out ≡ event_result sources.now options.now line.now.number (tree_of event) (ended_over (program_of program.now) line.now.moment (tree_of event))) }
 {
-    let ran = run(alloc, program, event, line.moment)?;
+    let ran = run(alloc, program, searches, event, line.moment)?;
     ran_result(alloc, sources, options, line, &ran)
 }
 

@@ -5,9 +5,10 @@ ghost use Rattle.vrl_run.specs.LineResult.{HandlesErrors};
 use crate::options::Options;
 use crate::result::run_line;
 use std::alloc::Global;
-use vrl_batch::{Line, LineOut, Work};
+use vrl_batch::{Chunk, Gate, Line, LineOut, Outs, Work};
 use vrl_json::Scratch;
 use vrl_kind::Kind;
+use vrl_pattern::Searches;
 use vrl_resolve::Program;
 use vrl_value::{Memory, Names};
 
@@ -28,10 +29,37 @@ impl Work for LineWork<'_> {
 
     ghost makes = { result_by };
 
-    fn one(&self, alloc: Global, line: &Line, scratch: &mut Scratch) -> Result<LineOut, Memory> {
+    fn each<G: Gate>(&self, alloc: Global, mut chunk: Chunk<'_, G>) -> Result<Outs, Memory> {
+        let searches = self.program.searches(alloc)?;
+        let mut scratch = Scratch::new(alloc);
+        let mut outs = Vec::with_capacity(alloc, chunk.len())?;
+        while let Some(line) = chunk.next() {
+            outs.push(self.one(alloc, &searches, line, &mut scratch)?)?;
+        }
+        Ok(Outs::new(outs))
+    }
+}
+
+impl LineWork<'_> {
+    ghost use Rattle.std.specs.Prelude.{◌≡◌, IfOk};
+    ghost use Rattle.vrl_resolve.specs.Program.{program_of};
+    ghost use Rattle.vrl_run.specs.Working.{result_by};
+
+    // What is made of a line. `Memory`: want of memory.
+    fn one(
+        &self,
+        alloc: Global,
+        searches: &Searches<'_>,
+        line: &Line,
+        scratch: &mut Scratch,
+    ) -> Result<LineOut, Memory>
+        requires { searches.now ≡ (program_of self.now.program.now).sources }
+        ensures { IfOk result (λ out. out ≡ result_by self.now line.now) }
+    {
         run_line(
             alloc,
             self.program,
+            searches,
             self.sources,
             self.declared,
             &self.options,

@@ -65,7 +65,7 @@ pub fn apply(
     alloc: Global,
     function: Fun,
     arguments: &Arguments<'_>,
-    setting: &Setting<'_>,
+    setting: &Setting<'_, '_>,
 ) -> Applied
     requires arguments { AreArguments (row_of function) (arguments_of arguments.now) }
     requires regexes { IsTrue (arguments_below (length setting.now.patterns.now) (arguments_of arguments.now)) }

@@ -321,7 +321,12 @@ impl Builtin for Fun {
     }
 
     #[tactic(auto, unfolding(crate::specs::Table::row_of))]
-    fn apply(&self, alloc: Global, arguments: &Arguments<'_>, setting: &Setting<'_>) -> Applied {
+    fn apply(
+        &self,
+        alloc: Global,
+        arguments: &Arguments<'_>,
+        setting: &Setting<'_, '_>,
+    ) -> Applied {
         functions!(call self, apply(alloc, arguments, setting))
     }
 

@@ -1,11 +1,13 @@
 // Workers on the lines of a batch.
+ghost use Rattle.std.specs.Prelude.{◌≡◌, IfOk};
+ghost use Rattle.vrl_batch.specs.declared.work.Outcome.TheVariants.{Fine};
+
 use crate::meeting::Meeting;
 use std::alloc::Global;
 use std::process::Abort;
 use std::sync::atomic::{AtomicU64, Ordering};
 use std::thread::Threads;
-use vrl_batch::{Batch, FreeGate, Gate, Line, LineOut, Outcome, Work, map_batch};
-use vrl_json::Scratch;
+use vrl_batch::{Batch, Chunk, FreeGate, Gate, Line, LineOut, Outcome, Outs, Work, map_batch};
 use vrl_value::{Bytes, Memory, Moment};
 
 // Gives each line back, and its number as the count of events.
@@ -16,14 +18,25 @@ impl Work for Copies {
 
     ghost makes = { λ _ line. record { output = line.bytes; report = line.bytes; kept = line.number; outcome = Fine } };
 
-    fn one(&self, alloc: Global, line: &Line, _scratch: &mut Scratch) -> Result<LineOut, Memory> {
-        Ok(LineOut {
-            output: Bytes::new(line.bytes.as_slice().to_vec(alloc)?),
-            report: Bytes::new(line.bytes.as_slice().to_vec(alloc)?),
-            kept: line.number,
-            outcome: Outcome::Fine,
-        })
+    fn each<G: Gate>(&self, alloc: Global, mut chunk: Chunk<'_, G>) -> Result<Outs, Memory> {
+        let mut outs = Vec::with_capacity(alloc, chunk.len())?;
+        while let Some(line) = chunk.next() {
+            outs.push(copied(alloc, line)?)?;
+        }
+        Ok(Outs::new(outs))
     }
+}
+
+// The line, and its number as the count of events.
+fn copied(alloc: Global, line: &Line) -> Result<LineOut, Memory>
+    ensures { IfOk result (λ out. out ≡ record { output = line.now.bytes; report = line.now.bytes; kept = line.now.number; outcome = Fine }) }
+{
+    Ok(LineOut {
+        output: Bytes::new(line.bytes.as_slice().to_vec(alloc)?),
+        report: Bytes::new(line.bytes.as_slice().to_vec(alloc)?),
+        kept: line.number,
+        outcome: Outcome::Fine,
+    })
 }
 
 // So many lines `{}`, numbered from 1.
@@ -122,11 +135,15 @@ impl Work for Turns {
 
     ghost makes = { λ _ line. record { output = line.bytes; report = line.bytes; kept = line.number; outcome = Fine } };
 
-    fn one(&self, alloc: Global, line: &Line, scratch: &mut Scratch) -> Result<LineOut, Memory> {
-        if self.passed.load(Ordering::SeqCst) != line.number {
-            self.wrong.store(1, Ordering::SeqCst);
+    fn each<G: Gate>(&self, alloc: Global, mut chunk: Chunk<'_, G>) -> Result<Outs, Memory> {
+        let mut outs = Vec::with_capacity(alloc, chunk.len())?;
+        while let Some(line) = chunk.next() {
+            if self.passed.load(Ordering::SeqCst) != line.number {
+                self.wrong.store(1, Ordering::SeqCst);
+            }
+            outs.push(copied(alloc, line)?)?;
         }
-        Copies.one(alloc, line, scratch)
+        Ok(Outs::new(outs))
     }
 }
 

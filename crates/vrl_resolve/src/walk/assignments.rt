@@ -15,7 +15,7 @@ use vrl_value::{Tag, Value};
 #[cycle(walk)]
 pub(super) fn assign(
     store: &mut Store,
-    context: &Context<'_>,
+    context: &Context<'_, '_>,
     is_asked: bool,
     target: &Option<Place>,
     part: &Node,
@@ -36,7 +36,7 @@ pub(super) fn assign(
 #[cycle(walk)]
 pub(super) fn merge(
     store: &mut Store,
-    context: &Context<'_>,
+    context: &Context<'_, '_>,
     is_asked: bool,
     target: &Option<Place>,
     part: &Node,
@@ -58,7 +58,7 @@ pub(super) fn merge(
 #[cycle(walk)]
 fn outcome(
     store: &mut Store,
-    context: &Context<'_>,
+    context: &Context<'_, '_>,
     tag: Tag,
     part: &Node,
 ) -> Result<(Value, Value), Stop>
@@ -74,7 +74,7 @@ fn outcome(
 #[cycle(walk)]
 pub(super) fn both(
     store: &mut Store,
-    context: &Context<'_>,
+    context: &Context<'_, '_>,
     is_asked: bool,
     ok: &Option<Place>,
     err: &Option<Place>,

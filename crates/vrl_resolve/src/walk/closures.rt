@@ -27,7 +27,7 @@ use vrl_value::{Chars, Fields, Items, Tag, Value};
 #[cycle(walk)]
 pub(super) fn iteration(
     store: &mut Store,
-    context: &Context<'_>,
+    context: &Context<'_, '_>,
     iteration: &Iteration,
 ) -> Result<Value, Stop>
     requires ready { IsReadyStore context.now store.old }
@@ -51,7 +51,7 @@ pub(super) fn iteration(
 #[cycle(walk)]
 fn iterate(
     store: &mut Store,
-    context: &Context<'_>,
+    context: &Context<'_, '_>,
     function: Loop,
     args: &[Node],
     body: &[Node],
@@ -75,7 +75,7 @@ fn iterate(
 #[cycle(walk)]
 fn over(
     store: &mut Store,
-    context: &Context<'_>,
+    context: &Context<'_, '_>,
     function: Loop,
     collection: Value,
     body: &[Node],
@@ -102,7 +102,7 @@ fn over(
 #[cycle(walk)]
 fn over_items(
     store: &mut Store,
-    context: &Context<'_>,
+    context: &Context<'_, '_>,
     function: Loop,
     items: Items,
     body: &[Node],
@@ -131,7 +131,7 @@ fn over_items(
 #[cycle(walk)]
 fn over_fields(
     store: &mut Store,
-    context: &Context<'_>,
+    context: &Context<'_, '_>,
     function: Loop,
     fields: Fields,
     body: &[Node],
@@ -158,7 +158,7 @@ fn over_fields(
 #[cycle(walk)]
 fn run(
     store: &mut Store,
-    context: &Context<'_>,
+    context: &Context<'_, '_>,
     bindings: Bindings,
     body: &[Node],
 ) -> Result<Value, Stop>
@@ -185,7 +185,7 @@ fn run(
 #[cycle(walk)]
 fn run_with(
     store: &mut Store,
-    context: &Context<'_>,
+    context: &Context<'_, '_>,
     slot: Option<usize>,
     value: Value,
     body: &[Node],

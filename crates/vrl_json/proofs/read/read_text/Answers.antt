@@ -1,15 +1,11 @@
-use Rattle.std.proofs.Common.{◌≡◌, [], sym, ap, ◌∙◌, arith, rules}
-use Rattle.std.proofs.lemmas.Grind.{common_steps}
+use Rattle.std.proofs.Common.{◌≡◌, [], sym, ap, ◌∙◌, rules}
 use Rattle.json.specs.Json.{value}
 use Rattle.json.specs.Lex.{tokens}
 use Rattle.vrl_value.specs.View.{tree_of}
 use Rattle.vrl_json.specs.Line.{reading_of_json}
-use Rattle.vrl_json.proofs.Reading.{reading-marked, reading-unmarked, some_text}
+use Rattle.vrl_json.proofs.Reading.{reading-marked, reading-unmarked}
 use Rattle.vrl_json.proofs.Turns.{alone-read}
 use Rattle.vrl_json.proofs.read.read_text.Goals as goal
-
-pub returns-in_err-value-clause-memory : goal.returns-in_err-value-clause-memory
-returns-in_err-value-clause-memory c full = some_text c.args.text.now (rw c.in-Ok.ensures.ok at (c.read_value.ensures.memory (grind (arith, common_steps))))
 
 pub returns-then-is_unmarked-clause-value : goal.returns-then-is_unmarked-clause-value
 returns-then-is_unmarked-clause-value c =

@@ -1,0 +1,173 @@
+ghost use Rattle.std.specs.Prelude.{◌≡◌, ◌<◌, [], All, IfOk, IfSome, length, map, option_map, slice_index_or, take};
+ghost use Rattle.regex.specs.Patterns.{span};
+ghost use Rattle.vrl_value.specs.Tree.{string};
+ghost use Rattle.vrl_value.specs.View.{items_of, items_of_trees};
+ghost use Rattle.vrl_pattern.specs.Groups.{groups_of};
+ghost use Rattle.vrl_pattern.specs.Matches.{all_matches, first_match, group_places, pieces, replaced};
+ghost use Rattle.vrl_pattern.specs.Places.{place_span, AreParts, IsPart};
+
+use crate::matching::{places, split};
+use crate::patterns::Patterns;
+use crate::place::{Matches, Place};
+use crate::search::Search;
+use std::alloc::Global;
+use std::cell::Cell;
+use std::marker::Model;
+use vrl_value::{Chars, Items, Memory, Names};
+
+/// The regex literals of a script, with what their searches write to, which is kept from call to call. One thread has it. A contract sees the list of
+/// the sources.
+pub struct Searches<'r> {
+    patterns: &'r Patterns,
+    // For each regex what its last search wrote to, where that was kept.
+    kept: Vec<Cell<Option<Search<'r>>>>,
+}
+
+impl<'r> Model for Searches<'r> {
+    ghost use Rattle.std.specs.Prelude.{List, ℕ};
+
+    ghost Value = { List (List ℕ) };
+
+    ghost view = { λ s. s.patterns.now };
+}
+
+// Written out, so that a proof sees one call where it is let go.
+impl<'r> Drop for Searches<'r> {
+    fn drop(self) {
+        let Searches {
+            patterns: _patterns,
+            kept: _kept,
+        } = self;
+    }
+}
+
+// For so many regexes nothing that was kept. `Memory`: want of memory.
+fn none_kept<'r>(alloc: Global, count: usize) -> Result<Vec<Cell<Option<Search<'r>>>>, Memory> {
+    let mut kept = Vec::with_capacity(alloc, count)?;
+    for _number in 0..count {
+        kept.push(Cell::new(None))?;
+    }
+    Ok(kept)
+}
+
+impl<'r> Searches<'r> {
+    /// With nothing kept. `Memory`: want of memory.
+    pub fn new(alloc: Global, patterns: &'r Patterns) -> Result<Searches<'r>, Memory>
+        ensures { IfOk result (λ searches. searches ≡ patterns.now) }
+    {
+        let kept = none_kept(alloc, patterns.sources().len())?;
+        Ok(Searches { patterns, kept })
+    }
+
+    /// All sources in order, borrowed.
+    pub fn sources(&self) -> &[Chars]
+        ensures { result.now ≡ self.now }
+    {
+        self.patterns.sources()
+    }
+
+    /// As [`Patterns::names`].
+    pub fn names(&self, alloc: Global, number: u32) -> Result<Names, Memory>
+        requires { number < length self.now }
+        ensures { IfOk result (λ names. names ≡ groups_of (slice_index_or self.now number [])) }
+    {
+        self.patterns.names(alloc, number)
+    }
+
+    // What was kept at a number, which nothing tells to be of its regex.
+    fn take(&self, number: u32) -> Option<Search<'r>> {
+        self.kept.get(number as usize)?.replace(None)
+    }
+
+    // A search of the regex with this number, kept or made. `Memory`: want of memory.
+    fn lend(&self, alloc: Global, number: u32) -> Result<Search<'r>, Memory>
+        requires { number < length self.now }
+        ensures { IfOk result (λ search. search ≡ slice_index_or self.now number []) }
+    {
+        let regex = self.patterns.regex(number);
+        if let Some(search) = self.take(number) {
+            if search.source() == regex.as_str() {
+                return Ok(search);
+            }
+        }
+        Search::new(alloc, regex)
+    }
+
+    fn keep(&self, number: u32, search: Search<'r>) {
+        if let Some(kept) = self.kept.get(number as usize) {
+            kept.set(Some(search));
+        }
+    }
+
+    /// Where the leftmost match of the regex with this number lies in the text, between characters. `None`: it has no match. `Memory`: want of
+    /// memory.
+    pub fn find(&self, alloc: Global, number: u32, text: &str) -> Result<Option<Place>, Memory>
+        requires { number < length self.now }
+        ensures found { IfOk result (λ place. option_map place_span place ≡ option_map span (first_match (slice_index_or self.now number []) text.now)) }
+        ensures within { IfOk result (λ place. IfSome place (λ place. IsPart text.now (place_span place))) }
+    {
+        let mut search = self.lend(alloc, number)?;
+        let found = search.find(text);
+        self.keep(number, search);
+        Ok(found)
+    }
+
+    /// Where the groups of the regex with this number lie in the first `most` of its matches in the text, which are taken from the left, none
+    /// over another; each part lies between characters. `Memory`: want of memory.
+    pub fn groups(
+        &self,
+        alloc: Global,
+        number: u32,
+        text: &str,
+        most: u64,
+    ) -> Result<Matches, Memory>
+        requires { number < length self.now }
+        ensures found { IfOk result (λ found. found ≡ map (group_places (slice_index_or self.now number [])) (take most (all_matches (slice_index_or self.now number []) text.now))) }
+        ensures within { IfOk result (λ found. All (AreParts text.now) found) }
+    {
+        if most == 1 {
+            return self.first_match(alloc, number, text);
+        }
+        places(alloc, self.patterns.regex(number), text, most)
+    }
+
+    // The same for the first match.
+    fn first_match(&self, alloc: Global, number: u32, text: &str) -> Result<Matches, Memory>
+        requires { number < length self.now }
+        ensures found { IfOk result (λ found. found ≡ map (group_places (slice_index_or self.now number [])) (take 1 (all_matches (slice_index_or self.now number []) text.now))) }
+        ensures within { IfOk result (λ found. All (AreParts text.now) found) }
+    {
+        let mut search = self.lend(alloc, number)?;
+        let found = search.first(alloc, text);
+        self.keep(number, search);
+        found
+    }
+
+    /// The parts of the text between the matches of the regex with this number, as strings: at most `limit`, the last of which holds the rest.
+    /// `Memory`: want of memory.
+    pub fn split(&self, alloc: Global, number: u32, text: &str, limit: u64) -> Result<Items, Memory>
+        requires { number < length self.now }
+        ensures { IfOk result (λ parts. items_of parts ≡ items_of_trees (map string (pieces (slice_index_or self.now number []) text.now limit))) }
+    {
+        split(alloc, self.patterns.regex(number), text, limit)
+    }
+
+    /// The text with the first `count` matches of the regex with this number replaced, or each where there is no count: what the template `with`
+    /// of the crate `regex` writes stands in the place of each. `Memory`: want of memory.
+    pub fn replace(
+        &self,
+        alloc: Global,
+        number: u32,
+        text: &str,
+        with: &str,
+        count: Option<u64>,
+    ) -> Result<Chars, Memory>
+        requires { number < length self.now }
+        ensures { IfOk result (λ changed. changed ≡ replaced (slice_index_or self.now number []) text.now with.now count) }
+    {
+        let mut search = self.lend(alloc, number)?;
+        let changed = search.replace(alloc, text, with, count);
+        self.keep(number, search);
+        changed
+    }
+}
