@@ -20,8 +20,8 @@ from some_patterns import Maker, text_of
 
 WANT_OF_MEMORY = 5
 NOISE = list("()[]{}*+?|\\^$.-,:<>!=&~#PpdDwWsSbBAzxuUtnrQk0123456789 aimsé") + ["(?", "(?:", "(?P<", "[^", "[[:", ":]]", "&&", "--", "~~", "\\p{", "\\x{", "\\u{", "(?i", "(?#", "(?=", "\\b", "{2,1}", "{1001}", "{,2}"]
-# What only later editions read: names beyond ASCII, half word boundaries, the flag R, {,n} as a count, all signs after a backslash, and classes without a character.
-LATER = re.compile(r"\\b\{|\\[ !\"%',/:;<=>@_`]|\(\?[a-zA-Z-]*R|\{\s*,|\(\?P?<[^>]*[^\x00-\x7f]|&&|--|~~|\[\^\\[a-zA-Z]")
+# What only later editions read: names beyond ASCII, half word boundaries, the flag R, {,n} as a count, all signs and controls after a backslash, and classes without a character.
+LATER = re.compile(r"\\b\{|\\[\x00-\x20!\"%',/:;<=>@_`\x7f]|\(\?[a-zA-Z-]*R|\{\s*,|\(\?P?<[^>]*[^\x00-\x7f]|&&|--|~~|\[\^\\[a-zA-Z]")
 
 
 def spoilt(rng, maker):
