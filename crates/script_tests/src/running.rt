@@ -13,7 +13,7 @@ use vrl_json::{
     JsonFault, Scratch, from_line, json_needs_no_sources, lines_are_json, lines_are_ordered,
 };
 use vrl_kind::{Kind, Rest, equal_tags_are_one_kind, inhabits, kind_is_canonical};
-use vrl_resolve::{Ended, Program, Ran, run};
+use vrl_resolve::{Ended, Given, Program, Ran, run};
 use vrl_value::{Chars, Fields, Memory, Moment, Value};
 
 // A script, an event, how the run ends, the event and the variables that it leaves. An end is `= ` and a value, `abort`, `abort ` and a
@@ -82,6 +82,7 @@ fn ran_over(
     program: &Program,
     declared: &Kind,
     event: &str,
+    is_asked: bool,
 ) -> Result<Option<Ran>, Memory>
     requires { HandlesErrors declared.now (program_of program.now) }
 {
@@ -92,7 +93,8 @@ fn ran_over(
         Ok(value) => {
             if inhabits(&value, declared) {
                 let searches = program.searches(alloc)?;
-                Ok(Some(run(alloc, program, &searches, value, Moment::epoch())?))
+                let moment = Moment::epoch();
+                Ok(Some(run(alloc, program, &searches, value, moment, is_asked)?))
             } else {
                 Ok(None)
             }
@@ -102,11 +104,15 @@ fn ran_over(
     }
 }
 
-// What a script leaves of an event. `None`: it isn't accepted, or there is no such event.
-fn ran(alloc: Global, text: &str, event: &str) -> Result<Option<Ran>, Memory> {
+// What a script leaves of an event, and what it leaves where its value isn't asked for. `None`: it isn't accepted, or there is no such event.
+fn ran(alloc: Global, text: &str, event: &str) -> Result<Option<(Ran, Ran)>, Memory> {
     let declared = event_kind(alloc)?;
     match accepted(alloc, text, &declared)? {
-        Some(script) => ran_over(alloc, &script.program, &declared, event),
+        Some(script) => {
+            let asked = ran_over(alloc, &script.program, &declared, event, true)?;
+            let unasked = ran_over(alloc, &script.program, &declared, event, false)?;
+            Ok(asked.zip(unasked))
+        }
         None => Ok(None),
     }
 }
@@ -125,41 +131,49 @@ fn is_aborted(message: &Option<Chars>, wanted: &str) -> bool {
     }
 }
 
-fn is_end(alloc: Global, ended: &Ended, wanted: &str) -> Result<bool, Memory> {
-    match ended {
-        Ended::Value(value) => is_value(alloc, value, wanted),
-        Ended::Aborted(message) => Ok(is_aborted(message, wanted)),
-        Ended::Banged(text) => Ok(wanted.strip_prefix("bang ") == Some(text.as_str())),
-        Ended::Deep => Ok(wanted == "deep"),
-    }
-}
-
 fn are_variables(alloc: Global, fields: Fields, wanted: &str) -> Result<bool, Memory> {
     let variables = Value::Object(fields);
     Ok(variables.same(&json_of(alloc, wanted)?))
 }
 
-fn is_so(
-    alloc: Global,
-    found: Ran,
-    end: &str,
-    event: &str,
-    variables: &str,
-) -> Result<bool, Memory> {
-    let Ran {
-        ended,
-        event: left,
+fn is_given(alloc: Global, given: Given, end: &str, variables: &str) -> Result<bool, Memory> {
+    let Given {
+        value,
         variables: fields,
-    } = found;
-    let is_ended = is_end(alloc, &ended, end)?;
-    let is_left = left.same(&json_of(alloc, event)?);
-    Ok(is_ended && is_left && are_variables(alloc, fields, variables)?)
+    } = given;
+    Ok(is_value(alloc, &value, end)? && are_variables(alloc, fields, variables)?)
+}
+
+// Whether a run ended so, of which a value is told where it is asked for.
+fn is_end(
+    alloc: Global,
+    ended: Ended,
+    end: &str,
+    variables: &str,
+    is_asked: bool,
+) -> Result<bool, Memory> {
+    match ended {
+        Ended::Value(Some(given)) => is_given(alloc, given, end, variables),
+        Ended::Value(None) => Ok(!is_asked && end.starts_with("= ")),
+        Ended::Aborted(message) => Ok(is_aborted(&message, end) && variables == "{}"),
+        Ended::Banged(text) => {
+            Ok(end.strip_prefix("bang ") == Some(text.as_str()) && variables == "{}")
+        }
+        Ended::Deep => Ok(end == "deep" && variables == "{}"),
+    }
+}
+
+fn is_so(alloc: Global, found: Ran, row: &Row, is_asked: bool) -> Result<bool, Memory> {
+    let (_text, _event, end, left, variables) = row;
+    let Ran { ended, event } = found;
+    Ok(is_end(alloc, ended, end, variables, is_asked)? && event.same(&json_of(alloc, left)?))
 }
 
 fn holds(alloc: Global, row: &Row) -> Result<bool, Memory> {
-    let (text, event, end, left, variables) = row;
-    match ran(alloc, text, event)? {
-        Some(found) => is_so(alloc, found, end, left, variables),
+    match ran(alloc, row.0, row.1)? {
+        Some((asked, unasked)) => {
+            Ok(is_so(alloc, asked, row, true)? && is_so(alloc, unasked, row, false)?)
+        }
         None => Ok(false),
     }
 }

@@ -1,8 +1,8 @@
 -- What a run leaves, by how its walk ended.
-use Rattle.std.specs.Prelude.{◌≡◌, ⊤}
+use Rattle.std.specs.Prelude.{◌≡◌, Option, Some, None, ⊤}
 use Rattle.std.specs.declared.result.Result.{Result}
 use Rattle.std.specs.declared.result.Result.TheVariants.{Ok, Err}
-use Rattle.vrl_value.specs.Tree.{Tree, no_members}
+use Rattle.vrl_value.specs.Tree.{Tree}
 use Rattle.vrl_value.specs.View.{members_of, tree_of}
 use Rattle.vrl_value.specs.declared.value.Value.{Value}
 use Rattle.vrl_syntax.specs.Stores.{Store}
@@ -14,39 +14,46 @@ use Rattle.vrl_resolve.specs.declared.ran.Ended.{Ended}
 use Rattle.vrl_resolve.specs.declared.ran.Ended.TheVariants as code
 use Rattle.vrl_resolve.specs.declared.ran.Ran.{Ran}
 
-abbrev pub IsValue : Tree → Ended → Type 0
-IsValue v (code.Value w) = tree_of w ≡ v
-IsValue v other = ⊥
+-- this value was given, and the variables of this store
+abbrev pub IsValue : Tree → Store → Ended → Type 0
+IsValue v store (code.Value (Some given)) = (tree_of given.value ≡ v) × (map_of (members_of given.variables) ≡ store.variables)
+IsValue v store other = ⊥
+
+-- the variables that were given, where they were
+abbrev pub AreToldIn : Ended → Type 0
+AreToldIn (code.Value (Some given)) = AreToldByMap (members_of given.variables)
+AreToldIn other = ⊤
+
+abbrev pub AreTold : Ran → Type 0
+AreTold ran = AreToldIn ran.ended
 
 -- with this value, and what the store has
 pub record IsValued (v : Tree) (store : Store) (ran : Ran) : Type 0 where
-  pub end : IsValue v ran.ended
+  pub end : IsValue v store ran.ended
   pub event : tree_of ran.event ≡ store.event
-  pub variables : map_of (members_of ran.variables) ≡ store.variables
-  pub told : AreToldByMap (members_of ran.variables)
+  pub told : AreTold ran
 
--- without a value
+-- so, and with this event
 pub record IsEarly (end : Ended) (left : Tree) (ran : Ran) : Type 0 where
   pub ended : ran.ended ≡ end
   pub event : tree_of ran.event ≡ left
-  pub variables : members_of ran.variables ≡ no_members
-  pub told : AreToldByMap (members_of ran.variables)
 
 -- with no error that is left unhandled
 abbrev pub IsHandledStop : Stop → Type 0
 IsHandledStop (stop.Error text) = ⊥
 IsHandledStop other = ⊤
 
-abbrev pub IsHandled : Result Value Stop → Type 0
+abbrev pub IsHandled : Result (Option Value) Stop → Type 0
 IsHandled (Ok v) = ⊤
 IsHandled (Err s) = IsHandledStop s
 
--- with a value, behind which variables and their names are gathered, or for want of memory; what else it ended with takes no memory to leave
+-- with a value that is told, behind which variables and their names are gathered, or for want of memory; what else it ended with takes no memory to leave
 abbrev pub MayWantAt : Stop → Type 0
 MayWantAt (stop.Returned v) = ⊤
 MayWantAt stop.Memory = ⊤
 MayWantAt other = ⊥
 
-abbrev pub MayWant : Result Value Stop → Type 0
-MayWant (Ok v) = ⊤
+abbrev pub MayWant : Result (Option Value) Stop → Type 0
+MayWant (Ok (Some v)) = ⊤
+MayWant (Ok None) = ⊥
 MayWant (Err s) = MayWantAt s

@@ -1,6 +1,6 @@
 -- What a program is to its callers: what it does to an event, at a moment; and what a run leaves.
-use Rattle.std.specs.Prelude.{◌≡◌, ℕ, ℤ, List, ⊤}
-use Rattle.vrl_value.specs.Tree.{Tree, null, object, no_members}
+use Rattle.std.specs.Prelude.{◌≡◌, Bool, false, ℕ, ℤ, List, Option, Some, None, ⊤}
+use Rattle.vrl_value.specs.Tree.{Tree, null, object}
 use Rattle.vrl_value.specs.View.{members_of, tree_of}
 use Rattle.vrl_value.specs.declared.value.Tag.{Tag}
 use Rattle.vrl_syntax.specs.Stores.{Store, store_of}
@@ -14,6 +14,7 @@ use Rattle.vrl_resolve.specs.Meaning.{End, ended, ended_aborted, ended_banged, e
 use Rattle.vrl_resolve.specs.declared.program.Program.{Program}
 use Rattle.vrl_resolve.specs.declared.ran.Ended.{Ended as CodeEnded}
 use Rattle.vrl_resolve.specs.declared.ran.Ended.TheVariants as code
+use Rattle.vrl_resolve.specs.declared.ran.Given.{Given}
 use Rattle.vrl_resolve.specs.declared.ran.Ran.{Ran}
 
 pub record ProgramTree : Type 0 where
@@ -35,31 +36,29 @@ program_of p = record { sources = p.patterns; ended = λ moment event. items_mea
 
 -- ---- what a run leaves
 
-abbrev pub IsEnd : End → CodeEnded → Type 0
-IsEnd (ended v) (code.Value w) = tree_of w ≡ v
-IsEnd (ended_aborted m) (code.Aborted n) = n ≡ m
-IsEnd (ended_banged text) (code.Banged told) = told ≡ text
-IsEnd ended_deep code.Deep = ⊤
-IsEnd e c = ⊥
+-- what was given of a run that ended with this value, in this store; it is missing only where it isn't asked for
+abbrev pub IsGiven : Bool → Tree → Store → Option Given → Type 0
+IsGiven asked v store (Some given) = (tree_of given.value ≡ v) × (map_of (members_of given.variables) ≡ store.variables)
+IsGiven asked v store None = asked ≡ false
 
--- after a value the variables that are there; else none are told
-abbrev pub AreVariables : End → Store → Ran → Type 0
-AreVariables (ended v) store ran = map_of (members_of ran.variables) ≡ store.variables
-AreVariables other store ran = members_of ran.variables ≡ no_members
+abbrev pub IsEnd : Bool → End → Store → CodeEnded → Type 0
+IsEnd asked (ended v) store (code.Value given) = IsGiven asked v store given
+IsEnd asked (ended_aborted m) store (code.Aborted n) = n ≡ m
+IsEnd asked (ended_banged text) store (code.Banged told) = told ≡ text
+IsEnd asked ended_deep store code.Deep = ⊤
+IsEnd asked e store c = ⊥
 
 -- a run left what the meaning says
-pub record IsRan (meant : Ended) (ran : Ran) : Type 0 where
-  pub end : IsEnd (end_of meant.outcome) ran.ended
+pub record IsRan (asked : Bool) (meant : Ended) (ran : Ran) : Type 0 where
+  pub end : IsEnd asked (end_of meant.outcome) meant.store ran.ended
   pub event : tree_of ran.event ≡ meant.store.event
-  pub variables : AreVariables (end_of meant.outcome) meant.store ran
 
--- the value that a run ended with, where it did
+-- the value that a run gave, and the variables, seen as an object
 abbrev pub IsWellFormedEnd : ℕ → CodeEnded → Type 0
-IsWellFormedEnd count (code.Value v) = IsWellFormed count (tree_of v)
+IsWellFormedEnd count (code.Value (Some given)) = IsWellFormed count (tree_of given.value) × IsWellFormed count (object (members_of given.variables))
 IsWellFormedEnd count other = ⊤
 
--- what a run left has its members in order, and each regex in it is one of the first so many; so have the variables, seen as an object
+-- what a run left has its members in order, and each regex in it is one of the first so many
 pub record IsWellFormedRan (count : ℕ) (ran : Ran) : Type 0 where
   pub end : IsWellFormedEnd count ran.ended
   pub event : IsWellFormed count (tree_of ran.event)
-  pub variables : IsWellFormed count (object (members_of ran.variables))

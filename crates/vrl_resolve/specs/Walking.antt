@@ -1,5 +1,5 @@
 -- What a run of a part asks of the store that it starts in, and what it promises of how it ends and of the store that it leaves.
-use Rattle.std.specs.Prelude.{◌≡◌, Bool, List, [], ◌++◌, length, map, Vec}
+use Rattle.std.specs.Prelude.{◌≡◌, Bool, false, List, [], ◌++◌, length, map, Option, Some, None, Vec}
 use Rattle.std.specs.declared.alloc.Global.{Global}
 use Rattle.std.specs.declared.result.Result.{Result}
 use Rattle.std.specs.declared.result.Result.TheVariants.{Ok, Err}
@@ -96,3 +96,14 @@ WritesTo target v before after (Err stop) = (next : Store → Ended) → Stops (
 abbrev pub GivesBoth : Tag → Ended → Store → Result (Value × Value) Stop → Type 0
 GivesBoth tag given store (Ok vs) = (ok err : Target) → both_assigned ok err tag given.outcome given.store ≡ written_both ok err (tree_of vs.0) (tree_of vs.1) store
 GivesBoth tag given store (Err stop) = (ok err : Target) → Stops (both_assigned ok err tag given.outcome given.store) store stop
+
+-- it ended with a value, of which nothing is told
+abbrev pub EndsDone : Ended → Store → Result (Unit {0}) Stop → Type 0
+EndsDone ended store (Ok done) = (v : Tree) × (ended ≡ ends (value v) store)
+EndsDone ended store (Err stop) = Stops ended store stop
+
+-- it ended with a value, which is told unless it isn't asked for
+abbrev pub EndsAsked : Bool → Ended → Store → Result (Option Value) Stop → Type 0
+EndsAsked asked ended store (Ok (Some v)) = ended ≡ ends (value (tree_of v)) store
+EndsAsked asked ended store (Ok None) = (asked ≡ false) × ((v : Tree) × (ended ≡ ends (value v) store))
+EndsAsked asked ended store (Err stop) = Stops ended store stop

@@ -2,7 +2,7 @@
 //!
 //! A [`Program`] is a script that is ready to be run. What a run gives is told by the meaning of the script, form by form, in `Meaning`.
 //!
-//! Files: `program.rt` has what a program is, `linking.rt` `Program::link`, `runner.rt` `run`, and `ran.rt` what a run leaves. `link.rt` makes nodes
+//! Files: `program.rt` has what a program is, `linking.rt` `Program::link`, `runner.rt` `run`, and `ran.rt` what a run leaves and gives. `link.rt` makes nodes
 //! (`node.rt`) of expressions: variables are numbers, calls are looked up (`callees.rt`) and bound (`bound.rt`), and a write says whether its value
 //! is asked for. `walk.rt` runs a node over a store, with what writes at targets in `walk/assignments.rt` and calls that run a closure in
 //! `walk/closures.rt`, by `steps.rt`; `calls.rt` has what a call comes to, `iteration.rt` what the runs of a closure bind and what is made of
@@ -26,5 +26,5 @@ mod walk;
 
 pub use laws::{empty_scripts_give_null, evaluations_stay_well_formed};
 pub use program::Program;
-pub use ran::{Ended, Ran};
+pub use ran::{Ended, Given, Ran};
 pub use runner::run;

@@ -3,14 +3,23 @@ use vrl_value::{Chars, Fields, Value};
 /// How a script ended over an event.
 #[derive(Drop)]
 pub enum Ended {
-    /// With a value: that of its last item, or of a `return`.
-    Value(Value),
+    /// With a value. `None`: what it gave wasn't asked for.
+    Value(Option<Given>),
     /// By an `abort`, with its message where there is one.
     Aborted(Option<Chars>),
     /// By an error of a call that is written with `!`: its text.
     Banged(Chars),
     /// The event, a variable or the value of a call would be nested deeper than 128.
     Deep,
+}
+
+/// What a script gave that ended with a value.
+#[derive(Drop)]
+pub struct Given {
+    /// The value of its last item, or of a `return`.
+    pub value: Value,
+    /// The variables that were there at its end.
+    pub variables: Fields,
 }
 
 /// What a run of a script leaves.
@@ -20,6 +29,4 @@ pub struct Ran {
     pub ended: Ended,
     /// The event as it left it.
     pub event: Value,
-    /// After a value the variables that are there at its end; else none.
-    pub variables: Fields,
 }

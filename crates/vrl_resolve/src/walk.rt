@@ -19,7 +19,7 @@ use crate::calls::{act, peek, run_before};
 use crate::laws::meanings_stay_well_formed;
 use crate::node::{Arm, Call, Callee, Form, Node};
 use crate::steps::{aborted, part_of};
-use crate::walk::assignments::{assign, both, merge};
+pub(crate) use crate::walk::assignments::{assign, both, merge};
 use crate::walk::closures::iteration;
 use std::alloc::Global;
 use std::collections::BTreeMap;

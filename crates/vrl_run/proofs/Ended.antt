@@ -1,5 +1,5 @@
 -- A run in memory ended as the meaning says, so the line's result is that of the meaning.
-use Rattle.std.proofs.Common.{◌≡◌, ℕ, List, refl, ap, ◌∙◌}
+use Rattle.std.proofs.Common.{◌≡◌, Bool, ℕ, List, refl, ap, ◌∙◌}
 use Rattle.std.specs.Prelude.{IfOk}
 use Rattle.std.specs.declared.result.Result.{Result}
 use Rattle.std.specs.declared.result.Result.TheVariants.{Ok, Err}
@@ -7,8 +7,9 @@ use Rattle.vrl_value.specs.Tree.{Tree}
 use Rattle.vrl_value.specs.View.{tree_of}
 use Rattle.vrl_value.specs.declared.memory.Memory.{Memory}
 use Rattle.vrl_json.specs.Line.{whole, reading_of}
+use Rattle.vrl_syntax.specs.Stores.{Store}
 use Rattle.vrl_store.specs.Outcomes.{Ended}
-use Rattle.vrl_resolve.specs.Meaning.{End, ended, ended_aborted, ended_banged, ended_deep}
+use Rattle.vrl_resolve.specs.Meaning.{End, ended, ended_aborted, ended_banged, ended_deep, end_of}
 use Rattle.vrl_resolve.specs.Program.{IsEnd, IsRan}
 use Rattle.vrl_resolve.specs.declared.ran.Ended.{Ended as CodeEnded}
 use Rattle.vrl_resolve.specs.declared.ran.Ended.TheVariants as code
@@ -18,20 +19,23 @@ use Rattle.vrl_run.specs.LineResult.{end_result, event_result}
 use Rattle.vrl_run.specs.Ran.{end_in}
 use Rattle.vrl_run.specs.declared.options.Options.{Options}
 
-end_is : (e : End) (c : CodeEnded) → IsEnd e c → end_in c ≡ e
-end_is (ended v) (code.Value w) is = ap ended is
-end_is (ended_aborted m) (code.Aborted n) is = ap ended_aborted is
-end_is (ended_banged text) (code.Banged told) is = ap ended_banged is
-end_is ended_deep code.Deep is = refl
-end_is e c is = absurd is
+-- of a value a line's result tells nothing
+end_is : (sources : List (List ℕ)) (options : Options) (number : ℕ) (read left : Tree) (asked : Bool) (e : End) (store : Store) (c : CodeEnded) → IsEnd asked e store c →
+    end_result sources options number read (end_in c) left ≡ end_result sources options number read e left
+end_is sources options number read left asked (ended v) store (code.Value given) is = refl
+end_is sources options number read left asked (ended_aborted m) store (code.Aborted n) is = ap (λ m. end_result sources options number read (ended_aborted m) left) is
+end_is sources options number read left asked (ended_banged text) store (code.Banged told) is = ap (λ text. end_result sources options number read (ended_banged text) left) is
+end_is sources options number read left asked ended_deep store code.Deep is = refl
+end_is sources options number read left asked e store c is = absurd is
 
-meant_result : (sources : List (List ℕ)) (options : Options) (number : ℕ) (read : Tree) (meant : Ended) (ran : Ran) → IsRan meant ran →
+meant_result : (sources : List (List ℕ)) (options : Options) (number : ℕ) (read : Tree) (asked : Bool) (meant : Ended) (ran : Ran) → IsRan asked meant ran →
     end_result sources options number read (end_in ran.ended) (tree_of ran.event) ≡ event_result sources options number read meant
-meant_result sources options number read meant ran is = λ i. end_result sources options number read (end_is _ ran.ended is.end i) (is.event i)
+meant_result sources options number read asked meant ran is =
+    end_is sources options number read (tree_of ran.event) asked (end_of meant.outcome) meant.store ran.ended is.end ∙ ap (end_result sources options number read (end_of meant.outcome)) is.event
 
 -- so is the result of a line, whatever the event was read as
-pub meant_line : (sources : List (List ℕ)) (options : Options) (number : ℕ) (bytes : List ℕ) (read : Tree) (meant : Ended) (ran : Ran) (result : Result LineOut Memory) → IsRan meant ran → reading_of bytes ≡ whole read →
+pub meant_line : (sources : List (List ℕ)) (options : Options) (number : ℕ) (bytes : List ℕ) (read : Tree) (asked : Bool) (meant : Ended) (ran : Ran) (result : Result LineOut Memory) → IsRan asked meant ran → reading_of bytes ≡ whole read →
     IfOk result (λ out. (other : Tree) → reading_of bytes ≡ whole other → out ≡ end_result sources options number other (end_in ran.ended) (tree_of ran.event)) →
     IfOk result (λ out. out ≡ event_result sources options number read meant)
-meant_line sources options number bytes read meant ran (Ok out) is told gives = gives read told ∙ meant_result sources options number read meant ran is
-meant_line sources options number bytes read meant ran (Err refused) is told gives = tt
+meant_line sources options number bytes read asked meant ran (Ok out) is told gives = gives read told ∙ meant_result sources options number read asked meant ran is
+meant_line sources options number bytes read asked meant ran (Err refused) is told gives = tt

@@ -1,17 +1,23 @@
 -- What a run in memory left.
-use Rattle.std.specs.Prelude.{◌≡◌, ℕ, List, length}
+use Rattle.std.specs.Prelude.{◌≡◌, ℕ, List, Option, Some, None, length}
 use Rattle.std.specs.List.{flat_map}
-use Rattle.vrl_value.specs.Tree.{Tree}
+use Rattle.vrl_value.specs.Tree.{Tree, null}
 use Rattle.vrl_value.specs.View.{tree_of}
 use Rattle.vrl_resolve.specs.Meaning.{End, ended, ended_aborted, ended_banged, ended_deep}
 use Rattle.vrl_resolve.specs.declared.ran.Ended.{Ended}
 use Rattle.vrl_resolve.specs.declared.ran.Ended.TheVariants as code
+use Rattle.vrl_resolve.specs.declared.ran.Given.{Given}
 use Rattle.vrl_run.specs.LineResult.{event_line}
 use Rattle.vrl_run.specs.declared.kept.Kept.{Kept}
 
+-- the value that it gave; null where it told none
+abbrev pub value_in : Option Given → Tree
+value_in (Some given) = tree_of given.value
+value_in None = null
+
 -- how it ended
 abbrev pub end_in : Ended → End
-end_in (code.Value v) = ended (tree_of v)
+end_in (code.Value given) = ended (value_in given)
 end_in (code.Aborted message) = ended_aborted message
 end_in (code.Banged text) = ended_banged text
 end_in code.Deep = ended_deep

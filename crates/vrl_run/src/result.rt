@@ -109,7 +109,8 @@ fn run_event(
     requires below { IsTrue (regexes_below (length sources.now) (tree_of event)) }
     ensures { IfOk result (λ out. out ≡ event_result sources.now options.now line.now.number (tree_of event) (ended_over (program_of program.now) line.now.moment (tree_of event))) }
 {
-    let ran = run(alloc, program, searches, event, line.moment)?;
+    // Of what the script gives nothing is written.
+    let ran = run(alloc, program, searches, event, line.moment, false)?;
     ran_result(alloc, sources, options, line, &ran)
 }
 

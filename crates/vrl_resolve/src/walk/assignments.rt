@@ -13,7 +13,7 @@ use vrl_syntax::Op;
 use vrl_value::{Tag, Value};
 
 #[cycle(walk)]
-pub(super) fn assign(
+pub(crate) fn assign(
     store: &mut Store,
     context: &Context<'_, '_>,
     is_asked: bool,
@@ -34,7 +34,7 @@ pub(super) fn assign(
 
 // Writes the value at a target, null where it takes nothing, with the fields of another one over it.
 #[cycle(walk)]
-pub(super) fn merge(
+pub(crate) fn merge(
     store: &mut Store,
     context: &Context<'_, '_>,
     is_asked: bool,
@@ -72,7 +72,7 @@ fn outcome(
 }
 
 #[cycle(walk)]
-pub(super) fn both(
+pub(crate) fn both(
     store: &mut Store,
     context: &Context<'_, '_>,
     is_asked: bool,

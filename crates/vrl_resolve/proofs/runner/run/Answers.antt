@@ -1,5 +1,4 @@
-use Rattle.std.proofs.Common.{◌≡◌, ℕ, List, IsTrue, length, sym, ap, ◌∙◌, subst}
-use Rattle.std.proofs.lemmas.Result.{IfOk-weaker}
+use Rattle.std.proofs.Common.{IsTrue, length, sym, ap, subst}
 use Rattle.std.specs.Prelude.{IfOk}
 use Rattle.vrl_value.specs.Regexes.{regexes_below}
 use Rattle.vrl_value.specs.Tree.{null}
@@ -7,40 +6,24 @@ use Rattle.vrl_value.specs.View.{tree_of}
 use Rattle.vrl_builtin.specs.Rows.{SettingTree}
 use Rattle.vrl_store.specs.Outcomes.{Ended}
 use Rattle.vrl_store.specs.StoreView.{store_in}
-use Rattle.vrl_store.specs.Results.{Ends}
 use Rattle.vrl_resolve.specs.Fits.{AllFit}
 use Rattle.vrl_resolve.specs.Linked.{parts_view}
 use Rattle.vrl_resolve.specs.LinkedMeaning.{items_mean}
-use Rattle.vrl_resolve.specs.Program.{program_of, IsRan, IsWellFormedRan}
+use Rattle.vrl_resolve.specs.Program.{program_of, IsWellFormedRan}
+use Rattle.vrl_resolve.specs.Walking.{EndsAsked}
 use Rattle.vrl_resolve.proofs.RunsWellFormed.{left_is, start_is}
 use Rattle.vrl_resolve.proofs.WellFormedValues.{null_is}
 use Rattle.vrl_resolve.proofs.runner.run.Goals as goal
 
-pub items-end-requires-clause-ready : goal.items-end-requires-clause-ready
+pub walk-end-requires-clause-ready : goal.walk-end-requires-clause-ready
 unfolding program_of
-items-end-requires-clause-ready c =
+walk-end-requires-clause-ready c =
     let names = c.args.program.now.names in
     let started = c.in_ok-store.ensures.started names (ap length (sym c.as_slice.ensures)) c.args.program.now.ready.distinct in
     let below = subst (λ sources. IsTrue (regexes_below (length sources) (tree_of c.args.event))) (sym c.requires.searches) c.requires.event in record {
       names = started.1;
       formed = start_is (length c.args.searches.now) (tree_of c.args.event) (store_in names c.in_ok-store.store) started.0 c.in_ok-store.ensures.ordered below;
     }
-
-pub items-end-requires-clause-fits : goal.items-end-requires-clause-fits
-unfolding program_of
-items-end-requires-clause-fits c =
-    let names = c.args.program.now.names in
-    let fits = subst (λ ns. AllFit (length names) (length c.args.program.now.patterns) (parts_view ns)) (sym c.deref.ensures.value) c.args.program.now.ready.fits in
-    subst (λ sources. AllFit (length names) (length sources) (parts_view c.deref.result.now)) (sym c.requires.searches) fits
-
-pub returns-clause-ran : goal.returns-clause-ran
-unfolding program_of
-returns-clause-ran c =
-    let names = c.args.program.now.names in
-    let started = c.in_ok-store.ensures.started names (ap length (sym c.as_slice.ensures)) c.args.program.now.ready.distinct in
-    let meant : List (List ℕ) → Ended = λ sources. items_mean names (record { moment = c.args.moment; sources = sources }) null (parts_view c.deref.result.now) (store_in names c.in_ok-store.store) in
-    let same = ap meant c.requires.searches ∙ (λ i. items_mean names (record { moment = c.args.moment; sources = c.args.program.now.patterns }) null (parts_view (c.deref.ensures.value i)) (started.0 i)) in
-    IfOk-weaker c.left.result _ _ (λ ran is. subst (λ m. IsRan m ran) same (is (meant c.args.searches.now) c.items-end.ensures.ended)) c.left.ensures.ran
 
 pub returns-clause-below : goal.returns-clause-below
 unfolding program_of
@@ -56,4 +39,4 @@ returns-clause-below c =
     let meant : Ended = items_mean names setting null (parts_view c.deref.result.now) (store_in names c.in_ok-store.store) in
     let well = c.meanings_stay_well_formed.ensures.items names setting (length names) null (parts_view c.deref.result.now) (store_in names c.in_ok-store.store) (null_is count) fits formed in
     subst (λ sources. IfOk c.left.result (IsWellFormedRan (length sources))) c.requires.searches
-    (left_is count (λ m. Ends m (store_in names c.items-end.new.store) c.items-end.result) c.left.result meant c.left.ensures.ran c.left.ensures.told c.items-end.ensures.ended well)
+    (left_is count c.args.is_asked (λ asked m. EndsAsked asked m (store_in names c.walk-end.new.store) c.walk-end.result) c.left.result meant c.left.ensures.ran c.left.ensures.told c.walk-end.ensures.ended well)
