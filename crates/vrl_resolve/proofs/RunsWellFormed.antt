@@ -28,7 +28,7 @@ start_is count event store is ordered below = subst (IsWellFormedStore count) (s
 
 given_is : (count : ℕ) (asked : Bool) (v : Tree) (store : Store) (given : Option Given) → IsGiven asked v store given → AreToldIn (code.Value given) → IsWellFormed count v → IsWellFormedStore count store → IsWellFormedEnd count (code.Value given)
 given_is count asked v store (Some given) is told well formed =
-    (subst (IsWellFormed count) (sym is.0) well, told count (subst (λ m. (x : List ℕ) → IfSome (finite.get m x) (IsWellFormed count)) (sym is.1) formed.variables))
+    (subst (IsWellFormed count) (sym is.1) well, told count (subst (λ m. (x : List ℕ) → IfSome (finite.get m x) (IsWellFormed count)) (sym is.2) formed.variables))
 given_is count asked v store None is told well formed = tt
 
 end_is : (count : ℕ) (asked : Bool) (outcome : Outcome) (store : Store) (end : CodeEnded) → IsEnd asked (end_of outcome) store end → AreToldIn end → IsWellFormedOutcome count outcome → IsWellFormedStore count store → IsWellFormedEnd count end
@@ -47,7 +47,7 @@ run_is count asked meant ran is told well = record {
 }
 
 -- what is left of a run, told of each meaning that it has
-pub left_is : (count : ℕ) (asked : Bool) (P : Bool → Ended → Type 0) (result : Result Ran Memory) (meant : Ended) → IfOk result (λ ran. (asked : Bool) (m : Ended) → P asked m → IsRan asked m ran)
-    → IfOk result AreTold → P asked meant → IsWellFormedEnded count meant → IfOk result (IsWellFormedRan count)
-left_is count asked P (Ok ran) meant is told means well = run_is count asked meant ran (is asked meant means) told well
+pub left_is : (count : ℕ) (asked : Bool) (P : Ended → Type 0) (result : Result Ran Memory) (meant : Ended) → IfOk result (λ ran. (m : Ended) → P m → IsRan asked m ran)
+    → IfOk result AreTold → P meant → IsWellFormedEnded count meant → IfOk result (IsWellFormedRan count)
+left_is count asked P (Ok ran) meant is told means well = run_is count asked meant ran (is meant means) told well
 left_is count asked P (Err memory) meant is told means well = tt

@@ -1,5 +1,5 @@
 -- What a run leaves, by how its walk ended.
-use Rattle.std.specs.Prelude.{◌≡◌, Option, Some, None, ⊤}
+use Rattle.std.specs.Prelude.{◌≡◌, Bool, Option, Some, None, IsTrue, ⊤}
 use Rattle.std.specs.declared.result.Result.{Result}
 use Rattle.std.specs.declared.result.Result.TheVariants.{Ok, Err}
 use Rattle.vrl_value.specs.Tree.{Tree}
@@ -47,13 +47,13 @@ abbrev pub IsHandled : Result (Option Value) Stop → Type 0
 IsHandled (Ok v) = ⊤
 IsHandled (Err s) = IsHandledStop s
 
--- with a value that is told, behind which variables and their names are gathered, or for want of memory; what else it ended with takes no memory to leave
-abbrev pub MayWantAt : Stop → Type 0
-MayWantAt (stop.Returned v) = ⊤
-MayWantAt stop.Memory = ⊤
-MayWantAt other = ⊥
+-- with a value that is asked for, beside which variables and their names are gathered, or for want of memory; what else it ended with takes no memory to leave
+abbrev pub MayWantAt : Bool → Stop → Type 0
+MayWantAt asked (stop.Returned v) = IsTrue asked
+MayWantAt asked stop.Memory = ⊤
+MayWantAt asked other = ⊥
 
-abbrev pub MayWant : Result (Option Value) Stop → Type 0
-MayWant (Ok (Some v)) = ⊤
-MayWant (Ok None) = ⊥
-MayWant (Err s) = MayWantAt s
+abbrev pub MayWant : Bool → Result (Option Value) Stop → Type 0
+MayWant asked (Ok (Some v)) = ⊤
+MayWant asked (Ok None) = ⊥
+MayWant asked (Err s) = MayWantAt asked s

@@ -1,5 +1,5 @@
 -- What a program is to its callers: what it does to an event, at a moment; and what a run leaves.
-use Rattle.std.specs.Prelude.{◌≡◌, Bool, false, ℕ, ℤ, List, Option, Some, None, ⊤}
+use Rattle.std.specs.Prelude.{◌≡◌, Bool, true, false, ℕ, ℤ, List, Option, Some, None, ⊤}
 use Rattle.vrl_value.specs.Tree.{Tree, null, object}
 use Rattle.vrl_value.specs.View.{members_of, tree_of}
 use Rattle.vrl_value.specs.declared.value.Tag.{Tag}
@@ -36,9 +36,9 @@ program_of p = record { sources = p.patterns; ended = λ moment event. items_mea
 
 -- ---- what a run leaves
 
--- what was given of a run that ended with this value, in this store; it is missing only where it isn't asked for
+-- what was given of a run that ended with this value, in this store; it is there just where it is asked for
 abbrev pub IsGiven : Bool → Tree → Store → Option Given → Type 0
-IsGiven asked v store (Some given) = (tree_of given.value ≡ v) × (map_of (members_of given.variables) ≡ store.variables)
+IsGiven asked v store (Some given) = (asked ≡ true) × (tree_of given.value ≡ v) × (map_of (members_of given.variables) ≡ store.variables)
 IsGiven asked v store None = asked ≡ false
 
 abbrev pub IsEnd : Bool → End → Store → CodeEnded → Type 0

@@ -1,5 +1,5 @@
 -- What a run of a part asks of the store that it starts in, and what it promises of how it ends and of the store that it leaves.
-use Rattle.std.specs.Prelude.{◌≡◌, Bool, false, List, [], ◌++◌, length, map, Option, Some, None, Vec}
+use Rattle.std.specs.Prelude.{◌≡◌, Bool, true, false, List, [], ◌++◌, length, map, Option, Some, None, Vec}
 use Rattle.std.specs.declared.alloc.Global.{Global}
 use Rattle.std.specs.declared.result.Result.{Result}
 use Rattle.std.specs.declared.result.Result.TheVariants.{Ok, Err}
@@ -102,8 +102,8 @@ abbrev pub EndsDone : Ended → Store → Result (Unit {0}) Stop → Type 0
 EndsDone ended store (Ok done) = (v : Tree) × (ended ≡ ends (value v) store)
 EndsDone ended store (Err stop) = Stops ended store stop
 
--- it ended with a value, which is told unless it isn't asked for
+-- it ended with a value, which is told just where it is asked for
 abbrev pub EndsAsked : Bool → Ended → Store → Result (Option Value) Stop → Type 0
-EndsAsked asked ended store (Ok (Some v)) = ended ≡ ends (value (tree_of v)) store
+EndsAsked asked ended store (Ok (Some v)) = (asked ≡ true) × (ended ≡ ends (value (tree_of v)) store)
 EndsAsked asked ended store (Ok None) = (asked ≡ false) × ((v : Tree) × (ended ≡ ends (value v) store))
 EndsAsked asked ended store (Err stop) = Stops ended store stop

@@ -1,4 +1,4 @@
-ghost use Rattle.std.specs.Prelude.{◌≡◌, length, Bool, IfOk, IsErr, IsTrue};
+ghost use Rattle.std.specs.Prelude.{◌≡◌, length, IfOk, IsErr, IsTrue};
 ghost use Rattle.vrl_value.specs.Regexes.{regexes_below};
 ghost use Rattle.vrl_value.specs.Tree.{null};
 ghost use Rattle.vrl_value.specs.View.{tree_of};
@@ -35,7 +35,7 @@ impl Program {
 }
 
 /// Runs a program over an event, at a moment, from which it ends with no error that it doesn't handle. What it gives, a value and
-/// variables, is told where it is asked for; gathering it takes time and memory. Each regex in the event is one of the
+/// variables, is told just where it is asked for, since gathering it takes time and memory. Each regex in the event is one of the
 /// program's, and `searches` are [`Program::searches`]. `Memory`: want of memory; the event is gone then.
 #[tactic(auto, unfolding(crate::specs::Program::program_of))]
 pub fn run(
@@ -63,7 +63,7 @@ pub fn run(
     };
     let mut store = Store::start(alloc, event, program.names.as_slice().len())?;
     let end = walk(&mut store, &context, &program.items, is_asked);
-    left(alloc, &program.names, store, end)
+    left(alloc, &program.names, store, is_asked, end)
 }
 
 // Runs the items of a script: its value, where it is asked for.
@@ -139,23 +139,24 @@ fn done(end: Result<Value, Stop>) -> Result<(), Stop>
     }
 }
 
-// What a run leaves that ended so. `Memory`: want of memory, at a value or where it ended with that.
+// What a run leaves that ended so. `Memory`: want of memory, at a value that is asked for or where it ended with that.
 fn left(
     alloc: Global,
     names: &Names,
     store: Store,
+    is_asked: bool,
     end: Result<Option<Value>, Stop>,
 ) -> Result<Ran, Memory>
     requires names { AreNames names.now store }
     requires handled { IsHandled end }
-    ensures ran { IfOk result (λ ran. (asked : Bool) (meant : meaning.Ended) → EndsAsked asked meant (store_in names.now store) end → IsRan asked meant ran) }
+    ensures ran { IfOk result (λ ran. (meant : meaning.Ended) → EndsAsked is_asked meant (store_in names.now store) end → IsRan is_asked meant ran) }
     ensures told { IfOk result AreTold }
-    ensures want { IsErr result → MayWant end }
+    ensures want { IsErr result → MayWant is_asked end }
 {
     match end {
         Ok(Some(value)) => valued(alloc, names, store, value),
         Ok(None) => Ok(early(store, Ended::Value(None))),
-        Err(stop) => stopped(alloc, names, store, stop),
+        Err(stop) => stopped(alloc, names, store, is_asked, stop),
     }
 }
 
@@ -171,16 +172,28 @@ fn valued(alloc: Global, names: &Names, store: Store, value: Value) -> Result<Ra
     })
 }
 
-// What a run leaves that ended without a value, or by a `return`. `Memory`: want of memory, at a `return` or where it ended with that.
-fn stopped(alloc: Global, names: &Names, store: Store, stop: Stop) -> Result<Ran, Memory>
+// What a run leaves that ended without a value, or by a `return`. `Memory`: want of memory, at a `return` whose value is asked for or where
+// it ended with that.
+fn stopped(
+    alloc: Global,
+    names: &Names,
+    store: Store,
+    is_asked: bool,
+    stop: Stop,
+) -> Result<Ran, Memory>
     requires names { AreNames names.now store }
     requires handled { IsHandledStop stop }
-    ensures ran { IfOk result (λ ran. (asked : Bool) (meant : meaning.Ended) → Stops meant (store_in names.now store) stop → IsRan asked meant ran) }
+    ensures ran { IfOk result (λ ran. (meant : meaning.Ended) → Stops meant (store_in names.now store) stop → IsRan is_asked meant ran) }
     ensures told { IfOk result AreTold }
-    ensures want { IsErr result → MayWantAt stop }
+    ensures want { IsErr result → MayWantAt is_asked stop }
 {
     match stop {
-        Stop::Returned(value) => valued(alloc, names, store, value),
+        Stop::Returned(value) => {
+            if is_asked {
+                return valued(alloc, names, store, value);
+            }
+            Ok(early(store, Ended::Value(None)))
+        }
         Stop::Error(_) => unreachable!(),
         Stop::Aborted(message) => Ok(early(store, Ended::Aborted(message))),
         Stop::Banged(text) => Ok(early(store, Ended::Banged(text))),

@@ -39,4 +39,4 @@ returns-clause-below c =
     let meant : Ended = items_mean names setting null (parts_view c.deref.result.now) (store_in names c.in_ok-store.store) in
     let well = c.meanings_stay_well_formed.ensures.items names setting (length names) null (parts_view c.deref.result.now) (store_in names c.in_ok-store.store) (null_is count) fits formed in
     subst (λ sources. IfOk c.left.result (IsWellFormedRan (length sources))) c.requires.searches
-    (left_is count c.args.is_asked (λ asked m. EndsAsked asked m (store_in names c.walk-end.new.store) c.walk-end.result) c.left.result meant c.left.ensures.ran c.left.ensures.told c.walk-end.ensures.ended well)
+    (left_is count c.args.is_asked (λ m. EndsAsked c.args.is_asked m (store_in names c.walk-end.new.store) c.walk-end.result) c.left.result meant c.left.ensures.ran c.left.ensures.told c.walk-end.ensures.ended well)
