@@ -1,6 +1,7 @@
 ghost use Rattle.std.specs.Prelude.{◌≡◌, IfOk, IfSome};
 ghost use Rattle.vrl_syntax.specs.Limits.{KeepsLimits};
-ghost use Rattle.vrl_syntax.specs.View.{exprs_of};
+ghost use Rattle.vrl_syntax.specs.Regexes.{IsNumbered};
+ghost use Rattle.vrl_syntax.specs.View.{exprs_of, script_of as script_view};
 ghost use Rattle.vrl_check.specs.Answer.{IsJudged};
 ghost use Rattle.vrl_judge.specs.Rules.{Judgement};
 
@@ -14,7 +15,7 @@ use vrl_kind::print;
 use vrl_parse::parse;
 use vrl_pattern::{BuildFault, Patterns};
 use vrl_state::{Known, RootKind};
-use vrl_syntax::{Root, Script, limit_faults, regexes_below};
+use vrl_syntax::{Root, Script};
 use vrl_token::{SyntaxFault, Tokens, tokens};
 use vrl_value::{Memory, Tag};
 
@@ -31,7 +32,10 @@ fn tokens_of(alloc: Global, text: &str) -> Result<Option<Tokens>, Memory> {
 }
 
 // The script of a text. `None`: it is none.
-fn script_of(alloc: Global, text: &str) -> Result<Option<Script>, Memory> {
+fn script_of(alloc: Global, text: &str) -> Result<Option<Script>, Memory>
+    ensures limits { IfOk result (λ found. IfSome found (λ script. KeepsLimits (exprs_of script.items))) }
+    ensures regexes { IfOk result (λ found. IfSome found (λ script. IsNumbered (script_view script))) }
+{
     let Some(found) = tokens_of(alloc, text)? else {
         return Ok(None);
     };
@@ -44,35 +48,19 @@ fn script_of(alloc: Global, text: &str) -> Result<Option<Script>, Memory> {
 
 // What a script is judged to be over objects of JSON. `None`: it isn't judged.
 fn judged_script(alloc: Global, script: &Script) -> Result<Option<Judged>, Memory>
+    requires limits { KeepsLimits (exprs_of script.now.items) }
+    requires regexes { IsNumbered (script_view script.now) }
     ensures { IfOk result (λ found. IfSome found (λ judged. (j : Judgement) × IsJudged j judged)) }
 {
-    let faults = limit_faults(alloc, &script.items)?;
-    if !faults.as_slice().is_empty() {
-        return Ok(None);
-    }
     match Patterns::build(alloc, &script.patterns) {
-        Ok(patterns) => judged_beside(alloc, script, &patterns),
+        Ok(patterns) => {
+            let event = event_kind(alloc)?;
+            let judged = check(alloc, script, &event, &patterns)?;
+            Ok(Some(judged))
+        }
         Err(BuildFault::Malformed(_numbers)) => Ok(None),
         Err(BuildFault::Memory) => Err(Memory),
     }
-}
-
-// The same with its regexes.
-fn judged_beside(
-    alloc: Global,
-    script: &Script,
-    patterns: &Patterns,
-) -> Result<Option<Judged>, Memory>
-    requires limits { KeepsLimits (exprs_of script.now.items) }
-    requires patterns { patterns.now ≡ script.now.patterns }
-    ensures { IfOk result (λ found. IfSome found (λ judged. (j : Judgement) × IsJudged j judged)) }
-{
-    if !regexes_below(&script.items, patterns.sources().len()) {
-        return Ok(None);
-    }
-    let event = event_kind(alloc)?;
-    let judged = check(alloc, script, &event, patterns)?;
-    Ok(Some(judged))
 }
 
 // The same of a text.

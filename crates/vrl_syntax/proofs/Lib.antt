@@ -1,4 +1,3 @@
 mod ClosureNames
 pub mod PartSizes
-mod Sizes
 pub mod Walked

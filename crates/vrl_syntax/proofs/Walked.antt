@@ -1,6 +1,6 @@
 -- A walk over a list that adds what each part has.
-use Rattle.std.proofs.Common.{◌≡◌, ℕ, suc, ◌<◌, ◌≤◌, Bool, true, false, ◌&&◌, List, [], ◌∷◌, Result, OnOk, ◌++◌, length, drop, drop-cons, get_or, refl, sym, ap, ◌∙◌, append_assoc, subst}
-use Rattle.std.proofs.lemmas.List.{append-nil, at_drop_all, drop_all}
+use Rattle.std.proofs.Common.{◌≡◌, ℕ, suc, ◌<◌, ◌≤◌, List, [], ◌∷◌, Result, OnOk, ◌++◌, length, drop, drop-cons, get_or, refl, sym, ap, ◌∙◌, append_assoc}
+use Rattle.std.proofs.lemmas.List.{append-nil, at_drop_all}
 use Rattle.std.proofs.lemmas.Result.{on_ok_weaker}
 
 -- what is left from a place on is the part there, and then what is left behind it
@@ -38,31 +38,3 @@ added_third result before between behind after this that those whole adds more l
 pub walked_through : {A R : Type 0} (whole : List A → List R) (items : List A) (i : ℕ) (before after : List R) → length items ≤ i → whole [] ≡ []
     → after ++ whole (drop i items) ≡ before ++ whole items → after ≡ before ++ whole items
 walked_through whole items i before after end none so_far = sym (append-nil after) ∙ sym (ap (λ t. after ++ t) (at_drop_all whole items i end ∙ none)) ∙ so_far
-
--- what holds of the whole where it holds of what is left does so behind one more part, of which it holds
-pub walked_all : {A : Type 0} (whole : List A → Type 0) (part : A → Type 0) → ((x : A) (xs : List A) → part x → whole xs → whole (x ∷ xs))
-    → (items : List A) (i next : ℕ) (x : A) → next ≡ suc i → i < length items → x ≡ get_or items i x
-    → part x → (whole (drop i items) → whole items) → whole (drop next items) → whole items
-walked_all whole part step items i next x n below is has so_far rest =
-    so_far (subst whole (sym (drop_one items i next x n below is)) (step x (drop next items) has rest))
-
-pub walked_whole : {A : Type 0} (whole : List A → Type 0) (items : List A) (i : ℕ) → length items ≤ i → whole [] → (whole (drop i items) → whole items) → whole items
-walked_whole whole items i end none so_far = so_far (subst whole (sym (drop_all i items end)) none)
-
--- what is told of a whole by a test of its parts in order: behind a part that passes what is left decides
-pub walked_past : {A : Type 0} (whole : List A → Bool) (part : A → Bool) → ((x : A) (xs : List A) → whole (x ∷ xs) ≡ (part x && whole xs))
-    → (items : List A) (i next : ℕ) (x : A) → next ≡ suc i → i < length items → x ≡ get_or items i x
-    → part x ≡ true → whole items ≡ whole (drop i items) → whole items ≡ whole (drop next items)
-walked_past whole part step items i next x n below is passes so_far =
-    so_far ∙ ap whole (drop_one items i next x n below is) ∙ step x (drop next items) ∙ ap (λ b. b && whole (drop next items)) passes
-
--- a part that fails does
-pub walked_to : {A : Type 0} (whole : List A → Bool) (part : A → Bool) → ((x : A) (xs : List A) → whole (x ∷ xs) ≡ (part x && whole xs))
-    → (items : List A) (i : ℕ) (x : A) → i < length items → x ≡ get_or items i x
-    → part x ≡ false → whole items ≡ whole (drop i items) → false ≡ whole items
-walked_to whole part step items i x below is fails so_far =
-    sym (so_far ∙ ap whole (drop_one items i (suc i) x refl below is) ∙ step x (drop (suc i) items) ∙ ap (λ b. b && whole (drop (suc i) items)) fails)
-
--- and with none left it passes
-pub walked_out : {A : Type 0} (whole : List A → Bool) (items : List A) (i : ℕ) → length items ≤ i → whole [] ≡ true → whole items ≡ whole (drop i items) → true ≡ whole items
-walked_out whole items i end none so_far = sym (so_far ∙ at_drop_all whole items i end ∙ none)

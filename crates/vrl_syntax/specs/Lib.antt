@@ -1,7 +1,6 @@
 pub mod Calls
 pub mod ErrorAssignments
 pub mod Limits
-pub mod Ordered
 pub mod Regexes
 pub mod Stores
 pub mod Tree
