@@ -252,7 +252,7 @@ fn goes(alloc: Global, store: &mut Store, row: &Row) -> Result<bool, Memory>
 fn started(alloc: Global) -> Result<Store, Memory>
     ensures { IfOk result (λ store. count_of store ≡ 2) }
 {
-    Store::start(alloc, json_of(alloc, "{}")?, 2)
+    Store::start(alloc, json_of(alloc, "{}")?, false, 2)
 }
 
 fn expect_steps(rt: &impl Abort, alloc: Global, rows: &[Row]) -> Result<(), Memory> {

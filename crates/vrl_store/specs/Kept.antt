@@ -26,7 +26,8 @@ is_numbered vs number = is_some (unwrap_or (slice_get vs number) None)
 -- each number stands once, and stands for a variable that is there
 abbrev pub ArePresent : List (Option Tree) → List ℕ → Type 0
 ArePresent vs [] = ⊤
-ArePresent vs (number ∷ numbers) = IsTrue (is_numbered vs number) × ((list_any (λ n. n == number) numbers ≡ false) × ArePresent vs numbers)
+ArePresent vs (number ∷ numbers) =
+    IsTrue (is_numbered vs number) × ((list_any (λ n. n == number) numbers ≡ false) × ArePresent vs numbers)
 
 -- each variable that is there has its number among these
 abbrev pub AreCounted : List (Option Tree) → List ℕ → Type 0
@@ -36,7 +37,8 @@ AreCounted vs numbers = (number : ℕ) → IsTrue (is_numbered vs number) → Is
 abbrev pub is_one_of : ℕ → List ℕ → Bool
 is_one_of number numbers = list_any (λ n. n == number) numbers
 
--- the variables that are there have these numbers, and where they are marked so, they are within the limit of depth
+-- the variables that are there have these numbers, and where they are marked so, they are within
+-- the limit of depth
 pub record AreKept (are_shallow : Bool) (vs : List (Option Tree)) (numbers : List ℕ) : Type 0 where
   pub present : ArePresent vs numbers
   pub counted : AreCounted vs numbers
@@ -54,9 +56,11 @@ shallow-prop (Some v ∷ vs) = ×_prop le_prop (shallow-prop vs)
 
 present-prop : (vs : List (Option Tree)) (numbers : List ℕ) → IsProp (ArePresent vs numbers)
 present-prop vs [] = Unit-prop
-present-prop vs (number ∷ numbers) = ×_prop (one_truth _) (×_prop (Coded-set coded_bool _ false) (present-prop vs numbers))
+present-prop vs (number ∷ numbers) =
+    ×_prop (one_truth _) (×_prop (Coded-set coded_bool _ false) (present-prop vs numbers))
 
-pub kept-prop : (are_shallow : Bool) (vs : List (Option Tree)) (numbers : List ℕ) → IsProp (AreKept are_shallow vs numbers)
+pub kept-prop : (are_shallow : Bool) (vs : List (Option Tree)) (numbers : List ℕ)
+    → IsProp (AreKept are_shallow vs numbers)
 kept-prop are_shallow vs numbers x y = λ i. record {
   present = present-prop vs numbers x.present y.present i;
   counted = λ number is. one_truth _ (x.counted number is) (y.counted number is) i;

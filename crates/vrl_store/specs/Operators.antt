@@ -29,12 +29,14 @@ symbol_of op.Times = codes "*"
 
 -- the text of the error that an operator doesn't take values of these tags
 abbrev pub pair_text : Op → Tag → Tag → List ℕ
-pair_text o t u = codes "cannot apply " ++ (symbol_of o ++ (codes " to " ++ (word_of t ++ (codes " and " ++ word_of u))))
+pair_text o t u =
+    codes "cannot apply " ++ (symbol_of o ++ (codes " to " ++ (word_of t ++ (codes " and " ++ word_of u))))
 
 abbrev pub cannot_apply : Op → Tree → Tree → Outcome
 cannot_apply o v w = error (pair_text o (tag_of v) (tag_of w))
 
--- ---- sums, differences and products: whole numbers wrap at 64 bits, texts are joined, and a null beside a text counts as empty
+-- ---- sums, differences and products: whole numbers wrap at 64 bits, texts are joined, and a null
+-- beside a text counts as empty
 
 abbrev pub sum_of : Tree → Tree → Outcome
 sum_of (integer m) (integer n) = value (integer (int_wrapping_add w64 m n))

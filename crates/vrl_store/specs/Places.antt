@@ -1,6 +1,7 @@
 -- Reading, writing and removing at the paths of a store.
 --
--- A write is `set_tree`, which the laws of paths tie to what look-up finds at every path, and a removal is `remove_tree`.
+-- A write is `set_tree`, which the laws of paths tie to what look-up finds at every path, and a
+-- removal is `remove_tree`.
 use Rattle.std.specs.Prelude.{Bool, List, [], ◌∷◌, Option, Some, None, is_some, unwrap_or, nat_le, if◌then◌else◌}
 use Rattle.vrl_value.specs.Depth.{depth_of}
 use Rattle.vrl_value.specs.Tree.{Tree, null}
@@ -37,9 +38,11 @@ is_within v = nat_le (depth_of v) depth_limit
 abbrev pub root_with : Root → List Step → Tree → Store → Tree
 root_with root path v store = set_tree (root_value root store) path v
 
--- What follows once the value stands at the path. A write by which a root would be too deep isn't done, and ends all.
+-- What follows once the value stands at the path. A write by which a root would be too deep isn't
+-- done, and ends all.
 abbrev pub writes : Root → List Step → Tree → Store → (Store → Ended) → Ended
-writes root path v store next = let w = root_with root path v store in (if is_within w then next (with_value root w store) else ends deep store)
+writes root path v store next =
+    let w = root_with root path v store in (if is_within w then next (with_value root w store) else ends deep store)
 
 -- a target `_` takes nothing
 abbrev pub writes_to : Target → Tree → Store → (Store → Ended) → Ended

@@ -1,4 +1,5 @@
--- What the results of the code say: its words for those of the meaning. Want of memory says nothing.
+-- What the results of the code say: its words for those of the meaning. Want of memory says
+-- nothing.
 use Rattle.std.specs.Prelude.{◌≡◌, ℕ, Bool, true, false, List, Option, Some, None, ⊤}
 use Rattle.std.specs.declared.result.Result.{Result}
 use Rattle.std.specs.declared.result.Result.TheVariants.{Ok, Err}

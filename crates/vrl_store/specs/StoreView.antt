@@ -1,4 +1,5 @@
--- The store of the code as that of the meaning: variables have numbers there, which stand for their names.
+-- The store of the code as that of the meaning: variables have numbers there, which stand for their
+-- names.
 use Rattle.std.specs.Prelude.{◌≡◌, ℕ, ◌<◌, Bool, true, false, ◌==◌, List, [], ◌∷◌, ◌++◌, length, map, Option, Some, None, slice_get, unwrap_or, IsTrue, ⊤}
 use Rattle.std.specs.Cmp.Lexicographic.{slice_cmp}
 use Rattle.std.specs.FinMap as finite
@@ -92,19 +93,24 @@ IsKnown count (base.Variable number) = number < count
 abbrev pub IsFront : List ℕ → List ℕ → Type 0
 IsFront xs ys = (more : List ℕ) × (ys ≡ xs ++ more)
 
--- a value was written at a path; where the root would be too deep, and at want of memory, all stays as it was
+-- a value was written at a path; where the root would be too deep, and at want of memory, all stays
+-- as it was
 abbrev pub IsWritten : Root → List Step → Tree → Store → Store → Result (Unit {0}) SetFault → Type 0
-IsWritten root path v before after (Ok done) = (is_within (root_with root path v before) ≡ true) × (after ≡ with_value root (root_with root path v before) before)
-IsWritten root path v before after (Err fault.TooDeep) = (is_within (root_with root path v before) ≡ false) × (after ≡ before)
+IsWritten root path v before after (Ok done) =
+    (is_within (root_with root path v before) ≡ true) × (after ≡ with_value root (root_with root path v before) before)
+IsWritten root path v before after (Err fault.TooDeep) =
+    (is_within (root_with root path v before) ≡ false) × (after ≡ before)
 IsWritten root path v before after (Err fault.Memory) = after ≡ before
 
 -- only the variables with these numbers are left
 abbrev pub left_with : Names → List ℕ → Store → Store
-left_with names numbers store = record store { variables = finite.retain_keys store.variables (λ x. is_among x (map (name_at names) numbers)) }
+left_with names numbers store =
+    record store { variables = finite.retain_keys store.variables (λ x. is_among x (map (name_at names) numbers)) }
 
 -- the variables with these numbers stay as they were
 abbrev pub Stay : List (Option Tree) → List (Option Tree) → List ℕ → Type 0
-Stay before after numbers = (number : ℕ) → IsTrue (list_any (λ n. n == number) numbers) → unwrap_or (slice_get after number) None ≡ unwrap_or (slice_get before number) None
+Stay before after numbers = (number : ℕ) → IsTrue (list_any (λ n. n == number) numbers)
+    → unwrap_or (slice_get after number) None ≡ unwrap_or (slice_get before number) None
 
 -- the values of an object, each at its name
 abbrev pub map_of : Members → Variables

@@ -7,4 +7,5 @@ use Rattle.vrl_store.specs.WellFormed.{IsWellFormed}
 
 -- members are well-formed where each value of their map is
 abbrev pub AreToldByMap : Members → Type 0
-AreToldByMap ms = (count : ℕ) → ((x : List ℕ) → IfSome (map.get (map_of ms) x) (IsWellFormed count)) → IsWellFormed count (object ms)
+AreToldByMap ms =
+    (count : ℕ) → ((x : List ℕ) → IfSome (map.get (map_of ms) x) (IsWellFormed count)) → IsWellFormed count (object ms)

@@ -1,4 +1,5 @@
--- Values as a script with so many regexes may hold them: in order, and each regex in them is one of the script's.
+-- Values as a script with so many regexes may hold them: in order, and each regex in them is one of
+-- the script's.
 use Rattle.std.specs.Prelude.{ℕ, List, [], ◌∷◌, IsTrue, IfSome, ⊤}
 use Rattle.std.specs.FinMap as map
 use Rattle.vrl_value.specs.Regexes.{regexes_below}
@@ -63,7 +64,8 @@ abbrev mutual
 
   pub AreWellFormedArms : ℕ → Arms → Type 0
   AreWellFormedArms count no_arms = ⊤
-  AreWellFormedArms count (arm predicate es gs) = IsWellFormedExpr count predicate × (AreWellFormedExprs count es × AreWellFormedArms count gs)
+  AreWellFormedArms count (arm predicate es gs) =
+      IsWellFormedExpr count predicate × (AreWellFormedExprs count es × AreWellFormedArms count gs)
 
   pub IsWellFormedElse : ℕ → Else → Type 0
   IsWellFormedElse count no_else = ⊤

@@ -5,7 +5,8 @@ ghost use Rattle.vrl_syntax.specs.View.{args_of, arms_of, call_of, closure_in, c
 use vrl_syntax::{Args, Arms, Call, Closure, Expr, Exprs, Form, Pairs};
 use vrl_value::Tag;
 
-/// The tags of the empty values of the error assignments that are to come, in the order in which a walk of the script meets them.
+/// The tags of the empty values of the error assignments that are to come, in the order in which a
+/// walk of the script meets them.
 #[derive(Drop)]
 pub struct EmptyTags<'a> {
     /// Those that are left.
@@ -29,7 +30,8 @@ impl EmptyTags<'_> {
 
     /// Passes over those of the error assignments in a closure.
     pub fn pass_over(&mut self, closure: &Option<Closure>)
-        ensures { self.new.left.now ≡ drop (in_closure (closure_in (option_map closure_of closure.now))) self.old.left.now }
+        ensures { self.new.left.now ≡ drop
+            (in_closure (closure_in (option_map closure_of closure.now))) self.old.left.now }
     {
         match closure {
             Some(closure) => self.pass_exprs(&closure.body),

@@ -6,7 +6,8 @@ ghost use Rattle.vrl_store.specs.Results.{Ends, EndsUnlessError};
 use crate::stop::Stop;
 use vrl_value::Value;
 
-/// The value that a part ended with; none where it ended with an error. However else it ended stays, an error of a call with `!` too.
+/// The value that a part ended with; none where it ended with an error. However else it ended
+/// stays, an error of a call with `!` too.
 pub fn unless_error(value: Result<Value, Stop>) -> Result<Option<Value>, Stop>
     ensures ends { (ended : Ended) (store : Store) → Ends ended store value → EndsUnlessError ended store result }
     ensures want { result ≡ Err Stop.Memory → value ≡ Err Stop.Memory }

@@ -15,7 +15,8 @@ pub(crate) fn named(
     names: &Names,
 ) -> Result<Fields, Memory>
     requires { AreDistinct names.now }
-    ensures variables { IfOk result (λ fields. map_of (members_of fields) ≡ variables_of names.now (trees_of variables.items)) }
+    ensures variables { IfOk result
+        (λ fields. map_of (members_of fields) ≡ variables_of names.now (trees_of variables.items)) }
     ensures told { IfOk result (λ fields. AreToldByMap (members_of fields)) }
 {
     trees_stay_in_order();

@@ -45,9 +45,11 @@ impl Operand<'_> {
         }
     }
 
-    /// Puts each field of an object among fields, in place of one with its name; what is no object has none. `Memory`: want of memory; some may be put.
+    /// Puts each field of an object among fields, in place of one with its name; what is no object
+    /// has none. `Memory`: want of memory; some may be put.
     pub(crate) fn put_into(self, alloc: Global, fields: &mut Fields) -> Result<(), Memory>
-        ensures { OnOk result ((ms : Members) → operand_tree self.entry ≡ object ms → members_of fields.new ≡ put_all ms (members_of fields.old)) }
+        ensures { OnOk result ((ms : Members) → operand_tree self.entry ≡ object ms
+            → members_of fields.new ≡ put_all ms (members_of fields.old)) }
     {
         match self {
             Operand::Owned(value) => match value {

@@ -12,11 +12,13 @@ use std::collections::BTreeMap;
 use vrl_syntax::Op;
 use vrl_value::{Chars, Fields, Memory, Tag, Value};
 
-/// What an operator that asks both its sides gives for two values; `??`, `||` and `&&` have rules of their own. A value that may be kept is
-/// built on, and no other is changed. `Error`: the operator doesn't take these two.
+/// What an operator that asks both its sides gives for two values; `??`, `||` and `&&` have rules
+/// of their own. A value that may be kept is built on, and no other is changed. `Error`: the
+/// operator doesn't take these two.
 pub fn apply(alloc: Global, op: Op, left: Operand<'_>, right: Operand<'_>) -> Result<Value, Stop>
     ensures gives { Gives (spec.applied op (operand_tree left.entry) (operand_tree right.entry)) result }
-    ensures small { IsTrue (is_small (spec.applied op (operand_tree left.entry) (operand_tree right.entry))) → IsOk result }
+    ensures small { IsTrue (is_small (spec.applied op (operand_tree left.entry) (operand_tree right.entry)))
+        → IsOk result }
 {
     match op {
         Op::Merge => merge(alloc, left, right),
@@ -110,7 +112,8 @@ pub(crate) enum Addition {
     None,
 }
 
-// How two values are added: whole numbers with a sum that wraps at 64 bits, texts, and a text beside a null, which counts as empty.
+// How two values are added: whole numbers with a sum that wraps at 64 bits, texts, and a text
+// beside a null, which counts as empty.
 fn adding(left: &Value, right: &Value) -> Addition
     ensures { IsAdding (tree_of left.now) (tree_of right.now) result }
 {
@@ -147,9 +150,11 @@ fn text_of(value: &Value) -> &str
     }
 }
 
-// A text with another one behind it; what is no text counts as an empty one. `Memory`: want of memory.
+// A text with another one behind it; what is no text counts as an empty one. `Memory`: want of
+// memory.
 fn joined(alloc: Global, left: Operand<'_>, right: &Value) -> Result<Value, Memory>
-    ensures { IfOk result (λ value. (s t : List ℕ) → operand_tree left.entry ≡ string s → tree_of right.now ≡ string t → tree_of value ≡ string (s ++ t)) }
+    ensures { IfOk result (λ value. (s t : List ℕ) → operand_tree left.entry ≡ string s → tree_of right.now ≡ string t
+        → tree_of value ≡ string (s ++ t)) }
 {
     let mut text = match left.into_value(alloc)? {
         Value::Text(text) => text.into_string(),
@@ -220,7 +225,8 @@ fn merge(alloc: Global, left: Operand<'_>, right: Operand<'_>) -> Result<Value, 
     }
 }
 
-// The fields of an object, or copies of them where it stands elsewhere; what is no object has none. `Memory`: want of memory.
+// The fields of an object, or copies of them where it stands elsewhere; what is no object has none.
+// `Memory`: want of memory.
 fn fields_of(alloc: Global, operand: Operand<'_>) -> Result<Fields, Memory>
     ensures { IfOk result (λ fields. (ms : Members) → operand_tree operand.entry ≡ object ms → members_of fields ≡ ms) }
 {

@@ -1,7 +1,7 @@
 ghost use Rattle.std.specs.Prelude.{◌≡◌, ◌+◌, ◌-◌, ◌<◌, ◌≤◌, ◌↔◌, ◌&&◌, [], false, true, length, option_map, slice_get, slice_set as set, take, unwrap_or, IfOk, IfSome, IsTrue, OnErr, OnOk};
 ghost use Rattle.std.specs.Coded.{Coded-set};
 ghost use Rattle.vrl_value.specs.Depth.{depth_of};
-ghost use Rattle.vrl_value.specs.Tree.{null, IsOrdered};
+ghost use Rattle.vrl_value.specs.Tree.{null};
 ghost use Rattle.vrl_value.specs.View.{members_of, tree_of};
 ghost use Rattle.vrl_value.specs.declared.value.Value.TheVariants as value;
 ghost use Rattle.vrl_path.specs.Steps.{IsPlain, IsWritable};
@@ -36,8 +36,10 @@ pub struct Store {
     present: Vec<usize>,
     // Null, which is lent where nothing stands.
     null: Value,
-    // The variables that are there have these numbers, each once, and where they are marked so, they are within the limit of depth.
-    ghost kept: { AreKept are_shallow (trees_of variables.items) present.items } by { kept-prop are_shallow (trees_of variables.items) present.items },
+    // The variables that are there have these numbers, each once, and where they are marked so,
+    // they are within the limit of depth.
+    ghost kept: { AreKept are_shallow (trees_of variables.items) present.items } by { kept-prop are_shallow
+        (trees_of variables.items) present.items },
     // Where the event is marked so, it is within the limit.
     ghost within: { IsTrue is_shallow → IsShallow (tree_of event) },
     ghost nothing: { null ≡ value.Null } by { Coded-set null-code null value.Null },
@@ -47,17 +49,23 @@ impl Store {
     ghost use Rattle.vrl_store.specs.StoreView.{count_of, event_of, hidden_tree, left_with, map_of, name_at, present_of, root_of, store_in, AreDistinct, AreNames, IsFront, IsKnown, IsWritten, Names, Stay};
     ghost use Rattle.vrl_store.specs.Told.{AreToldByMap};
 
-    /// The store that a run of so many variables starts with: none is there yet. `Memory`: want of memory.
-    pub fn start(alloc: Global, event: Value, count: usize) -> Result<Store, Memory>
-        // What is in memory is in order.
-        ensures ordered { OnOk result (IsOrdered (tree_of event)) }
-        ensures started { IfOk result (λ store. (names : Names) → length names ≡ count → AreDistinct names → (store_in names store ≡ store_of (tree_of event)) × AreNames names store) }
+    /// The store that a run of so many variables starts with: none is there yet. The event is known
+    /// to be within the limit of depth where the flag says so; else its depth is measured at the
+    /// first write. `Memory`: out of memory.
+    pub fn start(
+        alloc: Global,
+        event: Value,
+        is_shallow: bool,
+        count: usize,
+    ) -> Result<Store, Memory>
+        requires { IsTrue is_shallow → IsShallow (tree_of event) }
+        ensures { IfOk result (λ store. (names : Names) → length names ≡ count → AreDistinct names
+            → (store_in names store ≡ store_of (tree_of event)) × AreNames names store) }
     {
         let mut variables = Vec::with_capacity(alloc, count)?;
         for _ in 0..count {
             variables.push(None)?;
         }
-        let is_shallow = event.depth() <= DEPTH_LIMIT;
         Ok(Store {
             event,
             is_shallow,
@@ -71,7 +79,8 @@ impl Store {
     /// What stands in a root; null in a variable that isn't there.
     fn root(&self, base: Base) -> &Value
         requires base { IsKnown (count_of self.now) base }
-        ensures { (names : Names) → AreNames names self.now → tree_of result.now ≡ spec.root_value (root_of names base) (store_in names self.now) }
+        ensures { (names : Names) → AreNames names self.now
+            → tree_of result.now ≡ spec.root_value (root_of names base) (store_in names self.now) }
     {
         match base {
             Base::Event => &self.event,
@@ -85,7 +94,9 @@ impl Store {
     /// What stands at a place; null where nothing does.
     pub fn read(&self, place: &Place) -> &Value
         requires base { IsKnown (count_of self.now) place.now.base }
-        ensures { (names : Names) → AreNames names self.now → tree_of result.now ≡ spec.read_in (root_of names place.now.base) place.now.path (store_in names self.now) }
+        ensures { (names : Names) → AreNames names self.now
+            → tree_of result.now ≡ spec.read_in (root_of names place.now.base) place.now.path
+            (store_in names self.now) }
     {
         match get(self.root(place.base), &place.path) {
             Some(value) => value,
@@ -96,18 +107,23 @@ impl Store {
     /// Whether something stands at a place, be it null; a root always does.
     pub fn is_there(&self, place: &Place) -> bool
         requires base { IsKnown (count_of self.now) place.now.base }
-        ensures { (names : Names) → AreNames names self.now → result ≡ spec.is_there (root_of names place.now.base) place.now.path (store_in names self.now) }
+        ensures { (names : Names) → AreNames names self.now
+            → result ≡ spec.is_there (root_of names place.now.base) place.now.path (store_in names self.now) }
     {
         exists(self.root(place.base), &place.path)
     }
 
-    /// Writes a value at a place. `TooDeep`: the root would be nested too deeply; `Memory`: want of memory. At both the store stays as it
-    /// was, and the value is gone.
+    /// Writes a value at a place. `TooDeep`: the root would be nested too deeply; `Memory`: want of
+    /// memory. At both the store stays as it was, and the value is gone.
     pub fn write(&mut self, alloc: Global, place: &Place, value: Value) -> Result<(), SetFault>
         requires base { IsKnown (count_of self.old) place.now.base }
         requires writable { IsWritable place.now.path }
-        ensures written { (names : Names) → AreNames names self.old → IsWritten (root_of names place.now.base) place.now.path (tree_of value) (store_in names self.old) (store_in names self.new) result }
-        ensures want { result ≡ Err SetFault.Memory → (names : Names) → AreNames names self.old → IsTrue (spec.is_within (spec.root_with (root_of names place.now.base) place.now.path (tree_of value) (store_in names self.old))) }
+        ensures written { (names : Names) → AreNames names self.old
+            → IsWritten (root_of names place.now.base) place.now.path (tree_of value) (store_in names self.old)
+            (store_in names self.new) result }
+        ensures want { result ≡ Err SetFault.Memory → (names : Names) → AreNames names self.old
+            → IsTrue (spec.is_within
+            (spec.root_with (root_of names place.now.base) place.now.path (tree_of value) (store_in names self.old))) }
         ensures front { IsFront (present_of self.old) (present_of self.new) }
         ensures as_many { count_of self.new ≡ count_of self.old }
     {
@@ -131,8 +147,13 @@ impl Store {
     ) -> Result<(), SetFault>
         requires known { number < length self.old.variables.items }
         requires writable { IsWritable path.now }
-        ensures written { (names : Names) → AreNames names self.old → IsWritten (root_of names (Base.Variable number)) path.now (tree_of value) (store_in names self.old) (store_in names self.new) result }
-        ensures want { result ≡ Err SetFault.Memory → (names : Names) → AreNames names self.old → IsTrue (spec.is_within (spec.root_with (root_of names (Base.Variable number)) path.now (tree_of value) (store_in names self.old))) }
+        ensures written { (names : Names) → AreNames names self.old
+            → IsWritten (root_of names (Base.Variable number)) path.now (tree_of value) (store_in names self.old)
+            (store_in names self.new) result }
+        ensures want { result ≡ Err SetFault.Memory → (names : Names) → AreNames names self.old
+            → IsTrue (spec.is_within
+            (spec.root_with (root_of names (Base.Variable number)) path.now (tree_of value)
+            (store_in names self.old))) }
         ensures front { IsFront self.old.present.items self.new.present.items }
         ensures as_many { length self.new.variables.items ≡ length self.old.variables.items }
     {
@@ -154,8 +175,13 @@ impl Store {
         requires known { number < length self.old.variables.items }
         requires absent { is_numbered (trees_of self.old.variables.items) number ≡ false }
         requires writable { IsWritable path.now }
-        ensures written { (names : Names) → AreNames names self.old → IsWritten (root_of names (Base.Variable number)) path.now (tree_of value) (store_in names self.old) (store_in names self.new) result }
-        ensures want { result ≡ Err SetFault.Memory → (names : Names) → AreNames names self.old → IsTrue (spec.is_within (spec.root_with (root_of names (Base.Variable number)) path.now (tree_of value) (store_in names self.old))) }
+        ensures written { (names : Names) → AreNames names self.old
+            → IsWritten (root_of names (Base.Variable number)) path.now (tree_of value) (store_in names self.old)
+            (store_in names self.new) result }
+        ensures want { result ≡ Err SetFault.Memory → (names : Names) → AreNames names self.old
+            → IsTrue (spec.is_within
+            (spec.root_with (root_of names (Base.Variable number)) path.now (tree_of value)
+            (store_in names self.old))) }
         ensures front { IsFront self.old.present.items self.new.present.items }
         ensures as_many { length self.new.variables.items ≡ length self.old.variables.items }
     {
@@ -164,8 +190,8 @@ impl Store {
         Ok(())
     }
 
-    // Gives a variable that isn't there a value, which is known to be within the limit of depth or isn't. `Memory`: want of memory; the store
-    // stays as it was.
+    // Gives a variable that isn't there a value, which is known to be within the limit of depth or
+    // isn't. `Memory`: want of memory; the store stays as it was.
     fn begin(&mut self, number: usize, value: Value, is_shallow: bool) -> Result<(), Memory>
         requires known { number < length self.old.variables.items }
         requires absent { is_numbered (trees_of self.old.variables.items) number ≡ false }
@@ -190,12 +216,14 @@ impl Store {
         self.variables[number].is_some()
     }
 
-    // Gives a variable that is there another value, which is known to be within the limit of depth or isn't, and gives what stood in it.
+    // Gives a variable that is there another value, which is known to be within the limit of depth
+    // or isn't, and gives what stood in it.
     fn exchange(&mut self, number: usize, value: Value, is_shallow: bool) -> Option<HiddenValue>
         requires known { number < length self.old.variables.items }
         requires there { is_numbered (trees_of self.old.variables.items) number ≡ true }
         requires shallow { IsTrue is_shallow → IsShallow (tree_of value) }
-        ensures given { option_map hidden_tree result ≡ unwrap_or (slice_get (trees_of self.old.variables.items) number) None }
+        ensures given { option_map hidden_tree result ≡ unwrap_or
+            (slice_get (trees_of self.old.variables.items) number) None }
         ensures value { self.new.variables.items ≡ set self.old.variables.items number (Some value) }
         ensures event { self.new.event ≡ self.old.event }
         ensures present { self.new.present.items ≡ self.old.present.items }
@@ -206,14 +234,20 @@ impl Store {
         HiddenValue::of(hidden, were_shallow)
     }
 
-    /// Binds a name of a closure: its variable has this value from here on. What the variable had is given, where it was there. `Memory`: want
-    /// of memory; the store stays as it was, and the value is gone.
+    /// Binds a name of a closure: its variable has this value from here on. What the variable had
+    /// is given, where it was there. `Memory`: want of memory; the store stays as it was, and the
+    /// value is gone.
     pub fn bind(&mut self, number: usize, value: Value) -> Result<Option<HiddenValue>, Memory>
         requires known { number < count_of self.old }
-        ensures bound { OnOk result ((names : Names) → AreNames names self.old → store_in names self.new ≡ with_value (Name (name_at names number)) (tree_of value) (store_in names self.old)) }
-        ensures hidden { IfOk result (λ hidden. (names : Names) → AreNames names self.old → option_map hidden_tree hidden ≡ value_of (Name (name_at names number)) (store_in names self.old)) }
-        ensures there { IfOk result (λ hidden. IfSome hidden (λ value. IsTrue (is_one_of number (present_of self.old)))) }
-        ensures same { OnErr result ((names : Names) → AreNames names self.old → store_in names self.new ≡ store_in names self.old) }
+        ensures bound { OnOk result ((names : Names) → AreNames names self.old
+            → store_in names self.new ≡ with_value (Name (name_at names number)) (tree_of value)
+            (store_in names self.old)) }
+        ensures hidden { IfOk result (λ hidden. (names : Names) → AreNames names self.old
+            → option_map hidden_tree hidden ≡ value_of (Name (name_at names number)) (store_in names self.old)) }
+        ensures there { IfOk result
+            (λ hidden. IfSome hidden (λ value. IsTrue (is_one_of number (present_of self.old)))) }
+        ensures same { OnErr result ((names : Names) → AreNames names self.old
+            → store_in names self.new ≡ store_in names self.old) }
         ensures front { IsFront (present_of self.old) (present_of self.new) }
         ensures as_many { count_of self.new ≡ count_of self.old }
     {
@@ -225,10 +259,13 @@ impl Store {
         Ok(None)
     }
 
-    /// Gives a variable that is there the value back that a name of a closure hid, behind the end of the body. It takes no memory.
+    /// Gives a variable that is there the value back that a name of a closure hid, behind the end
+    /// of the body. It takes no memory.
     pub fn give_back(&mut self, number: usize, hidden: HiddenValue)
         requires { IsTrue (is_one_of number (present_of self.old)) }
-        ensures back { (names : Names) → AreNames names self.old → store_in names self.new ≡ with_value (Name (name_at names number)) (hidden_tree hidden) (store_in names self.old) }
+        ensures back { (names : Names) → AreNames names self.old
+            → store_in names self.new ≡ with_value (Name (name_at names number)) (hidden_tree hidden)
+            (store_in names self.old) }
         ensures present { present_of self.new ≡ present_of self.old }
         ensures as_many { count_of self.new ≡ count_of self.old }
     {
@@ -236,14 +273,19 @@ impl Store {
         let _bound = self.exchange(number, value, is_shallow);
     }
 
-    /// Takes out what stands at a place, and gives it; null where nothing does. Of the event's root an empty object is left, and of a
-    /// variable's null. `Memory`: want of memory; the store stays as it was.
+    /// Takes out what stands at a place, and gives it; null where nothing does. Of the event's root
+    /// an empty object is left, and of a variable's null. `Memory`: want of memory; the store stays
+    /// as it was.
     pub fn take(&mut self, alloc: Global, place: &Place) -> Result<Value, Memory>
         requires base { IsKnown (count_of self.old) place.now.base }
         requires plain { IsPlain place.now.path }
-        ensures value { IfOk result (λ value. (names : Names) → AreNames names self.old → tree_of value ≡ spec.read_in (root_of names place.now.base) place.now.path (store_in names self.old)) }
-        ensures removed { OnOk result ((names : Names) → AreNames names self.old → store_in names self.new ≡ spec.removed (root_of names place.now.base) place.now.path (store_in names self.old)) }
-        ensures same { OnErr result ((names : Names) → AreNames names self.old → store_in names self.new ≡ store_in names self.old) }
+        ensures value { IfOk result (λ value. (names : Names) → AreNames names self.old
+            → tree_of value ≡ spec.read_in (root_of names place.now.base) place.now.path (store_in names self.old)) }
+        ensures removed { OnOk result ((names : Names) → AreNames names self.old
+            → store_in names self.new ≡ spec.removed (root_of names place.now.base) place.now.path
+            (store_in names self.old)) }
+        ensures same { OnErr result ((names : Names) → AreNames names self.old
+            → store_in names self.new ≡ store_in names self.old) }
         ensures front { IsFront (present_of self.old) (present_of self.new) }
         ensures as_many { count_of self.new ≡ count_of self.old }
     {
@@ -256,9 +298,12 @@ impl Store {
     // Takes out a whole root.
     fn take_root(&mut self, alloc: Global, base: Base) -> Result<Value, Memory>
         requires base { IsKnown (count_of self.old) base }
-        ensures value { IfOk result (λ value. (names : Names) → AreNames names self.old → tree_of value ≡ spec.root_value (root_of names base) (store_in names self.old)) }
-        ensures removed { OnOk result ((names : Names) → AreNames names self.old → store_in names self.new ≡ spec.removed (root_of names base) [] (store_in names self.old)) }
-        ensures same { OnErr result ((names : Names) → AreNames names self.old → store_in names self.new ≡ store_in names self.old) }
+        ensures value { IfOk result (λ value. (names : Names) → AreNames names self.old
+            → tree_of value ≡ spec.root_value (root_of names base) (store_in names self.old)) }
+        ensures removed { OnOk result ((names : Names) → AreNames names self.old
+            → store_in names self.new ≡ spec.removed (root_of names base) [] (store_in names self.old)) }
+        ensures same { OnErr result ((names : Names) → AreNames names self.old
+            → store_in names self.new ≡ store_in names self.old) }
         ensures front { IsFront self.old.present.items self.new.present.items }
         ensures as_many { length self.new.variables.items ≡ length self.old.variables.items }
     {
@@ -282,8 +327,10 @@ impl Store {
         requires base { IsKnown (count_of self.old) base }
         requires part { 0 < length path.now }
         requires plain { IsPlain path.now }
-        ensures value { (names : Names) → AreNames names self.old → tree_of result ≡ spec.read_in (root_of names base) path.now (store_in names self.old) }
-        ensures removed { (names : Names) → AreNames names self.old → store_in names self.new ≡ spec.removed (root_of names base) path.now (store_in names self.old) }
+        ensures value { (names : Names) → AreNames names self.old
+            → tree_of result ≡ spec.read_in (root_of names base) path.now (store_in names self.old) }
+        ensures removed { (names : Names) → AreNames names self.old
+            → store_in names self.new ≡ spec.removed (root_of names base) path.now (store_in names self.old) }
         ensures front { IsFront self.old.present.items self.new.present.items }
         ensures as_many { length self.new.variables.items ≡ length self.old.variables.items }
     {
@@ -306,7 +353,8 @@ impl Store {
     /// Ends a block before which so many variables were there: those that came in it go.
     pub fn leave(&mut self, count: usize)
         requires within { count ≤ length (present_of self.old) }
-        ensures left { (names : Names) → AreNames names self.old → store_in names self.new ≡ left_with names (take count (present_of self.old)) (store_in names self.old) }
+        ensures left { (names : Names) → AreNames names self.old
+            → store_in names self.new ≡ left_with names (take count (present_of self.old)) (store_in names self.old) }
         ensures present { present_of self.new ≡ take count (present_of self.old) }
         ensures as_many { count_of self.new ≡ count_of self.old }
     {
@@ -319,7 +367,8 @@ impl Store {
     fn end_last(&mut self)
         requires some { 0 < length self.old.present.items }
         ensures present { self.new.present.items ≡ take (length self.old.present.items - 1) self.old.present.items }
-        ensures stay { Stay (trees_of self.old.variables.items) (trees_of self.new.variables.items) self.new.present.items }
+        ensures stay { Stay (trees_of self.old.variables.items)
+            (trees_of self.new.variables.items) self.new.present.items }
         ensures event { self.new.event ≡ self.old.event }
         ensures as_many { length self.new.variables.items ≡ length self.old.variables.items }
     {
@@ -367,7 +416,8 @@ fn set_in(
     requires shallow { IsTrue is_shallow → IsShallow (tree_of root.old) }
     ensures ok { OnOk result (tree_of root.new ≡ set_tree (tree_of root.old) path.now (tree_of value)) }
     ensures within { OnOk result (IsShallow (tree_of root.new)) }
-    ensures deep { result ≡ Err SetFault.TooDeep → depth_limit < depth_of (set_tree (tree_of root.old) path.now (tree_of value)) }
+    ensures deep { result ≡ Err SetFault.TooDeep
+        → depth_limit < depth_of (set_tree (tree_of root.old) path.now (tree_of value)) }
     ensures want { result ≡ Err SetFault.Memory → IsShallow (set_tree (tree_of root.old) path.now (tree_of value)) }
     ensures err { OnErr result (tree_of root.new ≡ tree_of root.old) }
 {

@@ -10,8 +10,8 @@ loop-preserved c = record {
   event = c.loop.invariant.event;
 }
 
-pub returns-clause-started : goal.returns-clause-started
-returns-clause-started c = λ names as_many distinct.
+pub returns : goal.returns
+returns c = λ names as_many distinct.
     (started names _ c.args.event c.loop.variables.items c.loop.invariant.none c.loop.invariant.event, record { as_many = omega arith; distinct = distinct })
 
 pub invariant_of-result : goal.invariant_of-result
