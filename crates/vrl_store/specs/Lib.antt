@@ -1,4 +1,3 @@
-pub mod Asked
 pub mod Kept
 pub mod Laws
 pub mod Operators

@@ -10,13 +10,12 @@
 //! `hidden_value.rt` the value that a closure's name hides, `naming.rt` gives the variables their
 //! names, `operators.rt` has the operators, over `operand.rt`, and `stop.rt` why an expression ends
 //! without a value. `ends.rt` has what becomes of how a part ended, `empties.rt` the order of the
-//! tags of empty values, `asked.rt` which item's value is asked for, and `laws.rt` that `==` tells
+//! tags of empty values, and `laws.rt` that `==` tells
 //! equality. Of the definitions `Outcomes`, `Operators` and `Places` are words of the meaning;
 //! `StoreView` says which store of the meaning one with numbered variables stands for, and `Kept`
 //! what each store in memory keeps, which its ghost fields hold.
 #![tactic(auto)]
 
-mod asked;
 mod empties;
 mod ends;
 mod hidden_value;
@@ -28,7 +27,6 @@ mod place;
 mod stop;
 mod store;
 
-pub use asked::is_asked_of_item;
 pub use empties::EmptyTags;
 pub use ends::{banged, unless_error};
 pub use hidden_value::HiddenValue;
