@@ -6,7 +6,6 @@ ghost use Rattle.vrl_pattern.specs.Groups.{groups_of};
 ghost use Rattle.vrl_pattern.specs.Matches.{all_matches, first_match, group_places, pieces, replaced};
 ghost use Rattle.vrl_pattern.specs.Places.{place_span, AreParts, IsPart};
 
-use crate::matching::{places, split};
 use crate::patterns::Patterns;
 use crate::place::{Matches, Place};
 use crate::search::Search;
@@ -36,8 +35,9 @@ impl<'r> Drop for Searches<'r> {
     fn drop(self) {
         let Searches {
             patterns: _patterns,
-            kept: _kept,
+            kept,
         } = self;
+        drop(kept.into_inner());
     }
 }
 
@@ -67,11 +67,6 @@ impl<'r> Searches<'r> {
         self.patterns.names(alloc, number)
     }
 
-    // Drops the search that was kept.
-    fn clear(&self) {
-        self.kept.set(None);
-    }
-
     // A search of the regex with this number: the one that was kept, where it is of the same source, or else a new one,
     // before which the kept one is dropped. `Memory`: want of memory.
     fn lend(&self, alloc: Global, number: u32) -> Result<Search<'r>, Memory>
@@ -79,7 +74,7 @@ impl<'r> Searches<'r> {
         ensures { IfOk result (λ search. search ≡ slice_index_or self.now number []) }
     {
         let regex = self.patterns.regex(number);
-        if let Some(search) = self.kept.replace(None) {
+        if let Some(search) = self.kept.take() {
             if search.source() == regex.as_str() {
                 return Ok(search);
             }
@@ -117,21 +112,8 @@ impl<'r> Searches<'r> {
         ensures found { IfOk result (λ found. found ≡ map (group_places (slice_index_or self.now number [])) (take most (all_matches (slice_index_or self.now number []) text.now))) }
         ensures within { IfOk result (λ found. All (AreParts text.now) found) }
     {
-        if most == 1 {
-            return self.first_match(alloc, number, text);
-        }
-        self.clear();
-        places(alloc, self.patterns.regex(number), text, most)
-    }
-
-    // The same for the first match.
-    fn first_match(&self, alloc: Global, number: u32, text: &str) -> Result<Matches, Memory>
-        requires { number < length self.now }
-        ensures found { IfOk result (λ found. found ≡ map (group_places (slice_index_or self.now number [])) (take 1 (all_matches (slice_index_or self.now number []) text.now))) }
-        ensures within { IfOk result (λ found. All (AreParts text.now) found) }
-    {
         let mut search = self.lend(alloc, number)?;
-        let found = search.first(alloc, text);
+        let found = search.groups(alloc, text, most);
         self.keep(search);
         found
     }
@@ -142,8 +124,10 @@ impl<'r> Searches<'r> {
         requires { number < length self.now }
         ensures { IfOk result (λ parts. items_of parts ≡ items_of_trees (map string (pieces (slice_index_or self.now number []) text.now limit))) }
     {
-        self.clear();
-        split(alloc, self.patterns.regex(number), text, limit)
+        let mut search = self.lend(alloc, number)?;
+        let parts = search.split(alloc, text, limit);
+        self.keep(search);
+        parts
     }
 
     /// The text with the first `count` matches of the regex with this number replaced, or each where there is no count: what the template `with`
