@@ -65,8 +65,8 @@ and_both : (a b : Bool) → IsTrue (a && b) → IsTrue a × IsTrue b
 and_both true b both = (refl, both)
 and_both false b both = absurd (true≢false (sym both))
 
-pub joined_json : (ds : json.Items) (d : json.Data) → IsTrue (is_json (marked_tree d)) → IsTrue (items_are_json (marked_items ds))
-    → IsTrue (items_are_json (marked_items (joined ds (json.item d json.no_items))))
+pub joined_json : (ds : json.Items) (d : json.Data) → IsTrue (is_json (marked_tree d))
+    → IsTrue (items_are_json (marked_items ds)) → IsTrue (items_are_json (marked_items (joined ds (json.item d json.no_items))))
 joined_json json.no_items d last all = rw last refl
 joined_json (json.item e ds) d last all =
     let parts = and_both (is_json (marked_tree e)) (items_are_json (marked_items ds)) all in

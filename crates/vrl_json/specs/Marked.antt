@@ -25,7 +25,7 @@ abbrev mutual
   marked_members json.no_members = no_members
   marked_members (json.member k d ms) = member k (marked_tree d) (marked_members ms)
 
--- What tells whether a mark was made, before and after a part is read, is right about the part, which has no mark where the last
--- holds: where none was made in the end, none was made before, and the part has none.
+-- What is told of marks before and after a part is read, and whether the part has none: where none is told of afterwards,
+-- none was before, and the part has none.
 abbrev pub TellsMarks : Bool → Bool → Bool → Type 0
 TellsMarks before after is_unmarked = after ≡ false → (before ≡ false) × IsTrue is_unmarked

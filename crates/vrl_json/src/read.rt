@@ -84,8 +84,8 @@ fn read_text(alloc: Global, text: &str, scratch: &mut Scratch) -> Result<Value, 
     }
 }
 
-// The next value of the reader, with a mark for each number that is not whole; `has_marks` becomes true where one is made.
-// Arrays and objects may nest `depth` deep.
+// The next value of the reader, with a mark for each number that is not whole; `has_marks` becomes true where one is
+// made. Arrays and objects may nest `depth` deep.
 #[cycle(read)]
 #[inline(always)]
 fn read_value(
@@ -207,8 +207,8 @@ fn read_fields(
 
 // ---- whether a value has no mark
 
-// Whether all numbers of a value that was read are whole. It is walked only where a mark was made: whether one is left in
-// it isn't known then, since a later equal name may have replaced it.
+// Whether all numbers of a value that was read are whole. It is walked only where a mark was made: it isn't known then
+// whether one is left in it, since a later equal name may have replaced it.
 fn is_whole(value: &Value, has_marks: bool) -> bool
     requires { has_marks ≡ false → IsTrue (is_json (tree_of value.now)) }
     ensures { result ≡ is_json (tree_of value.now) }

@@ -20,7 +20,13 @@ pub read_fields-members-init : goal.read_fields-members-init
 read_fields-members-init t c = (
   length c.args.reader.now,
   json.no_members,
-  record { enough = omega arith; whole = refl; found = c.new-found.ensures ∙ ap members_view c.new.ensures.empty; told = λ none. (none, refl); shorter = omega arith },
+  record {
+    enough = omega arith;
+    whole = refl;
+    found = c.new-found.ensures ∙ ap members_view c.new.ensures.empty;
+    told = λ none. (none, refl);
+    shorter = omega arith;
+  },
 )
 
 pub read_fields-returns-in_err-name-clause-not_json : goal.read_fields-returns-in_err-name-clause-not_json
@@ -49,6 +55,12 @@ read_fields-members-preserved t c =
     let key_passed = read_key-shorter l.reader (Some name) behind named in
     let put_so : members_of c.insert.new.self ≡ marked_members (json.put name read.0 ms) =
     rw (c.in_ok-name-2.ensures, read.2, was.found) at c.in_ok-insert.ensures.ok ∙ sym (marked_members-put name read.0 ms) in
+    let stays : IsTrue (is_json (marked_tree read.0)) → IsTrue (members_are_json (marked_members ms)) →
+    IsTrue (members_are_json (marked_members (json.put name read.0 ms))) =
+    λ part parts.
+    let value_so = subst (λ tree. IsTrue (is_json tree)) (sym read.2) part in
+    let members_so = subst (λ all. IsTrue (members_are_json all)) (sym was.found) parts in
+    subst (λ all. IsTrue (members_are_json all)) put_so (c.insert.ensures.json value_so members_so) in
     let passed = c.in_ok-value.ensures.shorter in (
       turns - 1,
       json.put name read.0 ms,
@@ -56,10 +68,7 @@ read_fields-members-preserved t c =
         enough = omega (arith, was.enough);
         whole = was.whole ∙ member_read (value c.args.depth) turns ms name l.reader behind c.read_value.new.reader read.0 (omega (arith, was.enough)) named read.1;
         found = put_so;
-        told = told_more _ _ _ (is_json (marked_tree read.0)) (members_are_json (marked_members ms)) _
-            (λ part parts. subst (λ all. IsTrue (members_are_json all)) put_so (c.insert.ensures.json
-            (subst (λ tree. IsTrue (is_json tree)) (sym read.2) part) (subst (λ all. IsTrue (members_are_json all)) (sym was.found) parts)))
-            was.told read.3;
+        told = told_more _ _ _ (is_json (marked_tree read.0)) (members_are_json (marked_members ms)) _ stays was.told read.3;
         shorter = omega (arith, was.shorter);
       },
     )
@@ -79,7 +88,13 @@ pub read_items-items-init : goal.read_items-items-init
 read_items-items-init t c = (
   length c.args.reader.now,
   json.no_items,
-  record { enough = omega arith; whole = none_yet _; found = ap items_view c.new-found.ensures.items; told = λ none. (none, refl); shorter = omega arith },
+  record {
+    enough = omega arith;
+    whole = none_yet _;
+    found = ap items_view c.new-found.ensures.items;
+    told = λ none. (none, refl);
+    shorter = omega arith;
+  },
 )
 
 pub read_items-returns-in_err-value-clause-not_json : goal.read_items-returns-in_err-value-clause-not_json
@@ -105,7 +120,8 @@ read_items-items-preserved t c =
         enough = omega (arith, was.enough);
         whole = was.whole ∙ ap (parse_map (joined ds)) turn ∙ one_more ds read.0 _;
         found = ap items_view c.in_ok-push.ensures ∙ marked_items-pushed ds read.0 l.found.items c.in_ok-value.value was.found read.2;
-        told = told_more _ _ _ (is_json (marked_tree read.0)) (items_are_json (marked_items ds)) _ (joined_json ds read.0) was.told read.3;
+        told = told_more _ _ _ (is_json (marked_tree read.0)) (items_are_json (marked_items ds)) _ (joined_json ds read.0)
+            was.told read.3;
         shorter = omega (arith, was.shorter);
       },
     )
@@ -138,21 +154,24 @@ read_value-returns-in_ok-copy_of-in-String-clause-ok t c =
     let first : c.args.reader.now ≡ token_of c.in-Some.token ∷ c.next.new.self = grind arith in
     let is : c.args.reader.now ≡ Token.string c.in-String.text.now ∷ c.next.new.self = grind (arith, first) in
     let same : tree_of (Text c.in_ok-copy_of-in-String.field-0) ≡ string c.in-String.text.now = search (rules, the_lemmas) in
-    (json.string c.in-String.text.now, ap (converted of_json) (ap (value c.args.depth) is ∙ value_is c.args.depth _), same, λ none. (none, refl))
+    let read = ap (converted of_json) (ap (value c.args.depth) is ∙ value_is c.args.depth _) in
+    (json.string c.in-String.text.now, read, same, λ none. (none, refl))
 
 pub read_value-returns-in-Bool-clause-ok : goal.read_value-returns-in-Bool-clause-ok
 read_value-returns-in-Bool-clause-ok t c =
     let first : c.args.reader.now ≡ token_of c.in-Some.token ∷ c.next.new.self = grind arith in
     let is : c.args.reader.now ≡ Token.boolean c.in-Bool.truth ∷ c.next.new.self = grind (arith, first) in
     let same : tree_of (Bool c.in-Bool.truth) ≡ boolean c.in-Bool.truth = search (rules, the_lemmas) in
-    (json.boolean c.in-Bool.truth, ap (converted of_json) (ap (value c.args.depth) is ∙ value_is c.args.depth _), same, λ none. (none, refl))
+    let read = ap (converted of_json) (ap (value c.args.depth) is ∙ value_is c.args.depth _) in
+    (json.boolean c.in-Bool.truth, read, same, λ none. (none, refl))
 
 pub read_value-returns-in-Null-clause-ok : goal.read_value-returns-in-Null-clause-ok
 read_value-returns-in-Null-clause-ok t c =
     let first : c.args.reader.now ≡ token_of c.in-Some.token ∷ c.next.new.self = grind arith in
     let is : c.args.reader.now ≡ Token.null ∷ c.next.new.self = grind (arith, first) in
     let same : tree_of Null ≡ null = search (rules, the_lemmas) in
-    (json.null, ap (converted of_json) (ap (value c.args.depth) is ∙ value_is c.args.depth _), same, λ none. (none, refl))
+    let read = ap (converted of_json) (ap (value c.args.depth) is ∙ value_is c.args.depth _) in
+    (json.null, read, same, λ none. (none, refl))
 
 pub read_value-returns-in-Some-number_in-clause-ok : goal.read_value-returns-in-Some-number_in-clause-ok
 read_value-returns-in-Some-number_in-clause-ok t c =
