@@ -137,7 +137,7 @@ fn answers(alloc: Global, function: Fun, arguments: &str, wanted: &str) -> Resul
         return Ok(false);
     }
     let patterns = one_pattern(alloc)?;
-    let searches = Searches::new(alloc, &patterns)?;
+    let searches = Searches::new(&patterns);
     let setting = Setting {
         moment: Moment::epoch(),
         patterns: &searches,

@@ -60,7 +60,7 @@ fn made_of(
     let made = run_line(
         alloc,
         program,
-        &program.searches(alloc)?,
+        &program.searches(),
         sources,
         declared,
         &options,

@@ -92,7 +92,7 @@ fn ran_over(
     match from_line(alloc, event.as_bytes(), &mut Scratch::new(alloc)) {
         Ok(value) => {
             if inhabits(&value, declared) {
-                let searches = program.searches(alloc)?;
+                let searches = program.searches();
                 let moment = Moment::epoch();
                 Ok(Some(run(alloc, program, &searches, value, moment, is_asked)?))
             } else {

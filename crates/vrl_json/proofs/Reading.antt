@@ -1,5 +1,5 @@
 -- The parts of an array or an object that were read, beside the tree of them in which a mark stands for each number that isn't whole.
-use Rattle.std.proofs.Common.{◌≡◌, ℕ, ℤ, List, [], ◌∷◌, ◌++◌, Bool, true, false, ◌&&◌, cond, Option, Some, None, option_map, option_and_then, Ordering, Less, Equal, Greater, nat_cmp, refl, ap, ◌∙◌}
+use Rattle.std.proofs.Common.{◌≡◌, ℕ, ℤ, List, [], ◌∷◌, ◌++◌, Bool, true, false, ◌&&◌, IsTrue, cond, Option, Some, None, option_map, option_and_then, Ordering, Less, Equal, Greater, nat_cmp, refl, sym, ap, ◌∙◌, true≢false}
 use Rattle.std.specs.Cmp.Lexicographic.{slice_cmp}
 use Rattle.std.specs.Ordering.{match_ordering}
 use Rattle.json.specs.Token.{Token}
@@ -11,7 +11,7 @@ use Rattle.vrl_value.specs.Tree.{Tree, integer, array, object, item, member, put
 use Rattle.vrl_value.specs.View.{tree_of, items_view}
 use Rattle.vrl_value.specs.declared.value.Value.{Value}
 use Rattle.vrl_json.specs.Line.{whole_number, whole_tree, whole_items, whole_members, reading_of_tree, whole, not_whole}
-use Rattle.vrl_json.specs.Marked.{marked, marked_tree, marked_items, marked_members}
+use Rattle.vrl_json.specs.Marked.{marked, marked_tree, marked_items, marked_members, TellsMarks}
 use Rattle.vrl_json.proofs.Lines.{map_inverse}
 
 -- ---- an array that grows at its end
@@ -58,6 +58,27 @@ marked_put_at Greater k l d e ms later = ap (member l (marked_tree e)) later
 pub marked_members-put : (k : List ℕ) (d : json.Data) (ms : json.Members) → marked_members (json.put k d ms) ≡ put k (marked_tree d) (marked_members ms)
 marked_members-put k d json.no_members = refl
 marked_members-put k d (json.member l e ms) = marked_put_at (slice_cmp nat_cmp k l) k l d e ms (marked_members-put k d ms)
+
+-- ---- whether a mark was made
+
+and_both : (a b : Bool) → IsTrue (a && b) → IsTrue a × IsTrue b
+and_both true b both = (refl, both)
+and_both false b both = absurd (true≢false (sym both))
+
+pub joined_json : (ds : json.Items) (d : json.Data) → IsTrue (is_json (marked_tree d))
+    → IsTrue (items_are_json (marked_items ds)) → IsTrue (items_are_json (marked_items (joined ds (json.item d json.no_items))))
+joined_json json.no_items d last all = rw last refl
+joined_json (json.item e ds) d last all =
+    let parts = and_both (is_json (marked_tree e)) (items_are_json (marked_items ds)) all in
+    rw (parts.0, joined_json ds d last parts.1) refl
+
+-- one part more, beside those that were read
+pub told_more : (before between after part parts all : Bool) → (IsTrue part → IsTrue parts → IsTrue all)
+    → TellsMarks before between parts → TellsMarks between after part → TellsMarks before after all
+told_more before between after part parts all stays so_far last none =
+    let last_none = last none in
+    let none_yet = so_far last_none.0 in
+    (none_yet.0, stays last_none.1 none_yet.1)
 
 -- ---- a tree without a mark is that of the JSON
 

@@ -1,4 +1,4 @@
-ghost use Rattle.std.specs.Prelude.{◌≡◌, ◌<◌, ◌≤◌, ◌⊎◌, length, List, [], ◌∷◌, ◌++◌, ℕ, Err, Some, None, IfOk, IsTrue, IsUtf8, OnOk};
+ghost use Rattle.std.specs.Prelude.{◌≡◌, ◌<◌, ◌≤◌, ◌⊎◌, length, List, [], ◌∷◌, ◌++◌, ℕ, Err, Some, None, IfOk, IsTrue, IsUtf8, OnOk, false};
 ghost use Rattle.json.specs.Json.{value, items, members};
 ghost use Rattle.json.specs.Lex.{tokens};
 ghost use Rattle.json.specs.Scratch.{room};
@@ -9,7 +9,7 @@ ghost use Rattle.vrl_value.specs.Tree.{Tree, IsOrdered, is_json, items_are_json,
 ghost use Rattle.vrl_value.specs.View.{tree_of, items_of, members_of};
 ghost use Rattle.vrl_json.specs.Faults.{takes_memory};
 ghost use Rattle.vrl_json.specs.Line.{not_json, not_whole, whole, reading_of, reading_of_json};
-ghost use Rattle.vrl_json.specs.Marked.{marked, marked_items, marked_members, marked_tree};
+ghost use Rattle.vrl_json.specs.Marked.{marked, marked_items, marked_members, marked_tree, TellsMarks};
 
 use crate::fault::JsonFault;
 use crate::number::number_in;
@@ -72,24 +72,32 @@ fn read_text(alloc: Global, text: &str, scratch: &mut Scratch) -> Result<Value, 
     let Ok(mut reader) = Reader::new(text, scratch) else {
         return Err(JsonFault::Memory);
     };
-    let value = read_value(alloc, &mut reader, DEPTH_LIMIT)?;
+    let mut has_marks = false;
+    let value = read_value(alloc, &mut reader, DEPTH_LIMIT, &mut has_marks)?;
     if reader.next().is_some() {
         return Err(JsonFault::NotJson);
     }
-    if is_unmarked(&value) {
+    if is_whole(&value, has_marks) {
         Ok(value)
     } else {
         Err(JsonFault::NotWhole)
     }
 }
 
-// The next value of the reader, with a mark for each number that is not whole. Arrays and objects may nest `depth` deep.
+// The next value of the reader, with a mark for each number that is not whole; `has_marks` becomes true where one is
+// made. Arrays and objects may nest `depth` deep.
 #[cycle(read)]
 #[inline(always)]
-fn read_value(alloc: Global, reader: &mut Reader<'_>, depth: usize) -> Result<Value, JsonFault>
+fn read_value(
+    alloc: Global,
+    reader: &mut Reader<'_>,
+    depth: usize,
+    has_marks: &mut bool,
+) -> Result<Value, JsonFault>
     ensures ok { IfOk result (λ found. (d : json.Data)
         × (converted of_json (value depth reader.old) ≡ Some (d, reader.new))
-        × (tree_of found ≡ marked_tree d)) }
+        × (tree_of found ≡ marked_tree d)
+        × TellsMarks has_marks.old has_marks.new (is_json (marked_tree d))) }
     ensures shorter { OnOk result (length reader.new < length reader.old) }
     ensures not_json { result ≡ Err JsonFault.NotJson → converted of_json (value depth reader.old) ≡ None }
     ensures not_whole { result ≡ Err JsonFault.NotWhole → ⊥ }
@@ -101,7 +109,7 @@ fn read_value(alloc: Global, reader: &mut Reader<'_>, depth: usize) -> Result<Va
     match token {
         Token::String(text) => Ok(Value::Text(Chars::copy_of(alloc, text)?)),
         Token::Number(text) => match number_in(text) {
-            Some(number) => Ok(marked(number)),
+            Some(number) => Ok(marked(number, has_marks)),
             None => Err(JsonFault::NotJson),
         },
         Token::Bool(truth) => Ok(Value::Bool(truth)),
@@ -111,35 +119,45 @@ fn read_value(alloc: Global, reader: &mut Reader<'_>, depth: usize) -> Result<Va
             if depth == 0 {
                 return Err(JsonFault::NotJson);
             }
-            Ok(Value::List(read_items(alloc, reader, depth - 1)?))
+            Ok(Value::List(read_items(alloc, reader, depth - 1, has_marks)?))
         }
         Token::BeginObject => {
             if depth == 0 {
                 return Err(JsonFault::NotJson);
             }
-            Ok(Value::Object(read_fields(alloc, reader, depth - 1)?))
+            Ok(Value::Object(read_fields(alloc, reader, depth - 1, has_marks)?))
         }
     }
 }
 
 // The value of a number that was read. A regex, which no line has, marks one that is not whole, until it is known
-// whether a later equal name replaces it.
-fn marked(number: Option<i64>) -> Value
-    ensures { tree_of result ≡ marked number }
+// whether a later equal name replaces it; `has_marks` becomes true then.
+fn marked(number: Option<i64>, has_marks: &mut bool) -> Value
+    ensures value { tree_of result ≡ marked number }
+    ensures told { TellsMarks has_marks.old has_marks.new (is_json (marked number)) }
 {
     match number {
         Some(number) => Value::Int(number),
-        None => Value::Pattern(0),
+        None => {
+            *has_marks = true;
+            Value::Pattern(0)
+        }
     }
 }
 
 // The values of an array that has begun, up to its end.
 #[cycle(read)]
 #[inline(never)]
-fn read_items(alloc: Global, reader: &mut Reader<'_>, depth: usize) -> Result<Items, JsonFault>
+fn read_items(
+    alloc: Global,
+    reader: &mut Reader<'_>,
+    depth: usize,
+    has_marks: &mut bool,
+) -> Result<Items, JsonFault>
     ensures ok { IfOk result (λ found. (ds : json.Items)
         × (converted of_items (items (value depth) (length reader.old) reader.old) ≡ Some (ds, reader.new))
-        × (items_of found ≡ marked_items ds)) }
+        × (items_of found ≡ marked_items ds)
+        × TellsMarks has_marks.old has_marks.new (items_are_json (marked_items ds))) }
     ensures shorter { OnOk result (length reader.new < length reader.old) }
     ensures not_json { result ≡ Err JsonFault.NotJson
         → converted of_items (items (value depth) (length reader.old) reader.old) ≡ None }
@@ -147,7 +165,7 @@ fn read_items(alloc: Global, reader: &mut Reader<'_>, depth: usize) -> Result<It
 {
     let mut found = Vec::new(alloc);
     'items: while !reader.take_end_array() {
-        let value = read_value(alloc, reader, depth)?;
+        let value = read_value(alloc, reader, depth, has_marks)?;
         push(&mut found, value)?;
     }
     Ok(Items::new(found))
@@ -162,10 +180,17 @@ fn push(values: &mut Vec<Value>, value: Value) -> Result<(), Memory>
 // The members of an object that has begun, up to its end. Of equal names the last counts.
 #[cycle(read)]
 #[inline(never)]
-fn read_fields(alloc: Global, reader: &mut Reader<'_>, depth: usize) -> Result<Fields, JsonFault>
+fn read_fields(
+    alloc: Global,
+    reader: &mut Reader<'_>,
+    depth: usize,
+    has_marks: &mut bool,
+) -> Result<Fields, JsonFault>
     ensures ok { IfOk result (λ found. (ms : json.Members)
-        × (converted (λ ms. of_members ms json.no_members) (members (value depth) (length reader.old) reader.old) ≡ Some (ms, reader.new))
-        × (members_of found ≡ marked_members ms)) }
+        × (converted (λ ms. of_members ms json.no_members) (members (value depth) (length reader.old) reader.old)
+        ≡ Some (ms, reader.new))
+        × (members_of found ≡ marked_members ms)
+        × TellsMarks has_marks.old has_marks.new (members_are_json (marked_members ms))) }
     ensures shorter { OnOk result (length reader.new < length reader.old) }
     ensures not_json { result ≡ Err JsonFault.NotJson
         → converted (λ ms. of_members ms json.no_members) (members (value depth) (length reader.old) reader.old) ≡ None }
@@ -174,13 +199,25 @@ fn read_fields(alloc: Global, reader: &mut Reader<'_>, depth: usize) -> Result<F
     let mut found = Fields::new(BTreeMap::new(alloc));
     'members: while let Some(name) = reader.next_key()? {
         let name = Chars::copy_of(alloc, name)?;
-        let value = read_value(alloc, reader, depth)?;
+        let value = read_value(alloc, reader, depth, has_marks)?;
         found.insert(name, value)?;
     }
     Ok(found)
 }
 
 // ---- whether a value has no mark
+
+// Whether all numbers of a value that was read are whole. It is walked only where a mark was made: it isn't known then
+// whether one is left in it, since a later equal name may have replaced it.
+fn is_whole(value: &Value, has_marks: bool) -> bool
+    requires { has_marks ≡ false → IsTrue (is_json (tree_of value.now)) }
+    ensures { result ≡ is_json (tree_of value.now) }
+{
+    if !has_marks {
+        return true;
+    }
+    is_unmarked(value)
+}
 
 #[cycle(unmarked)]
 fn is_unmarked(value: &Value) -> bool

@@ -1,5 +1,6 @@
 pub mod Alike
 pub mod BuiltOf
+pub mod Next
 pub mod Openings
 pub mod Parts
 pub mod Read

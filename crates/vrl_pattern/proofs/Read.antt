@@ -1,12 +1,11 @@
 -- What is read of the matches, one after the other.
-use Rattle.std.proofs.Common.{◌≡◌, ◌≢◌, ℕ, zero, suc, ◌+◌, ◌-◌, ◌<◌, ◌==◌, Bool, true, false, if◌then◌else◌, List, [], ◌∷◌, ◌++◌, map, take, drop, Option, Some, None, option_map, refl, sym, ap, ◌∙◌, arith, add-one, append_assoc, ne_eqb}
+use Rattle.std.proofs.Common.{◌≡◌, ◌≢◌, ℕ, zero, suc, ◌+◌, ◌-◌, ◌<◌, if◌then◌else◌, List, [], ◌∷◌, ◌++◌, map, take, Option, Some, None, option_map, refl, sym, ap, ◌∙◌, arith, append_assoc, ne_eqb}
 use Rattle.std.proofs.lemmas.List.{append-nil}
 use Rattle.std.proofs.lemmas.List.FromFn.{map-range_with_len_more}
 use Rattle.std.specs.List.{range_with_len}
 use Rattle.regex.specs.Locations.{location, location_count, AreLocationsOf}
-use Rattle.regex.specs.Patterns.{Match, Re, find_all_str, find_str}
-use Rattle.regex_hir.specs.Find.{matches_from}
-use Rattle.regex.specs.Search.{as_limit, take_limit}
+use Rattle.regex.specs.Patterns.{Match}
+use Rattle.regex.specs.Search.{as_limit}
 use Rattle.regex.specs.Replace.{replaced_by}
 use Rattle.regex.specs.declared.locations.CaptureLocations.{CaptureLocations}
 use Rattle.vrl_pattern.specs.Matches.{group_place, replaced}
@@ -42,10 +41,6 @@ groups_here m l are count is =
 
 -- ---- matches
 
--- the first of those that were left, and those that are
-pub first_of : {A : Type 0} (before after rest : List A) (m : A) → before ≡ m ∷ rest → after ≡ drop 1 before → before ≡ m ∷ after
-first_of before after rest m is later = is ∙ ap (λ ms. m ∷ ms) (sym (later ∙ ap (drop 1) is))
-
 pub matches_go_on : {A B : Type 0} (f : A → B) (found after all : List B) (g : B) (m : A) (before ms : List A) (left : ℕ) → 0 < left → before ≡ m ∷ ms → g ≡ f m → after ≡ found ++ g ∷ [] →
     found ++ map f (take left before) ≡ all → after ++ map f (take (left - 1) ms) ≡ all
 matches_go_on f found after all g m before ms zero some is one adds so_far = absurd (omega arith)
@@ -54,17 +49,7 @@ matches_go_on f found after all g m before ms (suc n) some is one adds so_far =
     ap (λ xs. xs ++ map f (take (suc n - 1) ms)) adds ∙ append_assoc found (g ∷ []) (map f (take (suc n - 1) ms))
     ∙ (λ i. found ++ (one i ∷ map f (take (less i) ms))) ∙ ap (λ xs. found ++ map f (take (suc n) xs)) (sym is) ∙ so_far
 
-abbrev pub at_most_one : Option Match → List Match
-at_most_one None = []
-at_most_one (Some m) = m ∷ []
-
--- the first of all matches is the leftmost one
-pub first_of_all : (re : Re) (text : List ℕ) (o : Option Match) → find_str re text 0 ≡ o → take 1 (find_all_str re text) ≡ at_most_one o
-unfolding matches_from
-first_of_all re text None is = rw (is, add-one) refl
-first_of_all re text (Some m) is = rw (is, add-one) refl
-
-take_none : {A : Type 0} (n : ℕ) (xs : List A) → xs ≡ [] → take n xs ≡ []
+pub take_none : {A : Type 0} (n : ℕ) (xs : List A) → xs ≡ [] → take n xs ≡ []
 take_none zero xs none = refl
 take_none (suc n) [] none = refl
 take_none (suc n) (x ∷ xs) none = absurd cc
@@ -74,13 +59,6 @@ matches_end f found all before left none so_far =
     sym (append-nil found) ∙ ap (λ ms. found ++ map f ms) (sym (take_none left before none)) ∙ so_far
 
 -- ---- limits
-
-limit_is : {A : Type 0} (b : Bool) (n : ℕ) (xs : List A) → (if b then xs else take n xs) ≡ take_limit (if b then None else Some n) xs
-limit_is true n xs = refl
-limit_is false n xs = refl
-
-pub limited : {A : Type 0} (n : ℕ) (xs : List A) → (if n == 0 then xs else take n xs) ≡ take_limit (as_limit n) xs
-limited n xs = limit_is (n == 0) n xs
 
 pub some_limit : (n : ℕ) → n ≢ 0 → as_limit n ≡ Some n
 some_limit n some = ap (λ b. if b then None else Some n) (ne_eqb n 0 some)

@@ -45,10 +45,18 @@ group_place m (suc n) = group_of m (suc n)
 abbrev pub group_places : List ℕ → Match → List (Option (ℕ × ℕ))
 group_places source m = map (group_place m) (range_with_len 0 (length (groups_read source)))
 
--- the parts of a text between the matches, at most so many, the last of which holds the rest
+-- the parts of a text from a place on, between these matches and around them
+abbrev pub cut : List ℕ → ℕ → List Match → List (List ℕ)
+cut text start ms = map (λ p. slice_range text p.0 p.1) (gaps (length text) start ms)
+
+-- the parts of a text between these matches, at most so many, the last of which holds the rest
+abbrev pub parts_of : List ℕ → ℕ → List Match → List (List ℕ)
+parts_of text limit ms =
+    map (λ p. slice_range text p.0 p.1) (if limit == 0 then [] else gaps (length text) 0 (take (limit - 1) ms))
+
+-- those between the matches of a source
 abbrev pub pieces : List ℕ → List ℕ → ℕ → List (List ℕ)
-pieces source text limit =
-    map (λ p. slice_range text p.0 p.1) (if limit == 0 then [] else gaps (length text) 0 (take (limit - 1) (all_matches source text)))
+pieces source text limit = parts_of text limit (all_matches source text)
 
 -- the text with the first so many matches replaced, or each: what the template writes stands in the place of each
 abbrev pub replaced : List ℕ → List ℕ → List ℕ → Option ℕ → List ℕ

@@ -1,27 +1,28 @@
-ghost use Rattle.std.specs.Prelude.{◌≡◌, ℕ, [], ◌∷◌, List, Some, All, IfOk, IfSome, MatchOption, map, option_map, take};
+ghost use Rattle.std.specs.Prelude.{◌≡◌, ◌≤◌, ◌+◌, ◌-◌, ◌++◌, [], ◌∷◌, true, All, IfOk, IfSome, IsCharBoundary, length, map, option_map, slice_range, take};
 ghost use Rattle.std.specs.List.{range_with_len};
-ghost use Rattle.regex.specs.Locations.{location, location_count};
-ghost use Rattle.regex.specs.Patterns.{Match, find_all_str, find_str, span};
-ghost use Rattle.regex.specs.Search.{first_or_all};
-ghost use Rattle.regex.specs.Strings.{captures_left, matcher_pattern, IsWrittenBy};
+ghost use Rattle.regex.specs.Locations.{location, location_count, AreLocationsOf};
+ghost use Rattle.regex.specs.Patterns.{find_all_str, find_str, span};
+ghost use Rattle.regex.specs.Search.{first_or_all, next_match, Answers};
+ghost use Rattle.regex.specs.Strings.{matcher_pattern, IsWrittenBy};
 ghost use Rattle.vrl_value.specs.Tree.{string};
 ghost use Rattle.vrl_value.specs.View.{items_of, items_of_trees, tree_of};
-ghost use Rattle.vrl_pattern.specs.Built.{IsBuiltOf};
-ghost use Rattle.vrl_pattern.specs.Matches.{all_matches, group_place, group_places, pieces};
+ghost use Rattle.vrl_pattern.specs.Matches.{cut, group_place, parts_of};
 ghost use Rattle.vrl_pattern.specs.Places.{place_span, AreParts, IsPart};
 
 use crate::place::{Groups, Matches, Place};
-use regex::{CaptureLocations, CaptureMatches, Matcher, Regex, Template};
+use regex::{CaptureLocations, Matcher, Template};
 use std::alloc::Global;
 use vrl_value::{Chars, Items, Memory, Value};
 
-/// Where the leftmost match lies. `None`: there is none.
-pub(crate) fn first_place(matcher: &mut Matcher<'_>, text: &str) -> Option<Place>
-    ensures found { option_map place_span result ≡ option_map span (find_str (matcher_pattern matcher.old) text.now 0) }
+/// Where the leftmost match lies that begins at `from` or behind it. `None`: there is none.
+pub(crate) fn place_from(matcher: &mut Matcher<'_>, text: &str, from: usize) -> Option<Place>
+    ensures found { option_map place_span result
+        ≡ option_map span (find_str (matcher_pattern matcher.old) text.now from) }
     ensures within { IfSome result (λ place. IsPart text.now (place_span place)) }
+    ensures behind { IfSome result (λ place. from ≤ place.start) }
     ensures same { matcher_pattern matcher.new ≡ matcher_pattern matcher.old }
 {
-    let found = matcher.find(text)?;
+    let found = matcher.find_at(text, from)?;
     Some(Place {
         start: found.start(),
         end: found.end(),
@@ -51,72 +52,76 @@ fn groups_in(alloc: Global, locations: &CaptureLocations) -> Result<Groups, Memo
     Ok(Groups::new(places))
 }
 
-// Where the groups of the next match lie. `None`: there is no other. `Memory`: want of memory.
-fn next_groups(
-    alloc: Global,
-    matches: &mut CaptureMatches<'_, '_, '_>,
+// Writes the groups of the next match to `locations`: the one behind a match that ended at `after - 1`, or the first one,
+// where `after` is 0. Returns one more than where it ends. `None`: there is no other.
+fn read_next(
+    matcher: &mut Matcher<'_>,
     locations: &mut CaptureLocations,
-) -> Result<Option<Groups>, Memory>
-    ensures next { IfOk result (λ found. MatchOption found
-        (captures_left matches.old ≡ [])
-        (λ groups. (m : Match) × (captures_left matches.old ≡ m ∷ captures_left matches.new) × (groups ≡ map (group_place m) (range_with_len 0 (location_count locations.old))))) }
+    text: &str,
+    after: usize,
+) -> Option<usize>
+    ensures found { Answers result (next_match true (matcher_pattern matcher.old) text.now after)
+        (λ m next. (next ≡ m.trace.end + 1) × AreLocationsOf m locations.new) }
     ensures count { location_count locations.new ≡ location_count locations.old }
+    ensures same { matcher_pattern matcher.new ≡ matcher_pattern matcher.old }
 {
-    match matches.next_read(locations) {
-        Some(_) => Ok(Some(groups_in(alloc, locations)?)),
-        None => Ok(None),
+    let Some(found) = matcher.captures_read_at(locations, text, after.saturating_sub(1)) else {
+        return None;
+    };
+    let reached = found.end();
+    if reached >= after {
+        return Some(reached + 1);
     }
+    // It is empty, and stands where the last one ended.
+    let Some(later) = matcher.captures_read_at(locations, text, after) else {
+        return None;
+    };
+    Some(later.end() + 1)
 }
 
-// Where the groups lie of the first so many matches that are left, for so many groups. `Memory`: want of memory.
-fn groups_left(
+// Where the groups of the first so many matches lie, for as many groups as there is room for. `Memory`: want of memory.
+fn first_groups(
     alloc: Global,
-    matches: &mut CaptureMatches<'_, '_, '_>,
+    matcher: &mut Matcher<'_>,
     locations: &mut CaptureLocations,
+    text: &str,
     most: u64,
 ) -> Result<Vec<Groups>, Memory>
-    ensures { IfOk result (λ found. found.items ≡ map (λ m. map (group_place m) (range_with_len 0 (location_count locations.old))) (take most (captures_left matches.old))) }
+    ensures found { IfOk result (λ found. found.items
+        ≡ map (λ m. map (group_place m) (range_with_len 0 (location_count locations.old)))
+        (take most (find_all_str (matcher_pattern matcher.old) text.now))) }
+    ensures same { matcher_pattern matcher.new ≡ matcher_pattern matcher.old }
 {
     let mut found = Vec::new(alloc);
+    let mut after = 0;
     let mut left = most;
     while left > 0 {
-        let Some(groups) = next_groups(alloc, matches, locations)? else {
+        let Some(next) = read_next(matcher, locations, text, after) else {
             return Ok(found);
         };
-        found.push(groups)?;
+        found.push(groups_in(alloc, locations)?)?;
+        after = next;
         left -= 1;
     }
     Ok(found)
 }
 
-/// Where the groups of the first match lie, for as many groups as there is room for, if there is one. `Memory`: want of memory.
-pub(crate) fn first_groups(
+/// Where the groups of the first so many matches lie, for as many groups as there is room for; each part lies between
+/// characters. `Memory`: want of memory.
+pub(crate) fn places(
     alloc: Global,
     matcher: &mut Matcher<'_>,
     locations: &mut CaptureLocations,
     text: &str,
+    most: u64,
 ) -> Result<Matches, Memory>
-    ensures found { IfOk result (λ found. found ≡ map (λ m. map (group_place m) (range_with_len 0 (location_count locations.old))) (take 1 (find_all_str (matcher_pattern matcher.old) text.now))) }
+    ensures found { IfOk result (λ found. found
+        ≡ map (λ m. map (group_place m) (range_with_len 0 (location_count locations.old)))
+        (take most (find_all_str (matcher_pattern matcher.old) text.now))) }
     ensures within { IfOk result (λ found. All (AreParts text.now) found) }
     ensures same { matcher_pattern matcher.new ≡ matcher_pattern matcher.old }
 {
-    let mut found = Vec::new(alloc);
-    let Some(_) = matcher.captures_read(locations, text) else {
-        return Ok(Matches::new(found));
-    };
-    found.push(groups_in(alloc, locations)?)?;
-    Ok(Matches::new(found))
-}
-
-/// Where the groups of the first so many matches lie. `Memory`: want of memory.
-pub(crate) fn places(alloc: Global, regex: &Regex, text: &str, most: u64) -> Result<Matches, Memory>
-    ensures found { (source : List ℕ) → IsBuiltOf source regex.now → IfOk result (λ found. found ≡ map (group_places source) (take most (all_matches source text.now))) }
-    ensures within { IfOk result (λ found. All (AreParts text.now) found) }
-{
-    let mut matcher = regex.matcher(alloc)?;
-    let mut locations = regex.capture_locations(alloc)?;
-    let mut matches = matcher.captures_iter(text);
-    let found = groups_left(alloc, &mut matches, &mut locations, most)?;
+    let found = first_groups(alloc, matcher, locations, text, most)?;
     Ok(Matches::new(found))
 }
 
@@ -129,15 +134,70 @@ fn text_of(alloc: Global, text: &str) -> Result<Value, Memory>
     Ok(Value::Text(Chars::copy_of(alloc, text)?))
 }
 
-/// The parts of a text between the matches, at most so many. `Memory`: want of memory.
-pub(crate) fn split(alloc: Global, regex: &Regex, text: &str, limit: u64) -> Result<Items, Memory>
-    ensures { (source : List ℕ) → IsBuiltOf source regex.now → IfOk result (λ parts. items_of parts ≡ items_of_trees (map string (pieces source text.now limit))) }
+// Where the next match lies: the one behind a match that ended at `after - 1`, or the first one, where `after` is 0.
+// `None`: there is no other.
+fn next_place(matcher: &mut Matcher<'_>, text: &str, after: usize) -> Option<Place>
+    ensures found { option_map place_span result
+        ≡ option_map span (next_match true (matcher_pattern matcher.old) text.now after) }
+    ensures within { IfSome result (λ place. IsPart text.now (place_span place)) }
+    ensures behind { IfSome result (λ place. after - 1 ≤ place.start) }
+    ensures same { matcher_pattern matcher.new ≡ matcher_pattern matcher.old }
 {
-    let mut matcher = regex.matcher(alloc)?;
-    let mut parts = Vec::new(alloc);
-    for part in matcher.splitn(text, limit as usize) {
-        parts.push(text_of(alloc, part)?)?;
+    let Some(found) = place_from(matcher, text, after.saturating_sub(1)) else {
+        return None;
+    };
+    if found.end >= after {
+        return Some(found);
     }
+    // It is empty, and stands where the last one ended.
+    place_from(matcher, text, after)
+}
+
+// The parts of a text in front of the first so many matches, and where the rest begins. `Memory`: want of memory.
+fn first_parts(
+    alloc: Global,
+    matcher: &mut Matcher<'_>,
+    text: &str,
+    most: u64,
+) -> Result<(Vec<Value>, usize), Memory>
+    ensures parts { IfOk result (λ (parts, rest).
+        map tree_of parts.items ++ string (slice_range text.now rest (length text.now)) ∷ []
+        ≡ map string (cut text.now 0 (take most (find_all_str (matcher_pattern matcher.old) text.now)))) }
+    ensures within { IfOk result (λ (_, rest). IsCharBoundary text.now rest) }
+    ensures same { matcher_pattern matcher.new ≡ matcher_pattern matcher.old }
+{
+    let mut parts = Vec::new(alloc);
+    let mut start = 0;
+    let mut after = 0;
+    let mut left = most;
+    while left > 0 {
+        let Some(place) = next_place(matcher, text, after) else {
+            return Ok((parts, start));
+        };
+        parts.push(text_of(alloc, &text[start..place.start])?)?;
+        start = place.end;
+        after = place.end + 1;
+        left -= 1;
+    }
+    Ok((parts, start))
+}
+
+/// The parts of a text between the matches, at most so many. `Memory`: want of memory.
+pub(crate) fn split(
+    alloc: Global,
+    matcher: &mut Matcher<'_>,
+    text: &str,
+    limit: u64,
+) -> Result<Items, Memory>
+    ensures parts { IfOk result (λ parts. items_of parts
+        ≡ items_of_trees (map string (parts_of text.now limit (find_all_str (matcher_pattern matcher.old) text.now)))) }
+    ensures same { matcher_pattern matcher.new ≡ matcher_pattern matcher.old }
+{
+    if limit == 0 {
+        return Ok(Items::new(Vec::new(alloc)));
+    }
+    let (mut parts, rest) = first_parts(alloc, matcher, text, limit - 1)?;
+    parts.push(text_of(alloc, &text[rest..])?)?;
     Ok(Items::new(parts))
 }
 

@@ -2,16 +2,18 @@ ghost use Rattle.std.specs.Prelude.{◌≡◌, All, IfOk, IfSome, Some, map, opt
 ghost use Rattle.regex.specs.Patterns.{span};
 ghost use Rattle.regex.specs.Search.{as_limit};
 ghost use Rattle.regex.specs.Strings.{regex_source};
+ghost use Rattle.vrl_value.specs.Tree.{string};
+ghost use Rattle.vrl_value.specs.View.{items_of, items_of_trees};
 ghost use Rattle.vrl_pattern.specs.Built.{IsBuiltOf};
-ghost use Rattle.vrl_pattern.specs.Matches.{all_matches, first_match, group_places, replaced};
+ghost use Rattle.vrl_pattern.specs.Matches.{all_matches, first_match, group_places, pieces, replaced};
 ghost use Rattle.vrl_pattern.specs.Places.{place_span, AreParts, IsPart};
 
-use crate::matching::{first_groups, first_place, replaced_by};
+use crate::matching::{place_from, places, replaced_by, split};
 use crate::place::{Matches, Place};
 use regex::{Matcher, Regex, Template};
 use std::alloc::Global;
 use std::marker::Model;
-use vrl_value::{Chars, Memory};
+use vrl_value::{Chars, Items, Memory};
 
 /// A regex, and what its searches write to. A contract sees its source.
 pub(crate) struct Search<'r> {
@@ -64,17 +66,28 @@ impl<'r> Search<'r> {
         ensures within { IfSome result (λ place. IsPart text.now (place_span place)) }
         ensures same { self.new ≡ self.old }
     {
-        first_place(&mut self.matcher, text)
+        place_from(&mut self.matcher, text, 0)
     }
 
-    /// Where the groups of the leftmost match lie, if there is one. `Memory`: want of memory.
-    pub(crate) fn first(&mut self, alloc: Global, text: &str) -> Result<Matches, Memory>
-        ensures found { IfOk result (λ found. found ≡ map (group_places self.old) (take 1 (all_matches self.old text.now))) }
+    /// Where the groups of the first so many matches lie. `Memory`: want of memory.
+    pub(crate) fn groups(&mut self, alloc: Global, text: &str, most: u64) -> Result<Matches, Memory>
+        ensures found { IfOk result (λ found. found
+            ≡ map (group_places self.old) (take most (all_matches self.old text.now))) }
         ensures within { IfOk result (λ found. All (AreParts text.now) found) }
         ensures same { self.new ≡ self.old }
     {
         let mut locations = self.regex.capture_locations(alloc)?;
-        first_groups(alloc, &mut self.matcher, &mut locations, text)
+        places(alloc, &mut self.matcher, &mut locations, text, most)
+    }
+
+    /// The parts of the text between the matches, as strings: at most `limit`, the last of which holds the rest.
+    /// `Memory`: want of memory.
+    pub(crate) fn split(&mut self, alloc: Global, text: &str, limit: u64) -> Result<Items, Memory>
+        ensures parts { IfOk result (λ parts. items_of parts
+            ≡ items_of_trees (map string (pieces self.old text.now limit))) }
+        ensures same { self.new ≡ self.old }
+    {
+        split(alloc, &mut self.matcher, text, limit)
     }
 
     // The text with the first so many matches replaced; with each, where the number is 0. `Memory`: want of memory.

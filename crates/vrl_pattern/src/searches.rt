@@ -6,7 +6,6 @@ ghost use Rattle.vrl_pattern.specs.Groups.{groups_of};
 ghost use Rattle.vrl_pattern.specs.Matches.{all_matches, first_match, group_places, pieces, replaced};
 ghost use Rattle.vrl_pattern.specs.Places.{place_span, AreParts, IsPart};
 
-use crate::matching::{places, split};
 use crate::patterns::Patterns;
 use crate::place::{Matches, Place};
 use crate::search::Search;
@@ -15,12 +14,12 @@ use std::cell::Cell;
 use std::marker::Model;
 use vrl_value::{Chars, Items, Memory, Names};
 
-/// The regex literals of a script, with what their searches write to, which is kept from call to call. One thread has it. A contract sees the list of
-/// the sources.
+/// The regex literals of a script, with what the search for one of them writes to, which is kept until another regex is
+/// searched for. One thread has it. A contract sees the list of the sources.
 pub struct Searches<'r> {
     patterns: &'r Patterns,
-    // For each regex what its last search wrote to, where that was kept.
-    kept: Vec<Cell<Option<Search<'r>>>>,
+    // The search that was used last. It is dropped before another one is made, so there is at most one at a time.
+    kept: Cell<Option<Search<'r>>>,
 }
 
 impl<'r> Model for Searches<'r> {
@@ -36,27 +35,21 @@ impl<'r> Drop for Searches<'r> {
     fn drop(self) {
         let Searches {
             patterns: _patterns,
-            kept: _kept,
+            kept,
         } = self;
+        drop(kept.into_inner());
     }
-}
-
-// For so many regexes nothing that was kept. `Memory`: want of memory.
-fn none_kept<'r>(alloc: Global, count: usize) -> Result<Vec<Cell<Option<Search<'r>>>>, Memory> {
-    let mut kept = Vec::with_capacity(alloc, count)?;
-    for _number in 0..count {
-        kept.push(Cell::new(None))?;
-    }
-    Ok(kept)
 }
 
 impl<'r> Searches<'r> {
-    /// With nothing kept. `Memory`: want of memory.
-    pub fn new(alloc: Global, patterns: &'r Patterns) -> Result<Searches<'r>, Memory>
-        ensures { IfOk result (λ searches. searches ≡ patterns.now) }
+    /// With nothing kept. This takes no memory: each search takes its own.
+    pub fn new(patterns: &'r Patterns) -> Searches<'r>
+        ensures { result ≡ patterns.now }
     {
-        let kept = none_kept(alloc, patterns.sources().len())?;
-        Ok(Searches { patterns, kept })
+        Searches {
+            patterns,
+            kept: Cell::new(None),
+        }
     }
 
     /// All sources in order, borrowed.
@@ -74,18 +67,14 @@ impl<'r> Searches<'r> {
         self.patterns.names(alloc, number)
     }
 
-    // What was kept at a number, which nothing tells to be of its regex.
-    fn take(&self, number: u32) -> Option<Search<'r>> {
-        self.kept.get(number as usize)?.replace(None)
-    }
-
-    // A search of the regex with this number, kept or made. `Memory`: want of memory.
+    // A search of the regex with this number: the one that was kept, where it is of the same source, or else a new one,
+    // before which the kept one is dropped. `Memory`: want of memory.
     fn lend(&self, alloc: Global, number: u32) -> Result<Search<'r>, Memory>
         requires { number < length self.now }
         ensures { IfOk result (λ search. search ≡ slice_index_or self.now number []) }
     {
         let regex = self.patterns.regex(number);
-        if let Some(search) = self.take(number) {
+        if let Some(search) = self.kept.take() {
             if search.source() == regex.as_str() {
                 return Ok(search);
             }
@@ -93,10 +82,8 @@ impl<'r> Searches<'r> {
         Search::new(alloc, regex)
     }
 
-    fn keep(&self, number: u32, search: Search<'r>) {
-        if let Some(kept) = self.kept.get(number as usize) {
-            kept.set(Some(search));
-        }
+    fn keep(&self, search: Search<'r>) {
+        self.kept.set(Some(search));
     }
 
     /// Where the leftmost match of the regex with this number lies in the text, between characters. `None`: it has no match. `Memory`: want of
@@ -108,7 +95,7 @@ impl<'r> Searches<'r> {
     {
         let mut search = self.lend(alloc, number)?;
         let found = search.find(text);
-        self.keep(number, search);
+        self.keep(search);
         Ok(found)
     }
 
@@ -125,21 +112,9 @@ impl<'r> Searches<'r> {
         ensures found { IfOk result (λ found. found ≡ map (group_places (slice_index_or self.now number [])) (take most (all_matches (slice_index_or self.now number []) text.now))) }
         ensures within { IfOk result (λ found. All (AreParts text.now) found) }
     {
-        if most == 1 {
-            return self.first_match(alloc, number, text);
-        }
-        places(alloc, self.patterns.regex(number), text, most)
-    }
-
-    // The same for the first match.
-    fn first_match(&self, alloc: Global, number: u32, text: &str) -> Result<Matches, Memory>
-        requires { number < length self.now }
-        ensures found { IfOk result (λ found. found ≡ map (group_places (slice_index_or self.now number [])) (take 1 (all_matches (slice_index_or self.now number []) text.now))) }
-        ensures within { IfOk result (λ found. All (AreParts text.now) found) }
-    {
         let mut search = self.lend(alloc, number)?;
-        let found = search.first(alloc, text);
-        self.keep(number, search);
+        let found = search.groups(alloc, text, most);
+        self.keep(search);
         found
     }
 
@@ -149,7 +124,10 @@ impl<'r> Searches<'r> {
         requires { number < length self.now }
         ensures { IfOk result (λ parts. items_of parts ≡ items_of_trees (map string (pieces (slice_index_or self.now number []) text.now limit))) }
     {
-        split(alloc, self.patterns.regex(number), text, limit)
+        let mut search = self.lend(alloc, number)?;
+        let parts = search.split(alloc, text, limit);
+        self.keep(search);
+        parts
     }
 
     /// The text with the first `count` matches of the regex with this number replaced, or each where there is no count: what the template `with`
@@ -167,7 +145,7 @@ impl<'r> Searches<'r> {
     {
         let mut search = self.lend(alloc, number)?;
         let changed = search.replace(alloc, text, with, count);
-        self.keep(number, search);
+        self.keep(search);
         changed
     }
 }

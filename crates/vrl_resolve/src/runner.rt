@@ -25,12 +25,12 @@ use vrl_store::{Stop, Store};
 use vrl_value::{Memory, Moment, Names, Value};
 
 impl Program {
-    /// What searches for its regexes write to. A thread keeps it from run to run. `Memory`: want of memory.
+    /// What searches for its regexes write to. A thread keeps it from run to run. This takes no memory.
     #[tactic(auto, unfolding(crate::specs::Program::program_of))]
-    pub fn searches(&self, alloc: Global) -> Result<Searches<'_>, Memory>
-        ensures { IfOk result (λ searches. searches ≡ (program_of self.now).sources) }
+    pub fn searches(&self) -> Searches<'_>
+        ensures { result ≡ (program_of self.now).sources }
     {
-        Searches::new(alloc, &self.patterns)
+        Searches::new(&self.patterns)
     }
 }
 

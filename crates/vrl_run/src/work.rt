@@ -30,7 +30,7 @@ impl Work for LineWork<'_> {
     ghost makes = { result_by };
 
     fn each<G: Gate>(&self, alloc: Global, mut chunk: Chunk<'_, G>) -> Result<Outs, Memory> {
-        let searches = self.program.searches(alloc)?;
+        let searches = self.program.searches();
         let mut scratch = Scratch::new(alloc);
         let mut outs = Vec::with_capacity(alloc, chunk.len())?;
         while let Some(line) = chunk.next() {

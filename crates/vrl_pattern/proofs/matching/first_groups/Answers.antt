@@ -1,30 +1,47 @@
-use Rattle.std.proofs.Common.{[], ◌∷◌, ◌++◌, All, None, Some, map, sym, ap, subst, ◌∙◌}
-use Rattle.std.proofs.lemmas.List.{get_or_default}
+use Rattle.std.proofs.Common.{◌++◌, ◌∷◌, true, map, take, refl, sym, ap, ◌∙◌}
 use Rattle.std.specs.List.{range_with_len}
 use Rattle.regex.specs.Locations.{location_count}
 use Rattle.regex.specs.Patterns.{Match}
+use Rattle.regex.specs.Search.{matches_after, next_match}
 use Rattle.regex.specs.Strings.{matcher_pattern}
+use Rattle.regex.proofs.SearchLemmas.{matches_after_none, matches_after_some, matches_after_text}
 use Rattle.vrl_pattern.specs.Matches.{group_place}
-use Rattle.vrl_pattern.specs.Places.{AreParts}
-use Rattle.vrl_pattern.proofs.Parts.{all_are_parts}
-use Rattle.vrl_pattern.proofs.Read.{first_of_all, groups_here}
+use Rattle.vrl_pattern.proofs.Read.{groups_here, matches_end, matches_go_on}
 use Rattle.vrl_pattern.proofs.matching.first_groups.Goals as goal
+
+pub loop-left-init : goal.loop-left-init
+loop-left-init c =
+    let re = matcher_pattern c.args.matcher.now in
+    let text = c.args.text.now in
+    let groups = range_with_len 0 (location_count c.args.locations.now) in
+    let places : Match → _ = λ m. map (group_place m) groups in record {
+      count = refl;
+      same = refl;
+      whole = λ i. c.new-found.ensures.items i ++ map places (take c.args.most (matches_after_text re text i));
+    }
+
+pub loop-left-preserved : goal.loop-left-preserved
+loop-left-preserved c =
+    let l = c.loop-left in
+    let was = l.invariant in
+    let re = matcher_pattern c.args.matcher.now in
+    let next = c.in-Some.ensures.found in
+    let m = next.0 in
+    let text = c.args.text.now in
+    let is_next = ap (λ re. next_match true re text l.after) (sym was.same) ∙ next.1 in
+    let more = matches_after_some re text true l.after m is_next ∙ ap (λ n. m ∷ matches_after true re text n) (sym next.2.0) in
+    let count = c.in-Some.ensures.count ∙ was.count in record {
+      count = count;
+      same = c.in-Some.ensures.same ∙ was.same;
+      whole = matches_go_on _ _ _ _ _ m _ _ l.left c.loop-left-test.true more
+          (c.in_ok-groups_in.ensures ∙ groups_here m c.read_next.new.locations next.2.1 _ count)
+          c.in_ok-push.ensures.items was.whole;
+    }
 
 pub returns-in_default-clause-found : goal.returns-in_default-clause-found
 returns-in_default-clause-found c =
-    let places : Match → _ = λ m. map (group_place m) (range_with_len 0 (location_count c.args.locations.now)) in
-    c.new.ensures ∙ c.new-found.ensures.items ∙ sym (ap (map places) (first_of_all (matcher_pattern c.args.matcher.now) c.args.text.now None c.in_default.ensures.found))
-
-pub returns-clause-found : goal.returns-clause-found
-returns-clause-found c =
-    let places : Match → _ = λ m. map (group_place m) (range_with_len 0 (location_count c.args.locations.now)) in
-    let first = c.in-Some.ensures.found in
-    c.new-2.ensures ∙ c.in_ok-push.ensures.items ∙ ap (λ gs. gs ++ c.in_ok-groups_in.field-0 ∷ []) c.new-found.ensures.items
-    ∙ ap (λ groups. groups ∷ []) (c.in_ok-groups_in.ensures ∙ groups_here first.0 c.captures_read.new.locations first.2.1 _ c.in-Some.ensures.count)
-    ∙ sym (ap (map places) (first_of_all (matcher_pattern c.args.matcher.now) c.args.text.now (Some first.0) first.1))
-
-pub returns-clause-within : goal.returns-clause-within
-returns-clause-within c =
+    let l = c.loop-left in
+    let re = matcher_pattern c.args.matcher.now in
     let text = c.args.text.now in
-    let n = location_count c.args.locations.now in
-    subst (All (AreParts text)) (sym (returns-clause-found c)) (all_are_parts c.args.matcher.now text c.utf8.text (λ k d h. rw (get_or_default text k d 0 h) ((c.type_inv.text k).fits)) 1 (range_with_len 0 n))
+    let none = ap (λ re. next_match true re text l.after) (sym l.invariant.same) ∙ c.in_default.ensures.found in
+    matches_end _ _ _ _ l.left (matches_after_none re text true l.after none) l.invariant.whole

@@ -9,5 +9,5 @@ pub returns-clause-found : goal.returns-clause-found
 returns-clause-found c =
     let regex = c.self.inside.regex.now in
     let text = c.args.text.now in
-    c.first_place.ensures.found ∙ ap (λ re. option_map span (find_str re text 0)) c.self.invariant.1
+    c.place_from.ensures.found ∙ ap (λ re. option_map span (find_str re text 0)) c.self.invariant.1
     ∙ same_first (regex_source regex) regex c.self.invariant.0 text (λ k. (c.type_inv.text k).fits) ∙ ap (λ source. option_map span (first_match source text)) c.self.view_is
