@@ -9,7 +9,8 @@ text_of NotJson = codes "not JSON"
 text_of NotWhole = codes "not whole numbers"
 text_of Memory = codes "out of memory"
 
--- memory may be wanted for the value that begins with these tokens, in which arrays and objects nest no deeper than the number: it is a text, or has parts
+-- memory may be wanted for the value that begins with these tokens, in which arrays and objects
+-- nest no deeper than the number: it is a text, or has parts
 abbrev pub takes_memory : ℕ → List Token → Bool
 takes_memory depth [] = false
 takes_memory depth (begin_object ∷ ts) = nat_lt 0 depth

@@ -1,4 +1,5 @@
--- What every value in memory keeps, and a tree by itself need not: it is in order, and its integers have 64 bits.
+-- What every value in memory keeps, and a tree by itself need not: it is in order, and its integers
+-- have 64 bits.
 use Rattle.std.specs.Prelude.{⊤, FitsSigned}
 use Rattle.std.specs.Int.{w64}
 use Rattle.vrl_value.specs.Tree.{Tree, string, integer, boolean, null, timestamp, regex, array, object, Items, no_items, item, Members, no_members, member, IsOrdered, ItemsAreOrdered, MembersAreOrdered}

@@ -1,4 +1,5 @@
--- Which tree a line of JSON stands for, and the line of a tree, by `serde_json`'s definitions of both.
+-- Which tree a line of JSON stands for, and the line of a tree, by `serde_json`'s definitions of
+-- both.
 use Rattle.std.specs.Prelude.{ℕ, ◌^◌, ℤ, pos, negsuc, List, [], get_or, Option, Some, None, nat_lt, if◌then◌else◌, option_map, option_and_then}
 use Rattle.std.specs.Str.{is_utf8}
 use Rattle.serde_json.specs.Data as json
@@ -9,11 +10,13 @@ use Rattle.vrl_value.specs.Tree.{Tree, string, integer, boolean, null, timestamp
 
 -- ---- what a line stands for
 
--- the JSON value that bytes are the text of (RFC 8259); they are UTF-8, and None where there is no such value
+-- the JSON value that bytes are the text of (RFC 8259); they are UTF-8, and None where there is no
+-- such value
 abbrev pub json_of : List ℕ → Option json.Data
 json_of bytes = if is_utf8 bytes then read bytes else None
 
--- the whole number of 64 bits with a sign that a number is held as. None: it is held otherwise, as `-0` is, which is a float
+-- the whole number of 64 bits with a sign that a number is held as. None: it is held otherwise, as
+-- `-0` is, which is a float
 abbrev pub whole_number : json.Num → Option ℤ
 whole_number (json.unsigned n) = if nat_lt n (2 ^ 63) then Some (pos n) else None
 whole_number (json.negative z) = Some z
@@ -64,7 +67,8 @@ abbrev pub number_of : ℤ → json.Num
 number_of (pos n) = json.unsigned n
 number_of (negsuc n) = json.negative (negsuc n)
 
--- the JSON value of a tree: a timestamp is its text, and a regex its source, which stands at its number
+-- the JSON value of a tree: a timestamp is its text, and a regex its source, which stands at its
+-- number
 abbrev mutual
   pub data_of : List (List ℕ) → Tree → json.Data
   data_of sources (string s) = json.string s

@@ -1,4 +1,5 @@
--- The tree of a JSON value in which a mark stands for each number that isn't whole: a regex, which no line has.
+-- The tree of a JSON value in which a mark stands for each number that isn't whole: a regex, which
+-- no line has.
 use Rattle.std.specs.Prelude.{◌≡◌, ℤ, Bool, false, IsTrue, Option, Some, None}
 use Rattle.serde_json.specs.Data as json
 use Rattle.vrl_value.specs.Tree.{Tree, string, integer, boolean, null, regex, array, object, Items, no_items, item, Members, no_members, member}
@@ -25,7 +26,7 @@ abbrev mutual
   marked_members json.no_members = no_members
   marked_members (json.member k d ms) = member k (marked_tree d) (marked_members ms)
 
--- What is told of marks before and after a part is read, and whether the part has none: where none is told of afterwards,
--- none was before, and the part has none.
+-- What is told of marks before and after a part is read, and whether the part has none: where none
+-- is told of afterwards, none was before, and the part has none.
 abbrev pub TellsMarks : Bool → Bool → Bool → Type 0
 TellsMarks before after is_unmarked = after ≡ false → (before ≡ false) × IsTrue is_unmarked

@@ -2,7 +2,8 @@
 //!
 //! What a text stands for, and which text a value has, is `serde_json`'s own definition.
 //!
-//! Files: `read.rt` reads a line, `number.rt` the numbers in it, `write.rt` writes one, and `fault.rt` says why no value was read.
+//! Files: `read.rt` reads a line, `number.rt` the numbers in it, `write.rt` writes one, and
+//! `fault.rt` says why no value was read.
 #![tactic(auto)]
 
 mod fault;

@@ -4,9 +4,9 @@ ghost use Rattle.vrl_json.specs.Line.{whole_number};
 
 use fast_float::Numeral;
 
-/// The number that a number's text in JSON (RFC 8259) writes, where it is a whole number of 64 bits with a sign in
-/// the plain form of digits. `Some(None)`: it is another number. `None`: it is too large for a float of 64 bits, so
-/// it is no number.
+/// The number that a number's text in JSON (RFC 8259) writes, where it is a whole number of 64 bits
+/// with a sign in the plain form of digits. `Some(None)`: it is another number. `None`: it is too
+/// large for a float of 64 bits, so it is no number.
 pub(crate) fn number_in(text: &str) -> Option<Option<i64>>
     ensures { option_map whole_number (number_of text.now) ≡ result }
 {

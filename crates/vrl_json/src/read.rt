@@ -19,18 +19,21 @@ use std::collections::BTreeMap;
 use vrl_value::{Chars, Fields, Items, Memory, Value};
 
 /// How deep arrays and objects may nest.
-const DEPTH_LIMIT: usize = 127;
+const NESTING_LIMIT: usize = 127;
 
-/// The value of a line: one JSON text (RFC 8259) in UTF-8 (RFC 3629), with or without white space around
-/// it. Arrays and objects nest at most 127 deep. Of equal names in an object the last counts, which section
-/// 4 of RFC 8259 leaves open. It takes time linear in the bytes, times the logarithm of an object's size.
+/// The value of a line: one JSON text (RFC 8259) in UTF-8 (RFC 3629), with or without white space
+/// around it. Arrays and objects nest at most 127 deep. Of equal names in an object the last
+/// counts, which section 4 of RFC 8259 leaves open. It takes time linear in the bytes, times the
+/// logarithm of an object's size.
 ///
-/// `NotJson`: the bytes are no such text. `NotWhole`: they are, and a number of the value is not a whole
-/// number of 64 bits with a sign in the plain form of digits; `-0` is not, nor is `1.0` or `1e2`. A number
-/// at a name that a later equal name replaces is no number of the value. `Memory`: want of memory, for a value that
-/// begins as a text, an array or an object, or where `scratch` has not yet room for so many bytes.
+/// `NotJson`: the bytes are no such text. `NotWhole`: they are, and a number of the value is not a
+/// whole number of 64 bits with a sign in the plain form of digits; `-0` is not, nor is `1.0` or
+/// `1e2`. A number at a name that a later equal name replaces is no number of the value. `Memory`:
+/// want of memory, for a value that begins as a text, an array or an object, or where `scratch` has
+/// not yet room for so many bytes.
 ///
-/// `scratch` is what reading needs beside the value. Its contents don't matter; keep one from line to line.
+/// `scratch` is what reading needs beside the value. Its contents don't matter; keep one from line
+/// to line.
 pub fn from_line(alloc: Global, bytes: &[u8], scratch: &mut Scratch) -> Result<Value, JsonFault>
     ensures value { IfOk result (λ value. reading_of bytes.now ≡ whole (tree_of value)) }
     ensures not_json { result ≡ Err JsonFault.NotJson → reading_of bytes.now ≡ not_json }
@@ -44,19 +47,20 @@ pub fn from_line(alloc: Global, bytes: &[u8], scratch: &mut Scratch) -> Result<V
     read_text(alloc, text, scratch)
 }
 
-/// What a line stands for has neither a timestamp nor a regex in it. This takes no time: it is a law about
-/// the definitions.
+/// What a line stands for has neither a timestamp nor a regex in it. This takes no time: it is a
+/// law about the definitions.
 pub fn lines_are_json()
     ensures { (line : List ℕ) (tree : Tree) → reading_of line ≡ whole tree → IsTrue (is_json tree) }
 {}
 
-/// What a line stands for nests at most 127 deep. This takes no time: it is a law about the definitions.
+/// What a line stands for nests at most 127 deep. This takes no time: it is a law about the
+/// definitions.
 pub fn lines_are_shallow()
     ensures { (line : List ℕ) (tree : Tree) → reading_of line ≡ whole tree → depth_of tree ≤ 127 }
 {}
 
-/// What a line stands for is in order: the members of each object stand in the order of their names' bytes,
-/// each name once. This takes no time: it is a law about the definitions.
+/// What a line stands for is in order: the members of each object stand in the order of their
+/// names' bytes, each name once. This takes no time: it is a law about the definitions.
 pub fn lines_are_ordered()
     ensures { (line : List ℕ) (tree : Tree) → reading_of line ≡ whole tree → IsOrdered tree }
 {}
@@ -73,7 +77,7 @@ fn read_text(alloc: Global, text: &str, scratch: &mut Scratch) -> Result<Value, 
         return Err(JsonFault::Memory);
     };
     let mut has_marks = false;
-    let value = read_value(alloc, &mut reader, DEPTH_LIMIT, &mut has_marks)?;
+    let value = read_value(alloc, &mut reader, NESTING_LIMIT, &mut has_marks)?;
     if reader.next().is_some() {
         return Err(JsonFault::NotJson);
     }
@@ -84,8 +88,8 @@ fn read_text(alloc: Global, text: &str, scratch: &mut Scratch) -> Result<Value, 
     }
 }
 
-// The next value of the reader, with a mark for each number that is not whole; `has_marks` becomes true where one is
-// made. Arrays and objects may nest `depth` deep.
+// The next value of the reader, with a mark for each number that is not whole; `has_marks` becomes
+// true where one is made. Arrays and objects may nest `depth` deep.
 #[cycle(read)]
 #[inline(always)]
 fn read_value(
@@ -130,8 +134,8 @@ fn read_value(
     }
 }
 
-// The value of a number that was read. A regex, which no line has, marks one that is not whole, until it is known
-// whether a later equal name replaces it; `has_marks` becomes true then.
+// The value of a number that was read. A regex, which no line has, marks one that is not whole,
+// until it is known whether a later equal name replaces it; `has_marks` becomes true then.
 fn marked(number: Option<i64>, has_marks: &mut bool) -> Value
     ensures value { tree_of result ≡ marked number }
     ensures told { TellsMarks has_marks.old has_marks.new (is_json (marked number)) }
@@ -193,7 +197,8 @@ fn read_fields(
         × TellsMarks has_marks.old has_marks.new (members_are_json (marked_members ms))) }
     ensures shorter { OnOk result (length reader.new < length reader.old) }
     ensures not_json { result ≡ Err JsonFault.NotJson
-        → converted (λ ms. of_members ms json.no_members) (members (value depth) (length reader.old) reader.old) ≡ None }
+        → converted (λ ms. of_members ms json.no_members) (members (value depth) (length reader.old) reader.old)
+        ≡ None }
     ensures not_whole { result ≡ Err JsonFault.NotWhole → ⊥ }
 {
     let mut found = Fields::new(BTreeMap::new(alloc));
@@ -207,8 +212,8 @@ fn read_fields(
 
 // ---- whether a value has no mark
 
-// Whether all numbers of a value that was read are whole. It is walked only where a mark was made: it isn't known then
-// whether one is left in it, since a later equal name may have replaced it.
+// Whether all numbers of a value that was read are whole. It is walked only where a mark was made:
+// it isn't known then whether one is left in it, since a later equal name may have replaced it.
 fn is_whole(value: &Value, has_marks: bool) -> bool
     requires { has_marks ≡ false → IsTrue (is_json (tree_of value.now)) }
     ensures { result ≡ is_json (tree_of value.now) }

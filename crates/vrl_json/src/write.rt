@@ -17,10 +17,10 @@ use vrl_value::{Bytes, Chars, Fields, Items, Memory, Moment, Value};
 /// The bytes for which a line takes room at first. It grows from there.
 const USUAL_LENGTH: usize = 256;
 
-/// The line of a value: its JSON text (RFC 8259) in UTF-8, compact, with the members of each object in the
-/// order of their names' bytes, and without a newline. A timestamp is written as its text in quotes, and a
-/// regex as its source in quotes; `sources` holds the source of each regex literal at its number. It takes
-/// time linear in the line. `Memory`: want of memory.
+/// The line of a value: its JSON text (RFC 8259) in UTF-8, compact, with the members of each object
+/// in the order of their names' bytes, and without a newline. A timestamp is written as its text in
+/// quotes, and a regex as its source in quotes; `sources` holds the source of each regex literal at
+/// its number. It takes time linear in the line. `Memory`: want of memory.
 pub fn to_line(alloc: Global, value: &Value, sources: &[Chars]) -> Result<Bytes, Memory>
     requires { IsTrue (regexes_below (length sources.now) (tree_of value.now)) }
     ensures text { IfOk result (λ bytes. bytes ≡ line_text sources.now (tree_of value.now)) }
@@ -36,8 +36,8 @@ pub fn to_line(alloc: Global, value: &Value, sources: &[Chars]) -> Result<Bytes,
     Ok(Bytes::new(out.into_inner()))
 }
 
-/// What has no regex in it needs no sources, and may be written beside any number of them. This takes no time:
-/// it is a law about the definitions.
+/// What has no regex in it needs no sources, and may be written beside any number of them. This
+/// takes no time: it is a law about the definitions.
 pub fn json_needs_no_sources()
     ensures { (count : ℕ) (tree : Tree) → IsTrue (is_json tree) → IsTrue (regexes_below count tree) }
 {}

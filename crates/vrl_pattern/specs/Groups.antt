@@ -1,5 +1,5 @@
--- The names of the capturing groups of a regex, by a scan of its source, one byte after the other. Comments under the flag `x`
--- aren't told apart.
+-- The names of the capturing groups of a regex, by a scan of its source, one byte after the other.
+-- Comments under the flag `x` aren't told apart.
 use Rattle.std.specs.Prelude.{ℕ, suc, ◌-◌, ◌==◌, ◌&&◌, not, List, [], ◌∷◌, ◌++◌, if◌then◌else◌}
 use Rattle.std.specs.List.{take_while}
 
@@ -41,8 +41,8 @@ next name c = if c == 0x3E then at 0 else name
 abbrev pub name_of : List ℕ → List ℕ
 name_of s = take_while (λ c. not (c == 0x3E)) s
 
--- The name of the group that a byte opens, where it opens one: `(` without `?` behind it one without a name, `(?<` and `(?P<` one
--- with a name, and any other `(?` none.
+-- The name of the group that a byte opens, where it opens one: `(` without `?` behind it one
+-- without a name, `(?<` and `(?P<` one with a name, and any other `(?` none.
 abbrev pub opened : Mode → ℕ → List ℕ → List (List ℕ)
 opened parenthesis c s = if c == 0x3F then [] else [] ∷ []
 opened question c s = if c == 0x3C then name_of s ∷ [] else []
@@ -55,6 +55,7 @@ names_from parenthesis [] = [] ∷ []
 names_from m [] = []
 names_from m (c ∷ s) = opened m c s ++ names_from (next m c) s
 
--- one entry for each group, from group 0 on, which is the whole match; empty for a group without a name
+-- one entry for each group, from group 0 on, which is the whole match; empty for a group without a
+-- name
 abbrev pub groups_of : List ℕ → List (List ℕ)
 groups_of source = [] ∷ names_from (at 0) source

@@ -1,5 +1,5 @@
--- What a regex matches in a text, told by its source: what the grammar of the crate `regex` reads in the source under its own options, and what that
--- crate's definitions say it matches.
+-- What a regex matches in a text, told by its source: what the grammar of the crate `regex` reads
+-- in the source under its own options, and what that crate's definitions say it matches.
 use Rattle.std.specs.Prelude.{ℕ, zero, suc, ◌-◌, List, [], Option, Some, None, chars, length, map, take, slice_range, ◌==◌, if◌then◌else◌}
 use Rattle.std.specs.List.{range_with_len}
 use Rattle.regex.specs.Patterns.{Re, Match, empty, find_all_str, find_str, span}
@@ -58,7 +58,9 @@ parts_of text limit ms =
 abbrev pub pieces : List ℕ → List ℕ → ℕ → List (List ℕ)
 pieces source text limit = parts_of text limit (all_matches source text)
 
--- the text with the first so many matches replaced, or each: what the template writes stands in the place of each
+-- the text with the first so many matches replaced, or each: what the template writes stands in the
+-- place of each
 abbrev pub replaced : List ℕ → List ℕ → List ℕ → Option ℕ → List ℕ
 replaced source text template count =
-    replaced_by (λ m. written_after (groups_read source) (group_bytes text m) template 0) text 0 (take_limit count (all_matches source text))
+    replaced_by (λ m. written_after (groups_read source) (group_bytes text m) template 0) text 0
+    (take_limit count (all_matches source text))

@@ -5,7 +5,8 @@ use Rattle.regex.specs.declared.error.Error.{Error}
 use Rattle.regex.specs.declared.error.Error.TheVariants as error
 use Rattle.vrl_value.specs.declared.memory.Memory.{Memory}
 
--- nothing is built where its syntax is refused; nothing is told of one that is over the budget of the crate, or for which memory was wanted
+-- nothing is built where its syntax is refused; nothing is told of one that is over the budget of
+-- the crate, or for which memory was wanted
 abbrev pub IsVerdict : Result Regex Error → Result (Option Regex) Memory → Type 0
 IsVerdict (Ok regex) verdict = verdict ≡ Ok (Some regex)
 IsVerdict (Err (error.Syntax e)) verdict = verdict ≡ Ok None

@@ -7,7 +7,8 @@ use regex::{Error, Regex};
 use std::alloc::Global;
 use vrl_value::{Chars, Memory};
 
-// The regex of a source. `None`: the source is malformed. `Memory`: want of memory, or the pattern is over the crate's budget.
+// The regex of a source. `None`: the source is malformed. `Memory`: want of memory, or the pattern
+// is over the crate's budget.
 fn built(alloc: Global, source: &str) -> Result<Option<Regex>, Memory>
     ensures { IfOk result (λ built. MatchOption built
         (is_malformed source.now ≡ true)
@@ -16,7 +17,8 @@ fn built(alloc: Global, source: &str) -> Result<Option<Regex>, Memory>
     verdict(Regex::new(alloc, source))
 }
 
-// What is told of a source that the crate `regex` read so. `Memory`: it wanted memory, or the pattern is over its budget.
+// What is told of a source that the crate `regex` read so. `Memory`: it wanted memory, or the
+// pattern is over its budget.
 fn verdict(reading: Result<Regex, Error>) -> Result<Option<Regex>, Memory>
     requires { reading ≢ Err Error.Internal }
     ensures { IsVerdict reading result }
@@ -50,11 +52,14 @@ pub(crate) struct Building {
 }
 
 impl Building {
-    // The next source, which has this number, is built. `Memory`: want of memory, a pattern over the crate's budget, or a number past those of a
-    // `u32`.
+    // The next source, which has this number, is built. `Memory`: want of memory, a pattern over
+    // the crate's budget, or a number past those of a `u32`.
     fn add(&mut self, alloc: Global, number: usize, source: &str) -> Result<(), Memory>
-        ensures malformed { OnOk result (self.new.malformed.items ≡ self.old.malformed.items ++ (if is_malformed source.now then number ∷ [] else [])) }
-        ensures regexes { OnOk result (is_malformed source.now ≡ false → (regex : Regex) × (self.new.regexes.items ≡ self.old.regexes.items ++ regex ∷ []) × IsBuiltOf source.now regex) }
+        ensures malformed { OnOk result
+            (self.new.malformed.items ≡ self.old.malformed.items ++ (if is_malformed source.now then number ∷ []
+            else [])) }
+        ensures regexes { OnOk result (is_malformed source.now ≡ false → (regex : Regex)
+            × (self.new.regexes.items ≡ self.old.regexes.items ++ regex ∷ []) × IsBuiltOf source.now regex) }
     {
         match built(alloc, source)? {
             Some(regex) => self.regexes.push(regex)?,
@@ -63,7 +68,8 @@ impl Building {
         Ok(())
     }
 
-    /// What is built of all of these sources. `Memory`: want of memory, a pattern over the crate's budget, or a number past those of a `u32`.
+    /// What is built of all of these sources. `Memory`: want of memory, a pattern over the crate's
+    /// budget, or a number past those of a `u32`.
     pub(crate) fn of(alloc: Global, sources: &[Chars]) -> Result<Building, Memory>
         ensures malformed { IfOk result (λ all. all.malformed.items ≡ malformed_from 0 sources.now) }
         ensures regexes { IfOk result (λ all. all.malformed.items ≡ [] → AreBuilt sources.now all.regexes.items) }

@@ -47,7 +47,8 @@ impl Numbers {
 pub enum BuildFault {
     /// Some are malformed: the numbers of all of these, ascending from 0 for the first literal.
     Malformed(Numbers),
-    /// Want of memory; also where one would take more than the budget that the crate `regex` has for a pattern.
+    /// Want of memory; also where one would take more than the budget that the crate `regex` has
+    /// for a pattern.
     Memory,
 }
 

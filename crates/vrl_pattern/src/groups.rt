@@ -33,7 +33,8 @@ fn split_mark(source: &str) -> Option<(u8, &str)>
     Some((mark, behind))
 }
 
-// What stands behind the character that a backslash escapes. One of several bytes may stand, since it holds no mark.
+// What stands behind the character that a backslash escapes. One of several bytes may stand, since
+// it holds no mark.
 fn behind_escape(source: &str) -> &str
     ensures within { length result.now ≤ length source.now }
     ensures same { (n : ℕ) → names_from (escaped n) source.now ≡ names_from (at n) result.now }
@@ -104,8 +105,8 @@ fn split_name(named: &str) -> (&str, &str)
     }
 }
 
-// The name of the group that a `(` before this text opens, which is empty for a group without a name, and what stands behind the name.
-// `None` where it opens no group.
+// The name of the group that a `(` before this text opens, which is empty for a group without a
+// name, and what stands behind the name. `None` where it opens no group.
 fn split_opening(behind: &str) -> Option<(&str, &str)>
     ensures { MatchOption result
         (names_from parenthesis behind.now ≡ names_from (at 0) behind.now)
@@ -121,8 +122,8 @@ fn split_opening(behind: &str) -> Option<(&str, &str)>
     }
 }
 
-/// The names of the groups that the source opens, from group 0 on; that of a group without a name is empty. `Memory`: want of
-/// memory.
+/// The names of the groups that the source opens, from group 0 on; that of a group without a name
+/// is empty. `Memory`: want of memory.
 pub(crate) fn group_names(alloc: Global, source: &str) -> Result<Names, Memory>
     ensures { IfOk result (λ names. names ≡ groups_of source.now) }
 {

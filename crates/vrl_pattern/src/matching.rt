@@ -43,7 +43,8 @@ fn place_of(span: Option<(usize, usize)>) -> Option<Place>
 
 // Where each group lies that was read. `Memory`: want of memory.
 fn groups_in(alloc: Global, locations: &CaptureLocations) -> Result<Groups, Memory>
-    ensures { IfOk result (λ groups. groups ≡ map (location locations.now) (range_with_len 0 (location_count locations.now))) }
+    ensures { IfOk result
+        (λ groups. groups ≡ map (location locations.now) (range_with_len 0 (location_count locations.now))) }
 {
     let mut places = Vec::with_capacity(alloc, locations.len())?;
     for number in 0..locations.len() {
@@ -52,8 +53,9 @@ fn groups_in(alloc: Global, locations: &CaptureLocations) -> Result<Groups, Memo
     Ok(Groups::new(places))
 }
 
-// Writes the groups of the next match to `locations`: the one behind a match that ended at `after - 1`, or the first one,
-// where `after` is 0. Returns one more than where it ends. `None`: there is no other.
+// Writes the groups of the next match to `locations`: the one behind a match that ended at `after -
+// 1`, or the first one, where `after` is 0. Returns one more than where it ends. `None`: there is
+// no other.
 fn read_next(
     matcher: &mut Matcher<'_>,
     locations: &mut CaptureLocations,
@@ -79,7 +81,8 @@ fn read_next(
     Some(later.end() + 1)
 }
 
-// Where the groups of the first so many matches lie, for as many groups as there is room for. `Memory`: want of memory.
+// Where the groups of the first so many matches lie, for as many groups as there is room for.
+// `Memory`: want of memory.
 fn first_groups(
     alloc: Global,
     matcher: &mut Matcher<'_>,
@@ -106,8 +109,8 @@ fn first_groups(
     Ok(found)
 }
 
-/// Where the groups of the first so many matches lie, for as many groups as there is room for; each part lies between
-/// characters. `Memory`: want of memory.
+/// Where the groups of the first so many matches lie, for as many groups as there is room for; each
+/// part lies between characters. `Memory`: want of memory.
 pub(crate) fn places(
     alloc: Global,
     matcher: &mut Matcher<'_>,
@@ -134,8 +137,8 @@ fn text_of(alloc: Global, text: &str) -> Result<Value, Memory>
     Ok(Value::Text(Chars::copy_of(alloc, text)?))
 }
 
-// Where the next match lies: the one behind a match that ended at `after - 1`, or the first one, where `after` is 0.
-// `None`: there is no other.
+// Where the next match lies: the one behind a match that ended at `after - 1`, or the first one,
+// where `after` is 0. `None`: there is no other.
 fn next_place(matcher: &mut Matcher<'_>, text: &str, after: usize) -> Option<Place>
     ensures found { option_map place_span result
         ≡ option_map span (next_match true (matcher_pattern matcher.old) text.now after) }
@@ -153,7 +156,8 @@ fn next_place(matcher: &mut Matcher<'_>, text: &str, after: usize) -> Option<Pla
     place_from(matcher, text, after)
 }
 
-// The parts of a text in front of the first so many matches, and where the rest begins. `Memory`: want of memory.
+// The parts of a text in front of the first so many matches, and where the rest begins. `Memory`:
+// want of memory.
 fn first_parts(
     alloc: Global,
     matcher: &mut Matcher<'_>,
@@ -203,7 +207,8 @@ pub(crate) fn split(
 
 // ---- replacing
 
-/// The text with the first so many matches replaced by what the template writes; with each, where the number is 0. `Memory`: want of memory.
+/// The text with the first so many matches replaced by what the template writes; with each, where
+/// the number is 0. `Memory`: want of memory.
 pub(crate) fn replaced_by(
     alloc: Global,
     matcher: &mut Matcher<'_>,
@@ -211,7 +216,9 @@ pub(crate) fn replaced_by(
     template: &Template,
     limit: usize,
 ) -> Result<Chars, Memory>
-    ensures written { IfOk result (λ changed. IsWrittenBy template.now text.now (first_or_all limit (find_all_str (matcher_pattern matcher.old) text.now)) changed) }
+    ensures written { IfOk result
+        (λ changed. IsWrittenBy template.now text.now
+        (first_or_all limit (find_all_str (matcher_pattern matcher.old) text.now)) changed) }
     ensures same { matcher_pattern matcher.new ≡ matcher_pattern matcher.old }
 {
     Ok(Chars::new(matcher.replacen(alloc, text, limit, template)?))

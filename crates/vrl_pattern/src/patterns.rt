@@ -11,9 +11,11 @@ use std::alloc::Global;
 use std::marker::Model;
 use vrl_value::{Chars, Memory, Names};
 
-/// The regex literals of a script, built. A contract sees the list of their sources, none of which is malformed.
+/// The regex literals of a script, built. A contract sees the list of their sources, none of which
+/// is malformed.
 ///
-/// It doesn't change, so threads share it; each searches by [`Searches`](crate::Searches) of its own.
+/// It doesn't change, so threads share it; each searches by [`Searches`](crate::Searches) of its
+/// own.
 pub struct Patterns {
     sources: Vec<Chars>,
     regexes: Vec<Regex>,
@@ -63,8 +65,9 @@ fn none_malformed(numbers: Vec<u32>) -> Result<(), BuildFault>
 }
 
 impl Patterns {
-    /// Builds the regexes of these sources. `Malformed`: the numbers of all that the grammar of the crate `regex` doesn't read, or that
-    /// nest deeper than it allows, at least one. `Memory`: want of memory, also where a pattern would take more than that crate's budget.
+    /// Builds the regexes of these sources. `Malformed`: the numbers of all that the grammar of the
+    /// crate `regex` doesn't read, or that nest deeper than it allows, at least one. `Memory`: want
+    /// of memory, also where a pattern would take more than that crate's budget.
     pub fn build(alloc: Global, sources: &Names) -> Result<Patterns, BuildFault>
         ensures sources { IfOk result (λ patterns. patterns ≡ sources.now) }
         ensures formed { IfOk result (λ _. malformed_from 0 sources.now ≡ []) }
@@ -92,8 +95,9 @@ impl Patterns {
         Ok(Names::new(copy_of(alloc, &self.sources)?))
     }
 
-    /// The names of the capturing groups of the regex with this number: one for each, from group 0 on, which is the whole match; that of
-    /// a group without a name is empty. `Memory`: want of memory.
+    /// The names of the capturing groups of the regex with this number: one for each, from group 0
+    /// on, which is the whole match; that of a group without a name is empty. `Memory`: want of
+    /// memory.
     pub fn names(&self, alloc: Global, number: u32) -> Result<Names, Memory>
         requires { number < length self.now }
         ensures { IfOk result (λ names. names ≡ groups_of (slice_index_or self.now number [])) }

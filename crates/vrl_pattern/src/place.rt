@@ -11,8 +11,8 @@ pub struct Place {
     pub end: usize,
 }
 
-/// Where the groups of a match lie, from group 0 on, which is the whole match; `None` for a group that took no part. A contract sees the list of
-/// their spans.
+/// Where the groups of a match lie, from group 0 on, which is the whole match; `None` for a group
+/// that took no part. A contract sees the list of their spans.
 #[derive(Debug, Drop)]
 pub struct Groups {
     places: Vec<Option<Place>>,

@@ -30,7 +30,8 @@ impl<'r> Model for Search<'r> {
 
     ghost view = { λ s. regex_source s.regex.now };
 
-    ghost invariant = { λ s. IsBuiltOf (regex_source s.regex.now) s.regex.now × (matcher_pattern s.matcher ≡ regex_pattern s.regex.now) };
+    ghost invariant = { λ s. IsBuiltOf (regex_source s.regex.now) s.regex.now
+        × (matcher_pattern s.matcher ≡ regex_pattern s.regex.now) };
 }
 
 // Written out, so that a proof sees one call where it is let go.
@@ -80,8 +81,8 @@ impl<'r> Search<'r> {
         places(alloc, &mut self.matcher, &mut locations, text, most)
     }
 
-    /// The parts of the text between the matches, as strings: at most `limit`, the last of which holds the rest.
-    /// `Memory`: want of memory.
+    /// The parts of the text between the matches, as strings: at most `limit`, the last of which
+    /// holds the rest. `Memory`: want of memory.
     pub(crate) fn split(&mut self, alloc: Global, text: &str, limit: u64) -> Result<Items, Memory>
         ensures parts { IfOk result (λ parts. items_of parts
             ≡ items_of_trees (map string (pieces self.old text.now limit))) }
@@ -90,7 +91,8 @@ impl<'r> Search<'r> {
         split(alloc, &mut self.matcher, text, limit)
     }
 
-    // The text with the first so many matches replaced; with each, where the number is 0. `Memory`: want of memory.
+    // The text with the first so many matches replaced; with each, where the number is 0. `Memory`:
+    // want of memory.
     fn replace_some(
         &mut self,
         alloc: Global,
@@ -122,7 +124,8 @@ impl<'r> Search<'r> {
         self.replace_some(alloc, text, with, count)
     }
 
-    /// The text with the first so many matches replaced by what the template writes; with each, where no number is given. `Memory`: want of memory.
+    /// The text with the first so many matches replaced by what the template writes; with each,
+    /// where no number is given. `Memory`: want of memory.
     pub(crate) fn replace(
         &mut self,
         alloc: Global,

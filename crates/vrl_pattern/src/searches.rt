@@ -14,11 +14,12 @@ use std::cell::Cell;
 use std::marker::Model;
 use vrl_value::{Chars, Items, Memory, Names};
 
-/// The regex literals of a script, with what the search for one of them writes to, which is kept until another regex is
-/// searched for. One thread has it. A contract sees the list of the sources.
+/// The regex literals of a script, with what the search for one of them writes to, which is kept
+/// until another regex is searched for. One thread has it. A contract sees the list of the sources.
 pub struct Searches<'r> {
     patterns: &'r Patterns,
-    // The search that was used last. It is dropped before another one is made, so there is at most one at a time.
+    // The search that was used last. It is dropped before another one is made, so there is at most
+    // one at a time.
     kept: Cell<Option<Search<'r>>>,
 }
 
@@ -67,8 +68,8 @@ impl<'r> Searches<'r> {
         self.patterns.names(alloc, number)
     }
 
-    // A search of the regex with this number: the one that was kept, where it is of the same source, or else a new one,
-    // before which the kept one is dropped. `Memory`: want of memory.
+    // A search of the regex with this number: the one that was kept, where it is of the same
+    // source, or else a new one, before which the kept one is dropped. `Memory`: want of memory.
     fn lend(&self, alloc: Global, number: u32) -> Result<Search<'r>, Memory>
         requires { number < length self.now }
         ensures { IfOk result (λ search. search ≡ slice_index_or self.now number []) }
@@ -86,11 +87,13 @@ impl<'r> Searches<'r> {
         self.kept.set(Some(search));
     }
 
-    /// Where the leftmost match of the regex with this number lies in the text, between characters. `None`: it has no match. `Memory`: want of
-    /// memory.
+    /// Where the leftmost match of the regex with this number lies in the text, between characters.
+    /// `None`: it has no match. `Memory`: want of memory.
     pub fn find(&self, alloc: Global, number: u32, text: &str) -> Result<Option<Place>, Memory>
         requires { number < length self.now }
-        ensures found { IfOk result (λ place. option_map place_span place ≡ option_map span (first_match (slice_index_or self.now number []) text.now)) }
+        ensures found { IfOk result
+            (λ place. option_map place_span place ≡ option_map span
+            (first_match (slice_index_or self.now number []) text.now)) }
         ensures within { IfOk result (λ place. IfSome place (λ place. IsPart text.now (place_span place))) }
     {
         let mut search = self.lend(alloc, number)?;
@@ -99,8 +102,9 @@ impl<'r> Searches<'r> {
         Ok(found)
     }
 
-    /// Where the groups of the regex with this number lie in the first `most` of its matches in the text, which are taken from the left, none
-    /// over another; each part lies between characters. `Memory`: want of memory.
+    /// Where the groups of the regex with this number lie in the first `most` of its matches in the
+    /// text, which are taken from the left, none over another; each part lies between characters.
+    /// `Memory`: want of memory.
     pub fn groups(
         &self,
         alloc: Global,
@@ -109,7 +113,9 @@ impl<'r> Searches<'r> {
         most: u64,
     ) -> Result<Matches, Memory>
         requires { number < length self.now }
-        ensures found { IfOk result (λ found. found ≡ map (group_places (slice_index_or self.now number [])) (take most (all_matches (slice_index_or self.now number []) text.now))) }
+        ensures found { IfOk result
+            (λ found. found ≡ map (group_places (slice_index_or self.now number []))
+            (take most (all_matches (slice_index_or self.now number []) text.now))) }
         ensures within { IfOk result (λ found. All (AreParts text.now) found) }
     {
         let mut search = self.lend(alloc, number)?;
@@ -118,11 +124,13 @@ impl<'r> Searches<'r> {
         found
     }
 
-    /// The parts of the text between the matches of the regex with this number, as strings: at most `limit`, the last of which holds the rest.
-    /// `Memory`: want of memory.
+    /// The parts of the text between the matches of the regex with this number, as strings: at most
+    /// `limit`, the last of which holds the rest. `Memory`: want of memory.
     pub fn split(&self, alloc: Global, number: u32, text: &str, limit: u64) -> Result<Items, Memory>
         requires { number < length self.now }
-        ensures { IfOk result (λ parts. items_of parts ≡ items_of_trees (map string (pieces (slice_index_or self.now number []) text.now limit))) }
+        ensures { IfOk result
+            (λ parts. items_of parts ≡ items_of_trees
+            (map string (pieces (slice_index_or self.now number []) text.now limit))) }
     {
         let mut search = self.lend(alloc, number)?;
         let parts = search.split(alloc, text, limit);
@@ -130,8 +138,9 @@ impl<'r> Searches<'r> {
         parts
     }
 
-    /// The text with the first `count` matches of the regex with this number replaced, or each where there is no count: what the template `with`
-    /// of the crate `regex` writes stands in the place of each. `Memory`: want of memory.
+    /// The text with the first `count` matches of the regex with this number replaced, or each
+    /// where there is no count: what the template `with` of the crate `regex` writes stands in the
+    /// place of each. `Memory`: want of memory.
     pub fn replace(
         &self,
         alloc: Global,
@@ -141,7 +150,8 @@ impl<'r> Searches<'r> {
         count: Option<u64>,
     ) -> Result<Chars, Memory>
         requires { number < length self.now }
-        ensures { IfOk result (λ changed. changed ≡ replaced (slice_index_or self.now number []) text.now with.now count) }
+        ensures { IfOk result
+            (λ changed. changed ≡ replaced (slice_index_or self.now number []) text.now with.now count) }
     {
         let mut search = self.lend(alloc, number)?;
         let changed = search.replace(alloc, text, with, count);
