@@ -97,7 +97,8 @@ fn push_value(
     sources: &[Chars],
 ) -> Result<(), Memory>
     requires { IsTrue (regexes_below (length sources.now) (tree_of value.now)) }
-    ensures text { OnOk result (string_bytes out.new ≡ string_bytes out.old ++ value_text sources.now (tree_of value.now)) }
+    ensures text { OnOk result (string_bytes out.new
+        ≡ string_bytes out.old ++ value_text sources.now (tree_of value.now)) }
     ensures null { tree_of value.now ≡ null → IsOk result }
 {
     match value {

@@ -51,7 +51,8 @@ fn delimiter_of(text: &str) -> Option<u8>
     }
 }
 
-// Out of memory, or a fault of reading, of which a text in memory has none: nothing else keeps a row of bytes from being read.
+// Out of memory, or a fault of reading, of which a text in memory has none: nothing else keeps a row of bytes from
+// being read.
 fn memory_of(_fault: csv::Error) -> Memory
     requires { IsReadFault (error_kind _fault) }
 {
@@ -86,9 +87,11 @@ fn texts_of(alloc: Global, row: &ByteRecord) -> Result<Vec<Value>, Memory>
     Ok(texts)
 }
 
-// The fields of a row that was found as texts; none where there is no row, which takes no memory. `Memory`: out of memory.
+// The fields of a row that was found as texts; none where there is no row, which takes no memory. `Memory`: out of
+// memory.
 fn texts_found(alloc: Global, row: Option<ByteRecord>) -> Result<Vec<Value>, Memory>
-    ensures texts { IfOk result (λ texts. map tree_of texts.items ≡ map (λ f. string (utf8_lossy f)) (fields_found row)) }
+    ensures texts { IfOk result (λ texts. map tree_of texts.items
+        ≡ map (λ f. string (utf8_lossy f)) (fields_found row)) }
     ensures none { row ≡ None → IsOk result }
 {
     match row {

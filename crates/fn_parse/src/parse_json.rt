@@ -24,7 +24,8 @@ static PARAMETERS: [Parameter; 1] = [required!("value", Tags::STRING)];
 
 // What is answered to a text that was read so. `Memory`: reading it ran out of memory.
 fn answer(read: Result<Value, JsonFault>) -> Applied
-    ensures answer { (told : Reading) → IsRead told read → Applies true (named (codes "parse_json") (answer_to told)) result }
+    ensures answer { (told : Reading) → IsRead told read
+        → Applies true (named (codes "parse_json") (answer_to told)) result }
     ensures memory { result ≡ applied.Memory → read ≡ Err JsonFault.Memory }
 {
     match read {

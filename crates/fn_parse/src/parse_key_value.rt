@@ -117,7 +117,8 @@ fn put_fields(
     Ok(None)
 }
 
-// What the function answers where its text was read up to there with these fields. `Memory`: reading it ran out of memory.
+// What the function answers where its text was read up to there with these fields. `Memory`: reading it ran out of
+// memory.
 fn ended(fields: Fields, why: Result<Option<Fault>, Memory>) -> Applied
     ensures answer { (told : Answer)
         → IfOk why (λ why. told ≡ ended why (members_of fields))
@@ -135,7 +136,8 @@ fn ended(fields: Fields, why: Result<Option<Fault>, Memory>) -> Applied
 fn answer(alloc: Global, text: &str, key_delimiter: &str, field_delimiter: &str) -> Applied
     requires key_delimiter { 0 < length key_delimiter.now }
     requires field_delimiter { 0 < length field_delimiter.now }
-    ensures { Applies true (named (codes "parse_key_value") (fields_from key_delimiter.now field_delimiter.now 0 text.now no_members)) result }
+    ensures { Applies true (named (codes "parse_key_value")
+        (fields_from key_delimiter.now field_delimiter.now 0 text.now no_members)) result }
 {
     let mut fields = Fields::new(BTreeMap::new(alloc));
     let why = put_fields(alloc, &mut fields, text, key_delimiter, field_delimiter);

@@ -143,7 +143,8 @@ fn parts_of(alloc: Global, url: &Url) -> Result<Value, Memory>
     Ok(Value::Object(fields))
 }
 
-// The URL that was read. `None`: the text is none. `Memory`: out of memory, or the URL as it is written has 2^32 bytes or more.
+// The URL that was read. `None`: the text is none. `Memory`: out of memory, or the URL as it is written has 2^32 bytes
+// or more.
 fn read(parsed: Result<Url, ParseError>) -> Result<Option<Url>, Memory>
     ensures read { (told : Parsed Parts) → Gives parsed told → IfOk result (λ found. IsRead told found) }
     ensures memory { IsErr result → (parsed ≡ Err ParseError.OutOfMemory) ⊎ (parsed ≡ Err ParseError.Overflow) }
@@ -158,7 +159,8 @@ fn read(parsed: Result<Url, ParseError>) -> Result<Option<Url>, Memory>
 
 // What is answered where a URL was found, or where the text is none, which takes no memory.
 fn answer(alloc: Global, found: Result<Option<Url>, Memory>) -> Applied
-    ensures answer { (told : Parsed Parts) → IfOk found (λ found. IsRead told found) → Applies true (named (codes "parse_url") (url_answer told)) result }
+    ensures answer { (told : Parsed Parts) → IfOk found (λ found. IsRead told found)
+        → Applies true (named (codes "parse_url") (url_answer told)) result }
     ensures no_url { found ≡ Ok None → result ≢ applied.Memory }
 {
     match found {
