@@ -7,6 +7,6 @@ mod Latest
 mod MadeKinds
 mod Parted
 mod Quoted
-mod ReadFaults
+mod Readings
 mod Told
 mod Walked
