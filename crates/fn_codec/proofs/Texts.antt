@@ -22,7 +22,7 @@ not_utf8 bytes false is other = refl
 pub no_text_is : (name words bytes : List ℕ) → ¬ IsUtf8 bytes → named name (as_text words (Some bytes)) ≡ failed name (codes "not UTF-8")
 no_text_is name words bytes other = rw (not_utf8 bytes (is_utf8 bytes) refl other) refl
 
--- what is answered of the bytes that were found is answered of the text
-pub found_is : (name other words : List ℕ) (found : Option (List ℕ)) (bytes : List ℕ) (result : Applied) →
-    other ≡ name → found ≡ Some bytes → ((words : List ℕ) → Applies (named other (as_text words (Some bytes))) result) → Applies (named name (as_text words found)) result
-found_is name other words found bytes result same is answered = rw (sym same, is) (answered words)
+-- what is answered of the bytes is answered of what was found
+pub found_is : (name words bytes : List ℕ) (told : Option (List ℕ)) (result : Applied) →
+    Some bytes ≡ told → Applies true (named name (as_text words (Some bytes))) result → Applies true (named name (as_text words told)) result
+found_is name words bytes told result is answered = subst (λ told. Applies true (named name (as_text words told)) result) is answered

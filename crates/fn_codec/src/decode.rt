@@ -1,6 +1,7 @@
-ghost use Rattle.std.specs.Prelude.{◌≡◌, ℕ, List, Option, option_map, IfOk};
+ghost use Rattle.std.specs.Prelude.{◌≡◌, ◌≢◌, ℕ, List, Option, option_map, true, IfOk, IsErr};
 ghost use Rattle.vrl_builtin.specs.Rows.{named};
 ghost use Rattle.vrl_builtin.specs.View.{Applies};
+ghost use Rattle.vrl_builtin.specs.declared.failing.Applied.TheVariants as applied;
 ghost use Rattle.fn_codec.specs.Decode.{as_text, decode_row};
 ghost use Rattle.fn_codec.specs.Laws.{decode-law};
 
@@ -34,17 +35,39 @@ pub struct Decoded<F>(pub F);
 static PARAMETERS: [Parameter; 1] = [required!("value", Tags::STRING)];
 
 // The text of these bytes, or the error of the function with this name.
-fn text_of(alloc: Global, name: &str, bytes: Vec<u8>) -> Applied
-    ensures { (words : List ℕ) → Applies (named name.now (as_text words (Some bytes.items))) result }
+fn text_of(name: &'static str, bytes: Vec<u8>) -> Applied
+    ensures answer { (words : List ℕ) → Applies true (named name.now (as_text words (Some bytes.items))) result }
+    ensures told { result ≢ applied.Memory }
 {
     match String::from_utf8(bytes) {
         Ok(text) => Applied::Value(Value::Text(Chars::new(text))),
-        Err(_fault) => fail(alloc, name, "not UTF-8"),
+        Err(_fault) => fail(name, "not UTF-8"),
+    }
+}
+
+// What is answered of what was found: the text of the bytes, or the error in these words where the text is no such code. `Memory`: nothing was
+// found for want of it.
+fn answer(
+    name: &'static str,
+    words: &'static str,
+    found: Result<Option<Vec<u8>>, Memory>,
+) -> Applied
+    ensures answer { (told : Option (List ℕ))
+        → IfOk found (λ found. option_map (λ bytes. bytes.items) found ≡ told)
+        → Applies true (named name.now (as_text words.now told)) result }
+    ensures memory { result ≡ applied.Memory → IsErr found }
+{
+    match found {
+        Ok(Some(bytes)) => text_of(name, bytes),
+        Ok(None) => fail(name, words),
+        Err(_memory) => Applied::Memory,
     }
 }
 
 impl<F: Decode> OneTag for Decoded<F> {
     ghost one_tag_row = { λ _. decode_row F.decode.0 F.decode.1 F.decode.2 };
+
+    ghost uses_memory = { λ _ arguments. true };
 
     fn name(&self) -> &'static str {
         self.0.name()
@@ -68,11 +91,8 @@ impl<F: Decode> OneTag for Decoded<F> {
         arguments: &Arguments<'_>,
         _setting: &Setting<'_, '_>,
     ) -> Applied {
-        match self.0.bytes(alloc, arguments.text(0, "")) {
-            Ok(Some(bytes)) => text_of(alloc, self.0.name(), bytes),
-            Ok(None) => fail(alloc, self.0.name(), self.0.words()),
-            Err(_memory) => Applied::Memory,
-        }
+        let found = self.0.bytes(alloc, arguments.text(0, ""));
+        answer(self.0.name(), self.0.words(), found)
     }
 
     ghost one_tag = { λ _. decode-law F.decode.0 F.decode.1 F.decode.2 };

@@ -1,4 +1,4 @@
-ghost use Rattle.std.specs.Prelude.{◌≡◌, ◌≤◌, ◌++◌, [], ◌∷◌, string_bytes, codes, map, IfOk, OnOk};
+ghost use Rattle.std.specs.Prelude.{◌≡◌, ◌≤◌, ◌++◌, [], ◌∷◌, string_bytes, codes, false, map, IfOk, OnOk};
 ghost use Rattle.vrl_value.specs.Tree.{array, string};
 ghost use Rattle.vrl_value.specs.View.{items_of_trees, tree_of};
 ghost use Rattle.vrl_builtin.specs.Rows.{named};
@@ -111,10 +111,10 @@ fn is_small(size: i64) -> bool
 
 // What is answered to a text and a size.
 fn chunked(alloc: Global, text: &str, size: i64) -> Applied
-    ensures { Applies (named (codes "chunks") (chunked text.now size)) result }
+    ensures { Applies false (named (codes "chunks") (chunked text.now size)) result }
 {
     if is_small(size) {
-        return fail(alloc, "chunks", "chunk_size below 1");
+        return fail("chunks", "chunk_size below 1");
     }
     Applied::value(pieces(alloc, text, size.unsigned_abs() as usize))
 }

@@ -1,4 +1,4 @@
-ghost use Rattle.std.specs.Prelude.{◌≡◌, ◌++◌, map, IfOk, OnOk, if◌then◌else◌};
+ghost use Rattle.std.specs.Prelude.{◌≡◌, ◌++◌, map, IfOk, IsOk, IsTrue, OnOk, if◌then◌else◌, true};
 ghost use Rattle.vrl_value.specs.Tree.{array, object, put};
 ghost use Rattle.vrl_value.specs.View.{items_view, members_of, tree_of};
 ghost use Rattle.fn_list.specs.Compact.{compact_items, compact_members, compact_row, compacted, full, is_hollow};
@@ -31,9 +31,10 @@ fn is_hollow(value: &Value) -> bool
     }
 }
 
-// Puts a part behind others, unless it is empty.
+// Puts a part behind others, unless it is empty, which takes no memory. `Memory`: out of memory.
 fn push_full(kept: &mut Vec<Value>, part: Value) -> Result<(), Memory>
-    ensures { OnOk result (map tree_of kept.new.items ≡ map tree_of kept.old.items ++ full (tree_of part)) }
+    ensures parts { OnOk result (map tree_of kept.new.items ≡ map tree_of kept.old.items ++ full (tree_of part)) }
+    ensures hollow { IsTrue (is_hollow (tree_of part)) → IsOk result }
 {
     if !is_hollow(&part) {
         kept.push(part)?;
@@ -41,9 +42,11 @@ fn push_full(kept: &mut Vec<Value>, part: Value) -> Result<(), Memory>
     Ok(())
 }
 
-// Puts a part at a name, unless it is empty.
+// Puts a part at a name, unless it is empty, which takes no memory. `Memory`: out of memory.
 fn put_full(alloc: Global, kept: &mut Fields, name: &str, part: Value) -> Result<(), Memory>
-    ensures { OnOk result (members_of kept.new ≡ (if is_hollow (tree_of part) then members_of kept.old else put name.now (tree_of part) (members_of kept.old))) }
+    ensures fields { OnOk result (members_of kept.new
+        ≡ (if is_hollow (tree_of part) then members_of kept.old else put name.now (tree_of part) (members_of kept.old))) }
+    ensures hollow { IsTrue (is_hollow (tree_of part)) → IsOk result }
 {
     if is_hollow(&part) {
         return Ok(());
@@ -90,6 +93,8 @@ fn compact_fields(alloc: Global, fields: &Fields) -> Result<Value, Memory>
 
 impl Builtin for Compact {
     ghost row = { λ _. compact_row };
+
+    ghost uses_memory = { λ _ arguments. true };
 
     fn name(&self) -> &'static str {
         "compact"

@@ -1,4 +1,4 @@
-ghost use Rattle.std.specs.Prelude.{◌≡◌, ◌++◌, [], map, option_map, IfOk, OnOk};
+ghost use Rattle.std.specs.Prelude.{◌≡◌, ◌++◌, [], map, option_map, IfOk, OnOk, true};
 ghost use Rattle.vrl_value.specs.Tree.{array, object, no_members};
 ghost use Rattle.vrl_value.specs.View.{items_of, items_of_trees, items_view, members_of, tree_of};
 ghost use Rattle.fn_list.specs.Flatten.{flatten_row, flattened, inner_of, leaves, leaves_at, opened, opened_part, put_leaves};
@@ -150,6 +150,8 @@ fn flattened(alloc: Global, separator: &str, value: &Value) -> Result<Value, Mem
 
 impl Builtin for Flatten {
     ghost row = { λ _. flatten_row };
+
+    ghost uses_memory = { λ _ arguments. true };
 
     fn name(&self) -> &'static str {
         "flatten"

@@ -50,7 +50,7 @@ impl OneTag for FormatInt {
     ) -> Applied {
         let base = arguments.integer(1, 10);
         if !(2..=36).contains(&base) {
-            return fail(alloc, self.name(), "bad base");
+            return fail(self.name(), "bad base");
         }
         match numeral::write(alloc, arguments.integer(0, 0), base as u32) {
             Ok(text) => Applied::Value(Value::Text(Chars::new(text))),

@@ -39,13 +39,13 @@ impl OneTag for Mod {
 
     fn apply(
         &self,
-        alloc: Global,
+        _alloc: Global,
         arguments: &Arguments<'_>,
         _setting: &Setting<'_, '_>,
     ) -> Applied {
         let modulus = arguments.integer(1, 0);
         if modulus == 0 {
-            fail(alloc, self.name(), "modulus is 0")
+            fail(self.name(), "modulus is 0")
         } else {
             Applied::Value(Value::Int(arguments.integer(0, 0).wrapping_rem(modulus)))
         }

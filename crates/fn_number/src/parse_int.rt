@@ -42,7 +42,7 @@ impl OneTag for ParseInt {
 
     fn apply(
         &self,
-        alloc: Global,
+        _alloc: Global,
         arguments: &Arguments<'_>,
         _setting: &Setting<'_, '_>,
     ) -> Applied {
@@ -50,11 +50,11 @@ impl OneTag for ParseInt {
         let number = match arguments.optional_integer(1) {
             None => read_by_prefix(text),
             Some(base) if (2..=36).contains(&base) => read_integer(text, base as u32),
-            Some(_) => return fail(alloc, self.name(), "bad base"),
+            Some(_) => return fail(self.name(), "bad base"),
         };
         match number {
             Some(number) => Applied::Value(Value::Int(number)),
-            None => fail(alloc, self.name(), "not a whole number"),
+            None => fail(self.name(), "not a whole number"),
         }
     }
 

@@ -3,3 +3,4 @@ mod Faults
 mod Laid
 mod Pairs
 mod Splitting
+mod Taken

@@ -1,14 +1,19 @@
 -- `get`: what stands at a path of a value.
-use Rattle.std.specs.Prelude.{[], ◌∷◌, None, codes, unwrap_or}
+use Rattle.std.specs.Prelude.{ℕ, List, [], ◌∷◌, Option, None, codes, unwrap_or}
 use Rattle.vrl_value.specs.Tree.{Tree, null}
 use Rattle.vrl_kind.specs.Kinds.{any_at}
 use Rattle.vrl_path.specs.Read.{read_at}
+use Rattle.vrl_path.specs.declared.path.Step.{Step}
 use Rattle.vrl_builtin.specs.Rows.{Row, Answer, named, any_literal, kind_at, parameter, value_at}
 use Rattle.vrl_builtin.specs.TagSets.{arrays, containers}
 use Rattle.vrl_builtin.specs.Words.{first_other}
 use Rattle.vrl_builtin.specs.Listed.{items_in, trees_in}
 use Rattle.fn_object.specs.Paths.{path_answer, step_tags, steps_of}
 use Rattle.vrl_builtin.specs.PartKinds.{part_allows_other}
+
+-- each path of names and places can be read
+abbrev pub no_fault : List Step → Option (List ℕ)
+no_fault p = None
 
 -- null where nothing stands there
 abbrev pub got : Tree → Tree → Answer

@@ -1,10 +1,11 @@
 -- `object_from_array`: an object of an array's pairs of a name and a value.
-use Rattle.std.specs.Prelude.{ℕ, suc, true, List, [], ◌∷◌, ◌++◌, Option, Some, None, codes, decimal}
+use Rattle.std.specs.Prelude.{ℕ, suc, true, List, [], ◌∷◌, Option, Some, None, codes}
 use Rattle.vrl_value.specs.Tree.{Tree, string, integer, boolean, null, timestamp, regex, array, object, Items, no_items, item, Members, no_members, put}
 use Rattle.vrl_builtin.specs.Rows.{Row, Answer, value, failure, named, any_literal, parameter, value_at}
 use Rattle.vrl_builtin.specs.TagSets.{arrays, objects}
 use Rattle.vrl_builtin.specs.Listed.{items_in, trees_in}
 use Rattle.vrl_builtin.specs.AnyParts.{any_of}
+use Rattle.vrl_builtin.specs.Words.{element}
 
 -- an array of two whose first item is a string
 abbrev pub pair_in : Items → Option (List ℕ × Tree)
@@ -20,9 +21,6 @@ entry_of null = None
 entry_of (timestamp nanos) = None
 entry_of (regex n) = None
 entry_of (object ms) = None
-
-abbrev pub element : ℕ → List ℕ
-element n = codes "element " ++ decimal n
 
 -- the place of the first element that is no such array, counted from the given one on
 abbrev pub unless_entry : ℕ → Option (List ℕ × Tree) → Option ℕ → Option ℕ

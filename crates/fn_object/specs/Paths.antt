@@ -7,7 +7,8 @@ use Rattle.vrl_path.specs.declared.path.Step.{Step}
 use Rattle.vrl_path.specs.declared.path.Step.TheVariants.{Field, Place}
 use Rattle.vrl_builtin.specs.Rows.{Answer, value, failure}
 use Rattle.vrl_builtin.specs.TagSets.{no_tags}
-use Rattle.vrl_builtin.specs.Words.{path_element_is}
+use Rattle.vrl_builtin.specs.Listed.{items_in, trees_in}
+use Rattle.vrl_builtin.specs.Words.{first_other, path_element_is}
 use Rattle.vrl_builtin.specs.declared.tags.Tags.{Tags}
 
 -- the tags that an element may have
@@ -50,9 +51,19 @@ is_plain (Field k) = true
 is_plain (Place (pos i)) = true
 is_plain (Place (negsuc i)) = false
 
+-- whether neither an element's tag nor other words tell against a path
+abbrev pub is_faultless : Option (ℕ × Tag) → Option (List ℕ) → Bool
+is_faultless (Some other) words = false
+is_faultless None (Some words) = false
+is_faultless None None = true
+
 -- the words on a path at which nothing can be written, and on one at which nothing can be removed
 abbrev pub write_fault : List Step → Option (List ℕ)
 write_fault p = if is_empty p then Some (codes "empty path") else (if nat_lt 64 (length p) then Some (codes "path too long") else (if list_all is_writable p then None else Some (codes "index out of range")))
 
 abbrev pub removal_fault : List Step → Option (List ℕ)
 removal_fault p = if is_empty p then Some (codes "empty path") else (if list_all is_plain p then None else Some (codes "index out of range"))
+
+-- whether such a path may be gone down for a value: each element is a name or a place, and no other words tell against it
+abbrev pub is_taken : (List Step → Option (List ℕ)) → Tree → Bool
+is_taken fault path = is_faultless (first_other step_tags (items_in path)) (fault (steps_of (trees_in (items_in path))))

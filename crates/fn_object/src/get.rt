@@ -1,12 +1,13 @@
-ghost use Rattle.std.specs.Prelude.{codes, map, option_map, unwrap_or};
+ghost use Rattle.std.specs.Prelude.{◌≡◌, ◌≢◌, codes, map, option_map, true, unwrap_or, None};
 ghost use Rattle.vrl_value.specs.Tree.{null};
 ghost use Rattle.vrl_value.specs.View.{tree_of};
 ghost use Rattle.vrl_path.specs.Read.{read_at};
-ghost use Rattle.vrl_builtin.specs.Rows.{named, value as answer};
+ghost use Rattle.vrl_builtin.specs.Rows.{named, value as answer, value_at};
 ghost use Rattle.vrl_builtin.specs.View.{Applies};
-ghost use Rattle.fn_object.specs.Get.{get_row, got};
+ghost use Rattle.vrl_builtin.specs.declared.failing.Applied.TheVariants as applied;
+ghost use Rattle.fn_object.specs.Get.{get_row, got, no_fault};
 ghost use Rattle.fn_object.specs.GetLaw.{get-law};
-ghost use Rattle.fn_object.specs.Paths.{steps_of};
+ghost use Rattle.fn_object.specs.Paths.{is_taken, steps_of};
 
 use crate::paths::{STEP_TAGS, path_of};
 use std::alloc::Global;
@@ -30,19 +31,20 @@ static PARAMETERS: [Parameter; 2] = [
     required!("path", Tags::ARRAY),
 ];
 
-// A copy of what was found, and null where nothing was.
+// A copy of what was found, and null where nothing was, which takes no memory.
 fn copy_found(alloc: Global, found: Option<&Value>) -> Applied
-    ensures { Applies (answer (unwrap_or (option_map (λ value. tree_of value.now) found.entry) null)) result }
+    ensures answer { Applies true (answer (unwrap_or (option_map (λ value. tree_of value.now) found.entry) null)) result }
+    ensures null { found.entry ≡ None → result ≢ applied.Memory }
 {
     match found {
-        Some(value) => Applied::copy_of(alloc, value),
+        Some(value) => Applied::value(value.copy(alloc)),
         None => Applied::Value(Value::Null),
     }
 }
 
 // What stands at the path of the elements.
 fn read(alloc: Global, value: &Value, elements: &[Value]) -> Applied
-    ensures { Applies (answer (unwrap_or (read_at (tree_of value.now) (steps_of (map tree_of elements.now))) null)) result }
+    ensures { Applies true (answer (unwrap_or (read_at (tree_of value.now) (steps_of (map tree_of elements.now))) null)) result }
 {
     match path_of(alloc, elements) {
         Ok(path) => copy_found(alloc, get(value, &path)),
@@ -52,17 +54,20 @@ fn read(alloc: Global, value: &Value, elements: &[Value]) -> Applied
 
 // What is answered to a value and a path.
 fn got(alloc: Global, value: &Value, path: &Value) -> Applied
-    ensures { Applies (named (codes "get") (got (tree_of value.now) (tree_of path.now))) result }
+    ensures { Applies (is_taken no_fault (tree_of path.now))
+        (named (codes "get") (got (tree_of value.now) (tree_of path.now))) result }
 {
     let elements = items_of(path);
     match first_other(elements, &STEP_TAGS) {
-        Some((place, tag)) => fail_at_path_element(alloc, "get", place, tag),
+        Some((place, tag)) => fail_at_path_element("get", place, tag),
         None => read(alloc, value, elements),
     }
 }
 
 impl Builtin for Get {
     ghost row = { λ _. get_row };
+
+    ghost uses_memory = { λ _ arguments. is_taken no_fault (value_at 1 arguments) };
 
     fn name(&self) -> &'static str {
         "get"

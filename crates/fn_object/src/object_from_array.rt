@@ -1,15 +1,16 @@
-ghost use Rattle.std.specs.Prelude.{◌≡◌, codes, map, option_map, IfOk, OnOk};
+ghost use Rattle.std.specs.Prelude.{◌≡◌, codes, false, map, option_map, IfOk, IsOk, None, OnOk};
 ghost use Rattle.vrl_value.specs.Tree.{no_members, object};
 ghost use Rattle.vrl_value.specs.View.{items_view, members_of, tree_of};
-ghost use Rattle.vrl_builtin.specs.Rows.{failed, named};
+ghost use Rattle.vrl_builtin.specs.Rows.{named};
 ghost use Rattle.vrl_builtin.specs.View.{Applies};
-ghost use Rattle.fn_object.specs.ObjectFromArray.{element, entry_of, first_unfit, made_of, object_from_array_row, pair_in, put_entries, put_entry};
+ghost use Rattle.fn_object.specs.ObjectFromArray.{entry_of, first_unfit, made_of, object_from_array_row, pair_in, put_entries, put_entry};
 ghost use Rattle.fn_object.specs.ObjectFromArrayLaw.{object_from_array-law};
 
 use std::alloc::Global;
 use std::collections::BTreeMap;
 use vrl_builtin::{
-    Applied, Arguments, Builtin, Givens, Parameter, Setting, Tags, any_of, items_of, required,
+    Applied, Arguments, Builtin, Givens, Parameter, Setting, Tags, any_of, fail_at_bad_element,
+    items_of, required,
 };
 use vrl_kind::Kind;
 use vrl_pattern::Patterns;
@@ -74,9 +75,10 @@ fn first_unfit(elements: &[Value]) -> Option<usize>
     None
 }
 
-// Puts a copy of the value of an element's entry at its name; an element that is no entry is passed over.
+// Puts a copy of the value of an element's entry at its name; an element that is no entry is passed over, which takes no memory.
 fn put_element(alloc: Global, fields: &mut Fields, element: &Value) -> Result<(), Memory>
-    ensures { OnOk result (members_of fields.new ≡ put_entry (entry_of (tree_of element.now)) (members_of fields.old)) }
+    ensures fields { OnOk result (members_of fields.new ≡ put_entry (entry_of (tree_of element.now)) (members_of fields.old)) }
+    ensures passed { entry_of (tree_of element.now) ≡ None → IsOk result }
 {
     match entry_of(element) {
         Some(entry) => {
@@ -98,22 +100,12 @@ fn object(alloc: Global, elements: &[Value]) -> Result<Value, Memory>
     Ok(Value::Object(fields))
 }
 
-// The error that names an element by its place.
-fn fail_at(alloc: Global, place: usize) -> Applied
-    ensures { Applies (failed (codes "object_from_array") (element place)) result }
-{
-    match format!(in alloc; "object_from_array: element {place}") {
-        Ok(text) => Applied::Failed(Chars::new(text)),
-        Err(_refused) => Applied::Memory,
-    }
-}
-
 // What comes of the elements of an array.
 fn made(alloc: Global, elements: &[Value]) -> Applied
-    ensures { Applies (named (codes "object_from_array") (made_of (map tree_of elements.now))) result }
+    ensures { Applies false (named (codes "object_from_array") (made_of (map tree_of elements.now))) result }
 {
     match first_unfit(elements) {
-        Some(place) => fail_at(alloc, place),
+        Some(place) => fail_at_bad_element("object_from_array", place),
         None => Applied::value(object(alloc, elements)),
     }
 }

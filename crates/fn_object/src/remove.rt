@@ -1,9 +1,9 @@
 ghost use Rattle.std.specs.Prelude.{◌≡◌, codes, map, IfOk, None};
 ghost use Rattle.vrl_value.specs.View.{tree_of};
 ghost use Rattle.vrl_path.specs.Trees.{remove_tree};
-ghost use Rattle.vrl_builtin.specs.Rows.{named};
+ghost use Rattle.vrl_builtin.specs.Rows.{named, value_at};
 ghost use Rattle.vrl_builtin.specs.View.{Applies};
-ghost use Rattle.fn_object.specs.Paths.{removal_fault, steps_of};
+ghost use Rattle.fn_object.specs.Paths.{is_taken, removal_fault, steps_of};
 ghost use Rattle.fn_object.specs.Remove.{remove_row, removed_at};
 ghost use Rattle.fn_object.specs.RemoveLaw.{remove-law};
 
@@ -51,13 +51,14 @@ fn without(alloc: Global, value: &Value, elements: &[Value]) -> Result<Value, Me
 
 // What is answered to a value and a path.
 fn removed_at(alloc: Global, value: &Value, path: &Value) -> Applied
-    ensures { Applies (named (codes "remove") (removed_at (tree_of value.now) (tree_of path.now))) result }
+    ensures { Applies (is_taken removal_fault (tree_of path.now))
+        (named (codes "remove") (removed_at (tree_of value.now) (tree_of path.now))) result }
 {
     let elements = items_of(path);
     match first_other(elements, &STEP_TAGS) {
-        Some((place, tag)) => fail_at_path_element(alloc, "remove", place, tag),
+        Some((place, tag)) => fail_at_path_element("remove", place, tag),
         None => match removal_fault(elements) {
-            Some(words) => fail(alloc, "remove", words),
+            Some(words) => fail("remove", words),
             None => Applied::value(without(alloc, value, elements)),
         },
     }
@@ -65,6 +66,8 @@ fn removed_at(alloc: Global, value: &Value, path: &Value) -> Applied
 
 impl Builtin for Remove {
     ghost row = { λ _. remove_row };
+
+    ghost uses_memory = { λ _ arguments. is_taken removal_fault (value_at 1 arguments) };
 
     fn name(&self) -> &'static str {
         "remove"

@@ -1,9 +1,9 @@
 ghost use Rattle.std.specs.Prelude.{◌≡◌, codes, map, IfOk, None};
 ghost use Rattle.vrl_value.specs.View.{tree_of};
 ghost use Rattle.vrl_path.specs.Trees.{set_tree};
-ghost use Rattle.vrl_builtin.specs.Rows.{named};
+ghost use Rattle.vrl_builtin.specs.Rows.{named, value_at};
 ghost use Rattle.vrl_builtin.specs.View.{Applies};
-ghost use Rattle.fn_object.specs.Paths.{steps_of, write_fault};
+ghost use Rattle.fn_object.specs.Paths.{is_taken, steps_of, write_fault};
 ghost use Rattle.fn_object.specs.Set.{set_at, set_row};
 ghost use Rattle.fn_object.specs.SetLaw.{set-law};
 
@@ -53,13 +53,14 @@ fn written(alloc: Global, value: &Value, elements: &[Value], new: &Value) -> Res
 
 // What is answered to a value, a path and another value.
 fn set_at(alloc: Global, value: &Value, path: &Value, new: &Value) -> Applied
-    ensures { Applies (named (codes "set") (set_at (tree_of value.now) (tree_of path.now) (tree_of new.now))) result }
+    ensures { Applies (is_taken write_fault (tree_of path.now))
+        (named (codes "set") (set_at (tree_of value.now) (tree_of path.now) (tree_of new.now))) result }
 {
     let elements = items_of(path);
     match first_other(elements, &STEP_TAGS) {
-        Some((place, tag)) => fail_at_path_element(alloc, "set", place, tag),
+        Some((place, tag)) => fail_at_path_element("set", place, tag),
         None => match write_fault(elements) {
-            Some(words) => fail(alloc, "set", words),
+            Some(words) => fail("set", words),
             None => Applied::value(written(alloc, value, elements, new)),
         },
     }
@@ -67,6 +68,8 @@ fn set_at(alloc: Global, value: &Value, path: &Value, new: &Value) -> Applied
 
 impl Builtin for Set {
     ghost row = { λ _. set_row };
+
+    ghost uses_memory = { λ _ arguments. is_taken write_fault (value_at 1 arguments) };
 
     fn name(&self) -> &'static str {
         "set"

@@ -1,4 +1,4 @@
-ghost use Rattle.std.specs.Prelude.{◌≡◌, ◌<◌, ◌^◌, codes, length, map, option_map, IfOk, OnOk};
+ghost use Rattle.std.specs.Prelude.{◌≡◌, ◌<◌, ◌^◌, codes, false, length, map, option_map, IfOk, OnOk};
 ghost use Rattle.vrl_value.specs.Tree.{object};
 ghost use Rattle.vrl_value.specs.View.{members_of, tree_of};
 ghost use Rattle.vrl_builtin.specs.Rows.{named};
@@ -35,7 +35,7 @@ fn one_more(found: Option<&Value>) -> i64
     }
 }
 
-// Counts a string; another value is passed over.
+// Counts a string; another value is passed over, which takes no memory. `Memory`: out of memory.
 fn add_count(alloc: Global, fields: &mut Fields, item: &Value) -> Result<(), Memory>
     ensures { OnOk result (members_of fields.new ≡ add_count (tree_of item.now) (members_of fields.old)) }
 {
@@ -79,11 +79,11 @@ fn counts(alloc: Global, items: &[Value]) -> Result<Value, Memory>
 
 // What is answered to an array.
 fn tallied(alloc: Global, value: &Value) -> Applied
-    ensures { Applies (named (codes "tally") (tallied (tree_of value.now))) result }
+    ensures { Applies false (named (codes "tally") (tallied (tree_of value.now))) result }
 {
     let items = items_of(value);
     match first_other(items, &Tags::STRING) {
-        Some((place, tag)) => fail_at_element(alloc, "tally", place, tag),
+        Some((place, tag)) => fail_at_element("tally", place, tag),
         None => Applied::value(counts(alloc, items)),
     }
 }

@@ -141,6 +141,8 @@ fn unflattened(alloc: Global, separator: &str, value: &Value) -> Result<Value, M
 impl Builtin for Unflatten {
     ghost row = { λ _. unflatten_row };
 
+    ghost uses_memory = { λ _ arguments. true };
+
     fn name(&self) -> &'static str {
         "unflatten"
     }

@@ -7,5 +7,6 @@ mod Latest
 mod MadeKinds
 mod Parted
 mod Quoted
+mod Readings
 mod Told
 mod Walked

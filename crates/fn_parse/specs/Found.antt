@@ -1,6 +1,11 @@
 -- What the code finds in a text, as the definitions tell it.
-use Rattle.std.specs.Prelude.{◌≡◌, ◌≤◌, ◌+◌, ℕ, List, length, Option, Some, None, Ok, Err, Result, codes, option_map}
+use Rattle.std.specs.Prelude.{◌≡◌, ◌≤◌, ◌+◌, ℕ, List, length, Option, Some, None, Ok, Err, Result, codes, option_map, ⊤}
 use Rattle.vrl_value.specs.Tree.{object, Members}
+use Rattle.vrl_value.specs.View.{tree_of}
+use Rattle.vrl_value.specs.declared.value.Value.{Value}
+use Rattle.vrl_json.specs.Line.{Reading, not_json, not_whole, whole}
+use Rattle.vrl_json.specs.declared.fault.JsonFault.{JsonFault}
+use Rattle.vrl_json.specs.declared.fault.JsonFault.TheVariants.{NotJson, NotWhole, Memory}
 use Rattle.vrl_builtin.specs.Rows.{Answer, value, failure}
 use Rattle.fn_parse.specs.KeyValue.{begins, first_place, FieldAt, entry, fault}
 use Rattle.fn_parse.specs.Quotes.{unescaped}
@@ -39,3 +44,10 @@ field_found (Err why) = fault (words_of why)
 abbrev pub ended : Option Fault → Members → Answer
 ended None ms = value (object ms)
 ended (Some why) ms = failure (words_of why)
+
+-- a text with this reading was read so, unless memory ran out
+abbrev pub IsRead : Reading → Result Value JsonFault → Type 0
+IsRead told (Ok v) = told ≡ whole (tree_of v)
+IsRead told (Err NotJson) = told ≡ not_json
+IsRead told (Err NotWhole) = told ≡ not_whole
+IsRead told (Err Memory) = ⊤

@@ -1,6 +1,8 @@
 -- What the code comes to on its way: pairs added one after the other, and the parts of a URL in the order in which they are put.
 use Rattle.std.specs.Prelude.{◌≡◌, ℕ, List, [], ◌∷◌, Option, Some, None, Ok, Err, codes, option_map, unwrap_or, ⊤}
 use Rattle.csv.specs.Records.{fields_of, Row}
+use Rattle.csv.specs.declared.error.ErrorKind.{ErrorKind}
+use Rattle.csv.specs.declared.error.ErrorKind.TheVariants as kind
 use Rattle.url.specs.Host.{host_text}
 use Rattle.url.specs.Parser.{Parsed}
 use Rattle.url.specs.Parts.{Parts, nonempty_host}
@@ -53,6 +55,15 @@ put_others url ms =
 abbrev pub fields_found : Option Row → List (List ℕ)
 fields_found None = []
 fields_found (Some row) = fields_of row
+
+-- memory ran out, or the reader underneath failed
+abbrev pub IsReadFault : ErrorKind → Type 0
+IsReadFault (kind.Io e) = ⊤
+IsReadFault kind.OutOfMemory = ⊤
+IsReadFault (kind.UnequalLengths pos expected len) = ⊥
+IsReadFault (kind.Utf8 pos err) = ⊥
+IsReadFault (kind.Serialize why) = ⊥
+IsReadFault (kind.Deserialize pos err) = ⊥
 
 abbrev pub IsRefused : Parsed Parts → Type 0
 IsRefused (Ok url) = ⊥

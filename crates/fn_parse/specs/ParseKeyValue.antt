@@ -1,5 +1,5 @@
 -- `parse_key_value`: the object of a text's fields.
-use Rattle.std.specs.Prelude.{ℕ, zero, suc, ◌-◌, Bool, true, false, ◌||◌, List, [], ◌∷◌, length, Option, Some, None, codes, if◌then◌else◌}
+use Rattle.std.specs.Prelude.{ℕ, zero, suc, ◌-◌, Bool, true, false, ◌||◌, List, [], ◌∷◌, length, Option, Some, None, codes, if◌then◌else◌, not}
 use Rattle.vrl_value.specs.Tree.{Tree, string, boolean, object, Members, no_members, put}
 use Rattle.vrl_value.specs.declared.value.Tag.TheVariants as tag
 use Rattle.vrl_kind.specs.Kinds.{only_at}
@@ -32,6 +32,10 @@ is_nothing (b ∷ bs) = false
 
 abbrev pub parsed : List ℕ → List ℕ → List ℕ → Answer
 parsed k f s = if is_nothing k || is_nothing f then failure (codes "empty delimiter") else fields_from k f 0 s no_members
+
+-- a text is read where neither delimiter is empty
+abbrev pub has_delimiters : List ℕ → List ℕ → Bool
+has_delimiters k f = not (is_nothing k || is_nothing f)
 
 abbrev pub string_or_boolean : Sets
 string_or_boolean = either (only_at tag.Text) (only_at tag.Bool)

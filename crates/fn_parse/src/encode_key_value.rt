@@ -1,8 +1,9 @@
-ghost use Rattle.std.specs.Prelude.{◌≡◌, ◌++◌, length, string_bytes, IfOk, IsTrue, OnOk};
+ghost use Rattle.std.specs.Prelude.{◌≡◌, ◌++◌, length, string_bytes, IfOk, IsOk, IsTrue, OnOk};
 ghost use Rattle.std.specs.Fmt.{signed_decimal};
 ghost use Rattle.std.specs.List.{list_any};
 ghost use Rattle.vrl_value.specs.Regexes.{members_regexes_below, regexes_below};
 ghost use Rattle.vrl_value.specs.MomentText.{moment_text};
+ghost use Rattle.vrl_value.specs.Tree.{null};
 ghost use Rattle.vrl_value.specs.View.{members_of, tree_of};
 ghost use Rattle.vrl_builtin.specs.Conditions.{arguments_below};
 ghost use Rattle.vrl_builtin.specs.Rows.{optional_members};
@@ -88,7 +89,7 @@ fn push_json(
     push_text(out, text.as_str())
 }
 
-// Writes the text of a value. `Memory`: want of memory.
+// Writes the text of a value; null has none, and takes no memory. `Memory`: out of memory.
 fn push_value(
     alloc: Global,
     out: &mut String,
@@ -96,7 +97,9 @@ fn push_value(
     sources: &[Chars],
 ) -> Result<(), Memory>
     requires { IsTrue (regexes_below (length sources.now) (tree_of value.now)) }
-    ensures { OnOk result (string_bytes out.new ≡ string_bytes out.old ++ value_text sources.now (tree_of value.now)) }
+    ensures text { OnOk result (string_bytes out.new
+        ≡ string_bytes out.old ++ value_text sources.now (tree_of value.now)) }
+    ensures null { tree_of value.now ≡ null → IsOk result }
 {
     match value {
         Value::Text(text) => push_text(out, text.as_str()),

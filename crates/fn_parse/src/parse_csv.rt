@@ -1,5 +1,6 @@
-ghost use Rattle.std.specs.Prelude.{◌≡◌, codes, map, IfOk};
+ghost use Rattle.std.specs.Prelude.{◌≡◌, codes, false, map, None, IfOk, IsOk};
 ghost use Rattle.std.specs.Str.Lossy.{utf8_lossy};
+ghost use Rattle.csv.specs.Reading.{error_kind};
 ghost use Rattle.csv.specs.Records.{fields_of};
 ghost use Rattle.vrl_value.specs.Tree.{string};
 ghost use Rattle.vrl_value.specs.View.{tree_of};
@@ -7,7 +8,7 @@ ghost use Rattle.vrl_builtin.specs.Rows.{named};
 ghost use Rattle.vrl_builtin.specs.View.{Applies};
 ghost use Rattle.fn_parse.specs.Csv.{delimiter_of, first_row, is_delimiter, parsed_by, parse_csv_row, row_of};
 ghost use Rattle.fn_parse.specs.CsvLaw.{parse_csv-law};
-ghost use Rattle.fn_parse.specs.Gathering.{fields_found};
+ghost use Rattle.fn_parse.specs.Gathering.{fields_found, IsReadFault};
 
 use csv::{ByteRecord, ReaderBuilder};
 use std::alloc::Global;
@@ -50,7 +51,15 @@ fn delimiter_of(text: &str) -> Option<u8>
     }
 }
 
-// The first row of a text. `None`: there is none. A text in memory has no fault of reading, so nothing but memory is wanted where it fails.
+// Out of memory, or a fault of reading, of which a text in memory has none: nothing else keeps a row of bytes from
+// being read.
+fn memory_of(_fault: csv::Error) -> Memory
+    requires { IsReadFault (error_kind _fault) }
+{
+    Memory
+}
+
+// The first row of a text. `None`: there is none. `Memory`: out of memory.
 fn first_row(alloc: Global, text: &[u8], delimiter: u8) -> Result<Option<ByteRecord>, Memory>
     ensures { IfOk result (λ row. fields_found row ≡ first_row delimiter text.now) }
 {
@@ -62,7 +71,7 @@ fn first_row(alloc: Global, text: &[u8], delimiter: u8) -> Result<Option<ByteRec
     match reader.read_byte_record(&mut row) {
         Ok(true) => Ok(Some(row)),
         Ok(false) => Ok(None),
-        Err(_fault) => Err(Memory),
+        Err(fault) => Err(memory_of(fault)),
     }
 }
 
@@ -78,24 +87,35 @@ fn texts_of(alloc: Global, row: &ByteRecord) -> Result<Vec<Value>, Memory>
     Ok(texts)
 }
 
+// The fields of a row that was found as texts; none where there is no row, which takes no memory. `Memory`: out of
+// memory.
+fn texts_found(alloc: Global, row: Option<ByteRecord>) -> Result<Vec<Value>, Memory>
+    ensures texts { IfOk result (λ texts. map tree_of texts.items
+        ≡ map (λ f. string (utf8_lossy f)) (fields_found row)) }
+    ensures none { row ≡ None → IsOk result }
+{
+    match row {
+        Some(row) => texts_of(alloc, &row),
+        None => Ok(Vec::new(alloc)),
+    }
+}
+
 // The array of the fields of the first row.
 fn row_of(alloc: Global, text: &str, delimiter: u8) -> Result<Value, Memory>
     ensures { IfOk result (λ value. tree_of value ≡ row_of delimiter text.now) }
 {
-    let texts = match first_row(alloc, text.as_bytes(), delimiter)? {
-        Some(row) => texts_of(alloc, &row)?,
-        None => Vec::new(alloc),
-    };
+    let row = first_row(alloc, text.as_bytes(), delimiter)?;
+    let texts = texts_found(alloc, row)?;
     Ok(Value::List(Items::new(texts)))
 }
 
 // What is answered to a text and the text of a delimiter.
 fn parsed(alloc: Global, text: &str, delimiter: &str) -> Applied
-    ensures { Applies (named (codes "parse_csv") (parsed_by (delimiter_of delimiter.now) text.now)) result }
+    ensures { Applies false (named (codes "parse_csv") (parsed_by (delimiter_of delimiter.now) text.now)) result }
 {
     match delimiter_of(delimiter) {
         Some(byte) => Applied::value(row_of(alloc, text, byte)),
-        None => fail(alloc, "parse_csv", "bad delimiter"),
+        None => fail("parse_csv", "bad delimiter"),
     }
 }
 

@@ -1,8 +1,10 @@
-ghost use Rattle.std.specs.Prelude.{codes};
+ghost use Rattle.std.specs.Prelude.{◌≡◌, codes, true, Err};
 ghost use Rattle.vrl_builtin.specs.Rows.{named};
 ghost use Rattle.vrl_builtin.specs.View.{Applies};
-ghost use Rattle.vrl_json.specs.Line.{reading_of};
+ghost use Rattle.vrl_builtin.specs.declared.failing.Applied.TheVariants as applied;
+ghost use Rattle.vrl_json.specs.Line.{reading_of, Reading};
 ghost use Rattle.fn_parse.specs.Json.{answer_to, parse_json_row};
+ghost use Rattle.fn_parse.specs.Found.{IsRead};
 ghost use Rattle.fn_parse.specs.JsonLaw.{parse_json-law};
 
 use std::alloc::Global;
@@ -20,20 +22,31 @@ pub struct ParseJson;
 
 static PARAMETERS: [Parameter; 1] = [required!("value", Tags::STRING)];
 
-// What is answered to a text.
-fn parsed(alloc: Global, text: &str) -> Applied
-    ensures { Applies (named (codes "parse_json") (answer_to (reading_of text.now))) result }
+// What is answered to a text that was read so. `Memory`: reading it ran out of memory.
+fn answer(read: Result<Value, JsonFault>) -> Applied
+    ensures answer { (told : Reading) → IsRead told read
+        → Applies true (named (codes "parse_json") (answer_to told)) result }
+    ensures memory { result ≡ applied.Memory → read ≡ Err JsonFault.Memory }
 {
-    match from_line(alloc, text.as_bytes(), &mut Scratch::new(alloc)) {
+    match read {
         Ok(value) => Applied::Value(value),
-        Err(JsonFault::NotJson) => fail(alloc, "parse_json", "not JSON"),
-        Err(JsonFault::NotWhole) => fail(alloc, "parse_json", "not whole numbers"),
+        Err(JsonFault::NotJson) => fail("parse_json", "not JSON"),
+        Err(JsonFault::NotWhole) => fail("parse_json", "not whole numbers"),
         Err(JsonFault::Memory) => Applied::Memory,
     }
 }
 
+// What is answered to a text.
+fn parsed(alloc: Global, text: &str) -> Applied
+    ensures { Applies true (named (codes "parse_json") (answer_to (reading_of text.now))) result }
+{
+    answer(from_line(alloc, text.as_bytes(), &mut Scratch::new(alloc)))
+}
+
 impl Builtin for ParseJson {
     ghost row = { λ _. parse_json_row };
+
+    ghost uses_memory = { λ _ arguments. true };
 
     fn name(&self) -> &'static str {
         "parse_json"

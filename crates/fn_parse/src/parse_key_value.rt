@@ -1,12 +1,13 @@
-ghost use Rattle.std.specs.Prelude.{◌≡◌, ◌<◌, ◌≤◌, ℕ, List, codes, false, length, option_map, IfOk, OnOk};
+ghost use Rattle.std.specs.Prelude.{◌≡◌, ◌<◌, ◌≤◌, ℕ, List, None, codes, false, length, option_map, true, IfOk, IsErr, IsOk, OnOk};
 ghost use Rattle.vrl_value.specs.Tree.{Members, no_members, put};
 ghost use Rattle.vrl_value.specs.View.{members_of, tree_of};
-ghost use Rattle.vrl_builtin.specs.Rows.{named};
+ghost use Rattle.vrl_builtin.specs.Rows.{named, text_at, Answer};
 ghost use Rattle.vrl_builtin.specs.View.{Applies};
+ghost use Rattle.vrl_builtin.specs.declared.failing.Applied.TheVariants as applied;
 ghost use Rattle.fn_parse.specs.KeyValue.{begins};
 ghost use Rattle.fn_parse.specs.Found.{ended, written_text, IsAhead};
 ghost use Rattle.fn_parse.specs.KeyValueText.{FieldsAreRead, OnlyFieldsAreRead};
-ghost use Rattle.fn_parse.specs.ParseKeyValue.{field_tree, fields_from, parse_key_value_row, parsed};
+ghost use Rattle.fn_parse.specs.ParseKeyValue.{field_tree, fields_from, has_delimiters, parse_key_value_row, parsed};
 ghost use Rattle.fn_parse.specs.KeyValueLaw.{parse_key_value-law};
 
 use crate::key_value::{Fault, Field, Written, field_at, left_from, left_later};
@@ -55,9 +56,10 @@ fn text_of(alloc: Global, written: &Written<'_>) -> Result<Chars, Memory>
     }
 }
 
-// The value of a field. `Memory`: want of memory.
+// The value of a field; a key alone takes no memory. `Memory`: out of memory.
 fn value_of(alloc: Global, field: &Field<'_>) -> Result<Value, Memory>
-    ensures { IfOk result (λ value. tree_of value ≡ field_tree (option_map written_text field.now.written)) }
+    ensures value { IfOk result (λ value. tree_of value ≡ field_tree (option_map written_text field.now.written)) }
+    ensures alone { field.now.written ≡ None → IsOk result }
 {
     match &field.written {
         Some(written) => Ok(Value::Text(text_of(alloc, written)?)),
@@ -115,32 +117,49 @@ fn put_fields(
     Ok(None)
 }
 
-// What the function answers to a text with these delimiters, which aren't empty.
-fn answer(alloc: Global, text: &str, key_delimiter: &str, field_delimiter: &str) -> Applied
-    requires key_delimiter { 0 < length key_delimiter.now }
-    requires field_delimiter { 0 < length field_delimiter.now }
-    ensures { Applies (named (codes "parse_key_value") (fields_from key_delimiter.now field_delimiter.now 0 text.now no_members)) result }
+// What the function answers where its text was read up to there with these fields. `Memory`: reading it ran out of
+// memory.
+fn ended(fields: Fields, why: Result<Option<Fault>, Memory>) -> Applied
+    ensures answer { (told : Answer)
+        → IfOk why (λ why. told ≡ ended why (members_of fields))
+        → Applies true (named (codes "parse_key_value") told) result }
+    ensures memory { result ≡ applied.Memory → IsErr why }
 {
-    let mut fields = Fields::new(BTreeMap::new(alloc));
-    match put_fields(alloc, &mut fields, text, key_delimiter, field_delimiter) {
+    match why {
         Ok(None) => Applied::Value(Value::Object(fields)),
-        Ok(Some(fault)) => fail(alloc, "parse_key_value", fault.words()),
+        Ok(Some(fault)) => fail("parse_key_value", fault.words()),
         Err(_memory) => Applied::Memory,
     }
 }
 
+// What the function answers to a text with these delimiters, which aren't empty.
+fn answer(alloc: Global, text: &str, key_delimiter: &str, field_delimiter: &str) -> Applied
+    requires key_delimiter { 0 < length key_delimiter.now }
+    requires field_delimiter { 0 < length field_delimiter.now }
+    ensures { Applies true (named (codes "parse_key_value")
+        (fields_from key_delimiter.now field_delimiter.now 0 text.now no_members)) result }
+{
+    let mut fields = Fields::new(BTreeMap::new(alloc));
+    let why = put_fields(alloc, &mut fields, text, key_delimiter, field_delimiter);
+    ended(fields, why)
+}
+
 // What the function answers.
 fn parsed(alloc: Global, text: &str, key_delimiter: &str, field_delimiter: &str) -> Applied
-    ensures { Applies (named (codes "parse_key_value") (parsed key_delimiter.now field_delimiter.now text.now)) result }
+    ensures { Applies (has_delimiters key_delimiter.now field_delimiter.now)
+        (named (codes "parse_key_value") (parsed key_delimiter.now field_delimiter.now text.now)) result }
 {
     if key_delimiter.is_empty() || field_delimiter.is_empty() {
-        return fail(alloc, "parse_key_value", "empty delimiter");
+        return fail("parse_key_value", "empty delimiter");
     }
     answer(alloc, text, key_delimiter, field_delimiter)
 }
 
 impl Builtin for ParseKeyValue {
     ghost row = { λ _. parse_key_value_row };
+
+    ghost uses_memory = { λ _ arguments.
+        has_delimiters (text_at 1 (codes "=") arguments) (text_at 2 (codes " ") arguments) };
 
     fn name(&self) -> &'static str {
         "parse_key_value"

@@ -1,4 +1,4 @@
-ghost use Rattle.std.specs.Prelude.{◌≡◌, IfOk, OnOk, option_map};
+ghost use Rattle.std.specs.Prelude.{◌≡◌, None, IfOk, IsOk, OnOk, option_map};
 ghost use Rattle.vrl_value.specs.Tree.{no_members, object};
 ghost use Rattle.vrl_value.specs.View.{items_of, members_of, tree_of};
 ghost use Rattle.vrl_kind.specs.Kinds.{tags_at};
@@ -57,9 +57,10 @@ fn longer(items: Items, text: Chars) -> Result<Value, Memory>
     Ok(Value::List(Items::new(values)))
 }
 
-// What stands at a name where a text is found more.
+// What stands at a name where a text is found more; the first one takes no memory. `Memory`: out of memory.
 fn one_more(alloc: Global, found: Option<Value>, text: Chars) -> Result<Value, Memory>
-    ensures { IfOk result (λ value. tree_of value ≡ one_more (option_map tree_of found) text) }
+    ensures value { IfOk result (λ value. tree_of value ≡ one_more (option_map tree_of found) text) }
+    ensures first { found ≡ None → IsOk result }
 {
     match found {
         None => Ok(Value::Text(text)),

@@ -1,10 +1,11 @@
-ghost use Rattle.std.specs.Prelude.{◌≡◌, None, codes, option_map, IfOk, OnOk};
+ghost use Rattle.std.specs.Prelude.{◌≡◌, ◌≢◌, ◌⊎◌, None, Ok, Err, codes, option_map, true, IfOk, IsErr, IsOk, OnOk};
 ghost use Rattle.url.specs.Parser.{parse_url, Gives, Parsed};
 ghost use Rattle.url.specs.Parts.{Parts};
 ghost use Rattle.vrl_value.specs.Tree.{no_members, object, put, string};
 ghost use Rattle.vrl_value.specs.View.{members_of, tree_of};
 ghost use Rattle.vrl_builtin.specs.Rows.{named};
 ghost use Rattle.vrl_builtin.specs.View.{Applies};
+ghost use Rattle.vrl_builtin.specs.declared.failing.Applied.TheVariants as applied;
 ghost use Rattle.fn_parse.specs.Gathering.{put_others, put_pair, put_pairs, put_texts, IsRead};
 ghost use Rattle.fn_parse.specs.Pairs.{pairs_of};
 ghost use Rattle.fn_parse.specs.Url.{last_values, members_of_url, number_or_null, parse_url_row, text_or_null, url_answer};
@@ -23,7 +24,8 @@ use vrl_value::{Chars, Fields, Memory, Value, members_are_maps};
 /// `parse_url(value: string)`: object. The parts of an absolute URL, as the URL Standard reads and writes them, so percent signs stay: `scheme`,
 /// `username`, `password` and `path`, each a string; `host`, a string, or null where there is none or an empty one, as in `file:///a`; `port`, an
 /// integer, or null where none is written or it is the scheme's own; `fragment`, a string or null; and `query`, the object of the names and values of
-/// the query, of which the later of equal names counts. It always may fail: `not a URL`. A URL of 4 GB wants more memory than there is.
+/// the query, of which the later of equal names counts. It always may fail: `not a URL`. A URL
+/// that is written with 2^32 bytes or more counts as out of memory.
 /// `parse_url("http://h:81/p?q=1#f")` is
 /// `{"fragment":"f","host":"h","password":"","path":"/p","port":81,"query":{"q":"1"},"scheme":"http","username":""}`.
 #[derive(Clone, Copy)]
@@ -47,6 +49,17 @@ fn put_text(alloc: Global, fields: &mut Fields, name: &str, text: &str) -> Resul
     put(alloc, fields, name, Value::Text(text))
 }
 
+// The value of a text, or null where there is none, which takes no memory. `Memory`: out of memory.
+fn text_value(alloc: Global, text: Option<&str>) -> Result<Value, Memory>
+    ensures value { IfOk result (λ value. tree_of value ≡ text_or_null (option_map (λ text. text.now) text.entry)) }
+    ensures null { text.entry ≡ None → IsOk result }
+{
+    match text {
+        Some(text) => Ok(Value::Text(Chars::copy_of(alloc, text)?)),
+        None => Ok(Value::Null),
+    }
+}
+
 // Puts a text at a name, or null where there is none.
 fn put_text_or_null(
     alloc: Global,
@@ -54,12 +67,11 @@ fn put_text_or_null(
     name: &str,
     text: Option<&str>,
 ) -> Result<(), Memory>
-    ensures { OnOk result (members_of fields.new ≡ put name.now (text_or_null (option_map (λ text. text.now) text.entry)) (members_of fields.old)) }
+    ensures { OnOk result (members_of fields.new
+        ≡ put name.now (text_or_null (option_map (λ text. text.now) text.entry)) (members_of fields.old)) }
 {
-    match text {
-        Some(text) => put_text(alloc, fields, name, text),
-        None => put(alloc, fields, name, Value::Null),
-    }
+    let value = text_value(alloc, text)?;
+    put(alloc, fields, name, value)
 }
 
 // The value of a port.
@@ -131,9 +143,11 @@ fn parts_of(alloc: Global, url: &Url) -> Result<Value, Memory>
     Ok(Value::Object(fields))
 }
 
-// The URL that was read. `None`: the text is none. `Memory`: want of memory, or a URL of 4 GB.
+// The URL that was read. `None`: the text is none. `Memory`: out of memory, or the URL as it is written has 2^32 bytes
+// or more.
 fn read(parsed: Result<Url, ParseError>) -> Result<Option<Url>, Memory>
-    ensures { (told : Parsed Parts) → Gives parsed told → IfOk result (λ found. IsRead told found) }
+    ensures read { (told : Parsed Parts) → Gives parsed told → IfOk result (λ found. IsRead told found) }
+    ensures memory { IsErr result → (parsed ≡ Err ParseError.OutOfMemory) ⊎ (parsed ≡ Err ParseError.Overflow) }
 {
     match parsed {
         Ok(url) => Ok(Some(url)),
@@ -143,19 +157,30 @@ fn read(parsed: Result<Url, ParseError>) -> Result<Option<Url>, Memory>
     }
 }
 
-// What is answered to a text.
-fn parsed(alloc: Global, text: &str) -> Applied
-    ensures { Applies (named (codes "parse_url") (url_answer (parse_url None text.now))) result }
+// What is answered where a URL was found, or where the text is none, which takes no memory.
+fn answer(alloc: Global, found: Result<Option<Url>, Memory>) -> Applied
+    ensures answer { (told : Parsed Parts) → IfOk found (λ found. IsRead told found)
+        → Applies true (named (codes "parse_url") (url_answer told)) result }
+    ensures no_url { found ≡ Ok None → result ≢ applied.Memory }
 {
-    match read(Url::parse(alloc, text)) {
+    match found {
         Ok(Some(url)) => Applied::value(parts_of(alloc, &url)),
-        Ok(None) => fail(alloc, "parse_url", "not a URL"),
+        Ok(None) => fail("parse_url", "not a URL"),
         Err(_memory) => Applied::Memory,
     }
 }
 
+// What is answered to a text.
+fn parsed(alloc: Global, text: &str) -> Applied
+    ensures { Applies true (named (codes "parse_url") (url_answer (parse_url None text.now))) result }
+{
+    answer(alloc, read(Url::parse(alloc, text)))
+}
+
 impl Builtin for ParseUrl {
     ghost row = { λ _. parse_url_row };
+
+    ghost uses_memory = { λ _ arguments. true };
 
     fn name(&self) -> &'static str {
         "parse_url"

@@ -2,4 +2,5 @@ mod Below
 mod CutUp
 mod Fielded
 mod Firsts
+mod Matched
 mod Starts

@@ -1,9 +1,11 @@
 -- `find`: where a text or a regex first stands in a text, behind some byte.
-use Rattle.std.specs.Prelude.{ℕ, ◌+◌, ℤ, pos, negsuc, true, false, List, [], ◌∷◌, Option, Some, None, codes, drop, length, option_map, if◌then◌else◌}
+use Rattle.std.specs.Prelude.{ℕ, ◌+◌, ℤ, pos, negsuc, Bool, true, false, List, [], ◌∷◌, Option, Some, None, codes, drop, length, option_map, if◌then◌else◌}
+use Rattle.vrl_value.specs.Tag.{tag_of}
 use Rattle.vrl_value.specs.Tree.{Tree, string, integer, boolean, null, timestamp, regex, array, object}
 use Rattle.vrl_value.specs.declared.value.Tag.TheVariants as tag
 use Rattle.vrl_kind.specs.Kinds.{only_at}
 use Rattle.vrl_kind.specs.Sets.{Sets}
+use Rattle.vrl_kind.specs.Tags.{same_tag}
 use Rattle.vrl_builtin.specs.Containers.{either}
 use Rattle.vrl_builtin.specs.Rows.{Row, value, any_literal, integer_at, optional_parameter, parameter, text_at, value_at}
 use Rattle.vrl_builtin.specs.TagSets.{integers, no_tags, strings}
@@ -26,6 +28,10 @@ first_place sources s null = None
 first_place sources s (timestamp nanos) = None
 first_place sources s (array ts) = None
 first_place sources s (object ms) = None
+
+-- only the search for a regex uses memory
+abbrev pub is_regex : Tree → Bool
+is_regex v = same_tag (tag_of v) tag.Pattern
 
 -- a byte from which on a text is looked at; none where it is outside the text or inside a character
 abbrev pub start_of : List ℕ → ℤ → Option ℕ

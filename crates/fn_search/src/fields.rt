@@ -1,4 +1,4 @@
-ghost use Rattle.std.specs.Prelude.{◌≡◌, IfOk, IfSome, OnOk, decimal, option_map};
+ghost use Rattle.std.specs.Prelude.{◌≡◌, [], IfOk, IfSome, IsOk, None, OnOk, decimal, option_map};
 ghost use Rattle.vrl_value.specs.Tree.{no_members, object, put};
 ghost use Rattle.vrl_value.specs.View.{members_of, tree_of};
 ghost use Rattle.vrl_kind.specs.Kinds.{tags_at};
@@ -14,10 +14,11 @@ use vrl_kind::{Kind, Rest};
 use vrl_pattern::Place;
 use vrl_value::{Chars, Fields, Memory, Tag, Value};
 
-// The text of a part of a text, or null. `Memory`: want of memory.
+// The text of a part of a text, or null, which takes no memory. `Memory`: out of memory.
 fn text_or_null(alloc: Global, text: &str, place: Option<Place>) -> Result<Value, Memory>
     requires { IfSome place (λ place. IsPart text.now (place_span place)) }
-    ensures { IfOk result (λ value. tree_of value ≡ text_or_null text.now (option_map place_span place)) }
+    ensures value { IfOk result (λ value. tree_of value ≡ text_or_null text.now (option_map place_span place)) }
+    ensures null { place ≡ None → IsOk result }
 {
     match place {
         Some(place) => {
@@ -28,9 +29,10 @@ fn text_or_null(alloc: Global, text: &str, place: Option<Place>) -> Result<Value
     }
 }
 
-// Puts a value at a name, unless that is empty. `Memory`: want of memory.
+// Puts a value at a name, unless that is empty, which takes no memory. `Memory`: out of memory.
 fn put_named(alloc: Global, fields: &mut Fields, name: &Chars, value: Value) -> Result<(), Memory>
-    ensures { OnOk result (members_of fields.new ≡ with_named name.now (tree_of value) (members_of fields.old)) }
+    ensures fields { OnOk result (members_of fields.new ≡ with_named name.now (tree_of value) (members_of fields.old)) }
+    ensures nameless { name.now ≡ [] → IsOk result }
 {
     if name.as_str().is_empty() {
         return Ok(());

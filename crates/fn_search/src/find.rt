@@ -1,8 +1,9 @@
-ghost use Rattle.std.specs.Prelude.{◌≡◌, ◌≤◌, ◌<◌, ◌+◌, ◌^◌, ℕ, pos, IfOk, IfSome, IsTrue, List, MatchOption, None, drop, length, option_map};
+ghost use Rattle.std.specs.Prelude.{◌≡◌, ◌≤◌, ◌<◌, ◌+◌, ◌^◌, ℕ, pos, IfOk, IfSome, IsErr, IsTrue, List, MatchOption, None, drop, length, option_map};
 ghost use Rattle.vrl_value.specs.Regexes.{regexes_below};
 ghost use Rattle.vrl_value.specs.View.{tree_of};
+ghost use Rattle.vrl_builtin.specs.Rows.{value_at};
 ghost use Rattle.fn_search.specs.Cut.{cut as cut_text};
-ghost use Rattle.fn_search.specs.Find.{find_row, first_place, number_or_null, place_from, start_of};
+ghost use Rattle.fn_search.specs.Find.{find_row, first_place, is_regex, number_or_null, place_from, start_of};
 ghost use Rattle.fn_search.specs.Laws.{find-law};
 
 use crate::cut::{cut, length_of};
@@ -44,7 +45,7 @@ fn text_place(part: &str, text: &str) -> Option<usize>
     }
 }
 
-// The byte at which a text or a regex first stands in a text. `None`: it doesn't. `Memory`: want of memory.
+// The byte at which a text or a regex first stands in a text. `None`: it doesn't. `Memory`: out of memory to search for a regex.
 fn first_place(
     alloc: Global,
     patterns: &Searches<'_>,
@@ -54,6 +55,7 @@ fn first_place(
     requires { IsTrue (regexes_below (length patterns.now) (tree_of pattern.now)) }
     ensures place { IfOk result (λ place. place ≡ first_place patterns.now text.now (tree_of pattern.now)) }
     ensures within { IfOk result (λ place. IfSome place (λ n. n ≤ length text.now)) }
+    ensures memory { IsErr result → IsTrue (is_regex (tree_of pattern.now)) }
 {
     match pattern {
         Value::Text(part) => Ok(text_place(part.as_str(), text)),
@@ -89,7 +91,7 @@ fn number_of(place: Option<usize>, start: usize) -> Value
     }
 }
 
-// Where the pattern stands in what is left from a byte on. `Memory`: want of memory.
+// Where the pattern stands in what is left from a byte on. `Memory`: out of memory to search for a regex.
 fn place_behind(
     alloc: Global,
     patterns: &Searches<'_>,
@@ -99,13 +101,14 @@ fn place_behind(
 ) -> Result<Value, Memory>
     requires regexes { IsTrue (regexes_below (length patterns.now) (tree_of pattern.now)) }
     requires small { start + length left.now < 2 ^ 63 }
-    ensures { (text : List ℕ) → start ≤ length text → left.now ≡ drop start text → IfOk result (λ value. tree_of value ≡ number_or_null (place_from patterns.now text (tree_of pattern.now) (pos start))) }
+    ensures value { (text : List ℕ) → start ≤ length text → left.now ≡ drop start text → IfOk result (λ value. tree_of value ≡ number_or_null (place_from patterns.now text (tree_of pattern.now) (pos start))) }
+    ensures memory { IsErr result → IsTrue (is_regex (tree_of pattern.now)) }
 {
     let place = first_place(alloc, patterns, left, pattern)?;
     Ok(number_of(place, start))
 }
 
-// The byte at which a text or a regex first stands from a byte on, or null. `Memory`: want of memory.
+// The byte at which a text or a regex first stands from a byte on, or null. `Memory`: out of memory to search for a regex.
 fn place_from(
     alloc: Global,
     patterns: &Searches<'_>,
@@ -114,7 +117,8 @@ fn place_from(
     from: i64,
 ) -> Result<Value, Memory>
     requires { IsTrue (regexes_below (length patterns.now) (tree_of pattern.now)) }
-    ensures { IfOk result (λ value. tree_of value ≡ number_or_null (place_from patterns.now text.now (tree_of pattern.now) from)) }
+    ensures value { IfOk result (λ value. tree_of value ≡ number_or_null (place_from patterns.now text.now (tree_of pattern.now) from)) }
+    ensures memory { IsErr result → IsTrue (is_regex (tree_of pattern.now)) }
 {
     let _length = length_of(text);
     match left_from(text, from) {
@@ -125,6 +129,8 @@ fn place_from(
 
 impl Builtin for Find {
     ghost row = { λ _. find_row };
+
+    ghost uses_memory = { λ _ arguments. is_regex (value_at 1 arguments) };
 
     fn name(&self) -> &'static str {
         "find"
@@ -158,7 +164,10 @@ impl Builtin for Find {
         setting: &Setting<'_, '_>,
     ) -> Applied {
         let (text, from) = (arguments.text(0, ""), arguments.integer(2, 0));
-        Applied::value(place_from(alloc, setting.patterns, text, arguments.value(1), from))
+        match place_from(alloc, setting.patterns, text, arguments.value(1), from) {
+            Ok(place) => Applied::Value(place),
+            Err(_memory) => Applied::Memory,
+        }
     }
 
     ghost law = { λ _. find-law };

@@ -1,8 +1,10 @@
-ghost use Rattle.std.specs.Prelude.{◌≡◌, codes, length, IfOk, IsTrue};
+ghost use Rattle.std.specs.Prelude.{◌≡◌, codes, is_none, length, IfOk, IsTrue};
 ghost use Rattle.vrl_value.specs.Regexes.{items_regexes_below};
 ghost use Rattle.vrl_value.specs.View.{items_view};
-ghost use Rattle.vrl_builtin.specs.Rows.{named};
+ghost use Rattle.vrl_builtin.specs.Rows.{items_at, named};
+ghost use Rattle.vrl_builtin.specs.TagSets.{regexes};
 ghost use Rattle.vrl_builtin.specs.View.{Applies};
+ghost use Rattle.vrl_builtin.specs.Words.{first_other};
 ghost use Rattle.fn_search.specs.MatchAny.{match_any_answer, match_any_row, some_matches};
 ghost use Rattle.fn_search.specs.MatchAnyLaw.{match_any-law};
 
@@ -49,16 +51,19 @@ fn some_matches(
 // What the function answers to this text and these parts.
 fn answer(alloc: Global, patterns: &Searches<'_>, text: &str, items: &[Value]) -> Applied
     requires { IsTrue (items_regexes_below (length patterns.now) (items_view items.now)) }
-    ensures { Applies (named (codes "match_any") (match_any_answer patterns.now text.now (items_view items.now))) result }
+    ensures { Applies (is_none (first_other regexes (items_view items.now)))
+        (named (codes "match_any") (match_any_answer patterns.now text.now (items_view items.now))) result }
 {
     match first_other(items, &Tags::REGEX) {
-        Some((place, tag)) => fail_at_element(alloc, "match_any", place, tag),
+        Some((place, tag)) => fail_at_element("match_any", place, tag),
         None => Applied::boolean(some_matches(alloc, patterns, text, items)),
     }
 }
 
 impl OneTag for MatchAny {
     ghost one_tag_row = { λ _. match_any_row };
+
+    ghost uses_memory = { λ _ arguments. is_none (first_other regexes (items_at 1 arguments)) };
 
     fn name(&self) -> &'static str {
         "match_any"

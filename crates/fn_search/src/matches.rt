@@ -1,3 +1,4 @@
+ghost use Rattle.std.specs.Prelude.{true};
 ghost use Rattle.fn_search.specs.Laws.{match-law};
 ghost use Rattle.fn_search.specs.Match.{match_row};
 
@@ -17,6 +18,8 @@ static PARAMETERS: [Parameter; 2] = [
 
 impl OneTag for Match {
     ghost one_tag_row = { λ _. match_row };
+
+    ghost uses_memory = { λ _ arguments. true };
 
     fn name(&self) -> &'static str {
         "match"

@@ -1,10 +1,11 @@
-ghost use Rattle.std.specs.Prelude.{◌≡◌, ◌<◌, codes, false, length, map, take, All, IfOk, IfSome, Option};
+ghost use Rattle.std.specs.Prelude.{◌≡◌, ◌<◌, codes, false, length, map, take, true, All, IfOk, IfSome, IsErr, Option};
 ghost use Rattle.vrl_value.specs.Tree.{Tree, object};
 ghost use Rattle.vrl_value.specs.View.{tree_of};
 ghost use Rattle.vrl_kind.specs.Kinds.{tags_at};
 ghost use Rattle.vrl_kind.specs.Sets.{SameSets};
 ghost use Rattle.vrl_builtin.specs.Rows.{boolean_or, literal_at, named, regex_given, told};
 ghost use Rattle.vrl_builtin.specs.View.{givens_of, Applies};
+ghost use Rattle.vrl_builtin.specs.declared.failing.Applied.TheVariants as applied;
 ghost use Rattle.vrl_pattern.specs.Matches.{all_matches};
 ghost use Rattle.vrl_pattern.specs.Places.{AreParts};
 ghost use Rattle.fn_search.specs.Fields.{fields, fields_kind};
@@ -132,14 +133,17 @@ fn objects_of(
     objects(alloc, names.as_slice(), numbered, text, matches.as_slice())
 }
 
-// What the first match comes to, where the objects are those of the first match alone. `Memory`: want of memory.
-fn answer_of_first(alloc: Global, objects: Result<Vec<Value>, Memory>) -> Applied
-    ensures { (first : Option Tree) → IfOk objects (λ objects. map tree_of objects.items ≡ listed first) → Applies (named (codes "parse_regex") (told (λ v. v) (codes "no match") first)) result }
+// What the first match comes to, where the objects are those of the first match alone, or else out of memory for them.
+fn answer_of_first(objects: Result<Vec<Value>, Memory>) -> Applied
+    ensures answer { (first : Option Tree)
+        → IfOk objects (λ objects. map tree_of objects.items ≡ listed first)
+        → Applies true (named (codes "parse_regex") (told (λ v. v) (codes "no match") first)) result }
+    ensures memory { result ≡ applied.Memory → IsErr objects }
 {
     match objects {
         Ok(mut objects) => match objects.pop() {
             Some(object) => Applied::Value(object),
-            None => fail(alloc, "parse_regex", "no match"),
+            None => fail("parse_regex", "no match"),
         },
         Err(_memory) => Applied::Memory,
     }
@@ -154,14 +158,13 @@ fn parsed(
     text: &str,
 ) -> Applied
     requires { IfSome pattern (λ n. n < length patterns.now) }
-    ensures { Applies (named (codes "parse_regex") (parsed patterns.now pattern numbered text.now)) result }
+    ensures { Applies true (named (codes "parse_regex") (parsed patterns.now pattern numbered text.now)) result }
 {
     match pattern {
-        Some(number) => answer_of_first(
-            alloc,
-            objects_of(alloc, patterns, number, numbered, text, 1),
-        ),
-        None => fail(alloc, "parse_regex", "no match"),
+        Some(number) => {
+            answer_of_first(objects_of(alloc, patterns, number, numbered, text, 1))
+        }
+        None => fail("parse_regex", "no match"),
     }
 }
 
@@ -188,6 +191,8 @@ fn all_parsed(
 
 impl Builtin for ParseRegex {
     ghost row = { λ _. parse_regex_row };
+
+    ghost uses_memory = { λ _ arguments. true };
 
     fn name(&self) -> &'static str {
         "parse_regex"
@@ -230,6 +235,8 @@ impl Builtin for ParseRegex {
 
 impl Builtin for ParseRegexAll {
     ghost row = { λ _. parse_regex_all_row };
+
+    ghost uses_memory = { λ _ arguments. true };
 
     fn name(&self) -> &'static str {
         "parse_regex_all"

@@ -5,9 +5,9 @@ use Rattle.vrl_value.specs.Tree.{Tree, string, integer, boolean, null, timestamp
 use Rattle.vrl_value.specs.declared.value.Tag.TheVariants as tag
 use Rattle.vrl_kind.specs.KindTree.{KindTree}
 use Rattle.vrl_kind.specs.Kinds.{only_at, tags_at}
-use Rattle.vrl_kind.specs.PartSets.{parts_at}
 use Rattle.vrl_kind.specs.Sets.{Sets}
 use Rattle.vrl_builtin.specs.Containers.{array_of}
+use Rattle.vrl_builtin.specs.PartKinds.{array_parts_at}
 use Rattle.vrl_builtin.specs.Rows.{Row, Answer, failure, named, told, parameter, optional_parameter, any_literal, integer_at, kind_at, optional_integer, value_at}
 use Rattle.vrl_builtin.specs.TagSets.{integers, no_tags}
 use Rattle.fn_string.specs.Characters.{first_characters, from_character}
@@ -62,12 +62,12 @@ sliced (timestamp nanos) start end = failure (codes "out of range")
 sliced (regex n) start end = failure (codes "out of range")
 sliced (object ms) start end = failure (codes "out of range")
 
--- a text where the value may be one, and an array of its parts where it may be an array
+-- a text where the value may be one, and an array of the parts of its arrays where it may be an array
 abbrev pub text_kind : KindTree → Sets
 text_kind K p t = tags_at K [] tag.Text && only_at tag.Text p t
 
 abbrev pub array_kind : KindTree → Sets
-array_kind K p t = tags_at K [] tag.List && array_of (parts_at K) p t
+array_kind K p t = tags_at K [] tag.List && array_of (array_parts_at (Some K)) p t
 
 abbrev pub slice_kind : Option KindTree → Sets
 slice_kind None p t = false

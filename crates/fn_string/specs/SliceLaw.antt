@@ -8,14 +8,15 @@ use Rattle.vrl_value.specs.declared.value.Tag.{Tag}
 use Rattle.vrl_value.specs.declared.value.Tag.TheVariants as tag
 use Rattle.vrl_kind.specs.KindTree.{KindTree}
 use Rattle.vrl_kind.specs.Kinds.{tags_at, Inhabits}
-use Rattle.vrl_kind.specs.PartSets.{parts_at}
 use Rattle.vrl_kind.specs.Sets.{Sets}
 use Rattle.vrl_builtin.specs.Containers.{array_of}
 use Rattle.vrl_builtin.specs.Law.{IsLawful, IsOfGiven, KeepsLaw}
 use Rattle.vrl_builtin.specs.OneTagLaw.{plain_is_lawful}
+use Rattle.vrl_builtin.specs.PartKinds.{array_parts_at}
 use Rattle.vrl_builtin.specs.Rows.{value, named, argument_at, integer_at, kind_at, optional_integer, value_or}
-use Rattle.vrl_builtin.proofs.Containers.{array_is_lawful, items_are_parts, EachItem, IsLawfulPart}
+use Rattle.vrl_builtin.proofs.Containers.{array_is_lawful, EachItem, IsLawfulPart}
 use Rattle.vrl_builtin.proofs.Lawful.{told_is_lawful}
+use Rattle.vrl_builtin.proofs.PartKinds.{given_items}
 use Rattle.fn_string.specs.Slice.{array_between, array_kind, first_parts, parts_from, range_of, slice_kind, slice_row, sliced, text_between, text_kind}
 use Rattle.fn_string.specs.StrLen.{count_of_characters}
 
@@ -55,10 +56,10 @@ wider_is_lawful A B fails arguments v wider lawful = (
 array_is_sliced : (K : KindTree) (ts : Items) (arguments : List (Option Tree)) (range : ℕ × ℕ) → argument_at 0 arguments ≡ Some (array ts) → Inhabits (array ts) K → IsOrdered (array ts) →
     IsLawful (slice_kind (Some K)) true arguments (value (array_between ts range))
 array_is_sliced K ts arguments range is inhabits ordered =
-    let P = IsLawfulPart (parts_at K) arguments in let n = range.1 - range.0 in
-    wider_is_lawful (array_of (parts_at K)) (slice_kind (Some K)) true arguments (array_between ts range)
-    (λ p t allowed. or_right (text_kind K p t) (array_kind K p t) (and_from (tags_at K [] tag.List) (array_of (parts_at K) p t) (inhabits []) allowed))
-    (array_is_lawful (parts_at K) true arguments (first_parts n (parts_from range.0 ts)) (each_first P n (parts_from range.0 ts) (each_from P range.0 ts (items_are_parts K 0 ts arguments is inhabits ordered))))
+    let A = array_parts_at (Some K) in let P = IsLawfulPart A arguments in let n = range.1 - range.0 in
+    wider_is_lawful (array_of A) (slice_kind (Some K)) true arguments (array_between ts range)
+    (λ p t allowed. or_right (text_kind K p t) (array_kind K p t) (and_from (tags_at K [] tag.List) (array_of A p t) (inhabits []) allowed))
+    (array_is_lawful A true arguments (first_parts n (parts_from range.0 ts)) (each_first P n (parts_from range.0 ts) (each_from P range.0 ts (given_items (Some K) 0 ts arguments is inhabits ordered))))
 
 slice_is_lawful : (K : Option KindTree) (argument : Option Tree) (arguments : List (Option Tree)) (start : ℤ) (end : Option ℤ) → argument_at 0 arguments ≡ argument → IsOfGiven K argument → IfSome argument IsOrdered →
     IsLawful (slice_kind K) true arguments (named (codes "slice") (sliced (value_or null argument) start end))

@@ -1,4 +1,5 @@
-ghost use Rattle.std.specs.Prelude.{◌≡◌, codes, IfOk};
+ghost use Rattle.std.specs.Prelude.{◌≡◌, codes, false, IfOk, IsOk};
+ghost use Rattle.vrl_value.specs.Tree.{no_items};
 ghost use Rattle.vrl_value.specs.View.{items_view, tree_of};
 ghost use Rattle.vrl_builtin.specs.Rows.{named};
 ghost use Rattle.vrl_builtin.specs.View.{Applies};
@@ -32,12 +33,13 @@ fn text_of(value: &Value) -> &str
     }
 }
 
-// The strings as one, with the separator between each two. `Memory`: want of memory.
+// The strings as one, with the separator between each two. `Memory`: out of memory; no string at all takes none.
 fn joined(alloc: Global, items: &[Value], separator: &str) -> Result<Chars, Memory>
-    ensures { IfOk result (λ text. text ≡ joined separator.now (items_view items.now)) }
+    ensures text { IfOk result (λ text. text ≡ joined separator.now (items_view items.now)) }
+    ensures nothing { items_view items.now ≡ no_items → IsOk result }
 {
     let Some((first, mut left)) = items.split_first() else {
-        return Chars::copy_of(alloc, "");
+        return Ok(Chars::new(String::new(alloc)));
     };
     let mut text = String::from_str(alloc, text_of(first))?;
     while let Some((next, others)) = left.split_first() {
@@ -50,10 +52,10 @@ fn joined(alloc: Global, items: &[Value], separator: &str) -> Result<Chars, Memo
 
 // What the function answers to these parts and this separator.
 fn answer(alloc: Global, items: &[Value], separator: &str) -> Applied
-    ensures { Applies (named (codes "join") (join_answer (items_view items.now) separator.now)) result }
+    ensures { Applies false (named (codes "join") (join_answer (items_view items.now) separator.now)) result }
 {
     match first_other(items, &Tags::STRING) {
-        Some((place, tag)) => fail_at_element(alloc, "join", place, tag),
+        Some((place, tag)) => fail_at_element("join", place, tag),
         None => Applied::text(joined(alloc, items, separator)),
     }
 }

@@ -1,4 +1,5 @@
-ghost use Rattle.std.specs.Prelude.{◌≡◌, ℕ, Bool, List, bytes_eq, codes, IfOk, Ok};
+ghost use Rattle.std.specs.Prelude.{◌≡◌, ◌&&◌, ℕ, Bool, List, bytes_eq, codes, false, not, true, IfOk, IsErr, IsTrue, Ok};
+ghost use Rattle.vrl_builtin.specs.Rows.{boolean_at};
 ghost use Rattle.fn_string.specs.Case.{in_lower_case};
 ghost use Rattle.fn_string.specs.Search.{compared, contains, ends_with, search_row, starts_with};
 ghost use Rattle.fn_string.specs.Laws.{search-law};
@@ -7,12 +8,15 @@ use std::alloc::Global;
 use vrl_builtin::{
     Applied, Arguments, Givens, OneTag, Parameter, Setting, Tags, optional, required,
 };
-use vrl_value::{Memory, Tag};
+use vrl_value::{Memory, Tag, Value};
 
 /// A function that is told by its name and where it looks for a text in another.
 pub trait SearchTest {
     /// The name, and whether the first text stands in the second.
     ghost search: { List ℕ × (List ℕ → List ℕ → Bool) };
+
+    /// Whether it looks in copies where the case of letters makes no difference.
+    ghost copies: { Bool } = { false };
 
     /// The function's name.
     fn name(&self) -> &'static str
@@ -22,9 +26,10 @@ pub trait SearchTest {
     fn holds(&self, part: &str, text: &str) -> bool
         ensures { result ≡ search.1 part.now text.now };
 
-    /// The same where the case of ASCII letters makes no difference. `Memory`: want of memory.
+    /// The same where the case of ASCII letters makes no difference. `Memory`: out of memory for the copies.
     fn holds_in_any_case(&self, alloc: Global, part: &str, text: &str) -> Result<bool, Memory>
-        ensures { IfOk result (λ holds. holds ≡ search.1 (in_lower_case part.now) (in_lower_case text.now)) };
+        ensures holds { IfOk result (λ holds. holds ≡ search.1 (in_lower_case part.now) (in_lower_case text.now)) }
+        ensures memory { IsErr result → IsTrue copies };
 }
 
 /// The function that looks for a text in another. It never fails.
@@ -37,7 +42,7 @@ static PARAMETERS: [Parameter; 3] = [
     optional!("case_sensitive", Tags::BOOLEAN),
 ];
 
-// Whether the part stands in the text, where case makes a difference or none. `Memory`: want of memory.
+// Whether the part stands in the text, where case makes a difference or none. `Memory`: out of memory for copies.
 fn is_found<F: SearchTest>(
     alloc: Global,
     function: &F,
@@ -45,7 +50,8 @@ fn is_found<F: SearchTest>(
     text: &str,
     sensitive: bool,
 ) -> Result<bool, Memory>
-    ensures { IfOk result (λ found. found ≡ F.search.1 (compared sensitive part.now) (compared sensitive text.now)) }
+    ensures found { IfOk result (λ found. found ≡ F.search.1 (compared sensitive part.now) (compared sensitive text.now)) }
+    ensures memory { IsErr result → IsTrue (F.copies && not sensitive) }
 {
     if sensitive {
         Ok(function.holds(part, text))
@@ -56,6 +62,8 @@ fn is_found<F: SearchTest>(
 
 impl<F: SearchTest> OneTag for Search<F> {
     ghost one_tag_row = { λ _. search_row F.search.0 F.search.1 };
+
+    ghost uses_memory = { λ _ arguments. F.copies && not (boolean_at 2 true arguments) };
 
     fn name(&self) -> &'static str {
         self.0.name()
@@ -81,7 +89,10 @@ impl<F: SearchTest> OneTag for Search<F> {
     ) -> Applied {
         let (text, part) = (arguments.text(0, ""), arguments.text(1, ""));
         let sensitive = arguments.boolean(2, true);
-        Applied::boolean(is_found(alloc, &self.0, part, text, sensitive))
+        match is_found(alloc, &self.0, part, text, sensitive) {
+            Ok(found) => Applied::Value(Value::Bool(found)),
+            Err(_memory) => Applied::Memory,
+        }
     }
 
     ghost one_tag = { λ _. search-law F.search.0 F.search.1 };
@@ -167,6 +178,8 @@ pub struct Contains;
 
 impl SearchTest for Contains {
     ghost search = { (codes "contains", contains) };
+
+    ghost copies = { true };
 
     fn name(&self) -> &'static str {
         "contains"

@@ -1,4 +1,4 @@
-ghost use Rattle.std.specs.Prelude.{◌≡◌, ◌<◌, ◌≤◌, ◌^◌, codes, length, IfOk, IfSome, Some};
+ghost use Rattle.std.specs.Prelude.{◌≡◌, ◌<◌, ◌≤◌, ◌^◌, codes, false, length, IfOk, IfSome};
 ghost use Rattle.vrl_value.specs.View.{items_of, items_view, tree_of};
 ghost use Rattle.vrl_value.specs.Tree.{array, string};
 ghost use Rattle.vrl_kind.specs.Kinds.{tags_at};
@@ -12,15 +12,15 @@ use crate::characters::{first_characters, from_character};
 use crate::strlen::count_of_characters;
 use std::alloc::Global;
 use vrl_builtin::{
-    Applied, Arguments, Builtin, Givens, Parameter, Setting, Tags, array_of, fail, optional,
-    required,
+    Applied, Arguments, Builtin, Givens, Parameter, Setting, Tags, array_of, array_parts, fail,
+    optional, required,
 };
-use vrl_kind::{Kind, has, join, parts};
+use vrl_kind::{Kind, has, join};
 use vrl_pattern::Patterns;
 use vrl_value::{Chars, Items, Memory, Tag, Value};
 
-/// `slice(value: string or array, start: integer, end: integer)`: a string where the value may be one, and an array of its parts where it may be an
-/// array. The characters of the text, or the parts of the array, from `start` on up to `end`, by default to the end of the value. A negative number counts
+/// `slice(value: string or array, start: integer, end: integer)`: a string where the value may be one, and an array of the parts of its arrays where
+/// it may be an array. The characters of the text, or the parts of the array, from `start` on up to `end`, by default to the end of the value. A negative number counts
 /// from that end. It always may fail: `out of range`, unless 0 <= start <= end <= the length. `slice("abcd", 1, -1)` is `"bc"`.
 #[derive(Clone, Copy)]
 pub struct Slice;
@@ -124,31 +124,31 @@ fn array_between(alloc: Global, items: &[Value], range: (usize, usize)) -> Resul
 }
 
 fn answer_of_text(alloc: Global, text: &str, start: i64, end: Option<i64>) -> Applied
-    ensures { Applies (named (codes "slice") (sliced (string text.now) start end)) result }
+    ensures { Applies false (named (codes "slice") (sliced (string text.now) start end)) result }
 {
     match range_of(count_of_characters(text), start, end) {
         Some(range) => Applied::value(text_between(alloc, text, range)),
-        None => fail(alloc, "slice", "out of range"),
+        None => fail("slice", "out of range"),
     }
 }
 
 fn answer_of_array(alloc: Global, items: &[Value], start: i64, end: Option<i64>) -> Applied
-    ensures { Applies (named (codes "slice") (sliced (array (items_view items.now)) start end)) result }
+    ensures { Applies false (named (codes "slice") (sliced (array (items_view items.now)) start end)) result }
 {
     match range_of(items.len(), start, end) {
         Some(range) => Applied::value(array_between(alloc, items, range)),
-        None => fail(alloc, "slice", "out of range"),
+        None => fail("slice", "out of range"),
     }
 }
 
 // What the function answers to this value and these places.
 fn answer(alloc: Global, value: &Value, start: i64, end: Option<i64>) -> Applied
-    ensures { Applies (named (codes "slice") (sliced (tree_of value.now) start end)) result }
+    ensures { Applies false (named (codes "slice") (sliced (tree_of value.now) start end)) result }
 {
     match value {
         Value::Text(text) => answer_of_text(alloc, text.as_str(), start, end),
         Value::List(items) => answer_of_array(alloc, items.as_slice(), start, end),
-        _ => fail(alloc, "slice", "out of range"),
+        _ => fail("slice", "out of range"),
     }
 }
 
@@ -165,12 +165,12 @@ fn text_kind(alloc: Global, kind: &Kind) -> Kind
     }
 }
 
-// An array of the kind's parts, where it allows an array. `Memory`: want of memory.
+// An array of the parts of the kind's arrays, where it allows an array. `Memory`: want of memory.
 fn array_kind(alloc: Global, kind: &Kind) -> Result<Kind, Memory>
     ensures { IfOk result (λ arrays. SameSets (tags_at arrays) (array_kind kind.now)) }
 {
     if has(kind, Tag::List) {
-        array_of(alloc, parts(alloc, kind)?)
+        array_of(alloc, array_parts(alloc, kind)?)
     } else {
         Ok(Kind::never())
     }

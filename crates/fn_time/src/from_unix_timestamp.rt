@@ -62,13 +62,13 @@ impl Builtin for FromUnixTimestamp {
 
     fn apply(
         &self,
-        alloc: Global,
+        _alloc: Global,
         arguments: &Arguments<'_>,
         _setting: &Setting<'_, '_>,
     ) -> Applied {
         match moment_after(arguments.text(1, "seconds"), arguments.integer(0, 0)) {
             Some(moment) => Applied::Value(Value::Time(moment)),
-            None => fail(alloc, "from_unix_timestamp", "out of range"),
+            None => fail("from_unix_timestamp", "out of range"),
         }
     }
 

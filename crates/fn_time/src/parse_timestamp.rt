@@ -64,13 +64,13 @@ impl Builtin for ParseTimestamp {
 
     fn apply(
         &self,
-        alloc: Global,
+        _alloc: Global,
         arguments: &Arguments<'_>,
         _setting: &Setting<'_, '_>,
     ) -> Applied {
         match moment_read(arguments.text(1, ""), arguments.text(0, "")) {
             Some(moment) => Applied::Value(Value::Time(moment)),
-            None => fail(alloc, "parse_timestamp", "no match"),
+            None => fail("parse_timestamp", "no match"),
         }
     }
 

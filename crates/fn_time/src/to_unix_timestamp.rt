@@ -76,14 +76,14 @@ impl Builtin for ToUnixTimestamp {
 
     fn apply(
         &self,
-        alloc: Global,
+        _alloc: Global,
         arguments: &Arguments<'_>,
         _setting: &Setting<'_, '_>,
     ) -> Applied {
         let unit = arguments.text(1, "seconds");
         let moment = moment_at(arguments, 0);
         if is_out(unit, moment) {
-            return fail(alloc, "to_unix_timestamp", "out of range");
+            return fail("to_unix_timestamp", "out of range");
         }
         Applied::Value(Value::Int(units_of(unit, moment)))
     }

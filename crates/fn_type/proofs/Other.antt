@@ -10,5 +10,5 @@ use Rattle.vrl_builtin.specs.Words.{value_is}
 use Rattle.vrl_builtin.specs.declared.failing.Applied.{Applied}
 use Rattle.fn_type.specs.Only.{only_answer}
 
-pub unless_tagged : (name : List ℕ) (t : Tag) (v : Tree) (r : Applied) → same_tag (tag_of v) t ≡ false → Applies (failed name (value_is (tag_of v))) r → Applies (named name (only_answer t v)) r
+pub unless_tagged : (name : List ℕ) (t : Tag) (v : Tree) (r : Applied) → same_tag (tag_of v) t ≡ false → Applies false (failed name (value_is (tag_of v))) r → Applies false (named name (only_answer t v)) r
 unless_tagged name t v r other fails = rw other fails

@@ -8,17 +8,22 @@ use Rattle.vrl_builtin.specs.OneTag.{OneTagRow}
 use Rattle.vrl_builtin.specs.Rows.{value, parameter, value_at}
 use Rattle.vrl_builtin.specs.TagSets.{any_tags}
 
--- other values aren't allowed
+-- the text that a value stands for as it is. Those of whole numbers and timestamps are written, and other values aren't allowed
+abbrev pub word_of : Tree → List ℕ
+word_of (string s) = s
+word_of (boolean true) = codes "true"
+word_of (boolean false) = codes "false"
+word_of null = []
+word_of (integer n) = []
+word_of (timestamp nanos) = []
+word_of (regex n) = []
+word_of (array ts) = []
+word_of (object ms) = []
+
 abbrev pub text_of : Tree → List ℕ
-text_of (string s) = s
 text_of (integer n) = signed_decimal n
-text_of (boolean true) = codes "true"
-text_of (boolean false) = codes "false"
-text_of null = []
 text_of (timestamp nanos) = moment_text nanos
-text_of (regex n) = []
-text_of (array ts) = []
-text_of (object ms) = []
+text_of v = word_of v
 
 abbrev pub to_string_row : OneTagRow
 to_string_row = record {

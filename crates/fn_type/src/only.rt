@@ -1,4 +1,4 @@
-ghost use Rattle.std.specs.Prelude.{◌≡◌, codes};
+ghost use Rattle.std.specs.Prelude.{◌≡◌, Bool, codes, false};
 ghost use Rattle.vrl_value.specs.Tag.{tag_of};
 ghost use Rattle.vrl_value.specs.View.{tree_of};
 ghost use Rattle.vrl_value.specs.declared.value.Tag.TheVariants as tag;
@@ -32,20 +32,20 @@ fn has_tag(value: &Value, tag: Tag) -> bool
 }
 
 // The error of the function with this name at a value of another tag.
-fn other_tag(alloc: Global, name: &str, value: &Value) -> Applied
-    ensures { Applies (failed name.now (value_is (tag_of (tree_of value.now)))) result }
+fn other_tag(name: &'static str, value: &Value) -> Applied
+    ensures { Applies false (failed name.now (value_is (tag_of (tree_of value.now)))) result }
 {
-    fail_at_value(alloc, name, value.tag())
+    fail_at_value(name, value.tag())
 }
 
 // The value where it has the tag, else the error of the function with this name.
-fn where_tagged(alloc: Global, name: &str, tag: Tag, value: &Value) -> Applied
-    ensures { Applies (named name.now (only_answer tag (tree_of value.now))) result }
+fn where_tagged(alloc: Global, name: &'static str, tag: Tag, value: &Value) -> Applied
+    ensures { Applies false (named name.now (only_answer tag (tree_of value.now))) result }
 {
     if has_tag(value, tag) {
         Applied::copy_of(alloc, value)
     } else {
-        other_tag(alloc, name, value)
+        other_tag(name, value)
     }
 }
 

@@ -85,13 +85,13 @@ impl OneTag for ToBool {
 
     fn apply(
         &self,
-        alloc: Global,
+        _alloc: Global,
         arguments: &Arguments<'_>,
         _setting: &Setting<'_, '_>,
     ) -> Applied {
         match truth_of(arguments.value(0)) {
             Some(truth) => Applied::Value(Value::Bool(truth)),
-            None => fail(alloc, self.name(), "not a boolean word"),
+            None => fail(self.name(), "not a boolean word"),
         }
     }
 

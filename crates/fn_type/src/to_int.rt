@@ -68,13 +68,13 @@ impl OneTag for ToInt {
 
     fn apply(
         &self,
-        alloc: Global,
+        _alloc: Global,
         arguments: &Arguments<'_>,
         _setting: &Setting<'_, '_>,
     ) -> Applied {
         match whole_number(arguments.value(0)) {
             Some(number) => Applied::Value(Value::Int(number)),
-            None => fail(alloc, self.name(), "not a whole number"),
+            None => fail(self.name(), "not a whole number"),
         }
     }
 

@@ -1,7 +1,8 @@
-ghost use Rattle.std.specs.Prelude.{◌≡◌, IfOk};
+ghost use Rattle.std.specs.Prelude.{◌≡◌, [], IfOk, IsOk};
 ghost use Rattle.std.specs.Fmt.{signed_decimal};
+ghost use Rattle.vrl_value.specs.Tree.{null};
 ghost use Rattle.vrl_value.specs.View.{tree_of};
-ghost use Rattle.fn_type.specs.ToString.{text_of, to_string_row};
+ghost use Rattle.fn_type.specs.ToString.{text_of, to_string_row, word_of};
 ghost use Rattle.fn_type.specs.Laws.{to_string-law};
 
 use std::alloc::Global;
@@ -24,17 +25,38 @@ static PARAMETERS: [Parameter; 1] = [required!(
     }
 )];
 
-// The text of a value without parts. `Memory`: want of memory.
-fn text_of(alloc: Global, value: &Value) -> Result<Chars, Memory>
-    ensures { IfOk result (λ text. text ≡ text_of (tree_of value.now)) }
+// The text that a value stands for as it is; empty for null, and for a whole number and a timestamp, whose texts are written.
+fn word_of(value: &Value) -> &str
+    ensures { result.now ≡ word_of (tree_of value.now) }
 {
     match value {
-        Value::Text(text) => text.copy(alloc),
+        Value::Text(text) => text.as_str(),
+        Value::Bool(true) => "true",
+        Value::Bool(false) => "false",
+        _ => "",
+    }
+}
+
+// A copy of a text. `Memory`: out of memory; an empty text takes none.
+fn copy_of(alloc: Global, text: &str) -> Result<Chars, Memory>
+    ensures copy { IfOk result (λ copy. copy ≡ text.now) }
+    ensures empty { text.now ≡ [] → IsOk result }
+{
+    if text.is_empty() {
+        return Ok(Chars::new(String::new(alloc)));
+    }
+    Chars::copy_of(alloc, text)
+}
+
+// The text of a value without parts. `Memory`: out of memory; the empty text of null takes none.
+fn text_of(alloc: Global, value: &Value) -> Result<Chars, Memory>
+    ensures text { IfOk result (λ text. text ≡ text_of (tree_of value.now)) }
+    ensures null { tree_of value.now ≡ null → IsOk result }
+{
+    match value {
         Value::Int(number) => decimal(alloc, *number),
-        Value::Bool(true) => Chars::copy_of(alloc, "true"),
-        Value::Bool(false) => Chars::copy_of(alloc, "false"),
         Value::Time(moment) => moment.text(alloc),
-        _ => Chars::copy_of(alloc, ""),
+        _ => copy_of(alloc, word_of(value)),
     }
 }
 

@@ -148,7 +148,9 @@ fn answers(alloc: Global, function: Fun, arguments: &str, wanted: &str) -> Resul
 fn is_answer(alloc: Global, answer: Applied, wanted: &str) -> Result<bool, Memory> {
     match answer {
         Applied::Value(value) => Ok(value.same(&value_of(alloc, wanted)?)),
-        Applied::Failed(text) => Ok(wanted.strip_prefix('!') == Some(text.as_str())),
+        Applied::Failed(failure) => {
+            Ok(wanted.strip_prefix('!') == Some(failure.text(alloc)?.as_str()))
+        }
         Applied::Memory => Err(Memory),
     }
 }

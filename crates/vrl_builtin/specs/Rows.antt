@@ -141,15 +141,7 @@ text_at place s arguments = text_or s (argument_at place arguments)
 abbrev pub value_at : ℕ → List (Option Tree) → Tree
 value_at place arguments = value_or null (argument_at place arguments)
 
--- what is given, where it has the tag: a text, a boolean, a moment, a regex's number, and the members of an object
-abbrev pub text_given : Option Tree → Option (List ℕ)
-text_given (Some (string s)) = Some s
-text_given argument = None
-
-abbrev pub boolean_given : Option Tree → Option Bool
-boolean_given (Some (boolean b)) = Some b
-boolean_given argument = None
-
+-- what is given, where it has the tag: a moment, a regex's number, and the members of an object
 abbrev pub moment_given : Option Tree → Option ℤ
 moment_given (Some (timestamp nanos)) = Some nanos
 moment_given argument = None
@@ -163,12 +155,6 @@ members_given (Some (object ms)) = Some ms
 members_given argument = None
 
 -- the same at a place
-abbrev pub optional_text : ℕ → List (Option Tree) → Option (List ℕ)
-optional_text place arguments = text_given (argument_at place arguments)
-
-abbrev pub optional_boolean : ℕ → List (Option Tree) → Option Bool
-optional_boolean place arguments = boolean_given (argument_at place arguments)
-
 abbrev pub optional_moment : ℕ → List (Option Tree) → Option ℤ
 optional_moment place arguments = moment_given (argument_at place arguments)
 

@@ -21,6 +21,10 @@ element_is n t = part_is (codes "element") n t
 abbrev pub path_element_is : ℕ → Tag → List ℕ
 path_element_is n t = part_is (codes "path element") n t
 
+-- an element, by its place from 0 on, isn't what the function asks for
+abbrev pub element : ℕ → List ℕ
+element n = codes "element " ++ decimal n
+
 -- the first part whose tag isn't in the set: its place, counted from the given one on, and its tag
 abbrev pub first_other_from : ℕ → Tags → Items → Option (ℕ × Tag)
 first_other_from n T no_items = None

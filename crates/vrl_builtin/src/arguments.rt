@@ -1,6 +1,6 @@
 ghost use Rattle.std.specs.Prelude.{◌≡◌, map, option_map, IsSome};
 ghost use Rattle.vrl_value.specs.View.{items_view, members_of, tree_of};
-ghost use Rattle.vrl_builtin.specs.Rows.{argument_at, boolean_at, integer_at, items_at, optional_boolean, optional_integer, optional_members, optional_moment, optional_regex, optional_text, text_at, value_at};
+ghost use Rattle.vrl_builtin.specs.Rows.{argument_at, boolean_at, integer_at, items_at, optional_integer, optional_members, optional_moment, optional_regex, text_at, value_at};
 ghost use Rattle.vrl_builtin.specs.View.{argument_tree, arguments_of};
 
 use vrl_value::{Fields, Moment, Value};
@@ -78,16 +78,6 @@ impl<'a> Arguments<'a> {
         }
     }
 
-    /// The text at a place. `None`: none is given.
-    pub fn optional_text(&self, place: usize) -> Option<&str>
-        ensures { option_map (λ text. text.now) result ≡ optional_text place (arguments_of self.now) }
-    {
-        match self.get(place) {
-            Some(Value::Text(text)) => Some(text.as_str()),
-            _ => None,
-        }
-    }
-
     /// The boolean at a place, and the default where none is given.
     pub fn boolean(&self, place: usize, default: bool) -> bool
         ensures { result ≡ boolean_at place default (arguments_of self.now) }
@@ -95,16 +85,6 @@ impl<'a> Arguments<'a> {
         match self.get(place) {
             Some(Value::Bool(truth)) => *truth,
             _ => default,
-        }
-    }
-
-    /// The boolean at a place. `None`: none is given.
-    pub fn optional_boolean(&self, place: usize) -> Option<bool>
-        ensures { result ≡ optional_boolean place (arguments_of self.now) }
-    {
-        match self.get(place) {
-            Some(Value::Bool(truth)) => Some(*truth),
-            _ => None,
         }
     }
 

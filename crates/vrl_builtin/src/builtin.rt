@@ -1,4 +1,5 @@
-ghost use Rattle.std.specs.Prelude.{◌≡◌, map, length, IfOk, IsTrue};
+ghost use Rattle.std.specs.Prelude.{◌≡◌, Bool, List, Option, false, map, length, IfOk, IsTrue};
+ghost use Rattle.vrl_value.specs.Tree.{Tree};
 ghost use Rattle.vrl_value.specs.View.{tree_of};
 ghost use Rattle.vrl_kind.specs.Kinds.{tags_at};
 ghost use Rattle.vrl_kind.specs.Sets.{SameSets};
@@ -21,6 +22,9 @@ use vrl_value::{Memory, Value};
 pub trait Builtin {
     /// What it takes, what is known of its result before it is called, and what it answers.
     ghost row: { Self → Row };
+
+    /// Whether a call with such arguments uses memory beside that for what it answers.
+    ghost uses_memory: { Self → List (Option Tree) → Bool } = { λ _ arguments. false };
 
     /// Its name.
     fn name(&self) -> &'static str
@@ -75,11 +79,12 @@ pub trait Builtin {
 
     /// Calls the function. Each required parameter has an argument, each argument has a tag that its parameter allows and is a literal that
     /// the function allows where one is wanted, and each regex in the arguments is one of the patterns. `Failed` comes exactly where the row
-    /// has a text. `Memory`: want of memory.
+    /// has a text. `Memory`: out of memory, for a text, an array or an object that is answered, or where the call uses memory.
     fn apply(&self, alloc: Global, arguments: &Arguments<'_>, setting: &Setting<'_, '_>) -> Applied
         requires arguments { AreArguments (row self.now) (arguments_of arguments.now) }
         requires regexes { IsTrue (arguments_below (length setting.now.patterns.now) (arguments_of arguments.now)) }
-        ensures { Applies ((row self.now).means (arguments_of arguments.now) (setting_of setting.now)) result };
+        ensures { Applies (uses_memory self.now (arguments_of arguments.now))
+            ((row self.now).means (arguments_of arguments.now) (setting_of setting.now)) result };
 
     /// What a call answers is what was known of it before.
     ghost law: { (function : Self) → KeepsLaw (row function) };

@@ -1,11 +1,13 @@
-ghost use Rattle.std.specs.Prelude.{◌≡◌, ℕ, Bool, List, IfOk, IsErr};
-ghost use Rattle.vrl_value.specs.Tree.{Tree, boolean, string};
+ghost use Rattle.std.specs.Prelude.{◌≡◌, ℕ, Bool, List, IfOk, IsErr, IsTrue, false, true};
+ghost use Rattle.vrl_value.specs.Tree.{Tree, boolean, string, takes_memory};
 ghost use Rattle.vrl_value.specs.View.{items_view, tree_of};
-ghost use Rattle.vrl_builtin.specs.Rows.{failed, value as answer};
+ghost use Rattle.vrl_builtin.specs.Rows.{value as answer};
 ghost use Rattle.vrl_builtin.specs.View.{Applies};
 ghost use Rattle.vrl_builtin.specs.declared.failing.Applied.TheVariants as applied;
-ghost use Rattle.vrl_builtin.specs.Words.{element_is, first_other, part_is, path_element_is, value_is};
+ghost use Rattle.vrl_builtin.specs.declared.failure.Reason.TheVariants as reason;
+ghost use Rattle.vrl_builtin.specs.Words.{first_other};
 
+use crate::failure::{Failure, Reason};
 use crate::tags::Tags;
 use std::alloc::Global;
 use vrl_value::{Chars, Memory, Tag, Value};
@@ -15,16 +17,22 @@ use vrl_value::{Chars, Memory, Tag, Value};
 pub enum Applied {
     /// Its value.
     Value(Value),
-    /// The text of its error.
-    Failed(Chars),
-    /// Want of memory.
+    /// Its error.
+    Failed(Failure),
+    /// Out of memory.
     Memory,
 }
 
 impl Applied {
-    /// A value that was made, or want of memory for it.
+    /// A value that was made, or else out of memory.
     pub fn value(made: Result<Value, Memory>) -> Applied
-        ensures value { (value : Tree) → IfOk made (λ made. tree_of made ≡ value) → Applies (answer value) result }
+        ensures value { (value : Tree)
+            → IfOk made (λ made. tree_of made ≡ value)
+            → Applies true (answer value) result }
+        ensures large { (value : Tree)
+            → IfOk made (λ made. tree_of made ≡ value)
+            → IsTrue (takes_memory value)
+            → Applies false (answer value) result }
         ensures memory { result ≡ applied.Memory → IsErr made }
     {
         match made {
@@ -33,9 +41,11 @@ impl Applied {
         }
     }
 
-    /// A text that was made, or want of memory for it.
+    /// A text that was made, or else out of memory.
     pub fn text(made: Result<Chars, Memory>) -> Applied
-        ensures value { (text : List ℕ) → IfOk made (λ made. made ≡ text) → Applies (answer (string text)) result }
+        ensures value { (text : List ℕ)
+            → IfOk made (λ made. made ≡ text)
+            → Applies false (answer (string text)) result }
         ensures memory { result ≡ applied.Memory → IsErr made }
     {
         match made {
@@ -44,9 +54,11 @@ impl Applied {
         }
     }
 
-    /// A boolean that was found, or want of memory for it.
+    /// A boolean that was found by a call that uses memory, or else out of memory.
     pub fn boolean(found: Result<bool, Memory>) -> Applied
-        ensures value { (truth : Bool) → IfOk found (λ found. found ≡ truth) → Applies (answer (boolean truth)) result }
+        ensures value { (truth : Bool)
+            → IfOk found (λ found. found ≡ truth)
+            → Applies true (answer (boolean truth)) result }
         ensures memory { result ≡ applied.Memory → IsErr found }
     {
         match found {
@@ -55,9 +67,9 @@ impl Applied {
         }
     }
 
-    /// A copy of a value. `Memory`: want of memory.
+    /// A copy of a value. `Memory`: out of memory, which only a text, an array or an object may run into.
     pub fn copy_of(alloc: Global, value: &Value) -> Applied
-        ensures { Applies (answer (tree_of value.now)) result }
+        ensures { Applies false (answer (tree_of value.now)) result }
     {
         match value.copy(alloc) {
             Ok(copy) => Applied::Value(copy),
@@ -66,52 +78,54 @@ impl Applied {
     }
 }
 
-/// The error of a function: its name, a colon and the words. `Memory`: want of memory.
-pub fn fail(alloc: Global, name: &str, words: &str) -> Applied
-    ensures { Applies (failed name.now words.now) result }
+/// The error of a function: its name, a colon and the words.
+pub fn fail(name: &'static str, words: &'static str) -> Applied
+    ensures { result ≡ applied.Failed (record { name = name.entry; reason = reason.Words words.entry }) }
 {
-    match format!(in alloc; "{name}: {words}") {
-        Ok(text) => Applied::Failed(Chars::new(text)),
-        Err(_refused) => Applied::Memory,
-    }
+    Applied::Failed(Failure {
+        name,
+        reason: Reason::Words(words),
+    })
 }
 
-/// The error of a function at a value of a tag that it can't take: `NAME: value is TAG`. `Memory`: want of memory.
-pub fn fail_at_value(alloc: Global, name: &str, tag: Tag) -> Applied
-    ensures { Applies (failed name.now (value_is tag)) result }
+/// The error of a function at a value of a tag that it can't take: `NAME: value is TAG`.
+pub fn fail_at_value(name: &'static str, tag: Tag) -> Applied
+    ensures { result ≡ applied.Failed (record { name = name.entry; reason = reason.Value tag }) }
 {
-    let word = tag.word();
-    match format!(in alloc; "{name}: value is {word}") {
-        Ok(text) => Applied::Failed(Chars::new(text)),
-        Err(_refused) => Applied::Memory,
-    }
+    Applied::Failed(Failure {
+        name,
+        reason: Reason::Value(tag),
+    })
 }
 
-// The error of a function at a part, by its place, which is of a tag that it can't take: `NAME: PART N is TAG`. `Memory`: want of memory.
-fn fail_at_part(alloc: Global, name: &str, part: &str, place: usize, tag: Tag) -> Applied
-    ensures { Applies (failed name.now (part_is part.now place tag)) result }
+/// The error of a function at a part of an array, by its place, which is of a tag that it can't take: `NAME: element N is TAG`.
+pub fn fail_at_element(name: &'static str, place: usize, tag: Tag) -> Applied
+    ensures { result ≡ applied.Failed (record { name = name.entry; reason = reason.Element place tag }) }
 {
-    let word = tag.word();
-    match format!(in alloc; "{name}: {part} {place} is {word}") {
-        Ok(text) => Applied::Failed(Chars::new(text)),
-        Err(_refused) => Applied::Memory,
-    }
+    Applied::Failed(Failure {
+        name,
+        reason: Reason::Element(place, tag),
+    })
 }
 
-/// The error of a function at a part of an array, by its place, which is of a tag that it can't take: `NAME: element N is TAG`. `Memory`: want
-/// of memory.
-pub fn fail_at_element(alloc: Global, name: &str, place: usize, tag: Tag) -> Applied
-    ensures { Applies (failed name.now (element_is place tag)) result }
+/// The error of a function at a part of a path, by its place, which is neither a name nor a place: `NAME: path element N is TAG`.
+pub fn fail_at_path_element(name: &'static str, place: usize, tag: Tag) -> Applied
+    ensures { result ≡ applied.Failed (record { name = name.entry; reason = reason.PathElement place tag }) }
 {
-    fail_at_part(alloc, name, "element", place, tag)
+    Applied::Failed(Failure {
+        name,
+        reason: Reason::PathElement(place, tag),
+    })
 }
 
-/// The error of a function at a part of a path, by its place, which is neither a name nor a place: `NAME: path element N is TAG`. `Memory`: want
-/// of memory.
-pub fn fail_at_path_element(alloc: Global, name: &str, place: usize, tag: Tag) -> Applied
-    ensures { Applies (failed name.now (path_element_is place tag)) result }
+/// The error of a function at a part of an array, by its place, which isn't what it asks for: `NAME: element N`.
+pub fn fail_at_bad_element(name: &'static str, place: usize) -> Applied
+    ensures { result ≡ applied.Failed (record { name = name.entry; reason = reason.BadElement place }) }
 {
-    fail_at_part(alloc, name, "path element", place, tag)
+    Applied::Failed(Failure {
+        name,
+        reason: Reason::BadElement(place),
+    })
 }
 
 /// The first of the values whose tag isn't in the set: its place, and its tag. `None`: there is none.

@@ -5,7 +5,7 @@
 //!
 //! Files: `builtin.rt` has the trait and `law.rt` its law, `one_tag.rt` the trait of functions whose results have one tag, and `of_text.rt` that of
 //! those that give a text for each text. `parameter.rt`, `tags.rt`, `given.rt`, `arguments.rt`, `setting.rt` and `failing.rt` have what the methods
-//! take and give. Of kinds, `of_parts.rt` has those of arrays and objects whose parts are of one kind, and of either of two tags, `any_parts.rt` those of any parts, `cutting.rt`
+//! take and give, and `failure.rt` the error of a function. Of kinds, `of_parts.rt` has those of arrays and objects whose parts are of one kind, and of either of two tags, `any_parts.rt` those of any parts, `cutting.rt`
 //! what is left of one at some tags, `part_kinds.rt` the parts of a kind's arrays and objects, and `part_tags.rt` whether such a part may have another
 //! tag. `items.rt` has the items of an array, `literal.rt` the names that a literal may be one of, and `numeral.rt` the numbers that functions read in texts. Of the definitions `Rows` says what a row is,
 //! `Conditions` what is asked of a call, and `Law` the law; `Listed` has the parts of a value as lists. What the laws of functions rest on stands in
@@ -17,6 +17,7 @@ mod arguments;
 mod builtin;
 mod cutting;
 mod failing;
+mod failure;
 mod given;
 mod items;
 mod law;
@@ -36,8 +37,10 @@ pub use arguments::Arguments;
 pub use builtin::Builtin;
 pub use cutting::cut_down;
 pub use failing::{
-    Applied, fail, fail_at_element, fail_at_path_element, fail_at_value, first_other,
+    Applied, fail, fail_at_bad_element, fail_at_element, fail_at_path_element, fail_at_value,
+    first_other,
 };
+pub use failure::{Failure, Reason};
 pub use given::{Given, Givens};
 pub use items::items_of;
 pub use law::keeps_law;

@@ -1,4 +1,5 @@
-ghost use Rattle.std.specs.Prelude.{◌≡◌, map, length, IsTrue};
+ghost use Rattle.std.specs.Prelude.{◌≡◌, Bool, List, Option, false, map, length, IsTrue};
+ghost use Rattle.vrl_value.specs.Tree.{Tree};
 ghost use Rattle.vrl_builtin.specs.Conditions.{arguments_below, AreArguments, AreGiven};
 ghost use Rattle.vrl_builtin.specs.OneTag.{whole_row, KeepsOneTag, OneTagRow};
 ghost use Rattle.vrl_builtin.specs.Rows.{named};
@@ -21,6 +22,9 @@ pub trait OneTag {
     /// What it takes, the tag of its results, and what it answers.
     ghost one_tag_row: { Self → OneTagRow };
 
+    /// Whether a call with such arguments uses memory beside that for what it answers.
+    ghost uses_memory: { Self → List (Option Tree) → Bool } = { λ _ arguments. false };
+
     /// Its name.
     fn name(&self) -> &'static str
         ensures { result.now ≡ (one_tag_row self.now).name };
@@ -38,12 +42,14 @@ pub trait OneTag {
         requires { AreGiven (whole_row (one_tag_row self.now)) (givens_of given.now) }
         ensures { result ≡ (one_tag_row self.now).may_fail (givens_of given.now) };
 
-    /// Calls the function. The conditions are those of [`Builtin::apply`]. `Failed` comes exactly where the row has words. `Memory`: want of
-    /// memory.
+    /// Calls the function. The conditions are those of [`Builtin::apply`]. `Failed` comes exactly where the row has words. `Memory`: out of
+    /// memory, for a text that is answered, or where the call uses memory.
     fn apply(&self, alloc: Global, arguments: &Arguments<'_>, setting: &Setting<'_, '_>) -> Applied
         requires arguments { AreArguments (whole_row (one_tag_row self.now)) (arguments_of arguments.now) }
         requires regexes { IsTrue (arguments_below (length setting.now.patterns.now) (arguments_of arguments.now)) }
-        ensures { Applies (named (one_tag_row self.now).name ((one_tag_row self.now).means (arguments_of arguments.now) (setting_of setting.now))) result };
+        ensures { Applies (uses_memory self.now (arguments_of arguments.now))
+            (named (one_tag_row self.now).name
+                ((one_tag_row self.now).means (arguments_of arguments.now) (setting_of setting.now))) result };
 
     /// What a call answers has the tag, and is an error only where the call may fail.
     ghost one_tag: { (function : Self) → KeepsOneTag (one_tag_row function) };
@@ -51,6 +57,8 @@ pub trait OneTag {
 
 impl<F: OneTag> Builtin for F {
     ghost row = { λ f. whole_row (F.one_tag_row f) };
+
+    ghost uses_memory = { λ f. F.OneTag.uses_memory f };
 
     fn name(&self) -> &'static str {
         OneTag::name(self)

@@ -1,4 +1,4 @@
-ghost use Rattle.std.specs.Prelude.{◌≡◌, ◌≢◌, ◌≤◌, drop, length, map, option_map, Err, IfOk, IsTrue};
+ghost use Rattle.std.specs.Prelude.{◌≡◌, ◌≢◌, ◌≤◌, Bool, drop, length, map, option_map, Err, IfOk, IsTrue};
 ghost use Rattle.vrl_value.specs.Look.{item_at};
 ghost use Rattle.vrl_value.specs.View.{tree_of};
 ghost use Rattle.vrl_builtin.specs.Conditions.{arguments_below, AreArguments};
@@ -169,17 +169,21 @@ fn answer(
         let text = argument_text(context.alloc, function.name(), parameter, tag)?;
         return Err(Stop::Error(text));
     }
-    answered(apply(context.alloc, function, arguments, &context.setting))
+    answered(
+        context.alloc,
+        apply(context.alloc, function, arguments, &context.setting),
+    )
 }
 
-// What a call ends with that came to this, whose value may be nested too deeply. `Memory`: it came to that.
-fn answered(applied: Applied) -> Result<Value, Stop>
-    ensures gives { (answer : Answer) → Applies answer applied → Gives (answer_outcome answer) result }
-    ensures want { result ≡ Err Stop.Memory → applied ≡ Applied.Memory }
+// What a call ends with that came to this, whose value may be nested too deeply. `Memory`: it came to that, or out of memory for the text of an
+// error.
+fn answered(alloc: Global, applied: Applied) -> Result<Value, Stop>
+    ensures gives { (uses : Bool) (answer : Answer) → Applies uses answer applied → Gives (answer_outcome answer) result }
+    ensures value { (value : Value) → applied ≡ Applied.Value value → result ≢ Err Stop.Memory }
 {
     match applied {
         Applied::Value(value) => within_limit(value),
-        Applied::Failed(text) => Err(Stop::Error(text)),
+        Applied::Failed(failure) => Err(Stop::Error(failure.text(alloc)?)),
         Applied::Memory => Err(Stop::Memory),
     }
 }

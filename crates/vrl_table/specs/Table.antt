@@ -1,11 +1,14 @@
 -- The functions of the language and their rows.
-use Rattle.std.specs.Prelude.{◌≡◌, ℕ, Bool, false, List, [], ◌∷◌, length, map, Option, Some, None, find, bytes_eq, codes}
+use Rattle.std.specs.Prelude.{◌≡◌, ℕ, Bool, true, false, not, is_none, List, [], ◌∷◌, length, map, Option, Some, None, find, bytes_eq, codes}
+use Rattle.vrl_value.specs.Tree.{Tree}
 use Rattle.vrl_value.specs.declared.value.Tag.TheVariants as tag
 use Rattle.vrl_syntax.specs.Calls.{form_named}
 use Rattle.vrl_builtin.specs.Law.{KeepsLaw}
 use Rattle.vrl_builtin.specs.OfText.{of_text_row}
 use Rattle.vrl_builtin.specs.OneTag.{whole_row}
-use Rattle.vrl_builtin.specs.Rows.{GivenTree, ParameterRow, Row}
+use Rattle.vrl_builtin.specs.Rows.{GivenTree, ParameterRow, Row, boolean_at, items_at, text_at, value_at}
+use Rattle.vrl_builtin.specs.TagSets.{regexes}
+use Rattle.vrl_builtin.specs.Words.{first_other}
 use Rattle.fn_codec.specs.Base16.{base16_of, bytes_of_base16}
 use Rattle.fn_codec.specs.Base64.{base64_of, bytes_of_base64}
 use Rattle.fn_codec.specs.Decode.{decode_row}
@@ -24,10 +27,11 @@ use Rattle.fn_number.specs.Abs.{abs_row}
 use Rattle.fn_number.specs.FormatInt.{format_int_row}
 use Rattle.fn_number.specs.Mod.{mod_row}
 use Rattle.fn_number.specs.ParseInt.{parse_int_row}
-use Rattle.fn_object.specs.Get.{get_row}
+use Rattle.fn_object.specs.Get.{get_row, no_fault}
 use Rattle.fn_object.specs.Keys.{keys_row}
 use Rattle.fn_object.specs.Merge.{merge_row}
 use Rattle.fn_object.specs.ObjectFromArray.{object_from_array_row}
+use Rattle.fn_object.specs.Paths.{is_taken, removal_fault, write_fault}
 use Rattle.fn_object.specs.Remove.{remove_row}
 use Rattle.fn_object.specs.Set.{set_row}
 use Rattle.fn_object.specs.Tally.{tally_row}
@@ -36,10 +40,10 @@ use Rattle.fn_object.specs.Values.{values_row}
 use Rattle.fn_parse.specs.Csv.{parse_csv_row}
 use Rattle.fn_parse.specs.EncodeKeyValue.{encode_key_value_row}
 use Rattle.fn_parse.specs.Json.{encode_json_row, parse_json_row}
-use Rattle.fn_parse.specs.ParseKeyValue.{parse_key_value_row}
+use Rattle.fn_parse.specs.ParseKeyValue.{has_delimiters, parse_key_value_row}
 use Rattle.fn_parse.specs.QueryString.{parse_query_string_row}
 use Rattle.fn_parse.specs.Url.{parse_url_row}
-use Rattle.fn_search.specs.Find.{find_row}
+use Rattle.fn_search.specs.Find.{find_row, is_regex}
 use Rattle.fn_search.specs.Match.{match_row}
 use Rattle.fn_search.specs.MatchAny.{match_any_row}
 use Rattle.fn_search.specs.ParseRegex.{parse_regex_row, parse_regex_all_row}
@@ -149,6 +153,28 @@ row_of fun.Unique = unique_row
 row_of fun.Upcase = whole_row (of_text_row (codes "upcase") in_upper_case)
 row_of fun.Values = values_row
 row_of fun.Zip = zip_row
+
+-- whether a call with such arguments uses memory beside that for what it answers
+unfoldable pub uses_memory : Fun → List (Option Tree) → Bool
+uses_memory fun.Compact arguments = true
+uses_memory fun.Contains arguments = not (boolean_at 2 true arguments)
+uses_memory fun.DecodeBase16 arguments = true
+uses_memory fun.DecodeBase64 arguments = true
+uses_memory fun.Find arguments = is_regex (value_at 1 arguments)
+uses_memory fun.Flatten arguments = true
+uses_memory fun.Get arguments = is_taken no_fault (value_at 1 arguments)
+uses_memory fun.Match arguments = true
+uses_memory fun.MatchAny arguments = is_none (first_other regexes (items_at 1 arguments))
+uses_memory fun.Merge arguments = true
+uses_memory fun.ParseJson arguments = true
+uses_memory fun.ParseKeyValue arguments = has_delimiters (text_at 1 (codes "=") arguments) (text_at 2 (codes " ") arguments)
+uses_memory fun.ParseRegex arguments = true
+uses_memory fun.ParseRegexAll arguments = true
+uses_memory fun.ParseUrl arguments = true
+uses_memory fun.Remove arguments = is_taken removal_fault (value_at 1 arguments)
+uses_memory fun.Set arguments = is_taken write_fault (value_at 1 arguments)
+uses_memory fun.Unflatten arguments = true
+uses_memory function arguments = false
 
 -- all of them
 abbrev pub all_functions : List Fun

@@ -5,7 +5,7 @@ ghost use Rattle.vrl_builtin.specs.Conditions.{arguments_below, first_wrong, lit
 ghost use Rattle.vrl_builtin.specs.View.{arguments_of, givens_of, parameter_row, setting_of, Applies};
 ghost use Rattle.vrl_binding.specs.Binding.{binding, keywords_of, IsBound};
 ghost use Rattle.vrl_syntax.specs.View.{args_of};
-ghost use Rattle.vrl_table.specs.Table.{row_of, FunctionsKeepLaw};
+ghost use Rattle.vrl_table.specs.Table.{row_of, uses_memory, FunctionsKeepLaw};
 
 use crate::function::Fun;
 use std::alloc::Global;
@@ -60,7 +60,7 @@ pub fn may_fail(function: Fun, given: &Givens) -> bool
     function.may_fail(given)
 }
 
-/// Calls a function. The conditions are those of [`Builtin::apply`].
+/// Calls a function. The conditions are those of [`Builtin::apply`], and so is what `Memory` says.
 pub fn apply(
     alloc: Global,
     function: Fun,
@@ -69,7 +69,8 @@ pub fn apply(
 ) -> Applied
     requires arguments { AreArguments (row_of function) (arguments_of arguments.now) }
     requires regexes { IsTrue (arguments_below (length setting.now.patterns.now) (arguments_of arguments.now)) }
-    ensures { Applies ((row_of function).means (arguments_of arguments.now) (setting_of setting.now)) result }
+    ensures { Applies (uses_memory function (arguments_of arguments.now))
+        ((row_of function).means (arguments_of arguments.now) (setting_of setting.now)) result }
 {
     function.apply(alloc, arguments, setting)
 }

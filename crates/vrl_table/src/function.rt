@@ -1,6 +1,6 @@
 ghost use Rattle.std.specs.Prelude.{◌≡◌, ◌≢◌, find, bytes_eq, MatchOption};
 ghost use Rattle.vrl_table.specs.Laws.{row-law};
-ghost use Rattle.vrl_table.specs.Table.{all_functions, function_named, row_of, FormsAreNoFunctions, FunctionsAreCounted, FunctionsAreFound, ParametersAreToldApart, ResultsArePresent};
+ghost use Rattle.vrl_table.specs.Table.{all_functions, function_named, row_of, uses_memory, FormsAreNoFunctions, FunctionsAreCounted, FunctionsAreFound, ParametersAreToldApart, ResultsArePresent};
 ghost use Rattle.vrl_table.specs.declared.function.Fun.{Fun};
 
 use fn_codec::{
@@ -290,6 +290,8 @@ macro_rules! functions {
 impl Builtin for Fun {
     ghost row = { row_of };
 
+    ghost uses_memory = { uses_memory };
+
     #[tactic(auto, unfolding(crate::specs::Table::row_of))]
     fn name(&self) -> &'static str {
         functions!(call self, name())
@@ -320,7 +322,7 @@ impl Builtin for Fun {
         functions!(call self, may_fail(given))
     }
 
-    #[tactic(auto, unfolding(crate::specs::Table::row_of))]
+    #[tactic(auto, unfolding(crate::specs::Table::row_of, crate::specs::Table::uses_memory))]
     fn apply(
         &self,
         alloc: Global,

@@ -28,7 +28,7 @@ compact_fields-loop-name-preserved t c =
     let e : String Global × Value = (c.in-Some.name.now, c.in-Some.value.now) in
     let whole = compact_members (members_of c.args.fields.now) in record {
       partway = step (members_of l.kept) (members_of c.put_full.new.kept) _ (tree_of c.in-Some.value.now) (tree_of c.in_ok-part.part) (members_view left) whole c.in_ok-part.ensures
-          (rw c.as_str.ensures.value at c.in_ok-put_full.ensures)
+          (rw c.as_str.ensures.value at c.in_ok-put_full.ensures.fields)
           (subst (λ (es : List (String Global × Value)). IsPartway (members_of l.kept) (members_view es) whole) c.in-Some.ensures.steps l.invariant.partway);
       fewer = one_fewer l.name-iterator left e (members_size (members_of c.args.fields.now)) c.in-Some.ensures.steps l.invariant.fewer;
     }
@@ -58,6 +58,6 @@ compact_items-loop-item-preserved t c =
     let l = c.loop-item in
     let u = compacted (tree_of c.item-item.result) in record {
       whole = walked (λ ts. trees_in (compact_items ts)) c.args.items.now c.loop-item.item-index c.item-item.result (full u) (map tree_of l.kept.items) (map tree_of c.push_full.new.kept.items) _ c.loop-item-test.true c.item-item.is
-          (λ ts. by_item (is_hollow u) u (compact_items ts)) (c.in_ok-push_full.ensures ∙ ap (λ w. map tree_of l.kept.items ++ full w) c.in_ok-part.ensures) l.invariant.whole;
+          (λ ts. by_item (is_hollow u) u (compact_items ts)) (c.in_ok-push_full.ensures.parts ∙ ap (λ w. map tree_of l.kept.items ++ full w) c.in_ok-part.ensures) l.invariant.whole;
       fewer = (fewer_left c.args.items.now c.loop-item.item-index c.item-item.result _ c.loop-item-test.true c.item-item.is l.invariant.fewer).1;
     }

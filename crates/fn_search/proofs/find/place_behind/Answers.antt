@@ -4,8 +4,8 @@ use Rattle.fn_search.specs.Find.{first_place, number_or_null, place_behind}
 use Rattle.fn_search.proofs.Starts.{starts}
 use Rattle.fn_search.proofs.find.place_behind.Goals as goal
 
-pub returns : goal.returns
-returns c = λ text within is.
+pub returns-clause-value : goal.returns-clause-value
+returns-clause-value c = λ text within is.
     let sources = c.args.patterns.now in
     let pattern = tree_of c.args.pattern.now in
     let start = c.args.start in

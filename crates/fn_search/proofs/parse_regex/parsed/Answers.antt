@@ -1,4 +1,4 @@
-use Rattle.std.proofs.Common.{codes, map, option_map, sym, ap, subst, ◌∙◌}
+use Rattle.std.proofs.Common.{codes, true, map, option_map, sym, ap, subst, ◌∙◌}
 use Rattle.std.proofs.lemmas.Result.{IfOk-weaker}
 use Rattle.vrl_builtin.specs.Rows.{named}
 use Rattle.vrl_builtin.specs.View.{Applies}
@@ -14,6 +14,6 @@ returns-in-Some c =
     let source = source_at c.in-Some.number c.args.patterns.now in
     let make = match_object source c.args.numbered text in
     let first = first_match source text in
-    subst (λ number. Applies (named (codes "parse_regex") (parsed c.args.patterns.now number c.args.numbered text)) c.answer_of_first.result) (sym c.in-Some.is)
-    (subst (λ answer. Applies (named (codes "parse_regex") answer) c.answer_of_first.result) (told_so make (codes "no match") first)
-    (c.answer_of_first.ensures (option_map make first) (IfOk-weaker c.objects_of.result _ _ (λ objects is. is ∙ ap (map make) (first_of_all source text) ∙ map_listed make first) c.objects_of.ensures)))
+    subst (λ number. Applies true (named (codes "parse_regex") (parsed c.args.patterns.now number c.args.numbered text)) c.answer_of_first.result) (sym c.in-Some.is)
+    (subst (λ answer. Applies true (named (codes "parse_regex") answer) c.answer_of_first.result) (told_so make (codes "no match") first)
+    (c.answer_of_first.ensures.answer (option_map make first) (IfOk-weaker c.objects_of.result _ _ (λ objects is. is ∙ ap (map make) (first_of_all source text) ∙ map_listed make first) c.objects_of.ensures)))
