@@ -1,4 +1,5 @@
--- `encode_base64` and `decode_base64`: bytes in the standard alphabet of RFC 4648, section 4, padded.
+-- `encode_base64` and `decode_base64`: bytes in the standard alphabet of RFC 4648, section 4,
+-- padded.
 use Rattle.std.specs.Prelude.{ℕ, List, Option}
 use Rattle.std.specs.Result.{result_ok}
 use Rattle.base64.specs.Engines.{standard}

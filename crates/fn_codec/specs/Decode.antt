@@ -1,4 +1,5 @@
--- The functions that read the bytes of a text in code, and give them as a text: `decode_base64` and `decode_base16`.
+-- The functions that read the bytes of a text in code, and give them as a text: `decode_base64` and
+-- `decode_base16`.
 use Rattle.std.specs.Prelude.{ℕ, true, List, [], ◌∷◌, Option, Some, None, codes, if◌then◌else◌}
 use Rattle.std.specs.Str.{is_utf8}
 use Rattle.vrl_value.specs.Tree.{string}
@@ -7,7 +8,8 @@ use Rattle.vrl_builtin.specs.OneTag.{OneTagRow}
 use Rattle.vrl_builtin.specs.Rows.{Answer, value, failure, parameter, text_at}
 use Rattle.vrl_builtin.specs.TagSets.{strings}
 
--- the text of these bytes; none were read where the text is no such code, which has words of its own
+-- the text of these bytes; none were read where the text is no such code, which has words of its
+-- own
 abbrev pub as_text : List ℕ → Option (List ℕ) → Answer
 as_text words None = failure words
 as_text words (Some bytes) = if is_utf8 bytes then value (string bytes) else failure (codes "not UTF-8")

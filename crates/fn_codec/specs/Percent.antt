@@ -1,4 +1,5 @@
--- `encode_percent` and `decode_percent`: bytes as `%` and two hexadecimal digits (RFC 3986, section 2.1).
+-- `encode_percent` and `decode_percent`: bytes as `%` and two hexadecimal digits (RFC 3986, section
+-- 2.1).
 use Rattle.std.specs.Prelude.{ℕ, List, [], ◌∷◌, if◌then◌else◌}
 use Rattle.std.specs.Char.{is_ascii_alphanumeric}
 use Rattle.std.specs.List.{flat_map}

@@ -11,7 +11,8 @@ use Rattle.sha2.specs.Sha256.{sha224, sha256}
 use Rattle.sha2.specs.Sha512.{sha384, sha512, sha512_224, sha512_256}
 
 abbrev pub variants : List (List ℕ)
-variants = codes "SHA-224" ∷ codes "SHA-256" ∷ codes "SHA-384" ∷ codes "SHA-512" ∷ codes "SHA-512/224" ∷ codes "SHA-512/256" ∷ []
+variants = codes "SHA-224" ∷ codes "SHA-256" ∷ codes "SHA-384" ∷ codes "SHA-512" ∷ codes "SHA-512/224"
+    ∷ codes "SHA-512/256" ∷ []
 
 abbrev pub is_variant : List ℕ → Bool
 is_variant name = list_any (bytes_eq name) variants
@@ -33,5 +34,6 @@ sha2_row = record {
   accepts = λ place literal. is_text_of is_variant literal;
   kind = λ givens sources. only_at Text;
   may_fail = λ givens. false;
-  means = λ arguments setting. value (string (encode_lower (digest_of (text_at 1 (codes "SHA-512/256") arguments) (text_at 0 [] arguments))));
+  means = λ arguments setting. value
+      (string (encode_lower (digest_of (text_at 1 (codes "SHA-512/256") arguments) (text_at 0 [] arguments))));
 }

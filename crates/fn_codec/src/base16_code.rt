@@ -9,8 +9,8 @@ use std::alloc::Global;
 use vrl_builtin::FromText;
 use vrl_value::{Chars, Memory};
 
-/// `encode_base16(value: string)`: string. The bytes of the text as two hexadecimal digits each, in lower case (RFC 4648, section 8). It never fails.
-/// `encode_base16("hi")` is `"6869"`.
+/// `encode_base16(value: string)`: string. The bytes of the text as two hexadecimal digits each, in
+/// lower case (RFC 4648, section 8). It never fails. `encode_base16("hi")` is `"6869"`.
 #[derive(Clone, Copy)]
 pub struct EncodeBase16;
 
@@ -26,15 +26,18 @@ impl FromText for EncodeBase16 {
     }
 }
 
-/// `decode_base16(value: string)`: string. The text whose bytes are written so by two hexadecimal digits each, in either case. It always may fail:
-/// `not base16`; `not UTF-8`. `decode_base16("6869")` is `"hi"`.
+/// `decode_base16(value: string)`: string. The text whose bytes are written so by two hexadecimal
+/// digits each, in either case. It always may fail: `not base16`; `not UTF-8`.
+/// `decode_base16("6869")` is `"hi"`.
 #[derive(Clone, Copy)]
 pub struct DecodeBase16;
 
-// The bytes that were read; none where the text is no base16. `Memory`: there was no memory for them.
+// The bytes that were read; none where the text is no base16. `Memory`: there was no memory for
+// them.
 fn read(decoded: Result<Vec<u8>, FromHexError>) -> Result<Option<Vec<u8>>, Memory>
     ensures memory { IsErr result → decoded ≡ Err OutOfMemory }
-    ensures read { (text : List ℕ) → IfOk decoded (λ bytes. decode_of text ≡ Ok bytes.items) → IfErr decoded (λ fault. (fault ≡ OutOfMemory) ⊎ (decode_of text ≡ Err fault))
+    ensures read { (text : List ℕ) → IfOk decoded (λ bytes. decode_of text ≡ Ok bytes.items)
+        → IfErr decoded (λ fault. (fault ≡ OutOfMemory) ⊎ (decode_of text ≡ Err fault))
         → IfOk result (λ found. option_map (λ bytes. bytes.items) found ≡ bytes_of_base16 text) }
 {
     match decoded {

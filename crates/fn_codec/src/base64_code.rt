@@ -11,8 +11,8 @@ use std::alloc::Global;
 use vrl_builtin::FromText;
 use vrl_value::{Chars, Memory};
 
-/// `encode_base64(value: string)`: string. The bytes of the text in the standard alphabet of RFC 4648, padded. It never fails. `encode_base64("hi")`
-/// is `"aGk="`.
+/// `encode_base64(value: string)`: string. The bytes of the text in the standard alphabet of RFC
+/// 4648, padded. It never fails. `encode_base64("hi")` is `"aGk="`.
 #[derive(Clone, Copy)]
 pub struct EncodeBase64;
 
@@ -28,15 +28,18 @@ impl FromText for EncodeBase64 {
     }
 }
 
-/// `decode_base64(value: string)`: string. The text whose bytes the standard alphabet of RFC 4648 writes so, with all of the padding. It always may
-/// fail: `not base64`; `not UTF-8`. `decode_base64("aGk=")` is `"hi"`.
+/// `decode_base64(value: string)`: string. The text whose bytes the standard alphabet of RFC 4648
+/// writes so, with all of the padding. It always may fail: `not base64`; `not UTF-8`.
+/// `decode_base64("aGk=")` is `"hi"`.
 #[derive(Clone, Copy)]
 pub struct DecodeBase64;
 
-// The bytes that were read; none where the text is no base64. `Memory`: there was no memory for them.
+// The bytes that were read; none where the text is no base64. `Memory`: there was no memory for
+// them.
 fn read(decoded: Result<Vec<u8>, DecodeAllocError>) -> Result<Option<Vec<u8>>, Memory>
     ensures memory { IsErr result → decoded ≡ Err OutOfMemory }
-    ensures read { (text : List ℕ) → IfOk decoded (λ bytes. decode_of standard text ≡ Ok bytes.items) → IfErr decoded (IsDecodeFailure standard text)
+    ensures read { (text : List ℕ) → IfOk decoded (λ bytes. decode_of standard text ≡ Ok bytes.items)
+        → IfErr decoded (IsDecodeFailure standard text)
         → IfOk result (λ found. option_map (λ bytes. bytes.items) found ≡ bytes_of_base64 text) }
 {
     match decoded {

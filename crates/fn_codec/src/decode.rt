@@ -9,7 +9,8 @@ use std::alloc::Global;
 use vrl_builtin::{Applied, Arguments, Givens, OneTag, Parameter, Setting, Tags, fail, required};
 use vrl_value::{Chars, Memory, Tag, Value};
 
-/// A function that is told by its name, the words of its error at a text that is no such code, and the bytes that it reads in others.
+/// A function that is told by its name, the words of its error at a text that is no such code, and
+/// the bytes that it reads in others.
 pub trait Decode {
     /// The name, the words, and the bytes of a text; none where it is no such code.
     ghost decode: { List ℕ × List ℕ × (List ℕ → Option (List ℕ)) };
@@ -27,8 +28,9 @@ pub trait Decode {
         ensures { IfOk result (λ found. option_map (λ bytes. bytes.items) found ≡ decode.2 text.now) };
 }
 
-/// The function that reads the bytes of a text in code, and gives them as a text. It always may fail: with words of its own where the text is no such
-/// code, and else with `not UTF-8` where the bytes are none (RFC 3629).
+/// The function that reads the bytes of a text in code, and gives them as a text. It always may
+/// fail: with words of its own where the text is no such code, and else with `not UTF-8` where the
+/// bytes are none (RFC 3629).
 #[derive(Clone, Copy)]
 pub struct Decoded<F>(pub F);
 
@@ -45,8 +47,8 @@ fn text_of(name: &'static str, bytes: Vec<u8>) -> Applied
     }
 }
 
-// What is answered of what was found: the text of the bytes, or the error in these words where the text is no such code. `Memory`: nothing was
-// found for want of it.
+// What is answered of what was found: the text of the bytes, or the error in these words where the
+// text is no such code. `Memory`: nothing was found for want of it.
 fn answer(
     name: &'static str,
     words: &'static str,

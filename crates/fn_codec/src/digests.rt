@@ -6,8 +6,8 @@ use std::alloc::Global;
 use vrl_builtin::FromText;
 use vrl_value::{Chars, Memory};
 
-/// `md5(value: string)`: string. The digest of the text's bytes by RFC 1321, as hexadecimal digits in lower case. It never fails. `md5("")` is
-/// `"d41d8cd98f00b204e9800998ecf8427e"`.
+/// `md5(value: string)`: string. The digest of the text's bytes by RFC 1321, as hexadecimal digits
+/// in lower case. It never fails. `md5("")` is `"d41d8cd98f00b204e9800998ecf8427e"`.
 #[derive(Clone, Copy)]
 pub struct Md5;
 
@@ -23,8 +23,8 @@ impl FromText for Md5 {
     }
 }
 
-/// `sha1(value: string)`: string. The digest of the text's bytes by RFC 3174, as hexadecimal digits in lower case. It never fails. `sha1("abc")` is
-/// `"a9993e364706816aba3e25717850c26c9cd0d89d"`.
+/// `sha1(value: string)`: string. The digest of the text's bytes by RFC 3174, as hexadecimal digits
+/// in lower case. It never fails. `sha1("abc")` is `"a9993e364706816aba3e25717850c26c9cd0d89d"`.
 #[derive(Clone, Copy)]
 pub struct Sha1;
 

@@ -6,8 +6,9 @@ use std::alloc::Global;
 use vrl_builtin::FromText;
 use vrl_value::{Chars, Memory};
 
-/// `encode_percent(value: string)`: string. The text with each byte but the letters and digits of ASCII written as `%` and two hexadecimal digits in
-/// upper case (RFC 3986, section 2.1). It never fails. `encode_percent("a b")` is `"a%20b"`.
+/// `encode_percent(value: string)`: string. The text with each byte but the letters and digits of
+/// ASCII written as `%` and two hexadecimal digits in upper case (RFC 3986, section 2.1). It never
+/// fails. `encode_percent("a b")` is `"a%20b"`.
 #[derive(Clone, Copy)]
 pub struct EncodePercent;
 
@@ -25,8 +26,9 @@ impl FromText for EncodePercent {
     }
 }
 
-/// `decode_percent(value: string)`: string. The text with the byte of each escape, a `%` and two hexadecimal digits, in its place; a `%` without two
-/// digits stays, and bytes that are no UTF-8 become U+FFFD. It never fails. `decode_percent("a%20b")` is `"a b"`.
+/// `decode_percent(value: string)`: string. The text with the byte of each escape, a `%` and two
+/// hexadecimal digits, in its place; a `%` without two digits stays, and bytes that are no UTF-8
+/// become U+FFFD. It never fails. `decode_percent("a%20b")` is `"a b"`.
 #[derive(Clone, Copy)]
 pub struct DecodePercent;
 

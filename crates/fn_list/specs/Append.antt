@@ -16,10 +16,11 @@ use Rattle.fn_list.specs.Sure.{chosen, is_known, placed, then_places, widened}
 abbrev pub appended : Tree → Tree → Tree
 appended v w = array (items_of_trees (list_in v ++ list_in w))
 
--- where both lengths are known, the places of the one stand behind those of the other; else they may stand at each place that isn't sure. The
--- last sets are those of the other's parts
+-- where both lengths are known, the places of the one stand behind those of the other; else they
+-- may stand at each place that isn't sure. The last sets are those of the other's parts
 abbrev pub appended_at : ListTree → ListTree → Sets → Sets
-appended_at (list_part ps r) (list_part qs q) A p t = chosen (is_known ps r && is_known qs q) (tags_at (array_kind (then_places ps qs) nothing)) (placed (widened ps r A)) p t
+appended_at (list_part ps r) (list_part qs q) A p t = chosen (is_known ps r && is_known qs q)
+    (tags_at (array_kind (then_places ps qs) nothing)) (placed (widened ps r A)) p t
 appended_at no_list m A p t = false
 appended_at l no_list A p t = false
 

@@ -9,7 +9,8 @@ use Rattle.vrl_builtin.specs.Containers.{array_of}
 use Rattle.vrl_builtin.specs.Rows.{Row, Answer, value, failure, named, any_literal, integer_at, literal_at, parameter, text_at}
 use Rattle.vrl_builtin.specs.TagSets.{integers, strings}
 
--- the first so many characters, and then the pieces of the rest, of which there are no more than the first number
+-- the first so many characters, and then the pieces of the rest, of which there are no more than
+-- the first number
 abbrev pub cut_up : ℕ → ℕ → List ℕ → List (List ℕ)
 cut_up zero size cs = []
 cut_up (suc most) size [] = []
@@ -23,7 +24,8 @@ abbrev pub is_small : ℤ → Bool
 is_small n = int_lt n (pos 1)
 
 abbrev pub chunked : List ℕ → ℤ → Answer
-chunked s n = if is_small n then failure (codes "chunk_size below 1") else value (array (items_of_trees (map string (pieces_of (unsigned_abs n) s))))
+chunked s n = if is_small n then failure (codes "chunk_size below 1")
+    else value (array (items_of_trees (map string (pieces_of (unsigned_abs n) s))))
 
 -- unless the size is a literal of at least 1
 abbrev pub may_be_small : Option Tree → Bool
@@ -37,5 +39,6 @@ chunks_row = record {
   accepts = any_literal;
   kind = λ givens sources. array_of (only_at tag.Text);
   may_fail = λ givens. may_be_small (literal_at 1 givens);
-  means = λ arguments setting. named (codes "chunks") (chunked (text_at 0 [] arguments) (integer_at 1 (pos 1) arguments));
+  means =
+      λ arguments setting. named (codes "chunks") (chunked (text_at 0 [] arguments) (integer_at 1 (pos 1) arguments));
 }

@@ -17,7 +17,8 @@ is_hollow v = false
 abbrev pub full : Tree → List Tree
 full t = if is_hollow t then [] else t ∷ []
 
--- from the inside out: a part that is empty once its own empty parts are taken away is taken away too
+-- from the inside out: a part that is empty once its own empty parts are taken away is taken away
+-- too
 abbrev mutual
   pub compacted : Tree → Tree
   compacted (array ts) = array (compact_items ts)
@@ -26,11 +27,13 @@ abbrev mutual
 
   pub compact_items : Items → Items
   compact_items no_items = no_items
-  compact_items (item t ts) = if is_hollow (compacted t) then compact_items ts else item (compacted t) (compact_items ts)
+  compact_items (item t ts) =
+      if is_hollow (compacted t) then compact_items ts else item (compacted t) (compact_items ts)
 
   pub compact_members : Members → Members
   compact_members no_members = no_members
-  compact_members (member k t ms) = if is_hollow (compacted t) then compact_members ms else member k (compacted t) (compact_members ms)
+  compact_members (member k t ms) =
+      if is_hollow (compacted t) then compact_members ms else member k (compacted t) (compact_members ms)
 
 abbrev pub compact_row : Row
 compact_row = record {

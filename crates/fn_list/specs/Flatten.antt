@@ -51,7 +51,8 @@ path_text separator k (l ∷ others) = k ++ (separator ++ path_text separator l 
 -- the leaves put at their joined names, behind a text; of equal ones the later in the walk counts
 abbrev pub put_leaves : List ℕ → List ℕ → List Leaf → Members → Members
 put_leaves start separator [] ms = ms
-put_leaves start separator (leaf ∷ others) ms = put_leaves start separator others (put (start ++ path_text separator leaf.first leaf.others) leaf.held ms)
+put_leaves start separator (leaf ∷ others) ms =
+    put_leaves start separator others (put (start ++ path_text separator leaf.first leaf.others) leaf.held ms)
 
 abbrev pub flattened : List ℕ → Tree → Tree
 flattened separator (array ts) = array (items_of_trees (opened ts))

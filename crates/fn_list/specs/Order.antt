@@ -1,4 +1,5 @@
--- An order of all values, by which equal ones find each other: by their tags, and at one tag by what is in them. Nothing shows which order it is.
+-- An order of all values, by which equal ones find each other: by their tags, and at one tag by
+-- what is in them. Nothing shows which order it is.
 use Rattle.std.specs.Prelude.{ℕ}
 use Rattle.std.specs.Cmp.Lexicographic.{slice_cmp}
 use Rattle.std.specs.Ordering.{bool_cmp, int_cmp, nat_cmp, ordering_then}
@@ -38,4 +39,5 @@ abbrev mutual
   order_members no_members no_members = Equal
   order_members no_members (member l u ns) = Less
   order_members (member k t ms) no_members = Greater
-  order_members (member k t ms) (member l u ns) = ordering_then (slice_cmp nat_cmp k l) (ordering_then (order t u) (order_members ms ns))
+  order_members (member k t ms) (member l u ns) =
+      ordering_then (slice_cmp nat_cmp k l) (ordering_then (order t u) (order_members ms ns))

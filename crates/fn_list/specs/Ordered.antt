@@ -19,7 +19,8 @@ abbrev sign_cmp : Sign → Sign → Ordering
 sign_cmp = then_cmp (on (λ s. s.0) nat_cmp) (then_cmp (on (λ s. s.1.0) (slice_cmp nat_cmp)) (on (λ s. s.1.1) int_cmp))
 
 sign_cmp_total : IsTotalOrder sign_cmp
-sign_cmp_total = then_total (on_total (λ s. s.0) nat_cmp_total) (then_total (on_total (λ s. s.1.0) nat_list_cmp_total) (on_total (λ s. s.1.1) int_cmp_total))
+sign_cmp_total = then_total (on_total (λ s. s.0) nat_cmp_total)
+    (then_total (on_total (λ s. s.1.0) nat_list_cmp_total) (on_total (λ s. s.1.1) int_cmp_total))
 
 abbrev bare : ℕ → Sign
 bare n = (n, ([], pos 0))
@@ -80,7 +81,8 @@ behind (object ms) x y z = refl
 
 -- values first, and then what follows their signs
 mutual
-  at : (v w : Tree) (x y : List Sign) → slice_cmp sign_cmp (signs v ++ x) (signs w ++ y) ≡ ordering_then (order v w) (slice_cmp sign_cmp x y)
+  at : (v w : Tree) (x y : List Sign)
+      → slice_cmp sign_cmp (signs v ++ x) (signs w ++ y) ≡ ordering_then (order v w) (slice_cmp sign_cmp x y)
   at null null x y = refl
   at (boolean true) (boolean true) x y = refl
   at (boolean true) (boolean false) x y = refl
@@ -88,13 +90,16 @@ mutual
   at (boolean false) (boolean false) x y = refl
   at (integer m) (integer n) x y = refl
   at (timestamp m) (timestamp n) x y = refl
-  at (regex m) (regex n) x y = ap (λ o. ordering_then o (slice_cmp sign_cmp x y)) (then_equal (ordering_then (nat_cmp m n) Equal) ∙ then_equal (nat_cmp m n))
+  at (regex m) (regex n) x y = ap (λ o. ordering_then o (slice_cmp sign_cmp x y))
+      (then_equal (ordering_then (nat_cmp m n) Equal) ∙ then_equal (nat_cmp m n))
   at (string s) (string t) x y = ap (λ o. ordering_then o (slice_cmp sign_cmp x y)) (then_equal (slice_cmp nat_cmp s t))
   at (array ts) (array us) x y = at_items ts us x y
   at (object ms) (object ns) x y = at_members ms ns x y
   at v w x y = refl
 
-  at_items : (ts us : Items) (x y : List Sign) → slice_cmp sign_cmp (item_signs ts ++ x) (item_signs us ++ y) ≡ ordering_then (order_items ts us) (slice_cmp sign_cmp x y)
+  at_items : (ts us : Items) (x y : List Sign)
+      → slice_cmp sign_cmp (item_signs ts ++ x) (item_signs us ++ y) ≡ ordering_then (order_items ts us)
+      (slice_cmp sign_cmp x y)
   at_items no_items no_items x y = refl
   at_items no_items (item u us) x y = before u x (item_signs us) y
   at_items (item t ts) no_items x y = behind t y (item_signs ts) x
@@ -104,16 +109,24 @@ mutual
       ∙ at t u (item_signs ts ++ x) (item_signs us ++ y) ∙ ap (ordering_then (order t u)) (at_items ts us x y)
       ∙ then_assoc (order t u) (order_items ts us) (slice_cmp sign_cmp x y)
 
-  at_members : (ms ns : Members) (x y : List Sign) → slice_cmp sign_cmp (member_signs ms ++ x) (member_signs ns ++ y) ≡ ordering_then (order_members ms ns) (slice_cmp sign_cmp x y)
+  at_members : (ms ns : Members) (x y : List Sign)
+      → slice_cmp sign_cmp (member_signs ms ++ x) (member_signs ns ++ y) ≡ ordering_then (order_members ms ns)
+      (slice_cmp sign_cmp x y)
   at_members no_members no_members x y = refl
   at_members no_members (member l u ns) x y = refl
   at_members (member k t ms) no_members x y = refl
   at_members (member k t ms) (member l u ns) x y =
-      ap (λ o. ordering_then o (slice_cmp sign_cmp ((signs t ++ member_signs ms) ++ x) ((signs u ++ member_signs ns) ++ y))) (then_equal (slice_cmp nat_cmp k l))
-      ∙ ap (λ zs. ordering_then (slice_cmp nat_cmp k l) (slice_cmp sign_cmp zs ((signs u ++ member_signs ns) ++ y))) (append_assoc (signs t) (member_signs ms) x)
-      ∙ ap (λ zs. ordering_then (slice_cmp nat_cmp k l) (slice_cmp sign_cmp (signs t ++ (member_signs ms ++ x)) zs)) (append_assoc (signs u) (member_signs ns) y)
-      ∙ ap (ordering_then (slice_cmp nat_cmp k l)) (at t u (member_signs ms ++ x) (member_signs ns ++ y) ∙ ap (ordering_then (order t u)) (at_members ms ns x y))
-      ∙ ap (ordering_then (slice_cmp nat_cmp k l)) (then_assoc (order t u) (order_members ms ns) (slice_cmp sign_cmp x y))
+      ap (λ o. ordering_then o
+      (slice_cmp sign_cmp ((signs t ++ member_signs ms) ++ x) ((signs u ++ member_signs ns) ++ y)))
+      (then_equal (slice_cmp nat_cmp k l))
+      ∙ ap (λ zs. ordering_then (slice_cmp nat_cmp k l) (slice_cmp sign_cmp zs ((signs u ++ member_signs ns) ++ y)))
+      (append_assoc (signs t) (member_signs ms) x)
+      ∙ ap (λ zs. ordering_then (slice_cmp nat_cmp k l) (slice_cmp sign_cmp (signs t ++ (member_signs ms ++ x)) zs))
+      (append_assoc (signs u) (member_signs ns) y)
+      ∙ ap (ordering_then (slice_cmp nat_cmp k l))
+      (at t u (member_signs ms ++ x) (member_signs ns ++ y) ∙ ap (ordering_then (order t u)) (at_members ms ns x y))
+      ∙ ap (ordering_then (slice_cmp nat_cmp k l))
+      (then_assoc (order t u) (order_members ms ns) (slice_cmp sign_cmp x y))
       ∙ then_assoc (slice_cmp nat_cmp k l) (ordering_then (order t u) (order_members ms ns)) (slice_cmp sign_cmp x y)
 
 by_signs : (v w : Tree) → on (λ u. signs u ++ []) (slice_cmp sign_cmp) v w ≡ order v w
@@ -146,12 +159,14 @@ mutual
   tied_items no_items no_items = refl
   tied_items no_items (item u us) = refl
   tied_items (item t ts) no_items = refl
-  tied_items (item t ts) (item u us) = both_tied (same t u) (same_items ts us) (order t u) (order_items ts us) (tied t u) (tied_items ts us)
+  tied_items (item t ts) (item u us) =
+      both_tied (same t u) (same_items ts us) (order t u) (order_items ts us) (tied t u) (tied_items ts us)
 
   tied_members : (ms ns : Members) → same_members ms ns ≡ is_eq (order_members ms ns)
   tied_members no_members no_members = refl
   tied_members no_members (member l u ns) = refl
   tied_members (member k t ms) no_members = refl
   tied_members (member k t ms) (member l u ns) =
-      both_tied (bytes_eq k l) (same t u && same_members ms ns) (slice_cmp nat_cmp k l) (ordering_then (order t u) (order_members ms ns)) (texts_tied k l)
+      both_tied (bytes_eq k l) (same t u && same_members ms ns) (slice_cmp nat_cmp k l)
+      (ordering_then (order t u) (order_members ms ns)) (texts_tied k l)
       (both_tied (same t u) (same_members ms ns) (order t u) (order_members ms ns) (tied t u) (tied_members ms ns))

@@ -15,10 +15,12 @@ use Rattle.fn_list.specs.Sure.{chosen, is_known, placed, then_places, widened}
 abbrev pub pushed : Tree → Tree → Tree
 pushed v w = array (items_of_trees (list_in v ++ w ∷ []))
 
--- where the length is known, the new value stands at the next place; else it may stand at each place that isn't sure
+-- where the length is known, the new value stands at the next place; else it may stand at each
+-- place that isn't sure
 abbrev pub pushed_at : ListTree → KindTree → Sets
 pushed_at no_list K p t = false
-pushed_at (list_part ps r) K p t = chosen (is_known ps r) (tags_at (array_kind (then_places ps (known_place K no_places)) nothing)) (placed (widened ps r (tags_at K))) p t
+pushed_at (list_part ps r) K p t = chosen (is_known ps r)
+    (tags_at (array_kind (then_places ps (known_place K no_places)) nothing)) (placed (widened ps r (tags_at K))) p t
 
 abbrev pub push_kind : Option KindTree → Option KindTree → Sets
 push_kind (Some K) (Some L) p t = pushed_at (list_tree K) L p t

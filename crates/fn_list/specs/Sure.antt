@@ -49,7 +49,8 @@ joined B A p t = or_absent p (λ u. B p u || A p u) t
 
 -- sure places keep what they allow, and each other is joined with these sets and absent
 abbrev pub widened : Places → RestTree → Sets → ℕ → Sets
-widened ps r A i p t = if is_sure ps i then places_at ps i p (rest_at r p) t else joined (λ q. places_at ps i q (rest_at r q)) A p t
+widened ps r A i p t =
+    if is_sure ps i then places_at ps i p (rest_at r p) t else joined (λ q. places_at ps i q (rest_at r q)) A p t
 
 -- one or the other
 abbrev pub chosen : Bool → Sets → Sets → Sets

@@ -20,9 +20,10 @@ use vrl_kind::{Kind, Rest, list_part};
 use vrl_pattern::Patterns;
 use vrl_value::{Items, Memory, Value};
 
-/// `append(value: array, items: array)`: array; where both lengths are known, the places of the one behind those of the other, and else the
-/// parts of the other at each place that may be absent or stands behind one that may. The items of the one, and then those of the other. It
-/// never fails. It copies both. `append([1], [2])` is `[1,2]`.
+/// `append(value: array, items: array)`: array; where both lengths are known, the places of the one
+/// behind those of the other, and else the parts of the other at each place that may be absent or
+/// stands behind one that may. The items of the one, and then those of the other. It never fails.
+/// It copies both. `append([1], [2])` is `[1,2]`.
 #[derive(Clone, Copy)]
 pub struct Append;
 
@@ -42,14 +43,19 @@ fn appended(alloc: Global, array: &Value, more: &Value) -> Result<Value, Memory>
 
 // Whether the lengths of both arrays are known.
 fn both_known(places: &[Kind], rest: &Rest, others: &[Kind], behind: &Rest) -> bool
-    ensures { result ≡ (is_known (places_view places.now) (rest_of rest.now) && is_known (places_view others.now) (rest_of behind.now)) }
+    ensures { result ≡
+        (is_known (places_view places.now) (rest_of rest.now) && is_known (places_view others.now)
+        (rest_of behind.now)) }
 {
     is_known(places, rest) && is_known(others, behind)
 }
 
-// The kind of the items of arrays of one kind, and then those of another, the kind of whose parts is the last.
+// The kind of the items of arrays of one kind, and then those of another, the kind of whose parts
+// is the last.
 fn appended_kind(alloc: Global, arrays: &Kind, others: &Kind, parts: &Kind) -> Result<Kind, Memory>
-    ensures { IfOk result (λ kind. SameSets (tags_at kind) (appended_at (list_tree arrays.now) (list_tree others.now) (tags_at parts.now))) }
+    ensures { IfOk result
+        (λ kind. SameSets (tags_at kind)
+        (appended_at (list_tree arrays.now) (list_tree others.now) (tags_at parts.now))) }
 {
     let Some((places, rest)) = list_part(arrays) else {
         return Ok(Kind::never());
@@ -74,7 +80,9 @@ fn joined_kind(alloc: Global, arrays: &Kind, others: &Kind) -> Result<Kind, Memo
 
 // The kind of what a call gives.
 fn given_kind(alloc: Global, given: &Givens) -> Result<Kind, Memory>
-    ensures { IfOk result (λ kind. SameSets (tags_at kind) (append_kind (kind_at 0 (givens_of given.now)) (kind_at 1 (givens_of given.now)))) }
+    ensures { IfOk result
+        (λ kind. SameSets (tags_at kind)
+        (append_kind (kind_at 0 (givens_of given.now)) (kind_at 1 (givens_of given.now)))) }
 {
     let Some(arrays) = given.kind(0) else {
         return Ok(Kind::never());

@@ -15,8 +15,9 @@ use vrl_kind::Kind;
 use vrl_pattern::Patterns;
 use vrl_value::{Chars, Items, Memory, Tag, Value};
 
-/// `chunks(value: string, chunk_size: integer)`: array of string. The text in pieces of so many characters, the last one shorter; none for an
-/// empty text. It may fail unless the size is a literal of at least 1: `chunk_size below 1`. `chunks("abcde", 2)` is `["ab","cd","e"]`.
+/// `chunks(value: string, chunk_size: integer)`: array of string. The text in pieces of so many
+/// characters, the last one shorter; none for an empty text. It may fail unless the size is a
+/// literal of at least 1: `chunk_size below 1`. `chunks("abcde", 2)` is `["ab","cd","e"]`.
 #[derive(Clone, Copy)]
 pub struct Chunks;
 
@@ -25,7 +26,8 @@ static PARAMETERS: [Parameter; 2] = [
     required!("chunk_size", Tags::INTEGER),
 ];
 
-// A text that is cut: the pieces that are full, the one that isn't, and how many characters it has room for.
+// A text that is cut: the pieces that are full, the one that isn't, and how many characters it has
+// room for.
 #[derive(Drop)]
 struct Cutting {
     closed: Vec<Value>,
@@ -35,7 +37,8 @@ struct Cutting {
 
 // Puts a text behind the pieces.
 fn push_piece(pieces: &mut Vec<Value>, text: String) -> Result<(), Memory>
-    ensures { OnOk result (map tree_of pieces.new.items ≡ map tree_of pieces.old.items ++ (string (string_bytes text) ∷ [])) }
+    ensures { OnOk result
+        (map tree_of pieces.new.items ≡ map tree_of pieces.old.items ++ (string (string_bytes text) ∷ [])) }
 {
     pieces.push(Value::Text(Chars::new(text)))?;
     Ok(())

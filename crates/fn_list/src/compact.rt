@@ -11,8 +11,9 @@ use vrl_kind::Kind;
 use vrl_pattern::Patterns;
 use vrl_value::{Chars, Fields, Items, Memory, Value};
 
-/// `compact(value: array or object)`: array of any or object of any, where the value's kind allows either. From the inside out, the parts that
-/// are null, `""`, `[]` or `{}` are taken away. It never fails. `compact([null,1,[""]])` is `[1]`.
+/// `compact(value: array or object)`: array of any or object of any, where the value's kind allows
+/// either. From the inside out, the parts that are null, `""`, `[]` or `{}` are taken away. It
+/// never fails. `compact([null,1,[""]])` is `[1]`.
 #[derive(Clone, Copy)]
 pub struct Compact;
 

@@ -15,7 +15,8 @@ fn push_copies(alloc: Global, items: &mut Vec<Value>, more: &[Value]) -> Result<
     Ok(())
 }
 
-// Puts copies of the items of an array behind others; another value has none. `Memory`: want of memory; some may be put.
+// Puts copies of the items of an array behind others; another value has none. `Memory`: want of
+// memory; some may be put.
 pub(crate) fn push_items(alloc: Global, items: &mut Vec<Value>, value: &Value) -> Result<(), Memory>
     ensures { OnOk result (map tree_of items.new.items ≡ map tree_of items.old.items ++ list_in (tree_of value.now)) }
 {

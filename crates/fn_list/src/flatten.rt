@@ -13,10 +13,11 @@ use vrl_kind::Kind;
 use vrl_pattern::Patterns;
 use vrl_value::{Chars, Fields, Items, Memory, Value};
 
-/// `flatten(value: array or object, separator: string = ".")`: array of any or object of any, where the value's kind allows either. In an array
-/// the arrays are opened, at every depth. In an object the objects are opened, at every depth, and what stands in them has the names that lead to
-/// it, joined by the separator; an empty object stays, and of equal names the later in the walk counts. It never fails.
-/// `flatten([1,[2,[3]]])` is `[1,2,3]`.
+/// `flatten(value: array or object, separator: string = ".")`: array of any or object of any, where
+/// the value's kind allows either. In an array the arrays are opened, at every depth. In an object
+/// the objects are opened, at every depth, and what stands in them has the names that lead to it,
+/// joined by the separator; an empty object stays, and of equal names the later in the walk counts.
+/// It never fails. `flatten([1,[2,[3]]])` is `[1,2,3]`.
 #[derive(Clone, Copy)]
 pub struct Flatten;
 
@@ -96,7 +97,9 @@ fn put_fields(
     fields: &Fields,
     out: &mut Fields,
 ) -> Result<(), Memory>
-    ensures { OnOk result (members_of out.new ≡ put_leaves start.now separator.now (leaves (members_of fields.now)) (members_of out.old)) }
+    ensures { OnOk result
+        (members_of out.new ≡ put_leaves start.now separator.now (leaves (members_of fields.now))
+        (members_of out.old)) }
 {
     for (name, value) in fields.as_map().iter() {
         put_value(alloc, start, separator, name.as_str(), value, out)?;
@@ -114,7 +117,9 @@ fn put_value(
     value: &Value,
     out: &mut Fields,
 ) -> Result<(), Memory>
-    ensures { OnOk result (members_of out.new ≡ put_leaves start.now separator.now (leaves_at name.now (tree_of value.now)) (members_of out.old)) }
+    ensures { OnOk result
+        (members_of out.new ≡ put_leaves start.now separator.now (leaves_at name.now (tree_of value.now))
+        (members_of out.old)) }
 {
     match inner(value) {
         Some(fields) => {
@@ -130,7 +135,8 @@ fn put_value(
 
 // The object of what stands in fields, at the names that lead to it.
 fn flat_object(alloc: Global, separator: &str, fields: &Fields) -> Result<Value, Memory>
-    ensures { IfOk result (λ value. tree_of value ≡ object (put_leaves [] separator.now (leaves (members_of fields.now)) no_members)) }
+    ensures { IfOk result
+        (λ value. tree_of value ≡ object (put_leaves [] separator.now (leaves (members_of fields.now)) no_members)) }
 {
     let mut out = Fields::new(BTreeMap::new(alloc));
     put_fields(alloc, "", separator, fields, &mut out)?;

@@ -9,8 +9,8 @@ use vrl_builtin::{
 };
 use vrl_value::{Tag, Value};
 
-/// `includes(value: array, item: any)`: boolean. Whether an item of the array equals the value. It never fails. It looks at each item once.
-/// `includes([1], 1)` is true.
+/// `includes(value: array, item: any)`: boolean. Whether an item of the array equals the value. It
+/// never fails. It looks at each item once. `includes([1], 1)` is true.
 #[derive(Clone, Copy)]
 pub struct Includes;
 

@@ -62,7 +62,8 @@ fn order_items(items: &[Value], others: &[Value]) -> Ordering
     }
 }
 
-// The order of two objects: the first two fields that differ decide, by their names and then by their values.
+// The order of two objects: the first two fields that differ decide, by their names and then by
+// their values.
 #[cycle(order)]
 fn order_fields(fields: &Fields, others: &Fields) -> Ordering
     ensures { result ≡ order_members (members_of fields.now) (members_of others.now) }
@@ -88,7 +89,8 @@ fn order_fields(fields: &Fields, others: &Fields) -> Ordering
 // The order of two fields: their names decide, or else their values.
 #[cycle(order)]
 fn order_field(name: &str, value: &Value, key: &str, other: &Value) -> Ordering
-    ensures { result ≡ ordering_then (slice_cmp nat_cmp name.now key.now) (order (tree_of value.now) (tree_of other.now)) }
+    ensures { result ≡ ordering_then (slice_cmp nat_cmp name.now key.now)
+        (order (tree_of value.now) (tree_of other.now)) }
 {
     match name.cmp(key) {
         Ordering::Less => Ordering::Less,

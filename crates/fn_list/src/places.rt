@@ -38,7 +38,8 @@ fn is_nothing(rest: &Rest) -> bool
     }
 }
 
-// Whether the length of arrays with these places and this rest is known: the rest is nothing, and each place is sure.
+// Whether the length of arrays with these places and this rest is known: the rest is nothing, and
+// each place is sure.
 pub(crate) fn is_known(places: &[Kind], rest: &Rest) -> bool
     ensures { result ≡ is_known (places_view places.now) (rest_of rest.now) }
 {
@@ -61,7 +62,8 @@ fn push_kinds(alloc: Global, kinds: &mut Vec<Kind>, more: &[Kind]) -> Result<(),
 
 // The kind of the arrays with these places, and then those. `Memory`: want of memory.
 pub(crate) fn exact(alloc: Global, first: &[Kind], second: &[Kind]) -> Result<Kind, Memory>
-    ensures { IfOk result (λ kind. SameTags kind (array_kind (then_places (places_view first.now) (places_view second.now)) nothing)) }
+    ensures { IfOk result
+        (λ kind. SameTags kind (array_kind (then_places (places_view first.now) (places_view second.now)) nothing)) }
 {
     let mut kinds = Vec::with_capacity(alloc, first.len())?;
     push_kinds(alloc, &mut kinds, first)?;
@@ -71,7 +73,9 @@ pub(crate) fn exact(alloc: Global, first: &[Kind], second: &[Kind]) -> Result<Ki
 
 // The kind of the arrays with these places, and then one of this kind. `Memory`: want of memory.
 pub(crate) fn exact_with(alloc: Global, first: &[Kind], last: &Kind) -> Result<Kind, Memory>
-    ensures { IfOk result (λ kind. SameTags kind (array_kind (then_places (places_view first.now) (known_place last.now no_places)) nothing)) }
+    ensures { IfOk result
+        (λ kind. SameTags kind
+        (array_kind (then_places (places_view first.now) (known_place last.now no_places)) nothing)) }
 {
     let mut kinds = Vec::with_capacity(alloc, first.len())?;
     push_kinds(alloc, &mut kinds, first)?;
@@ -87,7 +91,8 @@ fn joined(alloc: Global, place: &Kind, with: &Kind) -> Result<Kind, Memory>
     Ok(either.or_absent())
 }
 
-// The kind of a place that stays as it is where it is sure, and else is joined with another kind and absent.
+// The kind of a place that stays as it is where it is sure, and else is joined with another kind
+// and absent.
 fn widened_place(alloc: Global, place: &Kind, with: &Kind, sure: bool) -> Result<Kind, Memory>
     ensures { IfOk result (λ kind. IsWidened sure (tags_at with.now) place.now kind) }
 {
@@ -125,14 +130,17 @@ fn exactly(alloc: Global, kind: Kind) -> Result<Rest, Memory>
     Ok(Rest::Exact(Box::new(alloc, kind)?))
 }
 
-// The kind of arrays whose sure places stay as they are, and each other place is joined with another kind and absent. `Memory`: want of memory.
+// The kind of arrays whose sure places stay as they are, and each other place is joined with
+// another kind and absent. `Memory`: want of memory.
 pub(crate) fn widened(
     alloc: Global,
     places: &[Kind],
     rest: &Rest,
     with: &Kind,
 ) -> Result<Kind, Memory>
-    ensures { IfOk result (λ kind. SameSets (tags_at kind) (placed (widened (places_view places.now) (rest_of rest.now) (tags_at with.now)))) }
+    ensures { IfOk result
+        (λ kind. SameSets (tags_at kind)
+        (placed (widened (places_view places.now) (rest_of rest.now) (tags_at with.now)))) }
 {
     let kinds = widened_places(alloc, places, with)?;
     let behind = rest.kind(alloc)?;

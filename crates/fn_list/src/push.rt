@@ -18,8 +18,9 @@ use vrl_kind::{Kind, Rest, list_part};
 use vrl_pattern::Patterns;
 use vrl_value::{Items, Memory, Value};
 
-/// `push(value: array, item: any)`: array; where its length is known, the item's kind stands at the next place, and else at each place that may
-/// be absent or stands behind one that may. The array with one item more at its end. It never fails. It copies the array and the item.
+/// `push(value: array, item: any)`: array; where its length is known, the item's kind stands at the
+/// next place, and else at each place that may be absent or stands behind one that may. The array
+/// with one item more at its end. It never fails. It copies the array and the item.
 /// `push([1], "a")` is `[1,"a"]`.
 #[derive(Clone, Copy)]
 pub struct Push;
@@ -40,7 +41,8 @@ fn pushed(alloc: Global, array: &Value, item: &Value) -> Result<Value, Memory>
 
 // The kind of arrays with these places and this rest, with one item more.
 fn longer_kind(alloc: Global, places: &[Kind], rest: &Rest, item: &Kind) -> Result<Kind, Memory>
-    ensures { IfOk result (λ kind. SameSets (tags_at kind) (pushed_at (list_with (places_view places.now) (rest_of rest.now)) item.now)) }
+    ensures { IfOk result
+        (λ kind. SameSets (tags_at kind) (pushed_at (list_with (places_view places.now) (rest_of rest.now)) item.now)) }
 {
     if is_known(places, rest) {
         exact_with(alloc, places, item)
@@ -61,7 +63,9 @@ fn pushed_kind(alloc: Global, arrays: &Kind, item: &Kind) -> Result<Kind, Memory
 
 // The kind of what a call gives.
 fn given_kind(alloc: Global, given: &Givens) -> Result<Kind, Memory>
-    ensures { IfOk result (λ kind. SameSets (tags_at kind) (push_kind (kind_at 0 (givens_of given.now)) (kind_at 1 (givens_of given.now)))) }
+    ensures { IfOk result
+        (λ kind. SameSets (tags_at kind)
+        (push_kind (kind_at 0 (givens_of given.now)) (kind_at 1 (givens_of given.now)))) }
 {
     let Some(arrays) = given.kind(0) else {
         return Ok(Kind::never());

@@ -14,8 +14,9 @@ use vrl_kind::Kind;
 use vrl_pattern::Patterns;
 use vrl_value::{Items, Memory, Value};
 
-/// `unique(value: array)`: array of the parts of the array's kind. The items of the array, of equal ones the first alone. It never fails. It
-/// makes some n log n comparisons of n items. `unique([1,1,2])` is `[1,2]`.
+/// `unique(value: array)`: array of the parts of the array's kind. The items of the array, of equal
+/// ones the first alone. It never fails. It makes some n log n comparisons of n items.
+/// `unique([1,1,2])` is `[1,2]`.
 #[derive(Clone, Copy)]
 pub struct Unique;
 
@@ -29,7 +30,10 @@ fn push_new<'a>(
     item: &'a Value,
 ) -> Result<(), Memory>
     requires { Finds seen.old (map tree_of kept.old.items) }
-    ensures kept { OnOk result (map tree_of kept.new.items ≡ (if is_in (map tree_of kept.old.items) (tree_of item.now) then map tree_of kept.old.items else map tree_of kept.old.items ++ (tree_of item.now ∷ []))) }
+    ensures kept { OnOk result
+        (map tree_of kept.new.items ≡
+        (if is_in (map tree_of kept.old.items) (tree_of item.now) then map tree_of kept.old.items
+        else map tree_of kept.old.items ++ (tree_of item.now ∷ []))) }
     ensures seen { OnOk result (Finds seen.new (map tree_of kept.new.items)) }
 {
     if seen.insert(Key { value: item })? {

@@ -15,8 +15,9 @@ use vrl_kind::{Kind, Rest};
 use vrl_pattern::Patterns;
 use vrl_value::{Items, Memory, Value};
 
-/// `zip(array_0: array, array_1: array)`: array of arrays of two places, of the parts of each. The items of both in pairs, up to the shorter
-/// length. It never fails. `zip([1,2], ["a"])` is `[[1,"a"]]`.
+/// `zip(array_0: array, array_1: array)`: array of arrays of two places, of the parts of each. The
+/// items of both in pairs, up to the shorter length. It never fails. `zip([1,2], ["a"])` is
+/// `[[1,"a"]]`.
 #[derive(Clone, Copy)]
 pub struct Zip;
 
@@ -37,7 +38,8 @@ fn pair(alloc: Global, first: &Value, second: &Value) -> Result<Value, Memory>
 
 // The values in pairs, up to the shorter length.
 fn pairs(alloc: Global, first: &[Value], second: &[Value]) -> Result<Vec<Value>, Memory>
-    ensures { IfOk result (λ pairs. map tree_of pairs.items ≡ pairs_of (map tree_of first.now) (map tree_of second.now)) }
+    ensures { IfOk result
+        (λ pairs. map tree_of pairs.items ≡ pairs_of (map tree_of first.now) (map tree_of second.now)) }
 {
     let mut pairs = Vec::new(alloc);
     let mut left = first;
@@ -73,7 +75,9 @@ fn pair_kind(alloc: Global, first: Kind, second: Kind) -> Result<Kind, Memory>
 
 // The kind of the pairs of what is given.
 fn zipped_kind(alloc: Global, given: &Givens) -> Result<Kind, Memory>
-    ensures { IfOk result (λ kind. SameSets (tags_at kind) (zip_kind (kind_at 0 (givens_of given.now)) (kind_at 1 (givens_of given.now)))) }
+    ensures { IfOk result
+        (λ kind. SameSets (tags_at kind)
+        (zip_kind (kind_at 0 (givens_of given.now)) (kind_at 1 (givens_of given.now)))) }
 {
     let first = given.array_parts(alloc, 0)?;
     let second = given.array_parts(alloc, 1)?;

@@ -9,7 +9,8 @@ use Rattle.vrl_builtin.specs.TagSets.{integers}
 use Rattle.fn_number.specs.Numeral.{is_base, written_in}
 
 abbrev pub formatted : ℤ → ℤ → Answer
-formatted n base = if is_base base then value (string (written_in (unsigned_abs base) n)) else failure (codes "bad base")
+formatted n base =
+    if is_base base then value (string (written_in (unsigned_abs base) n)) else failure (codes "bad base")
 
 -- unless the base isn't given or is a literal of 2 to 36
 abbrev pub may_be_bad : Option KindTree → Option Tree → Bool

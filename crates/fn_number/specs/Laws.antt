@@ -21,7 +21,8 @@ abs-law = record { present = refl; lawful = λ givens arguments setting fit inst
 
 -- ---- mod
 
-mod_fails : (literal argument : Option Tree) → IfSome literal (λ v. argument ≡ Some v) → int_eq (integer_or (pos 0) argument) (pos 0) ≡ true → IsTrue (may_be_zero literal)
+mod_fails : (literal argument : Option Tree) → IfSome literal (λ v. argument ≡ Some v)
+    → int_eq (integer_or (pos 0) argument) (pos 0) ≡ true → IsTrue (may_be_zero literal)
 mod_fails None argument same zero = refl
 mod_fails (Some (integer n)) argument same zero = sym (ap (λ a. int_eq (integer_or (pos 0) a) (pos 0)) same) ∙ zero
 mod_fails (Some v) argument same zero = refl
@@ -30,38 +31,51 @@ pub mod-law : KeepsOneTag mod_row
 mod-law = record {
   present = refl;
   lawful = λ givens arguments setting fit instances.
-      let n = integer_at 0 (pos 0) arguments in let m = integer_at 1 (pos 0) arguments in let fails = may_be_zero (literal_at 1 givens) in
+      let n = integer_at 0 (pos 0) arguments in let m = integer_at 1 (pos 0) arguments in let fails = may_be_zero
+      (literal_at 1 givens) in
       choice_is (IsOneTag Int fails) (int_eq m (pos 0)) (failure (codes "modulus is 0")) (value (integer (int_rem n m)))
       (mod_fails (literal_at 1 givens) (argument_at 1 arguments) (instances.literals 1)) (λ other. (tt, refl));
 }
 
 -- ---- format_int
 
-format_fails : (K : Option KindTree) (literal argument : Option Tree) → IsOfGiven K argument → IfSome literal (λ v. argument ≡ Some v) → is_base (integer_or (pos 10) argument) ≡ false → IsTrue (may_be_bad K literal)
+format_fails : (K : Option KindTree) (literal argument : Option Tree) → IsOfGiven K argument
+    → IfSome literal (λ v. argument ≡ Some v) → is_base (integer_or (pos 10) argument) ≡ false
+    → IsTrue (may_be_bad K literal)
 format_fails None None None of same bad = sym bad
 format_fails None None (Some v) of same bad = absurd of
 format_fails (Some K) None argument of same bad = refl
-format_fails K (Some (integer base)) argument of same bad = ap not (sym (ap (λ a. is_base (integer_or (pos 10) a)) same) ∙ bad)
+format_fails K (Some (integer base)) argument of same bad =
+    ap not (sym (ap (λ a. is_base (integer_or (pos 10) a)) same) ∙ bad)
 format_fails K (Some v) argument of same bad = refl
 
 pub format_int-law : KeepsOneTag format_int_row
 format_int-law = record {
   present = refl;
   lawful = λ givens arguments setting fit instances.
-      let base = integer_at 1 (pos 10) arguments in let s = written_in (unsigned_abs base) (integer_at 0 (pos 0) arguments) in let fails = may_be_bad (kind_at 1 givens) (literal_at 1 givens) in
-      choice_is (IsOneTag Text fails) (is_base base) (value (string s)) (failure (codes "bad base")) (λ good. (tt, refl))
-      (format_fails (kind_at 1 givens) (literal_at 1 givens) (argument_at 1 arguments) (instances.kinds 1) (instances.literals 1));
+      let base = integer_at 1 (pos 10) arguments in let s = written_in (unsigned_abs base)
+      (integer_at 0 (pos 0) arguments) in let fails = may_be_bad (kind_at 1 givens) (literal_at 1 givens) in
+      choice_is (IsOneTag Text fails) (is_base base) (value (string s)) (failure (codes "bad base"))
+      (λ good. (tt, refl))
+      (format_fails (kind_at 1 givens) (literal_at 1 givens) (argument_at 1 arguments) (instances.kinds 1)
+      (instances.literals 1));
 }
 
 -- ---- parse_int
 
 read_is_one_tag : (number : Option ℤ) → IsOneTag Int true (read number)
-read_is_one_tag number = told_is_one_tag integer Int (codes "not a whole number") number true (λ n. (tt, refl)) (λ none. refl)
+read_is_one_tag number =
+    told_is_one_tag integer Int (codes "not a whole number") number true (λ n. (tt, refl)) (λ none. refl)
 
 parsed_is_one_tag : (text : List ℕ) (base : Option ℤ) → IsOneTag Int true (parsed text base)
 parsed_is_one_tag text None = read_is_one_tag (read_by_prefix text)
 parsed_is_one_tag text (Some base) =
-    choice_is (IsOneTag Int true) (is_base base) (read (read_in (unsigned_abs base) text)) (failure (codes "bad base")) (λ good. read_is_one_tag (read_in (unsigned_abs base) text)) (λ bad. refl)
+    choice_is (IsOneTag Int true) (is_base base) (read (read_in (unsigned_abs base) text)) (failure (codes "bad base"))
+    (λ good. read_is_one_tag (read_in (unsigned_abs base) text)) (λ bad. refl)
 
 pub parse_int-law : KeepsOneTag parse_int_row
-parse_int-law = record { present = refl; lawful = λ givens arguments setting fit instances. parsed_is_one_tag (text_at 0 [] arguments) (optional_integer 1 arguments) }
+parse_int-law = record {
+  present = refl;
+  lawful = λ givens arguments setting fit instances. parsed_is_one_tag
+      (text_at 0 [] arguments) (optional_integer 1 arguments);
+}

@@ -9,7 +9,8 @@ use Rattle.vrl_builtin.specs.TagSets.{integers}
 
 -- the remainder with the sign of the number, which is 0 for the least number by -1
 abbrev pub remainder : ℤ → ℤ → Answer
-remainder n modulus = if int_eq modulus (pos 0) then failure (codes "modulus is 0") else value (integer (int_rem n modulus))
+remainder n modulus =
+    if int_eq modulus (pos 0) then failure (codes "modulus is 0") else value (integer (int_rem n modulus))
 
 -- unless the modulus is a literal other than 0
 abbrev pub may_be_zero : Option Tree → Bool

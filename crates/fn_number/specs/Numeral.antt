@@ -26,7 +26,8 @@ begins_with_digit (c ∷ ds) = is_ascii_digit c
 -- the base that stands behind a `0`: `b`, `o` or `x` tells it, or another digit
 abbrev pub base_behind_zero : List ℕ → ℕ
 base_behind_zero [] = 10
-base_behind_zero (c ∷ ds) = if c == 98 then 2 else (if c == 111 then 8 else (if c == 120 then 16 else (if is_ascii_digit c then 8 else 10)))
+base_behind_zero (c ∷ ds) =
+    if c == 98 then 2 else (if c == 111 then 8 else (if c == 120 then 16 else (if is_ascii_digit c then 8 else 10)))
 
 -- the base that digits tell by a prefix
 abbrev pub base_of : List ℕ → ℕ

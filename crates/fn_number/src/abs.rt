@@ -5,8 +5,8 @@ use std::alloc::Global;
 use vrl_builtin::{Applied, Arguments, Givens, OneTag, Parameter, Setting, Tags, required};
 use vrl_value::{Tag, Value};
 
-/// `abs(value: integer)`: integer. The number without its sign; the least number stays as it is, since 64 bits hold no counterpart of it. It
-/// never fails. `abs(-3)` is 3.
+/// `abs(value: integer)`: integer. The number without its sign; the least number stays as it is,
+/// since 64 bits hold no counterpart of it. It never fails. `abs(-3)` is 3.
 #[derive(Clone, Copy)]
 pub struct Abs;
 

@@ -8,9 +8,9 @@ use vrl_builtin::{
 };
 use vrl_value::{Chars, Tag, Value};
 
-/// `format_int(value: integer, base: integer = 10)`: string. The digits of the number in the base, in lower case, with `-` first where it is
-/// negative. It may fail unless the base isn't given or is a literal of 2 to 36. A base outside 2 to 36: `bad base`. `format_int(255, 16)` is
-/// `"ff"`.
+/// `format_int(value: integer, base: integer = 10)`: string. The digits of the number in the base,
+/// in lower case, with `-` first where it is negative. It may fail unless the base isn't given or
+/// is a literal of 2 to 36. A base outside 2 to 36: `bad base`. `format_int(255, 16)` is `"ff"`.
 #[derive(Clone, Copy)]
 pub struct FormatInt;
 

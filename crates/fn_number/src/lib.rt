@@ -1,6 +1,7 @@
 //! The functions of whole numbers.
 //!
-//! Files: each function has a file, and its row one of `specs/`. `numeral.rt` has the digits that two of them read and write. The laws stand in `Laws`.
+//! Files: each function has a file, and its row one of `specs/`. `numeral.rt` has the digits that
+//! two of them read and write. The laws stand in `Laws`.
 #![tactic(auto)]
 
 mod abs;

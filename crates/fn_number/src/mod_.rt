@@ -5,8 +5,9 @@ use std::alloc::Global;
 use vrl_builtin::{Applied, Arguments, Givens, OneTag, Parameter, Setting, Tags, fail, required};
 use vrl_value::{Tag, Value};
 
-/// `mod(value: integer, modulus: integer)`: integer. The remainder, with the sign of the value; 0 for the least number by -1. It may fail
-/// unless the modulus is a literal other than 0: `modulus is 0`. `mod(-7, 3)` is -1.
+/// `mod(value: integer, modulus: integer)`: integer. The remainder, with the sign of the value; 0
+/// for the least number by -1. It may fail unless the modulus is a literal other than 0:
+/// `modulus is 0`. `mod(-7, 3)` is -1.
 #[derive(Clone, Copy)]
 pub struct Mod;
 

@@ -37,8 +37,8 @@ fn split_sign(text: &str) -> (bool, &str)
     }
 }
 
-// The base that the digits tell by their prefix, and those of that base: what stands behind `0b`, `0o` and `0x`, and all of them where a `0`
-// stands before another digit.
+// The base that the digits tell by their prefix, and those of that base: what stands behind `0b`,
+// `0o` and `0x`, and all of them where a `0` stands before another digit.
 fn split_base(digits: &str) -> (u32, &str)
     ensures base { result.0 ≡ base_of digits.now }
     ensures digits { result.1.now ≡ behind_prefix digits.now }
@@ -71,8 +71,8 @@ fn with_sign(negative: bool, magnitude: u64) -> Option<i64>
     i64::try_from(number).ok()
 }
 
-// The number that digits without a sign write in a base, with this sign. `None`: there is no digit, or some other character, or the number
-// has more than 64 bits.
+// The number that digits without a sign write in a base, with this sign. `None`: there is no digit,
+// or some other character, or the number has more than 64 bits.
 fn read_digits(negative: bool, base: u32, digits: &str) -> Option<i64>
     requires low { 2 ≤ base }
     requires high { base ≤ 36 }
@@ -88,8 +88,8 @@ fn read_digits(negative: bool, base: u32, digits: &str) -> Option<i64>
     }
 }
 
-// The whole number that an optional sign, an optional prefix and digits of the base that it tells write. `None`: the text is something else,
-// or the number has more than 64 bits.
+// The whole number that an optional sign, an optional prefix and digits of the base that it tells
+// write. `None`: the text is something else, or the number has more than 64 bits.
 pub(crate) fn read_by_prefix(text: &str) -> Option<i64>
     ensures { result ≡ prefixed_number text.now }
 {

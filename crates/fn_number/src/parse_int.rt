@@ -9,10 +9,11 @@ use vrl_builtin::{
 };
 use vrl_value::{Tag, Value};
 
-/// `parse_int(value: string, base: integer)`: integer. The whole number that an optional sign and digits of the base in either case write. It
-/// always may fail. A base outside 2 to 36: `bad base`. Another text, or more than 64 bits: `not a whole number`. Without a base, what stands
-/// behind the sign tells it: `0b` is 2, `0o` is 8, `0x` is 16, `0` before another digit is 8, else it is 10. With a base no prefix is
-/// taken. `parse_int("0x1f")` is 31.
+/// `parse_int(value: string, base: integer)`: integer. The whole number that an optional sign and
+/// digits of the base in either case write. It always may fail. A base outside 2 to 36: `bad base`.
+/// Another text, or more than 64 bits: `not a whole number`. Without a base, what stands behind the
+/// sign tells it: `0b` is 2, `0o` is 8, `0x` is 16, `0` before another digit is 8, else it is 10.
+/// With a base no prefix is taken. `parse_int("0x1f")` is 31.
 #[derive(Clone, Copy)]
 pub struct ParseInt;
 

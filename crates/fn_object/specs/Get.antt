@@ -17,7 +17,8 @@ no_fault p = None
 
 -- null where nothing stands there
 abbrev pub got : Tree → Tree → Answer
-got v path = path_answer (first_other step_tags (items_in path)) None (unwrap_or (read_at v (steps_of (trees_in (items_in path)))) null)
+got v path = path_answer (first_other step_tags (items_in path)) None
+    (unwrap_or (read_at v (steps_of (trees_in (items_in path)))) null)
 
 abbrev pub get_row : Row
 get_row = record {

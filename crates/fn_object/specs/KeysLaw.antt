@@ -15,5 +15,6 @@ keys-law = record {
   present = λ givens sources given below. refl;
   lawful = λ givens arguments setting given fit instances below.
       let ms = members_in (value_at 0 arguments) in let A = only_at tag.Text in
-      array_is_lawful A false arguments _ (each_key (IsLawfulPart A arguments) ms (λ s. plain_part A arguments (string s) tt refl));
+      array_is_lawful A false arguments _
+      (each_key (IsLawfulPart A arguments) ms (λ s. plain_part A arguments (string s) tt refl));
 }

@@ -17,7 +17,8 @@ abbrev pub changed : List ℕ → Option Tree → (Tree → Tree) → Tree → M
 changed k None over t ms = put k t ms
 changed k (Some u) over t ms = replace k (over u) ms
 
--- the members with others put among them, but that two objects under one name are put together in the same way
+-- the members with others put among them, but that two objects under one name are put together in
+-- the same way
 abbrev mutual
   pub laid_over : Tree → Tree → Tree
   laid_over (object ns) (object ms) = object (lay_all ns ms)
@@ -28,7 +29,8 @@ abbrev mutual
   lay_all (member k t ns) ms = lay_all ns (changed k (find k ms) (laid_over t) t ms)
 
 abbrev pub merged : Bool → Tree → Tree → Tree
-merged deep v w = if deep then object (lay_all (members_in w) (members_in v)) else object (put_all (members_in w) (members_in v))
+merged deep v w =
+    if deep then object (lay_all (members_in w) (members_in v)) else object (put_all (members_in w) (members_in v))
 
 -- it isn't given, or is the literal false
 abbrev pub is_shallow : Option KindTree → Option Tree → Bool
@@ -49,9 +51,12 @@ merge_kind false K L = any_of objects
 abbrev pub merge_row : Row
 merge_row = record {
   name = codes "merge";
-  parameters = parameter (codes "to") objects ∷ parameter (codes "from") objects ∷ optional_parameter (codes "deep") booleans ∷ [];
+  parameters = parameter (codes "to") objects ∷ parameter (codes "from") objects ∷ optional_parameter
+      (codes "deep") booleans ∷ [];
   accepts = any_literal;
-  kind = λ givens sources. merge_kind (is_shallow (kind_at 2 givens) (literal_at 2 givens)) (kind_at 0 givens) (kind_at 1 givens);
+  kind = λ givens sources. merge_kind (is_shallow (kind_at 2 givens) (literal_at 2 givens)) (kind_at 0 givens)
+      (kind_at 1 givens);
   may_fail = λ givens. false;
-  means = λ arguments setting. value (merged (boolean_at 2 false arguments) (value_at 0 arguments) (value_at 1 arguments));
+  means =
+      λ arguments setting. value (merged (boolean_at 2 false arguments) (value_at 0 arguments) (value_at 1 arguments));
 }

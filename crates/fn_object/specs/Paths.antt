@@ -59,11 +59,15 @@ is_faultless None None = true
 
 -- the words on a path at which nothing can be written, and on one at which nothing can be removed
 abbrev pub write_fault : List Step → Option (List ℕ)
-write_fault p = if is_empty p then Some (codes "empty path") else (if nat_lt 64 (length p) then Some (codes "path too long") else (if list_all is_writable p then None else Some (codes "index out of range")))
+write_fault p = if is_empty p then Some (codes "empty path")
+    else (if nat_lt 64 (length p) then Some (codes "path too long")
+    else (if list_all is_writable p then None else Some (codes "index out of range")))
 
 abbrev pub removal_fault : List Step → Option (List ℕ)
-removal_fault p = if is_empty p then Some (codes "empty path") else (if list_all is_plain p then None else Some (codes "index out of range"))
+removal_fault p = if is_empty p then Some (codes "empty path")
+    else (if list_all is_plain p then None else Some (codes "index out of range"))
 
--- whether such a path may be gone down for a value: each element is a name or a place, and no other words tell against it
+-- whether such a path may be gone down for a value: each element is a name or a place, and no other
+-- words tell against it
 abbrev pub is_taken : (List Step → Option (List ℕ)) → Tree → Bool
 is_taken fault path = is_faultless (first_other step_tags (items_in path)) (fault (steps_of (trees_in (items_in path))))

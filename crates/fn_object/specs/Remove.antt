@@ -11,7 +11,8 @@ use Rattle.fn_object.specs.Paths.{path_answer, removal_fault, step_tags, steps_o
 
 -- what `remove_tree` of vrl_path gives, which is told by look-up at every path
 abbrev pub removed_at : Tree → Tree → Answer
-removed_at v path = let p = steps_of (trees_in (items_in path)) in path_answer (first_other step_tags (items_in path)) (removal_fault p) (remove_tree v p)
+removed_at v path = let p = steps_of (trees_in (items_in path)) in path_answer (first_other step_tags (items_in path))
+    (removal_fault p) (remove_tree v p)
 
 abbrev pub remove_row : Row
 remove_row = record {

@@ -11,14 +11,17 @@ use Rattle.fn_object.specs.Paths.{path_answer, step_tags, steps_of, write_fault}
 
 -- what `set_tree` of vrl_path gives, which is told by look-up at every path
 abbrev pub set_at : Tree → Tree → Tree → Answer
-set_at v path new = let p = steps_of (trees_in (items_in path)) in path_answer (first_other step_tags (items_in path)) (write_fault p) (set_tree v p new)
+set_at v path new = let p = steps_of (trees_in (items_in path)) in path_answer (first_other step_tags (items_in path))
+    (write_fault p) (set_tree v p new)
 
 abbrev pub set_row : Row
 set_row = record {
   name = codes "set";
-  parameters = parameter (codes "value") containers ∷ parameter (codes "path") arrays ∷ parameter (codes "data") any_tags ∷ [];
+  parameters =
+      parameter (codes "value") containers ∷ parameter (codes "path") arrays ∷ parameter (codes "data") any_tags ∷ [];
   accepts = any_literal;
   kind = λ givens sources. any_of containers;
   may_fail = λ givens. true;
-  means = λ arguments setting. named (codes "set") (set_at (value_at 0 arguments) (value_at 1 arguments) (value_at 2 arguments));
+  means = λ arguments setting. named (codes "set")
+      (set_at (value_at 0 arguments) (value_at 1 arguments) (value_at 2 arguments));
 }

@@ -21,10 +21,16 @@ record AreCounts (arguments : List (Option Tree)) (ms : Members) : Type 0 where
   pub each : EachMember (IsLawfulPart (only_at tag.Int) arguments) ms
   pub ordered : MembersAreOrdered ms
 
-put_one : (arguments : List (Option Tree)) (all : List Tree) (t : Tree) (ms : Members) → AreCounts arguments ms → AreCounts arguments (put_count all t ms)
+put_one : (arguments : List (Option Tree)) (all : List Tree) (t : Tree) (ms : Members) → AreCounts arguments ms
+    → AreCounts arguments (put_count all t ms)
 put_one arguments all (string s) ms are =
     let count = integer (pos (count_in s all)) in
-    record { each = each_put (IsLawfulPart (only_at tag.Int) arguments) s count ms (plain_part (only_at tag.Int) arguments count tt refl) are.each; ordered = put_ordered s count ms tt are.ordered }
+    record {
+      each = each_put (IsLawfulPart (only_at tag.Int) arguments) s count ms
+          (plain_part (only_at tag.Int) arguments count tt refl) are.each;
+      ordered = put_ordered s count ms tt
+          are.ordered;
+    }
 put_one arguments all (integer n) ms are = are
 put_one arguments all (boolean b) ms are = are
 put_one arguments all null ms are = are
@@ -37,18 +43,24 @@ counts : (arguments : List (Option Tree)) (all ts : List Tree) → AreCounts arg
 counts arguments all [] = record { each = tt; ordered = tt }
 counts arguments all (t ∷ ts) = put_one arguments all t (counted all ts) (counts arguments all ts)
 
-tallied_lawful : (o : Option (ℕ × Tag)) (fails : Bool) (arguments : List (Option Tree)) (ms : Members) → IfSome o (λ other. IsTrue fails) → AreCounts arguments ms →
+tallied_lawful : (o : Option (ℕ × Tag)) (fails : Bool) (arguments : List (Option Tree)) (ms : Members)
+    → IfSome o (λ other. IsTrue fails) → AreCounts arguments ms →
     IsLawful (object_of (only_at tag.Int)) fails arguments (named (codes "tally") (unless_other o (object ms)))
 tallied_lawful (Some other) fails arguments ms fail are = fail
-tallied_lawful None fails arguments ms fail are = object_is_lawful (only_at tag.Int) fails arguments ms are.each are.ordered
+tallied_lawful None fails arguments ms fail are =
+    object_is_lawful (only_at tag.Int) fails arguments ms are.each are.ordered
 
 pub tally-law : KeepsLaw tally_row
 tally-law = record {
   present = λ givens sources given below. refl;
   lawful = λ givens arguments setting given fit instances below.
       let K = kind_at 0 givens in
-      arrays_only (λ a. argument_at 0 arguments ≡ a → IsOfGiven K a → IfSome a IsOrdered → IsLawful (object_of (only_at tag.Int)) (part_allows_other strings K) arguments (named (codes "tally") (tallied (value_or null a))))
+      arrays_only (λ a. argument_at 0 arguments ≡ a → IsOfGiven K a → IfSome a IsOrdered
+      → IsLawful (object_of (only_at tag.Int)) (part_allows_other strings K) arguments
+      (named (codes "tally") (tallied (value_or null a))))
       (argument_at 0 arguments) fit.0.there fit.0.allowed
-      (λ ts first of ordered. tallied_lawful (first_other strings ts) (part_allows_other strings K) arguments (counted (trees_in ts) (trees_in ts)) (other_given K strings 0 ts arguments first of ordered) (counts arguments (trees_in ts) (trees_in ts)))
+      (λ ts first of ordered. tallied_lawful (first_other strings ts) (part_allows_other strings K) arguments
+      (counted (trees_in ts) (trees_in ts)) (other_given K strings 0 ts arguments first of ordered)
+      (counts arguments (trees_in ts) (trees_in ts)))
       refl (instances.kinds 0) (instances.ordered 0);
 }

@@ -16,14 +16,16 @@ begins separator s = bytes_eq (take (length separator) s) separator
 -- the first place of a text where the separator stands, which isn't empty
 abbrev pub first_place : List ℕ → List ℕ → Option ℕ
 first_place separator [] = None
-first_place separator (b ∷ bs) = if begins separator (b ∷ bs) then Some 0 else option_map (λ i. suc i) (first_place separator bs)
+first_place separator (b ∷ bs) =
+    if begins separator (b ∷ bs) then Some 0 else option_map (λ i. suc i) (first_place separator bs)
 
 -- what stands before the place of a separator, and then the pieces of what stands behind it
 abbrev pub cut_at : List ℕ → List ℕ → (List ℕ → List (List ℕ)) → Option ℕ → List (List ℕ)
 cut_at separator s others None = s ∷ []
 cut_at separator s others (Some i) = take i s ∷ others (drop (i + length separator) s)
 
--- the pieces of a text, cut at the first separator, and what is behind it so again; there are no more cuts than the first number
+-- the pieces of a text, cut at the first separator, and what is behind it so again; there are no
+-- more cuts than the first number
 abbrev pub cut_key : ℕ → List ℕ → List ℕ → List (List ℕ)
 cut_key zero separator s = s ∷ []
 cut_key (suc most) separator s = cut_at separator s (cut_key most separator) (first_place separator s)
@@ -34,7 +36,8 @@ is_nothing (b ∷ bs) = false
 
 -- the pieces of a name; the whole name where the separator is empty, or where there are over 64
 abbrev pub pieces_of : List ℕ → List ℕ → List (List ℕ)
-pieces_of separator k = if is_nothing separator || nat_lt 64 (length (cut_key (length k) separator k)) then k ∷ [] else cut_key (length k) separator k
+pieces_of separator k = if is_nothing separator || nat_lt 64 (length (cut_key (length k) separator k)) then k ∷ []
+    else cut_key (length k) separator k
 
 abbrev pub path_of : List ℕ → List ℕ → List Step
 path_of separator k = map Field (pieces_of separator k)

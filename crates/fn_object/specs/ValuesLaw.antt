@@ -17,8 +17,10 @@ values-law = record {
   present = λ givens sources given below. refl;
   lawful = λ givens arguments setting given fit instances below.
       let K = kind_at 0 givens in let A = object_parts_at K in
-      objects_only (λ a. argument_at 0 arguments ≡ a → IsOfGiven K a → IfSome a IsOrdered → IsLawful (array_of A) false arguments (value (values_of (members_in (value_or null a)))))
+      objects_only (λ a. argument_at 0 arguments ≡ a → IsOfGiven K a → IfSome a IsOrdered
+      → IsLawful (array_of A) false arguments (value (values_of (members_in (value_or null a)))))
       (argument_at 0 arguments) fit.0.there fit.0.allowed
-      (λ ms is of ordered. array_is_lawful A false arguments _ (each_value (IsLawfulPart A arguments) ms (given_members K 0 ms arguments is of ordered)))
+      (λ ms is of ordered. array_is_lawful A false arguments _
+      (each_value (IsLawfulPart A arguments) ms (given_members K 0 ms arguments is of ordered)))
       refl (instances.kinds 0) (instances.ordered 0);
 }

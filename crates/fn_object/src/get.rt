@@ -20,9 +20,10 @@ use vrl_path::get;
 use vrl_pattern::Patterns;
 use vrl_value::{Memory, Value};
 
-/// `get(value: array or object, path: array)`: any. What stands at the path of the value, whose strings are fields and whose whole numbers are
-/// places, a negative one counted from the end; null where nothing stands there. It may fail where the parts of the path's kind aren't within
-/// string and integer: `path element N is TAG`. `get({"a":[5]}, ["a",0])` is 5.
+/// `get(value: array or object, path: array)`: any. What stands at the path of the value, whose
+/// strings are fields and whose whole numbers are places, a negative one counted from the end; null
+/// where nothing stands there. It may fail where the parts of the path's kind aren't within string
+/// and integer: `path element N is TAG`. `get({"a":[5]}, ["a",0])` is 5.
 #[derive(Clone, Copy)]
 pub struct Get;
 
@@ -33,7 +34,8 @@ static PARAMETERS: [Parameter; 2] = [
 
 // A copy of what was found, and null where nothing was, which takes no memory.
 fn copy_found(alloc: Global, found: Option<&Value>) -> Applied
-    ensures answer { Applies true (answer (unwrap_or (option_map (λ value. tree_of value.now) found.entry) null)) result }
+    ensures answer { Applies true
+        (answer (unwrap_or (option_map (λ value. tree_of value.now) found.entry) null)) result }
     ensures null { found.entry ≡ None → result ≢ applied.Memory }
 {
     match found {
@@ -44,7 +46,8 @@ fn copy_found(alloc: Global, found: Option<&Value>) -> Applied
 
 // What stands at the path of the elements.
 fn read(alloc: Global, value: &Value, elements: &[Value]) -> Applied
-    ensures { Applies true (answer (unwrap_or (read_at (tree_of value.now) (steps_of (map tree_of elements.now))) null)) result }
+    ensures { Applies true
+        (answer (unwrap_or (read_at (tree_of value.now) (steps_of (map tree_of elements.now))) null)) result }
 {
     match path_of(alloc, elements) {
         Ok(path) => copy_found(alloc, get(value, &path)),

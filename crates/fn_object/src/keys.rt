@@ -12,8 +12,8 @@ use vrl_kind::Kind;
 use vrl_pattern::Patterns;
 use vrl_value::{Chars, Fields, Items, Memory, Tag, Value};
 
-/// `keys(value: object)`: array of string. The names of the object's fields, in the order of their bytes. It never fails.
-/// `keys({"b":1,"a":2})` is `["a","b"]`.
+/// `keys(value: object)`: array of string. The names of the object's fields, in the order of their
+/// bytes. It never fails. `keys({"b":1,"a":2})` is `["a","b"]`.
 #[derive(Clone, Copy)]
 pub struct Keys;
 

@@ -1,8 +1,9 @@
 //! The functions that read, make and change objects, and what stands at a path.
 //!
-//! Files: each function has a file, and its row one of `specs/`; its law stands in the file of `specs/` with its name and `Law`. `paths.rt` has the
-//! paths that are given as arrays, and their faults. Of the definitions `Paths` has the paths; `Counting` says what the code promises on its way. What
-//! the laws rest on stands in `EachChanged` and `PathLaw`.
+//! Files: each function has a file, and its row one of `specs/`; its law stands in the file of
+//! `specs/` with its name and `Law`. `paths.rt` has the paths that are given as arrays, and their
+//! faults. Of the definitions `Paths` has the paths; `Counting` says what the code promises on its
+//! way. What the laws rest on stands in `EachChanged` and `PathLaw`.
 #![tactic(auto)]
 
 mod get;

@@ -18,9 +18,11 @@ use vrl_kind::{Kind, has, overlaid};
 use vrl_pattern::Patterns;
 use vrl_value::{Chars, Fields, Memory, Tag, Value};
 
-/// `merge(to: object, from: object, deep: boolean = false)`: the kind of `to | from` where `deep` isn't given or is the literal `false`, else
-/// object of any. The fields of both; of a name that both have, the value in `from`, but that, where `deep` is true, two objects under one name
-/// are merged in the same way. It never fails. `merge({"a":{"x":1}}, {"a":{"y":2}}, deep: true)` is `{"a":{"x":1,"y":2}}`.
+/// `merge(to: object, from: object, deep: boolean = false)`: the kind of `to | from` where `deep`
+/// isn't given or is the literal `false`, else object of any. The fields of both; of a name that
+/// both have, the value in `from`, but that, where `deep` is true, two objects under one name are
+/// merged in the same way. It never fails. `merge({"a":{"x":1}}, {"a":{"y":2}}, deep: true)` is
+/// `{"a":{"x":1,"y":2}}`.
 #[derive(Clone, Copy)]
 pub struct Merge;
 
@@ -30,8 +32,8 @@ static PARAMETERS: [Parameter; 3] = [
     optional!("deep", Tags::BOOLEAN),
 ];
 
-// Puts copies of fields among others, each in place of one with its name, but that objects under one name are
-// merged.
+// Puts copies of fields among others, each in place of one with its name, but that objects under
+// one name are merged.
 #[cycle(lay)]
 fn lay_copies(alloc: Global, fields: &mut Fields, others: &Fields) -> Result<(), Memory>
     ensures { OnOk result (members_of fields.new ≡ lay_all (members_of others.now) (members_of fields.old)) }
@@ -45,7 +47,9 @@ fn lay_copies(alloc: Global, fields: &mut Fields, others: &Fields) -> Result<(),
 // Lays a copy of a value over the field of a name, or puts it there.
 #[cycle(lay)]
 fn lay_field(alloc: Global, fields: &mut Fields, name: &str, value: &Value) -> Result<(), Memory>
-    ensures { OnOk result (members_of fields.new ≡ changed name.now (find name.now (members_of fields.old)) (laid_over (tree_of value.now)) (tree_of value.now) (members_of fields.old)) }
+    ensures { OnOk result
+        (members_of fields.new ≡ changed name.now (find name.now (members_of fields.old))
+        (laid_over (tree_of value.now)) (tree_of value.now) (members_of fields.old)) }
 {
     match fields.get_mut(name) {
         Some(part) => lay_over(alloc, part, value),
@@ -80,9 +84,13 @@ fn fields_of(alloc: Global, value: &Value) -> Result<Fields, Memory>
     }
 }
 
-// Puts copies of the fields of an object among others, or lays them over these; another value has none.
+// Puts copies of the fields of an object among others, or lays them over these; another value has
+// none.
 fn add_fields(alloc: Global, fields: &mut Fields, deep: bool, from: &Value) -> Result<(), Memory>
-    ensures { OnOk result (members_of fields.new ≡ (if deep then lay_all (members_in (tree_of from.now)) (members_of fields.old) else put_all (members_in (tree_of from.now)) (members_of fields.old))) }
+    ensures { OnOk result
+        (members_of fields.new ≡
+        (if deep then lay_all (members_in (tree_of from.now)) (members_of fields.old)
+        else put_all (members_in (tree_of from.now)) (members_of fields.old))) }
 {
     let Value::Object(others) = from else {
         return Ok(());
@@ -129,7 +137,9 @@ fn put_over(alloc: Global, to: &Kind, from: &Kind) -> Result<Kind, Memory>
 
 // That of what is given.
 fn shallow_kind(alloc: Global, given: &Givens) -> Result<Kind, Memory>
-    ensures { IfOk result (λ kind. SameSets (tags_at kind) (overlaid_kind (kind_at 0 (givens_of given.now)) (kind_at 1 (givens_of given.now)))) }
+    ensures { IfOk result
+        (λ kind. SameSets (tags_at kind)
+        (overlaid_kind (kind_at 0 (givens_of given.now)) (kind_at 1 (givens_of given.now)))) }
 {
     let Some(to) = given.kind(0) else {
         return Ok(Kind::never());
@@ -141,7 +151,9 @@ fn shallow_kind(alloc: Global, given: &Givens) -> Result<Kind, Memory>
 }
 
 fn kind_of(alloc: Global, given: &Givens, shallow: bool) -> Result<Kind, Memory>
-    ensures { IfOk result (λ kind. SameSets (tags_at kind) (merge_kind shallow (kind_at 0 (givens_of given.now)) (kind_at 1 (givens_of given.now)))) }
+    ensures { IfOk result
+        (λ kind. SameSets (tags_at kind)
+        (merge_kind shallow (kind_at 0 (givens_of given.now)) (kind_at 1 (givens_of given.now)))) }
 {
     if shallow {
         shallow_kind(alloc, given)

@@ -16,8 +16,9 @@ use vrl_kind::Kind;
 use vrl_pattern::Patterns;
 use vrl_value::{Chars, Fields, Memory, Value};
 
-/// `object_from_array(values: array)`: object of any. The object with the name and the value of each element, which is an array of two whose
-/// first item is a string. The later of equal names counts. It always may fail: `element N`, for the first element that is no such array, by its
+/// `object_from_array(values: array)`: object of any. The object with the name and the value of
+/// each element, which is an array of two whose first item is a string. The later of equal names
+/// counts. It always may fail: `element N`, for the first element that is no such array, by its
 /// place from 0. `object_from_array([["a",1]])` is `{"a":1}`.
 #[derive(Clone, Copy)]
 pub struct ObjectFromArray;
@@ -75,9 +76,11 @@ fn first_unfit(elements: &[Value]) -> Option<usize>
     None
 }
 
-// Puts a copy of the value of an element's entry at its name; an element that is no entry is passed over, which takes no memory.
+// Puts a copy of the value of an element's entry at its name; an element that is no entry is passed
+// over, which takes no memory.
 fn put_element(alloc: Global, fields: &mut Fields, element: &Value) -> Result<(), Memory>
-    ensures fields { OnOk result (members_of fields.new ≡ put_entry (entry_of (tree_of element.now)) (members_of fields.old)) }
+    ensures fields { OnOk result
+        (members_of fields.new ≡ put_entry (entry_of (tree_of element.now)) (members_of fields.old)) }
     ensures passed { entry_of (tree_of element.now) ≡ None → IsOk result }
 {
     match entry_of(element) {

@@ -18,9 +18,11 @@ use vrl_path::{Path, remove};
 use vrl_pattern::Patterns;
 use vrl_value::{Memory, Value};
 
-/// `remove(value: array or object, path: array)`: array of any or object of any, where the value's kind allows either. The value without what
-/// stands at the path, whose strings are fields and whose whole numbers are places; the places behind one that is removed move down. It always
-/// may fail: `path element N is TAG`; `empty path`; `index out of range`, for a negative place. `remove({"a":1,"b":2}, ["a"])` is `{"b":2}`.
+/// `remove(value: array or object, path: array)`: array of any or object of any, where the value's
+/// kind allows either. The value without what stands at the path, whose strings are fields and
+/// whose whole numbers are places; the places behind one that is removed move down. It always may
+/// fail: `path element N is TAG`; `empty path`; `index out of range`, for a negative place.
+/// `remove({"a":1,"b":2}, ["a"])` is `{"b":2}`.
 #[derive(Clone, Copy)]
 pub struct Remove;
 
@@ -42,7 +44,8 @@ fn take_out(value: Value, path: &Path) -> Value
 // A copy of a value without what stands at the path of the elements.
 fn without(alloc: Global, value: &Value, elements: &[Value]) -> Result<Value, Memory>
     requires { removal_fault (steps_of (map tree_of elements.now)) ≡ None }
-    ensures { IfOk result (λ changed. tree_of changed ≡ remove_tree (tree_of value.now) (steps_of (map tree_of elements.now))) }
+    ensures { IfOk result
+        (λ changed. tree_of changed ≡ remove_tree (tree_of value.now) (steps_of (map tree_of elements.now))) }
 {
     let path = path_of(alloc, elements)?;
     let copy = value.copy(alloc)?;

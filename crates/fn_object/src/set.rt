@@ -18,10 +18,12 @@ use vrl_path::{Path, put};
 use vrl_pattern::Patterns;
 use vrl_value::{Memory, Value};
 
-/// `set(value: array or object, path: array, data: any)`: array of any or object of any. The value with the data at the path, whose strings are
-/// fields and whose whole numbers are places; a step into what is no fitting container replaces it by one, and an array is filled up with nulls.
-/// It always may fail: `path element N is TAG`; `empty path`; `path too long`, over 64 steps; `index out of range`, for a place outside of 0 to
-/// 65,535. `set({}, ["a",1], 2)` is `{"a":[null,2]}`.
+/// `set(value: array or object, path: array, data: any)`: array of any or object of any. The value
+/// with the data at the path, whose strings are fields and whose whole numbers are places; a step
+/// into what is no fitting container replaces it by one, and an array is filled up with nulls. It
+/// always may fail: `path element N is TAG`; `empty path`; `path too long`, over 64 steps;
+/// `index out of range`, for a place outside of 0 to 65,535. `set({}, ["a",1], 2)` is
+/// `{"a":[null,2]}`.
 #[derive(Clone, Copy)]
 pub struct Set;
 
@@ -44,7 +46,9 @@ fn put_at(alloc: Global, value: Value, path: &Path, new: Value) -> Result<Value,
 // A copy of a value with a copy of another one at the path of the elements.
 fn written(alloc: Global, value: &Value, elements: &[Value], new: &Value) -> Result<Value, Memory>
     requires { write_fault (steps_of (map tree_of elements.now)) ≡ None }
-    ensures { IfOk result (λ changed. tree_of changed ≡ set_tree (tree_of value.now) (steps_of (map tree_of elements.now)) (tree_of new.now)) }
+    ensures { IfOk result
+        (λ changed. tree_of changed ≡ set_tree (tree_of value.now) (steps_of (map tree_of elements.now))
+        (tree_of new.now)) }
 {
     let path = path_of(alloc, elements)?;
     let copy = value.copy(alloc)?;

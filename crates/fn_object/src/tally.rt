@@ -18,8 +18,9 @@ use vrl_kind::Kind;
 use vrl_pattern::Patterns;
 use vrl_value::{Fields, Memory, Tag, Value, members_are_maps};
 
-/// `tally(value: array)`: object of integer. How many times each string stands in the array. It may fail where the parts of the array's kind
-/// aren't within string: `element N is TAG`, for the first that is none, by its place from 0. `tally(["a","b","a"])` is `{"a":2,"b":1}`.
+/// `tally(value: array)`: object of integer. How many times each string stands in the array. It may
+/// fail where the parts of the array's kind aren't within string: `element N is TAG`, for the first
+/// that is none, by its place from 0. `tally(["a","b","a"])` is `{"a":2,"b":1}`.
 #[derive(Clone, Copy)]
 pub struct Tally;
 

@@ -18,9 +18,10 @@ use vrl_path::{Path, Step, put};
 use vrl_pattern::Patterns;
 use vrl_value::{Chars, Fields, Memory, Value};
 
-/// `unflatten(value: object, separator: string = ".")`: object of any. The empty object with each field, by name, written at the path of its
-/// name's pieces between the separators; a name of over 64 pieces, or an empty separator, leaves the name whole. It never fails.
-/// `unflatten({"a.b":1})` is `{"a":{"b":1}}`.
+/// `unflatten(value: object, separator: string = ".")`: object of any. The empty object with each
+/// field, by name, written at the path of its name's pieces between the separators; a name of over
+/// 64 pieces, or an empty separator, leaves the name whole. It never fails. `unflatten({"a.b":1})`
+/// is `{"a":{"b":1}}`.
 #[derive(Clone, Copy)]
 pub struct Unflatten;
 
@@ -111,7 +112,8 @@ fn put_name(
     name: &str,
     new: &Value,
 ) -> Result<Value, Memory>
-    ensures { IfOk result (λ changed. tree_of changed ≡ set_tree (tree_of value) (path_of separator.now name.now) (tree_of new.now)) }
+    ensures { IfOk result
+        (λ changed. tree_of changed ≡ set_tree (tree_of value) (path_of separator.now name.now) (tree_of new.now)) }
 {
     let path = Path::new(steps_of(alloc, separator, name)?);
     put_at(alloc, value, &path, new.copy(alloc)?)
@@ -119,7 +121,8 @@ fn put_name(
 
 // The empty object with copies of fields at the paths of their names.
 fn put_all(alloc: Global, separator: &str, fields: &Fields) -> Result<Value, Memory>
-    ensures { IfOk result (λ value. tree_of value ≡ put_paths separator.now (members_of fields.now) (object no_members)) }
+    ensures { IfOk result
+        (λ value. tree_of value ≡ put_paths separator.now (members_of fields.now) (object no_members)) }
 {
     let mut value = Value::Object(Fields::new(BTreeMap::new(alloc)));
     for (name, part) in fields.as_map().iter() {

@@ -12,8 +12,8 @@ use vrl_kind::Kind;
 use vrl_pattern::Patterns;
 use vrl_value::{Fields, Items, Memory, Value};
 
-/// `values(value: object)`: array of the parts of the object's kind. The values of the object's fields, in the order of the names' bytes. It never
-/// fails. `values({"b":1,"a":2})` is `[2,1]`.
+/// `values(value: object)`: array of the parts of the object's kind. The values of the object's
+/// fields, in the order of the names' bytes. It never fails. `values({"b":1,"a":2})` is `[2,1]`.
 #[derive(Clone, Copy)]
 pub struct Values;
 

@@ -1,4 +1,5 @@
--- `parse_csv`: the fields of the first row of a text of comma-separated values (RFC 4180), by the default reader of the crate `csv`.
+-- `parse_csv`: the fields of the first row of a text of comma-separated values (RFC 4180), by the
+-- default reader of the crate `csv`.
 use Rattle.std.specs.Prelude.{ℕ, Bool, true, false, ◌==◌, ◌&&◌, ◌||◌, not, List, [], ◌∷◌, map, length, Option, Some, None, codes, is_none, if◌then◌else◌}
 use Rattle.std.specs.Char.{is_ascii}
 use Rattle.std.specs.Str.Lossy.{utf8_lossy}
@@ -57,5 +58,6 @@ parse_csv_row = record {
   accepts = any_literal;
   kind = λ givens sources. array_of (only_at tag.Text);
   may_fail = λ givens. may_be_bad (kind_at 1 givens) (literal_at 1 givens);
-  means = λ arguments setting. named (codes "parse_csv") (parsed_by (delimiter_of (text_at 1 (codes ",") arguments)) (text_at 0 [] arguments));
+  means = λ arguments setting. named (codes "parse_csv")
+      (parsed_by (delimiter_of (text_at 1 (codes ",") arguments)) (text_at 0 [] arguments));
 }

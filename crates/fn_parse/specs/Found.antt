@@ -16,7 +16,8 @@ use Rattle.fn_parse.specs.declared.key_value.Written.{Written}
 use Rattle.fn_parse.specs.declared.key_value.Written.TheVariants.{Plain, Quoted}
 use Rattle.fn_parse.specs.declared.key_value.WrittenAt.{WrittenAt}
 
--- so many bytes are left of the text from the delimiter's first place on, and none where it stands nowhere
+-- so many bytes are left of the text from the delimiter's first place on, and none where it stands
+-- nowhere
 abbrev pub IsNext : List ℕ → List ℕ → ℕ → Type 0
 IsNext d s n = length s ≡ first_place (begins d) s + n
 

@@ -1,4 +1,5 @@
--- What the code comes to on its way: pairs added one after the other, and the parts of a URL in the order in which they are put.
+-- What the code comes to on its way: pairs added one after the other, and the parts of a URL in the
+-- order in which they are put.
 use Rattle.std.specs.Prelude.{◌≡◌, ℕ, List, [], ◌∷◌, Option, Some, None, Ok, Err, codes, option_map, unwrap_or, ⊤}
 use Rattle.csv.specs.Records.{fields_of, Row}
 use Rattle.csv.specs.declared.error.ErrorKind.{ErrorKind}
@@ -42,7 +43,9 @@ put_pairs [] ms = ms
 put_pairs (p ∷ ps) ms = put_pairs ps (put_pair p ms)
 
 abbrev pub put_texts : Parts → Members → Members
-put_texts url ms = put (codes "username") (string url.username) (put (codes "scheme") (string url.scheme) (put (codes "path") (string url.path) (put (codes "password") (string url.password) ms)))
+put_texts url ms = put (codes "username") (string url.username)
+    (put (codes "scheme") (string url.scheme)
+    (put (codes "path") (string url.path) (put (codes "password") (string url.password) ms)))
 
 abbrev pub put_others : Parts → Members → Members
 put_others url ms =

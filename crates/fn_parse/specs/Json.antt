@@ -1,4 +1,5 @@
--- `parse_json` and `encode_json`: a text as the value of its JSON (RFC 8259), and a value as its JSON text.
+-- `parse_json` and `encode_json`: a text as the value of its JSON (RFC 8259), and a value as its
+-- JSON text.
 use Rattle.std.specs.Prelude.{true, false, [], ◌∷◌, codes}
 use Rattle.vrl_value.specs.Tree.{string}
 use Rattle.vrl_value.specs.declared.value.Tag.TheVariants.{Text}
@@ -24,7 +25,8 @@ parse_json_row = record {
   means = λ arguments setting. named (codes "parse_json") (answer_to (reading_of (text_at 0 [] arguments)));
 }
 
--- the text that the value has as a line: compact, a timestamp as its text, and a regex as its source
+-- the text that the value has as a line: compact, a timestamp as its text, and a regex as its
+-- source
 abbrev pub encode_json_row : OneTagRow
 encode_json_row = record {
   name = codes "encode_json";

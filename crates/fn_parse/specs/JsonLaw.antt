@@ -32,7 +32,8 @@ object_allowed ms of (field n ∷ p) = of (field n ∷ p)
 object_allowed ms of (place i ∷ p) = tt
 
 mutual
-  json_part : (arguments : List (Option Tree)) (t : Tree) → is_json t ≡ true → IsOrdered t → IsLawfulPart json_at arguments t
+  json_part : (arguments : List (Option Tree)) (t : Tree) → is_json t ≡ true → IsOrdered t
+      → IsLawfulPart json_at arguments t
   json_part arguments (string s) json ordered = plain_part json_at arguments (string s) tt refl
   json_part arguments (integer n) json ordered = plain_part json_at arguments (integer n) tt refl
   json_part arguments (boolean b) json ordered = plain_part json_at arguments (boolean b) tt refl
@@ -46,21 +47,31 @@ mutual
       let all = object_is_lawful json_at true arguments ms (json_members arguments ms json ordered) ordered in
       record { allowed = object_allowed ms all.0; ordered = all.1; regexes = all.2 }
 
-  json_items : (arguments : List (Option Tree)) (ts : Items) → items_are_json ts ≡ true → ItemsAreOrdered ts → EachItem (IsLawfulPart json_at arguments) ts
+  json_items : (arguments : List (Option Tree)) (ts : Items) → items_are_json ts ≡ true → ItemsAreOrdered ts
+      → EachItem (IsLawfulPart json_at arguments) ts
   json_items arguments no_items json ordered = tt
-  json_items arguments (item t ts) json ordered = (json_part arguments t (and_parts _ _ json).0 ordered.0, json_items arguments ts (and_parts _ _ json).1 ordered.1)
+  json_items arguments (item t ts) json ordered =
+      (json_part arguments t (and_parts _ _ json).0 ordered.0, json_items arguments ts (and_parts _ _ json).1 ordered.1)
 
-  json_members : (arguments : List (Option Tree)) (ms : Members) → members_are_json ms ≡ true → MembersAreOrdered ms → EachMember (IsLawfulPart json_at arguments) ms
+  json_members : (arguments : List (Option Tree)) (ms : Members) → members_are_json ms ≡ true → MembersAreOrdered ms
+      → EachMember (IsLawfulPart json_at arguments) ms
   json_members arguments no_members json ordered = tt
-  json_members arguments (member k t ms) json ordered = (json_part arguments t (and_parts _ _ json).0 ordered.1, json_members arguments ms (and_parts _ _ json).1 ordered.2)
+  json_members arguments (member k t ms) json ordered = (
+    json_part arguments t (and_parts _ _ json).0 ordered.1,
+    json_members arguments ms
+        (and_parts _ _ json).1 ordered.2,
+  )
 
-answer_lawful : (arguments : List (Option Tree)) (s : List ℕ) (r : Reading) → reading_of s ≡ r → IsLawful json_at true arguments (named (codes "parse_json") (answer_to r))
+answer_lawful : (arguments : List (Option Tree)) (s : List ℕ) (r : Reading) → reading_of s ≡ r
+    → IsLawful json_at true arguments (named (codes "parse_json") (answer_to r))
 answer_lawful arguments s not_json is = refl
 answer_lawful arguments s not_whole is = refl
-answer_lawful arguments s (whole t) is = let part = json_part arguments t (line_is_json s t is) (line_is_ordered s t is) in (part.allowed, part.ordered, part.regexes)
+answer_lawful arguments s (whole t) is = let part = json_part arguments t (line_is_json s t is)
+    (line_is_ordered s t is) in (part.allowed, part.ordered, part.regexes)
 
 pub parse_json-law : KeepsLaw parse_json_row
 parse_json-law = record {
   present = λ givens sources given below. refl;
-  lawful = λ givens arguments setting given fit instances below. answer_lawful arguments (text_at 0 [] arguments) (reading_of (text_at 0 [] arguments)) refl;
+  lawful = λ givens arguments setting given fit instances below. answer_lawful arguments (text_at 0 [] arguments)
+      (reading_of (text_at 0 [] arguments)) refl;
 }

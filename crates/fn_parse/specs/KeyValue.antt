@@ -24,7 +24,8 @@ plain_value f s = let n = first_place (begins f) s in (take n s, drop n s)
 -- behind an opening quote: up to the closing one, behind which a field ends; none where it doesn't
 abbrev pub quoted_up_to : List ℕ → List ℕ → Option ℕ → Option (List ℕ × List ℕ)
 quoted_up_to f s None = None
-quoted_up_to f s (Some n) = if is_field_end f (drop (suc n) s) then Some (unescaped (take n s), drop (suc n) s) else None
+quoted_up_to f s (Some n) =
+    if is_field_end f (drop (suc n) s) then Some (unescaped (take n s), drop (suc n) s) else None
 
 -- behind a key's delimiter; none where its quotes are bad
 abbrev pub value_at : List ℕ → List ℕ → Option (List ℕ × List ℕ)
@@ -47,11 +48,13 @@ with_value key (Some v) = entry key (Some v.0) v.1
 -- a key, and what stands behind it
 abbrev pub with_key : List ℕ → List ℕ → List ℕ → List ℕ → FieldAt
 with_key k f [] behind = fault (codes "empty key")
-with_key k f (b ∷ key) behind = if begins k behind then with_value (b ∷ key) (value_at f (drop (length k) behind)) else entry (b ∷ key) None behind
+with_key k f (b ∷ key) behind =
+    if begins k behind then with_value (b ∷ key) (value_at f (drop (length k) behind)) else entry (b ∷ key) None behind
 
 abbrev pub is_key_end : List ℕ → List ℕ → List ℕ → Bool
 is_key_end k f s = begins k s || begins f s
 
--- A key goes up to the next delimiter of either kind, or the end. Where both begin at one place, it is the one of keys.
+-- A key goes up to the next delimiter of either kind, or the end. Where both begin at one place, it
+-- is the one of keys.
 abbrev pub field_at : List ℕ → List ℕ → List ℕ → FieldAt
 field_at k f s = let n = first_place (is_key_end k f) s in with_key k f (take n s) (drop n s)

@@ -1,4 +1,5 @@
--- Key-value text, told by what it is made of: which fields a text has, and nothing of how it is read.
+-- Key-value text, told by what it is made of: which fields a text has, and nothing of how it is
+-- read.
 use Rattle.std.specs.Prelude.{◌≡◌, ℕ, ◌==◌, ◌<◌, ◌&&◌, Bool, true, false, List, [], ◌∷◌, ◌++◌, length, Option, Some, None, ⊤}
 use Rattle.vrl_value.specs.Tree.{Tree, object, Members, no_members, put}
 use Rattle.vrl_builtin.specs.Rows.{value}
@@ -33,7 +34,8 @@ pub data IsWritten : List ℕ → List ℕ → Type 0 where
   no_byte : IsWritten [] []
   quote : {inner text : List ℕ} → IsWritten inner text → IsWritten (0x5C ∷ (0x22 ∷ inner)) (0x22 ∷ text)
   backslash : {inner text : List ℕ} → IsWritten inner text → IsWritten (0x5C ∷ (0x5C ∷ inner)) (0x5C ∷ text)
-  byte : {inner text : List ℕ} (b : ℕ) → (b == 0x22) ≡ false → takes_next b inner ≡ false → IsWritten inner text → IsWritten (b ∷ inner) (b ∷ text)
+  byte : {inner text : List ℕ} (b : ℕ) → (b == 0x22) ≡ false → takes_next b inner ≡ false → IsWritten inner text
+      → IsWritten (b ∷ inner) (b ∷ text)
 
 -- the fields of a text, in order
 pub data HasFields (k f : List ℕ) : List ℕ → Fields → Type 0 where
@@ -46,7 +48,8 @@ pub data HasFields (k f : List ℕ) : List ℕ → Fields → Type 0 where
       → IsKey k f key (k ++ (text ++ s)) → IsPlain f text s → is_field_end f s ≡ true → HasFields k f s es
       → HasFields k f (key ++ (k ++ (text ++ s))) ((key, Some text) ∷ es)
   quoted : {s : List ℕ} {es : Fields} (key inner text : List ℕ)
-      → IsKey k f key (k ++ (0x22 ∷ (inner ++ (0x22 ∷ s)))) → IsWritten inner text → is_field_end f s ≡ true → HasFields k f s es
+      → IsKey k f key (k ++ (0x22 ∷ (inner ++ (0x22 ∷ s)))) → IsWritten inner text → is_field_end f s ≡ true
+      → HasFields k f s es
       → HasFields k f (key ++ (k ++ (0x22 ∷ (inner ++ (0x22 ∷ s))))) ((key, Some text) ∷ es)
 
 -- the members with each field's value at its key, of equal keys the later one's
@@ -56,8 +59,10 @@ put_all (e ∷ es) ms = put_all es (put e.0 (field_tree e.1) ms)
 
 -- a text with these fields is read as their object
 abbrev pub FieldsAreRead : Type 0
-FieldsAreRead = (k f s : List ℕ) (es : Fields) → 0 < length k → 0 < length f → HasFields k f s es → parsed k f s ≡ value (object (put_all es no_members))
+FieldsAreRead = (k f s : List ℕ) (es : Fields) → 0 < length k → 0 < length f → HasFields k f s es
+    → parsed k f s ≡ value (object (put_all es no_members))
 
 -- a text that is read as a value has fields, and the value is their object
 abbrev pub OnlyFieldsAreRead : Type 0
-OnlyFieldsAreRead = (k f s : List ℕ) (v : Tree) → 0 < length k → 0 < length f → parsed k f s ≡ value v → (es : Fields) × HasFields k f s es × (v ≡ object (put_all es no_members))
+OnlyFieldsAreRead = (k f s : List ℕ) (v : Tree) → 0 < length k → 0 < length f → parsed k f s ≡ value v → (es : Fields)
+    × HasFields k f s es × (v ≡ object (put_all es no_members))

@@ -18,20 +18,23 @@ abbrev pub with_field : FieldAt → Members → (List ℕ → Members → Answer
 with_field (fault words) ms others = failure words
 with_field (entry key v behind) ms others = others behind (put key (field_tree v) ms)
 
--- What a text says whose first bytes, so many, are of the field or the delimiter before. Where a field may begin there is a field delimiter, or a
--- field. Its value counts at its key in place of those before.
+-- What a text says whose first bytes, so many, are of the field or the delimiter before. Where a
+-- field may begin there is a field delimiter, or a field. Its value counts at its key in place of
+-- those before.
 abbrev pub fields_from : List ℕ → List ℕ → ℕ → List ℕ → Members → Answer
 fields_from k f n [] ms = value (object ms)
 fields_from k f (suc n) (b ∷ s) ms = fields_from k f n s ms
 fields_from k f zero (b ∷ s) ms =
-    if begins f (b ∷ s) then fields_from k f (length f - 1) s ms else with_field (field_at k f (b ∷ s)) ms (λ behind others. fields_from k f (length s - length behind) s others)
+    if begins f (b ∷ s) then fields_from k f (length f - 1) s ms
+    else with_field (field_at k f (b ∷ s)) ms (λ behind others. fields_from k f (length s - length behind) s others)
 
 abbrev pub is_nothing : List ℕ → Bool
 is_nothing [] = true
 is_nothing (b ∷ bs) = false
 
 abbrev pub parsed : List ℕ → List ℕ → List ℕ → Answer
-parsed k f s = if is_nothing k || is_nothing f then failure (codes "empty delimiter") else fields_from k f 0 s no_members
+parsed k f s =
+    if is_nothing k || is_nothing f then failure (codes "empty delimiter") else fields_from k f 0 s no_members
 
 -- a text is read where neither delimiter is empty
 abbrev pub has_delimiters : List ℕ → List ℕ → Bool
@@ -43,9 +46,11 @@ string_or_boolean = either (only_at tag.Text) (only_at tag.Bool)
 abbrev pub parse_key_value_row : Row
 parse_key_value_row = record {
   name = codes "parse_key_value";
-  parameters = parameter (codes "value") strings ∷ optional_parameter (codes "key_value_delimiter") strings ∷ optional_parameter (codes "field_delimiter") strings ∷ [];
+  parameters = parameter (codes "value") strings ∷ optional_parameter
+      (codes "key_value_delimiter") strings ∷ optional_parameter (codes "field_delimiter") strings ∷ [];
   accepts = any_literal;
   kind = λ givens sources. object_of string_or_boolean;
   may_fail = λ givens. true;
-  means = λ arguments setting. named (codes "parse_key_value") (parsed (text_at 1 (codes "=") arguments) (text_at 2 (codes " ") arguments) (text_at 0 [] arguments));
+  means = λ arguments setting. named (codes "parse_key_value")
+      (parsed (text_at 1 (codes "=") arguments) (text_at 2 (codes " ") arguments) (text_at 0 [] arguments));
 }

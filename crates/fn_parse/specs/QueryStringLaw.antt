@@ -24,13 +24,21 @@ if_second T U (Some t) is = or_right (T t) (U t) is
 second_allowed : (A B : Sets) (v : Tree) → IsAllowed v B → IsAllowed v (either A B)
 second_allowed A B v of p = if_second (A p) (B p) (tag_found (raw_at v p)) (of p)
 
-texts_part : (arguments : List (Option Tree)) (ss : List (List ℕ)) → IsLawfulPart values_at arguments (array (items_of_trees (map string ss)))
+texts_part : (arguments : List (Option Tree)) (ss : List (List ℕ))
+    → IsLawfulPart values_at arguments (array (items_of_trees (map string ss)))
 texts_part arguments ss =
     let A = only_at tag.Text in
-    let all = array_is_lawful A false arguments (items_of_trees (map string ss)) (each_text (IsLawfulPart A arguments) ss (λ s. plain_part A arguments (string s) tt refl)) in
-    record { allowed = second_allowed A (array_of A) (array (items_of_trees (map string ss))) all.0; ordered = all.1; regexes = all.2 }
+    let all = array_is_lawful A false arguments (items_of_trees (map string ss))
+    (each_text (IsLawfulPart A arguments) ss (λ s. plain_part A arguments (string s) tt refl)) in
+    record {
+      allowed = second_allowed A (array_of A)
+          (array (items_of_trees (map string ss))) all.0;
+      ordered = all.1;
+      regexes = all.2;
+    }
 
-values_part : (arguments : List (Option Tree)) (ss : List (List ℕ)) → IsLawfulPart values_at arguments (tree_of_values ss)
+values_part : (arguments : List (Option Tree)) (ss : List (List ℕ))
+    → IsLawfulPart values_at arguments (tree_of_values ss)
 values_part arguments [] = texts_part arguments []
 values_part arguments (s ∷ []) = plain_part values_at arguments (string s) tt refl
 values_part arguments (s ∷ t ∷ us) = texts_part arguments (s ∷ t ∷ us)
@@ -45,7 +53,11 @@ groups arguments all (p ∷ ps) =
     let v = tree_of_values (values_of p.0 all) in
     let part = values_part arguments (values_of p.0 all) in
     let others = groups arguments all ps in
-    record { each = each_put (IsLawfulPart values_at arguments) p.0 v (grouped all ps) part others.each; ordered = put_ordered p.0 v (grouped all ps) part.ordered others.ordered }
+    record {
+      each = each_put (IsLawfulPart values_at arguments) p.0 v
+          (grouped all ps) part others.each;
+      ordered = put_ordered p.0 v (grouped all ps) part.ordered others.ordered;
+    }
 
 pub parse_query_string-law : KeepsLaw parse_query_string_row
 parse_query_string-law = record {

@@ -10,13 +10,15 @@ abbrev pub behind_unit : ℕ → List ℕ → List ℕ
 behind_unit b [] = []
 behind_unit b (c ∷ s) = if b == 0x5C && is_mark c then s else c ∷ s
 
--- the place of the first quote before which no backslash takes it; a backslash takes a quote or a backslash behind it
+-- the place of the first quote before which no backslash takes it; a backslash takes a quote or a
+-- backslash behind it
 abbrev pub closing_place : List ℕ → Option ℕ
 closing_place [] = None
 closing_place (b ∷ []) = if b == 0x22 then Some 0 else None
 closing_place (b ∷ (c ∷ s)) =
     if b == 0x22 then Some 0 else
-    if b == 0x5C && is_mark c then option_map (λ n. suc (suc n)) (closing_place s) else option_map (λ n. suc n) (closing_place (c ∷ s))
+    if b == 0x5C && is_mark c then option_map (λ n. suc (suc n)) (closing_place s)
+    else option_map (λ n. suc n) (closing_place (c ∷ s))
 
 -- a text cut at that quote
 pub record IsClosed (s inner behind : List ℕ) : Type 0 where

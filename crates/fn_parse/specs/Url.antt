@@ -31,7 +31,8 @@ abbrev pub number_or_null : Option ℕ → Tree
 number_or_null None = null
 number_or_null (Some n) = integer (pos n)
 
--- The parts as the URL writes them. A URL's port is none where it is the scheme's own, and its host none where it has none or an empty one.
+-- The parts as the URL writes them. A URL's port is none where it is the scheme's own, and its host
+-- none where it has none or an empty one.
 abbrev pub members_of_url : Parts → Members
 members_of_url url =
     member (codes "fragment") (text_or_null url.fragment)

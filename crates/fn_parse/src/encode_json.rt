@@ -10,15 +10,17 @@ use vrl_builtin::{Applied, Arguments, Givens, OneTag, Parameter, Setting, Tags, 
 use vrl_json::to_line;
 use vrl_value::{Chars, Memory, Tag, Value};
 
-/// `encode_json(value: any)`: string. The compact JSON text of the value (RFC 8259), with the members of each object in the order of their names'
-/// bytes; a timestamp is its text in quotes, and a regex its source in quotes. It never fails. `encode_json({"a":[1,null]})` is the text
+/// `encode_json(value: any)`: string. The compact JSON text of the value (RFC 8259), with the
+/// members of each object in the order of their names' bytes; a timestamp is its text in quotes,
+/// and a regex its source in quotes. It never fails. `encode_json({"a":[1,null]})` is the text
 /// `{"a":[1,null]}`.
 #[derive(Clone, Copy)]
 pub struct EncodeJson;
 
 static PARAMETERS: [Parameter; 1] = [required!("value", Tags::ALL)];
 
-// The JSON text of a value, in which each regex is one of these sources, at its number. `Memory`: want of memory.
+// The JSON text of a value, in which each regex is one of these sources, at its number. `Memory`:
+// want of memory.
 pub(crate) fn json_text(alloc: Global, value: &Value, sources: &[Chars]) -> Result<Chars, Memory>
     requires { IsTrue (regexes_below (length sources.now) (tree_of value.now)) }
     ensures { IfOk result (λ text. text ≡ line_text sources.now (tree_of value.now)) }

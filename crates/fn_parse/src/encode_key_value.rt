@@ -18,10 +18,11 @@ use std::alloc::Global;
 use vrl_builtin::{Applied, Arguments, Givens, OneTag, Parameter, Setting, Tags, required};
 use vrl_value::{Chars, Fields, Memory, Moment, Tag, Value};
 
-/// `encode_key_value(value: object)`: string. The fields by key as `key=text`, with a space between each two. The text of a value is that of
-/// `to_string`, a regex's source, or JSON (RFC 8259) for arrays and objects. A text that is empty or holds a space, `"`, `=`, `\` or a newline stands
-/// in quotes, with `\` before each `"` and `\`; null gives an empty text without quotes. It never fails. `encode_key_value({"a":1,"b":"x y"})` is
-/// `a=1 b="x y"`.
+/// `encode_key_value(value: object)`: string. The fields by key as `key=text`, with a space between
+/// each two. The text of a value is that of `to_string`, a regex's source, or JSON (RFC 8259) for
+/// arrays and objects. A text that is empty or holds a space, `"`, `=`, `\` or a newline stands in
+/// quotes, with `\` before each `"` and `\`; null gives an empty text without quotes. It never
+/// fails. `encode_key_value({"a":1,"b":"x y"})` is `a=1 b="x y"`.
 #[derive(Clone, Copy)]
 pub struct EncodeKeyValue;
 
@@ -83,7 +84,8 @@ fn push_json(
     sources: &[Chars],
 ) -> Result<(), Memory>
     requires { IsTrue (regexes_below (length sources.now) (tree_of value.now)) }
-    ensures { OnOk result (string_bytes out.new ≡ string_bytes out.old ++ quoted_if_special (line_text sources.now (tree_of value.now))) }
+    ensures { OnOk result
+        (string_bytes out.new ≡ string_bytes out.old ++ quoted_if_special (line_text sources.now (tree_of value.now))) }
 {
     let text = json_text(alloc, value, sources)?;
     push_text(out, text.as_str())
@@ -123,7 +125,9 @@ fn push_field(
     sources: &[Chars],
 ) -> Result<(), Memory>
     requires { IsTrue (regexes_below (length sources.now) (tree_of value.now)) }
-    ensures { OnOk result (string_bytes out.new ≡ string_bytes out.old ++ (separator.now ++ field_text sources.now name.now (tree_of value.now))) }
+    ensures { OnOk result
+        (string_bytes out.new ≡ string_bytes out.old ++
+        (separator.now ++ field_text sources.now name.now (tree_of value.now))) }
 {
     out.push_str(separator)?;
     out.push_str(name)?;

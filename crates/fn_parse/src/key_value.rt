@@ -55,7 +55,8 @@ impl Fault {
 
 // ---- delimiters
 
-// What stands before the first place where the delimiter stands, and what is left from there on: the text and nothing where it stands nowhere.
+// What stands before the first place where the delimiter stands, and what is left from there on:
+// the text and nothing where it stands nowhere.
 fn split_before<'a>(text: &'a str, delimiter: &str) -> (&'a str, &'a str)
     requires { 0 < length delimiter.now }
     ensures { (result.0.now, result.1.now) ≡ plain_value delimiter.now text.now }
@@ -64,7 +65,8 @@ fn split_before<'a>(text: &'a str, delimiter: &str) -> (&'a str, &'a str)
     text.split_at(length)
 }
 
-/// How many bytes are left from the first place on where the delimiter stands; none where it stands nowhere.
+/// How many bytes are left from the first place on where the delimiter stands; none where it stands
+/// nowhere.
 pub(crate) fn left_from(text: &str, delimiter: &str) -> usize
     requires { 0 < length delimiter.now }
     ensures { IsNext delimiter.now text.now result }
@@ -73,7 +75,8 @@ pub(crate) fn left_from(text: &str, delimiter: &str) -> usize
     rest.len()
 }
 
-/// The same of a text with which another one ends, of which it is known. The delimiter is looked for only where its first place there is passed.
+/// The same of a text with which another one ends, of which it is known. The delimiter is looked
+/// for only where its first place there is passed.
 pub(crate) fn left_later(text: &str, delimiter: &str, known: usize) -> usize
     requires delimiter { 0 < length delimiter.now }
     requires known { IsAhead delimiter.now text.now known }
@@ -86,8 +89,9 @@ pub(crate) fn left_later(text: &str, delimiter: &str, known: usize) -> usize
     }
 }
 
-// What stands behind the delimiter with which the text begins. `None`: it doesn't begin with it. What is known to be left from the delimiter's next
-// place on tells where the two needn't be compared.
+// What stands behind the delimiter with which the text begins. `None`: it doesn't begin with it.
+// What is known to be left from the delimiter's next place on tells where the two needn't be
+// compared.
 fn behind_delimiter<'a>(text: &'a str, delimiter: &str, left: usize) -> Option<&'a str>
     requires { IsAhead delimiter.now text.now left }
     ensures { MatchOption result
@@ -148,7 +152,8 @@ fn value_at<'a>(text: &'a str, field_delimiter: &str) -> Option<WrittenAt<'a>>
 
 // ---- fields
 
-// The field with this key, before what stands behind it, of which it may be known how many bytes are left from the next key delimiter on.
+// The field with this key, before what stands behind it, of which it may be known how many bytes
+// are left from the next key delimiter on.
 fn with_key<'a>(
     key: &'a str,
     behind: &'a str,
@@ -178,8 +183,9 @@ fn with_key<'a>(
     }
 }
 
-/// The field that a text begins with, which is neither empty nor begins with a field delimiter, and of which so many bytes are left from the first key
-/// delimiter on. Its key goes up to the first delimiter, or the end. `Err`: it begins with no field.
+/// The field that a text begins with, which is neither empty nor begins with a field delimiter, and
+/// of which so many bytes are left from the first key delimiter on. Its key goes up to the first
+/// delimiter, or the end. `Err`: it begins with no field.
 pub(crate) fn field_at<'a>(
     text: &'a str,
     key_delimiter: &str,

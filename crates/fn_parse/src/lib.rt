@@ -1,9 +1,12 @@
 //! The functions that read a text in a format, and write one.
 //!
-//! Files: each function has a file, and its row one of `specs/`: `Json` has those of `parse_json` and `encode_json`, `Csv` that of `parse_csv`, `Url` that
-//! of `parse_url`, and `QueryString` that of `parse_query_string`; each has its law in the file with its name and `Law`. `pairs.rt` has the names and
-//! values of a query. Of `parse_key_value` and `encode_key_value` the rows stand in
-//! `ParseKeyValue` and `EncodeKeyValue`, the laws in `KeyValueLaw`, and in `KeyValueText` what a text with fields is made of; `key_value.rt` cuts the fields of a text, and `quotes.rt` texts between quotes.
+//! Files: each function has a file, and its row one of `specs/`: `Json` has those of `parse_json`
+//! and `encode_json`, `Csv` that of `parse_csv`, `Url` that of `parse_url`, and `QueryString` that
+//! of `parse_query_string`; each has its law in the file with its name and `Law`. `pairs.rt` has
+//! the names and values of a query. Of `parse_key_value` and `encode_key_value` the rows stand in
+//! `ParseKeyValue` and `EncodeKeyValue`, the laws in `KeyValueLaw`, and in `KeyValueText` what a
+//! text with fields is made of; `key_value.rt` cuts the fields of a text, and `quotes.rt` texts
+//! between quotes.
 #![tactic(auto)]
 
 mod encode_json;

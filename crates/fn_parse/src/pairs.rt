@@ -10,7 +10,8 @@ pub(crate) type Item = Result<(String, String), AllocError>;
 
 /// The name and the value of a pair that was read. `Memory`: want of memory.
 pub(crate) fn texts_of(item: Item) -> Result<(Chars, Chars), Memory>
-    ensures { (name value : List ℕ) → IfOk item (λ pair. DecodesTo name (string_bytes pair.0) × DecodesTo value (string_bytes pair.1))
+    ensures { (name value : List ℕ)
+        → IfOk item (λ pair. DecodesTo name (string_bytes pair.0) × DecodesTo value (string_bytes pair.1))
         → IfOk result (λ texts. (texts.0 ≡ text_of name) × (texts.1 ≡ text_of value)) }
 {
     let (name, value) = item?;

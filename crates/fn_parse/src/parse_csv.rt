@@ -20,10 +20,12 @@ use vrl_kind::Kind;
 use vrl_pattern::Patterns;
 use vrl_value::{Chars, Items, Memory, Tag, Value};
 
-/// `parse_csv(value: string, delimiter: string = ",")`: array of string. The fields of the first row of comma-separated values (RFC 4180), as the
-/// default reader of the crate `csv` takes them, without headers; an empty array where there is no row. Bytes of a field that are no UTF-8 become
-/// U+FFFD. It may fail unless the delimiter isn't given or is a literal that is one: `bad delimiter`, where the delimiter isn't one character of ASCII
-/// other than `"`, the carriage return and the newline. `parse_csv("a,\"b,c\"")` is `["a","b,c"]`.
+/// `parse_csv(value: string, delimiter: string = ",")`: array of string. The fields of the first
+/// row of comma-separated values (RFC 4180), as the default reader of the crate `csv` takes them,
+/// without headers; an empty array where there is no row. Bytes of a field that are no UTF-8 become
+/// U+FFFD. It may fail unless the delimiter isn't given or is a literal that is one:
+/// `bad delimiter`, where the delimiter isn't one character of ASCII other than `"`, the carriage
+/// return and the newline. `parse_csv("a,\"b,c\"")` is `["a","b,c"]`.
 #[derive(Clone, Copy)]
 pub struct ParseCsv;
 
@@ -51,8 +53,8 @@ fn delimiter_of(text: &str) -> Option<u8>
     }
 }
 
-// Out of memory, or a fault of reading, of which a text in memory has none: nothing else keeps a row of bytes from
-// being read.
+// Out of memory, or a fault of reading, of which a text in memory has none: nothing else keeps a
+// row of bytes from being read.
 fn memory_of(_fault: csv::Error) -> Memory
     requires { IsReadFault (error_kind _fault) }
 {
@@ -87,8 +89,8 @@ fn texts_of(alloc: Global, row: &ByteRecord) -> Result<Vec<Value>, Memory>
     Ok(texts)
 }
 
-// The fields of a row that was found as texts; none where there is no row, which takes no memory. `Memory`: out of
-// memory.
+// The fields of a row that was found as texts; none where there is no row, which takes no memory.
+// `Memory`: out of memory.
 fn texts_found(alloc: Global, row: Option<ByteRecord>) -> Result<Vec<Value>, Memory>
     ensures texts { IfOk result (λ texts. map tree_of texts.items
         ≡ map (λ f. string (utf8_lossy f)) (fields_found row)) }

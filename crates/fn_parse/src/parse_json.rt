@@ -14,9 +14,10 @@ use vrl_kind::Kind;
 use vrl_pattern::Patterns;
 use vrl_value::{Memory, Value};
 
-/// `parse_json(value: string)`: json. The value of the one JSON text (RFC 8259) that the string is; arrays and objects nest at most 127 deep, and of
-/// equal names in an object the last counts. It always may fail: `not JSON`; `not whole numbers`, where a number of the value isn't a whole number of
-/// 64 bits in the plain form of digits. `parse_json("[1]")` is `[1]`.
+/// `parse_json(value: string)`: json. The value of the one JSON text (RFC 8259) that the string is;
+/// arrays and objects nest at most 127 deep, and of equal names in an object the last counts. It
+/// always may fail: `not JSON`; `not whole numbers`, where a number of the value isn't a whole
+/// number of 64 bits in the plain form of digits. `parse_json("[1]")` is `[1]`.
 #[derive(Clone, Copy)]
 pub struct ParseJson;
 

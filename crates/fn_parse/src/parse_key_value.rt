@@ -22,12 +22,15 @@ use vrl_kind::Kind;
 use vrl_pattern::Patterns;
 use vrl_value::{Chars, Fields, Memory, Tag, Value};
 
-/// `parse_key_value(value: string, key_value_delimiter: string = "=", field_delimiter: string = " ")`: object of string or boolean. The fields of a
-/// text, from the left, between which field delimiters stand, one or more. A key goes up to the next delimiter of either kind, or the end; where both
-/// begin at one place, it is that of keys. Behind a key's delimiter stands the value, up to the next field delimiter, or the end; one that begins
-/// with `"` goes up to the next `"`, and in it `\"` stands for `"`, `\\` for `\`, and any other backslash for itself. Without a key's delimiter
-/// the value is true. Of equal keys the later counts. It always may fail: `empty delimiter`; `empty key`, where a field begins with its delimiter;
-/// `bad quotes`, where a quote isn't closed, or neither a field delimiter nor the end stands behind the closing one.
+/// `parse_key_value(value: string, key_value_delimiter: string = "=", field_delimiter: string = "
+/// ")`: object of string or boolean. The fields of a text, from the left, between which field
+/// delimiters stand, one or more. A key goes up to the next delimiter of either kind, or the end;
+/// where both begin at one place, it is that of keys. Behind a key's delimiter stands the value, up
+/// to the next field delimiter, or the end; one that begins with `"` goes up to the next `"`, and
+/// in it `\"` stands for `"`, `\\` for `\`, and any other backslash for itself. Without a key's
+/// delimiter the value is true. Of equal keys the later counts. It always may fail:
+/// `empty delimiter`; `empty key`, where a field begins with its delimiter; `bad quotes`, where a
+/// quote isn't closed, or neither a field delimiter nor the end stands behind the closing one.
 /// `parse_key_value("a=1 b=\"x y\" c")` is `{"a":"1","b":"x y","c":true}`.
 #[derive(Clone, Copy)]
 pub struct ParseKeyValue;
@@ -38,9 +41,11 @@ static PARAMETERS: [Parameter; 3] = [
     optional!("field_delimiter", Tags::STRING),
 ];
 
-/// A text is read as a value exactly where it is made of fields, as `HasFields` tells it by the parts that stand one behind the other, and the value is
-/// then the object of their values, of equal keys the later one's. So no text is made of fields in two ways with different objects, and an error comes
-/// exactly where a text is not made of fields. This takes no time: it is a law about the definitions.
+/// A text is read as a value exactly where it is made of fields, as `HasFields` tells it by the
+/// parts that stand one behind the other, and the value is then the object of their values, of
+/// equal keys the later one's. So no text is made of fields in two ways with different objects, and
+/// an error comes exactly where a text is not made of fields. This takes no time: it is a law about
+/// the definitions.
 pub fn key_values_are_read()
     ensures fields { FieldsAreRead }
     ensures only { OnlyFieldsAreRead }
@@ -69,7 +74,9 @@ fn value_of(alloc: Global, field: &Field<'_>) -> Result<Value, Memory>
 
 // Puts the value of a field at its key. `Memory`: want of memory.
 fn put_field(alloc: Global, fields: &mut Fields, field: &Field<'_>) -> Result<(), Memory>
-    ensures { OnOk result (members_of fields.new ≡ put field.now.key.now (field_tree (option_map written_text field.now.written)) (members_of fields.old)) }
+    ensures { OnOk result
+        (members_of fields.new ≡ put field.now.key.now (field_tree (option_map written_text field.now.written))
+        (members_of fields.old)) }
 {
     let key = Chars::copy_of(alloc, field.key)?;
     fields.insert(key, value_of(alloc, field)?)
@@ -78,7 +85,8 @@ fn put_field(alloc: Global, fields: &mut Fields, field: &Field<'_>) -> Result<()
 // The text without the field delimiters that it begins with.
 fn next_start<'a>(text: &'a str, field_delimiter: &str) -> &'a str
     requires { 0 < length field_delimiter.now }
-    ensures same { (k : List ℕ) (ms : Members) → fields_from k field_delimiter.now 0 text.now ms ≡ fields_from k field_delimiter.now 0 result.now ms }
+    ensures same { (k : List ℕ) (ms : Members)
+        → fields_from k field_delimiter.now 0 text.now ms ≡ fields_from k field_delimiter.now 0 result.now ms }
     ensures starts { begins field_delimiter.now result.now ≡ false }
     ensures ahead { (d : List ℕ) (n : ℕ) → IsAhead d text.now n → IsAhead d result.now n }
     ensures within { length result.now ≤ length text.now }
@@ -90,7 +98,8 @@ fn next_start<'a>(text: &'a str, field_delimiter: &str) -> &'a str
     left
 }
 
-// Puts the values of a text's fields at their keys, up to where no field begins. `Some`: why none does there. `Memory`: want of memory.
+// Puts the values of a text's fields at their keys, up to where no field begins. `Some`: why none
+// does there. `Memory`: want of memory.
 fn put_fields(
     alloc: Global,
     fields: &mut Fields,
@@ -100,7 +109,9 @@ fn put_fields(
 ) -> Result<Option<Fault>, Memory>
     requires key_delimiter { 0 < length key_delimiter.now }
     requires field_delimiter { 0 < length field_delimiter.now }
-    ensures { IfOk result (λ why. fields_from key_delimiter.now field_delimiter.now 0 text.now (members_of fields.old) ≡ ended why (members_of fields.new)) }
+    ensures { IfOk result
+        (λ why. fields_from key_delimiter.now field_delimiter.now 0 text.now (members_of fields.old) ≡ ended why
+        (members_of fields.new)) }
 {
     let mut left = next_start(text, field_delimiter);
     let mut key_left = left_from(left, key_delimiter);
@@ -117,8 +128,8 @@ fn put_fields(
     Ok(None)
 }
 
-// What the function answers where its text was read up to there with these fields. `Memory`: reading it ran out of
-// memory.
+// What the function answers where its text was read up to there with these fields. `Memory`:
+// reading it ran out of memory.
 fn ended(fields: Fields, why: Result<Option<Fault>, Memory>) -> Applied
     ensures answer { (told : Answer)
         → IfOk why (λ why. told ≡ ended why (members_of fields))

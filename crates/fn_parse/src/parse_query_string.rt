@@ -20,9 +20,10 @@ use vrl_kind::{Kind, join};
 use vrl_pattern::Patterns;
 use vrl_value::{Chars, Fields, Items, Memory, Tag, Value, members_are_maps};
 
-/// `parse_query_string(value: string)`: object of string or array of string. The names and values of a query, as forms write them (URL Standard,
-/// section 5.1), behind a `?` or without one: the value of a name that comes once, and the array of its values where it comes more than once. It never
-/// fails. `parse_query_string("?a=1&a=2&b=3")` is `{"a":["1","2"],"b":"3"}`.
+/// `parse_query_string(value: string)`: object of string or array of string. The names and values
+/// of a query, as forms write them (URL Standard, section 5.1), behind a `?` or without one: the
+/// value of a name that comes once, and the array of its values where it comes more than once. It
+/// never fails. `parse_query_string("?a=1&a=2&b=3")` is `{"a":["1","2"],"b":"3"}`.
 #[derive(Clone, Copy)]
 pub struct ParseQueryString;
 
@@ -57,7 +58,8 @@ fn longer(items: Items, text: Chars) -> Result<Value, Memory>
     Ok(Value::List(Items::new(values)))
 }
 
-// What stands at a name where a text is found more; the first one takes no memory. `Memory`: out of memory.
+// What stands at a name where a text is found more; the first one takes no memory. `Memory`: out of
+// memory.
 fn one_more(alloc: Global, found: Option<Value>, text: Chars) -> Result<Value, Memory>
     ensures value { IfOk result (λ value. tree_of value ≡ one_more (option_map tree_of found) text) }
     ensures first { found ≡ None → IsOk result }

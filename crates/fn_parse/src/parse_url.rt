@@ -21,12 +21,13 @@ use vrl_kind::Kind;
 use vrl_pattern::Patterns;
 use vrl_value::{Chars, Fields, Memory, Value, members_are_maps};
 
-/// `parse_url(value: string)`: object. The parts of an absolute URL, as the URL Standard reads and writes them, so percent signs stay: `scheme`,
-/// `username`, `password` and `path`, each a string; `host`, a string, or null where there is none or an empty one, as in `file:///a`; `port`, an
-/// integer, or null where none is written or it is the scheme's own; `fragment`, a string or null; and `query`, the object of the names and values of
-/// the query, of which the later of equal names counts. It always may fail: `not a URL`. A URL
-/// that is written with 2^32 bytes or more counts as out of memory.
-/// `parse_url("http://h:81/p?q=1#f")` is
+/// `parse_url(value: string)`: object. The parts of an absolute URL, as the URL Standard reads and
+/// writes them, so percent signs stay: `scheme`, `username`, `password` and `path`, each a string;
+/// `host`, a string, or null where there is none or an empty one, as in `file:///a`; `port`, an
+/// integer, or null where none is written or it is the scheme's own; `fragment`, a string or null;
+/// and `query`, the object of the names and values of the query, of which the later of equal names
+/// counts. It always may fail: `not a URL`. A URL that is written with 2^32 bytes or more counts as
+/// out of memory. `parse_url("http://h:81/p?q=1#f")` is
 /// `{"fragment":"f","host":"h","password":"","path":"/p","port":81,"query":{"q":"1"},"scheme":"http","username":""}`.
 #[derive(Clone, Copy)]
 pub struct ParseUrl;
@@ -143,8 +144,8 @@ fn parts_of(alloc: Global, url: &Url) -> Result<Value, Memory>
     Ok(Value::Object(fields))
 }
 
-// The URL that was read. `None`: the text is none. `Memory`: out of memory, or the URL as it is written has 2^32 bytes
-// or more.
+// The URL that was read. `None`: the text is none. `Memory`: out of memory, or the URL as it is
+// written has 2^32 bytes or more.
 fn read(parsed: Result<Url, ParseError>) -> Result<Option<Url>, Memory>
     ensures read { (told : Parsed Parts) → Gives parsed told → IfOk result (λ found. IsRead told found) }
     ensures memory { IsErr result → (parsed ≡ Err ParseError.OutOfMemory) ⊎ (parsed ≡ Err ParseError.Overflow) }

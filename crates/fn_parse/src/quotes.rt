@@ -11,7 +11,8 @@ fn is_mark(byte: u8) -> bool
     byte == b'"' || byte == b'\\'
 }
 
-// What is left behind a byte, and behind the byte that it takes with it: a backslash takes a quote or a backslash.
+// What is left behind a byte, and behind the byte that it takes with it: a backslash takes a quote
+// or a backslash.
 fn behind_unit(first: u8, rest: &[u8]) -> &[u8]
     ensures { result.now ≡ behind_unit first rest.now }
 {
@@ -35,8 +36,8 @@ fn closing_place(text: &[u8]) -> Option<usize>
     None
 }
 
-/// A text behind an opening quote, cut at the closing one: what stands before it, and what stands behind it. `None`: no quote closes it. A quote or
-/// a backslash behind a backslash closes nothing.
+/// A text behind an opening quote, cut at the closing one: what stands before it, and what stands
+/// behind it. `None`: no quote closes it. A quote or a backslash behind a backslash closes nothing.
 pub(crate) fn split_quoted(text: &str) -> Option<(&str, &str)>
     ensures { MatchOption result (closing_place text.now ≡ None) (λ cut. IsClosed text.now cut.0.now cut.1.now) }
 {
@@ -60,7 +61,8 @@ fn split_escape(behind: &str) -> (&'static str, &str)
     ("\\", behind)
 }
 
-/// What a text between quotes stands for: `\"` for a quote, `\\` for a backslash, and any other backslash for itself. `Memory`: want of memory.
+/// What a text between quotes stands for: `\"` for a quote, `\\` for a backslash, and any other
+/// backslash for itself. `Memory`: want of memory.
 pub(crate) fn unescaped(alloc: Global, text: &str) -> Result<Chars, Memory>
     ensures { IfOk result (λ plain. plain ≡ unescaped text.now) }
 {
@@ -99,7 +101,8 @@ struct Marked<'a> {
 fn split_mark(text: &str) -> Option<Marked<'_>>
     ensures { MatchOption result
         (escaped text.now ≡ text.now)
-        (λ cut. (escaped text.now ≡ cut.before.now ++ (0x5C ∷ (cut.mark.now ++ escaped cut.behind.now))) × (length cut.behind.now < length text.now)) }
+        (λ cut. (escaped text.now ≡ cut.before.now ++ (0x5C ∷ (cut.mark.now ++ escaped cut.behind.now)))
+        × (length cut.behind.now < length text.now)) }
 {
     let length = plain_length(text.as_bytes());
     if length == text.len() {
@@ -128,7 +131,8 @@ fn push_escaped(out: &mut String, text: &str) -> Result<(), Memory>
     Ok(out.push_str(left)?)
 }
 
-/// Writes a text in quotes, with a backslash before each quote and each backslash of it. `Memory`: want of memory.
+/// Writes a text in quotes, with a backslash before each quote and each backslash of it. `Memory`:
+/// want of memory.
 pub(crate) fn push_in_quotes(out: &mut String, text: &str) -> Result<(), Memory>
     ensures { OnOk result (string_bytes out.new ≡ string_bytes out.old ++ in_quotes text.now) }
 {

@@ -54,7 +54,8 @@ fn push(
 
 // Puts the kinds of a URL's parts, the last by name first.
 fn push_parts(alloc: Global, fields: &mut Vec<(Chars, Kind)>) -> Result<(), Memory>
-    ensures { OnOk result (AreNamed (named_view fields.old.items) [] → AreNamed (named_view fields.new.items) url_fields) }
+    ensures { OnOk result
+        (AreNamed (named_view fields.old.items) [] → AreNamed (named_view fields.new.items) url_fields) }
 {
     push(alloc, fields, "username", Part::Text)?;
     push(alloc, fields, "scheme", Part::Text)?;

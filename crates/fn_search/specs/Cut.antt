@@ -1,7 +1,8 @@
 -- A text cut where another stands in it.
 use Rattle.std.specs.Prelude.{ℕ, zero, suc, List, [], ◌∷◌, ◌++◌, Option, Some, None, bytes_eq, drop, length, option_map, take, if◌then◌else◌}
 
--- what stands before the first place where the text goes on with the part, and what stands behind the part there; none where there is no such place
+-- what stands before the first place where the text goes on with the part, and what stands behind
+-- the part there; none where there is no such place
 unfoldable pub cut : List ℕ → List ℕ → Option (List ℕ × List ℕ)
 cut part [] = if bytes_eq part [] then Some ([], []) else None
 cut part (b ∷ s) =

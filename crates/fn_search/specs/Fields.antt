@@ -31,7 +31,8 @@ with_named (b ∷ name) t ms = put (b ∷ name) t ms
 -- the i-th name is that of the i-th group; of equal names the later counts
 abbrev pub with_names : List (List ℕ) → List ℕ → List (Option (ℕ × ℕ)) → Members → Members
 with_names [] s gs ms = ms
-with_names (name ∷ names) s gs ms = with_names names s (later_groups gs) (with_named name (text_or_null s (first_group gs)) ms)
+with_names (name ∷ names) s gs ms =
+    with_names names s (later_groups gs) (with_named name (text_or_null s (first_group gs)) ms)
 
 -- a field for each group by its number, in place of one of that name
 abbrev pub with_numbers : ℕ → List ℕ → List (Option (ℕ × ℕ)) → Members → Members

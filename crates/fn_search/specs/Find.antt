@@ -38,7 +38,8 @@ abbrev pub start_of : List ℕ → ℤ → Option ℕ
 start_of s (pos i) = if is_cut_at true s i then Some i else None
 start_of s (negsuc i) = None
 
--- where the pattern stands in what is left from there on, taken by itself, counted from the start of the text
+-- where the pattern stands in what is left from there on, taken by itself, counted from the start
+-- of the text
 abbrev pub place_behind : List (List ℕ) → List ℕ → Tree → Option ℕ → Option ℕ
 place_behind sources s pattern None = None
 place_behind sources s pattern (Some i) = option_map (λ k. i + k) (first_place sources (drop i s) pattern)
@@ -56,9 +57,12 @@ number_or_null_kind = either (only_at tag.Int) (only_at tag.Null)
 abbrev pub find_row : Row
 find_row = record {
   name = codes "find";
-  parameters = parameter (codes "value") strings ∷ parameter (codes "pattern") patterns ∷ optional_parameter (codes "from") integers ∷ [];
+  parameters = parameter (codes "value") strings ∷ parameter (codes "pattern") patterns ∷ optional_parameter
+      (codes "from") integers ∷ [];
   accepts = any_literal;
   kind = λ givens sources. number_or_null_kind;
   may_fail = λ givens. false;
-  means = λ arguments setting. value (number_or_null (place_from setting.sources (text_at 0 [] arguments) (value_at 1 arguments) (integer_at 2 (pos 0) arguments)));
+  means = λ arguments setting. value
+      (number_or_null
+      (place_from setting.sources (text_at 0 [] arguments) (value_at 1 arguments) (integer_at 2 (pos 0) arguments)));
 }

@@ -20,9 +20,11 @@ match-law = record { present = refl; lawful = λ givens arguments setting fit in
 pub replace-law : KeepsOneTag replace_row
 replace-law = record { present = refl; lawful = λ givens arguments setting fit instances. (tt, refl) }
 
-number_is_lawful : (o : Option ℕ) (arguments : List (Option Tree)) → IsLawful number_or_null_kind false arguments (value (number_or_null o))
+number_is_lawful : (o : Option ℕ) (arguments : List (Option Tree))
+    → IsLawful number_or_null_kind false arguments (value (number_or_null o))
 number_is_lawful None arguments = plain_is_lawful (number_or_null None) number_or_null_kind false arguments tt refl
-number_is_lawful (Some n) arguments = plain_is_lawful (number_or_null (Some n)) number_or_null_kind false arguments tt refl
+number_is_lawful (Some n) arguments =
+    plain_is_lawful (number_or_null (Some n)) number_or_null_kind false arguments tt refl
 
 pub find-law : KeepsLaw find_row
 find-law = record {
@@ -30,11 +32,14 @@ find-law = record {
   lawful = λ givens arguments setting given fit instances below. number_is_lawful _ arguments;
 }
 
-texts_are_lawful : (ss : List (List ℕ)) (arguments : List (Option Tree)) → EachItem (IsLawfulPart (only_at tag.Text) arguments) (items_of_trees (map string ss))
-texts_are_lawful ss arguments = each_text (IsLawfulPart (only_at tag.Text) arguments) ss (λ s. plain_part (only_at tag.Text) arguments (string s) tt refl)
+texts_are_lawful : (ss : List (List ℕ)) (arguments : List (Option Tree))
+    → EachItem (IsLawfulPart (only_at tag.Text) arguments) (items_of_trees (map string ss))
+texts_are_lawful ss arguments = each_text (IsLawfulPart (only_at tag.Text) arguments) ss
+    (λ s. plain_part (only_at tag.Text) arguments (string s) tt refl)
 
 pub split-law : KeepsLaw split_row
 split-law = record {
   present = λ givens sources given below. refl;
-  lawful = λ givens arguments setting given fit instances below. array_is_lawful (only_at tag.Text) false arguments _ (texts_are_lawful _ arguments);
+  lawful = λ givens arguments setting given fit instances below. array_is_lawful (only_at tag.Text) false arguments _
+      (texts_are_lawful _ arguments);
 }

@@ -13,5 +13,6 @@ match_row = record {
   parameters = parameter (codes "value") strings ∷ parameter (codes "pattern") regexes ∷ [];
   tag = tag.Bool;
   may_fail = λ givens. false;
-  means = λ arguments setting. value (boolean (is_match setting.sources (text_at 0 [] arguments) (value_at 1 arguments)));
+  means =
+      λ arguments setting. value (boolean (is_match setting.sources (text_at 0 [] arguments) (value_at 1 arguments)));
 }

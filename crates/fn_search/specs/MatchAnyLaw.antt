@@ -12,5 +12,7 @@ pub match_any-law : KeepsOneTag match_any_row
 match_any-law = record {
   present = refl;
   lawful = λ givens arguments setting fit instances.
-      made_of_parts tag.Bool regexes 1 (λ ts. boolean (some_matches setting.sources (text_at 0 [] arguments) ts)) givens arguments (λ ts. (tt, refl)) fit.1.0.there fit.1.0.allowed instances;
+      made_of_parts tag.Bool regexes 1
+      (λ ts. boolean (some_matches setting.sources (text_at 0 [] arguments) ts)) givens arguments
+      (λ ts. (tt, refl)) fit.1.0.there fit.1.0.allowed instances;
 }

@@ -58,12 +58,14 @@ match_object source numbered s m = object (fields (groups_of source) numbered s 
 -- that of the first match
 abbrev pub parsed : List (List ℕ) → Option ℕ → Bool → List ℕ → Answer
 parsed sources None numbered s = failure (codes "no match")
-parsed sources (Some n) numbered s = told (match_object (source_at n sources) numbered s) (codes "no match") (first_match (source_at n sources) s)
+parsed sources (Some n) numbered s =
+    told (match_object (source_at n sources) numbered s) (codes "no match") (first_match (source_at n sources) s)
 
 -- those of all matches
 abbrev pub all_parsed : List (List ℕ) → Option ℕ → Bool → List ℕ → Tree
 all_parsed sources None numbered s = array no_items
-all_parsed sources (Some n) numbered s = array (items_of_trees (map (match_object (source_at n sources) numbered s) (all_matches (source_at n sources) s)))
+all_parsed sources (Some n) numbered s =
+    array (items_of_trees (map (match_object (source_at n sources) numbered s) (all_matches (source_at n sources) s)))
 
 abbrev pub parameters : List ParameterRow
 parameters = parameter (codes "value") strings ∷ pattern_parameter ∷ numeric_parameter ∷ []
@@ -75,7 +77,8 @@ parse_regex_row = record {
   accepts = accepts;
   kind = λ givens sources. object_kind sources (literal_at 1 givens) (literal_at 2 givens);
   may_fail = λ givens. true;
-  means = λ arguments setting. named (codes "parse_regex") (parsed setting.sources (optional_regex 1 arguments) (boolean_at 2 false arguments) (text_at 0 [] arguments));
+  means = λ arguments setting. named (codes "parse_regex")
+      (parsed setting.sources (optional_regex 1 arguments) (boolean_at 2 false arguments) (text_at 0 [] arguments));
 }
 
 abbrev pub parse_regex_all_row : Row
@@ -85,5 +88,6 @@ parse_regex_all_row = record {
   accepts = accepts;
   kind = λ givens sources. array_of (object_kind sources (literal_at 1 givens) (literal_at 2 givens));
   may_fail = λ givens. false;
-  means = λ arguments setting. value (all_parsed setting.sources (optional_regex 1 arguments) (boolean_at 2 false arguments) (text_at 0 [] arguments));
+  means = λ arguments setting. value
+      (all_parsed setting.sources (optional_regex 1 arguments) (boolean_at 2 false arguments) (text_at 0 [] arguments));
 }

@@ -20,7 +20,8 @@ abbrev pub cuts_of : List ℕ → Option ℕ → ℕ
 cuts_of s None = length s
 cuts_of s (Some n) = n
 
--- the first so many matches from the left replaced: those of a text by what is given, and those of a regex by what is written for it as a template
+-- the first so many matches from the left replaced: those of a text by what is given, and those of
+-- a regex by what is written for it as a template
 abbrev pub replace_by : List (List ℕ) → List ℕ → Tree → List ℕ → Option ℕ → List ℕ
 replace_by sources s (string part) with count = joined with (parts_between part (cuts_of s count) s)
 replace_by sources s (regex n) with count = replaced (source_at n sources) s with count
@@ -34,8 +35,11 @@ replace_by sources s (object ms) with count = s
 abbrev pub replace_row : OneTagRow
 replace_row = record {
   name = codes "replace";
-  parameters = parameter (codes "value") strings ∷ parameter (codes "pattern") patterns ∷ parameter (codes "with") strings ∷ optional_parameter (codes "count") integers ∷ [];
+  parameters = parameter (codes "value") strings ∷ parameter (codes "pattern") patterns ∷ parameter
+      (codes "with") strings ∷ optional_parameter (codes "count") integers ∷ [];
   tag = tag.Text;
   may_fail = λ givens. false;
-  means = λ arguments setting. value (string (replace_by setting.sources (text_at 0 [] arguments) (value_at 1 arguments) (text_at 2 [] arguments) (count_of (integer_at 3 (negsuc 0) arguments))));
+  means = λ arguments setting. value
+      (string (replace_by setting.sources (text_at 0 [] arguments) (value_at 1 arguments) (text_at 2 [] arguments)
+      (count_of (integer_at 3 (negsuc 0) arguments))));
 }

@@ -12,8 +12,8 @@ use Rattle.fn_search.specs.Cut.{parts_between}
 use Rattle.fn_search.specs.Find.{patterns}
 use Rattle.fn_search.specs.Sources.{source_at}
 
--- How many parts there may be: a limit below 1 counts as 1. Without a limit there may be as many as there can be: a text of n bytes has at most n + 1
--- matches, none over another, and so n + 2 parts.
+-- How many parts there may be: a limit below 1 counts as 1. Without a limit there may be as many as
+-- there can be: a text of n bytes has at most n + 1 matches, none over another, and so n + 2 parts.
 abbrev pub most_parts : Option ℤ → List ℕ → ℕ
 most_parts None s = length s + 2
 most_parts (Some n) s = if int_lt n (pos 1) then 1 else unsigned_abs n
@@ -32,11 +32,14 @@ split_by sources s (object ms) most = []
 abbrev pub split_row : Row
 split_row = record {
   name = codes "split";
-  parameters = parameter (codes "value") strings ∷ parameter (codes "pattern") patterns ∷ optional_parameter (codes "limit") integers ∷ [];
+  parameters = parameter (codes "value") strings ∷ parameter (codes "pattern") patterns ∷ optional_parameter
+      (codes "limit") integers ∷ [];
   accepts = any_literal;
   kind = λ givens sources. array_of (only_at tag.Text);
   may_fail = λ givens. false;
   means = λ arguments setting.
       let s = text_at 0 [] arguments in
-      value (array (items_of_trees (map string (split_by setting.sources s (value_at 1 arguments) (most_parts (optional_integer 2 arguments) s)))));
+      value (array (items_of_trees
+      (map string (split_by setting.sources s (value_at 1 arguments)
+      (most_parts (optional_integer 2 arguments) s)))));
 }

@@ -6,7 +6,8 @@ ghost use Rattle.fn_search.specs.Cut.{cut, cut_up, joined, parts_between};
 use std::alloc::Global;
 use vrl_value::{Chars, Memory, Value};
 
-/// What stands before the first place where the text goes on with the part, and what stands behind the part there. `None`: there is no such place.
+/// What stands before the first place where the text goes on with the part, and what stands behind
+/// the part there. `None`: there is no such place.
 pub(crate) fn cut<'a>(part: &str, text: &'a str) -> Option<(&'a str, &'a str)>
     ensures parts { option_map (λ parts. (parts.0.now, parts.1.now)) result ≡ cut part.now text.now }
     ensures within { IfSome result (λ parts. length parts.0.now ≤ length text.now) }
@@ -33,7 +34,8 @@ fn with_text(alloc: Global, texts: Vec<Value>, last: &str) -> Result<Vec<Value>,
     Ok(all)
 }
 
-// The parts between the first so many places where the part stands, as strings. `Memory`: want of memory.
+// The parts between the first so many places where the part stands, as strings. `Memory`: want of
+// memory.
 fn cut_up(alloc: Global, part: &str, cuts: usize, text: &str) -> Result<Vec<Value>, Memory>
     ensures { IfOk result (λ parts. map tree_of parts.items ≡ map string (cut_up part.now cuts text.now)) }
 {
@@ -51,7 +53,8 @@ fn cut_up(alloc: Global, part: &str, cuts: usize, text: &str) -> Result<Vec<Valu
     with_text(alloc, parts, rest)
 }
 
-/// The parts between the first so many places where the part stands, as strings; an empty one cuts nothing. `Memory`: want of memory.
+/// The parts between the first so many places where the part stands, as strings; an empty one cuts
+/// nothing. `Memory`: want of memory.
 pub(crate) fn parts_between(
     alloc: Global,
     part: &str,
@@ -82,7 +85,8 @@ fn push_both(text: &mut String, first: &str, second: &str) -> Result<(), Memory>
     Ok(())
 }
 
-// The parts between the first so many places where the part stands, with another text between each two. `Memory`: want of memory.
+// The parts between the first so many places where the part stands, with another text between each
+// two. `Memory`: want of memory.
 fn swap_up(alloc: Global, part: &str, with: &str, cuts: usize, text: &str) -> Result<Chars, Memory>
     ensures { IfOk result (λ changed. changed ≡ joined with.now (cut_up part.now cuts text.now)) }
 {
@@ -102,7 +106,8 @@ fn swap_up(alloc: Global, part: &str, with: &str, cuts: usize, text: &str) -> Re
     Ok(Chars::new(changed))
 }
 
-/// The text with another in place of the part, at the first so many places where that stands; an empty one stands nowhere. `Memory`: want of memory.
+/// The text with another in place of the part, at the first so many places where that stands; an
+/// empty one stands nowhere. `Memory`: want of memory.
 pub(crate) fn swapped(
     alloc: Global,
     part: &str,

@@ -60,7 +60,8 @@ fn later_groups(groups: &[Option<Place>]) -> &[Option<Place>]
     }
 }
 
-// Puts the text of the first of these groups at a name, unless that is empty. `Memory`: want of memory.
+// Puts the text of the first of these groups at a name, unless that is empty. `Memory`: want of
+// memory.
 fn put_first(
     alloc: Global,
     fields: &mut Fields,
@@ -69,7 +70,9 @@ fn put_first(
     groups: &[Option<Place>],
 ) -> Result<(), Memory>
     requires { AreParts text.now (place_spans groups.now) }
-    ensures { OnOk result (members_of fields.new ≡ with_named name.now (text_or_null text.now (first_group (place_spans groups.now))) (members_of fields.old)) }
+    ensures { OnOk result
+        (members_of fields.new ≡ with_named name.now (text_or_null text.now (first_group (place_spans groups.now)))
+        (members_of fields.old)) }
 {
     let value = text_or_null(alloc, text, first_group(groups))?;
     put_named(alloc, fields, name, value)
@@ -83,7 +86,8 @@ fn with_names(
     groups: &[Option<Place>],
 ) -> Result<Fields, Memory>
     requires { AreParts text.now (place_spans groups.now) }
-    ensures { IfOk result (λ fields. members_of fields ≡ with_names names.now text.now (place_spans groups.now) no_members) }
+    ensures { IfOk result
+        (λ fields. members_of fields ≡ with_names names.now text.now (place_spans groups.now) no_members) }
 {
     let mut fields = Fields::new(BTreeMap::new(alloc));
     let mut names_left = names;
@@ -105,7 +109,9 @@ fn put_numbered(
     groups: &[Option<Place>],
 ) -> Result<(), Memory>
     requires { AreParts text.now (place_spans groups.now) }
-    ensures { OnOk result (members_of fields.new ≡ put (decimal number) (text_or_null text.now (first_group (place_spans groups.now))) (members_of fields.old)) }
+    ensures { OnOk result
+        (members_of fields.new ≡ put (decimal number) (text_or_null text.now (first_group (place_spans groups.now)))
+        (members_of fields.old)) }
 {
     let value = text_or_null(alloc, text, first_group(groups))?;
     let name = format!(in alloc; "{number}")?;
@@ -120,7 +126,8 @@ fn with_numbers(
     groups: &[Option<Place>],
 ) -> Result<(), Memory>
     requires { AreParts text.now (place_spans groups.now) }
-    ensures { OnOk result (members_of fields.new ≡ with_numbers 0 text.now (place_spans groups.now) (members_of fields.old)) }
+    ensures { OnOk result
+        (members_of fields.new ≡ with_numbers 0 text.now (place_spans groups.now) (members_of fields.old)) }
 {
     let mut number: usize = 0;
     let mut left = groups;
@@ -132,8 +139,8 @@ fn with_numbers(
     Ok(())
 }
 
-/// The object of a match: the text of each group that has a name there, and, where these are wanted, that of each group at its number. `Memory`:
-/// want of memory.
+/// The object of a match: the text of each group that has a name there, and, where these are
+/// wanted, that of each group at its number. `Memory`: want of memory.
 pub(crate) fn match_object(
     alloc: Global,
     names: &[Chars],
@@ -142,7 +149,8 @@ pub(crate) fn match_object(
     groups: &[Option<Place>],
 ) -> Result<Value, Memory>
     requires { AreParts text.now (place_spans groups.now) }
-    ensures { IfOk result (λ value. tree_of value ≡ object (fields names.now numbered text.now (place_spans groups.now))) }
+    ensures { IfOk result
+        (λ value. tree_of value ≡ object (fields names.now numbered text.now (place_spans groups.now))) }
 {
     let mut made = with_names(alloc, names, text, groups)?;
     if numbered {
@@ -182,7 +190,8 @@ fn known_fields(alloc: Global, names: &[Chars]) -> Result<Vec<(Chars, Kind)>, Me
     Ok(known)
 }
 
-// An object with a text or null in the field of each name that isn't empty. `Memory`: want of memory.
+// An object with a text or null in the field of each name that isn't empty. `Memory`: want of
+// memory.
 fn named_kind(alloc: Global, names: &[Chars]) -> Result<Kind, Memory>
     ensures { IfOk result (λ kind. SameSets (tags_at kind) (named_kind names.now)) }
 {

@@ -15,9 +15,10 @@ use vrl_kind::Kind;
 use vrl_pattern::{Patterns, Searches};
 use vrl_value::{Memory, Tag, Value};
 
-/// `find(value: string, pattern: string or regex, from: integer = 0)`: integer or null. The byte at which the pattern first stands in the text, from byte
-/// `from` on; what is left from there on is taken by itself. Null where it doesn't stand there, and where `from` is outside the text or inside a character. An
-/// empty string is found at `from`. It never fails. `find("abc", "c")` is 2.
+/// `find(value: string, pattern: string or regex, from: integer = 0)`: integer or null. The byte at
+/// which the pattern first stands in the text, from byte `from` on; what is left from there on is
+/// taken by itself. Null where it doesn't stand there, and where `from` is outside the text or
+/// inside a character. An empty string is found at `from`. It never fails. `find("abc", "c")` is 2.
 #[derive(Clone, Copy)]
 pub struct Find;
 
@@ -45,7 +46,8 @@ fn text_place(part: &str, text: &str) -> Option<usize>
     }
 }
 
-// The byte at which a text or a regex first stands in a text. `None`: it doesn't. `Memory`: out of memory to search for a regex.
+// The byte at which a text or a regex first stands in a text. `None`: it doesn't. `Memory`: out of
+// memory to search for a regex.
 fn first_place(
     alloc: Global,
     patterns: &Searches<'_>,
@@ -67,9 +69,12 @@ fn first_place(
     }
 }
 
-// A byte from which on the text is looked at, and what is left from there on. `None`: it is outside the text or inside a character.
+// A byte from which on the text is looked at, and what is left from there on. `None`: it is outside
+// the text or inside a character.
 fn left_from(text: &str, from: i64) -> Option<(usize, &str)>
-    ensures { MatchOption result (start_of text.now from ≡ None) (λ left. (from ≡ pos left.0) × (left.1.now ≡ drop left.0 text.now) × (left.0 + length left.1.now ≡ length text.now)) }
+    ensures { MatchOption result (start_of text.now from ≡ None)
+        (λ left. (from ≡ pos left.0) × (left.1.now ≡ drop left.0 text.now)
+        × (left.0 + length left.1.now ≡ length text.now)) }
 {
     let Ok(start) = usize::try_from(from) else {
         return None;
@@ -91,7 +96,8 @@ fn number_of(place: Option<usize>, start: usize) -> Value
     }
 }
 
-// Where the pattern stands in what is left from a byte on. `Memory`: out of memory to search for a regex.
+// Where the pattern stands in what is left from a byte on. `Memory`: out of memory to search for a
+// regex.
 fn place_behind(
     alloc: Global,
     patterns: &Searches<'_>,
@@ -101,14 +107,17 @@ fn place_behind(
 ) -> Result<Value, Memory>
     requires regexes { IsTrue (regexes_below (length patterns.now) (tree_of pattern.now)) }
     requires small { start + length left.now < 2 ^ 63 }
-    ensures value { (text : List ℕ) → start ≤ length text → left.now ≡ drop start text → IfOk result (λ value. tree_of value ≡ number_or_null (place_from patterns.now text (tree_of pattern.now) (pos start))) }
+    ensures value { (text : List ℕ) → start ≤ length text → left.now ≡ drop start text
+        → IfOk result
+        (λ value. tree_of value ≡ number_or_null (place_from patterns.now text (tree_of pattern.now) (pos start))) }
     ensures memory { IsErr result → IsTrue (is_regex (tree_of pattern.now)) }
 {
     let place = first_place(alloc, patterns, left, pattern)?;
     Ok(number_of(place, start))
 }
 
-// The byte at which a text or a regex first stands from a byte on, or null. `Memory`: out of memory to search for a regex.
+// The byte at which a text or a regex first stands from a byte on, or null. `Memory`: out of memory
+// to search for a regex.
 fn place_from(
     alloc: Global,
     patterns: &Searches<'_>,
@@ -117,7 +126,8 @@ fn place_from(
     from: i64,
 ) -> Result<Value, Memory>
     requires { IsTrue (regexes_below (length patterns.now) (tree_of pattern.now)) }
-    ensures value { IfOk result (λ value. tree_of value ≡ number_or_null (place_from patterns.now text.now (tree_of pattern.now) from)) }
+    ensures value { IfOk result
+        (λ value. tree_of value ≡ number_or_null (place_from patterns.now text.now (tree_of pattern.now) from)) }
     ensures memory { IsErr result → IsTrue (is_regex (tree_of pattern.now)) }
 {
     let _length = length_of(text);

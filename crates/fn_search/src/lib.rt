@@ -1,8 +1,9 @@
 //! The functions that look for texts and regexes in a text.
 //!
-//! Files: each function has a file, and its row one of `specs/`; `parse_regex` and `parse_regex_all` stand in one. `cut.rt` has where a text stands in
-//! another, and what lies between, `sources.rt` whether a value is a regex that matches, and `fields.rt` the object of a match. The laws stand in `Laws`,
-//! `MatchAnyLaw`, `FieldsLaw` and `ParseRegexLaw`.
+//! Files: each function has a file, and its row one of `specs/`; `parse_regex` and
+//! `parse_regex_all` stand in one. `cut.rt` has where a text stands in another, and what lies
+//! between, `sources.rt` whether a value is a regex that matches, and `fields.rt` the object of a
+//! match. The laws stand in `Laws`, `MatchAnyLaw`, `FieldsLaw` and `ParseRegexLaw`.
 #![tactic(auto)]
 
 mod cut;

@@ -17,9 +17,10 @@ use vrl_builtin::{
 use vrl_pattern::Searches;
 use vrl_value::{Memory, Tag, Value};
 
-/// `match_any(value: string, patterns: array)`: boolean. Whether one of the regexes in the array matches somewhere in the text. It may fail where a
-/// part may be something else than a regex: `element N is TAG`, N being the place of the first such part from 0 on, whatever matches before it.
-/// `match_any("ab", [r'x', r'b'])` is true.
+/// `match_any(value: string, patterns: array)`: boolean. Whether one of the regexes in the array
+/// matches somewhere in the text. It may fail where a part may be something else than a regex:
+/// `element N is TAG`, N being the place of the first such part from 0 on, whatever matches before
+/// it. `match_any("ab", [r'x', r'b'])` is true.
 #[derive(Clone, Copy)]
 pub struct MatchAny;
 
@@ -28,7 +29,8 @@ static PARAMETERS: [Parameter; 2] = [
     required!("patterns", Tags::ARRAY),
 ];
 
-// Whether one of the values is a regex that matches somewhere in the text. `Memory`: want of memory.
+// Whether one of the values is a regex that matches somewhere in the text. `Memory`: want of
+// memory.
 fn some_matches(
     alloc: Global,
     patterns: &Searches<'_>,

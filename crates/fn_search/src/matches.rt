@@ -7,7 +7,8 @@ use std::alloc::Global;
 use vrl_builtin::{Applied, Arguments, Givens, OneTag, Parameter, Setting, Tags, required};
 use vrl_value::Tag;
 
-/// `match(value: string, pattern: regex)`: boolean. Whether the regex matches somewhere in the text. It never fails. `match("ab", r'b$')` is true.
+/// `match(value: string, pattern: regex)`: boolean. Whether the regex matches somewhere in the
+/// text. It never fails. `match("ab", r'b$')` is true.
 #[derive(Clone, Copy)]
 pub struct Match;
 

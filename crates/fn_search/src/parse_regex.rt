@@ -25,14 +25,17 @@ use vrl_kind::Kind;
 use vrl_pattern::{Groups, Patterns, Searches};
 use vrl_value::{Chars, Items, Memory, Value};
 
-/// `parse_regex(value: string, pattern: regex literal, numeric_groups: boolean literal = false)`: object. The text of each group of the first match that
-/// has a name, at that name; null for a group that took no part. With `numeric_groups` each group's text stands also at its number, from 0 for the whole
-/// match. It always may fail: `no match`. `parse_regex("k=v", r'(?P<a>\w)=(?P<b>\w)')` is `{"a":"k","b":"v"}`.
+/// `parse_regex(value: string, pattern: regex literal, numeric_groups: boolean literal = false)`:
+/// object. The text of each group of the first match that has a name, at that name; null for a
+/// group that took no part. With `numeric_groups` each group's text stands also at its number, from
+/// 0 for the whole match. It always may fail: `no match`.
+/// `parse_regex("k=v", r'(?P<a>\w)=(?P<b>\w)')` is `{"a":"k","b":"v"}`.
 #[derive(Clone, Copy)]
 pub struct ParseRegex;
 
-/// `parse_regex_all(value: string, pattern: regex literal, numeric_groups: boolean literal = false)`: array of what `parse_regex` gives, for each match
-/// from the left. It never fails. `parse_regex_all("ab", r'(?P<c>.)')` is `[{"c":"a"},{"c":"b"}]`.
+/// `parse_regex_all(value: string, pattern: regex literal, numeric_groups: boolean literal =
+/// false)`: array of what `parse_regex` gives, for each match from the left. It never fails. `parse_regex_all("ab",
+/// r'(?P<c>.)')` is `[{"c":"a"},{"c":"b"}]`.
 #[derive(Clone, Copy)]
 pub struct ParseRegexAll;
 
@@ -105,7 +108,9 @@ fn objects(
     matches: &[Groups],
 ) -> Result<Vec<Value>, Memory>
     requires { All (AreParts text.now) matches.now }
-    ensures { IfOk result (λ objects. map tree_of objects.items ≡ map (λ groups. object (fields names.now numbered text.now groups)) matches.now) }
+    ensures { IfOk result
+        (λ objects. map tree_of objects.items ≡ map
+        (λ groups. object (fields names.now numbered text.now groups)) matches.now) }
 {
     let mut objects = Vec::new(alloc);
     let mut left = matches;
@@ -126,14 +131,17 @@ fn objects_of(
     most: u64,
 ) -> Result<Vec<Value>, Memory>
     requires { number < length patterns.now }
-    ensures { IfOk result (λ objects. map tree_of objects.items ≡ map (match_object (source_at number patterns.now) numbered text.now) (take most (all_matches (source_at number patterns.now) text.now))) }
+    ensures { IfOk result
+        (λ objects. map tree_of objects.items ≡ map (match_object (source_at number patterns.now) numbered text.now)
+        (take most (all_matches (source_at number patterns.now) text.now))) }
 {
     let names = patterns.names(alloc, number)?;
     let matches = patterns.groups(alloc, number, text, most)?;
     objects(alloc, names.as_slice(), numbered, text, matches.as_slice())
 }
 
-// What the first match comes to, where the objects are those of the first match alone, or else out of memory for them.
+// What the first match comes to, where the objects are those of the first match alone, or else out
+// of memory for them.
 fn answer_of_first(objects: Result<Vec<Value>, Memory>) -> Applied
     ensures answer { (first : Option Tree)
         → IfOk objects (λ objects. map tree_of objects.items ≡ listed first)
@@ -161,9 +169,7 @@ fn parsed(
     ensures { Applies true (named (codes "parse_regex") (parsed patterns.now pattern numbered text.now)) result }
 {
     match pattern {
-        Some(number) => {
-            answer_of_first(objects_of(alloc, patterns, number, numbered, text, 1))
-        }
+        Some(number) => { answer_of_first(objects_of(alloc, patterns, number, numbered, text, 1)) }
         None => fail("parse_regex", "no match"),
     }
 }

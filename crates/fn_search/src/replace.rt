@@ -13,9 +13,11 @@ use vrl_builtin::{
 use vrl_pattern::Searches;
 use vrl_value::{Chars, Memory, Tag, Value};
 
-/// `replace(value: string, pattern: string or regex, with: string, count: integer = -1)`: string. The text with the first `count` matches of the pattern
-/// from the left replaced, or each where the count is negative. For a regex `with` is a template of the crate `regex`: `$1`, `${1}` and `${name}` stand
-/// for what a group matched, and `$$` for `$`. An empty string changes nothing. It never fails. `replace("aaa", "a", "b", count: 2)` is `"bba"`.
+/// `replace(value: string, pattern: string or regex, with: string, count: integer =
+/// -1)`: string. The text with the first `count` matches of the pattern from the left replaced, or
+/// each where the count is negative. For a regex `with` is a template of the crate `regex`: `$1`,
+/// `${1}` and `${name}` stand for what a group matched, and `$$` for `$`. An empty string changes
+/// nothing. It never fails. `replace("aaa", "a", "b", count: 2)` is `"bba"`.
 #[derive(Clone, Copy)]
 pub struct Replace;
 
@@ -47,7 +49,8 @@ fn cuts_of(text: &str, count: Option<u64>) -> usize
     }
 }
 
-// The text with the first so many matches of a text or a regex replaced, or each. `Memory`: want of memory.
+// The text with the first so many matches of a text or a regex replaced, or each. `Memory`: want of
+// memory.
 fn replace_by(
     alloc: Global,
     patterns: &Searches<'_>,

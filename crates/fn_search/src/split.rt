@@ -15,9 +15,10 @@ use vrl_kind::Kind;
 use vrl_pattern::{Patterns, Searches};
 use vrl_value::{Items, Memory, Tag, Value};
 
-/// `split(value: string, pattern: string or regex, limit: integer)`: array of string. The parts of the text between the matches of the pattern, from the
-/// left; an empty string cuts nothing. With a limit there are at most so many parts, the last of which holds the rest; a limit below 1 counts as 1. It
-/// never fails. `split("a,b,c", ",", limit: 2)` is `["a","b,c"]`.
+/// `split(value: string, pattern: string or regex, limit: integer)`: array of string. The parts of
+/// the text between the matches of the pattern, from the left; an empty string cuts nothing. With a
+/// limit there are at most so many parts, the last of which holds the rest; a limit below 1 counts
+/// as 1. It never fails. `split("a,b,c", ",", limit: 2)` is `["a","b,c"]`.
 #[derive(Clone, Copy)]
 pub struct Split;
 
@@ -27,7 +28,8 @@ static PARAMETERS: [Parameter; 3] = [
     optional!("limit", Tags::INTEGER),
 ];
 
-// How many parts there may be of a text: what a limit says, of which one below 1 counts as 1, or as many as there can be.
+// How many parts there may be of a text: what a limit says, of which one below 1 counts as 1, or as
+// many as there can be.
 fn most_parts(limit: Option<i64>, text: &str) -> usize
     ensures most { result ≡ most_parts limit text.now }
     ensures some { 1 ≤ result }
@@ -39,7 +41,8 @@ fn most_parts(limit: Option<i64>, text: &str) -> usize
     }
 }
 
-// The parts of a text between the matches of a text or a regex, at most so many. `Memory`: want of memory.
+// The parts of a text between the matches of a text or a regex, at most so many. `Memory`: want of
+// memory.
 fn split_by(
     alloc: Global,
     patterns: &Searches<'_>,
@@ -49,7 +52,9 @@ fn split_by(
 ) -> Result<Items, Memory>
     requires regexes { IsTrue (regexes_below (length patterns.now) (tree_of pattern.now)) }
     requires some { 1 ≤ most }
-    ensures { IfOk result (λ parts. items_of parts ≡ items_of_trees (map string (split_by patterns.now text.now (tree_of pattern.now) most))) }
+    ensures { IfOk result
+        (λ parts. items_of parts ≡ items_of_trees
+        (map string (split_by patterns.now text.now (tree_of pattern.now) most))) }
 {
     match pattern {
         Value::Text(part) => Ok(Items::new(parts_between(alloc, part.as_str(), most - 1, text)?)),
@@ -67,7 +72,10 @@ fn parts(
     limit: Option<i64>,
 ) -> Result<Value, Memory>
     requires { IsTrue (regexes_below (length patterns.now) (tree_of pattern.now)) }
-    ensures { IfOk result (λ value. tree_of value ≡ array (items_of_trees (map string (split_by patterns.now text.now (tree_of pattern.now) (most_parts limit text.now))))) }
+    ensures { IfOk result
+        (λ value. tree_of value ≡ array
+        (items_of_trees
+        (map string (split_by patterns.now text.now (tree_of pattern.now) (most_parts limit text.now))))) }
 {
     let most = most_parts(limit, text);
     Ok(Value::List(split_by(alloc, patterns, text, pattern, most)?))

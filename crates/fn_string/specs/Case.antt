@@ -1,4 +1,5 @@
--- `upcase` and `downcase`: a text with the letters of ASCII in one case. The bytes of all other characters are no letters of ASCII, and stay.
+-- `upcase` and `downcase`: a text with the letters of ASCII in one case. The bytes of all other
+-- characters are no letters of ASCII, and stay.
 use Rattle.std.specs.Prelude.{ℕ, List, map}
 use Rattle.std.specs.Char.{to_ascii_lowercase, to_ascii_uppercase}
 

@@ -24,7 +24,8 @@ abbrev pub separated : List ℕ → Items → List ℕ
 separated separator no_items = []
 separated separator (item v ts) = separator ++ (text_of v ++ separated separator ts)
 
--- the separator stands between each two of the texts, and neither before the first nor behind the last
+-- the separator stands between each two of the texts, and neither before the first nor behind the
+-- last
 abbrev pub joined : List ℕ → Items → List ℕ
 joined separator no_items = []
 joined separator (item v ts) = text_of v ++ separated separator ts

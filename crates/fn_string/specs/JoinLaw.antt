@@ -11,5 +11,7 @@ use Rattle.fn_string.specs.Join.{join_row, joined}
 pub join-law : KeepsOneTag join_row
 join-law = record {
   present = refl;
-  lawful = λ givens arguments setting fit instances. made_of_parts tag.Text strings 0 (λ ts. string (joined (text_at 1 [] arguments) ts)) givens arguments (λ ts. (tt, refl)) fit.0.there fit.0.allowed instances;
+  lawful = λ givens arguments setting fit instances. made_of_parts tag.Text strings 0
+      (λ ts. string (joined (text_at 1 [] arguments) ts)) givens arguments
+      (λ ts. (tt, refl)) fit.0.there fit.0.allowed instances;
 }

@@ -7,7 +7,8 @@ use Rattle.vrl_builtin.specs.OneTag.{OneTagRow}
 use Rattle.vrl_builtin.specs.Rows.{value, parameter, value_at}
 use Rattle.vrl_builtin.specs.TagSets.{no_tags}
 
--- the bytes of a text in UTF-8, the places of an array, or the fields of an object; other values aren't allowed
+-- the bytes of a text in UTF-8, the places of an array, or the fields of an object; other values
+-- aren't allowed
 abbrev pub length_of : Tree → ℕ
 length_of (string s) = length s
 length_of (array ts) = count_of ts

@@ -1,4 +1,5 @@
--- `starts_with`, `ends_with` and `contains`: whether a text stands at the start of another, at its end, or anywhere in it.
+-- `starts_with`, `ends_with` and `contains`: whether a text stands at the start of another, at its
+-- end, or anywhere in it.
 use Rattle.std.specs.Prelude.{ℕ, ◌-◌, Bool, true, false, ◌||◌, List, [], ◌∷◌, bytes_eq, codes, drop, length, map, take}
 use Rattle.std.specs.Char.{to_ascii_lowercase}
 use Rattle.vrl_value.specs.Tree.{boolean}
@@ -20,7 +21,8 @@ abbrev pub contains : List ℕ → List ℕ → Bool
 contains part [] = starts_with part []
 contains part (b ∷ text) = starts_with part (b ∷ text) || contains part text
 
--- the text as it is compared: where case makes no difference, with the letters of ASCII in lower case
+-- the text as it is compared: where case makes no difference, with the letters of ASCII in lower
+-- case
 abbrev pub compared : Bool → List ℕ → List ℕ
 compared true text = text
 compared false text = map to_ascii_lowercase text
@@ -28,10 +30,12 @@ compared false text = map to_ascii_lowercase text
 abbrev pub search_row : List ℕ → (List ℕ → List ℕ → Bool) → OneTagRow
 search_row name holds = record {
   name = name;
-  parameters = parameter (codes "value") strings ∷ parameter (codes "substring") strings ∷ optional_parameter (codes "case_sensitive") booleans ∷ [];
+  parameters = parameter (codes "value") strings ∷ parameter (codes "substring") strings ∷ optional_parameter
+      (codes "case_sensitive") booleans ∷ [];
   tag = tag.Bool;
   may_fail = λ givens. false;
   means = λ arguments setting.
       let sensitive = boolean_at 2 true arguments in
-      value (boolean (holds (compared sensitive (text_at 1 [] arguments)) (compared sensitive (text_at 0 [] arguments))));
+      value (boolean
+      (holds (compared sensitive (text_at 1 [] arguments)) (compared sensitive (text_at 0 [] arguments))));
 }

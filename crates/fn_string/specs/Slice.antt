@@ -62,7 +62,8 @@ sliced (timestamp nanos) start end = failure (codes "out of range")
 sliced (regex n) start end = failure (codes "out of range")
 sliced (object ms) start end = failure (codes "out of range")
 
--- a text where the value may be one, and an array of the parts of its arrays where it may be an array
+-- a text where the value may be one, and an array of the parts of its arrays where it may be an
+-- array
 abbrev pub text_kind : KindTree → Sets
 text_kind K p t = tags_at K [] tag.Text && only_at tag.Text p t
 
@@ -76,9 +77,11 @@ slice_kind (Some K) p t = text_kind K p t || array_kind K p t
 abbrev pub slice_row : Row
 slice_row = record {
   name = codes "slice";
-  parameters = parameter (codes "value") (record no_tags { string = true; array = true }) ∷ parameter (codes "start") integers ∷ optional_parameter (codes "end") integers ∷ [];
+  parameters = parameter (codes "value") (record no_tags { string = true; array = true }) ∷ parameter
+      (codes "start") integers ∷ optional_parameter (codes "end") integers ∷ [];
   accepts = any_literal;
   kind = λ givens sources. slice_kind (kind_at 0 givens);
   may_fail = λ givens. true;
-  means = λ arguments setting. named (codes "slice") (sliced (value_at 0 arguments) (integer_at 1 (pos 0) arguments) (optional_integer 2 arguments));
+  means = λ arguments setting. named (codes "slice")
+      (sliced (value_at 0 arguments) (integer_at 1 (pos 0) arguments) (optional_integer 2 arguments));
 }

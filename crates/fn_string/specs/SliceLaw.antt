@@ -45,7 +45,8 @@ each_first P (suc n) no_items each = tt
 each_first P (suc n) (item v ts) each = (each.0, each_first P n ts each.1)
 
 -- a value that may be answered where less is allowed may be where more is
-wider_is_lawful : (A B : Sets) (fails : Bool) (arguments : List (Option Tree)) (v : Tree) → ((p : List Step) (t : Tag) → A p t ≡ true → B p t ≡ true) →
+wider_is_lawful : (A B : Sets) (fails : Bool) (arguments : List (Option Tree)) (v : Tree)
+    → ((p : List Step) (t : Tag) → A p t ≡ true → B p t ≡ true) →
     IsLawful A fails arguments (value v) → IsLawful B fails arguments (value v)
 wider_is_lawful A B fails arguments v wider lawful = (
   λ p. if_some_so (λ t. A p t ≡ true) (λ t. B p t ≡ true) (tag_found (raw_at v p)) (wider p) (lawful.0 p),
@@ -53,28 +54,38 @@ wider_is_lawful A B fails arguments v wider lawful = (
   lawful.2,
 )
 
-array_is_sliced : (K : KindTree) (ts : Items) (arguments : List (Option Tree)) (range : ℕ × ℕ) → argument_at 0 arguments ≡ Some (array ts) → Inhabits (array ts) K → IsOrdered (array ts) →
+array_is_sliced : (K : KindTree) (ts : Items) (arguments : List (Option Tree)) (range : ℕ × ℕ)
+    → argument_at 0 arguments ≡ Some (array ts) → Inhabits (array ts) K → IsOrdered (array ts) →
     IsLawful (slice_kind (Some K)) true arguments (value (array_between ts range))
 array_is_sliced K ts arguments range is inhabits ordered =
     let A = array_parts_at (Some K) in let P = IsLawfulPart A arguments in let n = range.1 - range.0 in
     wider_is_lawful (array_of A) (slice_kind (Some K)) true arguments (array_between ts range)
-    (λ p t allowed. or_right (text_kind K p t) (array_kind K p t) (and_from (tags_at K [] tag.List) (array_of A p t) (inhabits []) allowed))
-    (array_is_lawful A true arguments (first_parts n (parts_from range.0 ts)) (each_first P n (parts_from range.0 ts) (each_from P range.0 ts (given_items (Some K) 0 ts arguments is inhabits ordered))))
+    (λ p t allowed. or_right (text_kind K p t) (array_kind K p t)
+    (and_from (tags_at K [] tag.List) (array_of A p t) (inhabits []) allowed))
+    (array_is_lawful A true arguments (first_parts n (parts_from range.0 ts))
+    (each_first P n (parts_from range.0 ts)
+    (each_from P range.0 ts (given_items (Some K) 0 ts arguments is inhabits ordered))))
 
-slice_is_lawful : (K : Option KindTree) (argument : Option Tree) (arguments : List (Option Tree)) (start : ℤ) (end : Option ℤ) → argument_at 0 arguments ≡ argument → IsOfGiven K argument → IfSome argument IsOrdered →
+slice_is_lawful : (K : Option KindTree) (argument : Option Tree) (arguments : List (Option Tree)) (start : ℤ)
+    (end : Option ℤ) → argument_at 0 arguments ≡ argument → IsOfGiven K argument → IfSome argument IsOrdered →
     IsLawful (slice_kind K) true arguments (named (codes "slice") (sliced (value_or null argument) start end))
 slice_is_lawful None (Some v) arguments start end is of ordered = absurd of
 slice_is_lawful K None arguments start end is of ordered = refl
 slice_is_lawful (Some K) (Some (string s)) arguments start end is of ordered =
-    told_is_lawful (text_between s) (codes "out of range") (codes "slice") (range_of (count_of_characters s) start end) (slice_kind (Some K)) arguments (λ range.
-    plain_is_lawful (text_between s range) (slice_kind (Some K)) true arguments tt (or_left (tags_at K [] tag.Text && true) (tags_at K [] tag.List && false) (and_from (tags_at K [] tag.Text) true (of []) refl)))
+    told_is_lawful (text_between s) (codes "out of range") (codes "slice") (range_of (count_of_characters s) start end)
+    (slice_kind (Some K)) arguments (λ range.
+    plain_is_lawful (text_between s range) (slice_kind (Some K)) true arguments tt
+    (or_left (tags_at K [] tag.Text && true) (tags_at K [] tag.List && false)
+    (and_from (tags_at K [] tag.Text) true (of []) refl)))
 slice_is_lawful (Some K) (Some (array ts)) arguments start end is of ordered =
-    told_is_lawful (array_between ts) (codes "out of range") (codes "slice") (range_of (count_of ts) start end) (slice_kind (Some K)) arguments (λ range. array_is_sliced K ts arguments range is of ordered)
+    told_is_lawful (array_between ts) (codes "out of range") (codes "slice") (range_of (count_of ts) start end)
+    (slice_kind (Some K)) arguments (λ range. array_is_sliced K ts arguments range is of ordered)
 slice_is_lawful (Some K) (Some v) arguments start end is of ordered = refl
 
 pub slice-law : KeepsLaw slice_row
 slice-law = record {
   present = λ givens sources given below. slice_present (kind_at 0 givens);
   lawful = λ givens arguments setting given fit instances below.
-      slice_is_lawful (kind_at 0 givens) (argument_at 0 arguments) arguments (integer_at 1 (pos 0) arguments) (optional_integer 2 arguments) refl (instances.kinds 0) (instances.ordered 0);
+      slice_is_lawful (kind_at 0 givens) (argument_at 0 arguments) arguments (integer_at 1 (pos 0) arguments)
+      (optional_integer 2 arguments) refl (instances.kinds 0) (instances.ordered 0);
 }

@@ -20,8 +20,11 @@ truncated s limit suffix = if nat_le (count_of_characters s) limit then s else f
 abbrev pub truncate_row : OneTagRow
 truncate_row = record {
   name = codes "truncate";
-  parameters = parameter (codes "value") strings ∷ parameter (codes "limit") integers ∷ optional_parameter (codes "suffix") strings ∷ [];
+  parameters = parameter (codes "value") strings ∷ parameter (codes "limit") integers ∷ optional_parameter
+      (codes "suffix") strings ∷ [];
   tag = Text;
   may_fail = λ givens. false;
-  means = λ arguments setting. value (string (truncated (text_at 0 [] arguments) (limit_of (integer_at 1 (pos 0) arguments)) (text_at 2 [] arguments)));
+  means = λ arguments setting. value
+      (string (truncated (text_at 0 [] arguments) (limit_of (integer_at 1 (pos 0) arguments))
+      (text_at 2 [] arguments)));
 }

@@ -5,8 +5,8 @@ use std::alloc::Global;
 use vrl_builtin::FromText;
 use vrl_value::{Chars, Memory};
 
-/// `upcase(value: string)`: string. The text with the letters of ASCII in upper case; all else stays as it is. It never fails. `upcase("aé")` is
-/// `"Aé"`.
+/// `upcase(value: string)`: string. The text with the letters of ASCII in upper case; all else
+/// stays as it is. It never fails. `upcase("aé")` is `"Aé"`.
 #[derive(Clone, Copy)]
 pub struct Upcase;
 
@@ -22,8 +22,8 @@ impl FromText for Upcase {
     }
 }
 
-/// `downcase(value: string)`: string. The text with the letters of ASCII in lower case; all else stays as it is. It never fails. `downcase("AB")`
-/// is `"ab"`.
+/// `downcase(value: string)`: string. The text with the letters of ASCII in lower case; all else
+/// stays as it is. It never fails. `downcase("AB")` is `"ab"`.
 #[derive(Clone, Copy)]
 pub struct Downcase;
 

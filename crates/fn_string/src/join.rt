@@ -13,8 +13,10 @@ use vrl_builtin::{
 };
 use vrl_value::{Chars, Memory, Tag, Value};
 
-/// `join(value: array, separator: string = "")`: string. The strings of the array as one, with the separator between each two. It may fail where a part
-/// may be something else than a string: `element N is TAG`, N being the place of the first such part from 0 on. `join(["a","b"], "-")` is `"a-b"`.
+/// `join(value: array, separator: string = "")`: string. The strings of the array as one, with the
+/// separator between each two. It may fail where a part may be something else than a string:
+/// `element N is TAG`, N being the place of the first such part from 0 on. `join(["a","b"], "-")`
+/// is `"a-b"`.
 #[derive(Clone, Copy)]
 pub struct Join;
 
@@ -33,7 +35,8 @@ fn text_of(value: &Value) -> &str
     }
 }
 
-// The strings as one, with the separator between each two. `Memory`: out of memory; no string at all takes none.
+// The strings as one, with the separator between each two. `Memory`: out of memory; no string at
+// all takes none.
 fn joined(alloc: Global, items: &[Value], separator: &str) -> Result<Chars, Memory>
     ensures text { IfOk result (λ text. text ≡ joined separator.now (items_view items.now)) }
     ensures nothing { items_view items.now ≡ no_items → IsOk result }

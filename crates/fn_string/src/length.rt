@@ -7,8 +7,8 @@ use std::alloc::Global;
 use vrl_builtin::{Applied, Arguments, Givens, OneTag, Parameter, Setting, Tags, required};
 use vrl_value::{Tag, Value};
 
-/// `length(value: string, array or object)`: integer. How many bytes the text has in UTF-8 (RFC 3629), or parts the array or the object. It never
-/// fails. `length("é")` is 2.
+/// `length(value: string, array or object)`: integer. How many bytes the text has in UTF-8 (RFC
+/// 3629), or parts the array or the object. It never fails. `length("é")` is 2.
 #[derive(Clone, Copy)]
 pub struct Length;
 

@@ -1,7 +1,8 @@
 //! The functions of texts.
 //!
-//! Files: each function has a file, and its row one of `specs/`; those that differ in a word stand in one: `case.rt` has `upcase` and `downcase`, and
-//! `search.rt` the tests of where a text stands in another. The laws stand in `Laws`, `JoinLaw` and `SliceLaw`.
+//! Files: each function has a file, and its row one of `specs/`; those that differ in a word stand
+//! in one: `case.rt` has `upcase` and `downcase`, and `search.rt` the tests of where a text stands
+//! in another. The laws stand in `Laws`, `JoinLaw` and `SliceLaw`.
 #![tactic(auto)]
 
 mod case;

@@ -26,7 +26,8 @@ pub trait SearchTest {
     fn holds(&self, part: &str, text: &str) -> bool
         ensures { result ≡ search.1 part.now text.now };
 
-    /// The same where the case of ASCII letters makes no difference. `Memory`: out of memory for the copies.
+    /// The same where the case of ASCII letters makes no difference. `Memory`: out of memory for
+    /// the copies.
     fn holds_in_any_case(&self, alloc: Global, part: &str, text: &str) -> Result<bool, Memory>
         ensures holds { IfOk result (λ holds. holds ≡ search.1 (in_lower_case part.now) (in_lower_case text.now)) }
         ensures memory { IsErr result → IsTrue copies };
@@ -42,7 +43,8 @@ static PARAMETERS: [Parameter; 3] = [
     optional!("case_sensitive", Tags::BOOLEAN),
 ];
 
-// Whether the part stands in the text, where case makes a difference or none. `Memory`: out of memory for copies.
+// Whether the part stands in the text, where case makes a difference or none. `Memory`: out of
+// memory for copies.
 fn is_found<F: SearchTest>(
     alloc: Global,
     function: &F,
@@ -50,7 +52,8 @@ fn is_found<F: SearchTest>(
     text: &str,
     sensitive: bool,
 ) -> Result<bool, Memory>
-    ensures found { IfOk result (λ found. found ≡ F.search.1 (compared sensitive part.now) (compared sensitive text.now)) }
+    ensures found { IfOk result
+        (λ found. found ≡ F.search.1 (compared sensitive part.now) (compared sensitive text.now)) }
     ensures memory { IsErr result → IsTrue (F.copies && not sensitive) }
 {
     if sensitive {
@@ -105,8 +108,10 @@ fn same_in_any_case(a: &[u8], b: &[u8]) -> bool
     a.eq_ignore_ascii_case(b)
 }
 
-/// `starts_with(value: string, substring: string, case_sensitive: boolean = true)`: boolean. Whether the text begins with the substring; where
-/// `case_sensitive` is false, whatever case the letters of ASCII have. It never fails. `starts_with("Abc", "aB", case_sensitive: false)` is true.
+/// `starts_with(value: string, substring: string, case_sensitive: boolean = true)`: boolean.
+/// Whether the text begins with the substring; where `case_sensitive` is false, whatever case the
+/// letters of ASCII have. It never fails. `starts_with("Abc", "aB", case_sensitive: false)` is
+/// true.
 #[derive(Clone, Copy)]
 pub struct StartsWith;
 
@@ -138,8 +143,9 @@ fn begins_in_any_case(part: &[u8], text: &[u8]) -> bool
     }
 }
 
-/// `ends_with(value: string, substring: string, case_sensitive: boolean = true)`: boolean. Whether the text ends with the substring; where
-/// `case_sensitive` is false, whatever case the letters of ASCII have. It never fails. `ends_with("ab", "b")` is true.
+/// `ends_with(value: string, substring: string, case_sensitive: boolean =
+/// true)`: boolean. Whether the text ends with the substring; where `case_sensitive` is false,
+/// whatever case the letters of ASCII have. It never fails. `ends_with("ab", "b")` is true.
 #[derive(Clone, Copy)]
 pub struct EndsWith;
 
@@ -171,8 +177,9 @@ fn ends_in_any_case(part: &[u8], text: &[u8]) -> bool
     same_in_any_case(&text[text.len() - part.len()..], part)
 }
 
-/// `contains(value: string, substring: string, case_sensitive: boolean = true)`: boolean. Whether the substring stands anywhere in the text; where
-/// `case_sensitive` is false, whatever case the letters of ASCII have. It never fails. `contains("abc", "b")` is true.
+/// `contains(value: string, substring: string, case_sensitive: boolean = true)`: boolean. Whether
+/// the substring stands anywhere in the text; where `case_sensitive` is false, whatever case the
+/// letters of ASCII have. It never fails. `contains("abc", "b")` is true.
 #[derive(Clone, Copy)]
 pub struct Contains;
 
@@ -189,7 +196,8 @@ impl SearchTest for Contains {
         text.contains(part)
     }
 
-    // It looks in a copy of the text, since std has no search that takes letters of either case for one.
+    // It looks in a copy of the text, since std has no search that takes letters of either case for
+    // one.
     fn holds_in_any_case(&self, alloc: Global, part: &str, text: &str) -> Result<bool, Memory> {
         let lower_part = part.to_ascii_lowercase(alloc)?;
         let lower_text = text.to_ascii_lowercase(alloc)?;

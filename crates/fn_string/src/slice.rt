@@ -19,9 +19,11 @@ use vrl_kind::{Kind, has, join};
 use vrl_pattern::Patterns;
 use vrl_value::{Chars, Items, Memory, Tag, Value};
 
-/// `slice(value: string or array, start: integer, end: integer)`: a string where the value may be one, and an array of the parts of its arrays where
-/// it may be an array. The characters of the text, or the parts of the array, from `start` on up to `end`, by default to the end of the value. A negative number counts
-/// from that end. It always may fail: `out of range`, unless 0 <= start <= end <= the length. `slice("abcd", 1, -1)` is `"bc"`.
+/// `slice(value: string or array, start: integer, end: integer)`: a string where the value may be
+/// one, and an array of the parts of its arrays where it may be an array. The characters of the
+/// text, or the parts of the array, from `start` on up to `end`, by default to the end of the
+/// value. A negative number counts from that end. It always may fail: `out of range`, unless 0 <=
+/// start <= end <= the length. `slice("abcd", 1, -1)` is `"bc"`.
 #[derive(Clone, Copy)]
 pub struct Slice;
 

@@ -5,8 +5,8 @@ use std::alloc::Global;
 use vrl_builtin::FromText;
 use vrl_value::{Chars, Memory};
 
-/// `strip_whitespace(value: string)`: string. The text without the white space of Unicode at both ends. It never fails. `strip_whitespace(" a ")` is
-/// `"a"`.
+/// `strip_whitespace(value: string)`: string. The text without the white space of Unicode at both
+/// ends. It never fails. `strip_whitespace(" a ")` is `"a"`.
 #[derive(Clone, Copy)]
 pub struct StripWhitespace;
 

@@ -6,7 +6,8 @@ use std::alloc::Global;
 use vrl_builtin::{Applied, Arguments, Givens, OneTag, Parameter, Setting, Tags, required};
 use vrl_value::{Tag, Value};
 
-/// `strlen(value: string)`: integer. How many characters of Unicode, as code points, the text has. It never fails. `strlen("é")` is 1.
+/// `strlen(value: string)`: integer. How many characters of Unicode, as code points, the text has.
+/// It never fails. `strlen("é")` is 1.
 #[derive(Clone, Copy)]
 pub struct StrLen;
 

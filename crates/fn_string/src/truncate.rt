@@ -10,8 +10,9 @@ use vrl_builtin::{
 };
 use vrl_value::{Chars, Memory, Tag};
 
-/// `truncate(value: string, limit: integer, suffix: string = "")`: string. The text where it has at most `limit` characters of Unicode; else its
-/// first ones, with the suffix behind them. A negative limit counts as 0. It never fails. `truncate("abcd", 2, "..")` is `"ab.."`.
+/// `truncate(value: string, limit: integer, suffix: string = "")`: string. The text where it has at
+/// most `limit` characters of Unicode; else its first ones, with the suffix behind them. A negative
+/// limit counts as 0. It never fails. `truncate("abcd", 2, "..")` is `"ab.."`.
 #[derive(Clone, Copy)]
 pub struct Truncate;
 

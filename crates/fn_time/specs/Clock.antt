@@ -19,15 +19,17 @@ is_date year month day =
 
 -- a clock shows the time
 abbrev pub is_time : ℕ → ℕ → ℕ → ℕ → Bool
-is_time hour minute second nanosecond = nat_le hour 23 && (nat_le minute 59 && (nat_le second 59 && nat_le nanosecond 999_999_999))
+is_time hour minute second nanosecond =
+    nat_le hour 23 && (nat_le minute 59 && (nat_le second 59 && nat_le nanosecond 999_999_999))
 
 -- the nanoseconds since 1970-01-01T00:00:00 that a clock shows
 abbrev pub clock_nanos : ℤ → ℕ → ℕ → ℕ → ℕ → ℕ → ℕ → ℤ
 clock_nanos year month day hour minute second nanosecond =
-    days_from_civil year month day *ℤ pos 86_400_000_000_000 +ℤ pos ((hour * 3600 + minute * 60 + second) * 1_000_000_000 + nanosecond)
+    days_from_civil year month day *ℤ pos 86_400_000_000_000 +ℤ pos
+    ((hour * 3600 + minute * 60 + second) * 1_000_000_000 + nanosecond)
 
--- the moment at which a clock shows this, so many seconds ahead of UTC; none where the calendar doesn't have the date, no clock shows the time, or the
--- moment is out of the range
+-- the moment at which a clock shows this, so many seconds ahead of UTC; none where the calendar
+-- doesn't have the date, no clock shows the time, or the moment is out of the range
 abbrev pub moment_on_clock : ℤ → ℕ → ℕ → ℕ → ℕ → ℕ → ℕ → ℤ → Option ℤ
 moment_on_clock year month day hour minute second nanosecond offset =
     if is_date year month day && is_time hour minute second nanosecond

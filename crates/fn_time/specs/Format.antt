@@ -1,5 +1,6 @@
--- Formats of dates and times: texts in which a conversion, a `%` and the letter behind it, stands for a part of a moment. Whether a byte is such a letter
--- is told at its place: it is one where an odd number of `%` stands directly before it.
+-- Formats of dates and times: texts in which a conversion, a `%` and the letter behind it, stands
+-- for a part of a moment. Whether a byte is such a letter is told at its place: it is one where an
+-- odd number of `%` stands directly before it.
 use Rattle.std.specs.Prelude.{ℕ, suc, ◌+◌, ◌%◌, ◌==◌, ◌&&◌, ◌||◌, not, Bool, List, [], ◌∷◌, codes, if◌then◌else◌}
 use Rattle.std.specs.List.{list_all, list_any}
 
@@ -27,7 +28,8 @@ are_known before (b ∷ bs) = (not (is_letter_place before) || is_known b) && ar
 -- at how many places of a letter from one on this one stands
 abbrev pub times_in : ℕ → List ℕ → List ℕ → ℕ
 times_in letter before [] = 0
-times_in letter before (b ∷ bs) = (if is_letter_place before && b == letter then 1 else 0) + times_in letter (b ∷ before) bs
+times_in letter before (b ∷ bs) =
+    (if is_letter_place before && b == letter then 1 else 0) + times_in letter (b ∷ before) bs
 
 -- the format shows moments: each conversion has one of the eight letters
 abbrev pub is_shown_format : List ℕ → Bool

@@ -19,5 +19,7 @@ from_unix_timestamp_row = record {
   accepts = λ place literal. is_text_of is_unit literal;
   kind = λ givens sources. only_at Time;
   may_fail = λ givens. true;
-  means = λ arguments setting. named (codes "from_unix_timestamp") (told timestamp (codes "out of range") (moment_after (text_at 1 (codes "seconds") arguments) (integer_at 0 (pos 0) arguments)));
+  means = λ arguments setting. named (codes "from_unix_timestamp")
+      (told timestamp (codes "out of range")
+      (moment_after (text_at 1 (codes "seconds") arguments) (integer_at 0 (pos 0) arguments)));
 }

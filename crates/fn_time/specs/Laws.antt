@@ -35,7 +35,8 @@ parse_timestamp-law = record {
   present = λ givens sources given below. refl;
   lawful = λ givens arguments setting given fit instances below.
       let moment = moment_read (text_at 1 [] arguments) (text_at 0 [] arguments) in
-      one_tag_is_lawful Time true (codes "parse_timestamp") arguments (told timestamp (codes "no match") moment) (moment_is_one_tag (codes "no match") moment);
+      one_tag_is_lawful Time true (codes "parse_timestamp") arguments (told timestamp (codes "no match") moment)
+      (moment_is_one_tag (codes "no match") moment);
 }
 
 pub from_unix_timestamp-law : KeepsLaw from_unix_timestamp_row
@@ -43,7 +44,8 @@ from_unix_timestamp-law = record {
   present = λ givens sources given below. refl;
   lawful = λ givens arguments setting given fit instances below.
       let moment = moment_after (text_at 1 (codes "seconds") arguments) (integer_at 0 (pos 0) arguments) in
-      one_tag_is_lawful Time true (codes "from_unix_timestamp") arguments (told timestamp (codes "out of range") moment) (moment_is_one_tag (codes "out of range") moment);
+      one_tag_is_lawful Time true (codes "from_unix_timestamp") arguments
+      (told timestamp (codes "out of range") moment) (moment_is_one_tag (codes "out of range") moment);
 }
 
 -- ---- format_timestamp
@@ -52,12 +54,14 @@ pub format_timestamp-law : KeepsLaw format_timestamp_row
 format_timestamp-law = record {
   present = λ givens sources given below. refl;
   lawful = λ givens arguments setting given fit instances below.
-      plain_is_lawful (string (text_shown (text_at 1 [] arguments) (moment_at 0 arguments))) (only_at Text) false arguments tt refl;
+      plain_is_lawful (string (text_shown (text_at 1 [] arguments) (moment_at 0 arguments)))
+      (only_at Text) false arguments tt refl;
 }
 
 -- ---- to_unix_timestamp: more than 64 bits hold are nanoseconds alone
 
-literal_out : (w : Tree) → is_nanoseconds (text_or (codes "seconds") (Some w)) ≡ true → is_text_of is_nanoseconds w ≡ true
+literal_out : (w : Tree) → is_nanoseconds (text_or (codes "seconds") (Some w)) ≡ true
+    → is_text_of is_nanoseconds w ≡ true
 literal_out (string s) is = is
 literal_out (integer n) is = absurd (true≢false (sym is))
 literal_out (boolean b) is = absurd (true≢false (sym is))
@@ -67,17 +71,22 @@ literal_out (regex n) is = absurd (true≢false (sym is))
 literal_out (array ts) is = absurd (true≢false (sym is))
 literal_out (object ms) is = absurd (true≢false (sym is))
 
-out_fails : (K : Option KindTree) (literal argument : Option Tree) → IsOfGiven K argument → IfSome K (λ given. IsLiteral true (is_text_of is_unit) literal)
-    → IfSome literal (λ v. argument ≡ Some v) → is_nanoseconds (text_or (codes "seconds") argument) ≡ true → IsTrue (may_be_out literal)
+out_fails : (K : Option KindTree) (literal argument : Option Tree) → IsOfGiven K argument
+    → IfSome K (λ given. IsLiteral true (is_text_of is_unit) literal)
+    → IfSome literal (λ v. argument ≡ Some v) → is_nanoseconds (text_or (codes "seconds") argument) ≡ true
+    → IsTrue (may_be_out literal)
 out_fails None literal None of given same is = absurd (true≢false (sym is))
 out_fails None literal (Some v) of given same is = absurd of
 out_fails (Some K) literal None of given same is = absurd of
 out_fails (Some K) None (Some v) of given same is = absurd (true≢false (sym given.0))
-out_fails (Some K) (Some w) (Some v) of given same is = literal_out w (subst (λ a. is_nanoseconds (text_or (codes "seconds") a) ≡ true) same is)
+out_fails (Some K) (Some w) (Some v) of given same is =
+    literal_out w (subst (λ a. is_nanoseconds (text_or (codes "seconds") a) ≡ true) same is)
 
-counted_is_one_tag : (unit : List ℕ) (nanos : ℤ) (fails : Bool) → (is_out unit nanos ≡ true → IsTrue fails) → IsOneTag Int fails (counted unit nanos)
+counted_is_one_tag : (unit : List ℕ) (nanos : ℤ) (fails : Bool) → (is_out unit nanos ≡ true → IsTrue fails)
+    → IsOneTag Int fails (counted unit nanos)
 counted_is_one_tag unit nanos fails fail =
-    choice_is (IsOneTag Int fails) (is_out unit nanos) (failure (codes "out of range")) (value (integer (int_div_euclid nanos (pos (nanos_in unit))))) fail (λ other. (tt, refl))
+    choice_is (IsOneTag Int fails) (is_out unit nanos) (failure (codes "out of range"))
+    (value (integer (int_div_euclid nanos (pos (nanos_in unit))))) fail (λ other. (tt, refl))
 
 pub to_unix_timestamp-law : KeepsLaw to_unix_timestamp_row
 to_unix_timestamp-law = record {
@@ -86,5 +95,6 @@ to_unix_timestamp-law = record {
       let unit = text_at 1 (codes "seconds") arguments in let fails = may_be_out (literal_at 1 givens) in
       one_tag_is_lawful Int fails (codes "to_unix_timestamp") arguments (counted unit (moment_at 0 arguments))
       (counted_is_one_tag unit (moment_at 0 arguments) fails (λ out.
-      out_fails (kind_at 1 givens) (literal_at 1 givens) (argument_at 1 arguments) (instances.kinds 1) given.1.0.allowed (instances.literals 1) (and_parts (is_nanoseconds unit) _ out).0));
+      out_fails (kind_at 1 givens) (literal_at 1 givens) (argument_at 1 arguments)
+      (instances.kinds 1) given.1.0.allowed (instances.literals 1) (and_parts (is_nanoseconds unit) _ out).0));
 }

@@ -18,5 +18,6 @@ parse_timestamp_row = record {
   accepts = λ place literal. is_text_of reads_moments literal;
   kind = λ givens sources. only_at Time;
   may_fail = λ givens. true;
-  means = λ arguments setting. named (codes "parse_timestamp") (told timestamp (codes "no match") (moment_read (text_at 1 [] arguments) (text_at 0 [] arguments)));
+  means = λ arguments setting. named (codes "parse_timestamp")
+      (told timestamp (codes "no match") (moment_read (text_at 1 [] arguments) (text_at 0 [] arguments)));
 }

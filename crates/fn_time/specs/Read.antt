@@ -8,7 +8,8 @@ use Rattle.fn_time.specs.Clock.{moment_on_clock}
 
 -- what the parts of a timestamp name
 abbrev pub timestamp_read : List ℕ → Option ℤ
-timestamp_read text = written_at text >>= λ w. moment_on_clock (pos w.year) w.month w.day w.hour w.minute w.second w.nanosecond w.offset
+timestamp_read text =
+    written_at text >>= λ w. moment_on_clock (pos w.year) w.month w.day w.hour w.minute w.second w.nanosecond w.offset
 
 -- the moment that the seven parts of a date, a time and its offset name; none where one is missing
 abbrev pub moment_of : Parts → Option ℤ
@@ -35,4 +36,5 @@ moment_read format text = if is_rfc_3339 format then timestamp_read text else re
 
 -- what `%+` reads is the moment that the text names by RFC 3339, and nothing where it names none
 abbrev pub TimestampsAreRead : Type 0
-TimestampsAreRead = (text : List ℕ) → IfSome (timestamp_read text) (IsReading text) × IfNone (timestamp_read text) ((nanos : ℤ) → ¬ (IsReading text nanos))
+TimestampsAreRead = (text : List ℕ) → IfSome (timestamp_read text) (IsReading text)
+    × IfNone (timestamp_read text) ((nanos : ℤ) → ¬ (IsReading text nanos))

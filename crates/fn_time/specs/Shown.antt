@@ -23,7 +23,13 @@ utc_parts nanos = record no_parts {
 
 -- with nothing more worked out of them, as no conversion of the eight asks for it
 abbrev pub utc_context : ℤ → Context
-utc_context nanos = record { parts = utc_parts nanos; date = Err (Missing Date); iso = Err (Missing Date); second = Err (Missing Instant) }
+utc_context nanos = record {
+  parts = utc_parts nanos;
+  date = Err (Missing Date);
+  iso = Err (Missing Date);
+  second = Err
+      (Missing Instant);
+}
 
 -- as the methods of jiff's types show them
 abbrev pub shown_plainly : Config

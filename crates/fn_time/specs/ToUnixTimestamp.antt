@@ -31,5 +31,6 @@ to_unix_timestamp_row = record {
   accepts = λ place literal. is_text_of is_unit literal;
   kind = λ givens sources. only_at Int;
   may_fail = λ givens. may_be_out (literal_at 1 givens);
-  means = λ arguments setting. named (codes "to_unix_timestamp") (counted (text_at 1 (codes "seconds") arguments) (moment_at 0 arguments));
+  means = λ arguments setting. named (codes "to_unix_timestamp")
+      (counted (text_at 1 (codes "seconds") arguments) (moment_at 0 arguments));
 }

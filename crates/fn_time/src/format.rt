@@ -12,7 +12,8 @@ fn is_known(letter: u8) -> bool
     letter == b'%' || PART_LETTERS.contains(&letter)
 }
 
-/// Whether each conversion of the format has one of the letters of `%Y %m %d %H %M %S %z %%`. A `%` at the end has none.
+/// Whether each conversion of the format has one of the letters of `%Y %m %d %H %M %S %z %%`. A `%`
+/// at the end has none.
 pub(crate) fn is_shown_format(format: &str) -> bool
     ensures { result ≡ is_shown_format format.now }
 {

@@ -14,9 +14,10 @@ use vrl_kind::Kind;
 use vrl_pattern::Patterns;
 use vrl_value::{Memory, Moment, Tag, Value};
 
-/// `format_timestamp(value: timestamp, format: string literal)`: string. The text of the moment under the format: `%+` is its timestamp of RFC 3339, and
-/// any other has no conversions but `%Y %m %d %H %M %S %z %%`, and shows what a clock in UTC shows as jiff's strftime does. It never fails.
-/// `format_timestamp(t'2024-01-02T03:04:05Z', "%Y/%m/%d")` is `"2024/01/02"`.
+/// `format_timestamp(value: timestamp, format: string literal)`: string. The text of the moment
+/// under the format: `%+` is its timestamp of RFC 3339, and any other has no conversions but
+/// `%Y %m %d %H %M %S %z %%`, and shows what a clock in UTC shows as jiff's strftime does. It never
+/// fails. `format_timestamp(t'2024-01-02T03:04:05Z', "%Y/%m/%d")` is `"2024/01/02"`.
 #[derive(Clone, Copy)]
 pub struct FormatTimestamp;
 

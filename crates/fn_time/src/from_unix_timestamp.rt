@@ -11,9 +11,10 @@ use vrl_kind::Kind;
 use vrl_pattern::Patterns;
 use vrl_value::{Memory, Moment, Tag, Value};
 
-/// `from_unix_timestamp(value: integer, unit: string literal = "seconds")`: timestamp. The moment so many units after 1970-01-01T00:00:00Z, or before it, where
-/// the number is negative. The units are seconds, milliseconds, microseconds and nanoseconds. It always may fail: `out of range`, for a moment out of the
-/// range. `from_unix_timestamp(1)` is `t'1970-01-01T00:00:01Z'`.
+/// `from_unix_timestamp(value: integer, unit: string literal = "seconds")`: timestamp. The moment
+/// so many units after 1970-01-01T00:00:00Z, or before it, where the number is negative. The units
+/// are seconds, milliseconds, microseconds and nanoseconds. It always may fail: `out of range`, for
+/// a moment out of the range. `from_unix_timestamp(1)` is `t'1970-01-01T00:00:01Z'`.
 #[derive(Clone, Copy)]
 pub struct FromUnixTimestamp;
 

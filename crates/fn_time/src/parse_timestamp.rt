@@ -12,10 +12,12 @@ use vrl_kind::Kind;
 use vrl_pattern::Patterns;
 use vrl_value::{Memory, Tag, Value};
 
-/// `parse_timestamp(value: string, format: string literal)`: timestamp. The moment that the text names under the format: `%+` is a timestamp of RFC
-/// 3339, and any other has each of `%Y %m %d %H %M %S %z` once and no other conversion but `%%`, and is read as jiff's strptime reads it. It always may
-/// fail: `no match`, for a text that the format doesn't read, or a moment out of the range. `parse_timestamp("2024-01-02 03:04:05 +0100",
-/// "%Y-%m-%d %H:%M:%S %z")` is `t'2024-01-02T02:04:05Z'`.
+/// `parse_timestamp(value: string, format: string literal)`: timestamp. The moment that the text
+/// names under the format: `%+` is a timestamp of RFC 3339, and any other has each of
+/// `%Y %m %d %H %M %S %z` once and no other conversion but `%%`, and is read as jiff's strptime
+/// reads it. It always may fail: `no match`, for a text that the format doesn't read, or a moment
+/// out of the range. `parse_timestamp("2024-01-02 03:04:05 +0100", "%Y-%m-%d %H:%M:%S
+/// %z")` is `t'2024-01-02T02:04:05Z'`.
 #[derive(Clone, Copy)]
 pub struct ParseTimestamp;
 

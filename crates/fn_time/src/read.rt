@@ -8,7 +8,8 @@ ghost use Rattle.fn_time.specs.Read.{is_rfc_3339, moment_read, read_by, timestam
 use jiff::Timestamp;
 use vrl_value::Moment;
 
-/// `%+` reads the moment that a text names by RFC 3339, and nothing where it names none. This takes no time: it is a law about the definitions.
+/// `%+` reads the moment that a text names by RFC 3339, and nothing where it names none. This takes
+/// no time: it is a law about the definitions.
 pub fn timestamps_are_read()
     ensures { TimestampsAreRead }
 {}
@@ -45,7 +46,8 @@ pub(crate) fn is_rfc_3339(format: &str) -> bool
     format == "%+"
 }
 
-/// The moment that a text names under a format. `None`: the format doesn't read the text, or the moment is out of the range.
+/// The moment that a text names under a format. `None`: the format doesn't read the text, or the
+/// moment is out of the range.
 pub(crate) fn moment_read(format: &str, text: &str) -> Option<Moment>
     requires { IsTrue (reads_moments format.now) }
     ensures { result ≡ moment_read format.now text.now }

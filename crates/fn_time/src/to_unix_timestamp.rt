@@ -14,9 +14,11 @@ use vrl_kind::Kind;
 use vrl_pattern::Patterns;
 use vrl_value::{Memory, Moment, Tag, Value};
 
-/// `to_unix_timestamp(value: timestamp, unit: string literal = "seconds")`: integer. How many units lie between 1970-01-01T00:00:00Z and the moment, rounded
-/// down. The units are seconds, milliseconds, microseconds and nanoseconds. It may fail where the unit is nanoseconds: `out of range`, where they are more
-/// than 64 bits hold. `to_unix_timestamp(t'1970-01-01T00:00:01.5Z', unit: "milliseconds")` is 1500.
+/// `to_unix_timestamp(value: timestamp, unit: string literal = "seconds")`: integer. How many units
+/// lie between 1970-01-01T00:00:00Z and the moment, rounded down. The units are seconds,
+/// milliseconds, microseconds and nanoseconds. It may fail where the unit is nanoseconds:
+/// `out of range`, where they are more than 64 bits hold.
+/// `to_unix_timestamp(t'1970-01-01T00:00:01.5Z', unit: "milliseconds")` is 1500.
 #[derive(Clone, Copy)]
 pub struct ToUnixTimestamp;
 

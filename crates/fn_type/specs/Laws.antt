@@ -44,12 +44,15 @@ to_string-law = record { present = refl; lawful = λ givens arguments setting fi
 
 -- ---- the value itself, where it has the tag
 
-only_is_lawful : (name : List ℕ) (t : Tag) (K : Option KindTree) (argument : Option Tree) (arguments : List (Option Tree)) →
+only_is_lawful : (name : List ℕ) (t : Tag) (K : Option KindTree) (argument : Option Tree)
+    (arguments : List (Option Tree)) →
     argument_at 0 arguments ≡ argument → IsSome argument → IsOfGiven K argument → IfSome argument IsOrdered →
-    IsLawful (given_cut_to (only_tag t) K) (allows_other t K) arguments (named name (only_answer t (value_or null argument)))
+    IsLawful (given_cut_to (only_tag t) K) (allows_other t K) arguments
+    (named name (only_answer t (value_or null argument)))
 only_is_lawful name t K None arguments is there of ordered = absurd (true≢false (sym there))
 only_is_lawful name t K (Some v) arguments is there of ordered =
-    choice_is (λ answer. IsLawful (given_cut_to (only_tag t) K) (allows_other t K) arguments (named name answer)) (same_tag (tag_of v) t) (value v) (failure (value_is (tag_of v)))
+    choice_is (λ answer. IsLawful (given_cut_to (only_tag t) K) (allows_other t K) arguments (named name answer))
+    (same_tag (tag_of v) t) (value v) (failure (value_is (tag_of v)))
     (λ same. argument_is_lawful 0 v (only_tag t) K (allows_other t K) arguments is of ordered (own_tag v t same))
     (λ other. other_is_given t K v of other)
 
@@ -61,17 +64,20 @@ pub only-law : (name : List ℕ) (t : Tag) → KeepsLaw (only_row name t)
 only-law name t = record {
   present = λ givens sources given below. only_present t (kind_at 0 givens);
   lawful = λ givens arguments setting given fit instances below.
-      only_is_lawful name t (kind_at 0 givens) (argument_at 0 arguments) arguments refl fit.0.there (instances.kinds 0) (instances.ordered 0);
+      only_is_lawful name t (kind_at 0 givens) (argument_at 0 arguments) arguments refl fit.0.there (instances.kinds 0)
+      (instances.ordered 0);
 }
 
 -- ---- what a value stands for; only a string may stand for nothing
 
-truth_fails : (K : Option KindTree) (argument : Option Tree) → IsOfGiven K argument → truth_of (value_or null argument) ≡ None → IsTrue (allows_tag tag.Text K)
+truth_fails : (K : Option KindTree) (argument : Option Tree) → IsOfGiven K argument
+    → truth_of (value_or null argument) ≡ None → IsTrue (allows_tag tag.Text K)
 truth_fails K (Some (string s)) of none = tag_is_given K (string s) of
 truth_fails K None of none = absurd (Some≢None none)
 truth_fails K (Some v) of none = absurd (Some≢None none)
 
-number_fails : (K : Option KindTree) (argument : Option Tree) → IsOfGiven K argument → whole_number (value_or null argument) ≡ None → IsTrue (allows_tag tag.Text K)
+number_fails : (K : Option KindTree) (argument : Option Tree) → IsOfGiven K argument
+    → whole_number (value_or null argument) ≡ None → IsTrue (allows_tag tag.Text K)
 number_fails K (Some (string s)) of none = tag_is_given K (string s) of
 number_fails K None of none = absurd (Some≢None none)
 number_fails K (Some v) of none = absurd (Some≢None none)
@@ -80,7 +86,8 @@ pub to_bool-law : KeepsOneTag to_bool_row
 to_bool-law = record {
   present = refl;
   lawful = λ givens arguments setting fit instances.
-      told_is_one_tag boolean tag.Bool (codes "not a boolean word") (truth_of (value_at 0 arguments)) (allows_tag tag.Text (kind_at 0 givens)) (λ b. (tt, refl))
+      told_is_one_tag boolean tag.Bool (codes "not a boolean word") (truth_of (value_at 0 arguments))
+      (allows_tag tag.Text (kind_at 0 givens)) (λ b. (tt, refl))
       (truth_fails (kind_at 0 givens) (argument_at 0 arguments) (instances.kinds 0));
 }
 
@@ -88,6 +95,7 @@ pub to_int-law : KeepsOneTag to_int_row
 to_int-law = record {
   present = refl;
   lawful = λ givens arguments setting fit instances.
-      told_is_one_tag integer tag.Int (codes "not a whole number") (whole_number (value_at 0 arguments)) (allows_tag tag.Text (kind_at 0 givens)) (λ n. (tt, refl))
+      told_is_one_tag integer tag.Int (codes "not a whole number") (whole_number (value_at 0 arguments))
+      (allows_tag tag.Text (kind_at 0 givens)) (λ n. (tt, refl))
       (number_fails (kind_at 0 givens) (argument_at 0 arguments) (instances.kinds 0));
 }

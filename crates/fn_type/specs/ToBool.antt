@@ -39,7 +39,8 @@ truth_of (object ms) = Some false
 abbrev pub to_bool_row : OneTagRow
 to_bool_row = record {
   name = codes "to_bool";
-  parameters = parameter (codes "value") (record no_tags { string = true; integer = true; boolean = true; null = true }) ∷ [];
+  parameters =
+      parameter (codes "value") (record no_tags { string = true; integer = true; boolean = true; null = true }) ∷ [];
   tag = tag.Bool;
   may_fail = λ givens. allowed_at 0 tag.Text givens;
   means = λ arguments setting. told boolean (codes "not a boolean word") (truth_of (value_at 0 arguments));

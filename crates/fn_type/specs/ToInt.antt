@@ -8,7 +8,8 @@ use Rattle.vrl_builtin.specs.OneTag.{OneTagRow}
 use Rattle.vrl_builtin.specs.Rows.{told, parameter, allowed_at, value_at}
 use Rattle.vrl_builtin.specs.TagSets.{any_tags}
 
--- 0 for false and 1 for true, the whole seconds of a timestamp rounded down, the decimal number of a string; none where it writes none
+-- 0 for false and 1 for true, the whole seconds of a timestamp rounded down, the decimal number of
+-- a string; none where it writes none
 abbrev pub whole_number : Tree → Option ℤ
 whole_number (string s) = read_in 10 s
 whole_number (integer n) = Some n

@@ -8,7 +8,8 @@ use Rattle.vrl_builtin.specs.OneTag.{OneTagRow}
 use Rattle.vrl_builtin.specs.Rows.{value, parameter, value_at}
 use Rattle.vrl_builtin.specs.TagSets.{any_tags}
 
--- the text that a value stands for as it is. Those of whole numbers and timestamps are written, and other values aren't allowed
+-- the text that a value stands for as it is. Those of whole numbers and timestamps are written, and
+-- other values aren't allowed
 abbrev pub word_of : Tree → List ℕ
 word_of (string s) = s
 word_of (boolean true) = codes "true"

@@ -45,7 +45,8 @@ impl<F: OfTag> OneTag for Is<F> {
     ghost one_tag = { λ _. is-law F.of_tag.0 F.of_tag.1 };
 }
 
-/// `is_array(value: any)`: boolean. Whether the value is an array. It never fails. `is_array([])` is true.
+/// `is_array(value: any)`: boolean. Whether the value is an array. It never fails. `is_array([])`
+/// is true.
 #[derive(Clone, Copy)]
 pub struct IsArray;
 
@@ -61,7 +62,8 @@ impl OfTag for IsArray {
     }
 }
 
-/// `is_boolean(value: any)`: boolean. Whether the value is a boolean. It never fails. `is_boolean(false)` is true.
+/// `is_boolean(value: any)`: boolean. Whether the value is a boolean. It never fails.
+/// `is_boolean(false)` is true.
 #[derive(Clone, Copy)]
 pub struct IsBoolean;
 
@@ -77,7 +79,8 @@ impl OfTag for IsBoolean {
     }
 }
 
-/// `is_integer(value: any)`: boolean. Whether the value is a whole number. It never fails. `is_integer(1)` is true.
+/// `is_integer(value: any)`: boolean. Whether the value is a whole number. It never fails.
+/// `is_integer(1)` is true.
 #[derive(Clone, Copy)]
 pub struct IsInteger;
 
@@ -93,7 +96,8 @@ impl OfTag for IsInteger {
     }
 }
 
-/// `is_null(value: any)`: boolean. Whether the value is null. It never fails. `is_null(0)` is false.
+/// `is_null(value: any)`: boolean. Whether the value is null. It never fails. `is_null(0)` is
+/// false.
 #[derive(Clone, Copy)]
 pub struct IsNull;
 
@@ -109,7 +113,8 @@ impl OfTag for IsNull {
     }
 }
 
-/// `is_object(value: any)`: boolean. Whether the value is an object. It never fails. `is_object({})` is true.
+/// `is_object(value: any)`: boolean. Whether the value is an object. It never fails.
+/// `is_object({})` is true.
 #[derive(Clone, Copy)]
 pub struct IsObject;
 
@@ -125,7 +130,8 @@ impl OfTag for IsObject {
     }
 }
 
-/// `is_regex(value: any)`: boolean. Whether the value is a regex. It never fails. `is_regex("a")` is false.
+/// `is_regex(value: any)`: boolean. Whether the value is a regex. It never fails. `is_regex("a")`
+/// is false.
 #[derive(Clone, Copy)]
 pub struct IsRegex;
 
@@ -141,7 +147,8 @@ impl OfTag for IsRegex {
     }
 }
 
-/// `is_string(value: any)`: boolean. Whether the value is a string. It never fails. `is_string("a")` is true.
+/// `is_string(value: any)`: boolean. Whether the value is a string. It never fails.
+/// `is_string("a")` is true.
 #[derive(Clone, Copy)]
 pub struct IsString;
 
@@ -157,7 +164,8 @@ impl OfTag for IsString {
     }
 }
 
-/// `is_timestamp(value: any)`: boolean. Whether the value is a timestamp. It never fails. `is_timestamp("2024")` is false.
+/// `is_timestamp(value: any)`: boolean. Whether the value is a timestamp. It never fails.
+/// `is_timestamp("2024")` is false.
 #[derive(Clone, Copy)]
 pub struct IsTimestamp;
 

@@ -7,7 +7,8 @@ use std::alloc::Global;
 use vrl_builtin::{Applied, Arguments, Givens, OneTag, Parameter, Setting, Tags, required};
 use vrl_value::{Tag, Value};
 
-/// `is_empty(value: string, array or object)`: boolean. Whether the value has no byte or part. It never fails. `is_empty("")` is true.
+/// `is_empty(value: string, array or object)`: boolean. Whether the value has no byte or part. It
+/// never fails. `is_empty("")` is true.
 #[derive(Clone, Copy)]
 pub struct IsEmpty;
 

@@ -9,8 +9,8 @@ use std::alloc::Global;
 use vrl_builtin::{Applied, Arguments, Givens, OneTag, Parameter, Setting, Tags, required};
 use vrl_value::{Tag, Value};
 
-/// `is_nullish(value: any)`: boolean. Whether the value is null, or a string that is empty, white space of Unicode alone, or `-`. It never
-/// fails. `is_nullish("-")` is true.
+/// `is_nullish(value: any)`: boolean. Whether the value is null, or a string that is empty, white
+/// space of Unicode alone, or `-`. It never fails. `is_nullish("-")` is true.
 #[derive(Clone, Copy)]
 pub struct IsNullish;
 

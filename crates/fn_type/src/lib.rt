@@ -1,7 +1,9 @@
 //! The functions that tell the tags of values and turn values into others of a given tag.
 //!
-//! Files: each function has a file, and its row one of `specs/`; those that differ in a tag alone stand in one: `is.rt` has the tests of a tag, and
-//! `only.rt` the functions that give a value of one tag back. `of_tag.rt` has what tells such a function: its name and its tag. The laws stand in `Laws`.
+//! Files: each function has a file, and its row one of `specs/`; those that differ in a tag alone
+//! stand in one: `is.rt` has the tests of a tag, and `only.rt` the functions that give a value of
+//! one tag back. `of_tag.rt` has what tells such a function: its name and its tag. The laws stand
+//! in `Laws`.
 #![tactic(auto)]
 
 mod is;

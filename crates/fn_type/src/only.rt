@@ -18,7 +18,8 @@ use vrl_kind::Kind;
 use vrl_pattern::Patterns;
 use vrl_value::{Memory, Tag, Value};
 
-/// The function that gives a value of the tag back. It may fail where the kind allows another tag: `value is TAG`.
+/// The function that gives a value of the tag back. It may fail where the kind allows another tag:
+/// `value is TAG`.
 #[derive(Clone, Copy)]
 pub struct Only<F>(pub F);
 
@@ -89,8 +90,8 @@ impl<F: OfTag> Builtin for Only<F> {
     ghost law = { λ _. only-law F.of_tag.0 F.of_tag.1 };
 }
 
-/// `array(value: any)`: the kind of the value without what is not an array. The value, where it is an array. It may fail where the kind
-/// allows another tag: `value is TAG`. `array([1])` is `[1]`.
+/// `array(value: any)`: the kind of the value without what is not an array. The value, where it is
+/// an array. It may fail where the kind allows another tag: `value is TAG`. `array([1])` is `[1]`.
 #[derive(Clone, Copy)]
 pub struct Array;
 
@@ -106,8 +107,9 @@ impl OfTag for Array {
     }
 }
 
-/// `bool(value: any)`: the kind of the value without what is not a boolean. The value, where it is a boolean. It may fail where the kind
-/// allows another tag: `value is TAG`. `bool(true)` is `true`.
+/// `bool(value: any)`: the kind of the value without what is not a boolean. The value, where it is
+/// a boolean. It may fail where the kind allows another tag: `value is TAG`. `bool(true)` is
+/// `true`.
 #[derive(Clone, Copy)]
 pub struct Bool;
 
@@ -123,8 +125,9 @@ impl OfTag for Bool {
     }
 }
 
-/// `int(value: any)`: the kind of the value without what is not a whole number. The value, where it is a whole number. It may fail where
-/// the kind allows another tag: `value is TAG`. `int(3)` is `3`.
+/// `int(value: any)`: the kind of the value without what is not a whole number. The value, where it
+/// is a whole number. It may fail where the kind allows another tag: `value is TAG`. `int(3)` is
+/// `3`.
 #[derive(Clone, Copy)]
 pub struct Int;
 
@@ -140,8 +143,9 @@ impl OfTag for Int {
     }
 }
 
-/// `object(value: any)`: the kind of the value without what is not an object. The value, where it is an object. It may fail where the kind
-/// allows another tag: `value is TAG`. `object({"a":1})` is `{"a":1}`.
+/// `object(value: any)`: the kind of the value without what is not an object. The value, where it
+/// is an object. It may fail where the kind allows another tag: `value is TAG`. `object({"a":1})`
+/// is `{"a":1}`.
 #[derive(Clone, Copy)]
 pub struct Object;
 
@@ -157,8 +161,8 @@ impl OfTag for Object {
     }
 }
 
-/// `string(value: any)`: the kind of the value without what is not a string. The value, where it is a string. It may fail where the kind
-/// allows another tag: `value is TAG`. `string("a")` is `"a"`.
+/// `string(value: any)`: the kind of the value without what is not a string. The value, where it is
+/// a string. It may fail where the kind allows another tag: `value is TAG`. `string("a")` is `"a"`.
 #[derive(Clone, Copy)]
 pub struct StringValue;
 
@@ -174,8 +178,9 @@ impl OfTag for StringValue {
     }
 }
 
-/// `timestamp(value: any)`: the kind of the value without what is not a timestamp. The value, where it is a timestamp. It may fail where
-/// the kind allows another tag: `value is TAG`. `timestamp(t'2024-01-02T03:04:05Z')` is `that timestamp`.
+/// `timestamp(value: any)`: the kind of the value without what is not a timestamp. The value, where
+/// it is a timestamp. It may fail where the kind allows another tag: `value is TAG`.
+/// `timestamp(t'2024-01-02T03:04:05Z')` is `that timestamp`.
 #[derive(Clone, Copy)]
 pub struct Timestamp;
 

@@ -8,9 +8,10 @@ use std::alloc::Global;
 use vrl_builtin::{Applied, Arguments, Givens, OneTag, Parameter, Setting, Tags, fail, required};
 use vrl_value::{Tag, Value};
 
-/// `to_bool(value: string, integer, boolean or null)`: boolean. The boolean itself; false for 0 and null, true for each other number; true
-/// for the strings `true`, `t`, `yes`, `y` and `1`, and false for `false`, `f`, `no`, `n` and `0`, in any case of their letters. It may
-/// fail where the kind allows a string: `not a boolean word`, for another string. `to_bool("Yes")` is true.
+/// `to_bool(value: string, integer, boolean or null)`: boolean. The boolean itself; false for 0 and
+/// null, true for each other number; true for the strings `true`, `t`, `yes`, `y` and `1`, and
+/// false for `false`, `f`, `no`, `n` and `0`, in any case of their letters. It may fail where the
+/// kind allows a string: `not a boolean word`, for another string. `to_bool("Yes")` is true.
 #[derive(Clone, Copy)]
 pub struct ToBool;
 

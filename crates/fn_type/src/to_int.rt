@@ -10,10 +10,11 @@ use vrl_builtin::{
 };
 use vrl_value::{Moment, Tag, Value};
 
-/// `to_int(value: string, integer, boolean, null or timestamp)`: integer. The number itself; 0 for false and 1 for true; 0 for null; the
-/// whole seconds of the timestamp since 1970, rounded down; the number that an optional `+` or `-` and decimal digits of the string write.
-/// It may fail where the kind allows a string: `not a whole number`, for another string and for a number of more than 64 bits.
-/// `to_int("-7")` is -7.
+/// `to_int(value: string, integer, boolean, null or timestamp)`: integer. The number itself; 0 for
+/// false and 1 for true; 0 for null; the whole seconds of the timestamp since 1970, rounded down;
+/// the number that an optional `+` or `-` and decimal digits of the string write. It may fail where
+/// the kind allows a string: `not a whole number`, for another string and for a number of more than
+/// 64 bits. `to_int("-7")` is -7.
 #[derive(Clone, Copy)]
 pub struct ToInt;
 

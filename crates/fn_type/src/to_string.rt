@@ -9,9 +9,9 @@ use std::alloc::Global;
 use vrl_builtin::{Applied, Arguments, Givens, OneTag, Parameter, Setting, Tags, required};
 use vrl_value::{Chars, Memory, Tag, Value};
 
-/// `to_string(value: string, integer, boolean, null or timestamp)`: string. The string itself; the decimal digits of the number, with `-`
-/// first where it is negative; `true` or `false`; the empty string for null; the text of the timestamp by RFC 3339. It never fails.
-/// `to_string(7)` is `"7"`.
+/// `to_string(value: string, integer, boolean, null or timestamp)`: string. The string itself; the
+/// decimal digits of the number, with `-` first where it is negative; `true` or `false`; the empty
+/// string for null; the text of the timestamp by RFC 3339. It never fails. `to_string(7)` is `"7"`.
 #[derive(Clone, Copy)]
 pub struct ToString;
 
@@ -25,7 +25,8 @@ static PARAMETERS: [Parameter; 1] = [required!(
     }
 )];
 
-// The text that a value stands for as it is; empty for null, and for a whole number and a timestamp, whose texts are written.
+// The text that a value stands for as it is; empty for null, and for a whole number and a
+// timestamp, whose texts are written.
 fn word_of(value: &Value) -> &str
     ensures { result.now ≡ word_of (tree_of value.now) }
 {

@@ -20,15 +20,18 @@ IsLiteral true accepts literal = IsSome literal × IfSome literal (λ v. IsTrue 
 IsLiteral false accepts literal = ⊤
 
 -- what is given for a parameter
-pub record IsGiven (p : ParameterRow) (accepts : Tree → Bool) (K : Option KindTree) (literal : Option Tree) : Type 0 where
+pub record IsGiven (p : ParameterRow) (accepts : Tree → Bool) (K : Option KindTree)
+    (literal : Option Tree) : Type 0 where
   pub there : IsThere p.required K
   pub allowed : IfSome K (λ given. IsLiteral p.literal accepts literal)
 
 abbrev pub AreGivenFrom : ℕ → List ParameterRow → (ℕ → Tree → Bool) → List GivenTree → Type 0
 AreGivenFrom place [] accepts givens = ⊤
-AreGivenFrom place (p ∷ ps) accepts givens = IsGiven p (accepts place) (kind_at place givens) (literal_at place givens) × AreGivenFrom (suc place) ps accepts givens
+AreGivenFrom place (p ∷ ps) accepts givens = IsGiven p (accepts place) (kind_at place givens) (literal_at place givens)
+    × AreGivenFrom (suc place) ps accepts givens
 
--- each required parameter is given an argument, and each that wants a literal and is given an argument one that the row allows
+-- each required parameter is given an argument, and each that wants a literal and is given an
+-- argument one that the row allows
 abbrev pub AreGiven : Row → List GivenTree → Type 0
 AreGiven r givens = AreGivenFrom 0 r.parameters r.accepts givens
 
@@ -40,10 +43,11 @@ pub record IsArgument (p : ParameterRow) (accepts : Tree → Bool) (a : Option T
 
 abbrev pub AreArgumentsFrom : ℕ → List ParameterRow → (ℕ → Tree → Bool) → List (Option Tree) → Type 0
 AreArgumentsFrom place [] accepts arguments = ⊤
-AreArgumentsFrom place (p ∷ ps) accepts arguments = IsArgument p (accepts place) (argument_at place arguments) × AreArgumentsFrom (suc place) ps accepts arguments
+AreArgumentsFrom place (p ∷ ps) accepts arguments =
+    IsArgument p (accepts place) (argument_at place arguments) × AreArgumentsFrom (suc place) ps accepts arguments
 
--- each required parameter has an argument, and each argument has a tag that its parameter allows, and is a literal that the row allows
--- where one is wanted
+-- each required parameter has an argument, and each argument has a tag that its parameter allows,
+-- and is a literal that the row allows where one is wanted
 abbrev pub AreArguments : Row → List (Option Tree) → Type 0
 AreArguments r arguments = AreArgumentsFrom 0 r.parameters r.accepts arguments
 
@@ -68,7 +72,8 @@ is_wrong p accepts literal = p.literal && is_refused accepts literal
 
 abbrev pub first_wrong_from : ℕ → List ParameterRow → (ℕ → Tree → Bool) → List GivenTree → Option ℕ
 first_wrong_from place [] accepts givens = None
-first_wrong_from place (p ∷ ps) accepts givens = if is_wrong p (accepts place) (literal_at place givens) then Some place else first_wrong_from (suc place) ps accepts givens
+first_wrong_from place (p ∷ ps) accepts givens = if is_wrong p (accepts place)
+    (literal_at place givens) then Some place else first_wrong_from (suc place) ps accepts givens
 
 -- the place of the first parameter that was given a literal which the row doesn't allow
 abbrev pub first_wrong : Row → List GivenTree → Option ℕ

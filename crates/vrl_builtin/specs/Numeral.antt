@@ -18,9 +18,11 @@ with_sign negative n = cond negative (neg_ℤ (pos n)) (pos n)
 abbrev pub in_64_bits : ℤ → Option ℤ
 in_64_bits n = if has_64_bits n then Some n else None
 
--- the number that a sign and the digits of a base write; none where they write none, or one of more than 64 bits
+-- the number that a sign and the digits of a base write; none where they write none, or one of more
+-- than 64 bits
 abbrev pub number_of : Bool → ℕ → List ℕ → Option ℤ
-number_of negative base digits = if is_numeral base digits then in_64_bits (with_sign negative (digits_value base digits)) else None
+number_of negative base digits =
+    if is_numeral base digits then in_64_bits (with_sign negative (digits_value base digits)) else None
 
 -- the number that an optional sign and digits of the base write
 abbrev pub read_in : ℕ → List ℕ → Option ℤ

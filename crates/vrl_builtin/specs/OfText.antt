@@ -1,4 +1,5 @@
--- The functions that give one text for each text, and never fail: `upcase`, `encode_base64` and the like. They keep the law.
+-- The functions that give one text for each text, and never fail: `upcase`, `encode_base64` and the
+-- like. They keep the law.
 use Rattle.std.specs.Prelude.{ℕ, false, List, [], ◌∷◌, codes, refl}
 use Rattle.vrl_value.specs.Tree.{string}
 use Rattle.vrl_value.specs.declared.value.Tag.TheVariants.{Text}

@@ -10,7 +10,8 @@ use Rattle.vrl_builtin.specs.Conditions.{AreArguments}
 use Rattle.vrl_builtin.specs.Law.{AreInstances}
 use Rattle.vrl_builtin.specs.Rows.{ParameterRow, GivenTree, SettingTree, Answer, value, failure, named, Row, any_literal}
 
--- a row without a parameter that wants a literal. What it answers is a value, or the words of an error, before which the name stands
+-- a row without a parameter that wants a literal. What it answers is a value, or the words of an
+-- error, before which the name stands
 pub record OneTagRow : Type 0 where
   pub name : List ℕ
   pub parameters : List ParameterRow
@@ -48,4 +49,5 @@ IsOneTag t fails (failure words) = IsTrue fails
 pub record KeepsOneTag (r : OneTagRow) : Type 0 where
   pub present : same_tag r.tag tag.Absent ≡ false
   pub lawful : (givens : List GivenTree) (arguments : List (Option Tree)) (setting : SettingTree) →
-      AreArguments (whole_row r) arguments → AreInstances givens arguments → IsOneTag r.tag (r.may_fail givens) (r.means arguments setting)
+      AreArguments (whole_row r) arguments → AreInstances givens arguments
+      → IsOneTag r.tag (r.may_fail givens) (r.means arguments setting)

@@ -52,7 +52,8 @@ plain_is_ordered (array ts) plain = absurd plain
 plain_is_ordered (object ms) plain = absurd plain
 
 -- a value without parts whose tag is allowed
-pub plain_is_lawful : (v : Tree) (A : Sets) (fails : Bool) (arguments : List (Option Tree)) → IsPlain v → IsTrue (A [] (tag_of v)) → IsLawful A fails arguments (value v)
+pub plain_is_lawful : (v : Tree) (A : Sets) (fails : Bool) (arguments : List (Option Tree)) → IsPlain v
+    → IsTrue (A [] (tag_of v)) → IsLawful A fails arguments (value v)
 plain_is_lawful v A fails arguments plain allowed = (
   plain_is_of v A plain allowed,
   plain_is_ordered v plain,
@@ -72,13 +73,16 @@ self_same tag.List u is = rw (sym is) refl
 self_same tag.Object u is = rw (sym is) refl
 self_same tag.Absent u is = rw (sym is) refl
 
-pub one_tag_is_lawful : (t : Tag) (fails : Bool) (name : List ℕ) (arguments : List (Option Tree)) (answer : Answer) → IsOneTag t fails answer → IsLawful (only_at t) fails arguments (named name answer)
-one_tag_is_lawful t fails name arguments (value v) is = plain_is_lawful v (only_at t) fails arguments is.0 (self_same (tag_of v) t is.1)
+pub one_tag_is_lawful : (t : Tag) (fails : Bool) (name : List ℕ) (arguments : List (Option Tree)) (answer : Answer)
+    → IsOneTag t fails answer → IsLawful (only_at t) fails arguments (named name answer)
+one_tag_is_lawful t fails name arguments (value v) is =
+    plain_is_lawful v (only_at t) fails arguments is.0 (self_same (tag_of v) t is.1)
 one_tag_is_lawful t fails name arguments (failure words) is = is
 
 pub one_tag-law : (r : OneTagRow) → KeepsOneTag r → KeepsLaw (whole_row r)
 one_tag-law r keeps = record {
   present = λ givens sources given below. keeps.present;
   lawful = λ givens arguments setting given fit instances below.
-      one_tag_is_lawful r.tag (r.may_fail givens) r.name arguments (r.means arguments setting) (keeps.lawful givens arguments setting fit instances);
+      one_tag_is_lawful r.tag (r.may_fail givens) r.name arguments (r.means arguments setting)
+      (keeps.lawful givens arguments setting fit instances);
 }

@@ -1,4 +1,5 @@
--- The row of a function: what it takes, what is known of its result before it is called, and what it answers.
+-- The row of a function: what it takes, what is known of its result before it is called, and what
+-- it answers.
 use Rattle.std.specs.Prelude.{ℕ, ℤ, Bool, true, false, List, [], ◌++◌, Option, Some, None, codes, option_map, slice_get}
 use Rattle.vrl_value.specs.Tree.{Tree, string, integer, boolean, null, timestamp, regex, array, object, Items, no_items, Members}
 use Rattle.vrl_value.specs.declared.value.Tag.{Tag}
@@ -7,7 +8,8 @@ use Rattle.vrl_kind.specs.Kinds.{tags_at}
 use Rattle.vrl_kind.specs.Sets.{Sets}
 use Rattle.vrl_builtin.specs.declared.tags.Tags.{Tags}
 
--- a parameter: its name, the tags that an argument may have, whether one must be given, and whether it must be written as a literal
+-- a parameter: its name, the tags that an argument may have, whether one must be given, and whether
+-- it must be written as a literal
 pub record ParameterRow : Type 0 where
   pub name : List ℕ
   pub allowed : Tags
@@ -28,12 +30,14 @@ literal_parameter name T = record { name = name; allowed = T; required = true; l
 abbrev pub optional_literal_parameter : List ℕ → Tags → ParameterRow
 optional_literal_parameter name T = record { name = name; allowed = T; required = false; literal = true }
 
--- what is known of an argument before the call: its kind, where one is given, and its value, where it is written as a literal
+-- what is known of an argument before the call: its kind, where one is given, and its value, where
+-- it is written as a literal
 pub record GivenTree : Type 0 where
   pub kind : Option KindTree
   pub literal : Option Tree
 
--- what a call finds beside its arguments: the moment of the line, and the sources of the script's regexes
+-- what a call finds beside its arguments: the moment of the line, and the sources of the script's
+-- regexes
 pub record SettingTree : Type 0 where
   pub moment : ℤ
   pub sources : List (List ℕ)
@@ -49,7 +53,8 @@ pub record Row : Type 0 where
   pub parameters : List ParameterRow
   -- the literals that are allowed at a parameter which wants one, by its place
   pub accepts : ℕ → Tree → Bool
-  -- the tags of the result at each path, by what is known of the arguments and by the sources of the script's regexes
+  -- the tags of the result at each path, by what is known of the arguments and by the sources of
+  -- the script's regexes
   pub kind : List GivenTree → List (List ℕ) → Sets
   -- whether the call may fail though its arguments fit
   pub may_fail : List GivenTree → Bool
@@ -128,7 +133,8 @@ abbrev pub value_or : Tree → Option Tree → Tree
 value_or v None = v
 value_or v (Some u) = u
 
--- the whole number at a place, the text there, or the value, and what stands for it where none is given
+-- the whole number at a place, the text there, or the value, and what stands for it where none is
+-- given
 abbrev pub integer_at : ℕ → ℤ → List (Option Tree) → ℤ
 integer_at place n arguments = integer_or n (argument_at place arguments)
 

@@ -18,10 +18,29 @@ allows T tag.Object = T.object
 allows T tag.Absent = false
 
 abbrev pub no_tags : Tags
-no_tags = record { string = false; integer = false; boolean = false; null = false; timestamp = false; regex = false; array = false; object = false }
+no_tags = record {
+  string = false;
+  integer = false;
+  boolean = false;
+  null = false;
+  timestamp = false;
+  regex = false;
+  array = false;
+  object = false;
+}
 
 abbrev pub any_tags : Tags
-any_tags = record { string = true; integer = true; boolean = true; null = true; timestamp = true; regex = true; array = true; object = true }
+any_tags = record {
+  string = true;
+  integer = true;
+  boolean = true;
+  null = true;
+  timestamp = true;
+  regex = true;
+  array = true;
+  object
+      = true;
+}
 
 abbrev pub strings : Tags
 strings = record no_tags { string = true }
@@ -49,4 +68,15 @@ containers = record no_tags { array = true; object = true }
 
 -- one tag alone; none at absent
 abbrev pub only_tag : Tag → Tags
-only_tag t = record { string = same_tag tag.Text t; integer = same_tag tag.Int t; boolean = same_tag tag.Bool t; null = same_tag tag.Null t; timestamp = same_tag tag.Time t; regex = same_tag tag.Pattern t; array = same_tag tag.List t; object = same_tag tag.Object t }
+only_tag t = record {
+  string = same_tag tag.Text t;
+  integer = same_tag tag.Int t;
+  boolean = same_tag tag.Bool t;
+  null = same_tag
+      tag.Null t;
+  timestamp = same_tag tag.Time t;
+  regex = same_tag tag.Pattern t;
+  array = same_tag tag.List t;
+  object =
+      same_tag tag.Object t;
+}

@@ -46,12 +46,14 @@ reason_words (reason.BadElement n) = element n
 abbrev pub failure_text : Failure → List ℕ
 failure_text f = error_text f.name.now (reason_words f.reason)
 
--- whether an answer takes memory: a value that is a text, an array or an object does, and an error doesn't, whose text is made later
+-- whether an answer takes memory: a value that is a text, an array or an object does, and an error
+-- doesn't, whose text is made later
 abbrev pub answer_takes_memory : Answer → Bool
 answer_takes_memory (value v) = takes_memory v
 answer_takes_memory (failure text) = false
 
--- what came of a call is what is answered. The call may have run out of memory only where it uses some, or its answer takes some
+-- what came of a call is what is answered. The call may have run out of memory only where it uses
+-- some, or its answer takes some
 abbrev pub Applies : Bool → Answer → Applied → Type 0
 Applies uses answer (applied.Value v) = answer ≡ value (tree_of v)
 Applies uses answer (applied.Failed f) = answer ≡ failure (failure_text f)

@@ -21,10 +21,11 @@ pub fn any_of(alloc: Global, tags: &Tags) -> Result<Kind, Memory>
 }
 
 impl Givens {
-    /// The kind of every array, where the kind that is given at a place allows arrays, and of every object, where it allows objects. `Memory`:
-    /// want of memory.
+    /// The kind of every array, where the kind that is given at a place allows arrays, and of every
+    /// object, where it allows objects. `Memory`: want of memory.
     pub fn any_containers(&self, alloc: Global, place: usize) -> Result<Kind, Memory>
-        ensures { IfOk result (λ kind. SameSets (tags_at kind) (any_of (containers_in (kind_at place (givens_of self.now))))) }
+        ensures { IfOk result
+            (λ kind. SameSets (tags_at kind) (any_of (containers_in (kind_at place (givens_of self.now))))) }
     {
         let tags = Tags {
             array: self.allows(place, Tag::List),

@@ -5,8 +5,8 @@ ghost use Rattle.vrl_builtin.specs.View.{argument_tree, arguments_of};
 
 use vrl_value::{Fields, Moment, Value};
 
-/// The arguments of a call, borrowed, by the places of their parameters; `None` where no argument is given. A contract sees `arguments_of`
-/// them.
+/// The arguments of a call, borrowed, by the places of their parameters; `None` where no argument
+/// is given. A contract sees `arguments_of` them.
 #[derive(Drop)]
 pub struct Arguments<'a> {
     arguments: Vec<Option<&'a Value>>,

@@ -34,13 +34,13 @@ pub trait Builtin {
     fn parameters(&self) -> &'static [Parameter]
         ensures { map parameter_row result.now ≡ (row self.now).parameters };
 
-    /// Whether the literal is one that the function allows at the place of a parameter which wants one. Where no parameter wants one, nothing
-    /// asks.
+    /// Whether the literal is one that the function allows at the place of a parameter which wants
+    /// one. Where no parameter wants one, nothing asks.
     fn accepts(&self, place: usize, literal: &Value) -> bool
         ensures { result ≡ (row self.now).accepts place (tree_of literal.now) };
 
-    /// The place of the first parameter that wants a literal and was given one that the function doesn't allow. `None`: there is no such
-    /// parameter.
+    /// The place of the first parameter that wants a literal and was given one that the function
+    /// doesn't allow. `None`: there is no such parameter.
     fn wrong_literal(&self, given: &Givens) -> Option<usize>
         ensures { result ≡ first_wrong (row self.now) (givens_of given.now) }
     {
@@ -60,8 +60,9 @@ pub trait Builtin {
         None
     }
 
-    /// The kind of the result of a call with such arguments. Each required parameter has an argument, each argument for a parameter that
-    /// wants a literal is one that is allowed, and each regex among the literals is one of the patterns. `Memory`: want of memory.
+    /// The kind of the result of a call with such arguments. Each required parameter has an
+    /// argument, each argument for a parameter that wants a literal is one that is allowed, and
+    /// each regex among the literals is one of the patterns. `Memory`: want of memory.
     fn result_kind(
         &self,
         alloc: Global,
@@ -70,16 +71,20 @@ pub trait Builtin {
     ) -> Result<Kind, Memory>
         requires given { AreGiven (row self.now) (givens_of given.now) }
         requires regexes { IsTrue (literals_below (length patterns.now) (givens_of given.now)) }
-        ensures { IfOk result (λ kind. SameSets (tags_at kind) ((row self.now).kind (givens_of given.now) patterns.now)) };
+        ensures { IfOk result
+            (λ kind. SameSets (tags_at kind) ((row self.now).kind (givens_of given.now) patterns.now)) };
 
-    /// Whether a call with such arguments may fail though they are allowed. The conditions are those of `result_kind` on what is given.
+    /// Whether a call with such arguments may fail though they are allowed. The conditions are
+    /// those of `result_kind` on what is given.
     fn may_fail(&self, given: &Givens) -> bool
         requires { AreGiven (row self.now) (givens_of given.now) }
         ensures { result ≡ (row self.now).may_fail (givens_of given.now) };
 
-    /// Calls the function. Each required parameter has an argument, each argument has a tag that its parameter allows and is a literal that
-    /// the function allows where one is wanted, and each regex in the arguments is one of the patterns. `Failed` comes exactly where the row
-    /// has a text. `Memory`: out of memory, for a text, an array or an object that is answered, or where the call uses memory.
+    /// Calls the function. Each required parameter has an argument, each argument has a tag that
+    /// its parameter allows and is a literal that the function allows where one is wanted, and each
+    /// regex in the arguments is one of the patterns. `Failed` comes exactly where the row has a
+    /// text. `Memory`: out of memory, for a text, an array or an object that is answered, or where
+    /// the call uses memory.
     fn apply(&self, alloc: Global, arguments: &Arguments<'_>, setting: &Setting<'_, '_>) -> Applied
         requires arguments { AreArguments (row self.now) (arguments_of arguments.now) }
         requires regexes { IsTrue (arguments_below (length setting.now.patterns.now) (arguments_of arguments.now)) }

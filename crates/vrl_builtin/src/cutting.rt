@@ -51,10 +51,11 @@ pub fn cut_down(alloc: Global, kind: &Kind, tags: &Tags) -> Result<Kind, Memory>
 }
 
 impl Givens {
-    /// The kind of the argument at a place, without the tags at its root that aren't in the set; no value's where none is given. `Memory`:
-    /// want of memory.
+    /// The kind of the argument at a place, without the tags at its root that aren't in the set; no
+    /// value's where none is given. `Memory`: want of memory.
     pub fn cut_down(&self, alloc: Global, place: usize, tags: &Tags) -> Result<Kind, Memory>
-        ensures { IfOk result (λ lower. SameSets (tags_at lower) (given_cut_to tags.now (kind_at place (givens_of self.now)))) }
+        ensures { IfOk result
+            (λ lower. SameSets (tags_at lower) (given_cut_to tags.now (kind_at place (givens_of self.now)))) }
     {
         match self.kind(place) {
             Some(kind) => cut_down(alloc, kind, tags),

@@ -67,7 +67,8 @@ impl Applied {
         }
     }
 
-    /// A copy of a value. `Memory`: out of memory, which only a text, an array or an object may run into.
+    /// A copy of a value. `Memory`: out of memory, which only a text, an array or an object may run
+    /// into.
     pub fn copy_of(alloc: Global, value: &Value) -> Applied
         ensures { Applies false (answer (tree_of value.now)) result }
     {
@@ -98,7 +99,8 @@ pub fn fail_at_value(name: &'static str, tag: Tag) -> Applied
     })
 }
 
-/// The error of a function at a part of an array, by its place, which is of a tag that it can't take: `NAME: element N is TAG`.
+/// The error of a function at a part of an array, by its place, which is of a tag that it can't
+/// take: `NAME: element N is TAG`.
 pub fn fail_at_element(name: &'static str, place: usize, tag: Tag) -> Applied
     ensures { result ≡ applied.Failed (record { name = name.entry; reason = reason.Element place tag }) }
 {
@@ -108,7 +110,8 @@ pub fn fail_at_element(name: &'static str, place: usize, tag: Tag) -> Applied
     })
 }
 
-/// The error of a function at a part of a path, by its place, which is neither a name nor a place: `NAME: path element N is TAG`.
+/// The error of a function at a part of a path, by its place, which is neither a name nor a place:
+/// `NAME: path element N is TAG`.
 pub fn fail_at_path_element(name: &'static str, place: usize, tag: Tag) -> Applied
     ensures { result ≡ applied.Failed (record { name = name.entry; reason = reason.PathElement place tag }) }
 {
@@ -118,7 +121,8 @@ pub fn fail_at_path_element(name: &'static str, place: usize, tag: Tag) -> Appli
     })
 }
 
-/// The error of a function at a part of an array, by its place, which isn't what it asks for: `NAME: element N`.
+/// The error of a function at a part of an array, by its place, which isn't what it asks for:
+/// `NAME: element N`.
 pub fn fail_at_bad_element(name: &'static str, place: usize) -> Applied
     ensures { result ≡ applied.Failed (record { name = name.entry; reason = reason.BadElement place }) }
 {
@@ -128,7 +132,8 @@ pub fn fail_at_bad_element(name: &'static str, place: usize) -> Applied
     })
 }
 
-/// The first of the values whose tag isn't in the set: its place, and its tag. `None`: there is none.
+/// The first of the values whose tag isn't in the set: its place, and its tag. `None`: there is
+/// none.
 pub fn first_other(items: &[Value], tags: &Tags) -> Option<(usize, Tag)>
     ensures { result ≡ first_other tags.now (items_view items.now) }
 {

@@ -6,7 +6,8 @@ ghost use Rattle.vrl_builtin.specs.Words.{element, part_is, value_is};
 use std::alloc::Global;
 use vrl_value::{Chars, Memory, Tag};
 
-/// The error of a function. It holds no text, so a function that fails needs no memory for it. A contract sees `failure_text` of it.
+/// The error of a function. It holds no text, so a function that fails needs no memory for it. A
+/// contract sees `failure_text` of it.
 #[derive(Clone, Copy)]
 pub struct Failure {
     /// The function's name.
@@ -22,7 +23,8 @@ pub enum Reason {
     Words(&'static str),
     /// The value has a tag that the function can't take: `value is TAG`.
     Value(Tag),
-    /// A part of an array, by its place, has a tag that the function can't take: `element N is TAG`.
+    /// A part of an array, by its place, has a tag that the function can't take:
+    /// `element N is TAG`.
     Element(usize, Tag),
     /// A part of a path, by its place, is neither a name nor a place: `path element N is TAG`.
     PathElement(usize, Tag),
@@ -46,13 +48,7 @@ fn value_text(alloc: Global, name: &str, tag: Tag) -> Result<Chars, Memory>
 }
 
 // `NAME: PART N is TAG`.
-fn part_text(
-    alloc: Global,
-    name: &str,
-    part: &str,
-    place: usize,
-    tag: Tag,
-) -> Result<Chars, Memory>
+fn part_text(alloc: Global, name: &str, part: &str, place: usize, tag: Tag) -> Result<Chars, Memory>
     ensures { IfOk result (λ text. text ≡ error_text name.now (part_is part.now place tag)) }
 {
     let word = tag.word();

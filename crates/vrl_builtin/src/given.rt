@@ -24,7 +24,8 @@ impl Drop for Given {
     }
 }
 
-/// What is known of each argument of a call, by the place of its parameter. A contract sees `givens_of` it.
+/// What is known of each argument of a call, by the place of its parameter. A contract sees
+/// `givens_of` it.
 #[derive(Drop)]
 pub struct Givens {
     givens: Vec<Given>,
@@ -55,7 +56,8 @@ impl Givens {
         }
     }
 
-    /// The value of an argument that is written as a literal, by the place of its parameter. `None`: it isn't, or none is given.
+    /// The value of an argument that is written as a literal, by the place of its parameter.
+    /// `None`: it isn't, or none is given.
     pub fn literal(&self, place: usize) -> Option<&Value>
         ensures { option_map (λ value. tree_of value.now) result ≡ literal_at place (givens_of self.now) }
     {

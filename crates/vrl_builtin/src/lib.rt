@@ -1,15 +1,23 @@
-//! What a function of the language is: its parameters, the kind of its result, when it may fail, and what it answers.
+//! What a function of the language is: its parameters, the kind of its result, when it may fail,
+//! and what it answers.
 //!
-//! A function is a type that implements [`Builtin`]. A contract sees it as its `Row`, and the law of [`Builtin`] ties what a row says
-//! of kinds to what it says of values, so that neither the judgement nor the runner needs to know a function.
+//! A function is a type that implements [`Builtin`]. A contract sees it as its `Row`, and the law
+//! of [`Builtin`] ties what a row says of kinds to what it says of values, so that neither the
+//! judgement nor the runner needs to know a function.
 //!
-//! Files: `builtin.rt` has the trait and `law.rt` its law, `one_tag.rt` the trait of functions whose results have one tag, and `of_text.rt` that of
-//! those that give a text for each text. `parameter.rt`, `tags.rt`, `given.rt`, `arguments.rt`, `setting.rt` and `failing.rt` have what the methods
-//! take and give, and `failure.rt` the error of a function. Of kinds, `of_parts.rt` has those of arrays and objects whose parts are of one kind, and of either of two tags, `any_parts.rt` those of any parts, `cutting.rt`
-//! what is left of one at some tags, `part_kinds.rt` the parts of a kind's arrays and objects, and `part_tags.rt` whether such a part may have another
-//! tag. `items.rt` has the items of an array, `literal.rt` the names that a literal may be one of, and `numeral.rt` the numbers that functions read in texts. Of the definitions `Rows` says what a row is,
-//! `Conditions` what is asked of a call, and `Law` the law; `Listed` has the parts of a value as lists. What the laws of functions rest on stands in
-//! `proofs/`: `Lawful`, `Containers`, `AnswerParts` and `AnyParts` are on answers, `GivenTags`, `PartKinds` and `OtherParts` on what is given.
+//! Files: `builtin.rt` has the trait and `law.rt` its law, `one_tag.rt` the trait of functions
+//! whose results have one tag, and `of_text.rt` that of those that give a text for each text.
+//! `parameter.rt`, `tags.rt`, `given.rt`, `arguments.rt`, `setting.rt` and `failing.rt` have what
+//! the methods take and give, and `failure.rt` the error of a function. Of kinds, `of_parts.rt` has
+//! those of arrays and objects whose parts are of one kind, and of either of two tags,
+//! `any_parts.rt` those of any parts, `cutting.rt` what is left of one at some tags,
+//! `part_kinds.rt` the parts of a kind's arrays and objects, and `part_tags.rt` whether such a part
+//! may have another tag. `items.rt` has the items of an array, `literal.rt` the names that a
+//! literal may be one of, and `numeral.rt` the numbers that functions read in texts. Of the
+//! definitions `Rows` says what a row is, `Conditions` what is asked of a call, and `Law` the law;
+//! `Listed` has the parts of a value as lists. What the laws of functions rest on stands in
+//! `proofs/`: `Lawful`, `Containers`, `AnswerParts` and `AnyParts` are on answers, `GivenTags`,
+//! `PartKinds` and `OtherParts` on what is given.
 #![tactic(auto)]
 
 mod any_parts;

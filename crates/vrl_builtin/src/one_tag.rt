@@ -17,7 +17,8 @@ use vrl_kind::Kind;
 use vrl_pattern::Patterns;
 use vrl_value::{Memory, Tag, Value};
 
-/// A function whose results have one tag, whatever it is given, and no parts. None of its parameters wants a literal. It is a [`Builtin`].
+/// A function whose results have one tag, whatever it is given, and no parts. None of its
+/// parameters wants a literal. It is a [`Builtin`].
 pub trait OneTag {
     /// What it takes, the tag of its results, and what it answers.
     ghost one_tag_row: { Self → OneTagRow };
@@ -37,19 +38,21 @@ pub trait OneTag {
     fn tag(&self) -> Tag
         ensures { result ≡ (one_tag_row self.now).tag };
 
-    /// Whether a call with such arguments may fail though they are allowed. The condition is that of [`Builtin::may_fail`].
+    /// Whether a call with such arguments may fail though they are allowed. The condition is that
+    /// of [`Builtin::may_fail`].
     fn may_fail(&self, given: &Givens) -> bool
         requires { AreGiven (whole_row (one_tag_row self.now)) (givens_of given.now) }
         ensures { result ≡ (one_tag_row self.now).may_fail (givens_of given.now) };
 
-    /// Calls the function. The conditions are those of [`Builtin::apply`]. `Failed` comes exactly where the row has words. `Memory`: out of
-    /// memory, for a text that is answered, or where the call uses memory.
+    /// Calls the function. The conditions are those of [`Builtin::apply`]. `Failed` comes exactly
+    /// where the row has words. `Memory`: out of memory, for a text that is answered, or where the
+    /// call uses memory.
     fn apply(&self, alloc: Global, arguments: &Arguments<'_>, setting: &Setting<'_, '_>) -> Applied
         requires arguments { AreArguments (whole_row (one_tag_row self.now)) (arguments_of arguments.now) }
         requires regexes { IsTrue (arguments_below (length setting.now.patterns.now) (arguments_of arguments.now)) }
         ensures { Applies (uses_memory self.now (arguments_of arguments.now))
             (named (one_tag_row self.now).name
-                ((one_tag_row self.now).means (arguments_of arguments.now) (setting_of setting.now))) result };
+            ((one_tag_row self.now).means (arguments_of arguments.now) (setting_of setting.now))) result };
 
     /// What a call answers has the tag, and is an error only where the call may fail.
     ghost one_tag: { (function : Self) → KeepsOneTag (one_tag_row function) };

@@ -39,7 +39,8 @@ macro_rules! optional {
     };
 }
 
-/// A parameter whose argument must be given, and written as a literal: its name, and the tags that are allowed.
+/// A parameter whose argument must be given, and written as a literal: its name, and the tags that
+/// are allowed.
 #[macro_export]
 macro_rules! required_literal {
     ($name:expr, $allowed:expr) => {
@@ -52,7 +53,8 @@ macro_rules! required_literal {
     };
 }
 
-/// A parameter whose argument may be left out, and must be written as a literal where it is given: its name, and the tags that are allowed.
+/// A parameter whose argument may be left out, and must be written as a literal where it is given:
+/// its name, and the tags that are allowed.
 #[macro_export]
 macro_rules! optional_literal {
     ($name:expr, $allowed:expr) => {

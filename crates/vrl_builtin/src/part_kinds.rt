@@ -21,7 +21,8 @@ pub fn array_parts(alloc: Global, kind: &Kind) -> Result<Kind, Memory>
 }
 
 impl Givens {
-    /// The kind of the parts of the arrays that are given at a place; no value's where none are. `Memory`: want of memory.
+    /// The kind of the parts of the arrays that are given at a place; no value's where none are.
+    /// `Memory`: want of memory.
     pub fn array_parts(&self, alloc: Global, place: usize) -> Result<Kind, Memory>
         ensures { IfOk result (λ all. SameSets (tags_at all) (array_parts_at (kind_at place (givens_of self.now)))) }
     {
@@ -31,7 +32,8 @@ impl Givens {
         }
     }
 
-    /// The kind of the parts of the objects that are given at a place; no value's where none are. `Memory`: want of memory.
+    /// The kind of the parts of the objects that are given at a place; no value's where none are.
+    /// `Memory`: want of memory.
     pub fn object_parts(&self, alloc: Global, place: usize) -> Result<Kind, Memory>
         ensures { IfOk result (λ all. SameSets (tags_at all) (object_parts_at (kind_at place (givens_of self.now)))) }
     {

@@ -105,7 +105,8 @@ fn some_other(kind: &Kind, tags: &Tags) -> bool
 }
 
 impl Givens {
-    /// Whether a part of the arrays that are given at a place may have a tag outside the set. It takes no memory.
+    /// Whether a part of the arrays that are given at a place may have a tag outside the set. It
+    /// takes no memory.
     #[tactic(auto, unfolding(crate::specs::PartKinds::part_allows_other))]
     pub fn part_allows_other(&self, place: usize, tags: &Tags) -> bool
         ensures { result ≡ part_allows_other tags.now (kind_at place (givens_of self.now)) }

@@ -52,7 +52,8 @@ pub record IsEntry (function : Fun) : Type 0 where
   pub found : function_named (row_of function).name ≡ Some function
   pub law : KeepsLaw (row_of function)
 
-entry : (function : Fun) → function_named (row_of function).name ≡ Some function → KeepsLaw (row_of function) → IsEntry function
+entry : (function : Fun) → function_named (row_of function).name ≡ Some function → KeepsLaw (row_of function)
+    → IsEntry function
 entry function found law = record { found = found; law = law }
 
 -- that of a function whose results have one tag
@@ -68,8 +69,10 @@ is_entry fun.Bool = entry _ refl (only-law (codes "bool") tag.Bool)
 is_entry fun.Chunks = entry _ refl chunks-law
 is_entry fun.Compact = entry _ refl compact-law
 is_entry fun.Contains = entry _ refl (one_tag (search-law (codes "contains") contains))
-is_entry fun.DecodeBase16 = entry _ refl (one_tag (decode-law (codes "decode_base16") (codes "not base16") bytes_of_base16))
-is_entry fun.DecodeBase64 = entry _ refl (one_tag (decode-law (codes "decode_base64") (codes "not base64") bytes_of_base64))
+is_entry fun.DecodeBase16 =
+    entry _ refl (one_tag (decode-law (codes "decode_base16") (codes "not base16") bytes_of_base16))
+is_entry fun.DecodeBase64 =
+    entry _ refl (one_tag (decode-law (codes "decode_base64") (codes "not base64") bytes_of_base64))
 is_entry fun.DecodePercent = entry _ refl (one_tag (of_text-law (codes "decode_percent") text_of_percent))
 is_entry fun.Downcase = entry _ refl (one_tag (of_text-law (codes "downcase") in_lower_case))
 is_entry fun.EncodeBase16 = entry _ refl (one_tag (of_text-law (codes "encode_base16") base16_of))

@@ -167,7 +167,8 @@ uses_memory fun.Match arguments = true
 uses_memory fun.MatchAny arguments = is_none (first_other regexes (items_at 1 arguments))
 uses_memory fun.Merge arguments = true
 uses_memory fun.ParseJson arguments = true
-uses_memory fun.ParseKeyValue arguments = has_delimiters (text_at 1 (codes "=") arguments) (text_at 2 (codes " ") arguments)
+uses_memory fun.ParseKeyValue arguments =
+    has_delimiters (text_at 1 (codes "=") arguments) (text_at 2 (codes " ") arguments)
 uses_memory fun.ParseRegex arguments = true
 uses_memory fun.ParseRegexAll arguments = true
 uses_memory fun.ParseUrl arguments = true
@@ -178,7 +179,17 @@ uses_memory function arguments = false
 
 -- all of them
 abbrev pub all_functions : List Fun
-all_functions = fun.Abs ∷ fun.Append ∷ fun.Array ∷ fun.Bool ∷ fun.Chunks ∷ fun.Compact ∷ fun.Contains ∷ fun.DecodeBase16 ∷ fun.DecodeBase64 ∷ fun.DecodePercent ∷ fun.Downcase ∷ fun.EncodeBase16 ∷ fun.EncodeBase64 ∷ fun.EncodeJson ∷ fun.EncodeKeyValue ∷ fun.EncodePercent ∷ fun.EndsWith ∷ fun.Find ∷ fun.Flatten ∷ fun.FormatInt ∷ fun.FormatTimestamp ∷ fun.FromUnixTimestamp ∷ fun.Get ∷ fun.Includes ∷ fun.Int ∷ fun.IsArray ∷ fun.IsBoolean ∷ fun.IsEmpty ∷ fun.IsInteger ∷ fun.IsNull ∷ fun.IsNullish ∷ fun.IsObject ∷ fun.IsRegex ∷ fun.IsString ∷ fun.IsTimestamp ∷ fun.Join ∷ fun.Keys ∷ fun.Length ∷ fun.Match ∷ fun.MatchAny ∷ fun.Md5 ∷ fun.Merge ∷ fun.Mod ∷ fun.Now ∷ fun.Object ∷ fun.ObjectFromArray ∷ fun.ParseCsv ∷ fun.ParseInt ∷ fun.ParseJson ∷ fun.ParseKeyValue ∷ fun.ParseQueryString ∷ fun.ParseRegex ∷ fun.ParseRegexAll ∷ fun.ParseTimestamp ∷ fun.ParseUrl ∷ fun.Push ∷ fun.Remove ∷ fun.Replace ∷ fun.Set ∷ fun.Sha1 ∷ fun.Sha2 ∷ fun.Slice ∷ fun.Split ∷ fun.StartsWith ∷ fun.StrLen ∷ fun.StringValue ∷ fun.StripWhitespace ∷ fun.Tally ∷ fun.Timestamp ∷ fun.ToBool ∷ fun.ToInt ∷ fun.ToString ∷ fun.ToUnixTimestamp ∷ fun.Truncate ∷ fun.Unflatten ∷ fun.Unique ∷ fun.Upcase ∷ fun.Values ∷ fun.Zip ∷ []
+all_functions = fun.Abs ∷ fun.Append ∷ fun.Array ∷ fun.Bool ∷ fun.Chunks ∷ fun.Compact ∷ fun.Contains
+    ∷ fun.DecodeBase16 ∷ fun.DecodeBase64 ∷ fun.DecodePercent ∷ fun.Downcase ∷ fun.EncodeBase16 ∷ fun.EncodeBase64
+    ∷ fun.EncodeJson ∷ fun.EncodeKeyValue ∷ fun.EncodePercent ∷ fun.EndsWith ∷ fun.Find ∷ fun.Flatten ∷ fun.FormatInt
+    ∷ fun.FormatTimestamp ∷ fun.FromUnixTimestamp ∷ fun.Get ∷ fun.Includes ∷ fun.Int ∷ fun.IsArray ∷ fun.IsBoolean
+    ∷ fun.IsEmpty ∷ fun.IsInteger ∷ fun.IsNull ∷ fun.IsNullish ∷ fun.IsObject ∷ fun.IsRegex ∷ fun.IsString
+    ∷ fun.IsTimestamp ∷ fun.Join ∷ fun.Keys ∷ fun.Length ∷ fun.Match ∷ fun.MatchAny ∷ fun.Md5 ∷ fun.Merge ∷ fun.Mod
+    ∷ fun.Now ∷ fun.Object ∷ fun.ObjectFromArray ∷ fun.ParseCsv ∷ fun.ParseInt ∷ fun.ParseJson ∷ fun.ParseKeyValue
+    ∷ fun.ParseQueryString ∷ fun.ParseRegex ∷ fun.ParseRegexAll ∷ fun.ParseTimestamp ∷ fun.ParseUrl ∷ fun.Push
+    ∷ fun.Remove ∷ fun.Replace ∷ fun.Set ∷ fun.Sha1 ∷ fun.Sha2 ∷ fun.Slice ∷ fun.Split ∷ fun.StartsWith ∷ fun.StrLen
+    ∷ fun.StringValue ∷ fun.StripWhitespace ∷ fun.Tally ∷ fun.Timestamp ∷ fun.ToBool ∷ fun.ToInt ∷ fun.ToString
+    ∷ fun.ToUnixTimestamp ∷ fun.Truncate ∷ fun.Unflatten ∷ fun.Unique ∷ fun.Upcase ∷ fun.Values ∷ fun.Zip ∷ []
 
 -- the function of a name, if one has it
 unfoldable pub function_named : List ℕ → Option Fun
@@ -207,7 +218,8 @@ ParametersAreToldApart = (function : Fun) → has_name_twice (row_of function).p
 
 -- what a function gives is never absent, whatever is given for its parameters
 abbrev pub ResultsArePresent : Type 0
-ResultsArePresent = (function : Fun) (givens : List GivenTree) (sources : List (List ℕ)) → (row_of function).kind givens sources [] tag.Absent ≡ false
+ResultsArePresent = (function : Fun) (givens : List GivenTree) (sources : List (List ℕ))
+    → (row_of function).kind givens sources [] tag.Absent ≡ false
 
 -- each function keeps the law
 abbrev pub FunctionsKeepLaw : Type 0

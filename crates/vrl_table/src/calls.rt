@@ -30,15 +30,16 @@ pub fn bind(alloc: Global, function: Fun, arguments: &Args) -> Result<Bound, Bin
     bind_to(alloc, function.parameters(), arguments)
 }
 
-/// The place of the first parameter that wants a literal and was given one that the function doesn't allow. `None`: there is no such
-/// parameter.
+/// The place of the first parameter that wants a literal and was given one that the function
+/// doesn't allow. `None`: there is no such parameter.
 pub fn wrong_literal(function: Fun, given: &Givens) -> Option<usize>
     ensures { result ≡ first_wrong (row_of function) (givens_of given.now) }
 {
     function.wrong_literal(given)
 }
 
-/// The kind of the result of a call with such arguments. The conditions are those of [`Builtin::result_kind`]. `Memory`: want of memory.
+/// The kind of the result of a call with such arguments. The conditions are those of
+/// [`Builtin::result_kind`]. `Memory`: want of memory.
 pub fn result_kind(
     alloc: Global,
     function: Fun,
@@ -47,12 +48,14 @@ pub fn result_kind(
 ) -> Result<Kind, Memory>
     requires given { AreGiven (row_of function) (givens_of given.now) }
     requires regexes { IsTrue (literals_below (length patterns.now) (givens_of given.now)) }
-    ensures { IfOk result (λ kind. SameSets (tags_at kind) ((row_of function).kind (givens_of given.now) patterns.now)) }
+    ensures { IfOk result
+        (λ kind. SameSets (tags_at kind) ((row_of function).kind (givens_of given.now) patterns.now)) }
 {
     function.result_kind(alloc, given, patterns)
 }
 
-/// Whether a call with such arguments may fail though they are allowed. The condition is that of [`Builtin::may_fail`].
+/// Whether a call with such arguments may fail though they are allowed. The condition is that of
+/// [`Builtin::may_fail`].
 pub fn may_fail(function: Fun, given: &Givens) -> bool
     requires { AreGiven (row_of function) (givens_of given.now) }
     ensures { result ≡ (row_of function).may_fail (givens_of given.now) }
@@ -75,7 +78,8 @@ pub fn apply(
     function.apply(alloc, arguments, setting)
 }
 
-/// What a call answers is what was known of it before, for each function. This takes no time: it is a law about the definitions.
+/// What a call answers is what was known of it before, for each function. This takes no time: it is
+/// a law about the definitions.
 pub fn functions_keep_law()
     ensures { FunctionsKeepLaw }
 {}

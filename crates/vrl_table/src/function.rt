@@ -192,7 +192,8 @@ pub enum Fun {
     Zip,
 }
 
-// All functions, each with its variant and what has its row: a call of a method of one of them, or a list of all.
+// All functions, each with its variant and what has its row: a call of a method of one of them, or
+// a list of all.
 macro_rules! functions {
     (@call $fun:expr, $method:ident $arguments:tt; $($name:ident => $function:expr,)*) => {
         match $fun {
@@ -368,32 +369,38 @@ fn named(name: &str) -> Option<Fun>
 
 /// The function of a name. `None`: no function has it. It takes no memory.
 pub fn lookup(name: &str) -> Option<Fun>
-    ensures { MatchOption result ((function : Fun) → (row_of function).name ≢ name.now) (λ function. (row_of function).name ≡ name.now) }
+    ensures { MatchOption result ((function : Fun) → (row_of function).name ≢ name.now)
+        (λ function. (row_of function).name ≡ name.now) }
 {
     named(name)
 }
 
-/// Each function is the one that is found by its name, so no two have one name. This takes no time: it is a law about the definitions.
+/// Each function is the one that is found by its name, so no two have one name. This takes no time:
+/// it is a law about the definitions.
 pub fn functions_are_found()
     ensures { FunctionsAreFound }
 {}
 
-/// There are 79 functions, and no two have one name. This takes no time: it is a law about the definitions.
+/// There are 79 functions, and no two have one name. This takes no time: it is a law about the
+/// definitions.
 pub fn functions_are_counted()
     ensures { FunctionsAreCounted }
 {}
 
-/// No function has the name of a form of the language, as `del`. This takes no time: it is a law about the definitions.
+/// No function has the name of a form of the language, as `del`. This takes no time: it is a law
+/// about the definitions.
 pub fn forms_are_no_functions()
     ensures { FormsAreNoFunctions }
 {}
 
-/// No function has two parameters of one name. This takes no time: it is a law about the definitions.
+/// No function has two parameters of one name. This takes no time: it is a law about the
+/// definitions.
 pub fn parameters_are_told_apart()
     ensures { ParametersAreToldApart }
 {}
 
-/// What a function gives is never absent, whatever is given for its parameters. This takes no time: it is a law about the definitions.
+/// What a function gives is never absent, whatever is given for its parameters. This takes no time:
+/// it is a law about the definitions.
 pub fn results_are_present()
     ensures { ResultsArePresent }
 {}

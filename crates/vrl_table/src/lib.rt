@@ -1,7 +1,8 @@
-//! The table of the language's functions: which there are, and the calls of [`Builtin`](vrl_builtin::Builtin) for the function of a name.
+//! The table of the language's functions: which there are, and the calls of
+//! [`Builtin`](vrl_builtin::Builtin) for the function of a name.
 //!
-//! Files: `function.rt` has [`Fun`] and `lookup`, `calls.rt` the calls that go to the function, and `bind`, which binds a call's arguments to its
-//! parameters.
+//! Files: `function.rt` has [`Fun`] and `lookup`, `calls.rt` the calls that go to the function, and
+//! `bind`, which binds a call's arguments to its parameters.
 #![tactic(auto)]
 
 mod calls;
