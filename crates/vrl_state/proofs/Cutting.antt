@@ -38,7 +38,7 @@ abbrev pub AllAbove : List ℕ → List Entry → Type 0
 AllAbove x [] = ⊤
 AllAbove x (d ∷ ds) = (name_cmp x d.0 ≡ Less) × AllAbove x ds
 
-above : (d x : List ℕ) → name_cmp d x ≡ Less → name_cmp x d ≡ Greater
+pub above : (d x : List ℕ) → name_cmp d x ≡ Less → name_cmp x d ≡ Greater
 above d x h = nat_list_cmp_total.antisymm x d ∙ ap ordering_reverse h
 
 pub below : (d x : List ℕ) → name_cmp d x ≡ Greater → name_cmp x d ≡ Less

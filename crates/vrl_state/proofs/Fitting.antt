@@ -19,11 +19,13 @@ use Rattle.vrl_kind.specs.Tags.{Tags}
 use Rattle.vrl_place.specs.Laws.{NothingRemovedIsOfTheKind, RemovalsAreOfTheirKind, WritesAreOfTheirKind}
 use Rattle.vrl_place.specs.Remove.{remove}
 use Rattle.vrl_place.specs.Write.{write}
-use Rattle.vrl_state.specs.Laws.{BlocksKeepFits, BlocksKeepHeldNames, CutsHoldTheAllowed, EitherHoldsBoth, JoinsKeepFits, JoinsKeepHeldNames, RemovalsKeepFits, StartsFit, WithinKeepsFits, WritesKeepFits}
+use Rattle.vrl_state.specs.Known.{listed_kind, IsCutIf}
+use Rattle.vrl_state.specs.Laws.{BlocksKeepFits, BlocksKeepHeldNames, CutsHoldTheAllowed, EitherHoldsBoth, JoinsKeepFits, JoinsKeepHeldNames, RemovalsKeepFits, ReplacingKeepsFits, StartsFit, WithinKeepsFits, WritesKeepFits}
 use Rattle.vrl_state.specs.States.{either, kept, kind_of, with_kind, written_from, HasNow, IsCutOf, IsEitherMap, IsEitherVariable, IsVariableWithin, RootMap, Scope}
 use Rattle.vrl_path.specs.Remove.{removable_at, IsRemoved}
 use Rattle.vrl_path.specs.Write.{IsSet}
 use Rattle.vrl_state.specs.Stores.{store_back, value_of, with_value, FitsKind, FitsKnown, FitsMap, HidesOf, HoldsNames, IsStoreTakenOut, IsWithout, Store}
+use Rattle.vrl_state.specs.declared.known.Known.TheVariants.{Alive, Dead}
 use Rattle.vrl_state.proofs.Finite.{at_kept, at_name, at_other, by_name}
 use Rattle.vrl_state.proofs.Behind.{at_behind, fits_behind, value_behind}
 
@@ -84,6 +86,25 @@ joins_fit holds (Some a) None c store is (inr fits) = absurd fits
 joins_fit holds (Some a) (Some b) None store is fits = absurd is
 joins_fit holds (Some a) (Some b) (Some c) store is (inl fits) = first_map holds store a b c is fits
 joins_fit holds (Some a) (Some b) (Some c) store is (inr fits) = second_map holds store a b c is fits
+
+-- ---- lists that are taken over
+
+cut_fits : CutsAreWider → WiderKindsHoldMore → (v : Option Tree) (K M : Option KindTree)
+    → IsCutIf K M → FitsKind v K → FitsKind v M
+cut_fits wider more v None M is h = subst (FitsKind v) (sym is) tt
+cut_fits wider more v (Some K) None is h = absurd is
+cut_fits wider more None (Some K) (Some M) is h = absurd h
+cut_fits wider more (Some v) (Some K) (Some M) is h = cut_holds wider more v K M is h
+
+-- what fits a list fits what is known once it is taken over
+pub replacing_fits : CutsAreWider → WiderKindsHoldMore → ReplacingKeepsFits
+replacing_fits wider more Dead after store is fits = absurd fits
+replacing_fits wider more (Alive listed) None store is fits = absurd is
+replacing_fits wider more (Alive listed) (Some roots) store is fits = record {
+  event = cut_fits wider more (Some store.event) (listed_kind Event listed) (Some roots.event) (is Event) (fits Event);
+  variables = λ x.
+      cut_fits wider more (map.get store.variables x) (listed_kind (Name x) listed) (map.get roots.variables x) (is (Name x)) (fits (Name x));
+}
 
 -- ---- one root
 

@@ -8,5 +8,6 @@ mod JoinedScopes
 pub mod Limits
 pub mod Listed
 mod Parts
+mod Replacing
 mod Turning
 mod Versions

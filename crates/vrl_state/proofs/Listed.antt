@@ -1,12 +1,15 @@
--- That each root of a list has a root's kind.
+-- That what is known is listed in order, and that each root of the list has a root's kind.
 use Rattle.std.proofs.Common.{◌≡◌, ℕ, Bool, true, false, ◌&&◌, T, cond, is_lt, is_eq, All, List, [], ◌∷◌, map, Some, None, Ordering, Less, Equal, Greater, nat_cmp, sym, ap, ◌∙◌, subst, refl}
+use Rattle.std.proofs.lemmas.Bool.{and_from}
 use Rattle.std.proofs.lemmas.Cmp.{nat_list_cmp_total, tied_itself}
-use Rattle.std.proofs.lemmas.List.Elements.{All-cons, All-nil}
+use Rattle.std.proofs.lemmas.List.Elements.{All-cons, All-nil, All-weaker}
 use Rattle.std.specs.Cmp.Lexicographic.{slice_cmp}
 use Rattle.std.specs.FinMap as finite
 use Rattle.vrl_kind.specs.KindTree.{KindTree}
+use Rattle.vrl_syntax.specs.declared.root.Root.TheVariants.{Event, Name}
 use Rattle.vrl_state.specs.Known.{root_kinds, variable_kind, variable_kinds}
-use Rattle.vrl_state.specs.States.{HasRootKinds, IsRootKind, IsRootKindIf, RootMap, Variables}
+use Rattle.vrl_state.specs.RootLists.{rise_from, IsRootList}
+use Rattle.vrl_state.specs.States.{HasRootKinds, IsPresent, IsRootKind, IsRootKindIf, RootMap, Variables}
 use Rattle.vrl_state.specs.declared.known.RootKind.{RootKind}
 use Rattle.vrl_state.proofs.Finite.{by_name}
 
@@ -60,3 +63,33 @@ variables_listed variables all = each (finite.entries variables) (finite.entries
 pub all_listed : (roots : RootMap) (listed : List RootKind) → listed ≡ root_kinds roots → HasRootKinds roots → All HasRootKind listed
 all_listed roots listed is has =
     subst (All HasRootKind) (sym is) (All-cons HasRootKind _ (variable_kinds roots.variables) has.event (variables_listed roots.variables has.variables))
+
+-- ---- order
+
+is_true : (b : Bool) → T b → b ≡ true
+is_true true p = refl
+is_true false p = absurd p
+
+first : (a b c : Bool) → T ((a && b) && c) → T a
+first true b c p = tt
+first false b c p = absurd p
+
+rise_behind : (e : List ℕ × KindTree) (es : Entries) → T (finite.is_sorted (slice_cmp nat_cmp) (e ∷ es))
+    → rise_from (Name e.0) (map variable_kind es) ≡ true
+rise_behind e [] sorted = refl
+rise_behind e (d ∷ es) sorted =
+    and_from (is_lt (slice_cmp nat_cmp e.0 d.0)) (rise_from (Name d.0) (map variable_kind es))
+    (is_true _ (first (is_lt (slice_cmp nat_cmp e.0 d.0)) _ _ sorted))
+    (rise_behind d es (second _ _ sorted))
+
+rise_all : (es : Entries) → T (finite.is_sorted (slice_cmp nat_cmp) es) → rise_from Event (map variable_kind es) ≡ true
+rise_all [] sorted = refl
+rise_all (e ∷ es) sorted = rise_behind e es sorted
+
+-- what is known is a list of roots
+pub root_list : (roots : RootMap) → HasRootKinds roots → IsRootList (root_kinds roots)
+root_list roots has = record {
+  event = refl;
+  order = rise_all (finite.entries roots.variables) (finite.entries_sorted roots.variables);
+  present = All-weaker HasRootKind (λ r. IsPresent r.kind) (λ r is. is.present) (root_kinds roots) (all_listed roots (root_kinds roots) refl has);
+}

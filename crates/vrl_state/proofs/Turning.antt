@@ -25,7 +25,7 @@ use Rattle.vrl_state.proofs.Fitting.{fits_with}
 use Rattle.vrl_state.proofs.Finite.{at_name, at_other, by_name}
 use Rattle.vrl_state.proofs.Versions.{has_name}
 
-and_first : (a b : Bool) → (a && b) ≡ true → a ≡ true
+pub and_first : (a b : Bool) → (a && b) ≡ true → a ≡ true
 and_first true b is = refl
 and_first false b is = is
 
@@ -64,12 +64,12 @@ same_name : (r : Root) (x : List ℕ) → same_root r (Name x) ≡ true → r �
 same_name Event x is = absurd (true≢false (sym is))
 same_name (Name y) x is = ap Name ((bytes_eq-Decides y x).0 is)
 
-one_root : (r root : Root) → same_root r root ≡ true → r ≡ root
+pub one_root : (r root : Root) → same_root r root ≡ true → r ≡ root
 one_root r Event is = same_event r is
 one_root r (Name x) is = same_name r x is
 
 -- a root with a new kind
-kind_with : (r root : Root) (K : KindTree) (roots : RootMap) → kind_of r (with_kind root K roots) ≡ (if same_root r root then Some K else kind_of r roots)
+pub kind_with : (r root : Root) (K : KindTree) (roots : RootMap) → kind_of r (with_kind root K roots) ≡ (if same_root r root then Some K else kind_of r roots)
 kind_with Event Event K roots = refl
 kind_with Event (Name y) K roots = refl
 kind_with (Name x) Event K roots = refl

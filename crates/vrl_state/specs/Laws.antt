@@ -11,8 +11,10 @@ use Rattle.vrl_syntax.specs.declared.root.Root.TheVariants.{Name}
 use Rattle.vrl_kind.specs.KindTree.{KindTree}
 use Rattle.vrl_kind.specs.Kinds.{Inhabits}
 use Rattle.vrl_kind.specs.Sets.{Sets, IsAllowed}
+use Rattle.vrl_state.specs.Known.{known_as, FitsListed, IsReplaced}
 use Rattle.vrl_state.specs.States.{body_scope, hiding, kept, with_names, AreScopesJoined, BeginsAt, HasRootKinds, IsCutOf, IsEither, IsFlattened, IsForgotten, IsHidden, IsJoined, IsKnownWithin, IsRootKind, IsRootKindIf, IsScopeJoined, IsStart, IsTakenOut, IsWritten, RootMap, Scope, State}
 use Rattle.vrl_state.specs.Stores.{store_back, with_value, AreOfKinds, Fits, FitsKind, FitsKnown, HidesOf, HoldsNames, IsStoreTakenOut, IsStoreWritten, Store}
+use Rattle.vrl_state.specs.declared.known.Known.{Known}
 
 -- a value that the sets allow is of the kind that has them, cut
 abbrev pub CutsHoldTheAllowed : Type 0
@@ -41,6 +43,16 @@ RemovalsKeepFits = (root : Root) (p : List Step) (known known' : Option RootMap)
 -- a store that fits either side of a join fits the join
 abbrev pub JoinsKeepFits : Type 0
 JoinsKeepFits = (a b c : Option RootMap) (store : Store) → IsJoined a b c → FitsKnown store a ⊎ FitsKnown store b → FitsKnown store c
+
+-- a store that holds values of the kinds that a list gives fits what is known once that list is taken over
+abbrev pub ReplacingKeepsFits : Type 0
+ReplacingKeepsFits = (known : Known) (after : Option RootMap) (store : Store)
+    → IsReplaced known after → FitsListed store known → FitsKnown store after
+
+-- what is known stays where its own list is taken over
+abbrev pub KnownReplacesItself : Type 0
+KnownReplacesItself = (known after : Option RootMap) → IfSome known HasRootKinds
+    → IsReplaced (known_as known) after → after ≡ known
 
 -- a store that fits what is known fits what that is within
 abbrev pub WithinKeepsFits : Type 0

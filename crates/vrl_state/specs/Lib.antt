@@ -4,6 +4,7 @@ pub mod Known
 pub mod Laws
 pub mod Merging
 pub mod Ordered
+pub mod RootLists
 pub mod ScopesFall
 pub mod ScopesView
 pub mod States

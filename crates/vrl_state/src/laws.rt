@@ -1,4 +1,4 @@
-ghost use Rattle.vrl_state.specs.Laws.{BlocksGiveNothingBack, BlocksKeepFits, BlocksKeepHeldNames, BodiesKeepFits, CutsAreRootKinds, CutsHoldTheAllowed, EitherHoldsBoth, FlatteningKeepsFits, ForgettingKeepsFits, ForgettingWidens, HidingHides, HidingKeepsFits, HidingKeepsHeldNames, JoinsKeepFits, JoinsKeepHeldNames, JoinsKeepScopes, NamesKeepFits, RemovalsKeepFits, RootKindsJoinThemselves, StartsFit, WithinKeepsFits, WritesKeepFits};
+ghost use Rattle.vrl_state.specs.Laws.{BlocksGiveNothingBack, BlocksKeepFits, BlocksKeepHeldNames, BodiesKeepFits, CutsAreRootKinds, CutsHoldTheAllowed, EitherHoldsBoth, FlatteningKeepsFits, ForgettingKeepsFits, ForgettingWidens, HidingHides, HidingKeepsFits, HidingKeepsHeldNames, JoinsKeepFits, JoinsKeepHeldNames, JoinsKeepScopes, KnownReplacesItself, NamesKeepFits, RemovalsKeepFits, ReplacingKeepsFits, RootKindsJoinThemselves, StartsFit, WithinKeepsFits, WritesKeepFits};
 
 use vrl_kind::{any_holds_all, cuts_are_wider, equal_tags_are_one_kind, wider_kinds_hold_more};
 use vrl_place::{
@@ -47,6 +47,20 @@ pub fn writes_keep_fits()
     wider_kinds_hold_more();
     writes_are_of_their_kind();
 }
+
+/// A store that holds values of the kinds that a list gives fits what is known once that list is taken over. This
+/// takes no time: it is a law about the definitions.
+pub fn replacing_keeps_fits()
+    ensures { ReplacingKeepsFits }
+{
+    cuts_are_wider();
+    wider_kinds_hold_more();
+}
+
+/// What is known stays where its own list is taken over. This takes no time: it is a law about the definitions.
+pub fn known_replaces_itself()
+    ensures { KnownReplacesItself }
+{}
 
 /// A store that fits what is known, once something is taken out of it, fits what is known after that removal.
 /// This takes no time: it is a law about the definitions.

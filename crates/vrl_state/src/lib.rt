@@ -29,7 +29,7 @@ pub use laws::{
     cuts_are_root_kinds, cuts_hold_the_allowed, either_holds_both, flattening_keeps_fits,
     forgetting_keeps_fits, forgetting_widens, hiding_hides, hiding_keeps_fits,
     hiding_keeps_held_names, joins_keep_fits, joins_keep_held_names, joins_keep_scopes,
-    names_keep_fits, removals_keep_fits, root_kinds_join_themselves, starts_fit, within_keeps_fits,
-    writes_keep_fits,
+    known_replaces_itself, names_keep_fits, removals_keep_fits, replacing_keeps_fits,
+    root_kinds_join_themselves, starts_fit, within_keeps_fits, writes_keep_fits,
 };
 pub use state::State;

@@ -4,9 +4,10 @@ ghost use Rattle.vrl_path.specs.Steps.{IsPlain, IsWritable};
 ghost use Rattle.vrl_syntax.specs.declared.root.Root.TheVariants.{Event, Name};
 ghost use Rattle.vrl_kind.specs.Canonical.{any_kind};
 ghost use Rattle.vrl_kind.specs.Cut.{flat, IsCut};
+ghost use Rattle.vrl_kind.specs.KindTree.{KindTree};
 ghost use Rattle.vrl_kind.specs.Kinds.{tags_at};
 ghost use Rattle.vrl_place.specs.Write.{write};
-ghost use Rattle.vrl_state.specs.Known.{root_kinds};
+ghost use Rattle.vrl_state.specs.Known.{root_kinds, AreTakenOver};
 ghost use Rattle.vrl_state.specs.Merging.{IsTurnedAt};
 ghost use Rattle.vrl_state.specs.States.{kept, kind_of, with_kind, written_from, HasRootKinds, IsCutOf, IsEitherMap, IsFlattened, IsForgotten, IsMapWithin, IsPresent, IsRootKind, IsRootKindIf, IsTakenOut, IsWritten};
 ghost use Rattle.vrl_state.specs.View.{scope_of};
@@ -67,6 +68,31 @@ impl KnownRoots {
             event,
             variables: VariableKinds::new(),
         })
+    }
+
+    // The roots that are listed, each with its kind, cut. `Memory`: want of memory.
+    pub(crate) fn listed(alloc: Global, list: &RootKinds) -> Result<KnownRoots, Memory>
+        ensures { IfOk result (λ roots. AreTakenOver list.now roots) }
+    {
+        list.are_listed();
+        let (event, variables) = list.parts();
+        let mut known = KnownRoots::start(alloc, event)?;
+        for variable in variables {
+            known.set(alloc, variable)?;
+        }
+        Ok(known)
+    }
+
+    // Gives a root the kind that it is listed with, cut. `Memory`: want of memory; the kinds stay as they were.
+    fn set(&mut self, alloc: Global, listed: &RootKind) -> Result<(), Memory>
+        requires { IsPresent listed.now.kind }
+        ensures { OnOk result ((kind : KindTree) × IsCut listed.now.kind kind
+            × (self.new ≡ with_kind listed.now.root kind self.old)) }
+    {
+        kind_is_canonical(&listed.kind);
+        let kind = cut_copy(alloc, &listed.kind)?;
+        self.put(alloc, &listed.root, kind)?;
+        Ok(())
     }
 
     // The kind of a root, shared. `None`: the variable is not known.
@@ -351,6 +377,7 @@ impl KnownRoots {
     pub(crate) fn list(&self, alloc: Global) -> Result<RootKinds, Memory>
         ensures { IfOk result (λ list. list ≡ root_kinds self.now) }
     {
+        self.have_root_kinds();
         let mut roots = Vec::new(alloc);
         roots.push(RootKind {
             root: Root::Event,

@@ -1,10 +1,11 @@
-ghost use Rattle.std.specs.Prelude.{◌≡◌, ◌≢◌, ◌↔◌, ◌∷◌, [], ℕ, IfOk, IfSome, IsTrue, List, None, OnErr, OnOk, Some, option_map};
+ghost use Rattle.std.specs.Prelude.{◌≡◌, ◌≢◌, ◌↔◌, ◌∷◌, [], ℕ, IfOk, IfSome, IsOk, IsTrue, List, None, OnErr, OnOk, Some, option_map};
 ghost use Rattle.vrl_value.specs.Tree.{Tree};
 ghost use Rattle.vrl_path.specs.Steps.{IsPlain, IsWritable};
 ghost use Rattle.vrl_kind.specs.Kinds.{Inhabits};
 ghost use Rattle.vrl_syntax.specs.declared.root.Root.TheVariants.{Name};
-ghost use Rattle.vrl_state.specs.Known.{known_as, HaveRootKinds};
+ghost use Rattle.vrl_state.specs.Known.{known_as, FitsListed, HaveRootKinds, IsReplaced};
 ghost use Rattle.vrl_state.specs.States.{kind_in, knows, AreScopesJoined, HasRootKinds, HaveSameScopes, IsEntered, IsFlattened, IsForgotten, IsHidden, IsJoined, IsKnownWithin, IsLeft, IsPresent, IsRootKind, IsStart, IsTakenOut, IsWritten, Scope};
+ghost use Rattle.vrl_state.specs.declared.known.Known.TheVariants.{Dead};
 ghost use Rattle.vrl_state.specs.Stores.{store_back, with_value, Fits, HidesOf, HoldsNames, IsStoreTakenOut, IsStoreWritten, Store};
 
 use crate::blocks::{enter, hide, leave};
@@ -12,7 +13,8 @@ use crate::branch::{Branch, Mark};
 use crate::known::Known;
 use crate::laws::{
     blocks_keep_fits, flattening_keeps_fits, forgetting_keeps_fits, hiding_keeps_fits,
-    joins_keep_fits, joins_keep_scopes, removals_keep_fits, starts_fit, writes_keep_fits,
+    joins_keep_fits, joins_keep_scopes, removals_keep_fits, replacing_keeps_fits, starts_fit,
+    writes_keep_fits,
 };
 use crate::roots::KnownRoots;
 use crate::scopes::Scopes;
@@ -212,6 +214,22 @@ impl State {
         Ok(())
     }
 
+    /// Takes over what a list tells: the state becomes dead, or knows the roots that are listed, each with its
+    /// kind, cut, and no others. The blocks stay open. A dead one takes no memory. `Memory`: want of memory; the
+    /// state stays as it was.
+    pub fn replace(&mut self, known: &Known) -> Result<(), Memory>
+        ensures replaced { OnOk result (IsReplaced known.now self.new.known) }
+        ensures scopes { self.new.scopes ≡ self.old.scopes }
+        ensures fits { OnOk result ((store : Store) → FitsListed store known.now → Fits store self.new) }
+        ensures dead { known.now ≡ Dead → IsOk result }
+        ensures err { OnErr result (self.new ≡ self.old) }
+    {
+        replacing_keeps_fits();
+        let roots = listed(self.alloc, known)?;
+        self.known = roots;
+        Ok(())
+    }
+
     /// Opens a block. `Memory`: want of memory; the state stays as it was.
     pub fn enter(&mut self) -> Result<(), Memory>
         ensures entered { OnOk result (IsEntered self.old self.new) }
@@ -370,6 +388,17 @@ fn copy_known(known: &Option<KnownRoots>) -> Result<Option<KnownRoots>, Memory>
     match known {
         None => Ok(None),
         Some(known) => Ok(Some(known.copy()?)),
+    }
+}
+
+// What a list tells, each kind cut. `Memory`: want of memory, and a dead one takes none.
+fn listed(alloc: Global, known: &Known) -> Result<Option<KnownRoots>, Memory>
+    ensures replaced { IfOk result (λ after. IsReplaced known.now after) }
+    ensures dead { known.now ≡ Dead → IsOk result }
+{
+    match known {
+        Known::Dead => Ok(None),
+        Known::Alive(list) => Ok(Some(KnownRoots::listed(alloc, list)?)),
     }
 }
 

@@ -7,7 +7,7 @@ use crate::states::{branch_of, start_of_json, state_after, told, write_all};
 use std::alloc::Global;
 use std::process::Abort;
 use vrl_kind::{Kind, has};
-use vrl_state::{Branch, State};
+use vrl_state::{Branch, Known, State};
 use vrl_value::{Chars, Memory, Tag};
 
 // The state after these words, with the branch joined to it, as a branch.
@@ -90,6 +90,30 @@ fn branch_left(alloc: Global, state: &mut State, inside: &str) -> Result<Branch,
     Ok(branch)
 }
 
+// What is known behind a block with these words in it, where a list was taken over at its end.
+fn known_replaced(
+    alloc: Global,
+    state: &mut State,
+    known: &Known,
+    inside: &str,
+) -> Result<Branch, Memory> {
+    write_block(alloc, state, inside)?;
+    state.replace(known)?;
+    state.leave()?;
+    branch_of(alloc, state, "")
+}
+
+// The same of the list of what is known at the end of a branch.
+fn state_replaced(
+    alloc: Global,
+    state: &mut State,
+    listed: &str,
+    inside: &str,
+) -> Result<Branch, Memory> {
+    let branch = branch_of(alloc, state, listed)?;
+    known_replaced(alloc, state, &branch.known()?, inside)
+}
+
 // Opens a scope in which the name `x` is bound to a value of a kind.
 fn bind(alloc: Global, state: &mut State, kind: &Kind) -> Result<(), Memory>
     requires { IsPresent kind.now }
@@ -123,6 +147,7 @@ enum End {
     BranchJoined,
     StateLeft,
     BranchLeft,
+    StateReplaced,
 }
 
 // The branch at this end; a block has the first words in it.
@@ -138,6 +163,7 @@ fn end_of(
         End::BranchJoined => branch_joined(alloc, state, first, second),
         End::StateLeft => state_left(alloc, state, first),
         End::BranchLeft => branch_left(alloc, state, first),
+        End::StateReplaced => state_replaced(alloc, state, first, second),
     }
 }
 
@@ -260,6 +286,32 @@ const BLOCKS: [(&str, &str, &str); 5] = [
 fn blocks_end_with_their_names(rt: HostRuntime) -> Result<(), Memory> {
     expect_blocks(&rt, rt.alloc(), End::StateLeft, &BLOCKS)?;
     expect_blocks(&rt, rt.alloc(), End::BranchLeft, &BLOCKS)
+}
+
+// Words before a branch and a block, words of the branch, words in the block, and what is known behind the block
+// where it took over at its end what is known at the end of the branch.
+const REPLACEMENTS: [(&str, &str, &str, &str); 5] = [
+    (
+        "x=integer",
+        "x=string;.a=null",
+        "x=null;z=null",
+        ".={\"a\": null, ..json}; x=string",
+    ),
+    (
+        "x=integer;y=null",
+        "",
+        "x=string",
+        ".={..json}; x=integer; y=null",
+    ),
+    // `y` isn't known where the block begins, so it ends with it.
+    ("x=integer", "y=null", "", ".={..json}; x=integer"),
+    ("x=integer", "!", "", "dead"),
+    ("x=integer", "", "!", ".={..json}; x=integer"),
+];
+
+#[test]
+fn what_is_known_is_replaced(rt: HostRuntime) -> Result<(), Memory> {
+    expect_ends(&rt, rt.alloc(), End::StateReplaced, &REPLACEMENTS)
 }
 
 // The same from the start of a script, after words, with the kind of a word.
