@@ -26,7 +26,8 @@ abbrev pub known_as : Option RootMap → Known
 known_as None = Dead
 known_as (Some roots) = Alive (root_kinds roots)
 
--- each root that is listed has a root's kind: never absent, as the list says itself, and within the limits
+-- each root that is listed has a root's kind: never absent, as the list says itself, and within the
+-- limits
 abbrev pub HaveRootKinds : Known → Type 0
 HaveRootKinds Dead = ⊤
 HaveRootKinds (Alive roots) = All (λ r. IsRootKind r.kind) roots

@@ -31,7 +31,8 @@ pub record IsBeside (o : Ordering) (x : List ℕ) (part whole : List Entry) : Ty
 
 -- the kind of one name, joined with that of another side
 abbrev pub IsJoinedAt : Entry → Option KindTree → List Entry → List Entry → Type 0
-IsJoinedAt e L before after = IsEitherVariable (Some e.1) L (found e.0 after) × ((x : List ℕ) → AreOtherNames x e.0 → found x after ≡ found x before)
+IsJoinedAt e L before after = IsEitherVariable (Some e.1) L (found e.0 after)
+    × ((x : List ℕ) → AreOtherNames x e.0 → found x after ≡ found x before)
 
 -- a name of the part is joined; of another name all stays
 abbrev pub IsJoinedIf : Option KindTree → Option KindTree → Option KindTree → Option KindTree → Type 0
@@ -39,7 +40,8 @@ IsJoinedIf None L before after = after ≡ before
 IsJoinedIf (Some K) L before after = IsEitherVariable (Some K) L after
 
 abbrev pub IsJoinedPart : List Entry → List Entry → List Entry → List Entry → Type 0
-IsJoinedPart part others before after = (x : List ℕ) → IsJoinedIf (found x part) (found x others) (found x before) (found x after)
+IsJoinedPart part others before after =
+    (x : List ℕ) → IsJoinedIf (found x part) (found x others) (found x before) (found x after)
 
 -- ---- ends of scopes
 
@@ -54,7 +56,8 @@ kept_if false stays K = K
 kept_if true stays K = cond stays K None
 
 abbrev pub IsKeptPart : List Entry → List Entry → List Entry → List Entry → Type 0
-IsKeptPart part names before after = (x : List ℕ) → found x after ≡ kept_if (is_some (found x part)) (is_some (found x names)) (found x before)
+IsKeptPart part names before after =
+    (x : List ℕ) → found x after ≡ kept_if (is_some (found x part)) (is_some (found x names)) (found x before)
 
 -- each of these entries, whatever stood at its name
 abbrev pub puts : List Entry → List Entry → List Entry
@@ -73,4 +76,5 @@ pub record IsFirstJoined (known mine others : Variables) (outer scopes : List Sc
 
 -- one root has the kind that f makes of its own; what else is known stays
 abbrev pub IsTurnedAt : (KindTree → KindTree) → Root → RootMap → RootMap → Type 0
-IsTurnedAt f root before after = (r : Root) → kind_of r after ≡ (if same_root r root then option_map f (kind_of r before) else kind_of r before)
+IsTurnedAt f root before after =
+    (r : Root) → kind_of r after ≡ (if same_root r root then option_map f (kind_of r before) else kind_of r before)

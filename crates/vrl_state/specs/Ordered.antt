@@ -18,7 +18,8 @@ pub record Ordered : Type 0 where
   pub height : ℕ
 
 abbrev pub ordered_code : Coded Ordered
-ordered_code = code_by (List Entry × ℕ) (coded× (coded_list (coded× (coded_list coded_ℕ) kind_code)) coded_ℕ) (λ o. (o.entries, o.height)) (λ p. record { entries = p.0; height = p.1 }) (λ _. refl)
+ordered_code = code_by (List Entry × ℕ) (coded× (coded_list (coded× (coded_list coded_ℕ) kind_code)) coded_ℕ)
+    (λ o. (o.entries, o.height)) (λ p. record { entries = p.0; height = p.1 }) (λ _. refl)
 
 abbrev pub tree_size : Ordered → ℕ
 tree_size o = length o.entries

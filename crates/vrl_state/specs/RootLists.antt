@@ -27,7 +27,8 @@ abbrev pub rise : List RootKind → Bool
 rise [] = true
 rise (r ∷ rs) = rise_from r.root rs
 
--- the event first, then each variable once, by the bytes of its name, and no kind that allows absent
+-- the event first, then each variable once, by the bytes of its name, and no kind that allows
+-- absent
 pub record IsRootList (roots : List RootKind) : Type 0 where
   pub event : first_root roots ≡ Some Event
   pub order : IsTrue (rise roots)

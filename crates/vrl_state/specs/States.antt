@@ -1,6 +1,7 @@
--- What is known at a place of a script, before any event is there: the kinds of the event and of the variables, and the scopes that
--- are open. The rules are those by which the Vector Remap Language types a script: a write changes what is known from there on, and
--- behind branches only what each of them leaves is known.
+-- What is known at a place of a script, before any event is there: the kinds of the event and of
+-- the variables, and the scopes that are open. The rules are those by which the Vector Remap
+-- Language types a script: a write changes what is known from there on, and behind branches only
+-- what each of them leaves is known.
 use Rattle.std.specs.Prelude.{◌≡◌, ◌≤◌, Bool, ◌||◌, ◌&&◌, not, true, false, bytes_eq, codes, if◌then◌else◌, ℕ, List, [], ◌∷◌, Option, Some, None, map as each, option_map, is_some, IfSome, IsSomeAnd, MatchOption, ⊤}
 use Rattle.std.specs.Cmp.Lexicographic.{slice_cmp}
 use Rattle.std.specs.FinMap as map
@@ -103,7 +104,8 @@ pub record IsStart (K : KindTree) (state : State) : Type 0 where
 
 -- ---- writes and removals
 
--- the kind that a write starts from. A variable that isn't known may still be there, from a way that a join dropped, with any value
+-- the kind that a write starts from. A variable that isn't known may still be there, from a way
+-- that a join dropped, with any value
 abbrev pub written_from : Option KindTree → KindTree
 written_from None = any_kind
 written_from (Some K) = K
@@ -115,12 +117,14 @@ HasNow root A roots after = (M : KindTree) × IsCutOf A M × (after ≡ Some (wi
 -- the root's kind with N written at the path; a dead state stays dead
 abbrev pub IsWritten : Root → List Step → KindTree → Option RootMap → Option RootMap → Type 0
 IsWritten root p N None after = after ≡ None
-IsWritten root p N (Some roots) after = HasNow root (write (tags_at (written_from (kind_of root roots))) p (tags_at N)) roots after
+IsWritten root p N (Some roots) after =
+    HasNow root (write (tags_at (written_from (kind_of root roots))) p (tags_at N)) roots after
 
 -- the root's kind without what stands at the path; a root that isn't known is passed over
 abbrev pub IsTakenOut : Root → List Step → Option RootMap → Option RootMap → Type 0
 IsTakenOut root p None after = after ≡ None
-IsTakenOut root p (Some roots) after = MatchOption (kind_of root roots) (after ≡ Some roots) (λ K. HasNow root (remove (tags_at K) p) roots after)
+IsTakenOut root p (Some roots) after =
+    MatchOption (kind_of root roots) (after ≡ Some roots) (λ K. HasNow root (remove (tags_at K) p) roots after)
 
 -- ---- joins
 
@@ -140,7 +144,8 @@ IsEitherVariable (Some K) (Some L) M = IsSomeAnd M (IsEither K L)
 -- what is known on either way
 pub record IsEitherMap (a b c : RootMap) : Type 0 where
   pub event : IsEither a.event b.event c.event
-  pub variables : (x : List ℕ) → IsEitherVariable (map.get a.variables x) (map.get b.variables x) (map.get c.variables x)
+  pub variables : (x : List ℕ)
+      → IsEitherVariable (map.get a.variables x) (map.get b.variables x) (map.get c.variables x)
 
 -- a dead side gives the other
 abbrev pub IsJoined : Option RootMap → Option RootMap → Option RootMap → Type 0
@@ -158,7 +163,8 @@ IsEachScopeJoined [] [] [] = ⊤
 IsEachScopeJoined (s ∷ ss) (t ∷ ts) (u ∷ us) = IsScopeJoined s t u × IsEachScopeJoined ss ts us
 IsEachScopeJoined ss ts us = ⊥
 
--- what is known on either way has these scopes: a dead side gives the other's, and where both are alive the hidden kinds are joined name by name
+-- what is known on either way has these scopes: a dead side gives the other's, and where both are
+-- alive the hidden kinds are joined name by name
 abbrev pub AreScopesJoined : Option RootMap → Option RootMap → List Scope → List Scope → List Scope → Type 0
 AreScopesJoined None b ss ts us = us ≡ ts
 AreScopesJoined (Some a) None ss ts us = us ≡ ss
@@ -168,7 +174,8 @@ AreScopesJoined (Some a) (Some b) ss ts us = IsEachScopeJoined ss ts us
 abbrev pub scope_names : Scope → Names × List (List ℕ)
 scope_names scope = (scope.known, map.keys scope.hidden)
 
--- both stand in the same scopes: these know the same names and hide the same names. The hidden kinds may differ
+-- both stand in the same scopes: these know the same names and hide the same names. The hidden
+-- kinds may differ
 abbrev pub HaveSameScopes : State → State → Type 0
 HaveSameScopes a b = each scope_names a.scopes ≡ each scope_names b.scopes
 
@@ -196,7 +203,8 @@ IsKnownWithin (Some a) (Some b) = IsMapWithin a b
 abbrev pub knows : Option RootMap → List ℕ → Bool
 knows known x = is_some (kind_in (Name x) known)
 
--- a scope that begins where this is known: it knows the names that are known, and a name that it hides had the hidden kind
+-- a scope that begins where this is known: it knows the names that are known, and a name that it
+-- hides had the hidden kind
 pub record BeginsAt (known : Option RootMap) (scope : Scope) : Type 0 where
   pub names : (x : List ℕ) → set.contains scope.known x ≡ knows known x
   pub hidden : (x : List ℕ) → IfSome (map.get scope.hidden x) (λ K. kind_in (Name x) known ≡ Some K)
@@ -214,9 +222,13 @@ abbrev pub kinds_back : List (List ℕ × KindTree) → Variables → Variables
 kinds_back [] variables = variables
 kinds_back (e ∷ es) variables = map.insert (kinds_back es variables) e.0 e.1
 
--- behind a scope: its own variables, which weren't known where it began, end with it, and hidden names have their kinds back
+-- behind a scope: its own variables, which weren't known where it began, end with it, and hidden
+-- names have their kinds back
 abbrev pub kept : Scope → RootMap → RootMap
-kept scope roots = record roots { variables = kinds_back (map.entries scope.hidden) (map.retain_keys roots.variables (λ x. set.contains scope.known x)) }
+kept scope roots = record roots {
+  variables = kinds_back (map.entries scope.hidden)
+      (map.retain_keys roots.variables (λ x. set.contains scope.known x));
+}
 
 -- the innermost scope ends
 pub record IsLeft (before after : State) : Type 0 where
@@ -237,7 +249,9 @@ same_root (Name x) (Name y) = bytes_eq x y
 pub record IsEachTurned (f : KindTree → KindTree) (roots : List Root) (before after : Option RootMap) : Type 0 where
   -- a dead state stays dead, and no other becomes so
   pub alive : is_some after ≡ is_some before
-  pub kinds : (root : Root) → kind_in root after ≡ (if list_any (same_root root) roots then option_map f (kind_in root before) else kind_in root before)
+  pub kinds : (root : Root)
+      → kind_in root after ≡
+      (if list_any (same_root root) roots then option_map f (kind_in root before) else kind_in root before)
 
 -- each keeps its outer tags, with every value inside
 abbrev pub IsFlattened : List Root → Option RootMap → Option RootMap → Type 0
@@ -252,14 +266,16 @@ IsForgotten roots before after = IsEachTurned (λ K. any_kind) roots before afte
 -- a scope hides a name that has this kind, where it knows the name and doesn't hide it yet
 abbrev pub hiding : List ℕ → Option KindTree → Scope → Scope
 hiding x None scope = scope
-hiding x (Some K) scope = if set.contains scope.known x && not (map.contains_key scope.hidden x) then record scope { hidden = map.insert scope.hidden x K } else scope
+hiding x (Some K) scope = if set.contains scope.known x && not
+    (map.contains_key scope.hidden x) then record scope { hidden = map.insert scope.hidden x K } else scope
 
 -- the innermost scope hides the name
 abbrev pub IsHiding : List ℕ → Option KindTree → List Scope → List Scope → Type 0
 IsHiding x K [] after = after ≡ []
 IsHiding x K (s ∷ ss) after = after ≡ hiding x K s ∷ ss
 
--- a name has this kind, cut, from here to the end of the innermost scope, which hides what was known of it; a dead state stays dead
+-- a name has this kind, cut, from here to the end of the innermost scope, which hides what was
+-- known of it; a dead state stays dead
 pub record IsHidden (x : List ℕ) (K : KindTree) (before after : State) : Type 0 where
   pub kind : KindTree
   pub cut : IsCut K kind
@@ -275,8 +291,14 @@ pub record IsHidden (x : List ℕ) (K : KindTree) (before after : State) : Type 
 abbrev pub with_names : List (List ℕ) → List KindTree → RootMap → RootMap
 with_names [] Ks roots = roots
 with_names (x ∷ names) [] roots = roots
-with_names (x ∷ names) (K ∷ Ks) roots = with_names names Ks (if bytes_eq x (codes "_") then roots else with_kind (Name x) K roots)
+with_names (x ∷ names) (K ∷ Ks) roots =
+    with_names names Ks (if bytes_eq x (codes "_") then roots else with_kind (Name x) K roots)
 
--- the scope of a body that hides names and begins where this is known: it knows the names that are known, and hides those of these that are
+-- the scope of a body that hides names and begins where this is known: it knows the names that are
+-- known, and hides those of these that are
 abbrev pub body_scope : List (List ℕ) → RootMap → Scope
-body_scope names roots = record { known = set.from_list (map.keys roots.variables); hidden = map.retain_keys roots.variables (λ x. list_any (bytes_eq x) names) }
+body_scope names roots = record {
+  known = set.from_list
+      (map.keys roots.variables);
+  hidden = map.retain_keys roots.variables (λ x. list_any (bytes_eq x) names);
+}

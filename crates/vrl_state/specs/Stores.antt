@@ -1,4 +1,5 @@
--- What stands in the event and the variables while a script runs, and how that goes with what is known of them.
+-- What stands in the event and the variables while a script runs, and how that goes with what is
+-- known of them.
 use Rattle.std.specs.Prelude.{◌≡◌, ◌&&◌, ℕ, List, [], ◌∷◌, Option, Some, None, MatchOption, bytes_eq, unwrap_or, ⊤, IsTrue}
 use Rattle.std.specs.FinMap as map
 use Rattle.std.specs.FinSet as set
@@ -54,7 +55,8 @@ IsWithout v p w = MatchOption (removable_at v p) (w ≡ v) (λ t. IsRemoved v p 
 
 -- what stands at a path is taken out; a variable that isn't there stays so
 abbrev pub IsStoreTakenOut : Root → List Step → Store → Store → Type 0
-IsStoreTakenOut root p before after = MatchOption (value_of root before) (after ≡ before) (λ v. (w : Tree) × IsWithout v p w × (after ≡ with_value root w before))
+IsStoreTakenOut root p before after = MatchOption (value_of root before) (after ≡ before)
+    (λ v. (w : Tree) × IsWithout v p w × (after ≡ with_value root w before))
 
 -- ---- a store where a scope begins
 
@@ -65,4 +67,5 @@ pub record HoldsNames (store : Store) (scope : Scope) : Type 0 where
 
 -- of these names the scope hides those that it knows, and it hides no other name
 abbrev pub HidesOf : Scope → List (List ℕ) → Type 0
-HidesOf scope names = (x : List ℕ) → map.contains_key scope.hidden x ≡ (list_any (bytes_eq x) names && set.contains scope.known x)
+HidesOf scope names =
+    (x : List ℕ) → map.contains_key scope.hidden x ≡ (list_any (bytes_eq x) names && set.contains scope.known x)

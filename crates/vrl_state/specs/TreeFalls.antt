@@ -11,4 +11,5 @@ use Rattle.vrl_state.specs.TreeView.{ordered_of}
 
 pub tree_falls : (n : Option (Rc Node Global)) → deep-NameTree (record { node = n }) ≤ tree_size (ordered_of n)
 tree_falls None = omega arith
-tree_falls (Some held) = omega (arith, length-append held.value.left.entries (entry_of held.value.entry ∷ held.value.right.entries))
+tree_falls (Some held) =
+    omega (arith, length-append held.value.left.entries (entry_of held.value.entry ∷ held.value.right.entries))

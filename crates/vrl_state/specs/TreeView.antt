@@ -8,7 +8,11 @@ use Rattle.vrl_state.specs.declared.tree.Node.{Node}
 
 abbrev pub ordered_of : Option (Rc Node Global) → Ordered
 ordered_of None = record { entries = []; height = 0 }
-ordered_of (Some held) = record { entries = held.value.left.entries ++ entry_of held.value.entry ∷ held.value.right.entries; height = held.value.height }
+ordered_of (Some held) = record {
+  entries = held.value.left.entries ++ entry_of held.value.entry
+      ∷ held.value.right.entries;
+  height = held.value.height;
+}
 
 -- the names rise, the height is right, and the sides differ by at most one
 abbrev pub IsBalanced : Option (Rc Node Global) → Type 0

@@ -63,8 +63,8 @@ pub(crate) fn leave(
     Ok(())
 }
 
-// Drops the variables that were not known where a scope began, and gives hidden names their kinds back.
-// `Memory`: want of memory; what is known stays as it was.
+// Drops the variables that were not known where a scope began, and gives hidden names their kinds
+// back. `Memory`: want of memory; what is known stays as it was.
 fn leave_scope(
     alloc: Global,
     known: &mut Option<KnownRoots>,
@@ -81,8 +81,8 @@ fn leave_scope(
     }
 }
 
-// Gives a name the kind of what is bound to it, and hides what was known of it. `Memory`: want of memory; nothing
-// is changed.
+// Gives a name the kind of what is bound to it, and hides what was known of it. `Memory`: want of
+// memory; nothing is changed.
 pub(crate) fn hide(
     alloc: Global,
     known: &mut Option<KnownRoots>,
@@ -121,7 +121,8 @@ fn hidden(
 // Gives a name the kind of what is bound to it, cut, unless the state is dead.
 fn bind(alloc: Global, known: &mut Option<KnownRoots>, name: &str, new: &Kind) -> Result<(), Memory>
     requires { IsPresent new.now }
-    ensures bound { OnOk result ((kind : KindTree) × IsCut new.now kind × (known.new ≡ option_map (with_kind (Name name.now) kind) known.old)) }
+    ensures bound { OnOk result
+        ((kind : KindTree) × IsCut new.now kind × (known.new ≡ option_map (with_kind (Name name.now) kind) known.old)) }
     ensures err { OnErr result (known.new ≡ known.old) }
 {
     kind_is_canonical(new);

@@ -50,13 +50,14 @@ impl Branch {
         Mark { state: self.state }
     }
 
-    /// Joins another branch to this one: what is known on either way. Kinds are joined and cut, those of
-    /// hidden names too, a variable that only one of them knows is dropped, and a dead branch gives the other.
-    /// `Memory`: want of memory; the branch stays as it was.
+    /// Joins another branch to this one: what is known on either way. Kinds are joined and cut,
+    /// those of hidden names too, a variable that only one of them knows is dropped, and a dead
+    /// branch gives the other. `Memory`: want of memory; the branch stays as it was.
     pub fn join(&mut self, other: &Branch) -> Result<(), Memory>
         requires { HaveSameScopes self.old other.now }
         ensures known { OnOk result (IsJoined self.old.known other.now.known self.new.known) }
-        ensures hidden { OnOk result (AreScopesJoined self.old.known other.now.known self.old.scopes other.now.scopes self.new.scopes) }
+        ensures hidden { OnOk result
+            (AreScopesJoined self.old.known other.now.known self.old.scopes other.now.scopes self.new.scopes) }
         ensures scopes { self.old.scopes ≡ other.now.scopes → self.new.scopes ≡ self.old.scopes }
         ensures first { OnOk result ((store : Store) → Fits store self.old → Fits store self.new) }
         ensures second { OnOk result ((store : Store) → Fits store other.now → Fits store self.new) }
@@ -66,20 +67,23 @@ impl Branch {
         Ok(())
     }
 
-    /// Ends the innermost scope: the variables that were not known where it began are dropped, and hidden
-    /// names have their kinds back. `Memory`: want of memory; the branch stays as it was.
+    /// Ends the innermost scope: the variables that were not known where it began are dropped, and
+    /// hidden names have their kinds back. `Memory`: want of memory; the branch stays as it was.
     pub fn leave(&mut self) -> Result<(), Memory>
         requires { self.old.scopes ≢ [] }
         ensures left { OnOk result (IsLeft self.old self.new) }
-        ensures fits { OnOk result ((scope : Scope) (names : List (List ℕ)) (before after : Store) → self.old.scopes ≡ scope ∷ self.new.scopes
-            → HidesOf scope names → HoldsNames before scope → Fits after self.old → Fits (store_back names before after) self.new) }
+        ensures fits { OnOk result
+            ((scope : Scope) (names : List (List ℕ)) (before after : Store) → self.old.scopes ≡ scope ∷ self.new.scopes
+            → HidesOf scope names → HoldsNames before scope → Fits after self.old
+            → Fits (store_back names before after) self.new) }
         ensures err { OnErr result (self.new ≡ self.old) }
     {
         self.state.leave()?;
         Ok(())
     }
 
-    /// What is known at the end of the branch: each kind is cut, and never allows absent. `Memory`: want of memory.
+    /// What is known at the end of the branch: each kind is cut, and never allows absent. `Memory`:
+    /// want of memory.
     pub fn known(&self) -> Result<Known, Memory>
         ensures known { IfOk result (λ known. known ≡ known_as self.now.known) }
         ensures kinds { IfOk result HaveRootKinds }

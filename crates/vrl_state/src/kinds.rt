@@ -77,7 +77,8 @@ fn either(alloc: Global, a: &Kind, b: &Kind) -> Result<Rc<Kind>, Memory>
     cut(alloc, joined)
 }
 
-// The kind of what is of either of two roots' kinds. `None`: it is the first one. `Memory`: want of memory.
+// The kind of what is of either of two roots' kinds. `None`: it is the first one. `Memory`: want of
+// memory.
 pub(crate) fn other_either(
     alloc: Global,
     a: &Rc<Kind>,
@@ -85,7 +86,8 @@ pub(crate) fn other_either(
 ) -> Result<Option<Rc<Kind>>, Memory>
     requires first { IsRootKind a.now.value }
     requires second { IsRootKind b.now.value }
-    ensures { IfOk result (λ kind. IsEither a.now.value b.now.value (unwrap_or (option_map (λ kind. kind.value) kind) a.now.value)) }
+    ensures { IfOk result
+        (λ kind. IsEither a.now.value b.now.value (unwrap_or (option_map (λ kind. kind.value) kind) a.now.value)) }
 {
     if within(b, a) {
         return Ok(None);
@@ -141,7 +143,8 @@ pub(crate) fn taken_out(alloc: Global, kind: &Rc<Kind>, path: &Path) -> Result<R
     share(alloc, own)
 }
 
-// Writes a kind at a path of another, which is then cut. `Memory`: want of memory; the kind stays as it was.
+// Writes a kind at a path of another, which is then cut. `Memory`: want of memory; the kind stays
+// as it was.
 fn write_cut(alloc: Global, kind: &mut Kind, path: &Path, new: &Kind) -> Result<(), Memory>
     requires { IsWritable path.now }
     ensures ok { OnOk result (IsCutOf (write (tags_at kind.old) path.now (tags_at new.now)) kind.new) }
@@ -154,7 +157,8 @@ fn write_cut(alloc: Global, kind: &mut Kind, path: &Path, new: &Kind) -> Result<
     Ok(())
 }
 
-// Takes out what stands at a path of a kind, which is then cut. `Memory`: want of memory; the kind stays as it was.
+// Takes out what stands at a path of a kind, which is then cut. `Memory`: want of memory; the kind
+// stays as it was.
 fn take_out(alloc: Global, kind: &mut Kind, path: &Path) -> Result<(), Memory>
     requires { IsPlain path.now }
     ensures ok { OnOk result (IsCutOf (remove (tags_at kind.old) path.now) kind.new) }
@@ -166,8 +170,8 @@ fn take_out(alloc: Global, kind: &mut Kind, path: &Path) -> Result<(), Memory>
     Ok(())
 }
 
-// Writes a kind at a path of a shared one, which is then cut: in its place where nobody else has it. `Memory`: want
-// of memory; the kind stays as it was.
+// Writes a kind at a path of a shared one, which is then cut: in its place where nobody else has
+// it. `Memory`: want of memory; the kind stays as it was.
 pub(crate) fn write_shared(
     alloc: Global,
     kind: &mut Rc<Kind>,
@@ -188,8 +192,8 @@ pub(crate) fn write_shared(
     }
 }
 
-// Takes out what stands at a path of a shared kind, which is then cut: in its place where nobody else has it. `Memory`:
-// want of memory; the kind stays as it was.
+// Takes out what stands at a path of a shared kind, which is then cut: in its place where nobody
+// else has it. `Memory`: want of memory; the kind stays as it was.
 pub(crate) fn take_out_shared(alloc: Global, kind: &mut Rc<Kind>, path: &Path) -> Result<(), Memory>
     requires { IsPlain path.now }
     ensures ok { OnOk result (IsCutOf (remove (tags_at kind.old.value) path.now) kind.new.value) }

@@ -27,8 +27,8 @@ pub struct RootKind {
     pub kind: Kind,
 }
 
-/// Roots with their kinds: the event first, then each variable once, by the bytes of its name, and no kind that
-/// allows absent. A contract sees their list.
+/// Roots with their kinds: the event first, then each variable once, by the bytes of its name, and
+/// no kind that allows absent. A contract sees their list.
 #[derive(Drop)]
 pub struct RootKinds {
     roots: Vec<RootKind>,
@@ -61,8 +61,8 @@ impl RootKinds {
         RootKinds { roots }
     }
 
-    /// Whether these are roots that [`RootKinds::new`] takes: the event first, then variables whose names rise by
-    /// their bytes, and no kind that allows absent. It takes no memory.
+    /// Whether these are roots that [`RootKinds::new`] takes: the event first, then variables whose
+    /// names rise by their bytes, and no kind that allows absent. It takes no memory.
     pub fn may_hold(roots: &[RootKind]) -> bool
         ensures { IsTrue result ↔ IsRootList roots.now }
     {
@@ -75,8 +75,8 @@ impl RootKinds {
         are_present(roots)
     }
 
-    /// The event is listed first, then each variable once, by the bytes of its name, and no kind allows absent.
-    /// It takes no memory and no time: it is a law of the type.
+    /// The event is listed first, then each variable once, by the bytes of its name, and no kind
+    /// allows absent. It takes no memory and no time: it is a law of the type.
     pub fn are_listed(&self)
         ensures { IsRootList self.now }
     {
@@ -144,7 +144,8 @@ fn are_rising_from(root: &Root, roots: &[RootKind]) -> bool
     true
 }
 
-// Whether a root comes before another: the event before each variable, and variables by the bytes of their names.
+// Whether a root comes before another: the event before each variable, and variables by the bytes
+// of their names.
 fn is_before(first: &Root, second: &Root) -> bool
     ensures { result ≡ lists.is_before first.now second.now }
 {

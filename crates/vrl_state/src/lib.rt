@@ -1,12 +1,15 @@
-//! What a script's judgement knows at a place: the kinds of the event and of the variables, and the blocks
-//! that are open.
+//! What a script's judgement knows at a place: the kinds of the event and of the variables, and the
+//! blocks that are open.
 //!
-//! A contract sees a [`State`] as dead, or as a map from roots to kinds, with the list of its scopes.
+//! A contract sees a [`State`] as dead, or as a map from roots to kinds, with the list of its
+//! scopes.
 //!
-//! Files: `state.rt` has the calls, `blocks.rt` what those do that begin and end scopes, and `branch.rt` what marks and branches are. What they know is in
-//! `roots.rt` (of each root), `variables.rt` (of the variables) and `scopes.rt` (the scopes that are open), as versions that share what they have in
-//! common: `tree.rt` has the ordered tree that a version is, and `walks.rt` what goes over its entries. `kinds.rt` makes kinds that are cut. `known.rt`
-//! tells what is known as a list, and `laws.rt` that stores go on fitting what is known.
+//! Files: `state.rt` has the calls, `blocks.rt` what those do that begin and end scopes, and
+//! `branch.rt` what marks and branches are. What they know is in `roots.rt` (of each root),
+//! `variables.rt` (of the variables) and `scopes.rt` (the scopes that are open), as versions that
+//! share what they have in common: `tree.rt` has the ordered tree that a version is, and `walks.rt`
+//! what goes over its entries. `kinds.rt` makes kinds that are cut. `known.rt` tells what is known
+//! as a list, and `laws.rt` that stores go on fitting what is known.
 #![tactic(auto)]
 
 mod blocks;

@@ -83,7 +83,8 @@ impl KnownRoots {
         Ok(known)
     }
 
-    // Gives a root the kind that it is listed with, cut. `Memory`: want of memory; the kinds stay as they were.
+    // Gives a root the kind that it is listed with, cut. `Memory`: want of memory; the kinds stay
+    // as they were.
     fn set(&mut self, alloc: Global, listed: &RootKind) -> Result<(), Memory>
         requires { IsPresent listed.now.kind }
         ensures { OnOk result ((kind : KindTree) × IsCut listed.now.kind kind
@@ -141,7 +142,9 @@ impl KnownRoots {
         new: &Kind,
     ) -> Result<Rc<Kind>, Memory>
         requires { IsWritable path.now }
-        ensures { IfOk result (λ after. IsCutOf (write (tags_at (written_from (kind_of root.now self.now))) path.now (tags_at new.now)) after.value) }
+        ensures { IfOk result
+            (λ after. IsCutOf
+            (write (tags_at (written_from (kind_of root.now self.now))) path.now (tags_at new.now)) after.value) }
     {
         match self.kind(root) {
             Some(kind) => written(alloc, kind, path, new),
@@ -211,8 +214,8 @@ impl KnownRoots {
         Ok(())
     }
 
-    // Takes out what stands at a path; a root that is not known is passed over. `Memory`: want of memory; the
-    // kinds stay as they were.
+    // Takes out what stands at a path; a root that is not known is passed over. `Memory`: want of
+    // memory; the kinds stay as they were.
     pub(crate) fn remove(&mut self, alloc: Global, root: &Root, path: &Path) -> Result<(), Memory>
         requires { IsPlain path.now }
         ensures ok { OnOk result (IsTakenOut root.now path.now (Some self.old) (Some self.new)) }
@@ -279,8 +282,8 @@ impl KnownRoots {
         self.variables.within(&other.variables)
     }
 
-    // Drops the variables that were not known where a scope began, and gives the names that it hides their kinds
-    // back. `Memory`: want of memory; the kinds stay as they were.
+    // Drops the variables that were not known where a scope began, and gives the names that it
+    // hides their kinds back. `Memory`: want of memory; the kinds stay as they were.
     pub(crate) fn leave(
         &mut self,
         alloc: Global,
@@ -304,8 +307,8 @@ impl KnownRoots {
         self.variables.copy()
     }
 
-    // These, where each of the roots that is known has its outer tags alone, with every value inside. `Memory`:
-    // want of memory.
+    // These, where each of the roots that is known has its outer tags alone, with every value
+    // inside. `Memory`: want of memory.
     pub(crate) fn flattened_at(&self, alloc: Global, roots: &[Root]) -> Result<KnownRoots, Memory>
         ensures { IfOk result (λ turned. IsFlattened roots.now (Some self.now) (Some turned)) }
     {
@@ -330,7 +333,8 @@ impl KnownRoots {
         }
     }
 
-    // These, where each of the roots that is known has the kind of every value. `Memory`: want of memory.
+    // These, where each of the roots that is known has the kind of every value. `Memory`: want of
+    // memory.
     pub(crate) fn forgotten_at(&self, alloc: Global, roots: &[Root]) -> Result<KnownRoots, Memory>
         ensures { IfOk result (λ left. IsForgotten roots.now (Some self.now) (Some left)) }
     {
@@ -355,7 +359,8 @@ impl KnownRoots {
         }
     }
 
-    // Gives a name the kind of what is bound to it. `Memory`: want of memory; the kinds stay as they were.
+    // Gives a name the kind of what is bound to it. `Memory`: want of memory; the kinds stay as
+    // they were.
     pub(crate) fn bind(&mut self, alloc: Global, name: &str, kind: Rc<Kind>) -> Result<(), Memory>
         requires { IsRootKind kind.value }
         ensures ok { OnOk result (self.new ≡ with_kind (Name name.now) kind.value self.old) }
@@ -372,8 +377,8 @@ impl KnownRoots {
         let _event = &self.event;
     }
 
-    // The event and its kind, then each variable with its kind, by the bytes of the names. `Memory`: want of
-    // memory.
+    // The event and its kind, then each variable with its kind, by the bytes of the names.
+    // `Memory`: want of memory.
     pub(crate) fn list(&self, alloc: Global) -> Result<RootKinds, Memory>
         ensures { IfOk result (λ list. list ≡ root_kinds self.now) }
     {

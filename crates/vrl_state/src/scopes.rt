@@ -26,8 +26,8 @@ impl Drop for Scopes {
     }
 }
 
-/// A scope that is open: the version of the variables where it began, the names that it hides with the kinds
-/// that they get back, and the scopes around it.
+/// A scope that is open: the version of the variables where it began, the names that it hides with
+/// the kinds that they get back, and the scopes around it.
 #[cycle(scopes)]
 #[derive(Drop)]
 pub(crate) struct OpenScope {
@@ -88,8 +88,8 @@ impl Scopes {
         }
     }
 
-    // The scopes, of which the innermost hides a name of this kind, where it knows the name and doesn't hide it yet.
-    // `Memory`: want of memory.
+    // The scopes, of which the innermost hides a name of this kind, where it knows the name and
+    // doesn't hide it yet. `Memory`: want of memory.
     pub(crate) fn hiding(
         &self,
         alloc: Global,
@@ -97,7 +97,8 @@ impl Scopes {
         kind: Option<&Rc<Kind>>,
     ) -> Result<Scopes, Memory>
         requires { IsRootKindIf (option_map (λ kind. kind.now.value) kind) }
-        ensures { IfOk result (λ scopes. IsHiding name.now (option_map (λ kind. kind.now.value) kind.entry) self.now scopes) }
+        ensures { IfOk result
+            (λ scopes. IsHiding name.now (option_map (λ kind. kind.now.value) kind.entry) self.now scopes) }
     {
         match &self.innermost {
             None => Ok(Scopes::new()),
@@ -120,8 +121,8 @@ impl Scopes {
     }
 }
 
-// A scope within others that knows these names, and hides those of two sides with the kind of either. `Memory`:
-// want of memory.
+// A scope within others that knows these names, and hides those of two sides with the kind of
+// either. `Memory`: want of memory.
 fn joined_scope(
     alloc: Global,
     known: &VariableKinds,
@@ -167,7 +168,9 @@ fn hide_in(
 ) -> Result<Scopes, Memory>
     requires kind { IsRootKindIf (option_map (λ kind. kind.now.value) kind) }
     requires hidden { (x : List ℕ) → IsRootKindIf (finite.get scope.now.hidden x) }
-    ensures { IfOk result (λ scopes. scopes ≡ hiding name.now (option_map (λ kind. kind.now.value) kind.entry) (scope_of scope.now.known scope.now.hidden) ∷ scope.now.outer) }
+    ensures { IfOk result
+        (λ scopes. scopes ≡ hiding name.now (option_map (λ kind. kind.now.value) kind.entry)
+        (scope_of scope.now.known scope.now.hidden) ∷ scope.now.outer) }
 {
     let Some(kind) = kind else {
         return open(alloc, &scope.known, &scope.hidden, &scope.outer);

@@ -27,8 +27,9 @@ use vrl_path::Path;
 use vrl_syntax::{Root, Roots};
 use vrl_value::{Chars, Memory};
 
-/// What is known at a place of a script: the kinds of the event and of the variables, and the blocks that are
-/// open there; or that no way leads there, which is a dead state. Each kind is cut, and none allows absent.
+/// What is known at a place of a script: the kinds of the event and of the variables, and the
+/// blocks that are open there; or that no way leads there, which is a dead state. Each kind is cut,
+/// and none allows absent.
 pub struct State {
     alloc: Global,
     known: Option<KnownRoots>,
@@ -58,8 +59,8 @@ impl Model for State {
 }
 
 impl State {
-    /// The state at the start of a script whose event is of this kind: the kind is cut, no variable is known,
-    /// and no block is open. `Memory`: want of memory.
+    /// The state at the start of a script whose event is of this kind: the kind is cut, no variable
+    /// is known, and no block is open. `Memory`: want of memory.
     pub fn start(alloc: Global, event: &Kind) -> Result<State, Memory>
         requires { IsPresent event.now }
         ensures state { IfOk result (λ state. IsStart event.now state) }
@@ -74,7 +75,8 @@ impl State {
         })
     }
 
-    /// The kind of a root. `None`: the state is dead, or does not know the variable. It takes no memory.
+    /// The kind of a root. `None`: the state is dead, or does not know the variable. It takes no
+    /// memory.
     pub fn kind(&self, root: &Root) -> Option<&Kind>
         ensures kind { option_map (λ kind. kind.now) result ≡ kind_in root.now self.now.known }
         ensures root { IfSome result (λ kind. IsRootKind kind.now) }
@@ -88,8 +90,8 @@ impl State {
         }
     }
 
-    /// The kind of a root, shared with the state. `None`: the state is dead, or does not know the variable.
-    /// `Memory`: want of memory.
+    /// The kind of a root, shared with the state. `None`: the state is dead, or does not know the
+    /// variable. `Memory`: want of memory.
     pub fn shared(&self, root: &Root) -> Result<Option<Rc<Kind>>, Memory>
         ensures kind { IfOk result (λ kind. option_map (λ kind. kind.value) kind ≡ kind_in root.now self.now.known) }
         ensures root { IfOk result (λ kind. IfSome kind (λ kind. IsRootKind kind.value)) }
@@ -117,16 +119,18 @@ impl State {
         self.known = None;
     }
 
-    /// Writes a kind at a path of a root, which then has the kind of what stands there, cut. A variable that
-    /// is not known may hold any value, from a way that a join dropped, so a write to it starts from `any`. A
-    /// whole root shares the kind with whoever has it, and the event's kind is changed in its place where
-    /// nobody else does. `Memory`: want of memory; the state stays as it was.
+    /// Writes a kind at a path of a root, which then has the kind of what stands there, cut. A
+    /// variable that is not known may hold any value, from a way that a join dropped, so a write to
+    /// it starts from `any`. A whole root shares the kind with whoever has it, and the event's kind
+    /// is changed in its place where nobody else does. `Memory`: want of memory; the state stays as
+    /// it was.
     pub fn assign(&mut self, root: &Root, path: &Path, new: &Rc<Kind>) -> Result<(), Memory>
         requires writable { IsWritable path.now }
         requires present { IsPresent new.now.value }
         ensures written { OnOk result (IsWritten root.now path.now new.now.value self.old.known self.new.known) }
         ensures scopes { self.new.scopes ≡ self.old.scopes }
-        ensures fits { OnOk result ((value : Tree) (before after : Store) → Fits before self.old → Inhabits value new.now.value
+        ensures fits { OnOk result
+            ((value : Tree) (before after : Store) → Fits before self.old → Inhabits value new.now.value
             → IsStoreWritten root.now path.now value before after → Fits after self.new) }
         ensures err { OnErr result (self.new ≡ self.old) }
     {
@@ -135,8 +139,8 @@ impl State {
         Ok(())
     }
 
-    /// Takes out what stands at a path of a root, whose kind is then cut; a root that is not known is passed
-    /// over. `Memory`: want of memory; the state stays as it was.
+    /// Takes out what stands at a path of a root, whose kind is then cut; a root that is not known
+    /// is passed over. `Memory`: want of memory; the state stays as it was.
     pub fn remove(&mut self, root: &Root, path: &Path) -> Result<(), Memory>
         requires { IsPlain path.now }
         ensures removed { OnOk result (IsTakenOut root.now path.now self.old.known self.new.known) }
@@ -150,8 +154,9 @@ impl State {
         Ok(())
     }
 
-    /// Gives each of these roots that is known its outer tags alone, with every value inside its arrays and objects;
-    /// roots that are not known are passed over. `Memory`: want of memory; the state stays as it was.
+    /// Gives each of these roots that is known its outer tags alone, with every value inside its
+    /// arrays and objects; roots that are not known are passed over. `Memory`: want of memory; the
+    /// state stays as it was.
     pub fn flatten(&mut self, roots: &Roots) -> Result<(), Memory>
         ensures flat { OnOk result (IsFlattened roots.now self.old.known self.new.known) }
         ensures scopes { self.new.scopes ≡ self.old.scopes }
@@ -163,8 +168,8 @@ impl State {
         Ok(())
     }
 
-    /// Gives each of these roots that is known the kind of every value; roots that are not known are passed over.
-    /// `Memory`: want of memory; the state stays as it was.
+    /// Gives each of these roots that is known the kind of every value; roots that are not known
+    /// are passed over. `Memory`: want of memory; the state stays as it was.
     pub fn forget(&mut self, roots: &Roots) -> Result<(), Memory>
         ensures forgotten { OnOk result (IsForgotten roots.now self.old.known self.new.known) }
         ensures scopes { self.new.scopes ≡ self.old.scopes }
@@ -176,8 +181,8 @@ impl State {
         Ok(())
     }
 
-    /// Gives a closure's name its kind, cut, in the innermost scope, which hides what was known of a variable of that
-    /// name. `Memory`: want of memory; the state stays as it was.
+    /// Gives a closure's name its kind, cut, in the innermost scope, which hides what was known of
+    /// a variable of that name. `Memory`: want of memory; the state stays as it was.
     pub fn hide(&mut self, name: &Chars, new: &Kind) -> Result<(), Memory>
         requires entered { self.old.scopes ≢ [] }
         requires present { IsPresent new.now }
@@ -192,13 +197,14 @@ impl State {
         Ok(())
     }
 
-    /// Joins a branch to the state: what is known on either way. Kinds are joined and cut, those of hidden
-    /// names too, a variable that only one of them knows is dropped, and a dead side gives the other.
-    /// `Memory`: want of memory; the state stays as it was.
+    /// Joins a branch to the state: what is known on either way. Kinds are joined and cut, those of
+    /// hidden names too, a variable that only one of them knows is dropped, and a dead side gives
+    /// the other. `Memory`: want of memory; the state stays as it was.
     pub fn join(&mut self, other: &Branch) -> Result<(), Memory>
         requires { HaveSameScopes self.old other.now }
         ensures known { OnOk result (IsJoined self.old.known other.now.known self.new.known) }
-        ensures hidden { OnOk result (AreScopesJoined self.old.known other.now.known self.old.scopes other.now.scopes self.new.scopes) }
+        ensures hidden { OnOk result
+            (AreScopesJoined self.old.known other.now.known self.old.scopes other.now.scopes self.new.scopes) }
         ensures scopes { self.old.scopes ≡ other.now.scopes → self.new.scopes ≡ self.old.scopes }
         ensures first { OnOk result ((store : Store) → Fits store self.old → Fits store self.new) }
         ensures second { OnOk result ((store : Store) → Fits store other.now → Fits store self.new) }
@@ -214,9 +220,9 @@ impl State {
         Ok(())
     }
 
-    /// Takes over what a list tells: the state becomes dead, or knows the roots that are listed, each with its
-    /// kind, cut, and no others. The blocks stay open. A dead one takes no memory. `Memory`: want of memory; the
-    /// state stays as it was.
+    /// Takes over what a list tells: the state becomes dead, or knows the roots that are listed,
+    /// each with its kind, cut, and no others. The blocks stay open. A dead one takes no memory.
+    /// `Memory`: want of memory; the state stays as it was.
     pub fn replace(&mut self, known: &Known) -> Result<(), Memory>
         ensures replaced { OnOk result (IsReplaced known.now self.new.known) }
         ensures scopes { self.new.scopes ≡ self.old.scopes }
@@ -239,13 +245,15 @@ impl State {
         enter(self.alloc, &self.known, &mut self.scopes)
     }
 
-    /// Ends the innermost scope: the variables that were not known where it began are dropped, and hidden
-    /// names have their kinds back. `Memory`: want of memory; the state stays as it was.
+    /// Ends the innermost scope: the variables that were not known where it began are dropped, and
+    /// hidden names have their kinds back. `Memory`: want of memory; the state stays as it was.
     pub fn leave(&mut self) -> Result<(), Memory>
         requires { self.old.scopes ≢ [] }
         ensures left { OnOk result (IsLeft self.old self.new) }
-        ensures fits { OnOk result ((scope : Scope) (names : List (List ℕ)) (before after : Store) → self.old.scopes ≡ scope ∷ self.new.scopes
-            → HidesOf scope names → HoldsNames before scope → Fits after self.old → Fits (store_back names before after) self.new) }
+        ensures fits { OnOk result
+            ((scope : Scope) (names : List (List ℕ)) (before after : Store) → self.old.scopes ≡ scope ∷ self.new.scopes
+            → HidesOf scope names → HoldsNames before scope → Fits after self.old
+            → Fits (store_back names before after) self.new) }
         ensures err { OnErr result (self.new ≡ self.old) }
     {
         blocks_keep_fits();
@@ -263,8 +271,8 @@ impl State {
         })
     }
 
-    /// Goes back to a state that was marked, with its blocks, and gives the state that was left. It takes no
-    /// memory.
+    /// Goes back to a state that was marked, with its blocks, and gives the state that was left. It
+    /// takes no memory.
     pub fn back(&mut self, mark: Mark) -> Branch
         ensures state { self.new ≡ mark }
         ensures branch { result ≡ self.old }
@@ -274,8 +282,8 @@ impl State {
         }
     }
 
-    /// Whether the state knows each root that a branch knows, with a kind within that one's; a dead state is
-    /// within each. It takes no memory.
+    /// Whether the state knows each root that a branch knows, with a kind within that one's; a dead
+    /// state is within each. It takes no memory.
     pub fn within(&self, other: &Branch) -> bool
         requires { HaveSameScopes self.now other.now }
         ensures { IsTrue result ↔ IsKnownWithin self.now.known other.now.known }
@@ -283,7 +291,8 @@ impl State {
         known_within(&self.known, &other.state.known)
     }
 
-    /// Each kind that is known is one of a root. It takes no memory and no time: it is a law of the type.
+    /// Each kind that is known is one of a root. It takes no memory and no time: it is a law of the
+    /// type.
     pub fn have_root_kinds(&self)
         ensures { IfSome self.now.known HasRootKinds }
     {
@@ -402,7 +411,8 @@ fn listed(alloc: Global, known: &Known) -> Result<Option<KnownRoots>, Memory>
     }
 }
 
-// The scopes of what is known on either way; a dead side gives the other's. `Memory`: want of memory.
+// The scopes of what is known on either way; a dead side gives the other's. `Memory`: want of
+// memory.
 fn joined_scopes(alloc: Global, a: &State, b: &State) -> Result<Scopes, Memory>
     requires { HaveSameScopes a.now b.now }
     ensures { IfOk result (λ scopes. AreScopesJoined a.now.known b.now.known a.now.scopes b.now.scopes scopes) }

@@ -22,8 +22,8 @@ impl Drop for Entry {
     }
 }
 
-/// A version of an ordered tree of names, each with its kind. Nodes are shared with other versions, and never
-/// written after they were made; the heights of a node's sides differ by at most one.
+/// A version of an ordered tree of names, each with its kind. Nodes are shared with other versions,
+/// and never written after they were made; the heights of a node's sides differ by at most one.
 #[cycle(tree)]
 pub(crate) struct NameTree {
     pub(crate) node: Option<Rc<Node>>,

@@ -65,7 +65,8 @@ impl VariableKinds {
         self.get(name).is_some()
     }
 
-    // Gives the variable of a name this kind. `Memory`: want of memory; the kinds stay as they were.
+    // Gives the variable of a name this kind. `Memory`: want of memory; the kinds stay as they
+    // were.
     pub(crate) fn insert(&mut self, alloc: Global, name: &str, kind: Rc<Kind>) -> Result<(), Memory>
         ensures ok { OnOk result (self.new ≡ map.insert self.old name.now kind.value) }
         ensures err { OnErr result (self.new ≡ self.old) }
@@ -100,7 +101,8 @@ impl VariableKinds {
         Ok(VariableKinds { tree })
     }
 
-    // The variables that both sides know, each with the kind of either side. `Memory`: want of memory.
+    // The variables that both sides know, each with the kind of either side. `Memory`: want of
+    // memory.
     pub(crate) fn joined(
         &self,
         alloc: Global,
@@ -108,7 +110,8 @@ impl VariableKinds {
     ) -> Result<VariableKinds, Memory>
         requires first { (x : List ℕ) → IsRootKindIf (map.get self.now x) }
         requires second { (x : List ℕ) → IsRootKindIf (map.get other.now x) }
-        ensures { IfOk result (λ joined. (x : List ℕ) → IsEitherVariable (map.get self.now x) (map.get other.now x) (map.get joined x)) }
+        ensures { IfOk result
+            (λ joined. (x : List ℕ) → IsEitherVariable (map.get self.now x) (map.get other.now x) (map.get joined x)) }
     {
         let mut tree = self.tree.copy()?;
         self.tree.join_into(alloc, &other.tree, &mut tree)?;
@@ -147,8 +150,8 @@ impl VariableKinds {
         Ok(VariableKinds { tree })
     }
 
-    // Puts each variable with a copy of its kind behind others, by the bytes of the names. `Memory`: want of
-    // memory.
+    // Puts each variable with a copy of its kind behind others, by the bytes of the names.
+    // `Memory`: want of memory.
     pub(crate) fn add_to(&self, alloc: Global, roots: &mut Vec<RootKind>) -> Result<(), Memory>
         ensures { OnOk result (roots.new.items ≡ roots.old.items ++ variable_kinds self.now) }
     {

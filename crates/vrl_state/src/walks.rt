@@ -28,7 +28,8 @@ struct Around<'a> {
 }
 
 impl NameTree {
-    // Puts each name with a copy of its kind behind others, by the bytes of the names. `Memory`: want of memory.
+    // Puts each name with a copy of its kind behind others, by the bytes of the names. `Memory`:
+    // want of memory.
     pub(crate) fn add_to(&self, alloc: Global, roots: &mut Vec<RootKind>) -> Result<(), Memory>
         ensures { OnOk result (roots.new.items ≡ roots.old.items ++ map variable_kind self.now.entries) }
     {
@@ -43,7 +44,8 @@ impl NameTree {
 
     // Whether others know each name of these, with a kind within the one here.
     pub(crate) fn is_over(&self, others: &NameTree) -> bool
-        ensures { IsTrue result ↔ ((x : List ℕ) → IsVariableWithin (found x others.now.entries) (found x self.now.entries)) }
+        ensures { IsTrue result ↔
+            ((x : List ℕ) → IsVariableWithin (found x others.now.entries) (found x self.now.entries)) }
     {
         let Some(node) = &self.node else {
             return true;
@@ -58,7 +60,8 @@ impl NameTree {
         node.right.is_over(near.behind)
     }
 
-    // Joins a part of a version to others. `joined` begins as the whole version. `Memory`: want of memory.
+    // Joins a part of a version to others. `joined` begins as the whole version. `Memory`: want of
+    // memory.
     pub(crate) fn join_into(
         &self,
         alloc: Global,
@@ -80,8 +83,8 @@ impl NameTree {
         Ok(())
     }
 
-    // Takes the names of a part of a version that aren't among these names out of it. `kept` begins as the whole
-    // version. `Memory`: want of memory.
+    // Takes the names of a part of a version that aren't among these names out of it. `kept` begins
+    // as the whole version. `Memory`: want of memory.
     pub(crate) fn keep_into(
         &self,
         alloc: Global,
@@ -101,8 +104,9 @@ impl NameTree {
         Ok(())
     }
 
-    // What stands at a name, and on both sides of it: those of the root that has the name, else the whole. Versions that
-    // were made of one another mostly have the same name there, which one test of equality tells.
+    // What stands at a name, and on both sides of it: those of the root that has the name, else the
+    // whole. Versions that were made of one another mostly have the same name there, which one test
+    // of equality tells.
     fn around(&self, name: &str) -> Around<'_>
         ensures before { IsBeside Less name.now result.before.now.entries self.now.entries }
         ensures kind { option_map (λ kind. kind.now.value) result.kind ≡ found name.now self.now.entries }
@@ -183,7 +187,9 @@ fn join_entry(
     requires kind { IsRootKind entry.now.kind.value }
     requires other { IsRootKindIf (option_map (λ kind. kind.now.value) other) }
     requires part { found (entry_of entry.now).0 joined.old.entries ≡ Some entry.now.kind.value }
-    ensures { OnOk result (IsJoinedAt (entry_of entry.now) (option_map (λ kind. kind.now.value) other.entry) joined.old.entries joined.new.entries) }
+    ensures { OnOk result
+        (IsJoinedAt (entry_of entry.now)
+        (option_map (λ kind. kind.now.value) other.entry) joined.old.entries joined.new.entries) }
 {
     match other {
         None => {
