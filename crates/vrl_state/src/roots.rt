@@ -83,8 +83,7 @@ impl KnownRoots {
         Ok(known)
     }
 
-    // Gives a root the kind that it is listed with, cut. `Memory`: want of memory; the kinds stay
-    // as they were.
+    // Gives a root the kind that it is listed with, cut. `Memory`: want of memory.
     fn set(&mut self, alloc: Global, listed: &RootKind) -> Result<(), Memory>
         requires { IsPresent listed.now.kind }
         ensures { OnOk result ((kind : KindTree) × IsCut listed.now.kind kind
