@@ -1,5 +1,6 @@
 pub mod Accepting
 pub mod AnswerLemmas
+pub mod Asking
 pub mod Calls
 pub mod Loads
 pub mod OneAnswer

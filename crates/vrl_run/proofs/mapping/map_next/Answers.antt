@@ -10,7 +10,7 @@ use Rattle.vrl_run.proofs.mapping.map_next.Goals as goal
 
 pub returns-clause-batch : goal.returns-clause-batch
 returns-clause-batch g c =
-    let results = c.as_slice.ensures ∙ c.in-Ok-map_batch.ensures ∙ ap (λ f. map f c.in-Ok.batch) c.work-work.ensures in (
+    let results = c.as_slice.ensures ∙ c.in-Ok-map_batch.ensures.made ∙ ap (λ f. map f c.in-Ok.batch) c.work-work.ensures in (
       c.in-Ok.batch,
       record { read = c.in-Ok.ensures.batch; writes = wrote (run_of c.args.script.now) c.in-Ok.batch _ _ _ _ results c.in_ok-refused.ensures.written c.mark_if.ensures; within = c.in-Ok.ensures.within; ended = c.in-Ok.ensures.empty },
       tells_more c.in-Ok.batch _ (rw c.as_slice-2.ensures at c.is_empty.ensures),
