@@ -33,6 +33,9 @@ is_told_file held (Some name) = is_told held name
 no_texts : Texts
 no_texts = record { script = None; kind_file = None }
 
+abbrev texts_of : List ℕ → Option (List ℕ) → Texts
+texts_of script file = record { script = Some script; kind_file = file }
+
 -- words that are refused ask nothing else
 pub ready_words : (held : Held) (invocation : Option Invocation) (failures : List (List ℕ)) → invocation ≡ None → IsReady held invocation failures failures bad_words
 ready_words held invocation failures is =
@@ -43,16 +46,13 @@ ready_words held invocation failures is =
 pub ready_no_text : (held : Held) (i : Invocation) (script : List ℕ) (failures : List (List ℕ)) (request : Request) → IsLoaded held i.script (Some script) → IsNoScript script
     → AsksByScript i (told_file held i.kind) script request → IsReady held (Some i) failures failures request
 ready_no_text held i script failures request loaded none asks = record {
-  texts = texts;
+  texts = texts_of script (told_file held i.kind);
   are_texts = record { script = loaded; kind_file = is_told_file held i.kind };
   loaded = all;
   asks = asks;
   none_failed = refl;
 } where
-  abbrev texts : Texts
-  texts = record { script = Some script; kind_file = told_file held i.kind }
-
-  all : IsUnloaded i texts → ⊥
+  all : IsUnloaded i (texts_of script (told_file held i.kind)) → ⊥
   all (no_script missing) = absurd cc
   all (no_kind_file name text named same is_text missing) = let texts_are : script ≡ text = cc in is_text (subst IsNoScript texts_are none)
 
@@ -60,21 +60,18 @@ ready_no_text held i script failures request loaded none asks = record {
 pub ready_text : (held : Held) (i : Invocation) (script : List ℕ) (file : Option (List ℕ)) (failures failures_after : List (List ℕ)) (request : Request) → IsLoaded held i.script (Some script) → IsFileOf i.kind file
     → IfSome i.kind (λ name. IsLoaded held name file) → failures_after ≡ failures → AsksByScript i file script request → IsReady held (Some i) failures failures_after request
 ready_text held i script file failures failures_after request loaded is_file file_loaded same asks = record {
-  texts = texts;
+  texts = texts_of script file;
   are_texts = record { script = loaded; kind_file = file_loaded };
   loaded = all;
   asks = asks;
   none_failed = same;
 } where
-  abbrev texts : Texts
-  texts = record { script = Some script; kind_file = file }
-
   not_missing : (named : Option (List ℕ)) (file : Option (List ℕ)) (name : List ℕ) → IsFileOf named file → named ≡ Some name → file ≡ None → ⊥
   not_missing None file name is named missing = absurd cc
   not_missing (Some other) None name is named missing = is
   not_missing (Some other) (Some bytes) name is named missing = absurd cc
 
-  all : IsUnloaded i texts → ⊥
+  all : IsUnloaded i (texts_of script file) → ⊥
   all (no_script missing) = absurd cc
   all (no_kind_file name text named same_text is_text missing) = not_missing i.kind file name is_file named missing
 

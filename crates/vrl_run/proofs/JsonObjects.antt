@@ -91,7 +91,3 @@ no_field_known [] r empty is json = is ∙ sym json
 no_field_known (f ∷ fields) r empty is json =
     let some : (length (f ∷ fields) == 0) ≡ false = grind (arith, nat_tests) in
     is ∙ some
-
-pub another_rest : (fields : List KindField) (r : RestTree) → is_json_rest r ≡ false → are_json_objects (object_part (fields_view fields) r) ≡ false
-another_rest [] r other = other
-another_rest (f ∷ fields) r other = refl

@@ -17,7 +17,7 @@ use Rattle.vrl_io.specs.Faults.{HasRisen}
 use Rattle.vrl_run.specs.Answer.{line_results, outputs, reports, result_of, status_if, warnings_of}
 use Rattle.vrl_run.specs.Answered.{IsAnswered, IsAsked, IsCutOff}
 use Rattle.vrl_run.specs.Devices.{IsAskedAtMost, IsWithinLimit, devices}
-use Rattle.vrl_run.specs.Mapping.{EndsMapping, HasMapped, HasStopped, IsStill, MapsBatch, Run, TellsMore, WritesResults}
+use Rattle.vrl_run.specs.Mapping.{EndsMapping, HasMapped, HasStopped, IsStill, MapsBatch, Run, StopsMapping, TellsMore, WritesResults}
 use Rattle.vrl_run.specs.Request.{IsSame, MayCome, Request, ScriptRun, map_lines}
 use Rattle.vrl_run.specs.Status.{IsAnswer, IsInterrupted, meaning_of}
 use Rattle.vrl_run.specs.declared.status.Status.{Status}
@@ -76,6 +76,26 @@ wrote script batch results before after refused is written marked = record {
   report = subst (λ rs. Appends before.report after.report (reports rs)) is written.2;
   marked = marked ∙ ap (λ b. before.marked || b) (written.0 ∙ ap is_marked is);
 }
+
+-- or they were not all written
+pub stops_writing : (script : ScriptRun) (before after : Run) (results : List LineOut) (batch : List Line) (s : Status) → results ≡ map (result_of script) batch
+    → ReadsBatch before.stream after.stream batch → after.stream.reader.taken ≤ input_limit → (s ≡ WriteFault) ⊎ (s ≡ Memory)
+    → AppendsFront before.output after.output (outputs results) × AppendsFront before.report after.report (reports results)
+    → Appends before.output after.output (outputs results) ⊎ (after.report ≡ before.report)
+    → (s ≡ Memory → (after.output ≡ before.output) × (after.report ≡ before.report)) → StopsMapping script before after s
+stops_writing script before after results batch s is read within (inl fault) front order still =
+    subst (StopsMapping script before after) (sym fault)
+    (record {
+      batch = batch;
+      read = read;
+      within = within;
+      output = subst (λ rs. AppendsFront before.output after.output (outputs rs)) is front.0;
+      report = subst (λ rs. AppendsFront before.report after.report (reports rs)) is front.1;
+      order = subst (λ rs. Appends before.output after.output (outputs rs) ⊎ (after.report ≡ before.report)) is order;
+    })
+stops_writing script before after results batch s is read within (inr wanting) front order still =
+    let none = still wanting in
+    subst (StopsMapping script before after) (sym wanting) (within, record { output = none.0; report = none.1 })
 
 pub tells_more : (batch : List Line) (empty : Bool) → empty ≡ (length batch == 0) → TellsMore (not empty) batch
 tells_more [] empty is = subst (λ b. TellsMore (not b) []) (sym is) refl

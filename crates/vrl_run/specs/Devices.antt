@@ -61,14 +61,14 @@ pub record IsReadToEnd (input : List ℕ) (moments : ℕ → ℤ) (before after 
   pub in_range : (i : ℕ) → i < length (event_lines input) → IsInRange (moments i)
 
 -- The sinks hold what they held, and then these bytes.
-pub record HoldsBytes (output report : List ℕ) (before after : Devices) : Type 0 where
-  pub output : Appends before.output after.output output
-  pub report : Appends before.report after.report report
+pub record HoldsBytes (written reported : List ℕ) (before after : Devices) : Type 0 where
+  pub output : Appends before.output after.output written
+  pub report : Appends before.report after.report reported
 
 -- The sinks hold what they held, and then a front of these bytes.
-pub record HoldsFronts (output report : List ℕ) (before after : Devices) : Type 0 where
-  pub output : AppendsFront before.output after.output output
-  pub report : AppendsFront before.report after.report report
+pub record HoldsFronts (written reported : List ℕ) (before after : Devices) : Type 0 where
+  pub output : AppendsFront before.output after.output written
+  pub report : AppendsFront before.report after.report reported
 
 -- The status is that of the answer, and the sinks hold the whole of its bytes.
 pub record HoldsAnswer (answer : Answer) (status : Status) (before after : Devices) : Type 0 where

@@ -61,7 +61,7 @@ request_of (asked.Kind fault) = bad_kind fault
 request_of (asked.Refused text diagnostics) = bad_script text diagnostics
 request_of (asked.Run script) = map_lines (run_of script)
 request_of (asked.Generate script count seed) = map_made (run_of script) count seed
-request_of (asked.Check text warnings kind known) = tell_kinds text warnings kind known
+request_of (asked.Check text warnings K known) = tell_kinds text warnings K known
 
 -- a script that is to run handles each of its errors, and its regex literals have these sources
 pub record IsReadyScript (script : Script) : Type 0 where
@@ -75,7 +75,7 @@ IsReadyRequest (asked.Kind fault) = ⊤
 IsReadyRequest (asked.Refused text diagnostics) = ⊤
 IsReadyRequest (asked.Run script) = IsReadyScript script
 IsReadyRequest (asked.Generate script count seed) = IsReadyScript script × (count ≤ 1000000)
-IsReadyRequest (asked.Check text warnings kind known) = ⊤
+IsReadyRequest (asked.Check text warnings K known) = ⊤
 
 -- ---- what may come of it
 

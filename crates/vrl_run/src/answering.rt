@@ -88,11 +88,7 @@ fn kind_refusal(alloc: Global, fault: &KindFault) -> Result<Told, Memory>
 }
 
 // What is wrong with a script. `Memory`: want of memory.
-fn script_refusal(
-    alloc: Global,
-    text: &Bytes,
-    diagnostics: &Diagnostics,
-) -> Result<Told, Memory>
+fn script_refusal(alloc: Global, text: &Bytes, diagnostics: &Diagnostics) -> Result<Told, Memory>
     ensures { IfOk result (IsTold (bad_script text.now diagnostics.now)) }
 {
     let lines = render_all(alloc, diagnostics.as_slice(), text.as_slice())?;

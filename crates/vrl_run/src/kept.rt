@@ -44,7 +44,13 @@ pub(crate) fn kept_events(
     match &ran.ended {
         Ended::Value(_) => kept_left(alloc, sources, &ran.event),
         Ended::Aborted(_) => kept_as_read(alloc, sources, options.keep_on_abort, line, scratch),
-        Ended::Banged(_) | Ended::Deep => kept_as_read(alloc, sources, keep_on_error, line, scratch),
+        Ended::Banged(_) | Ended::Deep => kept_as_read(
+            alloc,
+            sources,
+            keep_on_error,
+            line,
+            scratch,
+        ),
     }
 }
 

@@ -12,4 +12,4 @@ pub returns-in-List : goal.returns-in-List
 returns-in-List c =
     let whole : tree_of c.args.event.now ≡ array (items_of c.in-List.items) = search (rules, the_lemmas) in
     let events : map tree_of c.as_slice.result.now ≡ events_of (tree_of c.args.event.now) = sym (trees_in_view c.as_slice.result.now) ∙ ap trees_in c.as_slice.ensures ∙ ap events_of (sym whole) in
-    IfOk-weaker c.kept_items.result _ _ (λ kept are. subst (λ es. AreLinesOf c.args.sources.now es kept) events are) c.kept_items.ensures
+    IfOk-weaker c.kept_items.result _ _ (λ kept are. subst (λ es. AreLinesOf c.args.sources.now es kept) events are) c.kept_items.ensures.kept
