@@ -1,10 +1,9 @@
 -- How what is done of a request is what is done of all that is asked.
-use Rattle.std.proofs.Common.{◌≡◌, ℕ, List, [], ◌∷◌, ◌++◌, ◌⊎◌, inl, inr, Bool, false, refl, sym, subst, arith}
-use Rattle.vrl_run.proofs.AnswerLemmas.{unasked_at_most, within_limit}
-use Rattle.vrl_run.specs.Answered.{IsAnswered, IsAsked, IsAtMostFront, IsCutOff, IsWhole, LeavesDevices}
+use Rattle.std.proofs.Common.{◌≡◌, ℕ, List, [], ◌∷◌, ◌++◌, ◌⊎◌, inl, inr, refl, sym, subst}
+use Rattle.vrl_run.specs.Answered.{IsAnswered, IsAsked, IsAtMostFront, IsCutOff, IsWhole}
 use Rattle.vrl_run.specs.Devices.{Devices}
 use Rattle.vrl_run.specs.Request.{IsSame, MayCome, Request, ScriptRun, map_lines}
-use Rattle.vrl_run.specs.Status.{IsAnswer, IsInterrupted, meaning_of}
+use Rattle.vrl_run.specs.Status.{IsInterrupted}
 use Rattle.vrl_run.specs.declared.status.Status.{Status}
 
 module _ (asks : Request → Type 0) (one : Request) (asked : asks one) (before after : Devices) where
@@ -62,16 +61,6 @@ module _ (asks : Request → Type 0) (one : Request) (asked : asks one) (before 
     came = came_of status is.came;
     first = first_of is.first;
   }
-
--- where nothing is done
-pub undone : (asks : Request → Type 0) (status : Status) (devices : Devices) → ¬ IsAnswer status → (meaning_of status).too_long ≡ false
-    → LeavesDevices asks status devices devices
-undone asks status devices unanswered short = record {
-  whole = λ answers. absurd (unanswered answers);
-  front = inl (refl, refl);
-  limit = within_limit status devices devices short (omega arith);
-  clock = unasked_at_most devices devices refl refl refl;
-}
 
 -- ---- failures
 

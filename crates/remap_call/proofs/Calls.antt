@@ -14,7 +14,8 @@ use Rattle.remap_call.specs.Call.{IsCall}
 use Rattle.remap_call.specs.Laws.{Laws}
 use Rattle.remap_call.specs.Loading.{IsReady, IsUnready}
 use Rattle.remap_call.specs.Request.{AcceptedScriptsRunSoundly, Asks, AsksByScript, HasLoadedBy, Held, IsUnloaded, ReadsLines, Texts, none_failed}
-use Rattle.remap_call.proofs.AnswerLemmas.{answered, undone}
+use Rattle.vrl_run.proofs.AnswerLemmas.{undone}
+use Rattle.remap_call.proofs.AnswerLemmas.{answered}
 use Rattle.remap_call.proofs.OneAnswer.{comes_of_each, one_answer}
 use Rattle.remap_call.proofs.RunSound.{asked_runs_soundly}
 use Rattle.remap_call.proofs.ToldOnce.{told_once}

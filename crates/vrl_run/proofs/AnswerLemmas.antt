@@ -5,7 +5,7 @@ use Rattle.vrl_io.specs.Faults.{HasRisen}
 use Rattle.vrl_batch.specs.Moments.{MovesOn}
 use Rattle.vrl_batch.specs.Sinks.{AppendsFront}
 use Rattle.vrl_run.specs.Answer.{answer_so_far, answer_to, status_if}
-use Rattle.vrl_run.specs.Answered.{IsAnswered, IsAsked}
+use Rattle.vrl_run.specs.Answered.{IsAnswered, IsAsked, LeavesDevices}
 use Rattle.vrl_run.specs.Devices.{Devices, IsAskedAtMost, IsWithinLimit, devices}
 use Rattle.vrl_run.specs.Request.{IsSame, MayCome, ReadsLines, Request, bad_kind, bad_script, bad_words, map_lines, map_made, tell_kinds}
 use Rattle.vrl_run.specs.Status.{IsAnswer, IsFinished, IsInterrupted, meaning_of}
@@ -89,6 +89,26 @@ own_or_interrupted : {X : Type 0} (s answer : Status) → (s ≡ answer → X) �
 own_or_interrupted s answer own (inl is) = inl (own is)
 own_or_interrupted s answer own (inr (inl is)) = inr (subst IsInterrupted (sym is) tt)
 own_or_interrupted s answer own (inr (inr is)) = inr (subst IsInterrupted (sym is) tt)
+
+-- where nothing is done
+pub undone : (asks : Request → Type 0) (status : Status) (now : Devices) → ¬ IsAnswer status → (meaning_of status).too_long ≡ false → LeavesDevices asks status now now
+undone asks status now unanswered short = record {
+  whole = λ answers. absurd (unanswered answers);
+  front = inl (refl, refl);
+  limit = within_limit status now now short (omega arith);
+  clock = unasked_at_most now now refl refl refl;
+}
+
+-- since there was no memory
+pub wanting_answered : (asks : Request → Type 0) (now : Devices) {Unasked : Type 0} → Unasked → IsAnswered asks Memory now now Unasked
+wanting_answered asks now unasked = record {
+  leaves = undone asks Memory now (λ answers. answers) refl;
+  causes = record { read = λ is. absurd cc; write = λ is. absurd cc; read_told = inr refl; write_told = inr (refl, refl) };
+  read_cut = λ is. absurd cc;
+  limit_cut = λ is. absurd cc;
+  came = inl tt;
+  first = inl unasked;
+}
 
 pub finished_if : (marked : Bool) → IsFinished (status_if marked)
 finished_if true = tt

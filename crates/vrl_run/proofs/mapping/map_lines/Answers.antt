@@ -1,7 +1,8 @@
 use Rattle.std.proofs.Common.{◌≡◌, ◌∙◌, Err, ap, inl, inr, refl, rules}
 use Rattle.vrl_batch.specs.Sinks.{Appends}
-use Rattle.vrl_run.specs.Request.{run_of}
+use Rattle.vrl_run.specs.Request.{IsSame, map_lines, run_of}
 use Rattle.vrl_run.specs.declared.status.Status.TheVariants as Status
+use Rattle.vrl_run.proofs.AnswerLemmas.{wanting_answered}
 use Rattle.vrl_run.proofs.MappingLemmas.{of_err, of_ok, stopped_answered, warned_answered, whole_answered}
 use Rattle.vrl_run.proofs.mapping.map_lines.Goals as goal
 
@@ -28,3 +29,6 @@ returns g c =
     let told = c.in-Err-map_batches.ensures in
     stopped_answered c.runs_ask_at_most.ensures c.runs_front.ensures c.runs_go_on.ensures c.runs_stop.ensures (run_of c.args.script.now) _ _ c.in-Ok.warnings.items c.in-Err-map_batches.status (ap (λ l. l.bytes.taken) c.in-Ok-new.ensures) (rw c.deref.ensures.value at warned) c.in-Ok.ensures told.stops
     (λ is. told.read_fault (ap Err is)) (λ is. rw same at (told.write_fault (ap Err is))) (of_err _ refl (λ x. x) told.read_told) (of_err _ refl (λ x. (x.0, x.1 ∙ same)) told.write_told)
+
+pub returns-in-Err : goal.returns-in-Err
+returns-in-Err g c = wanting_answered (IsSame (map_lines (run_of c.args.script.now))) _ (refl, refl)
