@@ -1,8 +1,8 @@
 pub mod Accepting
 pub mod AnswerLemmas
-pub mod Asking
 pub mod Calls
 pub mod Loads
 pub mod OneAnswer
+pub mod Requests
 pub mod RunSound
 pub mod ToldOnce

@@ -2,7 +2,7 @@ use Rattle.std.proofs.Common.{ap, refl, subst, sym}
 use Rattle.remap_words.specs.View.{IsModeInBounds, invocation_of, mode_of_read}
 use Rattle.remap_call.specs.Request.{IsRun}
 use Rattle.remap_call.proofs.Accepting.{handles_as, run_as, sources_as}
-use Rattle.remap_call.proofs.Asking.{kinds_told}
+use Rattle.remap_call.proofs.Requests.{kinds_told}
 use Rattle.remap_call.proofs.asking.accepted_asked.Goals as goal
 
 pub script_of-requires-clause-sources : goal.script_of-requires-clause-sources

@@ -26,8 +26,8 @@ returns-in_err-refused-clause-stops g c =
     let results = c.as_slice.ensures ∙ c.in-Ok-map_batch.ensures.made ∙ ap (λ f. map f c.in-Ok.batch) c.work-work.ensures in
     let told = c.in_err-refused.ensures in
     let stops =
-        stops_writing (run_of c.args.script.now)
-        (run_at (stream c.args.lines.now.bytes (g.S.Source.left c.args.input.now) (g.S.Source.taken c.args.input.now) (g.S.Source.ended c.args.input.now) (g.C.Clock.ahead c.args.clock.now)) (g.O.Sink.written c.args.output.now) (g.E.Sink.written c.args.report.now) c.args.marked.now)
-        (run_at (stream c.next_batch.new.self.bytes (g.S.Source.left c.next_batch.new.source) (g.S.Source.taken c.next_batch.new.source) (g.S.Source.ended c.next_batch.new.source) (g.C.Clock.ahead c.next_batch.new.clock)) (g.O.Sink.written c.write_results.new.output) (g.E.Sink.written c.write_results.new.report) c.args.marked.now)
-        c.as_slice.result.now c.in-Ok.batch c.in_err-refused.field-0.0 results c.in-Ok.ensures.batch c.in-Ok.ensures.within told.either told.front told.order (λ is. told.memory (ap Err is)) in
+    stops_writing (run_of c.args.script.now)
+    (run_at (stream c.args.lines.now.bytes (g.S.Source.left c.args.input.now) (g.S.Source.taken c.args.input.now) (g.S.Source.ended c.args.input.now) (g.C.Clock.ahead c.args.clock.now)) (g.O.Sink.written c.args.output.now) (g.E.Sink.written c.args.report.now) c.args.marked.now)
+    (run_at (stream c.next_batch.new.self.bytes (g.S.Source.left c.next_batch.new.source) (g.S.Source.taken c.next_batch.new.source) (g.S.Source.ended c.next_batch.new.source) (g.C.Clock.ahead c.next_batch.new.clock)) (g.O.Sink.written c.write_results.new.output) (g.E.Sink.written c.write_results.new.report) c.args.marked.now)
+    c.as_slice.result.now c.in-Ok.batch c.in_err-refused.field-0.0 results c.in-Ok.ensures.batch c.in-Ok.ensures.within told.either told.front told.order (λ is. told.memory (ap Err is)) in
     search rules
