@@ -37,17 +37,20 @@ module _ (asks : Request → Type 0) (one : Request) (asked : asks one) (before 
     holds = cut.holds;
   }
 
-  came_of : (status : Status) → IsInterrupted status ⊎ ((request : Request) × IsSame one request × MayCome request status)
+  came_of : (status : Status)
+      → IsInterrupted status ⊎ ((request : Request) × IsSame one request × MayCome request status)
       → IsInterrupted status ⊎ ((request : Request) × asks request × MayCome request status)
   came_of status (inl interrupted) = inl interrupted
   came_of status (inr came) = inr (came.0, only came.0 came.1, came.2)
 
-  first_of : {Unasked : Type 0} → Unasked ⊎ ((run : ScriptRun) × IsSame one (map_lines run)) → Unasked ⊎ ((run : ScriptRun) × asks (map_lines run))
+  first_of : {Unasked : Type 0} → Unasked ⊎ ((run : ScriptRun) × IsSame one (map_lines run))
+      → Unasked ⊎ ((run : ScriptRun) × asks (map_lines run))
   first_of (inl unasked) = inl unasked
   first_of (inr run) = inr (run.0, only (map_lines run.0) run.1)
 
   -- and so is all that is done
-  pub answered : (status : Status) (Unasked : Type 0) → IsAnswered (IsSame one) status before after Unasked → IsAnswered asks status before after Unasked
+  pub answered : (status : Status) (Unasked : Type 0) → IsAnswered (IsSame one) status before after Unasked
+      → IsAnswered asks status before after Unasked
   answered status Unasked is = record {
     leaves = record {
       whole = λ answers. is_whole status (is.leaves.whole answers);

@@ -60,7 +60,9 @@ ended (Some i) (Some text) file before after s mode finished whole = ended_by_sc
 -- ---- all that a call comes to
 
 -- what is asked is known, and is answered
-pub ready_call : Laws → AcceptedScriptsRunSoundly → (held : Held) (invocation : Option Invocation) (failures failures_after : List (List ℕ)) (request : Request) (status : Status) (before after : Devices) (Unasked : Type 0)
+pub ready_call : Laws → AcceptedScriptsRunSoundly
+    → (held : Held) (invocation : Option Invocation) (failures failures_after : List (List ℕ)) (request : Request)
+    (status : Status) (before after : Devices) (Unasked : Type 0)
     → IsReady held invocation failures failures_after request → IsAnswered (IsSame request) status before after Unasked → IsCall held invocation failures failures_after status before after Unasked
 ready_call laws accepted held invocation failures failures_after request status before after Unasked ready done =
     let texts = ready.texts in
@@ -79,16 +81,20 @@ ready_call laws accepted held invocation failures failures_after request status 
       ended = λ reads finished. ended invocation texts.script texts.kind_file before after status reads finished (all.leaves.whole (finished_answers status finished));
       sound = λ run asks. asked_runs_soundly accepted invocation texts run asks;
     } where
-      all_loaded : (invocation : Option Invocation) (texts : Texts) → IfSome invocation (λ i. ¬ IsUnloaded i texts) → IfSome invocation (λ i. IsUnloaded i texts → (status ≡ ReadFault) ⊎ (status ≡ Memory))
+      all_loaded : (invocation : Option Invocation) (texts : Texts) → IfSome invocation (λ i. ¬ IsUnloaded i texts)
+          → IfSome invocation (λ i. IsUnloaded i texts → (status ≡ ReadFault) ⊎ (status ≡ Memory))
       all_loaded None texts loaded = tt
       all_loaded (Some i) texts loaded = λ missing. absurd (loaded missing)
 
-      no_failure : (invocation : Option Invocation) (texts : Texts) (failures failures_after : List (List ℕ)) → failures_after ≡ failures → HasLoadedBy invocation texts failures failures_after
+      no_failure : (invocation : Option Invocation) (texts : Texts) (failures failures_after : List (List ℕ))
+          → failures_after ≡ failures → HasLoadedBy invocation texts failures failures_after
       no_failure None texts failures failures_after same = same
       no_failure (Some i) texts failures failures_after same = none_failed same
 
 -- what is asked isn't known, and nothing is done
-unready_call : Laws → AcceptedScriptsRunSoundly → (held : Held) (invocation : Option Invocation) (failures failures_after : List (List ℕ)) (fault : LoadFault) (status : Status) (devices : Devices) (Unasked : Type 0) → Unasked
+unready_call : Laws → AcceptedScriptsRunSoundly
+    → (held : Held) (invocation : Option Invocation) (failures failures_after : List (List ℕ)) (fault : LoadFault)
+    (status : Status) (devices : Devices) (Unasked : Type 0) → Unasked
     → (status ≡ ReadFault) ⊎ (status ≡ Memory) → (status ≡ ReadFault → ¬ (failures_after ≡ failures)) → IsUnready held invocation failures failures_after fault
     → IsCall held invocation failures failures_after status devices devices Unasked
 unready_call laws accepted held invocation failures failures_after fault status devices Unasked unasked why failed unready =
@@ -123,16 +129,21 @@ unready_call laws accepted held invocation failures failures_after fault status 
       not_long (inl is) long = let wrong : ReadFault ≡ TooMuch = sym is ∙ long in cc
       not_long (inr is) long = let wrong : Memory ≡ TooMuch = sym is ∙ long in cc
 
-      each : (invocation : Option Invocation) → IfSome invocation (λ i. IsUnloaded i unready.texts → (status ≡ ReadFault) ⊎ (status ≡ Memory))
+      each : (invocation : Option Invocation)
+          → IfSome invocation (λ i. IsUnloaded i unready.texts → (status ≡ ReadFault) ⊎ (status ≡ Memory))
       each None = tt
       each (Some i) = λ missing. why
 
-pub failed_call : Laws → AcceptedScriptsRunSoundly → (held : Held) (invocation : Option Invocation) (failures failures_after : List (List ℕ)) (devices : Devices) (Unasked : Type 0) → Unasked
+pub failed_call : Laws → AcceptedScriptsRunSoundly
+    → (held : Held) (invocation : Option Invocation) (failures failures_after : List (List ℕ)) (devices : Devices)
+    (Unasked : Type 0) → Unasked
     → IsUnready held invocation failures failures_after fault.Failed → IsCall held invocation failures failures_after ReadFault devices devices Unasked
 failed_call laws accepted held invocation failures failures_after devices Unasked unasked unready =
     unready_call laws accepted held invocation failures failures_after fault.Failed ReadFault devices Unasked unasked (inl refl) (λ is. unready.cause) unready
 
-pub wanting_call : Laws → AcceptedScriptsRunSoundly → (held : Held) (invocation : Option Invocation) (failures failures_after : List (List ℕ)) (devices : Devices) (Unasked : Type 0) → Unasked
+pub wanting_call : Laws → AcceptedScriptsRunSoundly
+    → (held : Held) (invocation : Option Invocation) (failures failures_after : List (List ℕ)) (devices : Devices)
+    (Unasked : Type 0) → Unasked
     → IsUnready held invocation failures failures_after fault.Memory → IsCall held invocation failures failures_after Memory devices devices Unasked
 wanting_call laws accepted held invocation failures failures_after devices Unasked unasked unready =
     unready_call laws accepted held invocation failures failures_after fault.Memory Memory devices Unasked unasked (inr refl) (λ is. absurd cc) unready

@@ -38,7 +38,8 @@ refused_with bytes (Err f) is = by_name where
   by_name other None of = absurd of
   by_name other (Some name) of = (other, is)
 
-pub declared_without : (K : KindTree) → K ≡ event_kind → (name : Option (List ℕ)) → IsFileOf name None → IsDeclaredKind name None K
+pub declared_without : (K : KindTree) → K ≡ event_kind → (name : Option (List ℕ)) → IsFileOf name None
+    → IsDeclaredKind name None K
 declared_without K is None of = is
 declared_without K is (Some name) of = absurd of
 
@@ -49,7 +50,8 @@ module _ (i : Invocation) (file : Option (List ℕ)) (script : List ℕ) where
   abbrev pub AreAsked : Result Asked Memory → Type 0
   AreAsked result = IfOk result (λ request. (told : Option (List ℕ)) → (¬ IsNoScript script → told ≡ file) → AsksByScript i told script (request_of request))
 
-  pub no_text_asked : (result : Result Asked Memory) → IsNoScript script → IfOk result (λ request. request_of request ≡ no_script_request script) → AreAsked result
+  pub no_text_asked : (result : Result Asked Memory) → IsNoScript script
+      → IfOk result (λ request. request_of request ≡ no_script_request script) → AreAsked result
   no_text_asked (Err refused) none is = tt
   no_text_asked (Ok request) none is = λ told same. subst (AsksByScript i told script) (sym is) (refl, no_text none refl)
 
@@ -61,19 +63,22 @@ module _ (i : Invocation) (file : Option (List ℕ)) (script : List ℕ) where
       subst (λ t. AsksByScript i t script (request_of request)) (sym (same is_text))
       (subst (AsksByScript i file script) (sym is.0) (is_text, refused_by is.1 i.kind of))
 
-  pub refused_asked : (declared : KindTree) (diagnostics : List Diagnostic) → ¬ IsNoScript script → IsDeclaredKind i.kind file declared → IsRefusedText declared script diagnostics
+  pub refused_asked : (declared : KindTree) (diagnostics : List Diagnostic) → ¬ IsNoScript script
+      → IsDeclaredKind i.kind file declared → IsRefusedText declared script diagnostics
       → (told : Option (List ℕ)) → (¬ IsNoScript script → told ≡ file) → AsksByScript i told script (bad_script script diagnostics)
   refused_asked declared diagnostics is_text of_kind is told same =
       subst (λ t. AsksByScript i t script (bad_script script diagnostics)) (sym (same is_text)) (refl, has_error is_text declared of_kind is)
 
-  pub accepted_asked : (declared : KindTree) (result : Result Asked Memory) → ¬ IsNoScript script → IsDeclaredKind i.kind file declared
+  pub accepted_asked : (declared : KindTree) (result : Result Asked Memory) → ¬ IsNoScript script
+      → IsDeclaredKind i.kind file declared
       → IfOk result (λ request. (file : Option (List ℕ)) → IsDeclaredKind i.kind file declared → AsksByScript i file script (request_of request)) → AreAsked result
   accepted_asked declared (Err refused) is_text of_kind is = tt
   accepted_asked declared (Ok request) is_text of_kind is = λ told same.
       subst (λ t. AsksByScript i t script (request_of request)) (sym (same is_text)) (is file of_kind)
 
 -- the kinds are to be told
-pub kinds_told : (i : Invocation) {declared : KindTree} {script : List ℕ} {accepted : AcceptedScript} {told : Judged} (result : Result Asked Memory) → ¬ IsNoScript script → IsAcceptedAs declared script accepted
+pub kinds_told : (i : Invocation) {declared : KindTree} {script : List ℕ} {accepted : AcceptedScript} {told : Judged}
+    (result : Result Asked Memory) → ¬ IsNoScript script → IsAcceptedAs declared script accepted
     → i.mode ≡ check → told ≡ accepted.judged
     → IfOk result (λ request. (ending : Ending) × IsEnding told ending × (request_of request ≡ tell_kinds script told.diagnostics ending.kind ending.state))
     → IfOk result (λ request. (file : Option (List ℕ)) → IsDeclaredKind i.kind file declared → AsksByScript i file script (request_of request))

@@ -22,8 +22,8 @@ use vrl_run::{Options, Request, Script};
 use vrl_token::script_text;
 use vrl_value::{Bytes, Memory};
 
-// What is asked with the bytes of a script, and with those of the kind file, which aren't needed where the script is no text.
-// `Memory`: out of memory.
+// What is asked with the bytes of a script, and with those of the kind file, which aren't needed where the script is
+// no text. `Memory`: out of memory.
 pub(crate) fn asked(
     alloc: Global,
     invocation: &Invocation,
@@ -109,8 +109,8 @@ fn wants_memory(fault: &KindFault) -> bool
     matches!(fault, KindFault::Memory)
 }
 
-// What is asked with a script that is accepted: that it runs over the lines of the input or over made lines, or what kinds it
-// may end with. `Memory`: out of memory, for the kinds.
+// What is asked with a script that is accepted: that it runs over the lines of the input or over made lines, or what
+// kinds it may end with. `Memory`: out of memory, for the kinds.
 fn accepted_asked(
     alloc: Global,
     invocation: &Invocation,

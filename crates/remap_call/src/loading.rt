@@ -25,8 +25,8 @@ pub(crate) struct Asked {
     pub(crate) jobs: u32,
 }
 
-// Reads the words, loads the script and the kind file that they name, and says what is asked. `Failed`: one of these could not
-// be loaded. `Memory`: out of memory.
+// Reads the words, loads the script and the kind file that they name, and says what is asked. `Failed`: one of these
+// could not be loaded. `Memory`: out of memory.
 pub(crate) fn ask<F: Store>(
     alloc: Global,
     words: &[String],

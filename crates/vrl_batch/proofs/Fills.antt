@@ -88,7 +88,8 @@ module _ (before : Stream) (piece : PieceHeld) (begun : Begun) (left : Option (L
     both_counted_too : piece_taken.taken ≡ before.reader.taken + length (fills.bytes ++ piece_taken.rest)
     both_counted_too = omega (arith, takes.counted_too, fills.counted_too, takes.length_is, length-append fills.bytes piece_taken.rest)
 
-    more_held : before.reader.held ++ (fills.bytes ++ piece_taken.rest) ≡ fills.front ++ (fills.part ++ piece_taken.rest)
+    more_held : before.reader.held ++ (fills.bytes ++ piece_taken.rest) ≡ fills.front ++
+        (fills.part ++ piece_taken.rest)
     more_held =
         sym (append_assoc before.reader.held fills.bytes piece_taken.rest)
         ∙ ap (λ x. x ++ piece_taken.rest) held_are
@@ -118,7 +119,8 @@ module _ (before : Stream) (piece : PieceHeld) (begun : Begun) (left : Option (L
         }
 
     -- out of memory while they are added
-    pub fills-wanting : (piece_after : PieceHeld) (number : ℕ) (ended_after : Bool) (ahead_after : Option (ℕ → ℤ)) → piece_after.taken ≡ piece_taken.taken → (IsTrue ended → count ≡ 0)
+    pub fills-wanting : (piece_after : PieceHeld) (number : ℕ) (ended_after : Bool) (ahead_after : Option (ℕ → ℤ))
+        → piece_after.taken ≡ piece_taken.taken → (IsTrue ended → count ≡ 0)
         → MovesAtMost before.ahead (length (event_lines_from before.reader.next (fills.front ++ (fills.part ++ piece_taken.rest)))) ahead_after
         → StopsAt before (stream (held_by piece_after number) left_after taken_after ended_after ahead_after) Memory
     fills-wanting piece_after number ended_after ahead_after same none asks = (

@@ -134,14 +134,16 @@ ends_in [] = record { whole = inl refl; rest = []; divides = refl }
 ends_in (b ∷ bytes) = ends_in-more (b == 10) b (ended_of bytes) bytes (is_newline b) (ends_in bytes)
 
 -- no fewer lines are there where more follows
-pub events-fewer : (n : ℕ) (front more : List ℕ) → AreWholeLines front → length (event_lines_from n front) ≤ length (event_lines_from n (front ++ more))
+pub events-fewer : (n : ℕ) (front more : List ℕ) → AreWholeLines front
+    → length (event_lines_from n front) ≤ length (event_lines_from n (front ++ more))
 events-fewer n front more whole =
     let all = ap length (events-append n front more whole) in
     let both = length-append (event_lines_from n front) (event_lines_from (n + length (lines_of front)) more) in
     omega (arith, all, both)
 
 -- nor than have ended
-pub ended-fewer : (n : ℕ) (bytes more : List ℕ) → length (event_lines_from n (ended_of bytes)) ≤ length (event_lines_from n (bytes ++ more))
+pub ended-fewer : (n : ℕ) (bytes more : List ℕ)
+    → length (event_lines_from n (ended_of bytes)) ≤ length (event_lines_from n (bytes ++ more))
 ended-fewer n bytes more =
     let at = ends_in bytes in
     let divides : bytes ++ more ≡ ended_of bytes ++ (at.rest ++ more) =

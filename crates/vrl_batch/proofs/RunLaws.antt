@@ -33,7 +33,8 @@ left_none (Some rest) = refl
 
 -- ---- moments told
 
-moved_so_far : (begin now : Stream) (lines : List Line) (so : HasRead begin now lines) → MovesOn begin.ahead (length (event_lines so.front)) now.ahead
+moved_so_far : (begin now : Stream) (lines : List Line) (so : HasRead begin now lines)
+    → MovesOn begin.ahead (length (event_lines so.front)) now.ahead
 moved_so_far begin now lines so = subst (λ n. MovesOn begin.ahead n now.ahead) so.one_each so.tells.moved
 
 -- ---- the begin
@@ -211,7 +212,8 @@ module _ (more : ℕ) (begin now after : Stream) (lines : List Line) (so : HasRe
   abbrev later : List (ℕ × List ℕ)
   later = event_lines_from now.reader.next (ended_of (now.reader.held ++ stops.bytes))
 
-  ended_events : AreWholeLines so.front → event_lines (ended_of (so.input ++ stops.bytes)) ≡ event_lines so.front ++ later
+  ended_events : AreWholeLines so.front
+      → event_lines (ended_of (so.input ++ stops.bytes)) ≡ event_lines so.front ++ later
   ended_events whole =
       let behind = ended_of (now.reader.held ++ stops.bytes) in
       ap (λ x. event_lines (ended_of x)) (ap (λ x. x ++ stops.bytes) so.divides ∙ append_assoc so.front now.reader.held stops.bytes)
@@ -226,7 +228,8 @@ module _ (more : ℕ) (begin now after : Stream) (lines : List Line) (so : HasRe
       ∙ ap (λ x. event_lines so.front ++ x) (whole-none later stops.not_whole)
       ∙ append-nil (event_lines so.front)
 
-  moved : AreWholeLines so.front → MovesOn begin.ahead (length (event_lines (ended_of (so.input ++ stops.bytes)))) after.ahead
+  moved : AreWholeLines so.front
+      → MovesOn begin.ahead (length (event_lines (ended_of (so.input ++ stops.bytes)))) after.ahead
   moved whole =
       subst (λ n. MovesOn begin.ahead n after.ahead) (sym (ap length (ended_events whole) ∙ length-append (event_lines so.front) later))
       (moved-both begin.ahead now.ahead after.ahead (length (event_lines so.front)) (length later) (moved_so_far begin now lines so) stops.moved)
@@ -371,7 +374,8 @@ module _ (begin now after : Stream) (lines : List Line) (so : HasRead begin now 
   all_are : so.input ++ asks.bytes ≡ so.front ++ (now.reader.held ++ asks.bytes)
   all_are = ap (λ x. x ++ asks.bytes) so.divides ∙ append_assoc so.front now.reader.held asks.bytes
 
-  asked_at : AreWholeBatches so.front ⊎ HasEnded now → MovesAtMost begin.ahead (length (event_lines (so.input ++ asks.bytes))) after.ahead
+  asked_at : AreWholeBatches so.front ⊎ HasEnded now
+      → MovesAtMost begin.ahead (length (event_lines (so.input ++ asks.bytes))) after.ahead
   asked_at (inl whole) =
       let behind = now.reader.held ++ asks.bytes in
       let events = ap event_lines all_are ∙ events-append 1 so.front behind whole.0 ∙ ap (λ n. event_lines so.front ++ event_lines_from n behind) (sym so.next_is) in

@@ -30,7 +30,8 @@ told-append (Some f) None ms ns first moved second = absurd moved
 told-append (Some f) (Some g) ms ns first moved second = begin-append ms ns f g first second moved
 
 -- some moments, and then some more
-pub moved-both : (ahead middle after : Option (ℕ → ℤ)) (m n : ℕ) → MovesOn ahead m middle → MovesOn middle n after → MovesOn ahead (m + n) after
+pub moved-both : (ahead middle after : Option (ℕ → ℤ)) (m n : ℕ) → MovesOn ahead m middle → MovesOn middle n after
+    → MovesOn ahead (m + n) after
 moved-both None None after m n first second = second
 moved-both None (Some g) after m n first second = cc
 moved-both (Some f) None after m n first second = absurd first

@@ -82,12 +82,13 @@ pub record StopsReading (more : ℕ) (before after : Stream) : Type 0 where
   pub none_held : after.reader.held ≡ []
   pub not_ended : ¬ IsTrue before.ended
 
--- Whatever comes of a call, it takes bytes, and the clock tells at most one moment for each line that isn't blank of those
--- that were held and taken. Once the source has ended nothing more is taken.
+-- Whatever comes of a call, it takes bytes, and the clock tells at most one moment for each line that isn't blank of
+-- those that were held and taken. Once the source has ended nothing more is taken.
 pub record AsksAtMost (before after : Stream) : Type 0 where
   pub bytes : List ℕ
   pub takes : Takes bytes before after
-  pub clock : MovesAtMost before.ahead (length (event_lines_from before.reader.next (before.reader.held ++ bytes))) after.ahead
+  pub clock : MovesAtMost before.ahead
+      (length (event_lines_from before.reader.next (before.reader.held ++ bytes))) after.ahead
   pub past_end : IsTrue before.ended → bytes ≡ []
 
 -- what a call leaves that stops at this fault; where it is out of memory, all that was taken is counted

@@ -37,7 +37,8 @@ none_told : (ahead : Option (ℕ → ℤ)) → MovesOn ahead 0 ahead
 none_told None = refl
 none_told (Some told) = λ i. ap told (omega arith)
 
-pub unasked_at_most : (before after : Devices) → after.left ≡ before.left → after.taken ≡ before.taken → after.ahead ≡ before.ahead
+pub unasked_at_most : (before after : Devices) → after.left ≡ before.left → after.taken ≡ before.taken
+    → after.ahead ≡ before.ahead
     → IsAskedAtMost before after
 unasked_at_most before after left taken ahead = record {
   taken = [];
@@ -91,7 +92,8 @@ own_or_interrupted s answer own (inr (inl is)) = inr (subst IsInterrupted (sym i
 own_or_interrupted s answer own (inr (inr is)) = inr (subst IsInterrupted (sym is) tt)
 
 -- where nothing is done
-pub undone : (asks : Request → Type 0) (status : Status) (now : Devices) → ¬ IsAnswer status → (meaning_of status).too_long ≡ false → LeavesDevices asks status now now
+pub undone : (asks : Request → Type 0) (status : Status) (now : Devices) → ¬ IsAnswer status
+    → (meaning_of status).too_long ≡ false → LeavesDevices asks status now now
 undone asks status now unanswered short = record {
   whole = λ answers. absurd (unanswered answers);
   front = inl (refl, refl);
@@ -100,7 +102,8 @@ undone asks status now unanswered short = record {
 }
 
 -- since there was no memory
-pub wanting_answered : (asks : Request → Type 0) (now : Devices) {Unasked : Type 0} → Unasked → IsAnswered asks Memory now now Unasked
+pub wanting_answered : (asks : Request → Type 0) (now : Devices) {Unasked : Type 0} → Unasked
+    → IsAnswered asks Memory now now Unasked
 wanting_answered asks now unasked = record {
   leaves = undone asks Memory now (λ answers. answers) refl;
   causes = record { read = λ is. absurd cc; write = λ is. absurd cc; read_told = inr refl; write_told = inr (refl, refl) };

@@ -78,7 +78,8 @@ wrote script batch results before after refused is written marked = record {
 }
 
 -- or they were not all written
-pub stops_writing : (script : ScriptRun) (before after : Run) (results : List LineOut) (batch : List Line) (s : Status) → results ≡ map (result_of script) batch
+pub stops_writing : (script : ScriptRun) (before after : Run) (results : List LineOut) (batch : List Line) (s : Status)
+    → results ≡ map (result_of script) batch
     → ReadsBatch before.stream after.stream batch → after.stream.reader.taken ≤ input_limit → (s ≡ WriteFault) ⊎ (s ≡ Memory)
     → AppendsFront before.output after.output (outputs results) × AppendsFront before.report after.report (reports results)
     → Appends before.output after.output (outputs results) ⊎ (after.report ≡ before.report)
@@ -254,7 +255,9 @@ is_mapped_front front goes script begin after report warnings s told warned so =
 -- ---- what is done of a run over lines
 
 -- for how many moments the clock was asked
-asked_since : RunsAskAtMost → (script : ScriptRun) (begin now after : Run) {report : Option (List ℕ)} {faults faults_after o o_after e e_after : ℕ}
+asked_since : RunsAskAtMost
+    → (script : ScriptRun) (begin now after : Run) {report : Option (List ℕ)}
+    {faults faults_after o o_after e e_after : ℕ}
     → HasMapped script begin now → AsksAtMost now.stream after.stream
     → IsAskedAtMost (devices begin.stream.left begin.stream.taken begin.stream.ended faults begin.stream.ahead begin.output o report e)
     (devices after.stream.left after.stream.taken after.stream.ended faults_after after.stream.ahead after.output o_after after.report e_after)
@@ -306,7 +309,10 @@ finished_no_limit true is = cc
 finished_no_limit false is = cc
 
 -- to the end of the input
-pub whole_answered : RunsAskAtMost → RunsEnd → (script : ScriptRun) (begin after : Run) {report : Option (List ℕ)} {faults faults_after o o_after e e_after : ℕ} {Unasked : Type 0} (warnings : List ℕ) → begin.marked ≡ false → begin.stream.reader.taken ≡ 0 → Appends report begin.report warnings → warnings ≡ warnings_of script
+pub whole_answered : RunsAskAtMost → RunsEnd
+    → (script : ScriptRun) (begin after : Run) {report : Option (List ℕ)} {faults faults_after o o_after e e_after : ℕ}
+    {Unasked : Type 0} (warnings : List ℕ) → begin.marked ≡ false → begin.stream.reader.taken ≡ 0
+    → Appends report begin.report warnings → warnings ≡ warnings_of script
     → EndsMapping script begin after → faults_after ≡ faults → (o_after ≡ o) × (e_after ≡ e)
     → IsAnswered (IsSame (map_lines script)) (status_if after.marked) (devices begin.stream.left begin.stream.taken begin.stream.ended faults begin.stream.ahead begin.output o report e)
     (devices after.stream.left after.stream.taken after.stream.ended faults_after after.stream.ahead after.output o_after after.report e_after) Unasked
@@ -416,7 +422,10 @@ stopped script begin after s front unanswered clock limit cut_read cut_limit com
   came (inr is) = inr (map_lines script, refl, inr (inr is))
 
 -- before that
-pub stopped_answered : RunsAskAtMost → RunsFront → RunsGoOn → RunsStop → (script : ScriptRun) (begin after : Run) {report : Option (List ℕ)} {faults faults_after o o_after e e_after : ℕ} {Unasked : Type 0} (warnings : List ℕ) (s : Status) → begin.stream.reader.taken ≡ 0 → Appends report begin.report warnings → warnings ≡ warnings_of script
+pub stopped_answered : RunsAskAtMost → RunsFront → RunsGoOn → RunsStop
+    → (script : ScriptRun) (begin after : Run) {report : Option (List ℕ)} {faults faults_after o o_after e e_after : ℕ}
+    {Unasked : Type 0} (warnings : List ℕ) (s : Status) → begin.stream.reader.taken ≡ 0
+    → Appends report begin.report warnings → warnings ≡ warnings_of script
     → HasStopped script begin after s → (s ≡ ReadFault → HasRisen faults faults_after) → (s ≡ WriteFault → HasRisen o o_after ⊎ HasRisen e e_after) → (s ≡ ReadFault) ⊎ (faults_after ≡ faults) → (s ≡ WriteFault) ⊎ ((o_after ≡ o) × (e_after ≡ e))
     → IsAnswered (IsSame (map_lines script)) s (devices begin.stream.left begin.stream.taken begin.stream.ended faults begin.stream.ahead begin.output o report e)
     (devices after.stream.left after.stream.taken after.stream.ended faults_after after.stream.ahead after.output o_after after.report e_after) Unasked
@@ -507,7 +516,8 @@ pub no_warnings : (report : Option (List ℕ)) (warnings : List ℕ) → Appends
 no_warnings report warnings = ([], warnings, refl, appends_none report)
 
 -- no batch is left
-pub ends_mapping : (script : ScriptRun) (begin now after : Run) (batch : List Line) → HasMapped script begin now → MapsBatch script now after batch
+pub ends_mapping : (script : ScriptRun) (begin now after : Run) (batch : List Line) → HasMapped script begin now
+    → MapsBatch script now after batch
     → AsksAtMost now.stream after.stream → TellsMore false batch → EndsMapping script begin after
 ends_mapping script begin now after batch so one asks none = record {
   now = now;

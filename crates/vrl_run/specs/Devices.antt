@@ -1,4 +1,5 @@
--- What the devices of a call tell, before it and after it, by its status and by the bytes that are written. Nothing of this speaks of a script.
+-- What the devices of a call tell, before it and after it, by its status and by the bytes that are written. Nothing of
+-- this speaks of a script.
 use Rattle.std.specs.Prelude.{◌≡◌, ℕ, ◌+◌, ◌<◌, ◌≤◌, Bool, true, false, List, ◌++◌, length, ℤ, Option, option_map, IfSome, IsTrue, ◌⊎◌}
 use Rattle.vrl_io.specs.Faults.{HasRisen}
 use Rattle.vrl_value.specs.Moment.{IsInRange}
@@ -85,8 +86,8 @@ IsWithinLimit false before after = after.taken ≤ before.taken + input_limit
 -- or one more was, and more than the limit stood there
 IsWithinLimit true before after = (after.taken ≡ before.taken + (input_limit + 1)) × IfSome before.left (λ bytes. input_limit < length bytes)
 
--- A fault of reading is told only where the input failed, and one of writing only where a sink failed; and a fault of the input or of
--- a sink is told.
+-- A fault of reading is told only where the input failed, and one of writing only where a sink failed; and a fault of
+-- the input or of a sink is told.
 pub record HasCauses (status : Status) (before after : Devices) : Type 0 where
   pub read : status ≡ ReadFault → HasRisen before.read_faults after.read_faults
   pub write : status ≡ WriteFault → HasRisen before.output_faults after.output_faults ⊎ HasRisen before.report_faults after.report_faults

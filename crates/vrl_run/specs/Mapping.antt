@@ -55,7 +55,8 @@ pub record WritesFront (script : ScriptRun) (before after : Run) : Type 0 where
   pub within : after.stream.reader.taken ≤ input_limit
   pub output : AppendsFront before.output after.output (outputs (map (result_of script) batch))
   pub report : AppendsFront before.report after.report (reports (map (result_of script) batch))
-  pub order : Appends before.output after.output (outputs (map (result_of script) batch)) ⊎ (after.report ≡ before.report)
+  pub order : Appends before.output after.output (outputs (map (result_of script) batch)) ⊎
+      (after.report ≡ before.report)
 
 -- the run stops with this status: the input failed or has too many bytes, a sink failed, or memory was wanted
 abbrev pub StopsMapping : ScriptRun → (before after : Run) → Status → Type 0

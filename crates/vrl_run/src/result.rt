@@ -28,10 +28,10 @@ use vrl_resolve::{Ended, Program, Ran, run};
 use vrl_value::{Bytes, Memory, Names, Value};
 
 /// Runs a program over the event that a line stands for. `_sources` are those of the program's regex literals, which
-/// `searches` tell too, and over no event of the declared kind does the program end with an error that it doesn't handle,
-/// as `vrl_compile` promises of each that it accepts. A line that is too long, is no JSON text or has a number that isn't
-/// whole, or whose value is not of the declared kind, is refused. `searches` are those of the program, and `scratch` is
-/// what reading needs; keep both from line to line. `Memory`: out of memory.
+/// `searches` tell too, and over no event of the declared kind does the program end with an error that it doesn't
+/// handle, as `vrl_compile` promises of each that it accepts. A line that is too long, is no JSON text or has a
+/// number that isn't whole, or whose value is not of the declared kind, is refused. `searches` are those of the
+/// program, and `scratch` is what reading needs; keep both from line to line. `Memory`: out of memory.
 pub fn run_line(
     alloc: Global,
     program: &Program,
