@@ -1,13 +1,10 @@
 -- What a call asks whose script is accepted.
-use Rattle.std.proofs.Common.{◌≡◌, ℕ, Bool, true, false, List, [], Option, Some, None, IsSome, refl, sym, ap, ◌∙◌, subst}
+use Rattle.std.proofs.Common.{◌≡◌, ℕ, Bool, true, false, List, [], Option, Some, None, refl, sym, ap, ◌∙◌, subst}
 use Rattle.vrl_value.specs.declared.value.Tag.TheVariants as tag
 use Rattle.vrl_diag.specs.declared.diagnostic.Diagnostic.{Diagnostic}
 use Rattle.vrl_kind.specs.Canonical.{allows_absent}
 use Rattle.vrl_kind.specs.KindTree.{KindTree, kind}
 use Rattle.vrl_kind.specs.Kinds.{tags_at}
-use Rattle.vrl_kindfile.specs.Files.{IsDeclared, IsRefused as IsFileRefused}
-use Rattle.vrl_kindfile.specs.declared.fault.KindFault.{KindFault}
-use Rattle.vrl_kindfile.specs.declared.fault.KindFault.TheVariants as fault
 use Rattle.vrl_state.specs.States.{IsEither, IsJoined, RootMap}
 use Rattle.vrl_token.specs.Reading.{IsNoScript}
 use Rattle.vrl_judge.specs.Returns.{return_kind, return_state, returning}
@@ -19,7 +16,7 @@ use Rattle.vrl_resolve.specs.Program.{program_of}
 use Rattle.vrl_run.specs.LineResult.{HandlesErrors}
 use Rattle.vrl_run.specs.Request.{ScriptRun}
 use Rattle.remap_words.specs.Words.{Invocation}
-use Rattle.remap_call.specs.Request.{IsAccepted, IsDeclaredKind, IsKindRefused, IsKnown, IsRun, event_kind, options_of}
+use Rattle.remap_call.specs.Request.{IsAccepted, IsDeclaredKind, IsKnown, IsRun, options_of}
 use Rattle.remap_call.proofs.RunSound.{accepted_handles}
 
 -- ---- the declared kind
@@ -36,17 +33,6 @@ pub declared_is_present : (name file : Option (List ℕ)) (K : KindTree) → IsD
 declared_is_present None file K is = ap allows_absent is
 declared_is_present (Some name) None K is = absurd is
 declared_is_present (Some name) (Some bytes) K is = not_absent K (allows_absent K) refl (λ holds. let wrong : false ≡ true = is.allowed.objects [] tag.Absent (absent_tag K ∙ holds) in cc)
-
-pub declared_by_file : (name : Option (List ℕ)) (bytes : List ℕ) (K : KindTree) → IsSome name → IsDeclared bytes K → IsDeclaredKind name (Some bytes) K
-declared_by_file None bytes K named is = absurd cc
-declared_by_file (Some name) bytes K named is = is
-
-pub refused_by_file : (name : Option (List ℕ)) (bytes : List ℕ) (f : KindFault) → IsSome name → (f ≡ fault.Memory → ⊥) → IsFileRefused bytes f → IsKindRefused name (Some bytes) f
-refused_by_file None bytes f named other is = absurd cc
-refused_by_file (Some name) bytes f named other is = (other, is)
-
-pub declared_without_file : (name : Option (List ℕ)) (K : KindTree) → name ≡ None → K ≡ event_kind → IsDeclaredKind name None K
-declared_without_file name K is same = subst (λ n. IsDeclaredKind n None K) (sym is) same
 
 -- ---- an accepted script
 

@@ -1,6 +1,7 @@
 -- What a call of the program comes to.
 use Rattle.std.specs.Prelude.{◌≡◌, ◌⊎◌, ℕ, List, Option, IfSome, IsTrue}
-use Rattle.vrl_run.specs.Devices.{Devices, IsCutOff, LeavesDevices}
+use Rattle.vrl_run.specs.Answered.{IsCutOff, LeavesDevices}
+use Rattle.vrl_run.specs.Devices.{Devices}
 use Rattle.vrl_run.specs.Request.{MayCome, Request, ScriptRun, map_lines}
 use Rattle.vrl_run.specs.Status.{IsFinished}
 use Rattle.vrl_run.specs.declared.status.Status.{Status}

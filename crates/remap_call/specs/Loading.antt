@@ -1,25 +1,33 @@
--- What is done once the script is loaded, and the kind file with it.
-use Rattle.std.specs.Prelude.{◌≡◌, ◌⊎◌, ℕ, List, [], ◌∷◌, ◌++◌, Option, Some, None, IfSome}
-use Rattle.vrl_token.specs.Reading.{IsNoScript}
-use Rattle.vrl_run.specs.Devices.{Devices, IsAnswered}
-use Rattle.vrl_run.specs.declared.status.Status.{Status}
-use Rattle.vrl_run.specs.declared.status.Status.TheVariants.{Memory, ReadFault}
+-- What comes of reading the words, and of loading what they name.
+use Rattle.std.specs.Prelude.{◌≡◌, ℕ, List, Option, Some, None, IfSome, ⊤}
+use Rattle.vrl_io.specs.declared.fault.LoadFault.{LoadFault}
+use Rattle.vrl_io.specs.declared.fault.LoadFault.TheVariants.{Failed, Memory}
+use Rattle.vrl_run.specs.Request.{Request}
 use Rattle.remap_words.specs.Words.{Invocation}
-use Rattle.remap_call.specs.Request.{AsksByScript, Held, IsLoaded}
+use Rattle.remap_call.specs.Request.{AreTexts, Asks, HasLoadedBy, Held, IsUnloaded, Texts}
 
--- the kind file's name was added to the failures, which is once the script is known to be a text
-pub record IsKindUnloaded (invocation : Invocation) (text : List ℕ) (failures after : List (List ℕ)) : Type 0 where
-  pub name : List ℕ
-  pub named : invocation.kind ≡ Some name
-  pub is_text : ¬ IsNoScript text
-  pub failed : after ≡ failures ++ name ∷ []
+-- there are bytes of a file where one is named, and no others
+abbrev pub IsFileOf : (name file : Option (List ℕ)) → Type 0
+IsFileOf None None = ⊤
+IsFileOf (Some name) (Some bytes) = ⊤
+IsFileOf name file = ⊥
 
--- A call whose script has these bytes does this.
-pub record IsScriptCall (held : Held) (invocation : Invocation) (text : List ℕ) (failures failures_after : List (List ℕ)) (status : Status) (before after : Devices) (Unasked : Type 0) : Type 0 where
-  -- the bytes of the kind file
-  pub file : Option (List ℕ)
-  pub is_file : IfSome invocation.kind (λ name. IsLoaded held name file)
-  pub answered : IsAnswered (AsksByScript invocation file text) (¬ (failures_after ≡ failures)) status before after Unasked
-  pub load_told : (status ≡ ReadFault) ⊎ (failures_after ≡ failures)
-  pub loads : (failures_after ≡ failures) ⊎ IsKindUnloaded invocation text failures failures_after
-  pub unloaded : (name : List ℕ) → invocation.kind ≡ Some name → ¬ IsNoScript text → file ≡ None → (status ≡ ReadFault) ⊎ (status ≡ Memory)
+-- What is asked is known: all that is to be loaded was.
+pub record IsReady (held : Held) (invocation : Option Invocation) (failures failures_after : List (List ℕ)) (request : Request) : Type 0 where
+  pub texts : Texts
+  pub are_texts : AreTexts held invocation texts
+  pub loaded : IfSome invocation (λ i. ¬ IsUnloaded i texts)
+  pub asks : Asks invocation texts request
+  pub none_failed : failures_after ≡ failures
+
+-- why it isn't: a load failed, or there was no memory
+abbrev pub HasCause : (failures failures_after : List (List ℕ)) → LoadFault → Type 0
+HasCause failures failures_after Failed = ¬ (failures_after ≡ failures)
+HasCause failures failures_after Memory = failures_after ≡ failures
+
+-- What is asked isn't known, for this reason.
+pub record IsUnready (held : Held) (invocation : Option Invocation) (failures failures_after : List (List ℕ)) (fault : LoadFault) : Type 0 where
+  pub texts : Texts
+  pub are_texts : AreTexts held invocation texts
+  pub loads : HasLoadedBy invocation texts failures failures_after
+  pub cause : HasCause failures failures_after fault

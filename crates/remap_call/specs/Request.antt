@@ -89,6 +89,10 @@ IsKindRefused (Some name) file f = (f ≢ fault.Memory) × IsSomeAnd file (λ by
 abbrev pub no_script_text : List Diagnostic
 no_script_text = record { code = 1009; span = record { start = 0; end = 0 } } ∷ []
 
+-- the request of a script whose bytes are no text
+abbrev pub no_script_request : List ℕ → Request
+no_script_request text = bad_script text no_script_text
+
 -- the bytes are the text of this script
 pub record IsTextOf (script : Script) (text : List ℕ) : Type 0 where
   pub tokens : List Spanned

@@ -8,20 +8,19 @@ ghost use Rattle.remap_call.specs.Call.{IsCall};
 ghost use Rattle.remap_call.specs.Laws.{Laws};
 ghost use Rattle.remap_call.specs.Request.{AcceptedScriptsRunSoundly};
 
-use crate::loading::run_script;
-use remap_words::{WordsFault, read_words};
+use crate::loading::ask;
 use std::alloc::Global;
 use std::thread::Threads;
 use vrl_batch::Gate;
 use vrl_check::judgements_are_determined;
 use vrl_compile::{
-    SCRIPT_LIMIT, accepted_scripts_are_sound, diagnostics_are_determined, diagnostics_stand_once,
+    accepted_scripts_are_sound, diagnostics_are_determined, diagnostics_stand_once,
     scripts_have_one_reading,
 };
 use vrl_io::{Clock, LoadFault, Sink, Source, Store};
 use vrl_json::{json_needs_no_sources, lines_are_json, lines_are_ordered};
 use vrl_kindfile::files_have_one_answer;
-use vrl_run::{Request, Status, answer};
+use vrl_run::{Status, answer};
 
 /// All that the program does: reads the words, which are those behind the program's name, loads the script and the kind file
 /// that they name, and runs the script over the lines of the input, or does what the words ask in place of that. Events, a summary or kinds go to `output`; diagnostics, and reports
@@ -77,39 +76,22 @@ pub fn remap<R: Threads + Sync, F: Store, S: Source, O: Sink, E: Sink, C: Clock,
 {
     laws();
     accepted_run_soundly();
-    let invocation = match read_words(alloc, words) {
-        Ok(invocation) => invocation,
-        Err(WordsFault::Refused) => {
-            return answer(
-                rt,
-                alloc,
-                &Request::Words,
-                1,
-                input,
-                output,
-                report,
-                clock,
-                gate,
-            );
-        }
-        Err(WordsFault::Memory) => return Status::Memory,
+    let asked = match ask(alloc, words, files) {
+        Ok(asked) => asked,
+        Err(LoadFault::Failed) => return Status::ReadFault,
+        Err(LoadFault::Memory) => return Status::Memory,
     };
-    match files.load(invocation.script, SCRIPT_LIMIT + 1) {
-        Ok(script) => run_script(
-            rt,
-            alloc,
-            &invocation,
-            script.as_slice(),
-            files,
-            input,
-            output,
-            report,
-            clock,
-            gate,
-        ),
-        Err(LoadFault::Failed) => Status::ReadFault,
-        Err(LoadFault::Memory) => Status::Memory,
-    }
+    answer(
+        rt,
+        alloc,
+        &asked.request,
+        asked.jobs,
+        input,
+        output,
+        report,
+        clock,
+        gate,
+    )
 }
 
 // The laws that the contract of a call rests on. This takes no time.

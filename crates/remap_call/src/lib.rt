@@ -1,11 +1,11 @@
 //! The top call of the program: what it does with its words, its files, its input and its sinks, as one clause.
 //!
-//! Files: `call.rt` has `remap`, `loading.rt` what is done with the bytes of a script and of a kind file, and `running.rt` what is done with a script over events of
-//! the declared kind.
+//! Files: `call.rt` has `remap`, `loading.rt` the words, and the bytes of the script and of the kind file that they
+//! name, and `asking.rt` what is asked with these, for which no device is needed.
 #![tactic(auto)]
 
+mod asking;
 mod call;
 mod loading;
-mod running;
 
 pub use call::remap;

@@ -1,215 +1,120 @@
-ghost use Rattle.std.specs.Prelude.{◌≡◌, ◌⊎◌, ◌↔◌, IfOk, IsSome, IsTrue, None, Some};
+ghost use Rattle.std.specs.Prelude.{◌≡◌, ◌≤◌, ℕ, option_map, IfErr, IfOk, IfSome, IsTrue, List, OnOk, Some};
+ghost use Rattle.vrl_io.specs.Faults.{failures_after};
+ghost use Rattle.vrl_run.specs.Request.{request_of, IsReadyRequest};
 ghost use Rattle.vrl_token.specs.Reading.{IsNoScript};
-ghost use Rattle.vrl_run.specs.Devices.{devices, IsAnswered};
-ghost use Rattle.remap_words.specs.View.{invocation_of, IsInBounds};
-ghost use Rattle.remap_call.specs.Loading.{IsScriptCall};
-ghost use Rattle.remap_call.specs.Request.{event_kind, AsksByScript};
+ghost use Rattle.remap_words.specs.View.{invocation_of, texts, IsInBounds};
+ghost use Rattle.remap_words.specs.Words.{words_mean};
+ghost use Rattle.remap_call.specs.Loading.{IsFileOf, IsReady, IsUnready};
+ghost use Rattle.remap_call.specs.Request.{IsLoaded};
 
-use crate::running::run_declared;
-use remap_words::Invocation;
+use crate::asking::asked;
+use remap_words::{Invocation, WordsFault, read_words};
 use std::alloc::Global;
-use std::thread::Threads;
-use vrl_batch::Gate;
-use vrl_io::{Clock, LoadFault, Sink, Source, Store};
-use vrl_kind::{Kind, Rest, equal_tags_are_one_kind, kind_is_canonical};
-use vrl_kindfile::{FILE_LIMIT, KindFault, read_kind_file};
-use vrl_run::{Request, Status, answer};
+use vrl_compile::SCRIPT_LIMIT;
+use vrl_io::{LoadFault, Store};
+use vrl_kindfile::FILE_LIMIT;
+use vrl_run::Request;
 use vrl_token::script_text;
-use vrl_value::Memory;
+use vrl_value::{Bytes, Memory};
 
-// Does what is asked with the bytes of a script; the kind file is still to be loaded.
-pub(crate) fn run_script<
-    R: Threads + Sync,
-    F: Store,
-    S: Source,
-    O: Sink,
-    E: Sink,
-    C: Clock,
-    G: Gate + Sync,
->(
-    rt: &R,
+// What a call asks, and by how many workers.
+#[derive(Drop)]
+pub(crate) struct Asked {
+    pub(crate) request: Request,
+    // 1 to 32.
+    pub(crate) jobs: u32,
+}
+
+// Reads the words, loads the script and the kind file that they name, and says what is asked. `Failed`: one of these
+// could not be loaded. `Memory`: out of memory.
+pub(crate) fn ask<F: Store>(
     alloc: Global,
-    invocation: &Invocation,
-    script: &[u8],
+    words: &[String],
     files: &mut F,
-    input: &mut S,
-    output: &mut O,
-    report: &mut E,
-    clock: &mut C,
-    gate: &G,
-) -> Status
-    requires bounds { IsInBounds (invocation_of invocation.now) }
-    ensures call { IsScriptCall (F.held files.old) (invocation_of invocation.now) script.now (F.failures files.old) (F.failures files.new) result
-        (devices (S.left input.old) (S.taken input.old) (S.ended input.old) (S.faults input.old) (C.ahead clock.old)
-        (O.written output.old) (O.faults output.old) (E.written report.old) (E.faults report.old))
-        (devices (S.left input.new) (S.taken input.new) (S.ended input.new) (S.faults input.new) (C.ahead clock.new)
-        (O.written output.new) (O.faults output.new) (E.written report.new) (E.faults report.new))
-        ((input.new ≡ input.old) × (clock.new ≡ clock.old)) }
-    // Where the kind file can't be loaded, nothing more is done.
-    ensures unloaded { (F.failures files.new ≡ F.failures files.old)
-        ⊎ ((input.new ≡ input.old) × (clock.new ≡ clock.old)
-        × (O.written output.new ≡ O.written output.old) × (E.written report.new ≡ E.written report.old)) }
+) -> Result<Asked, LoadFault>
+    ensures ready { IfOk result (λ asked. IsReady (F.held files.old) (words_mean (texts words.now))
+        (F.failures files.old) (F.failures files.new) (request_of asked.request)) }
+    ensures request { IfOk result (λ asked. IsReadyRequest asked.request) }
+    ensures jobs { IfOk result (λ asked. (1 ≤ asked.jobs) × (asked.jobs ≤ 32)) }
+    ensures unready { IfErr result (IsUnready (F.held files.old) (words_mean (texts words.now))
+        (F.failures files.old) (F.failures files.new)) }
 {
-    match script_text(script) {
-        Ok(text) => run_text(
-            rt, alloc, invocation, text, files, input, output, report, clock, gate,
-        ),
-        Err(fault) => {
-            let faults = [fault];
-            let request = Request::Refused(script, &faults);
-            answer(
-                rt,
-                alloc,
-                &request,
-                invocation.jobs,
-                input,
-                output,
-                report,
-                clock,
-                gate,
-            )
+    let invocation = match read_words(alloc, words) {
+        Ok(invocation) => invocation,
+        Err(WordsFault::Refused) => {
+            return Ok(Asked {
+                request: Request::Words,
+                jobs: 1,
+            });
         }
+        Err(WordsFault::Memory) => return Err(LoadFault::Memory),
+    };
+    let script = match files.load(invocation.script, SCRIPT_LIMIT + 1) {
+        Ok(script) => script,
+        Err(fault) => return Err(fault),
+    };
+    match ask_script(alloc, &invocation, script, files) {
+        Ok(request) => Ok(Asked {
+            request,
+            jobs: invocation.jobs,
+        }),
+        Err(fault) => Err(fault),
     }
 }
 
-// The same with its text.
-fn run_text<R: Threads + Sync, F: Store, S: Source, O: Sink, E: Sink, C: Clock, G: Gate + Sync>(
-    rt: &R,
+// The same with the bytes of the script. The kind file is loaded once these are known to be a text.
+fn ask_script<F: Store>(
     alloc: Global,
     invocation: &Invocation,
-    text: &str,
+    script: Bytes,
     files: &mut F,
-    input: &mut S,
-    output: &mut O,
-    report: &mut E,
-    clock: &mut C,
-    gate: &G,
-) -> Status
+) -> Result<Request, LoadFault>
     requires bounds { IsInBounds (invocation_of invocation.now) }
-    requires text { ¬ IsNoScript text.now }
-    ensures call { IsScriptCall (F.held files.old) (invocation_of invocation.now) text.now (F.failures files.old) (F.failures files.new) result
-        (devices (S.left input.old) (S.taken input.old) (S.ended input.old) (S.faults input.old) (C.ahead clock.old)
-        (O.written output.old) (O.faults output.old) (E.written report.old) (E.faults report.old))
-        (devices (S.left input.new) (S.taken input.new) (S.ended input.new) (S.faults input.new) (C.ahead clock.new)
-        (O.written output.new) (O.faults output.new) (E.written report.new) (E.faults report.new))
-        ((input.new ≡ input.old) × (clock.new ≡ clock.old)) }
-    // Where the kind file can't be loaded, nothing more is done.
-    ensures unloaded { (F.failures files.new ≡ F.failures files.old)
-        ⊎ ((input.new ≡ input.old) × (clock.new ≡ clock.old)
-        × (O.written output.new ≡ O.written output.old) × (E.written report.new ≡ E.written report.old)) }
+    requires loaded { IsLoaded (F.held files.old) (invocation_of invocation.now).script (Some script) }
+    ensures ready { IfOk result (λ request. IsReady (F.held files.old) (Some (invocation_of invocation.now))
+        (F.failures files.old) (F.failures files.new) (request_of request)) }
+    ensures request { IfOk result IsReadyRequest }
+    ensures unready { IfErr result (IsUnready (F.held files.old) (Some (invocation_of invocation.now))
+        (F.failures files.old) (F.failures files.new)) }
 {
-    match invocation.kind {
-        Some(name) => match files.load(name, FILE_LIMIT + 1) {
-            Ok(file) => run_with_file(
-                rt,
-                alloc,
-                invocation,
-                text,
-                file.as_slice(),
-                input,
-                output,
-                report,
-                clock,
-                gate,
-            ),
-            Err(LoadFault::Failed) => Status::ReadFault,
-            Err(LoadFault::Memory) => Status::Memory,
-        },
-        None => run_without_file(
-            rt, alloc, invocation, text, input, output, report, clock, gate,
-        ),
+    if !is_script(script.as_slice()) {
+        return match asked(alloc, invocation, script, None) {
+            Ok(request) => Ok(request),
+            Err(Memory) => Err(LoadFault::Memory),
+        };
+    }
+    let file = match load_kind(files, invocation.kind) {
+        Ok(file) => file,
+        Err(fault) => return Err(fault),
+    };
+    match asked(alloc, invocation, script, file) {
+        Ok(request) => Ok(request),
+        Err(Memory) => Err(LoadFault::Memory),
     }
 }
 
-// Does what is asked with the text of a script and the bytes of the kind file.
-fn run_with_file<R: Threads + Sync, S: Source, O: Sink, E: Sink, C: Clock, G: Gate + Sync>(
-    rt: &R,
-    alloc: Global,
-    invocation: &Invocation,
-    text: &str,
-    file: &[u8],
-    input: &mut S,
-    output: &mut O,
-    report: &mut E,
-    clock: &mut C,
-    gate: &G,
-) -> Status
-    requires bounds { IsInBounds (invocation_of invocation.now) }
-    requires text { ¬ IsNoScript text.now }
-    requires named { IsSome (invocation_of invocation.now).kind }
-    ensures { IsAnswered (AsksByScript (invocation_of invocation.now) (Some file.now) text.now) ⊥ result
-        (devices (S.left input.old) (S.taken input.old) (S.ended input.old) (S.faults input.old) (C.ahead clock.old)
-        (O.written output.old) (O.faults output.old) (E.written report.old) (E.faults report.old))
-        (devices (S.left input.new) (S.taken input.new) (S.ended input.new) (S.faults input.new) (C.ahead clock.new)
-        (O.written output.new) (O.faults output.new) (E.written report.new) (E.faults report.new))
-        ((input.new ≡ input.old) × (clock.new ≡ clock.old)) }
+// Whether these bytes are the text of a script.
+fn is_script(bytes: &[u8]) -> bool
+    ensures only { IsTrue result → ¬ IsNoScript bytes.now }
+    ensures wherever { ¬ IsTrue result → IsNoScript bytes.now }
 {
-    match read_kind_file(alloc, file) {
-        Ok(declared) => run_declared(
-            rt, alloc, invocation, text, &declared, input, output, report, clock, gate,
-        ),
-        Err(fault) => {
-            if wants_memory(&fault) {
-                return Status::Memory;
-            }
-            answer(
-                rt,
-                alloc,
-                &Request::Kind(&fault),
-                invocation.jobs,
-                input,
-                output,
-                report,
-                clock,
-                gate,
-            )
-        }
+    script_text(bytes).is_ok()
+}
+
+// The bytes of the kind file, if one is named. `Failed`: it could not be loaded. `Memory`: out of memory.
+fn load_kind<F: Store>(files: &mut F, name: Option<&str>) -> Result<Option<Bytes>, LoadFault>
+    ensures file { IfOk result (λ file. IsFileOf (option_map (λ name. name.now) name) file
+        × IfSome (option_map (λ name. name.now) name) (λ name. IsLoaded (F.held files.old) name file)) }
+    ensures none_failed { OnOk result (F.failures files.new ≡ F.failures files.old) }
+    ensures fault { IfErr result (λ fault. (named : List ℕ)
+        × (option_map (λ name. name.now) name ≡ Some named)
+        × (F.failures files.new ≡ failures_after fault named (F.failures files.old))) }
+{
+    let Some(name) = name else {
+        return Ok(None);
+    };
+    match files.load(name, FILE_LIMIT + 1) {
+        Ok(file) => Ok(Some(file)),
+        Err(fault) => Err(fault),
     }
-}
-
-// Whether it is for want of memory that a kind file has no kind.
-fn wants_memory(fault: &KindFault) -> bool
-    ensures { IsTrue result ↔ (fault.now ≡ KindFault.Memory) }
-{
-    matches!(fault, KindFault::Memory)
-}
-
-// Does what is asked with the text of a script, over events that are any objects.
-fn run_without_file<R: Threads + Sync, S: Source, O: Sink, E: Sink, C: Clock, G: Gate + Sync>(
-    rt: &R,
-    alloc: Global,
-    invocation: &Invocation,
-    text: &str,
-    input: &mut S,
-    output: &mut O,
-    report: &mut E,
-    clock: &mut C,
-    gate: &G,
-) -> Status
-    requires bounds { IsInBounds (invocation_of invocation.now) }
-    requires text { ¬ IsNoScript text.now }
-    requires unnamed { (invocation_of invocation.now).kind ≡ None }
-    ensures { IsAnswered (AsksByScript (invocation_of invocation.now) None text.now) ⊥ result
-        (devices (S.left input.old) (S.taken input.old) (S.ended input.old) (S.faults input.old) (C.ahead clock.old)
-        (O.written output.old) (O.faults output.old) (E.written report.old) (E.faults report.old))
-        (devices (S.left input.new) (S.taken input.new) (S.ended input.new) (S.faults input.new) (C.ahead clock.new)
-        (O.written output.new) (O.faults output.new) (E.written report.new) (E.faults report.new))
-        ((input.new ≡ input.old) × (clock.new ≡ clock.old)) }
-{
-    match event_kind(alloc) {
-        Ok(declared) => run_declared(
-            rt, alloc, invocation, text, &declared, input, output, report, clock, gate,
-        ),
-        Err(Memory) => Status::Memory,
-    }
-}
-
-// The kind of the events where no kind file says it: an object whose fields are any of JSON.
-fn event_kind(alloc: Global) -> Result<Kind, Memory>
-    ensures { IfOk result (λ kind. kind ≡ event_kind) }
-{
-    equal_tags_are_one_kind();
-    let kind = Kind::object(alloc, Vec::new(alloc), Rest::Json)?;
-    kind_is_canonical(&kind);
-    Ok(kind)
 }

@@ -4,6 +4,8 @@
 #![tactic(auto)]
 
 use remap_call::remap;
+use std::alloc::Global;
+use std::env::FillError;
 use std::process::ExitCode;
 use std::rt::Env;
 use std::{env, io};
@@ -12,7 +14,7 @@ use vrl_io::{FileStore, StdSink, StdSource, SystemClock};
 use vrl_run::Status;
 
 fn main(rt: HostRuntime) -> ExitCode {
-    let words = match words_of(&rt) {
+    let words = match words_of(&rt, rt.alloc()) {
         Ok(words) => words,
         // A word that is no text is refused as no words are.
         Err(fault) if fault.kind() == io::ErrorKind::InvalidData => Vec::new(rt.alloc()),
@@ -33,10 +35,31 @@ fn main(rt: HostRuntime) -> ExitCode {
 }
 
 // The words behind the program's name.
-fn words_of<R: Env + Alloc>(rt: &R) -> io::Result<Vec<String<R::A>, R::A>> {
-    let mut words = Vec::new(rt.alloc());
-    for word in env::args(rt)?.skip(1) {
+fn words_of<R: Env>(rt: &R, alloc: Global) -> io::Result<Vec<String>> {
+    let mut words = Vec::new(alloc);
+    for word in env::args(&(BehindName(rt), alloc))? {
         words.push(word)?;
     }
     Ok(words)
+}
+
+// An environment whose arguments begin behind the program's name, which may be no text.
+#[derive(Drop)]
+struct BehindName<'a, R: Env>(&'a R);
+
+impl<'a, R: Env> Env for BehindName<'a, R> {
+    fn arg(&self, i: usize, buf: &mut [u8]) -> Result<usize, FillError> {
+        match i.checked_add(1) {
+            Some(next) => self.0.arg(next, buf),
+            None => Err(FillError::NotPresent),
+        }
+    }
+
+    fn var(&self, name: &str, buf: &mut [u8]) -> Result<usize, FillError> {
+        self.0.var(name, buf)
+    }
+
+    fn var_at(&self, i: usize, buf: &mut [u8]) -> Result<usize, FillError> {
+        self.0.var_at(i, buf)
+    }
 }

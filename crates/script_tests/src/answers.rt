@@ -1,4 +1,4 @@
-ghost use Rattle.std.specs.Prelude.{◌≡◌};
+ghost use Rattle.std.specs.Prelude.{◌≡◌, IfOk};
 ghost use Rattle.vrl_resolve.specs.Program.{program_of};
 ghost use Rattle.vrl_run.specs.LineResult.{HandlesErrors};
 ghost use Rattle.vrl_run.specs.Request.{IsReadyRequest};
@@ -9,12 +9,12 @@ use std::alloc::Global;
 use std::process::Abort;
 use std::thread::Threads;
 use vrl_batch::FreeGate;
-use vrl_diag::{Diagnostic, Span};
+use vrl_compile::Accepted;
+use vrl_diag::{Diagnostic, Diagnostics, Span};
 use vrl_io::{MemoryClock, MemorySink, MemorySource};
 use vrl_kind::Kind;
-use vrl_resolve::Program;
 use vrl_run::{Options, Request, Script, Status, answer};
-use vrl_value::{Memory, Names};
+use vrl_value::{Bytes, Memory};
 
 // The size of the input's pieces, where it comes in pieces, and the number of the call that fails, of the input, the output and the
 // report.
@@ -119,16 +119,21 @@ fn is_run<R: Threads + Sync>(
     rt: &R,
     alloc: Global,
     text: &str,
-    program: &Program,
-    sources: &Names,
-    declared: &Kind,
+    script: Accepted,
+    declared: Kind,
     row: &Row,
 ) -> Result<bool, Memory>
-    requires sources { sources.now ≡ (program_of program.now).sources }
-    requires handled { HandlesErrors declared.now (program_of program.now) }
+    requires sources { script.sources ≡ (program_of script.program).sources }
+    requires handled { HandlesErrors declared (program_of script.program) }
 {
+    let text = Bytes::new(text.as_bytes().to_vec(alloc)?);
+    let Accepted {
+        program,
+        judged: _judged,
+        sources,
+    } = script;
     let request = Request::Run(Script {
-        text: text.as_bytes(),
+        text,
         program,
         sources,
         declared,
@@ -136,9 +141,18 @@ fn is_run<R: Threads + Sync>(
             drop_on_error: false,
             keep_on_abort: false,
         },
-        warnings: &[],
+        warnings: Diagnostics::new(Vec::new(alloc)),
     });
     is_answered(rt, alloc, &request, row)
+}
+
+// What is asked where a script isn't accepted.
+fn refusal(alloc: Global, text: &str) -> Result<Request, Memory>
+    ensures { IfOk result IsReadyRequest }
+{
+    let text = Bytes::new(text.as_bytes().to_vec(alloc)?);
+    let diagnostics = Diagnostics::new(UNDEFINED.to_vec(alloc)?);
+    Ok(Request::Refused(text, diagnostics))
 }
 
 fn is_told<R: Threads + Sync>(
@@ -149,21 +163,8 @@ fn is_told<R: Threads + Sync>(
 ) -> Result<bool, Memory> {
     let declared = event_kind(alloc)?;
     match accepted(alloc, text, &declared)? {
-        Some(script) => is_run(
-            rt,
-            alloc,
-            text,
-            &script.program,
-            &script.sources,
-            &declared,
-            row,
-        ),
-        None => is_answered(
-            rt,
-            alloc,
-            &Request::Refused(text.as_bytes(), &UNDEFINED),
-            row,
-        ),
+        Some(script) => is_run(rt, alloc, text, script, declared, row),
+        None => is_answered(rt, alloc, &refusal(alloc, text)?, row),
     }
 }
 

@@ -9,7 +9,7 @@ use Rattle.vrl_batch.specs.Batches.{is_whole}
 use Rattle.vrl_batch.specs.Begun.{DividesAt, HoldsLines, IsBegun, is_filled}
 use Rattle.vrl_batch.specs.Limits.{input_limit}
 use Rattle.vrl_batch.specs.Lines.{ended_of, event_lines_from, lines_of}
-use Rattle.vrl_batch.specs.Moments.{MovesOn}
+use Rattle.vrl_batch.specs.Moments.{MovesAtMost, MovesOn}
 use Rattle.vrl_batch.specs.Pieces.{MissesPiece, PieceHeld, TakesPiece, held_by}
 use Rattle.vrl_batch.specs.Reads.{IsNeeded, ReadsBatch, StopsAt, Stream, Takes, stream}
 use Rattle.vrl_batch.specs.declared.begun.Begun.{Begun}
@@ -52,6 +52,10 @@ fills-start piece piece_after begun begun_after left taken ended ahead ahead_aft
   within = within;
 }
 
+no_length : (xs : List ℕ) → length xs ≡ 0 → xs ≡ []
+no_length [] empty = refl
+no_length (x ∷ xs) empty = absurd (omega (arith, empty))
+
 module _ (before : Stream) (piece : PieceHeld) (begun : Begun) (left : Option (List ℕ)) (taken : ℕ) (ended : Bool) (ahead : Option (ℕ → ℤ)) (fills : Fills before piece begun left taken ended ahead) (unfilled : is_filled begun ≡ false) where
   held_are : before.reader.held ++ fills.bytes ≡ fills.front ++ fills.part
   held_are = fills.divides ∙ ap (λ x. fills.front ++ (fills.part ++ x)) (fills.all unfilled) ∙ ap (λ x. fills.front ++ x) (append-nil fills.part)
@@ -84,6 +88,13 @@ module _ (before : Stream) (piece : PieceHeld) (begun : Begun) (left : Option (L
     both_counted_too : piece_taken.taken ≡ before.reader.taken + length (fills.bytes ++ piece_taken.rest)
     both_counted_too = omega (arith, takes.counted_too, fills.counted_too, takes.length_is, length-append fills.bytes piece_taken.rest)
 
+    more_held : before.reader.held ++ (fills.bytes ++ piece_taken.rest) ≡ fills.front ++
+        (fills.part ++ piece_taken.rest)
+    more_held =
+        sym (append_assoc before.reader.held fills.bytes piece_taken.rest)
+        ∙ ap (λ x. x ++ piece_taken.rest) held_are
+        ∙ append_assoc fills.front fills.part piece_taken.rest
+
     -- lines of them were added
     pub fills-more : (piece_after : PieceHeld) (begun_after : Begun) (ended_after : Bool) (ahead_after : Option (ℕ → ℤ)) → ¬ IsTrue ended → piece_after.taken ≡ piece_taken.taken
         → ((front part : List ℕ) → IsBegun before.reader.next before.ahead front part begun ahead → DividesAt before.reader.next before.ahead (front ++ (part ++ piece_taken.rest)) piece_after.rest begun_after ahead_after)
@@ -98,11 +109,7 @@ module _ (before : Stream) (piece : PieceHeld) (begun : Begun) (left : Option (L
           counted_too = same ∙ both_counted_too;
           front = at.front;
           part = at.part;
-          divides =
-              sym (append_assoc before.reader.held fills.bytes piece_taken.rest)
-              ∙ ap (λ x. x ++ piece_taken.rest) held_are
-              ∙ append_assoc fills.front fills.part piece_taken.rest
-              ∙ at.divides;
+          divides = more_held ∙ at.divides;
           is_begun = at.is_begun;
           all = all;
           needed = inr (fills.bytes, piece_taken.rest, refl, omega (arith, takes.most, takes.length_is), not_whole);
@@ -111,12 +118,32 @@ module _ (before : Stream) (piece : PieceHeld) (begun : Begun) (left : Option (L
           within = omega (arith, same, takes.within);
         }
 
-    -- want of memory
-    pub fills-wanting : (piece_after : PieceHeld) (number : ℕ) (ended_after : Bool) (ahead_after : Option (ℕ → ℤ)) → piece_after.taken ≡ piece_taken.taken → StopsAt before (stream (held_by piece_after number) left_after taken_after ended_after ahead_after) Memory
-    fills-wanting piece_after number ended_after ahead_after same = (
-      (fills.bytes ++ piece_taken.rest, record { is_left = both_left; counted = both_counted; counted_too = same ∙ both_counted_too }),
+    -- out of memory while they are added
+    pub fills-wanting : (piece_after : PieceHeld) (number : ℕ) (ended_after : Bool) (ahead_after : Option (ℕ → ℤ))
+        → piece_after.taken ≡ piece_taken.taken → (IsTrue ended → count ≡ 0)
+        → MovesAtMost before.ahead (length (event_lines_from before.reader.next (fills.front ++ (fills.part ++ piece_taken.rest)))) ahead_after
+        → StopsAt before (stream (held_by piece_after number) left_after taken_after ended_after ahead_after) Memory
+    fills-wanting piece_after number ended_after ahead_after same none asks = (
+      record {
+        bytes = fills.bytes ++ piece_taken.rest;
+        takes = record { is_left = both_left; counted = both_counted; counted_too = same ∙ both_counted_too };
+        clock = subst (λ x. MovesAtMost before.ahead (length (event_lines_from before.reader.next x)) ahead_after) (sym more_held) asks;
+        past_end = λ is.
+            let past = fills.past_end is in
+            ap (λ x. x ++ piece_taken.rest) past.0 ∙ no_length piece_taken.rest (takes.length_is ∙ none past.1);
+      },
       omega (arith, same, takes.within),
     )
+
+    -- or once the source has ended
+    pub fills-wanting-end : (number : ℕ) (ended_after : Bool) (ahead_after : Option (ℕ → ℤ)) → count ≡ 0
+        → MovesAtMost before.ahead (length (event_lines_from before.reader.next (fills.front ++ fills.part))) ahead_after
+        → StopsAt before (stream (held_by piece_taken number) left_after taken_after ended_after ahead_after) Memory
+    fills-wanting-end number ended_after ahead_after none asks =
+        let no_rest = no_length piece_taken.rest (takes.length_is ∙ none) in
+        let same = ap (λ x. fills.front ++ x) (sym (append-nil fills.part) ∙ ap (λ x. fills.part ++ x) (sym no_rest)) in
+        fills-wanting piece_taken number ended_after ahead_after refl (λ is. none)
+        (subst (λ x. MovesAtMost before.ahead (length (event_lines_from before.reader.next x)) ahead_after) same asks)
 
     -- the end of the input
     pub fills-end : (begun_after : Begun) (ended_after : Bool) (ahead_after : Option (ℕ → ℤ)) → count ≡ 0 → IsTrue ended_after → IfSome left_after (λ rest. rest ≡ [])
@@ -142,10 +169,6 @@ module _ (before : Stream) (piece : PieceHeld) (begun : Begun) (left : Option (L
           needed = fills.needed;
           past_end = λ is. (fills.past_end is).0;
         }
-      where
-        no_length : (xs : List ℕ) → length xs ≡ 0 → xs ≡ []
-        no_length [] empty = refl
-        no_length (x ∷ xs) empty = absurd (omega (arith, empty))
 
   -- ---- a take that gave none
 
@@ -210,11 +233,17 @@ fills-whole before piece begun left taken ended ahead fills filled =
       past_end = λ is. (fills.past_end is).0;
     }
 
--- want of memory before any take
+-- out of memory before any take
 pub wanting-start : (piece piece_after : PieceHeld) (number number_after : ℕ) (left : Option (List ℕ)) (taken : ℕ) (ended : Bool) (ahead ahead_after : Option (ℕ → ℤ)) → piece_after.taken ≡ piece.taken → piece.taken ≤ input_limit
+    → MovesAtMost ahead (length (event_lines_from (number + 1) piece.rest)) ahead_after
     → StopsAt (stream (held_by piece number) left taken ended ahead) (stream (held_by piece_after number_after) left taken ended ahead_after) Memory
-wanting-start piece piece_after number number_after left taken ended ahead ahead_after same within = (
-  ([], record { is_left = left_none left; counted = omega arith; counted_too = omega (arith, same) }),
+wanting-start piece piece_after number number_after left taken ended ahead ahead_after same within asks = (
+  record {
+    bytes = [];
+    takes = record { is_left = left_none left; counted = omega arith; counted_too = omega (arith, same) };
+    clock = subst (λ x. MovesAtMost ahead (length (event_lines_from (number + 1) x)) ahead_after) (sym (append-nil piece.rest)) asks;
+    past_end = λ is. refl;
+  },
   omega (arith, same, within),
 )
 

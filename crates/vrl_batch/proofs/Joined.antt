@@ -1,6 +1,7 @@
 -- The lines of bytes, one part behind another.
-use Rattle.std.proofs.Common.{◌≡◌, ◌≢◌, ◌==◌, ℕ, zero, suc, ◌+◌, ◌<◌, List, [], ◌∷◌, ◌++◌, length, take, get_or, filter, Bool, true, false, not, if◌then◌else◌, inl, inr, refl, sym, ap, ◌∙◌, append_assoc, arith}
+use Rattle.std.proofs.Common.{◌≡◌, ◌≢◌, ◌==◌, ℕ, zero, suc, ◌+◌, ◌<◌, ◌≤◌, List, [], ◌∷◌, ◌++◌, length, take, get_or, filter, Bool, true, false, not, if◌then◌else◌, inl, inr, refl, sym, ap, ◌∙◌, append_assoc, subst, arith}
 use Rattle.std.proofs.lemmas.Bool.Decides.{nat_tests}
+use Rattle.std.proofs.lemmas.List.{length-append}
 use Rattle.std.proofs.lemmas.List.Elements.{filter-append}
 use Rattle.std.specs.List.{enumerate_from, onto_first}
 use Rattle.vrl_batch.proofs.LineLemmas.{lines_of-other}
@@ -93,3 +94,59 @@ ended-behind (b ∷ c ∷ before) more =
 pub ended-append : (front more : List ℕ) → AreWholeLines front → ended_of (front ++ more) ≡ front ++ ended_of more
 ended-append front more (inl none) = rw none refl
 ended-append front more (inr (before, is)) = rw is (ended-behind before more)
+
+-- the lines that have ended stand in front
+pub record EndsIn (ended bytes : List ℕ) : Type 0 where
+  pub whole : AreWholeLines ended
+  pub rest : List ℕ
+  pub divides : bytes ≡ ended ++ rest
+
+whole-behind : (b c : ℕ) (ended : List ℕ) → AreWholeLines (c ∷ ended) → AreWholeLines (b ∷ c ∷ ended)
+whole-behind b c ended (inl none) = absurd (no_nil none) where
+  no_nil : c ∷ ended ≡ [] → ⊥
+  no_nil e = cc
+whole-behind b c ended (inr (before, is)) = inr (b ∷ before, ap (λ x. b ∷ x) is)
+
+ends_in-more : (test : Bool) (b : ℕ) (ended bytes : List ℕ) → (test ≡ true → b ≡ 10) → EndsIn ended bytes
+    → EndsIn (if test then b ∷ ended else before_some b ended) (b ∷ bytes)
+ends_in-more true b [] bytes newline at = record {
+  whole = inr ([], ap (λ x. x ∷ []) (newline refl));
+  rest = at.rest;
+  divides = ap (λ x. b ∷ x) at.divides;
+}
+ends_in-more false b [] bytes newline at = record { whole = inl refl; rest = b ∷ at.rest; divides = ap (λ x. b ∷ x) at.divides }
+ends_in-more true b (c ∷ ended) bytes newline at = record {
+  whole = whole-behind b c ended at.whole;
+  rest = at.rest;
+  divides = ap (λ x. b ∷ x) at.divides;
+}
+ends_in-more false b (c ∷ ended) bytes newline at = record {
+  whole = whole-behind b c ended at.whole;
+  rest = at.rest;
+  divides = ap (λ x. b ∷ x) at.divides;
+}
+
+is_newline : (b : ℕ) → (b == 10) ≡ true → b ≡ 10
+is_newline b is = grind (arith, nat_tests)
+
+ends_in : (bytes : List ℕ) → EndsIn (ended_of bytes) bytes
+ends_in [] = record { whole = inl refl; rest = []; divides = refl }
+ends_in (b ∷ bytes) = ends_in-more (b == 10) b (ended_of bytes) bytes (is_newline b) (ends_in bytes)
+
+-- no fewer lines are there where more follows
+pub events-fewer : (n : ℕ) (front more : List ℕ) → AreWholeLines front
+    → length (event_lines_from n front) ≤ length (event_lines_from n (front ++ more))
+events-fewer n front more whole =
+    let all = ap length (events-append n front more whole) in
+    let both = length-append (event_lines_from n front) (event_lines_from (n + length (lines_of front)) more) in
+    omega (arith, all, both)
+
+-- nor than have ended
+pub ended-fewer : (n : ℕ) (bytes more : List ℕ)
+    → length (event_lines_from n (ended_of bytes)) ≤ length (event_lines_from n (bytes ++ more))
+ended-fewer n bytes more =
+    let at = ends_in bytes in
+    let divides : bytes ++ more ≡ ended_of bytes ++ (at.rest ++ more) =
+    ap (λ x. x ++ more) at.divides ∙ append_assoc (ended_of bytes) at.rest more in
+    subst (λ x. length (event_lines_from n (ended_of bytes)) ≤ length (event_lines_from n x)) (sym divides)
+    (events-fewer n (ended_of bytes) (at.rest ++ more) at.whole)

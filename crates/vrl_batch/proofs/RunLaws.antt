@@ -1,14 +1,17 @@
 -- What a reader has read over any number of calls.
-use Rattle.std.proofs.Common.{◌≡◌, ℕ, ◌+◌, ◌⊎◌, inl, inr, ℤ, List, [], ◌∷◌, ◌++◌, length, Option, Some, None, option_map, IfSome, true, true≢false, refl, sym, ap, ◌∙◌, append_assoc, subst, arith}
+use Rattle.std.proofs.Common.{◌≡◌, ℕ, ◌+◌, ◌≤◌, ◌⊎◌, inl, inr, ℤ, List, [], ◌∷◌, ◌++◌, length, Option, Some, None, option_map, IfSome, true, true≢false, refl, sym, ap, ◌∙◌, append_assoc, subst, arith}
 use Rattle.std.proofs.lemmas.List.{append-nil, length-append}
-use Rattle.vrl_batch.proofs.Joined.{ended-append, events-append, lines-append, whole-append}
-use Rattle.vrl_batch.proofs.Told.{lines_at-append, lines_at-length, tells-append, tells-none, timed}
+use Rattle.vrl_batch.proofs.Asks.{asks-behind, asks-none}
+use Rattle.vrl_batch.proofs.Joined.{ended-append, ended-fewer, events-append, events-fewer, lines-append, whole-append}
+use Rattle.vrl_batch.proofs.Told.{lines_at-append, lines_at-length, moved-both, tells-append, tells-none, timed}
 use Rattle.vrl_batch.proofs.Whole.{whole-first, whole-none}
 use Rattle.vrl_batch.specs.Batches.{is_whole, lines_in_whole}
 use Rattle.vrl_batch.specs.Lines.{AreWholeLines, ended_of, event_lines, event_lines_from, lines_of}
-use Rattle.vrl_batch.specs.Moments.{MovesOn, Tells, lines_at}
-use Rattle.vrl_batch.specs.Reads.{HasEnded, ReadsBatch, StopsReading, Stream, Takes}
-use Rattle.vrl_batch.specs.Runs.{AreWholeBatches, HasRead, HasReadAll, HasReadFront, HasReadWhole, BatchesEnd, RunsBegin, RunsEnd, RunsFront, RunsGoOn, RunsStop}
+use Rattle.vrl_batch.specs.Moments.{MovesAtMost, MovesOn, Tells, lines_at}
+use Rattle.vrl_batch.specs.Reads.{AsksAtMost, HasEnded, ReadsBatch, StopsAt, StopsReading, Stream, Takes}
+use Rattle.vrl_batch.specs.Runs.{AreWholeBatches, HasAskedAtMost, HasRead, HasReadAll, HasReadFront, HasReadWhole, BatchesEnd, RunsBegin, RunsEnd, RunsAskAtMost, RunsFront, RunsGoOn, RunsStop}
+use Rattle.vrl_batch.specs.declared.fault.BatchFault.{BatchFault}
+use Rattle.vrl_batch.specs.declared.fault.BatchFault.TheVariants.{ReadFault, TooMuch, Memory}
 use Rattle.vrl_batch.specs.declared.line.Line.{Line}
 
 -- ---- bytes taken
@@ -27,6 +30,12 @@ takes-append first second before middle after one two = record {
 pub left_none : (left : Option (List ℕ)) → left ≡ option_map (λ rest. [] ++ rest) left
 left_none None = refl
 left_none (Some rest) = refl
+
+-- ---- moments told
+
+moved_so_far : (begin now : Stream) (lines : List Line) (so : HasRead begin now lines)
+    → MovesOn begin.ahead (length (event_lines so.front)) now.ahead
+moved_so_far begin now lines so = subst (λ n. MovesOn begin.ahead n now.ahead) so.one_each so.tells.moved
 
 -- ---- the begin
 
@@ -199,15 +208,31 @@ end_law begin now after lines so reads = all_read begin now after lines so reads
 -- ---- a fault of the source, or the limit
 
 module _ (more : ℕ) (begin now after : Stream) (lines : List Line) (so : HasRead begin now lines) (stops : StopsReading more now after) where
+  -- the lines that have ended behind those that were read
+  abbrev later : List (ℕ × List ℕ)
+  later = event_lines_from now.reader.next (ended_of (now.reader.held ++ stops.bytes))
+
+  ended_events : AreWholeLines so.front
+      → event_lines (ended_of (so.input ++ stops.bytes)) ≡ event_lines so.front ++ later
+  ended_events whole =
+      let behind = ended_of (now.reader.held ++ stops.bytes) in
+      ap (λ x. event_lines (ended_of x)) (ap (λ x. x ++ stops.bytes) so.divides ∙ append_assoc so.front now.reader.held stops.bytes)
+      ∙ ap event_lines (ended-append so.front (now.reader.held ++ stops.bytes) whole)
+      ∙ events-append 1 so.front behind whole
+      ∙ ap (λ n. event_lines so.front ++ event_lines_from n behind) (sym so.next_is)
+
   whole_run : AreWholeBatches so.front → lines_in_whole (event_lines (ended_of (so.input ++ stops.bytes))) ≡ event_lines so.front
   whole_run (whole, follow) =
-      let later = ended_of (now.reader.held ++ stops.bytes) in
-      ap (λ x. lines_in_whole (event_lines (ended_of x))) (ap (λ x. x ++ stops.bytes) so.divides ∙ append_assoc so.front now.reader.held stops.bytes)
-      ∙ ap (λ x. lines_in_whole (event_lines x)) (ended-append so.front (now.reader.held ++ stops.bytes) whole)
-      ∙ ap lines_in_whole (events-append 1 so.front later whole ∙ ap (λ n. event_lines so.front ++ event_lines_from n later) (sym so.next_is))
-      ∙ follow (event_lines_from now.reader.next later)
-      ∙ ap (λ x. event_lines so.front ++ x) (whole-none (event_lines_from now.reader.next later) stops.not_whole)
+      ap lines_in_whole (ended_events whole)
+      ∙ follow later
+      ∙ ap (λ x. event_lines so.front ++ x) (whole-none later stops.not_whole)
       ∙ append-nil (event_lines so.front)
+
+  moved : AreWholeLines so.front
+      → MovesOn begin.ahead (length (event_lines (ended_of (so.input ++ stops.bytes)))) after.ahead
+  moved whole =
+      subst (λ n. MovesOn begin.ahead n after.ahead) (sym (ap length (ended_events whole) ∙ length-append (event_lines so.front) later))
+      (moved-both begin.ahead now.ahead after.ahead (length (event_lines so.front)) (length later) (moved_so_far begin now lines so) stops.moved)
 
   stop_at : AreWholeBatches so.front ⊎ HasEnded now → HasReadWhole more begin after lines
   stop_at (inl whole) =
@@ -220,6 +245,7 @@ module _ (more : ℕ) (begin now after : Stream) (lines : List Line) (so : HasRe
         more_is = stops.more_is;
         moments = at.0;
         timed = at.1;
+        moved = moved whole.0;
       }
   stop_at (inr ended) = absurd (stops.not_ended ended.ended)
 
@@ -292,3 +318,81 @@ batches_end_law before after batch reads = (
       (ended.ended, all_at_end before after batch reads ended ∙ no_lines reads.moments _ reads.one_each (sym none ∙ reads.batch_is)),
   λ at. none_batch before after batch reads (none_read before after batch reads at.1 reads.stops),
 )
+
+-- ---- for how many moments the clock is asked
+
+module _ (before after : Stream) (batch : List Line) (reads : ReadsBatch before after batch) where
+  few_told : ((is_whole (event_lines_from before.reader.next reads.front) ≡ true) × AreWholeLines reads.front) ⊎ HasEnded after
+      → length (event_lines_from before.reader.next reads.front) ≤ length (event_lines_from before.reader.next (before.reader.held ++ reads.bytes))
+  few_told (inl (full, whole)) =
+      subst (λ x. length (event_lines_from before.reader.next reads.front) ≤ length (event_lines_from before.reader.next x)) (sym reads.divides)
+      (events-fewer before.reader.next reads.front after.reader.held whole)
+  few_told (inr ended) = omega (arith, ap length (all_at_end before after batch reads ended))
+
+  -- where a batch was read
+  pub reads_ask : AsksAtMost before after
+  reads_ask = record {
+    bytes = reads.bytes;
+    takes = reads.takes;
+    clock = (
+      length (event_lines_from before.reader.next reads.front),
+      few_told reads.stops,
+      subst (λ n. MovesOn before.ahead n after.ahead) reads.one_each reads.tells.moved,
+    );
+    past_end = reads.past_end;
+  }
+
+stops_ask : (more : ℕ) (before after : Stream) → StopsReading more before after → AsksAtMost before after
+stops_ask more before after stops = record {
+  bytes = stops.bytes ++ stops.behind;
+  takes = stops.takes;
+  clock = (
+    length (event_lines_from before.reader.next (ended_of (before.reader.held ++ stops.bytes))),
+    subst (λ x. length (event_lines_from before.reader.next (ended_of (before.reader.held ++ stops.bytes))) ≤ length (event_lines_from before.reader.next x))
+        (append_assoc before.reader.held stops.bytes stops.behind) (ended-fewer before.reader.next (before.reader.held ++ stops.bytes) stops.behind),
+    stops.moved,
+  );
+  past_end = λ is. absurd (stops.not_ended is);
+}
+
+-- where it was not
+pub stopped_ask : (before after : Stream) (fault : BatchFault) → StopsAt before after fault → AsksAtMost before after
+stopped_ask before after ReadFault stops = stops_ask 0 before after stops.0
+stopped_ask before after TooMuch stops = stops_ask 1 before after stops.0
+stopped_ask before after Memory stops = stops.0
+
+-- where nothing was done
+pub still_asks : (now : Stream) → AsksAtMost now now
+still_asks now = record {
+  bytes = [];
+  takes = record { is_left = left_none now.left; counted = omega arith; counted_too = omega arith };
+  clock = asks-none now.ahead _;
+  past_end = λ is. refl;
+}
+
+module _ (begin now after : Stream) (lines : List Line) (so : HasRead begin now lines) (asks : AsksAtMost now after) where
+  all_are : so.input ++ asks.bytes ≡ so.front ++ (now.reader.held ++ asks.bytes)
+  all_are = ap (λ x. x ++ asks.bytes) so.divides ∙ append_assoc so.front now.reader.held asks.bytes
+
+  asked_at : AreWholeBatches so.front ⊎ HasEnded now
+      → MovesAtMost begin.ahead (length (event_lines (so.input ++ asks.bytes))) after.ahead
+  asked_at (inl whole) =
+      let behind = now.reader.held ++ asks.bytes in
+      let events = ap event_lines all_are ∙ events-append 1 so.front behind whole.0 ∙ ap (λ n. event_lines so.front ++ event_lines_from n behind) (sym so.next_is) in
+      subst (λ n. MovesAtMost begin.ahead n after.ahead) (sym (ap length events ∙ length-append (event_lines so.front) (event_lines_from now.reader.next behind)))
+      (asks-behind begin.ahead now.ahead after.ahead (length (event_lines so.front)) (length (event_lines_from now.reader.next behind)) (moved_so_far begin now lines so) asks.clock)
+  asked_at (inr ended) =
+      let none : now.reader.held ++ asks.bytes ≡ [] = ap (λ x. x ++ asks.bytes) ended.none_held ∙ asks.past_end ended.ended in
+      let few : asks.clock.0 ≤ 0 = subst (λ x. asks.clock.0 ≤ length (event_lines_from now.reader.next x)) none asks.clock.1 in
+      subst (λ x. MovesAtMost begin.ahead (length (event_lines x)) after.ahead) (sym (all_are ∙ ap (λ x. so.front ++ x) none ∙ append-nil so.front))
+      (length (event_lines so.front) + asks.clock.0, omega (arith, few), moved-both begin.ahead now.ahead after.ahead _ _ (moved_so_far begin now lines so) asks.clock.2)
+
+  asked : HasAskedAtMost begin after
+  asked = record {
+    input = so.input ++ asks.bytes;
+    takes = takes-append so.input asks.bytes begin now after so.takes asks.takes;
+    clock = asked_at so.stands;
+  }
+
+pub ask_law : RunsAskAtMost
+ask_law begin now after lines so asks = asked begin now after lines so asks

@@ -1,5 +1,5 @@
 -- Moments that a clock told, and the lines at them.
-use Rattle.std.proofs.Common.{◌≡◌, ◌+◌, ◌<◌, ℕ, zero, suc, List, [], ◌∷◌, ◌++◌, length, map, Option, Some, None, IfSome, ℤ, pos, refl, ap, ◌∙◌, subst, arith}
+use Rattle.std.proofs.Common.{◌≡◌, ◌+◌, ◌<◌, ℕ, zero, suc, List, [], ◌∷◌, ◌++◌, length, map, Option, Some, None, IfSome, ℤ, pos, refl, sym, ap, ◌∙◌, subst, arith}
 use Rattle.std.proofs.lemmas.List.{length-append}
 use Rattle.std.specs.List.{enumerate_from}
 use Rattle.vrl_value.specs.Moment.{IsInRange}
@@ -29,12 +29,19 @@ told-append None middle ms ns first moved second = tt
 told-append (Some f) None ms ns first moved second = absurd moved
 told-append (Some f) (Some g) ms ns first moved second = begin-append ms ns f g first second moved
 
-moved-append : (ahead middle after : Option (ℕ → ℤ)) (ms ns : List ℤ) → MovesOn ahead (length ms) middle → MovesOn middle (length ns) after → MovesOn ahead (length (ms ++ ns)) after
-moved-append None None after ms ns first second = second
-moved-append None (Some g) after ms ns first second = cc
-moved-append (Some f) None after ms ns first second = absurd first
-moved-append (Some f) (Some g) None ms ns first second = absurd second
-moved-append (Some f) (Some g) (Some h) ms ns first second = λ i. second i ∙ first (length ns + i) ∙ ap f (omega (arith, length-append ms ns))
+-- some moments, and then some more
+pub moved-both : (ahead middle after : Option (ℕ → ℤ)) (m n : ℕ) → MovesOn ahead m middle → MovesOn middle n after
+    → MovesOn ahead (m + n) after
+moved-both None None after m n first second = second
+moved-both None (Some g) after m n first second = cc
+moved-both (Some f) None after m n first second = absurd first
+moved-both (Some f) (Some g) None m n first second = absurd second
+moved-both (Some f) (Some g) (Some h) m n first second = λ i. second i ∙ first (n + i) ∙ ap f (omega arith)
+
+moved-append : (ahead middle after : Option (ℕ → ℤ)) (ms ns : List ℤ) → MovesOn ahead (length ms) middle
+    → MovesOn middle (length ns) after → MovesOn ahead (length (ms ++ ns)) after
+moved-append ahead middle after ms ns first second =
+    subst (λ n. MovesOn ahead n after) (sym (length-append ms ns)) (moved-both ahead middle after (length ms) (length ns) first second)
 
 pub tells-append : (ahead middle after : Option (ℕ → ℤ)) (ms ns : List ℤ) → Tells ahead ms middle → Tells middle ns after → Tells ahead (ms ++ ns) after
 tells-append ahead middle after ms ns first second = record {
@@ -47,7 +54,7 @@ told_none : (ahead : Option (ℕ → ℤ)) → IfSome ahead (Begin [])
 told_none None = tt
 told_none (Some f) = tt
 
-moved_none : (ahead : Option (ℕ → ℤ)) → MovesOn ahead 0 ahead
+pub moved_none : (ahead : Option (ℕ → ℤ)) → MovesOn ahead 0 ahead
 moved_none None = refl
 moved_none (Some f) = λ i. ap f (omega arith)
 
@@ -58,7 +65,7 @@ told_one : (ahead after : Option (ℕ → ℤ)) (m : ℤ) → Advances ahead m a
 told_one None after m advances = tt
 told_one (Some f) after m advances = (advances.0, tt)
 
-moved_one : (ahead after : Option (ℕ → ℤ)) (m : ℤ) → Advances ahead m after → MovesOn ahead 1 after
+pub moved_one : (ahead after : Option (ℕ → ℤ)) (m : ℤ) → Advances ahead m after → MovesOn ahead 1 after
 moved_one None after m advances = advances
 moved_one (Some f) None m advances = absurd advances.1
 moved_one (Some f) (Some g) m advances = λ i. advances.1 i ∙ ap f (omega arith)

@@ -15,6 +15,10 @@ is_blank_byte b = (b == 32) || (b == 9) || (b == 13)
 abbrev pub is_blank : List ℕ → Bool
 is_blank line = list_all is_blank_byte line
 
+-- for how many moments a line asks: none where it is blank, and else one
+abbrev pub moment_count : List ℕ → ℕ
+moment_count line = if is_blank line then 0 else 1
+
 -- the lines that aren't blank, each with its number, where the first line of all has the number n
 abbrev pub event_lines_from : ℕ → List ℕ → List (ℕ × List ℕ)
 event_lines_from n input = filter (λ l. not (is_blank l.1)) (enumerate_from n (lines_of input))

@@ -1,5 +1,5 @@
 -- The moments of lines, as a clock tells them.
-use Rattle.std.specs.Prelude.{◌≡◌, ℕ, suc, ◌+◌, ℤ, List, [], ◌∷◌, length, map, Option, Some, None, IfSome, IsSomeAnd}
+use Rattle.std.specs.Prelude.{◌≡◌, ℕ, suc, ◌+◌, ◌≤◌, ℤ, List, [], ◌∷◌, length, map, Option, Some, None, IfSome, IsSomeAnd}
 use Rattle.std.specs.List.{enumerate_from}
 use Rattle.vrl_value.specs.Moment.{IsInRange}
 use Rattle.vrl_batch.specs.Lines.{line_at}
@@ -9,6 +9,10 @@ use Rattle.vrl_batch.specs.declared.line.Line.{Line}
 abbrev pub MovesOn : Option (ℕ → ℤ) → ℕ → Option (ℕ → ℤ) → Type 0
 MovesOn None count after = after ≡ None
 MovesOn (Some ahead) count after = IsSomeAnd after (λ later. (i : ℕ) → later i ≡ ahead (count + i))
+
+-- it has told no more moments than this
+abbrev pub MovesAtMost : Option (ℕ → ℤ) → ℕ → Option (ℕ → ℤ) → Type 0
+MovesAtMost ahead most after = (count : ℕ) × (count ≤ most) × MovesOn ahead count after
 
 -- these moments come first
 abbrev pub Begin : List ℤ → (ℕ → ℤ) → Type 0

@@ -3,7 +3,7 @@ use Rattle.std.specs.Prelude.{◌≡◌, ℕ, ◌+◌, ◌≤◌, ◌⊎◌, ℤ
 use Rattle.vrl_batch.specs.Batches.{IsAtMostBatch, is_whole}
 use Rattle.vrl_batch.specs.Limits.{input_limit}
 use Rattle.vrl_batch.specs.Lines.{AreWholeLines, ended_of, event_lines_from, lines_of}
-use Rattle.vrl_batch.specs.Moments.{MovesOn, Tells, lines_at}
+use Rattle.vrl_batch.specs.Moments.{MovesAtMost, MovesOn, Tells, lines_at}
 use Rattle.vrl_batch.specs.declared.fault.BatchFault.{BatchFault}
 use Rattle.vrl_batch.specs.declared.fault.BatchFault.TheVariants.{ReadFault, TooMuch, Memory}
 use Rattle.vrl_batch.specs.declared.line.Line.{Line}
@@ -82,11 +82,20 @@ pub record StopsReading (more : ℕ) (before after : Stream) : Type 0 where
   pub none_held : after.reader.held ≡ []
   pub not_ended : ¬ IsTrue before.ended
 
--- what a call leaves that stops at this fault; want of memory leaves all counted
+-- Whatever comes of a call, it takes bytes, and the clock tells at most one moment for each line that isn't blank of
+-- those that were held and taken. Once the source has ended nothing more is taken.
+pub record AsksAtMost (before after : Stream) : Type 0 where
+  pub bytes : List ℕ
+  pub takes : Takes bytes before after
+  pub clock : MovesAtMost before.ahead
+      (length (event_lines_from before.reader.next (before.reader.held ++ bytes))) after.ahead
+  pub past_end : IsTrue before.ended → bytes ≡ []
+
+-- what a call leaves that stops at this fault; where it is out of memory, all that was taken is counted
 abbrev pub StopsAt : (before after : Stream) → BatchFault → Type 0
 StopsAt before after ReadFault = StopsReading 0 before after × (after.reader.taken ≤ input_limit)
 StopsAt before after TooMuch = StopsReading 1 before after × (after.reader.taken ≡ input_limit + 1)
-StopsAt before after Memory = ((bytes : List ℕ) × Takes bytes before after) × (after.reader.taken ≤ input_limit)
+StopsAt before after Memory = AsksAtMost before after × (after.reader.taken ≤ input_limit)
 
 -- but where the source failed, its count of faults stands where it stood
 abbrev pub KeepsCount : (faults faults_after : ℕ) → BatchFault → Type 0

@@ -3,8 +3,8 @@ use Rattle.std.specs.Prelude.{◌≡◌, ℕ, ◌+◌, ◌<◌, ◌⊎◌, ◌�
 use Rattle.vrl_value.specs.Moment.{IsInRange}
 use Rattle.vrl_batch.specs.Batches.{lines_in_whole}
 use Rattle.vrl_batch.specs.Lines.{AreWholeLines, ended_of, event_lines, event_lines_from, lines_of}
-use Rattle.vrl_batch.specs.Moments.{MovesOn, Tells, lines_at, lines_by}
-use Rattle.vrl_batch.specs.Reads.{HasEnded, ReadsBatch, StopsReading, Stream, Takes}
+use Rattle.vrl_batch.specs.Moments.{MovesAtMost, MovesOn, Tells, lines_at, lines_by}
+use Rattle.vrl_batch.specs.Reads.{AsksAtMost, HasEnded, ReadsBatch, StopsReading, Stream, Takes}
 use Rattle.vrl_batch.specs.declared.line.Line.{Line}
 
 -- whole lines that are whole batches, whatever follows
@@ -64,6 +64,8 @@ pub record HasReadWhole (more : ℕ) (begin after : Stream) (lines : List Line) 
   pub more_is : length behind ≡ more
   pub moments : ℕ → ℤ
   pub timed : IsTimed begin (lines_in_whole (event_lines (ended_of input))) lines moments
+  -- the clock told a moment for each line that has ended and isn't blank
+  pub moved : MovesOn begin.ahead (length (event_lines (ended_of input))) after.ahead
 
 -- at a fault of the source, or at the limit, the batches so far are the whole ones
 abbrev pub RunsStop : Type 0
@@ -82,3 +84,13 @@ pub record HasReadFront (begin : Stream) (lines : List Line) : Type 0 where
 -- at any time the lines so far are the first of the input
 abbrev pub RunsFront : Type 0
 RunsFront = (begin now : Stream) (lines : List Line) → HasRead begin now lines → HasReadFront begin lines
+
+-- bytes were taken, and the clock told at most one moment for each line of them that isn't blank
+pub record HasAskedAtMost (begin now : Stream) : Type 0 where
+  pub input : List ℕ
+  pub takes : Takes input begin now
+  pub clock : MovesAtMost begin.ahead (length (event_lines input)) now.ahead
+
+-- so it is after any number of calls that read batches and one more, whatever comes of that
+abbrev pub RunsAskAtMost : Type 0
+RunsAskAtMost = (begin now after : Stream) (lines : List Line) → HasRead begin now lines → AsksAtMost now after → HasAskedAtMost begin after

@@ -1,5 +1,7 @@
-ghost use Rattle.std.specs.Prelude.{◌≡◌, ◌+◌, ◌^◌, ◌<◌, ◌≤◌, ◌++◌, ℕ, ℤ, false, List, [], Option, length, drop, IfOk, OnOk};
+ghost use Rattle.std.specs.Prelude.{◌≡◌, ◌+◌, ◌^◌, ◌<◌, ◌≤◌, ◌++◌, ℕ, ℤ, false, List, [], Option, length, drop, IfOk, OnErr, OnOk};
 ghost use Rattle.vrl_batch.specs.Begun.{AddsLine, DividesAt, EndsLine, HoldsLines, IsBegun, is_filled};
+ghost use Rattle.vrl_batch.specs.Lines.{event_lines_from, moment_count};
+ghost use Rattle.vrl_batch.specs.Moments.{MovesAtMost};
 ghost use Rattle.vrl_batch.specs.Parts.{part_of};
 
 use crate::batch::Batch;
@@ -62,6 +64,10 @@ impl Begun {
         ensures within { IfOk result (λ used. used ≤ length bytes.now) }
         ensures all { IfOk result (λ used. is_filled self.new ≡ false → used ≡ length bytes.now) }
         ensures room { IfOk result (λ used. self.new.number ≤ self.old.number + used) }
+        ensures asks { (first : ℕ) (ahead : Option (ℕ → ℤ)) (front part : List ℕ)
+            → IsBegun first ahead front part self.old (C.ahead clock.old)
+            → OnErr result (MovesAtMost ahead (length (event_lines_from first (front ++ (part ++ bytes.now))))
+            (C.ahead clock.new)) }
     {
         let mut used = 0;
         while used < bytes.len() && !self.is_whole() {
@@ -82,6 +88,10 @@ impl Begun {
         ensures some { IfOk result (λ used. 0 < used) }
         ensures within { IfOk result (λ used. used ≤ length bytes.now) }
         ensures room { IfOk result (λ used. self.new.number ≤ self.old.number + used) }
+        ensures asks { (first : ℕ) (ahead : Option (ℕ → ℤ)) (front part : List ℕ)
+            → IsBegun first ahead front part self.old (C.ahead clock.old)
+            → OnErr result (MovesAtMost ahead (length (event_lines_from first (front ++ (part ++ bytes.now))))
+            (C.ahead clock.new)) }
     {
         let end = line_end(bytes);
         if end < bytes.len() {
@@ -99,6 +109,8 @@ impl Begun {
         ensures number { OnOk result (self.new.number ≡ self.old.number + 1) }
         ensures line { (line : List ℕ) → self.old.part ≡ part_of line → OnOk result
             (EndsLine (line ++ bytes.now) self.old self.new (C.ahead clock.old) (C.ahead clock.new)) }
+        ensures asks { (line : List ℕ) → self.old.part ≡ part_of line → OnErr result
+            (MovesAtMost (C.ahead clock.old) (moment_count (line ++ bytes.now)) (C.ahead clock.new)) }
     {
         if !self.part.is_empty() {
             self.part.add(bytes)?;
@@ -120,6 +132,8 @@ impl Begun {
         ensures number { OnOk result (self.new.number ≡ self.old.number + 1) }
         ensures line { (line : List ℕ) → self.old.part ≡ part_of line → OnOk result
             (EndsLine line self.old self.new (C.ahead clock.old) (C.ahead clock.new)) }
+        ensures asks { (line : List ℕ) → self.old.part ≡ part_of line → OnErr result
+            (MovesAtMost (C.ahead clock.old) (moment_count line) (C.ahead clock.new)) }
     {
         self.number += 1;
         let part = mem::replace(&mut self.part, Part::new(self.alloc));
@@ -142,9 +156,12 @@ impl Begun {
     pub fn end<C: Clock>(&mut self, clock: &mut C) -> Result<(), Memory>
         requires room { self.old.number + 1 < 2 ^ 64 }
         requires unfilled { is_filled self.old ≡ false }
-        ensures { (first : ℕ) (ahead : Option (ℕ → ℤ)) (front part : List ℕ)
+        ensures lines { (first : ℕ) (ahead : Option (ℕ → ℤ)) (front part : List ℕ)
             → IsBegun first ahead front part self.old (C.ahead clock.old)
             → OnOk result (HoldsLines first ahead (front ++ part) self.new (C.ahead clock.new)) }
+        ensures asks { (first : ℕ) (ahead : Option (ℕ → ℤ)) (front part : List ℕ)
+            → IsBegun first ahead front part self.old (C.ahead clock.old)
+            → OnErr result (MovesAtMost ahead (length (event_lines_from first (front ++ part))) (C.ahead clock.new)) }
     {
         if self.part.is_empty() {
             return Ok(());

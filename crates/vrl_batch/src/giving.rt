@@ -1,4 +1,4 @@
-ghost use Rattle.std.specs.Prelude.{◌≡◌, ◌≤◌, OnOk, OnErr};
+ghost use Rattle.std.specs.Prelude.{◌≡◌, ◌≤◌, [], IsOk, OnOk, OnErr};
 ghost use Rattle.vrl_io.specs.Faults.{HasRisen};
 ghost use Rattle.vrl_batch.specs.Sinks.{Appends, AppendsFront};
 
@@ -11,6 +11,7 @@ pub fn give_all<K: Sink>(sink: &mut K, bytes: &[u8]) -> Result<(), Failed>
     ensures cause { OnErr result (HasRisen (K.faults sink.old) (K.faults sink.new)) }
     ensures count { K.faults sink.old ≤ K.faults sink.new }
     ensures no_fault { OnOk result (K.faults sink.new ≡ K.faults sink.old) }
+    ensures none { bytes.now ≡ [] → IsOk result }
 {
     let mut given = 0;
     while given < bytes.len() {

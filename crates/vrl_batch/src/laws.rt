@@ -1,4 +1,4 @@
-ghost use Rattle.vrl_batch.specs.Runs.{BatchesEnd, RunsBegin, RunsEnd, RunsFront, RunsGoOn, RunsStop};
+ghost use Rattle.vrl_batch.specs.Runs.{BatchesEnd, RunsAskAtMost, RunsBegin, RunsEnd, RunsFront, RunsGoOn, RunsStop};
 
 /// The law that a batch is empty exactly where the source has ended, and no line that isn't blank was held
 /// before or taken.
@@ -30,4 +30,10 @@ pub fn runs_stop()
 /// The law that at any time the lines that were read are the first of the input.
 pub fn runs_front()
     ensures { RunsFront }
+{}
+
+/// The law that at any time, whatever came of the last call, the clock has told at most one moment for each line
+/// of the bytes taken that isn't blank.
+pub fn runs_ask_at_most()
+    ensures { RunsAskAtMost }
 {}

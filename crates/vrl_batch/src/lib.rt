@@ -26,7 +26,9 @@ pub use chunk::Chunk;
 pub use fault::BatchFault;
 pub use gate::{FreeGate, Gate};
 pub use giving::give_all;
-pub use laws::{batches_end, runs_begin, runs_end, runs_front, runs_go_on, runs_stop};
+pub use laws::{
+    batches_end, runs_ask_at_most, runs_begin, runs_end, runs_front, runs_go_on, runs_stop,
+};
 pub use line::Line;
 pub use mapping::map_batch;
 pub use outs::Outs;

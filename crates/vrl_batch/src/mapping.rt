@@ -1,4 +1,4 @@
-ghost use Rattle.std.specs.Prelude.{◌≡◌, ◌+◌, ◌-◌, ◌/◌, ◌^◌, ◌<◌, ◌≤◌, [], length, map, IfOk};
+ghost use Rattle.std.specs.Prelude.{◌≡◌, ◌+◌, ◌-◌, ◌/◌, ◌^◌, ◌<◌, ◌≤◌, [], length, map, IfOk, IsOk};
 ghost use Rattle.vrl_batch.specs.Outs.{Joins};
 
 use crate::batch::Batch;
@@ -15,7 +15,7 @@ use vrl_value::Memory;
 /// What `work` makes of the lines of a batch, in their order, by at most `jobs` workers, which are 1 to 32. The
 /// batch is cut into consecutive chunks of (lines + jobs - 1) / jobs lines, and each worker owns the results of
 /// its chunk; before each line it passes the gate with the line's place. Where a thread can't be started the
-/// caller does that work itself. `Memory`: want of memory.
+/// caller does that work itself. `Memory`: out of memory, for a batch that has a line.
 pub fn map_batch<R: Threads + Sync, W: Work + Sync, G: Gate + Sync>(
     rt: &R,
     alloc: Global,
@@ -25,7 +25,8 @@ pub fn map_batch<R: Threads + Sync, W: Work + Sync, G: Gate + Sync>(
     gate: &G,
 ) -> Result<Outs, Memory>
     requires jobs { (1 ≤ jobs) × (jobs ≤ 32) }
-    ensures { IfOk result (λ outs. outs ≡ map (W.makes work.now) batch.now) }
+    ensures made { IfOk result (λ outs. outs ≡ map (W.makes work.now) batch.now) }
+    ensures none { batch.now ≡ [] → IsOk result }
 {
     let lines = batch.as_slice();
     if lines.is_empty() {

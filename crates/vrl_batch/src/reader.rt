@@ -1,10 +1,12 @@
-ghost use Rattle.std.specs.Prelude.{◌≡◌, ◌+◌, ◌^◌, ◌<◌, ◌≤◌, ◌++◌, ◌⊎◌, ℕ, ℤ, false, List, [], length, Option, None, Some, IfErr, IfOk, IfSome, IsTrue, OnOk};
+ghost use Rattle.std.specs.Prelude.{◌≡◌, ◌+◌, ◌^◌, ◌<◌, ◌≤◌, ◌++◌, ◌⊎◌, ℕ, ℤ, false, List, [], length, Option, None, Some, IfErr, IfOk, IfSome, IsTrue, OnErr, OnOk};
 ghost use Rattle.std.specs.Result.{result_err};
 ghost use Rattle.vrl_io.specs.Faults.{HasRisen};
 ghost use Rattle.vrl_batch.specs.Begun.{DividesAt, IsBegun, is_filled};
 ghost use Rattle.vrl_batch.specs.Limits.{input_limit};
+ghost use Rattle.vrl_batch.specs.Lines.{event_lines_from};
+ghost use Rattle.vrl_batch.specs.Moments.{MovesAtMost};
 ghost use Rattle.vrl_batch.specs.Pieces.{held_by};
-ghost use Rattle.vrl_batch.specs.Reads.{KeepsCount, ReadsBatch, StopsAt, stream};
+ghost use Rattle.vrl_batch.specs.Reads.{AsksAtMost, KeepsCount, ReadsBatch, StopsAt, stream};
 ghost use Rattle.vrl_batch.specs.declared.fault.BatchFault.{BatchFault};
 
 use crate::batch::Batch;
@@ -92,6 +94,11 @@ impl Lines {
         ensures empty { IfOk result (λ batch. batch ≡ [] → IsTrue (S.ended source.new)) }
         ensures within { OnOk result (self.new.bytes.taken ≤ input_limit) }
 
+        // Whatever comes of it, the clock told at most one moment for each line that isn't blank.
+        ensures asks { AsksAtMost
+            (stream self.old.bytes (S.left source.old) (S.taken source.old) (S.ended source.old) (C.ahead clock.old))
+            (stream self.new.bytes (S.left source.new) (S.taken source.new) (S.ended source.new) (C.ahead clock.new)) }
+
         // What a fault leaves, and that it is answered again.
         ensures fault { self.old.fault ≡ None → IfErr result (StopsAt
             (stream self.old.bytes (S.left source.old) (S.taken source.old) (S.ended source.old) (C.ahead clock.old))
@@ -129,6 +136,10 @@ fn add_rest<C: Clock>(piece: &mut Piece, begun: &mut Begun, clock: &mut C) -> Re
         → OnOk result (DividesAt first ahead (front ++ (part ++ piece.old.rest)) piece.new.rest
         begun.new (C.ahead clock.new)) }
     ensures all { OnOk result (is_filled begun.new ≡ false → piece.new.rest ≡ []) }
+    ensures asks { (first : ℕ) (ahead : Option (ℕ → ℤ)) (front part : List ℕ)
+        → IsBegun first ahead front part begun.old (C.ahead clock.old)
+        → OnErr result (MovesAtMost ahead (length (event_lines_from first (front ++ (part ++ piece.old.rest))))
+        (C.ahead clock.new)) }
     ensures taken { piece.new.taken ≡ piece.old.taken }
     ensures room { OnOk result (begun.new.number + length piece.new.rest
         ≤ begun.old.number + length piece.old.rest) }

@@ -1,10 +1,12 @@
 -- How the parts of an answer make the whole of it.
-use Rattle.std.proofs.Common.{◌≡◌, ◌≤◌, ◌+◌, ℕ, ℤ, pos, Bool, true, false, List, [], Option, Some, None, IfSome, unwrap_or, ◌⊎◌, inl, inr, refl, arith, sym, ap, ◌∙◌, subst}
+use Rattle.std.proofs.Common.{◌≡◌, ◌≤◌, ◌+◌, ℕ, ℤ, pos, Bool, true, false, List, [], ◌++◌, Option, Some, None, IfSome, option_map, unwrap_or, ◌⊎◌, inl, inr, refl, arith, sym, ap, ◌∙◌, subst}
 use Rattle.vrl_batch.specs.Limits.{input_limit}
 use Rattle.vrl_io.specs.Faults.{HasRisen}
+use Rattle.vrl_batch.specs.Moments.{MovesOn}
 use Rattle.vrl_batch.specs.Sinks.{AppendsFront}
 use Rattle.vrl_run.specs.Answer.{answer_so_far, answer_to, status_if}
-use Rattle.vrl_run.specs.Devices.{Devices, IsAnswered, IsAsked, IsWithinLimit, devices}
+use Rattle.vrl_run.specs.Answered.{IsAnswered, IsAsked, LeavesDevices}
+use Rattle.vrl_run.specs.Devices.{Devices, IsAskedAtMost, IsWithinLimit, devices}
 use Rattle.vrl_run.specs.Request.{IsSame, MayCome, ReadsLines, Request, bad_kind, bad_script, bad_words, map_lines, map_made, tell_kinds}
 use Rattle.vrl_run.specs.Status.{IsAnswer, IsFinished, IsInterrupted, meaning_of}
 use Rattle.vrl_run.specs.Writing.{IsWritten}
@@ -24,6 +26,26 @@ moments_of ahead = unwrap_or ahead (λ i. pos 0)
 pub some_moments : (ahead : Option (ℕ → ℤ)) → IfSome ahead (λ told. (i : ℕ) → told i ≡ moments_of ahead i)
 some_moments None = tt
 some_moments (Some told) = λ i. refl
+
+-- ---- where neither the input nor the clock is asked
+
+none_taken : (left : Option (List ℕ)) → left ≡ option_map (λ rest. [] ++ rest) left
+none_taken None = refl
+none_taken (Some bytes) = refl
+
+none_told : (ahead : Option (ℕ → ℤ)) → MovesOn ahead 0 ahead
+none_told None = refl
+none_told (Some told) = λ i. ap told (omega arith)
+
+pub unasked_at_most : (before after : Devices) → after.left ≡ before.left → after.taken ≡ before.taken
+    → after.ahead ≡ before.ahead
+    → IsAskedAtMost before after
+unasked_at_most before after left taken ahead = record {
+  taken = [];
+  is_left = none_taken before.left ∙ ap (option_map (λ rest. [] ++ rest)) (sym left);
+  counted = omega (arith, taken);
+  clock = (0, omega arith, subst (MovesOn before.ahead 0) (sym ahead) (none_told before.ahead));
+}
 
 -- ---- statuses
 
@@ -69,6 +91,28 @@ own_or_interrupted s answer own (inl is) = inl (own is)
 own_or_interrupted s answer own (inr (inl is)) = inr (subst IsInterrupted (sym is) tt)
 own_or_interrupted s answer own (inr (inr is)) = inr (subst IsInterrupted (sym is) tt)
 
+-- where nothing is done
+pub undone : (asks : Request → Type 0) (status : Status) (now : Devices) → ¬ IsAnswer status
+    → (meaning_of status).too_long ≡ false → LeavesDevices asks status now now
+undone asks status now unanswered short = record {
+  whole = λ answers. absurd (unanswered answers);
+  front = inl (refl, refl);
+  limit = within_limit status now now short (omega arith);
+  clock = unasked_at_most now now refl refl refl;
+}
+
+-- since there was no memory
+pub wanting_answered : (asks : Request → Type 0) (now : Devices) {Unasked : Type 0} → Unasked
+    → IsAnswered asks Memory now now Unasked
+wanting_answered asks now unasked = record {
+  leaves = undone asks Memory now (λ answers. answers) refl;
+  causes = record { read = λ is. absurd cc; write = λ is. absurd cc; read_told = inr refl; write_told = inr (refl, refl) };
+  read_cut = λ is. absurd cc;
+  limit_cut = λ is. absurd cc;
+  came = inl tt;
+  first = inl unasked;
+}
+
 pub finished_if : (marked : Bool) → IsFinished (status_if marked)
 finished_if true = tt
 finished_if false = tt
@@ -110,34 +154,37 @@ unread_so_far (tell_kinds text warnings K known) input moments unread = refl
 pub told_answered : (request : Request) (s : Status) {left : Option (List ℕ)} {taken : ℕ} {ended : Bool} {faults : ℕ} {ahead : Option (ℕ → ℤ)} {output output_after : Option (List ℕ)} {o o_after : ℕ} {report report_after : Option (List ℕ)} {e e_after : ℕ} {Unasked : Type 0}
     → ¬ ReadsLines request → ((input : List ℕ) (moments : ℕ → ℤ) → IsWritten (answer_to request input moments) s output output_after report report_after)
     → (s ≡ WriteFault → HasRisen o o_after ⊎ HasRisen e e_after) → (s ≡ WriteFault) ⊎ ((o_after ≡ o) × (e_after ≡ e)) → Unasked
-    → IsAnswered (IsSame request) ⊥ s (devices left taken ended faults ahead output o report e) (devices left taken ended faults ahead output_after o_after report_after e_after) Unasked
+    → IsAnswered (IsSame request) s (devices left taken ended faults ahead output o report e) (devices left taken ended faults ahead output_after o_after report_after e_after) Unasked
 told_answered request s {left} {taken} {ended} {faults} {ahead} {output} {output_after} {o} {o_after} {report} {report_after} {e} {e_after} unread writes cause told unasked =
     let written = writes (unwrap_or left []) (moments_of ahead) in
     let asked : IsAsked (IsSame request) (devices left taken ended faults ahead output o report e) = record {
       request = request;
       asked = refl;
       input = unwrap_or left [];
-      is_left = some_input left;
       moments = moments_of ahead;
-      are_ahead = some_moments ahead;
+      told = record { is_left = some_input left; are_ahead = some_moments ahead };
     } in
     record {
       leaves = record {
         whole = λ answered. record {
           asked = asked;
-          status_is = own_status s _ written.either answered;
-          output = (written.whole answered).0;
-          report = (written.whole answered).1;
+          holds = record {
+            status_is = own_status s _ written.either answered;
+            bytes = record { output = (written.whole answered).0; report = (written.whole answered).1 };
+          };
           read = λ reads. absurd (unread reads);
         };
         front = inr (record {
           asked = asked;
           ran = 0;
           in_range = λ reads. absurd (unread reads);
-          output = subst (λ a. AppendsFront output output_after a.output) (unread_so_far request _ _ unread) written.front.0;
-          report = subst (λ a. AppendsFront report report_after a.report) (unread_so_far request _ _ unread) written.front.1;
+          holds = record {
+            output = subst (λ a. AppendsFront output output_after a.output) (unread_so_far request _ _ unread) written.front.0;
+            report = subst (λ a. AppendsFront report report_after a.report) (unread_so_far request _ _ unread) written.front.1;
+          };
         });
         limit = within_limit s _ _ (written_not_long s _ (has_answer request _ _) written.either) (omega arith);
+        clock = unasked_at_most _ _ refl refl refl;
       };
       causes = record { read = λ is. absurd (not_read s _ (has_answer request (unwrap_or left []) (moments_of ahead)) written.either is); write = cause; read_told = inr refl; write_told = told };
       read_cut = λ is. absurd (not_read s _ (has_answer request (unwrap_or left []) (moments_of ahead)) written.either is);

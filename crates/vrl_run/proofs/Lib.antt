@@ -2,6 +2,7 @@ pub mod AnswerLemmas
 pub mod Ended
 pub mod EventLines
 pub mod EventLists
+pub mod JsonObjects
 pub mod MadeLemmas
 pub mod MappingLemmas
 pub mod Shared

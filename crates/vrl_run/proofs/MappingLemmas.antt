@@ -7,21 +7,22 @@ use Rattle.vrl_value.specs.Moment.{IsInRange}
 use Rattle.vrl_batch.specs.Limits.{input_limit}
 use Rattle.vrl_batch.specs.Lines.{event_lines, event_lines_from, line_at}
 use Rattle.vrl_batch.specs.Moments.{MovesOn, lines_at, lines_by}
-use Rattle.vrl_batch.specs.Reads.{ReadsBatch, StopsReading, Stream, Takes}
-use Rattle.vrl_batch.specs.Runs.{HasReadFront, RunsBegin, RunsEnd, RunsFront, RunsGoOn, RunsStop}
+use Rattle.vrl_batch.specs.Reads.{AsksAtMost, ReadsBatch, StopsReading, Stream, Takes}
+use Rattle.vrl_batch.specs.Runs.{HasReadFront, RunsAskAtMost, RunsBegin, RunsEnd, RunsFront, RunsGoOn, RunsStop}
 use Rattle.vrl_batch.specs.Sinks.{Appends, AppendsFront}
 use Rattle.vrl_batch.specs.declared.line.Line.{Line}
 use Rattle.vrl_batch.specs.declared.work.LineOut.{LineOut}
 use Rattle.vrl_generate.specs.Summary.{is_marked, is_refused}
 use Rattle.vrl_io.specs.Faults.{HasRisen}
 use Rattle.vrl_run.specs.Answer.{line_results, outputs, reports, result_of, status_if, warnings_of}
-use Rattle.vrl_run.specs.Devices.{IsAnswered, IsAsked, IsCutOff, IsWithinLimit, devices}
-use Rattle.vrl_run.specs.Mapping.{EndsMapping, HasMapped, HasStopped, IsStill, MapsBatch, Run, TellsMore, WritesResults}
+use Rattle.vrl_run.specs.Answered.{IsAnswered, IsAsked, IsCutOff}
+use Rattle.vrl_run.specs.Devices.{IsAskedAtMost, IsWithinLimit, devices}
+use Rattle.vrl_run.specs.Mapping.{EndsMapping, HasMapped, HasStopped, IsStill, MapsBatch, Run, StopsMapping, TellsMore, WritesResults}
 use Rattle.vrl_run.specs.Request.{IsSame, MayCome, Request, ScriptRun, map_lines}
 use Rattle.vrl_run.specs.Status.{IsAnswer, IsInterrupted, meaning_of}
 use Rattle.vrl_run.specs.declared.status.Status.{Status}
 use Rattle.vrl_run.specs.declared.status.Status.TheVariants.{Memory, ReadFault, TooMuch, WriteFault}
-use Rattle.vrl_run.proofs.AnswerLemmas.{finished_if, moments_of, some_input, some_moments, within_limit}
+use Rattle.vrl_run.proofs.AnswerLemmas.{finished_if, moments_of, some_input, some_moments, unasked_at_most, within_limit}
 
 map-append : {A B : Type 0} (f : A → B) (xs ys : List A) → map f (xs ++ ys) ≡ map f xs ++ map f ys
 map-append f [] ys = refl
@@ -75,6 +76,27 @@ wrote script batch results before after refused is written marked = record {
   report = subst (λ rs. Appends before.report after.report (reports rs)) is written.2;
   marked = marked ∙ ap (λ b. before.marked || b) (written.0 ∙ ap is_marked is);
 }
+
+-- or they were not all written
+pub stops_writing : (script : ScriptRun) (before after : Run) (results : List LineOut) (batch : List Line) (s : Status)
+    → results ≡ map (result_of script) batch
+    → ReadsBatch before.stream after.stream batch → after.stream.reader.taken ≤ input_limit → (s ≡ WriteFault) ⊎ (s ≡ Memory)
+    → AppendsFront before.output after.output (outputs results) × AppendsFront before.report after.report (reports results)
+    → Appends before.output after.output (outputs results) ⊎ (after.report ≡ before.report)
+    → (s ≡ Memory → (after.output ≡ before.output) × (after.report ≡ before.report)) → StopsMapping script before after s
+stops_writing script before after results batch s is read within (inl fault) front order still =
+    subst (StopsMapping script before after) (sym fault)
+    (record {
+      batch = batch;
+      read = read;
+      within = within;
+      output = subst (λ rs. AppendsFront before.output after.output (outputs rs)) is front.0;
+      report = subst (λ rs. AppendsFront before.report after.report (reports rs)) is front.1;
+      order = subst (λ rs. Appends before.output after.output (outputs rs) ⊎ (after.report ≡ before.report)) is order;
+    })
+stops_writing script before after results batch s is read within (inr wanting) front order still =
+    let none = still wanting in
+    subst (StopsMapping script before after) (sym wanting) (within, record { output = none.0; report = none.1 })
 
 pub tells_more : (batch : List Line) (empty : Bool) → empty ≡ (length batch == 0) → TellsMore (not empty) batch
 tells_more [] empty is = subst (λ b. TellsMore (not b) []) (sym is) refl
@@ -230,9 +252,18 @@ is_mapped_front front goes script begin after report warnings Memory told warned
 is_mapped_front front goes script begin after report warnings WriteFault told warned so = written_front front goes script begin so.now after report warnings so.stops.batch told warned so.mapped so.stops.read so.stops.output so.stops.report
 is_mapped_front front goes script begin after report warnings s told warned so = absurd so.stops
 
--- ---- the batches before a fault of the input
-
 -- ---- what is done of a run over lines
+
+-- for how many moments the clock was asked
+asked_since : RunsAskAtMost
+    → (script : ScriptRun) (begin now after : Run) {report : Option (List ℕ)}
+    {faults faults_after o o_after e e_after : ℕ}
+    → HasMapped script begin now → AsksAtMost now.stream after.stream
+    → IsAskedAtMost (devices begin.stream.left begin.stream.taken begin.stream.ended faults begin.stream.ahead begin.output o report e)
+    (devices after.stream.left after.stream.taken after.stream.ended faults_after after.stream.ahead after.output o_after after.report e_after)
+asked_since ask script begin now after so asks =
+    let all = ask begin.stream now.stream after.stream so.lines so.read asks in
+    record { taken = all.input; is_left = all.takes.is_left; counted = all.takes.counted; clock = all.clock }
 
 -- the bytes taken are those that were counted
 counted_since : (bytes : List ℕ) (script : ScriptRun) (begin now after : Run) → begin.stream.reader.taken ≡ 0 → HasMapped script begin now → Takes bytes now.stream after.stream → after.stream.reader.taken ≤ input_limit → after.stream.taken ≤ begin.stream.taken + input_limit
@@ -278,31 +309,43 @@ finished_no_limit true is = cc
 finished_no_limit false is = cc
 
 -- to the end of the input
-pub whole_answered : RunsEnd → (script : ScriptRun) (begin after : Run) {report : Option (List ℕ)} {faults faults_after o o_after e e_after : ℕ} {Unasked : Type 0} (warnings : List ℕ) → begin.marked ≡ false → begin.stream.reader.taken ≡ 0 → Appends report begin.report warnings → warnings ≡ warnings_of script
+pub whole_answered : RunsAskAtMost → RunsEnd
+    → (script : ScriptRun) (begin after : Run) {report : Option (List ℕ)} {faults faults_after o o_after e e_after : ℕ}
+    {Unasked : Type 0} (warnings : List ℕ) → begin.marked ≡ false → begin.stream.reader.taken ≡ 0
+    → Appends report begin.report warnings → warnings ≡ warnings_of script
     → EndsMapping script begin after → faults_after ≡ faults → (o_after ≡ o) × (e_after ≡ e)
-    → IsAnswered (IsSame (map_lines script)) ⊥ (status_if after.marked) (devices begin.stream.left begin.stream.taken begin.stream.ended faults begin.stream.ahead begin.output o report e)
+    → IsAnswered (IsSame (map_lines script)) (status_if after.marked) (devices begin.stream.left begin.stream.taken begin.stream.ended faults begin.stream.ahead begin.output o report e)
     (devices after.stream.left after.stream.taken after.stream.ended faults_after after.stream.ahead after.output o_after after.report e_after) Unasked
-whole_answered ends script begin after {report} {faults} {faults_after} {o} {o_after} {e} {e_after} warnings unmarked fresh told warned so unfailed unfaulted =
+whole_answered ask ends script begin after {report} {faults} {faults_after} {o} {o_after} {e} {e_after} warnings unmarked fresh told warned so unfailed unfaulted =
     let all = is_mapped_whole ends script begin after report warnings unmarked fresh told warned so in
     let before = devices begin.stream.left begin.stream.taken begin.stream.ended faults begin.stream.ahead begin.output o report e in
-    let asked : IsAsked (IsSame (map_lines script)) before = record { request = map_lines script; asked = refl; input = all.input; is_left = all.is_left; moments = all.moments; are_ahead = all.are_ahead } in
+    let asked : IsAsked (IsSame (map_lines script)) before = record {
+      request = map_lines script;
+      asked = refl;
+      input = all.input;
+      moments = all.moments;
+      told = record { is_left = all.is_left; are_ahead = all.are_ahead };
+    } in
     record {
       leaves = record {
         whole = λ answered. record {
           asked = asked;
-          status_is = ap status_if all.marked;
-          output = all.output;
-          report = all.reported;
+          holds = record { status_is = ap status_if all.marked; bytes = record { output = all.output; report = all.reported } };
           read = λ reads. record { taken = all.taken; ended = all.ended; clock = all.clock; in_range = all.in_range };
         };
         front = inr (record {
           asked = asked;
           ran = length (event_lines all.input);
           in_range = λ reads. all.in_range;
-          output = subst (λ rs. AppendsFront begin.output after.output (outputs rs)) (all_so_far script all.moments all.input) (front_of_all begin.output after.output _ all.output);
-          report = subst (λ rs. AppendsFront report after.report (warnings_of script ++ reports rs)) (all_so_far script all.moments all.input) (front_of_all report after.report _ all.reported);
+          holds = record {
+            output = subst (λ rs. AppendsFront begin.output after.output (outputs rs)) (all_so_far script all.moments all.input)
+                (front_of_all begin.output after.output _ all.output);
+            report = subst (λ rs. AppendsFront report after.report (warnings_of script ++ reports rs))
+                (all_so_far script all.moments all.input) (front_of_all report after.report _ all.reported);
+          };
         });
         limit = within_limit (status_if after.marked) before _ (not_long_if after.marked) (omega (arith, all.taken, all.within));
+        clock = asked_since ask script begin so.now after so.mapped so.asks;
       };
       causes = record { read = λ is. absurd (finished_no_read after.marked is); write = λ is. absurd (finished_no_write after.marked is); read_told = inr unfailed; write_told = inr unfaulted };
       read_cut = λ is. absurd (finished_no_read after.marked is);
@@ -330,35 +373,46 @@ cut_off stop script more begin now after {report} warnings told warned so stops 
       moments = whole.moments;
       are_ahead = whole.timed.are_ahead;
       in_range = whole.timed.in_range;
-      output = subst (λ ls. Appends begin.output after.output (outputs (map f ls))) lines (subst (λ x. Appends begin.output x (outputs (map f so.lines))) (sym still.output) so.writes.output);
-      report = subst (λ ls. Appends report after.report (warnings_of script ++ reports (map f ls))) lines
-          (subst (λ w. Appends report after.report (w ++ reports (map f so.lines))) warned
-          (subst (λ x. Appends report x (warnings ++ reports (map f so.lines))) (sym still.report) (appends_both report begin.report now.report warnings _ told so.writes.report)));
+      clock = whole.moved;
+      holds = record {
+        output = subst (λ ls. Appends begin.output after.output (outputs (map f ls))) lines (subst (λ x. Appends begin.output x (outputs (map f so.lines))) (sym still.output) so.writes.output);
+        report = subst (λ ls. Appends report after.report (warnings_of script ++ reports (map f ls))) lines
+            (subst (λ w. Appends report after.report (w ++ reports (map f so.lines))) warned
+            (subst (λ x. Appends report x (warnings ++ reports (map f so.lines))) (sym still.report) (appends_both report begin.report now.report warnings _ told so.writes.report)));
+      };
     }
 
 -- before that
 
 stopped : (script : ScriptRun) (begin after : Run) {report : Option (List ℕ)} {faults faults_after o o_after e e_after : ℕ} {Unasked : Type 0} (s : Status) → IsMappedFront script begin after report → ¬ IsAnswer s
+    → IsAskedAtMost (devices begin.stream.left begin.stream.taken begin.stream.ended faults begin.stream.ahead begin.output o report e)
+    (devices after.stream.left after.stream.taken after.stream.ended faults_after after.stream.ahead after.output o_after after.report e_after)
     → IsWithinLimit (meaning_of s).too_long (devices begin.stream.left begin.stream.taken begin.stream.ended faults begin.stream.ahead begin.output o report e) (devices after.stream.left after.stream.taken after.stream.ended faults_after after.stream.ahead after.output o_after after.report e_after)
     → (s ≡ ReadFault → IsCutOff (IsSame (map_lines script)) 0 (devices begin.stream.left begin.stream.taken begin.stream.ended faults begin.stream.ahead begin.output o report e) (devices after.stream.left after.stream.taken after.stream.ended faults_after after.stream.ahead after.output o_after after.report e_after))
     → (s ≡ TooMuch → IsCutOff (IsSame (map_lines script)) 1 (devices begin.stream.left begin.stream.taken begin.stream.ended faults begin.stream.ahead begin.output o report e) (devices after.stream.left after.stream.taken after.stream.ended faults_after after.stream.ahead after.output o_after after.report e_after))
     → IsInterrupted s ⊎ (s ≡ TooMuch) → (s ≡ ReadFault → HasRisen faults faults_after) → (s ≡ WriteFault → HasRisen o o_after ⊎ HasRisen e e_after) → (s ≡ ReadFault) ⊎ (faults_after ≡ faults) → (s ≡ WriteFault) ⊎ ((o_after ≡ o) × (e_after ≡ e))
-    → IsAnswered (IsSame (map_lines script)) ⊥ s (devices begin.stream.left begin.stream.taken begin.stream.ended faults begin.stream.ahead begin.output o report e)
+    → IsAnswered (IsSame (map_lines script)) s (devices begin.stream.left begin.stream.taken begin.stream.ended faults begin.stream.ahead begin.output o report e)
     (devices after.stream.left after.stream.taken after.stream.ended faults_after after.stream.ahead after.output o_after after.report e_after) Unasked
-stopped script begin after s front unanswered limit cut_read cut_limit comes read write read_told write_told = record {
+stopped script begin after s front unanswered clock limit cut_read cut_limit comes read write read_told write_told = record {
   leaves = record {
     whole = λ answered. absurd (unanswered answered);
     front = inr (record {
-      asked = record { request = map_lines script; asked = refl; input = front.input; is_left = front.is_left; moments = front.moments; are_ahead = front.are_ahead };
+      asked = record {
+        request = map_lines script;
+        asked = refl;
+        input = front.input;
+        moments = front.moments;
+        told = record { is_left = front.is_left; are_ahead = front.are_ahead };
+      };
       ran = front.ran;
       in_range = λ reads. front.in_range;
-      output = front.output;
-      report = front.reported;
+      holds = record { output = front.output; report = front.reported };
     });
     limit = limit;
+    clock = clock;
   };
-  causes = record { read = λ is. inr (read is); write = write; read_told = read_told; write_told = write_told };
-  read_cut = λ is. inr (cut_read is);
+  causes = record { read = read; write = write; read_told = read_told; write_told = write_told };
+  read_cut = cut_read;
   limit_cut = cut_limit;
   came = came comes;
   first = inr (script, refl);
@@ -368,41 +422,51 @@ stopped script begin after s front unanswered limit cut_read cut_limit comes rea
   came (inr is) = inr (map_lines script, refl, inr (inr is))
 
 -- before that
-pub stopped_answered : RunsFront → RunsGoOn → RunsStop → (script : ScriptRun) (begin after : Run) {report : Option (List ℕ)} {faults faults_after o o_after e e_after : ℕ} {Unasked : Type 0} (warnings : List ℕ) (s : Status) → begin.stream.reader.taken ≡ 0 → Appends report begin.report warnings → warnings ≡ warnings_of script
+pub stopped_answered : RunsAskAtMost → RunsFront → RunsGoOn → RunsStop
+    → (script : ScriptRun) (begin after : Run) {report : Option (List ℕ)} {faults faults_after o o_after e e_after : ℕ}
+    {Unasked : Type 0} (warnings : List ℕ) (s : Status) → begin.stream.reader.taken ≡ 0
+    → Appends report begin.report warnings → warnings ≡ warnings_of script
     → HasStopped script begin after s → (s ≡ ReadFault → HasRisen faults faults_after) → (s ≡ WriteFault → HasRisen o o_after ⊎ HasRisen e e_after) → (s ≡ ReadFault) ⊎ (faults_after ≡ faults) → (s ≡ WriteFault) ⊎ ((o_after ≡ o) × (e_after ≡ e))
-    → IsAnswered (IsSame (map_lines script)) ⊥ s (devices begin.stream.left begin.stream.taken begin.stream.ended faults begin.stream.ahead begin.output o report e)
+    → IsAnswered (IsSame (map_lines script)) s (devices begin.stream.left begin.stream.taken begin.stream.ended faults begin.stream.ahead begin.output o report e)
     (devices after.stream.left after.stream.taken after.stream.ended faults_after after.stream.ahead after.output o_after after.report e_after) Unasked
-stopped_answered front goes stop script begin after {report} warnings ReadFault fresh told warned so read write read_told write_told =
+stopped_answered ask front goes stop script begin after {report} warnings ReadFault fresh told warned so read write read_told write_told =
     let why = so.stops in
-    stopped script begin after ReadFault (is_mapped_front front goes script begin after report warnings ReadFault told warned so) (λ answered. answered) (counted_since _ script begin so.now after fresh so.mapped why.0.takes why.1)
+    stopped script begin after ReadFault (is_mapped_front front goes script begin after report warnings ReadFault told warned so) (λ answered. answered) (asked_since ask script begin so.now after so.mapped so.asks) (counted_since _ script begin so.now after fresh so.mapped why.0.takes why.1)
     (λ is. cut_off stop script 0 begin so.now after warnings told warned so.mapped why.0 why.2) (λ is. absurd cc) (inl tt) read write read_told write_told
-stopped_answered front goes stop script begin after {report} warnings TooMuch fresh told warned so read write read_told write_told =
+stopped_answered ask front goes stop script begin after {report} warnings TooMuch fresh told warned so read write read_told write_told =
     let why = so.stops in
     let whole = stop 1 begin.stream so.now.stream after.stream so.mapped.lines so.mapped.read why.0 in
     let long : length (whole.input ++ whole.behind) ≡ input_limit + 1 = omega (arith, fresh, whole.takes.counted_too, why.1) in
     stopped script begin after TooMuch (is_mapped_front front goes script begin after report warnings TooMuch told warned so) (λ answered. answered)
+    (asked_since ask script begin so.now after so.mapped so.asks)
     (whole.takes.counted ∙ ap (λ n. begin.stream.taken + n) long, longer_than_limit begin.stream.left after.stream.left (whole.input ++ whole.behind) whole.takes.is_left long)
     (λ is. absurd cc) (λ is. cut_off stop script 1 begin so.now after warnings told warned so.mapped why.0 why.2) (inr refl) read write read_told write_told
-stopped_answered front goes stop script begin after {report} warnings Memory fresh told warned so read write read_told write_told =
+stopped_answered ask front goes stop script begin after {report} warnings Memory fresh told warned so read write read_told write_told =
     let why = so.stops in
-    stopped script begin after Memory (is_mapped_front front goes script begin after report warnings Memory told warned so) (λ answered. answered) (counted_since _ script begin so.now after fresh so.mapped why.0.takes why.0.within)
+    stopped script begin after Memory (is_mapped_front front goes script begin after report warnings Memory told warned so) (λ answered. answered) (asked_since ask script begin so.now after so.mapped so.asks) (counted_since _ script begin so.now after fresh so.mapped so.asks.takes why.0)
     (λ is. absurd cc) (λ is. absurd cc) (inl tt) read write read_told write_told
-stopped_answered front goes stop script begin after {report} warnings WriteFault fresh told warned so read write read_told write_told =
+stopped_answered ask front goes stop script begin after {report} warnings WriteFault fresh told warned so read write read_told write_told =
     let why = so.stops in
-    stopped script begin after WriteFault (is_mapped_front front goes script begin after report warnings WriteFault told warned so) (λ answered. answered) (counted_since _ script begin so.now after fresh so.mapped why.read.takes why.within)
+    stopped script begin after WriteFault (is_mapped_front front goes script begin after report warnings WriteFault told warned so) (λ answered. answered) (asked_since ask script begin so.now after so.mapped so.asks) (counted_since _ script begin so.now after fresh so.mapped why.read.takes why.within)
     (λ is. absurd cc) (λ is. absurd cc) (inl tt) read write read_told write_told
-stopped_answered front goes stop script begin after warnings s fresh told warned so read write read_told write_told = absurd so.stops
+stopped_answered ask front goes stop script begin after warnings s fresh told warned so read write read_told write_told = absurd so.stops
 
 -- ---- before the first batch
 
 -- the input as it may be, at moments as they may be
 abbrev begun : (script : ScriptRun) {left : Option (List ℕ)} {taken : ℕ} {ended : Bool} {faults : ℕ} {ahead : Option (ℕ → ℤ)} {output : Option (List ℕ)} {o : ℕ} {report : Option (List ℕ)} {e : ℕ} → IsAsked (IsSame (map_lines script)) (devices left taken ended faults ahead output o report e)
-begun script {left} {ahead = ahead} = record { request = map_lines script; asked = refl; input = unwrap_or left []; is_left = some_input left; moments = moments_of ahead; are_ahead = some_moments ahead }
+begun script {left} {ahead = ahead} = record {
+  request = map_lines script;
+  asked = refl;
+  input = unwrap_or left [];
+  moments = moments_of ahead;
+  told = record { is_left = some_input left; are_ahead = some_moments ahead };
+}
 
 -- the warnings were written, or a front of them
 pub warned_answered : (script : ScriptRun) (s : Status) {left : Option (List ℕ)} {taken : ℕ} {ended : Bool} {faults : ℕ} {ahead : Option (ℕ → ℤ)} {output : Option (List ℕ)} {o : ℕ} {report report_after : Option (List ℕ)} {e e_after : ℕ} {Unasked : Type 0} (warnings : List ℕ) → (s ≡ WriteFault) ⊎ (s ≡ Memory)
     → warnings ≡ warnings_of script → AppendsFront report report_after warnings → (s ≡ WriteFault → HasRisen e e_after) → (s ≡ WriteFault) ⊎ (e_after ≡ e)
-    → IsAnswered (IsSame (map_lines script)) ⊥ s (devices left taken ended faults ahead output o report e) (devices left taken ended faults ahead output o report_after e_after) Unasked
+    → IsAnswered (IsSame (map_lines script)) s (devices left taken ended faults ahead output o report e) (devices left taken ended faults ahead output o report_after e_after) Unasked
 warned_answered script s {left} {taken} {ended} {faults} {ahead} {output} {o} {report} {report_after} {e} {e_after} warnings either warned front cause told = record {
   leaves = record {
     whole = λ answered. absurd (no_answer s either answered);
@@ -410,10 +474,13 @@ warned_answered script s {left} {taken} {ended} {faults} {ahead} {output} {o} {r
       asked = begun script;
       ran = 0;
       in_range = λ reads i below. absurd (omega (arith, below));
-      output = front_of_all output output [] (appends_none output);
-      report = subst (AppendsFront report report_after) (sym (append-nil (warnings_of script))) (subst (AppendsFront report report_after) warned front);
+      holds = record {
+        output = front_of_all output output [] (appends_none output);
+        report = subst (AppendsFront report report_after) (sym (append-nil (warnings_of script))) (subst (AppendsFront report report_after) warned front);
+      };
     });
     limit = within_limit s _ _ (short s either) (omega arith);
+    clock = unasked_at_most _ _ refl refl refl;
   };
   causes = record { read = λ is. absurd (no_read s either is); write = λ is. inr (cause is); read_told = inr refl; write_told = unwritten told };
   read_cut = λ is. absurd (no_read s either is);
@@ -449,8 +516,15 @@ pub no_warnings : (report : Option (List ℕ)) (warnings : List ℕ) → Appends
 no_warnings report warnings = ([], warnings, refl, appends_none report)
 
 -- no batch is left
-pub ends_mapping : (script : ScriptRun) (begin now after : Run) (batch : List Line) → HasMapped script begin now → MapsBatch script now after batch → TellsMore false batch → EndsMapping script begin after
-ends_mapping script begin now after batch so one none = record { now = now; mapped = so; last = subst (MapsBatch script now after) none one }
+pub ends_mapping : (script : ScriptRun) (begin now after : Run) (batch : List Line) → HasMapped script begin now
+    → MapsBatch script now after batch
+    → AsksAtMost now.stream after.stream → TellsMore false batch → EndsMapping script begin after
+ends_mapping script begin now after batch so one asks none = record {
+  now = now;
+  mapped = so;
+  last = subst (MapsBatch script now after) none one;
+  asks = asks;
+}
 
 -- ---- what an outcome tells
 

@@ -16,6 +16,7 @@ use Rattle.vrl_state.specs.declared.known.Known.TheVariants.{Dead, Alive}
 use Rattle.vrl_state.specs.declared.known.RootKind.{RootKind}
 use Rattle.vrl_syntax.specs.declared.root.Root.{Root}
 use Rattle.vrl_syntax.specs.declared.root.Root.TheVariants.{Event, Name}
+use Rattle.vrl_run.specs.Devices.{Answer}
 use Rattle.vrl_run.specs.LineResult.{result_of_line}
 use Rattle.vrl_run.specs.Request.{Request, ScriptRun, bad_words, bad_kind, bad_script, map_lines, map_made, tell_kinds}
 use Rattle.vrl_run.specs.declared.status.Status.{Status}
@@ -66,11 +67,6 @@ kind_lines K Dead = codes "result never" ++ (10 ∷ (codes ". never" ++ 10 ∷ [
 kind_lines K (Alive roots) = kind_line (codes "result") K ++ flat_map root_line roots
 
 -- ---- the answer of a call
-
-pub record Answer : Type 0 where
-  pub status : Status
-  pub output : List ℕ
-  pub report : List ℕ
 
 abbrev pub usage_line : List ℕ
 usage_line = codes "usage: remap SCRIPT [--kind FILE] [--jobs N] [--drop-on-error] [--keep-on-abort] [--check] [--generate COUNT:SEED]" ++ 10 ∷ []

@@ -1,6 +1,8 @@
 pub mod Answer
+pub mod Answered
 pub mod Devices
 pub mod Joining
+pub mod JsonObjects
 pub mod LineResult
 pub mod Mapping
 pub mod Ran

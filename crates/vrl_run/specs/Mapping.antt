@@ -1,7 +1,7 @@
 -- A run over lines, batch by batch.
-use Rattle.std.specs.Prelude.{◌≡◌, ◌+◌, ◌≤◌, ℕ, Bool, true, false, List, [], ◌||◌, map, Option, IsTrue}
+use Rattle.std.specs.Prelude.{◌≡◌, ◌⊎◌, ◌+◌, ◌≤◌, ℕ, Bool, true, false, List, [], ◌||◌, map, Option, IsTrue}
 use Rattle.vrl_batch.specs.Limits.{input_limit}
-use Rattle.vrl_batch.specs.Reads.{ReadsBatch, StopsReading, Stream, Takes}
+use Rattle.vrl_batch.specs.Reads.{AsksAtMost, ReadsBatch, StopsReading, Stream}
 use Rattle.vrl_batch.specs.Runs.{HasRead}
 use Rattle.vrl_batch.specs.Sinks.{Appends, AppendsFront}
 use Rattle.vrl_batch.specs.declared.fault.BatchFault.{BatchFault}
@@ -48,25 +48,21 @@ pub record IsStill (before after : Run) : Type 0 where
   pub output : after.output ≡ before.output
   pub report : after.report ≡ before.report
 
--- bytes were taken, and no more than may be
-pub record TakesSome (before after : Run) : Type 0 where
-  pub bytes : List ℕ
-  pub takes : Takes bytes before.stream after.stream
-  pub within : after.stream.reader.taken ≤ input_limit
-
--- one batch more was read, and a front of its results was written
+-- one batch more was read, and a front of its results was written; of its reports nothing before all of its output
 pub record WritesFront (script : ScriptRun) (before after : Run) : Type 0 where
   pub batch : List Line
   pub read : ReadsBatch before.stream after.stream batch
   pub within : after.stream.reader.taken ≤ input_limit
   pub output : AppendsFront before.output after.output (outputs (map (result_of script) batch))
   pub report : AppendsFront before.report after.report (reports (map (result_of script) batch))
+  pub order : Appends before.output after.output (outputs (map (result_of script) batch)) ⊎
+      (after.report ≡ before.report)
 
 -- the run stops with this status: the input failed or has too many bytes, a sink failed, or memory was wanted
 abbrev pub StopsMapping : ScriptRun → (before after : Run) → Status → Type 0
 StopsMapping script before after ReadFault = StopsReading 0 before.stream after.stream × (after.stream.reader.taken ≤ input_limit) × IsStill before after
 StopsMapping script before after TooMuch = StopsReading 1 before.stream after.stream × (after.stream.reader.taken ≡ input_limit + 1) × IsStill before after
-StopsMapping script before after Memory = TakesSome before after × IsStill before after
+StopsMapping script before after Memory = (after.stream.reader.taken ≤ input_limit) × IsStill before after
 StopsMapping script before after WriteFault = WritesFront script before after
 StopsMapping script before after status = ⊥
 
@@ -75,12 +71,14 @@ pub record EndsMapping (script : ScriptRun) (begin after : Run) : Type 0 where
   pub now : Run
   pub mapped : HasMapped script begin now
   pub last : MapsBatch script now after []
+  pub asks : AsksAtMost now.stream after.stream
 
 -- or it stops before, with this status
 pub record HasStopped (script : ScriptRun) (begin after : Run) (status : Status) : Type 0 where
   pub now : Run
   pub mapped : HasMapped script begin now
   pub stops : StopsMapping script now after status
+  pub asks : AsksAtMost now.stream after.stream
 
 -- how a run ends at a fault of its lines
 abbrev pub stop_status : BatchFault → Status

@@ -47,20 +47,26 @@ IsSame request other = other ≡ request
 -- ---- as the code holds it
 
 abbrev pub run_of : Script → ScriptRun
-run_of script = record { text = script.text.now; program = program_of script.program.now; declared = script.declared.now; options = script.options; warnings = script.warnings.now }
+run_of script = record {
+  text = script.text;
+  program = program_of script.program;
+  declared = script.declared;
+  options = script.options;
+  warnings = script.warnings;
+}
 
 abbrev pub request_of : Asked → Request
 request_of asked.Words = bad_words
-request_of (asked.Kind fault) = bad_kind fault.now
-request_of (asked.Refused text diagnostics) = bad_script text.now diagnostics.now
+request_of (asked.Kind fault) = bad_kind fault
+request_of (asked.Refused text diagnostics) = bad_script text diagnostics
 request_of (asked.Run script) = map_lines (run_of script)
 request_of (asked.Generate script count seed) = map_made (run_of script) count seed
-request_of (asked.Check text warnings kind known) = tell_kinds text.now warnings.now kind.now known.now
+request_of (asked.Check text warnings K known) = tell_kinds text warnings K known
 
 -- a script that is to run handles each of its errors, and its regex literals have these sources
 pub record IsReadyScript (script : Script) : Type 0 where
-  pub sources : script.sources.now ≡ (program_of script.program.now).sources
-  pub handled : HandlesErrors script.declared.now (program_of script.program.now)
+  pub sources : script.sources ≡ (program_of script.program).sources
+  pub handled : HandlesErrors script.declared (program_of script.program)
 
 -- a request is ready where the script that is to run is; at most 1,000,000 lines are made
 abbrev pub IsReadyRequest : Asked → Type 0
@@ -69,7 +75,7 @@ IsReadyRequest (asked.Kind fault) = ⊤
 IsReadyRequest (asked.Refused text diagnostics) = ⊤
 IsReadyRequest (asked.Run script) = IsReadyScript script
 IsReadyRequest (asked.Generate script count seed) = IsReadyScript script × (count ≤ 1000000)
-IsReadyRequest (asked.Check text warnings kind known) = ⊤
+IsReadyRequest (asked.Check text warnings K known) = ⊤
 
 -- ---- what may come of it
 

@@ -1,7 +1,8 @@
 -- What the sinks hold once an answer was written.
 use Rattle.std.specs.Prelude.{◌≡◌, ◌⊎◌, ℕ, ℤ, List, Option}
 use Rattle.vrl_batch.specs.Sinks.{Appends, AppendsFront}
-use Rattle.vrl_run.specs.Answer.{Answer, answer_to}
+use Rattle.vrl_run.specs.Answer.{answer_to}
+use Rattle.vrl_run.specs.Devices.{Answer}
 use Rattle.vrl_run.specs.Request.{Request}
 use Rattle.vrl_run.specs.Status.{IsAnswer}
 use Rattle.vrl_run.specs.declared.status.Status.{Status}
@@ -21,4 +22,6 @@ pub record IsTold (request : Request) (told : Told) : Type 0 where
 pub record IsWritten (answer : Answer) (status : Status) (output output_after report report_after : Option (List ℕ)) : Type 0 where
   pub whole : IsAnswer status → Appends output output_after answer.output × Appends report report_after answer.report
   pub front : AppendsFront output output_after answer.output × AppendsFront report report_after answer.report
+  -- of the report nothing is written before all of the output
+  pub order : Appends output output_after answer.output ⊎ (report_after ≡ report)
   pub either : (status ≡ answer.status) ⊎ (status ≡ WriteFault) ⊎ (status ≡ Memory)

@@ -1,6 +1,7 @@
 ghost use Rattle.std.specs.Prelude.{◌≡◌, ◌≤◌, IfOk};
 ghost use Rattle.vrl_run.specs.Answer.{refusal};
-ghost use Rattle.vrl_run.specs.Devices.{devices, IsAnswered};
+ghost use Rattle.vrl_run.specs.Answered.{IsAnswered};
+ghost use Rattle.vrl_run.specs.Devices.{devices};
 ghost use Rattle.vrl_run.specs.Request.{bad_kind, bad_script, bad_words, map_made, tell_kinds, request_of, run_of, IsReadyRequest, IsReadyScript, IsSame};
 ghost use Rattle.vrl_run.specs.Writing.{answer_in, IsTold};
 
@@ -14,12 +15,12 @@ use crate::writing::{Told, write_told};
 use std::alloc::Global;
 use std::thread::Threads;
 use vrl_batch::Gate;
-use vrl_diag::{Diagnostic, render_all};
+use vrl_diag::{Diagnostics, render_all};
 use vrl_io::{Clock, Sink, Source};
 use vrl_kind::Kind;
 use vrl_kindfile::KindFault;
 use vrl_state::Known;
-use vrl_value::Memory;
+use vrl_value::{Bytes, Memory};
 
 /// What is reported where the words are refused.
 const USAGE_LINE: &str =
@@ -41,7 +42,7 @@ pub fn answer<R: Threads + Sync, S: Source, O: Sink, E: Sink, C: Clock, G: Gate 
 ) -> Status
     requires request { IsReadyRequest request.now }
     requires jobs { (1 ≤ jobs) × (jobs ≤ 32) }
-    ensures { IsAnswered (IsSame (request_of request.now)) ⊥ result
+    ensures { IsAnswered (IsSame (request_of request.now)) result
         (devices (S.left input.old) (S.taken input.old) (S.ended input.old) (S.faults input.old) (C.ahead clock.old)
         (O.written output.old) (O.faults output.old) (E.written report.old) (E.faults report.old))
         (devices (S.left input.new) (S.taken input.new) (S.ended input.new) (S.faults input.new) (C.ahead clock.new)
@@ -87,10 +88,10 @@ fn kind_refusal(alloc: Global, fault: &KindFault) -> Result<Told, Memory>
 }
 
 // What is wrong with a script. `Memory`: want of memory.
-fn script_refusal(alloc: Global, text: &[u8], diagnostics: &[Diagnostic]) -> Result<Told, Memory>
+fn script_refusal(alloc: Global, text: &Bytes, diagnostics: &Diagnostics) -> Result<Told, Memory>
     ensures { IfOk result (IsTold (bad_script text.now diagnostics.now)) }
 {
-    let lines = render_all(alloc, diagnostics, text)?;
+    let lines = render_all(alloc, diagnostics.as_slice(), text.as_slice())?;
     Ok(refused(alloc, Status::Refused, lines))
 }
 
@@ -120,7 +121,7 @@ fn summary<R: Threads + Sync, G: Gate + Sync>(
     requires count { count ≤ 1000000 }
     ensures { IfOk result (IsTold (map_made (run_of script.now) count seed)) }
 {
-    let report = render_all(alloc, script.warnings, script.text)?;
+    let report = script.warning_lines(alloc)?;
     let made = run_made(rt, alloc, script, jobs, count, seed, gate)?;
     Ok(Told {
         status: status_if(made.marked),
@@ -132,14 +133,14 @@ fn summary<R: Threads + Sync, G: Gate + Sync>(
 // The kinds that a script may end with. `Memory`: want of memory.
 fn kinds(
     alloc: Global,
-    text: &[u8],
-    warnings: &[Diagnostic],
+    text: &Bytes,
+    warnings: &Diagnostics,
     kind: &Kind,
     known: &Known,
 ) -> Result<Told, Memory>
     ensures { IfOk result (IsTold (tell_kinds text.now warnings.now kind.now known.now)) }
 {
-    let report = render_all(alloc, warnings, text)?;
+    let report = render_all(alloc, warnings.as_slice(), text.as_slice())?;
     Ok(Told {
         status: Status::Done,
         output: kind_lines(alloc, kind, known)?,

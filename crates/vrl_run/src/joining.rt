@@ -1,4 +1,4 @@
-ghost use Rattle.std.specs.Prelude.{◌≡◌, IfOk, OnOk};
+ghost use Rattle.std.specs.Prelude.{◌≡◌, [], IfOk, IsOk, OnOk};
 ghost use Rattle.vrl_generate.specs.Summary.{is_refused};
 ghost use Rattle.vrl_run.specs.Joining.{AddsResult, AreJoined};
 
@@ -36,9 +36,10 @@ fn is_refused(outcome: Outcome) -> bool
     matches!(outcome, Outcome::Refused)
 }
 
-// These results, joined. `Memory`: want of memory.
+// These results, joined. `Memory`: out of memory, where there is one.
 pub(crate) fn join_results(alloc: Global, results: &[LineOut]) -> Result<Joined, Memory>
-    ensures { IfOk result (AreJoined results.now) }
+    ensures joined { IfOk result (AreJoined results.now) }
+    ensures none { results.now ≡ [] → IsOk result }
 {
     let mut all = Joined {
         output: Vec::new(alloc),

@@ -12,7 +12,7 @@ use std::alloc::Global;
 use vrl_batch::Line;
 use vrl_json::{Scratch, from_line, json_needs_no_sources, lines_are_json, to_line};
 use vrl_resolve::{Ended, Ran};
-use vrl_value::{Bytes, Memory, Names, Value};
+use vrl_value::{Bytes, Chars, Memory, Value};
 
 // The events of a line that are kept.
 #[derive(Drop)]
@@ -23,23 +23,34 @@ pub(crate) struct Kept {
     pub(crate) count: u64,
 }
 
-// The events that are kept after a run over the event of a line. `Memory`: want of memory.
+// The events that are kept after a run over the event of a line; the regexes are those of `sources`. `Memory`: out of
+// memory, for events that are kept.
 pub(crate) fn kept_events(
     alloc: Global,
-    sources: &Names,
+    sources: &[Chars],
     options: &Options,
     line: &Line,
     ran: &Ran,
+    scratch: &mut Scratch,
 ) -> Result<Kept, Memory>
     requires { IsTrue (regexes_below (length sources.now) (tree_of ran.now.event)) }
-    ensures { IfOk result (λ kept. (read : Tree) → reading_of line.now.bytes ≡ whole read →
-        AreLinesOf sources.now (spec.kept_events options.now read (end_in ran.now.ended) (tree_of ran.now.event)) kept) }
+    ensures kept { IfOk result (λ kept. (read : Tree) → reading_of line.now.bytes ≡ whole read →
+        AreLinesOf sources.now
+        (spec.kept_events options.now read (end_in ran.now.ended) (tree_of ran.now.event)) kept) }
+    ensures none { (read : Tree)
+        → spec.kept_events options.now read (end_in ran.now.ended) (tree_of ran.now.event) ≡ [] → IsOk result }
 {
     let keep_on_error = !options.drop_on_error;
     match &ran.ended {
         Ended::Value(_) => kept_left(alloc, sources, &ran.event),
-        Ended::Aborted(_) => kept_as_read(alloc, sources, options.keep_on_abort, line),
-        Ended::Banged(_) | Ended::Deep => kept_as_read(alloc, sources, keep_on_error, line),
+        Ended::Aborted(_) => kept_as_read(alloc, sources, options.keep_on_abort, line, scratch),
+        Ended::Banged(_) | Ended::Deep => kept_as_read(
+            alloc,
+            sources,
+            keep_on_error,
+            line,
+            scratch,
+        ),
     }
 }
 
@@ -53,10 +64,11 @@ fn nothing(alloc: Global) -> Kept
     }
 }
 
-// The event that a run left; of an array its elements. `Memory`: want of memory.
-fn kept_left(alloc: Global, sources: &Names, event: &Value) -> Result<Kept, Memory>
+// The event that a run left; of an array its elements. `Memory`: out of memory, for what has an element.
+fn kept_left(alloc: Global, sources: &[Chars], event: &Value) -> Result<Kept, Memory>
     requires { IsTrue (regexes_below (length sources.now) (tree_of event.now)) }
-    ensures { IfOk result (AreLinesOf sources.now (events_of (tree_of event.now))) }
+    ensures kept { IfOk result (AreLinesOf sources.now (events_of (tree_of event.now))) }
+    ensures none { events_of (tree_of event.now) ≡ [] → IsOk result }
 {
     match event {
         Value::List(items) => kept_items(alloc, sources, items.as_slice()),
@@ -64,8 +76,8 @@ fn kept_left(alloc: Global, sources: &Names, event: &Value) -> Result<Kept, Memo
     }
 }
 
-// One event. `Memory`: want of memory.
-fn kept_one(alloc: Global, sources: &Names, event: &Value) -> Result<Kept, Memory>
+// One event. `Memory`: out of memory.
+fn kept_one(alloc: Global, sources: &[Chars], event: &Value) -> Result<Kept, Memory>
     requires { IsTrue (regexes_below (length sources.now) (tree_of event.now)) }
     ensures { IfOk result (AreLinesOf sources.now (tree_of event.now ∷ [])) }
 {
@@ -75,10 +87,11 @@ fn kept_one(alloc: Global, sources: &Names, event: &Value) -> Result<Kept, Memor
     })
 }
 
-// Each of some events. `Memory`: want of memory.
-fn kept_items(alloc: Global, sources: &Names, events: &[Value]) -> Result<Kept, Memory>
+// Each of some events. `Memory`: out of memory, for one of them.
+fn kept_items(alloc: Global, sources: &[Chars], events: &[Value]) -> Result<Kept, Memory>
     requires { IsTrue (items_regexes_below (length sources.now) (items_view events.now)) }
-    ensures { IfOk result (AreLinesOf sources.now (map tree_of events.now)) }
+    ensures kept { IfOk result (AreLinesOf sources.now (map tree_of events.now)) }
+    ensures none { events.now ≡ [] → IsOk result }
 {
     let mut lines = Vec::new(alloc);
     for event in events {
@@ -91,9 +104,17 @@ fn kept_items(alloc: Global, sources: &Names, events: &[Value]) -> Result<Kept, 
     })
 }
 
-// The event as it was read, if it is kept: the bytes of the line are read again. `Memory`: want of memory.
-fn kept_as_read(alloc: Global, sources: &Names, keep: bool, line: &Line) -> Result<Kept, Memory>
-    ensures read { IfOk result (λ kept. (read : Tree) → reading_of line.now.bytes ≡ whole read → AreLinesOf sources.now (kept_if keep read) kept) }
+// The event as it was read, if it is kept: the bytes of the line are read again. `Memory`: out of memory, for an
+// event that is kept.
+fn kept_as_read(
+    alloc: Global,
+    sources: &[Chars],
+    keep: bool,
+    line: &Line,
+    scratch: &mut Scratch,
+) -> Result<Kept, Memory>
+    ensures read { IfOk result (λ kept. (read : Tree) → reading_of line.now.bytes ≡ whole read
+        → AreLinesOf sources.now (kept_if keep read) kept) }
     ensures dropped { keep ≡ false → IsOk result }
 {
     if !keep {
@@ -101,19 +122,19 @@ fn kept_as_read(alloc: Global, sources: &Names, keep: bool, line: &Line) -> Resu
     }
     lines_are_json();
     json_needs_no_sources();
-    // They were read before, so nothing else than memory can be wanting.
-    let Ok(event) = from_line(alloc, line.bytes.as_slice(), &mut Scratch::new(alloc)) else {
+    // They were read before, so no other fault is left.
+    let Ok(event) = from_line(alloc, line.bytes.as_slice(), scratch) else {
         return Err(Memory);
     };
     kept_one(alloc, sources, &event)
 }
 
-// An event as a line. `Memory`: want of memory.
-fn event_line(alloc: Global, sources: &Names, event: &Value) -> Result<Vec<u8>, Memory>
+// An event as a line. `Memory`: out of memory.
+fn event_line(alloc: Global, sources: &[Chars], event: &Value) -> Result<Vec<u8>, Memory>
     requires { IsTrue (regexes_below (length sources.now) (tree_of event.now)) }
     ensures { IfOk result (λ line. line.items ≡ spec.event_line sources.now (tree_of event.now)) }
 {
-    let mut line = to_line(alloc, event, sources.as_slice())?.into_vec();
+    let mut line = to_line(alloc, event, sources)?.into_vec();
     line.push(b'\n')?;
     Ok(line)
 }

@@ -1,12 +1,13 @@
-ghost use Rattle.std.specs.Prelude.{◌≡◌, ◌⊎◌, ◌≤◌, ◌||◌, [], List, None, IfErr, IfOk, OnOk};
-ghost use Rattle.vrl_batch.specs.Reads.{stream};
+ghost use Rattle.std.specs.Prelude.{◌≡◌, ◌⊎◌, ◌≤◌, ◌||◌, [], List, None, IfErr, IfOk, IsOk, OnOk};
+ghost use Rattle.vrl_batch.specs.Reads.{AsksAtMost, stream};
 ghost use Rattle.vrl_batch.specs.Sinks.{Appends, AppendsFront};
 ghost use Rattle.vrl_batch.specs.declared.line.Line.{Line};
 ghost use Rattle.vrl_generate.specs.Summary.{is_marked};
 ghost use Rattle.vrl_io.specs.Faults.{HasRisen};
 ghost use Rattle.vrl_run.specs.Answer as spec;
 ghost use Rattle.vrl_run.specs.Answer.{outputs, reports};
-ghost use Rattle.vrl_run.specs.Devices.{devices, IsAnswered};
+ghost use Rattle.vrl_run.specs.Answered.{IsAnswered};
+ghost use Rattle.vrl_run.specs.Devices.{devices};
 ghost use Rattle.vrl_run.specs.Mapping.{run_at, stop_status, EndsMapping, HasStopped, MapsBatch, StopsMapping, TellsMore};
 ghost use Rattle.vrl_run.specs.Request.{map_lines as lines_of, run_of, IsReadyScript, IsSame};
 
@@ -16,10 +17,9 @@ use crate::status::Status;
 use std::alloc::Global;
 use std::thread::Threads;
 use vrl_batch::{
-    BatchFault, Gate, LineOut, Lines, give_all, map_batch, runs_begin, runs_end, runs_front,
-    runs_go_on, runs_stop,
+    BatchFault, Gate, LineOut, Lines, give_all, map_batch, runs_ask_at_most, runs_begin, runs_end,
+    runs_front, runs_go_on, runs_stop,
 };
-use vrl_diag::render_all;
 use vrl_io::{Clock, Sink, Source};
 use vrl_value::Memory;
 
@@ -37,18 +37,19 @@ pub(crate) fn map_lines<R: Threads + Sync, S: Source, O: Sink, E: Sink, C: Clock
 ) -> Status
     requires script { IsReadyScript script.now }
     requires jobs { (1 ≤ jobs) × (jobs ≤ 32) }
-    ensures { IsAnswered (IsSame (lines_of (run_of script.now))) ⊥ result
+    ensures { IsAnswered (IsSame (lines_of (run_of script.now))) result
         (devices (S.left input.old) (S.taken input.old) (S.ended input.old) (S.faults input.old) (C.ahead clock.old)
         (O.written output.old) (O.faults output.old) (E.written report.old) (E.faults report.old))
         (devices (S.left input.new) (S.taken input.new) (S.ended input.new) (S.faults input.new) (C.ahead clock.new)
         (O.written output.new) (O.faults output.new) (E.written report.new) (E.faults report.new))
         ((input.new ≡ input.old) × (clock.new ≡ clock.old)) }
 {
+    runs_ask_at_most();
     runs_end();
     runs_front();
     runs_go_on();
     runs_stop();
-    let warnings = match render_all(alloc, script.warnings, script.text) {
+    let warnings = match script.warning_lines(alloc) {
         Ok(warnings) => warnings,
         Err(Memory) => return Status::Memory,
     };
@@ -150,6 +151,9 @@ fn map_next<R: Threads + Sync, S: Source, O: Sink, E: Sink, C: Clock, G: Gate + 
         (run_at (stream lines.old.bytes (S.left input.old) (S.taken input.old) (S.ended input.old) (C.ahead clock.old)) (O.written output.old) (E.written report.old) marked.old)
         (run_at (stream lines.new.bytes (S.left input.new) (S.taken input.new) (S.ended input.new) (C.ahead clock.new)) (O.written output.new) (E.written report.new) marked.new)) }
     ensures fault { OnOk result (lines.new.fault ≡ None) }
+    ensures asks { AsksAtMost
+        (stream lines.old.bytes (S.left input.old) (S.taken input.old) (S.ended input.old) (C.ahead clock.old))
+        (stream lines.new.bytes (S.left input.new) (S.taken input.new) (S.ended input.new) (C.ahead clock.new)) }
 
     // Why it stops.
     ensures read_fault { result ≡ Err Status.ReadFault → HasRisen (S.faults input.old) (S.faults input.new) }
@@ -192,7 +196,7 @@ fn status_of(fault: BatchFault) -> Status
     }
 }
 
-// Writes the results of a batch, and tells whether a line was refused.
+// Writes the results of a batch, first those for the output, and tells whether a line was refused.
 fn write_results<O: Sink, E: Sink>(
     alloc: Global,
     results: &[LineOut],
@@ -204,6 +208,9 @@ fn write_results<O: Sink, E: Sink>(
         × Appends (E.written report.old) (E.written report.new) (reports results.now)) }
     ensures front { AppendsFront (O.written output.old) (O.written output.new) (outputs results.now)
         × AppendsFront (E.written report.old) (E.written report.new) (reports results.now) }
+    ensures order { Appends (O.written output.old) (O.written output.new) (outputs results.now)
+        ⊎ (E.written report.new ≡ E.written report.old) }
+    ensures none { results.now ≡ [] → IsOk result }
     ensures memory { result ≡ Err Status.Memory → (O.written output.new ≡ O.written output.old) × (E.written report.new ≡ E.written report.old) }
     ensures either { IfErr result (λ status. (status ≡ Status.WriteFault) ⊎ (status ≡ Status.Memory)) }
     ensures cause { result ≡ Err Status.WriteFault

@@ -1,4 +1,4 @@
-ghost use Rattle.std.specs.Prelude.{◌≡◌, ◌++◌, IfOk};
+ghost use Rattle.std.specs.Prelude.{◌≡◌, ◌++◌, [], IfOk, IsOk};
 ghost use Rattle.vrl_run.specs.LineResult as spec;
 ghost use Rattle.vrl_run.specs.Ran.{end_in};
 
@@ -15,9 +15,10 @@ pub(crate) fn report_line(alloc: Global, number: u64, text: &str) -> Result<Byte
     Ok(Bytes::new(line.into_bytes()))
 }
 
-// What a run reports by how it ended. `Memory`: want of memory.
+// What a run reports by how it ended. `Memory`: out of memory, for a report.
 pub(crate) fn end_report(alloc: Global, number: u64, ended: &Ended) -> Result<Bytes, Memory>
-    ensures { IfOk result (λ report. report ≡ spec.end_report number (end_in ended.now)) }
+    ensures report { IfOk result (λ report. report ≡ spec.end_report number (end_in ended.now)) }
+    ensures none { spec.end_report number (end_in ended.now) ≡ [] → IsOk result }
 {
     match ended {
         Ended::Value(_) => Ok(Bytes::new(Vec::new(alloc))),

@@ -1,22 +1,24 @@
 use crate::script::Script;
-use vrl_diag::Diagnostic;
+use vrl_diag::Diagnostics;
 use vrl_kind::Kind;
 use vrl_kindfile::KindFault;
 use vrl_state::Known;
+use vrl_value::Bytes;
 
 /// What a call asks, once its words are read and the script that they name is compiled.
 #[derive(Drop)]
-pub enum Request<'a> {
+pub enum Request {
     /// The words are refused.
     Words,
     /// The kind file is refused, for this reason.
-    Kind(&'a KindFault),
-    /// The script of this text is refused, with what is wrong with it.
-    Refused(&'a [u8], &'a [Diagnostic]),
+    Kind(KindFault),
+    /// The script of these bytes is refused, with what is wrong with it.
+    Refused(Bytes, Diagnostics),
     /// The script runs over the lines of the input.
-    Run(Script<'a>),
+    Run(Script),
     /// The script runs over so many lines, at most 1,000,000, which are made from a seed.
-    Generate(Script<'a>, u64, u64),
-    /// The kinds are told that the script of this text, with these warnings, may end with: that of its value, and what is known then.
-    Check(&'a [u8], &'a [Diagnostic], &'a Kind, &'a Known),
+    Generate(Script, u64, u64),
+    /// The kinds are told that the script of these bytes, with these warnings, may end with: that of its value, and
+    /// what is known then.
+    Check(Bytes, Diagnostics, Kind, Known),
 }

@@ -1,11 +1,14 @@
-ghost use Rattle.std.specs.Prelude.{◌≡◌, length, IfOk, IsTrue};
+ghost use Rattle.std.specs.Prelude.{◌≡◌, ◌↔◌, [], length, IfOk, IsOk, IsTrue};
 ghost use Rattle.vrl_value.specs.Regexes.{regexes_below};
-ghost use Rattle.vrl_value.specs.Tree.{Tree};
+ghost use Rattle.vrl_value.specs.Tree.{Tree, is_json};
 ghost use Rattle.vrl_value.specs.View.{tree_of};
 ghost use Rattle.vrl_json.specs.Line.{whole, reading_of};
+ghost use Rattle.vrl_kind.specs.Kinds.{Inhabits};
+ghost use Rattle.vrl_kind.specs.View.{rest_of};
 ghost use Rattle.vrl_resolve.specs.Meaning.{IsUnhandled};
 ghost use Rattle.vrl_resolve.specs.Program.{ended_over, program_of};
-ghost use Rattle.vrl_run.specs.LineResult.{end_result, event_result, refused_line, result_of_line, HandlesErrors};
+ghost use Rattle.vrl_run.specs.JsonObjects.{is_json_rest, takes_json_objects};
+ghost use Rattle.vrl_run.specs.LineResult.{end_report, end_result, event_result, kept_events, refused_line, result_of_line, HandlesErrors};
 ghost use Rattle.vrl_run.specs.LineResult as spec;
 ghost use Rattle.vrl_run.specs.Unread.{IsReasonOf, IsUnread};
 ghost use Rattle.vrl_run.specs.Ran.{end_in};
@@ -19,27 +22,28 @@ use vrl_batch::{Line, LineOut, Outcome};
 use vrl_json::{
     JsonFault, Scratch, from_line, json_needs_no_sources, lines_are_json, lines_are_ordered,
 };
-use vrl_kind::{Kind, inhabits, inhabits_is_computed};
+use vrl_kind::{Kind, Rest, inhabits, inhabits_is_computed, object_part};
 use vrl_pattern::Searches;
 use vrl_resolve::{Ended, Program, Ran, run};
 use vrl_value::{Bytes, Memory, Names, Value};
 
-/// Runs a program over the event that a line stands for. `sources` are those of the program's regex literals, and over no event of the
-/// declared kind does the program end with an error that it doesn't handle, as `vrl_compile` promises of each that it accepts. A line that is too long, is no
-/// JSON text or has a number that isn't whole, or whose value is not of the declared kind, is refused. `searches` are those of the program, and
-/// `scratch` is what reading needs; keep both from line to line. `Memory`: want of memory.
+/// Runs a program over the event that a line stands for. `_sources` are those of the program's regex literals, which
+/// `searches` tell too, and over no event of the declared kind does the program end with an error that it doesn't
+/// handle, as `vrl_compile` promises of each that it accepts. A line that is too long, is no JSON text or has a
+/// number that isn't whole, or whose value is not of the declared kind, is refused. `searches` are those of the
+/// program, and `scratch` is what reading needs; keep both from line to line. `Memory`: out of memory.
 pub fn run_line(
     alloc: Global,
     program: &Program,
     searches: &Searches<'_>,
-    sources: &Names,
+    _sources: &Names,
     declared: &Kind,
     options: &Options,
     line: &Line,
     scratch: &mut Scratch,
 ) -> Result<LineOut, Memory>
     requires searches { searches.now ≡ (program_of program.now).sources }
-    requires sources { sources.now ≡ (program_of program.now).sources }
+    requires sources { _sources.now ≡ (program_of program.now).sources }
     requires handled { HandlesErrors declared.now (program_of program.now) }
     ensures { IfOk result (λ out. out ≡ result_of_line (program_of program.now) declared.now options.now line.now) }
 {
@@ -50,14 +54,47 @@ pub fn run_line(
         Ok(event) => event,
         Err(fault) => return unread(alloc, line.number, fault),
     };
+    lines_are_json();
     inhabits_is_computed();
-    if !inhabits(&event, declared) {
+    if !is_declared(&event, declared) {
         return refused(alloc, line.number, Reason::NotDeclared);
     }
-    lines_are_json();
     lines_are_ordered();
     json_needs_no_sources();
-    run_event(alloc, program, searches, sources, options, line, event)
+    run_event(alloc, program, searches, options, line, event, scratch)
+}
+
+// Whether the event of a line is of the declared kind. An object isn't walked where the kind takes each of JSON.
+fn is_declared(event: &Value, declared: &Kind) -> bool
+    requires json { IsTrue (is_json (tree_of event.now)) }
+    ensures { IsTrue result ↔ Inhabits (tree_of event.now) declared.now }
+{
+    if let Value::Object(_members) = event {
+        if takes_json_objects(declared) {
+            return true;
+        }
+    }
+    inhabits(event, declared)
+}
+
+// Whether the kind takes each object of JSON: no field is known by itself, and each may hold what JSON can.
+fn takes_json_objects(declared: &Kind) -> bool
+    ensures { result ≡ takes_json_objects declared.now }
+{
+    let Some((fields, rest)) = object_part(declared) else {
+        return false;
+    };
+    if !is_json(rest) {
+        return false;
+    }
+    fields.as_slice().is_empty()
+}
+
+// Whether each part that isn't known by itself holds what JSON can.
+fn is_json(rest: &Rest) -> bool
+    ensures { result ≡ is_json_rest (rest_of rest.now) }
+{
+    matches!(rest, Rest::Json)
 }
 
 // Why a line is refused from which no value was read. `Memory`: that was for want of memory, and the line isn't refused.
@@ -92,41 +129,46 @@ fn refused(alloc: Global, number: u64, reason: Reason) -> Result<LineOut, Memory
     })
 }
 
-// A line whose event is of the declared kind. `Memory`: want of memory.
+// A line whose event is of the declared kind. `Memory`: out of memory.
 fn run_event(
     alloc: Global,
     program: &Program,
     searches: &Searches<'_>,
-    sources: &Names,
     options: &Options,
     line: &Line,
     event: Value,
+    scratch: &mut Scratch,
 ) -> Result<LineOut, Memory>
     requires searches { searches.now ≡ (program_of program.now).sources }
-    requires sources { sources.now ≡ (program_of program.now).sources }
     requires read { reading_of line.now.bytes ≡ whole (tree_of event) }
     requires handled { ¬ IsUnhandled (ended_over (program_of program.now) line.now.moment (tree_of event)).outcome }
-    requires below { IsTrue (regexes_below (length sources.now) (tree_of event)) }
-    ensures { IfOk result (λ out. out ≡ event_result sources.now options.now line.now.number (tree_of event) (ended_over (program_of program.now) line.now.moment (tree_of event))) }
+    requires below { IsTrue (regexes_below (length searches.now) (tree_of event)) }
+    ensures { IfOk result (λ out. out ≡ event_result searches.now options.now line.now.number (tree_of event)
+        (ended_over (program_of program.now) line.now.moment (tree_of event))) }
 {
     // Of what the script gives nothing is written.
     let ran = run(alloc, program, searches, event, line.moment, false)?;
-    ran_result(alloc, sources, options, line, &ran)
+    ran_result(alloc, searches, options, line, &ran, scratch)
 }
 
-// What comes of a run over the event of a line. `Memory`: want of memory.
+// What comes of a run over the event of a line. `Memory`: out of memory, for events that are kept, or for a report.
 fn ran_result(
     alloc: Global,
-    sources: &Names,
+    searches: &Searches<'_>,
     options: &Options,
     line: &Line,
     ran: &Ran,
+    scratch: &mut Scratch,
 ) -> Result<LineOut, Memory>
-    requires { IsTrue (regexes_below (length sources.now) (tree_of ran.now.event)) }
-    ensures { IfOk result (λ out. (read : Tree) → reading_of line.now.bytes ≡ whole read →
-        out ≡ end_result sources.now options.now line.now.number read (end_in ran.now.ended) (tree_of ran.now.event)) }
+    requires { IsTrue (regexes_below (length searches.now) (tree_of ran.now.event)) }
+    ensures result { IfOk result (λ out. (read : Tree) → reading_of line.now.bytes ≡ whole read →
+        out ≡ end_result searches.now options.now line.now.number read (end_in ran.now.ended)
+        (tree_of ran.now.event)) }
+    ensures none { (read : Tree)
+        → kept_events options.now read (end_in ran.now.ended) (tree_of ran.now.event) ≡ []
+        → end_report line.now.number (end_in ran.now.ended) ≡ [] → IsOk result }
 {
-    let kept = kept_events(alloc, sources, options, line, ran)?;
+    let kept = kept_events(alloc, searches.sources(), options, line, ran, scratch)?;
     let report = end_report(alloc, line.number, &ran.ended)?;
     Ok(LineOut {
         output: kept.lines,

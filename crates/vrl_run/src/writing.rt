@@ -55,6 +55,8 @@ pub(crate) fn write_answer<O: Sink, E: Sink>(
         × Appends (E.written report.old) (E.written report.new) lines.now }
     ensures front { AppendsFront (O.written output.old) (O.written output.new) events.now
         × AppendsFront (E.written report.old) (E.written report.new) lines.now }
+    ensures order { Appends (O.written output.old) (O.written output.new) events.now
+        ⊎ (E.written report.new ≡ E.written report.old) }
     ensures either { (result ≡ status) ⊎ (result ≡ Status.WriteFault) }
     ensures cause { result ≡ Status.WriteFault
         → HasRisen (O.faults output.old) (O.faults output.new)

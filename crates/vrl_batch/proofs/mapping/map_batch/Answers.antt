@@ -3,8 +3,8 @@ use Rattle.std.proofs.lemmas.Result.{IfOk-weaker}
 use Rattle.vrl_batch.proofs.Chunks.{chunks-made}
 use Rattle.vrl_batch.proofs.mapping.map_batch.Goals as goal
 
-pub returns : goal.returns
-returns g c =
+pub returns-clause-made : goal.returns-clause-made
+returns-clause-made g c =
     let makes = g.W.Work.makes c.args.work.now in
     let size = c.chunk_size-size.result in
     let lines = c.args.batch.now in

@@ -1,6 +1,6 @@
 use Rattle.std.proofs.Common.{◌≡◌, ◌+◌, false, [], Ok, refl, ap, ◌∙◌, arith, rules}
 use Rattle.std.proofs.lemmas.Result.{err_from_is_err_and}
-use Rattle.vrl_batch.proofs.Fills.{fills-end, fills-more, fills-start, fills-stop, fills-wanting, fills-whole, reads-room}
+use Rattle.vrl_batch.proofs.Fills.{fills-end, fills-more, fills-start, fills-stop, fills-wanting, fills-wanting-end, fills-whole, reads-room, wanting-start}
 use Rattle.vrl_batch.specs.Begun.{is_filled}
 use Rattle.vrl_batch.specs.Pieces.{held_by}
 use Rattle.vrl_batch.specs.Reads.{stream}
@@ -30,7 +30,7 @@ returns-then-branch-eq0-clause-batch g c =
     fills-end (stream (held_by c.args.piece.now c.args.begun.now.number) (g.S.Source.left c.args.source.now) (g.S.Source.taken c.args.source.now) (g.S.Source.ended c.args.source.now) (g.C.Clock.ahead c.args.clock.now))
     c.loop-piece.piece c.loop-piece.begun (g.S.Source.left c.loop-piece.source) (g.S.Source.taken c.loop-piece.source) (g.S.Source.ended c.loop-piece.source) (g.C.Clock.ahead c.loop-piece.clock) c.loop-piece.invariant.0 unfilled
     c.take.new.self (g.S.Source.left c.take.new.source) (g.S.Source.taken c.take.new.source) c.in_ok-take.field-0 c.in_ok-take.ensures.piece c.end.new.self (g.S.Source.ended c.take.new.source) (g.C.Clock.ahead c.end.new.clock) none
-    (c.in_ok-take.ensures.end (ap Ok none)) (c.in_ok-take.ensures.end_empty (ap Ok none)) (λ front part begun. c.in_ok-end.ensures (c.args.begun.now.number + 1) (g.C.Clock.ahead c.args.clock.now) front part begun)
+    (c.in_ok-take.ensures.end (ap Ok none)) (c.in_ok-take.ensures.end_empty (ap Ok none)) (λ front part begun. c.in_ok-end.ensures.lines (c.args.begun.now.number + 1) (g.C.Clock.ahead c.args.clock.now) front part begun)
 
 pub returns-then-branch-eq0-clause-room : goal.returns-then-branch-eq0-clause-room
 returns-then-branch-eq0-clause-room g c =
@@ -57,10 +57,28 @@ returns-in_err-add_rest-2-clause-fault g c =
     let wanting = fills-wanting (stream (held_by c.args.piece.now c.args.begun.now.number) (g.S.Source.left c.args.source.now) (g.S.Source.taken c.args.source.now) (g.S.Source.ended c.args.source.now) (g.C.Clock.ahead c.args.clock.now))
     c.loop-piece.piece c.loop-piece.begun (g.S.Source.left c.loop-piece.source) (g.S.Source.taken c.loop-piece.source) (g.S.Source.ended c.loop-piece.source) (g.C.Clock.ahead c.loop-piece.clock) c.loop-piece.invariant.0 unfilled
     c.take.new.self (g.S.Source.left c.take.new.source) (g.S.Source.taken c.take.new.source) c.in_ok-take.field-0 c.in_ok-take.ensures.piece c.add_rest-in-loop-piece.new.piece c.args.begun.now.number (g.S.Source.ended c.take.new.source) (g.C.Clock.ahead c.add_rest-in-loop-piece.new.clock)
-    c.in_err-add_rest-2.ensures.taken in
+    c.in_err-add_rest-2.ensures.taken (λ is. absurd (let none = (c.in_ok-take.ensures.after_end is).0 in search rules))
+    (c.in_err-add_rest-2.ensures.asks (c.args.begun.now.number + 1) (g.C.Clock.ahead c.args.clock.now) c.loop-piece.invariant.0.front c.loop-piece.invariant.0.part c.loop-piece.invariant.0.is_begun) in
     search rules
 
 pub returns-clause-batch : goal.returns-clause-batch
 returns-clause-batch g c =
     fills-whole (stream (held_by c.args.piece.now c.args.begun.now.number) (g.S.Source.left c.args.source.now) (g.S.Source.taken c.args.source.now) (g.S.Source.ended c.args.source.now) (g.C.Clock.ahead c.args.clock.now))
     c.loop-piece.piece c.loop-piece.begun (g.S.Source.left c.loop-piece.source) (g.S.Source.taken c.loop-piece.source) (g.S.Source.ended c.loop-piece.source) (g.C.Clock.ahead c.loop-piece.clock) c.loop-piece.invariant.0 (search rules)
+
+pub returns-in_err-add_rest-clause-fault : goal.returns-in_err-add_rest-clause-fault
+returns-in_err-add_rest-clause-fault g c =
+    let wanting = wanting-start c.args.piece.now c.add_rest.new.piece c.args.begun.now.number c.args.begun.now.number (g.S.Source.left c.args.source.now) (g.S.Source.taken c.args.source.now) (g.S.Source.ended c.args.source.now)
+    (g.C.Clock.ahead c.args.clock.now) (g.C.Clock.ahead c.add_rest.new.clock) c.in_err-add_rest.ensures.taken c.requires.within
+    (c.in_err-add_rest.ensures.asks (c.args.begun.now.number + 1) (g.C.Clock.ahead c.args.clock.now) [] [] (c.requires.begun (g.C.Clock.ahead c.args.clock.now))) in
+    search rules
+
+pub returns-in_err-end-clause-fault : goal.returns-in_err-end-clause-fault
+returns-in_err-end-clause-fault g c =
+    let unfilled : is_filled c.loop-piece.begun ≡ false = search rules in
+    let none : c.in_ok-take.field-0 ≡ 0 = search rules in
+    let wanting = fills-wanting-end (stream (held_by c.args.piece.now c.args.begun.now.number) (g.S.Source.left c.args.source.now) (g.S.Source.taken c.args.source.now) (g.S.Source.ended c.args.source.now) (g.C.Clock.ahead c.args.clock.now))
+    c.loop-piece.piece c.loop-piece.begun (g.S.Source.left c.loop-piece.source) (g.S.Source.taken c.loop-piece.source) (g.S.Source.ended c.loop-piece.source) (g.C.Clock.ahead c.loop-piece.clock) c.loop-piece.invariant.0 unfilled
+    c.take.new.self (g.S.Source.left c.take.new.source) (g.S.Source.taken c.take.new.source) c.in_ok-take.field-0 c.in_ok-take.ensures.piece c.args.begun.now.number (g.S.Source.ended c.take.new.source) (g.C.Clock.ahead c.end.new.clock) none
+    (c.in_err-end.ensures.asks (c.args.begun.now.number + 1) (g.C.Clock.ahead c.args.clock.now) c.loop-piece.invariant.0.front c.loop-piece.invariant.0.part c.loop-piece.invariant.0.is_begun) in
+    search rules

@@ -11,13 +11,13 @@ returns-in-Words g c =
 pub returns-in-Kind : goal.returns-in-Kind
 returns-in-Kind g c =
     let told = c.write_told-in-Kind.ensures in
-    let request = bad_kind c.in-Kind.fault.now in
+    let request = bad_kind c.in-Kind.fault in
     rw c.in-Kind.is (told_answered request _ (λ reads. reads) (told.written request c.kind_refusal.ensures) told.cause told.write_told (refl, refl))
 
 pub returns-in-Refused : goal.returns-in-Refused
 returns-in-Refused g c =
     let told = c.write_told-in-Refused.ensures in
-    let request = bad_script c.in-Refused.text.now c.in-Refused.diagnostics.now in
+    let request = bad_script c.in-Refused.text c.in-Refused.diagnostics in
     rw c.in-Refused.is (told_answered request _ (λ reads. reads) (told.written request c.script_refusal.ensures) told.cause told.write_told (refl, refl))
 
 pub returns-in-Run : goal.returns-in-Run
@@ -32,5 +32,5 @@ returns-in-Generate g c =
 pub returns-in-Check : goal.returns-in-Check
 returns-in-Check g c =
     let told = c.write_told-in-Check.ensures in
-    let request = tell_kinds c.in-Check.text.now c.in-Check.warnings.now c.in-Check.kind.now c.in-Check.known.now in
+    let request = tell_kinds c.in-Check.text c.in-Check.warnings c.in-Check.kind c.in-Check.known in
     rw c.in-Check.is (told_answered request _ (λ reads. reads) (told.written request c.kinds.ensures) told.cause told.write_told (refl, refl))

@@ -11,7 +11,7 @@ use Rattle.vrl_run.proofs.made.run_made.Goals as goal
 
 pub loop-work-preserved : goal.loop-work-preserved
 loop-work-preserved g c = (
-  is_made_to-batch _ _ c.loop-work.batch c.loop-work.lines _ c.in_ok-results.results _ _ _ c.loop-work.invariant.0 (c.in_ok-results.ensures ∙ ap (λ f. map f c.loop-work.batch) c.work-work.ensures) c.as_slice-in-loop-work.ensures c.add_all.ensures c.in_ok-batch-2.ensures.next,
+  is_made_to-batch _ _ c.loop-work.batch c.loop-work.lines _ c.in_ok-results.results _ _ _ c.loop-work.invariant.0 (c.in_ok-results.ensures.made ∙ ap (λ f. map f c.loop-work.batch) c.work-work.ensures) c.as_slice-in-loop-work.ensures c.add_all.ensures c.in_ok-batch-2.ensures.next,
   λ none. sym c.in_ok-batch-2.ensures.next ∙ c.in_ok-batch-2.ensures.empty none,
 )
 
