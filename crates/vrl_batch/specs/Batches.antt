@@ -23,9 +23,11 @@ is_whole lines = nat_le batch_lines (length lines) || nat_le batch_bytes (sum_by
 abbrev pub batches_from : (lines begun : List (ℕ × List ℕ)) → List (List (ℕ × List ℕ))
 batches_from [] [] = []
 batches_from [] (b ∷ begun) = (b ∷ begun) ∷ []
-batches_from (l ∷ lines) begun = if is_whole (begun ++ l ∷ []) then (begun ++ l ∷ []) ∷ batches_from lines [] else batches_from lines (begun ++ l ∷ [])
+batches_from (l ∷ lines) begun = if is_whole (begun ++ l ∷ []) then (begun ++ l ∷ []) ∷ batches_from lines []
+    else batches_from lines (begun ++ l ∷ [])
 
--- lines cut into batches: each ends with the line that makes it whole, and the last one where the lines end
+-- lines cut into batches: each ends with the line that makes it whole, and the last one where the
+-- lines end
 abbrev pub batches_of : List (ℕ × List ℕ) → List (List (ℕ × List ℕ))
 batches_of lines = batches_from lines []
 
@@ -35,4 +37,5 @@ lines_in_whole lines = flat_map (λ batch. batch) (filter is_whole (batches_of l
 
 -- these lines are no more than a batch: without the last of them they are not whole
 abbrev pub IsAtMostBatch : List (ℕ × List ℕ) → Type 0
-IsAtMostBatch lines = (lines ≡ []) ⊎ ((begun : List (ℕ × List ℕ)) × (last : ℕ × List ℕ) × (lines ≡ begun ++ last ∷ []) × (is_whole begun ≡ false))
+IsAtMostBatch lines = (lines ≡ [])
+    ⊎ ((begun : List (ℕ × List ℕ)) × (last : ℕ × List ℕ) × (lines ≡ begun ++ last ∷ []) × (is_whole begun ≡ false))

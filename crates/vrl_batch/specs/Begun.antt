@@ -22,9 +22,14 @@ pub record AddsLine (before after : Begun) (line : Line) : Type 0 where
   pub part_is : after.part ≡ before.part
 
 -- what a line adds that has ended, by whether it is blank: nothing, or itself at the next moment
-abbrev pub AddsEvent : (blank : Bool) (line : List ℕ) (before after : Begun) (ahead ahead_after : Option (ℕ → ℤ)) → Type 0
-AddsEvent true line before after ahead ahead_after = (after.lines.items ≡ before.lines.items) × (after.kept ≡ before.kept) × (ahead_after ≡ ahead)
-AddsEvent false line before after ahead ahead_after = (moment : ℤ) × IsInRange moment × Advances ahead moment ahead_after × (after.lines.items ≡ before.lines.items ++ line_at moment (after.number, line) ∷ []) × (after.kept ≡ before.kept + length (line_at moment (after.number, line)).bytes)
+abbrev pub AddsEvent : (blank : Bool) (line : List ℕ) (before after : Begun) (ahead ahead_after : Option (ℕ → ℤ))
+    → Type 0
+AddsEvent true line before after ahead ahead_after =
+    (after.lines.items ≡ before.lines.items) × (after.kept ≡ before.kept) × (ahead_after ≡ ahead)
+AddsEvent false line before after ahead ahead_after = (moment : ℤ) × IsInRange moment
+    × Advances ahead moment ahead_after
+    × (after.lines.items ≡ before.lines.items ++ line_at moment (after.number, line) ∷ [])
+    × (after.kept ≡ before.kept + length (line_at moment (after.number, line)).bytes)
 
 -- a line has ended, and the next one is begun
 pub record EndsLine (line : List ℕ) (before after : Begun) (ahead ahead_after : Option (ℕ → ℤ)) : Type 0 where
@@ -33,7 +38,8 @@ pub record EndsLine (line : List ℕ) (before after : Begun) (ahead ahead_after 
   pub added : AddsEvent (is_blank line) line before after ahead ahead_after
 
 -- it has the lines of these bytes, the first of which has this number, at the moments of the clock
-pub record HoldsLines (first : ℕ) (ahead : Option (ℕ → ℤ)) (bytes : List ℕ) (begun : Begun) (ahead_after : Option (ℕ → ℤ)) : Type 0 where
+pub record HoldsLines (first : ℕ) (ahead : Option (ℕ → ℤ)) (bytes : List ℕ) (begun : Begun)
+    (ahead_after : Option (ℕ → ℤ)) : Type 0 where
   pub number_is : begun.number + 1 ≡ first + length (lines_of bytes)
   pub moments : List ℤ
   pub one_each : length moments ≡ length (event_lines_from first bytes)
@@ -43,7 +49,8 @@ pub record HoldsLines (first : ℕ) (ahead : Option (ℕ → ℤ)) (bytes : List
   pub at_most : IsAtMostBatch (event_lines_from first bytes)
 
 -- it has the lines of a front that have ended, and the begin of the next one
-pub record IsBegun (first : ℕ) (ahead : Option (ℕ → ℤ)) (front part : List ℕ) (begun : Begun) (ahead_after : Option (ℕ → ℤ)) : Type 0 where
+pub record IsBegun (first : ℕ) (ahead : Option (ℕ → ℤ)) (front part : List ℕ) (begun : Begun)
+    (ahead_after : Option (ℕ → ℤ)) : Type 0 where
   pub holds : HoldsLines first ahead front begun ahead_after
   pub ended : AreWholeLines front
   pub unbroken : IsUnbroken part
@@ -51,7 +58,8 @@ pub record IsBegun (first : ℕ) (ahead : Option (ℕ → ℤ)) (front part : Li
   pub between : is_whole (event_lines_from first front) ≡ true → part ≡ []
 
 -- these bytes are the lines that it has, the begin of the next one, and a rest
-pub record DividesAt (first : ℕ) (ahead : Option (ℕ → ℤ)) (bytes rest : List ℕ) (begun : Begun) (ahead_after : Option (ℕ → ℤ)) : Type 0 where
+pub record DividesAt (first : ℕ) (ahead : Option (ℕ → ℤ)) (bytes rest : List ℕ) (begun : Begun)
+    (ahead_after : Option (ℕ → ℤ)) : Type 0 where
   pub front : List ℕ
   pub part : List ℕ
   pub divides : bytes ≡ front ++ (part ++ rest)

@@ -31,9 +31,12 @@ event_lines = event_lines_from 1
 abbrev pub line_limit : ℕ
 line_limit = 1048576
 
--- a line with its number, and the moment at which it is run; of one that is too long no bytes are kept
+-- a line with its number, and the moment at which it is run; of one that is too long no bytes are
+-- kept
 abbrev pub line_at : ℤ → ℕ × List ℕ → Line
-line_at moment l = if nat_lt line_limit (length l.1) then record { number = l.0; bytes = []; long = true; moment = moment } else record { number = l.0; bytes = l.1; long = false; moment = moment }
+line_at moment l = if nat_lt line_limit
+    (length l.1) then record { number = l.0; bytes = []; long = true; moment = moment }
+    else record { number = l.0; bytes = l.1; long = false; moment = moment }
 
 -- ---- bytes of which more may follow
 

@@ -23,7 +23,8 @@ abbrev pub AreInRange : List ℤ → Type 0
 AreInRange [] = Unit {0}
 AreInRange (m ∷ ms) = IsInRange m × AreInRange ms
 
--- the clock told these moments, one after another: its own, as far as it tells those to come, and in the range of moments
+-- the clock told these moments, one after another: its own, as far as it tells those to come, and
+-- in the range of moments
 pub record Tells (ahead : Option (ℕ → ℤ)) (moments : List ℤ) (ahead_after : Option (ℕ → ℤ)) : Type 0 where
   pub told : IfSome ahead (Begin moments)
   pub moved : MovesOn ahead (length moments) ahead_after

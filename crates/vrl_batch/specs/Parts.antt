@@ -10,4 +10,9 @@ pub record PartSeen : Type 0 where
 
 -- what is kept of the bytes of a line so far
 abbrev pub part_of : List ℕ → PartSeen
-part_of line = record { bytes = if nat_lt line_limit (length line) then [] else line; long = nat_lt line_limit (length line); blank = is_blank line }
+part_of line = record {
+  bytes = if nat_lt line_limit (length line) then []
+      else line;
+  long = nat_lt line_limit (length line);
+  blank = is_blank line;
+}

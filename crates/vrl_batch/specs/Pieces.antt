@@ -15,7 +15,8 @@ abbrev pub held_by : PieceHeld → ℕ → BytesHeld
 held_by piece number = record { held = piece.rest; next = number + 1; taken = piece.taken }
 
 -- a take gave so many bytes, from the front of those left
-pub record TakesPiece (piece piece_after : PieceHeld) (left left_after : Option (List ℕ)) (taken taken_after count : ℕ) : Type 0 where
+pub record TakesPiece (piece piece_after : PieceHeld) (left left_after : Option (List ℕ))
+    (taken taken_after count : ℕ) : Type 0 where
   pub length_is : length piece_after.rest ≡ count
   pub is_front : left ≡ option_map (λ rest. piece_after.rest ++ rest) left_after
   pub counted : taken_after ≡ taken + count
@@ -23,8 +24,13 @@ pub record TakesPiece (piece piece_after : PieceHeld) (left left_after : Option 
   pub within : piece_after.taken ≤ input_limit
   pub most : count ≤ most_taken
 
--- why a take gave none: the source failed and gave no byte, or it has more than the limit and gave one byte of them, which isn't kept
-abbrev pub MissesPiece : (piece piece_after : PieceHeld) (left left_after : Option (List ℕ)) (taken taken_after : ℕ) → BatchFault → Type 0
-MissesPiece piece piece_after left left_after taken taken_after ReadFault = (left_after ≡ left) × (taken_after ≡ taken) × (piece_after.taken ≡ piece.taken) × (piece_after.rest ≡ [])
-MissesPiece piece piece_after left left_after taken taken_after TooMuch = (byte : ℕ) × (left ≡ option_map (λ rest. byte ∷ rest) left_after) × (taken_after ≡ taken + 1) × (piece.taken ≡ input_limit) × (piece_after.taken ≡ input_limit + 1) × (piece_after.rest ≡ [])
+-- why a take gave none: the source failed and gave no byte, or it has more than the limit and gave
+-- one byte of them, which isn't kept
+abbrev pub MissesPiece : (piece piece_after : PieceHeld) (left left_after : Option (List ℕ)) (taken taken_after : ℕ)
+    → BatchFault → Type 0
+MissesPiece piece piece_after left left_after taken taken_after ReadFault =
+    (left_after ≡ left) × (taken_after ≡ taken) × (piece_after.taken ≡ piece.taken) × (piece_after.rest ≡ [])
+MissesPiece piece piece_after left left_after taken taken_after TooMuch = (byte : ℕ)
+    × (left ≡ option_map (λ rest. byte ∷ rest) left_after) × (taken_after ≡ taken + 1) × (piece.taken ≡ input_limit)
+    × (piece_after.taken ≡ input_limit + 1) × (piece_after.rest ≡ [])
 MissesPiece piece piece_after left left_after taken taken_after Memory = ⊥

@@ -8,7 +8,8 @@ use Rattle.vrl_batch.specs.declared.fault.BatchFault.{BatchFault}
 use Rattle.vrl_batch.specs.declared.fault.BatchFault.TheVariants.{ReadFault, TooMuch, Memory}
 use Rattle.vrl_batch.specs.declared.line.Line.{Line}
 
--- the bytes that a reader holds, the number of the line with which they begin, and how many bytes it has taken
+-- the bytes that a reader holds, the number of the line with which they begin, and how many bytes
+-- it has taken
 pub record BytesHeld : Type 0 where
   pub held : List ℕ
   pub next : ℕ
@@ -19,8 +20,8 @@ pub record Reader : Type 0 where
   pub bytes : BytesHeld
   pub fault : Option BatchFault
 
--- What a reader and its devices tell at a time: of the source what is left, how much was taken and whether it has ended, and
--- of the clock the moments to come.
+-- What a reader and its devices tell at a time: of the source what is left, how much was taken and
+-- whether it has ended, and of the clock the moments to come.
 pub record Stream : Type 0 where
   pub reader : BytesHeld
   pub left : Option (List ℕ)
@@ -29,7 +30,8 @@ pub record Stream : Type 0 where
   pub ahead : Option (ℕ → ℤ)
 
 abbrev pub stream : BytesHeld → Option (List ℕ) → ℕ → Bool → Option (ℕ → ℤ) → Stream
-stream reader left taken ended ahead = record { reader = reader; left = left; taken = taken; ended = ended; ahead = ahead }
+stream reader left taken ended ahead =
+    record { reader = reader; left = left; taken = taken; ended = ended; ahead = ahead }
 
 -- these bytes were taken from the front of those left, and each was counted, by the reader too
 pub record Takes (bytes : List ℕ) (before after : Stream) : Type 0 where
@@ -41,9 +43,12 @@ pub record Takes (bytes : List ℕ) (before after : Stream) : Type 0 where
 abbrev pub most_taken : ℕ
 most_taken = 65536
 
--- of these bytes, taken behind those that were held, the last take was needed: without it no whole batch was there
+-- of these bytes, taken behind those that were held, the last take was needed: without it no whole
+-- batch was there
 abbrev pub IsNeeded : (next : ℕ) (held bytes : List ℕ) → Type 0
-IsNeeded next held bytes = (bytes ≡ []) ⊎ ((before : List ℕ) × (last : List ℕ) × (bytes ≡ before ++ last) × (length last ≤ most_taken) × (is_whole (event_lines_from next (ended_of (held ++ before))) ≡ false))
+IsNeeded next held bytes = (bytes ≡ [])
+    ⊎ ((before : List ℕ) × (last : List ℕ) × (bytes ≡ before ++ last) × (length last ≤ most_taken)
+    × (is_whole (event_lines_from next (ended_of (held ++ before))) ≡ false))
 
 -- the source has ended, and nothing is left of it or held
 pub record HasEnded (now : Stream) : Type 0 where
@@ -51,9 +56,9 @@ pub record HasEnded (now : Stream) : Type 0 where
   pub none_left : IfSome now.left (λ left. left ≡ [])
   pub none_held : now.reader.held ≡ []
 
--- A call reads this batch. It takes bytes, of which, behind those that were held, a front is read. Of this front, these are the
--- lines that aren't blank, each with its number and at the next moment. They make a whole batch, behind a newline, or the
--- source has ended.
+-- A call reads this batch. It takes bytes, of which, behind those that were held, a front is read.
+-- Of this front, these are the lines that aren't blank, each with its number and at the next
+-- moment. They make a whole batch, behind a newline, or the source has ended.
 pub record ReadsBatch (before after : Stream) (batch : List Line) : Type 0 where
   pub bytes : List ℕ
   pub takes : Takes bytes before after
@@ -69,21 +74,23 @@ pub record ReadsBatch (before after : Stream) (batch : List Line) : Type 0 where
   pub needed : IsNeeded before.reader.next before.reader.held bytes
   pub past_end : IsTrue before.ended → bytes ≡ []
 
--- A call stops at this fault of its source, or at the limit, where more bytes follow: one more was taken then. No whole batch
--- was held or taken, each line that has ended and isn't blank had its moment, and nothing is held any more. The source had
--- not ended.
+-- A call stops at this fault of its source, or at the limit, where more bytes follow: one more was
+-- taken then. No whole batch was held or taken, each line that has ended and isn't blank had its
+-- moment, and nothing is held any more. The source had not ended.
 pub record StopsReading (more : ℕ) (before after : Stream) : Type 0 where
   pub bytes : List ℕ
   pub behind : List ℕ
   pub takes : Takes (bytes ++ behind) before after
   pub more_is : length behind ≡ more
   pub not_whole : is_whole (event_lines_from before.reader.next (ended_of (before.reader.held ++ bytes))) ≡ false
-  pub moved : MovesOn before.ahead (length (event_lines_from before.reader.next (ended_of (before.reader.held ++ bytes)))) after.ahead
+  pub moved : MovesOn before.ahead
+      (length (event_lines_from before.reader.next (ended_of (before.reader.held ++ bytes)))) after.ahead
   pub none_held : after.reader.held ≡ []
   pub not_ended : ¬ IsTrue before.ended
 
--- Whatever comes of a call, it takes bytes, and the clock tells at most one moment for each line that isn't blank of
--- those that were held and taken. Once the source has ended nothing more is taken.
+-- Whatever comes of a call, it takes bytes, and the clock tells at most one moment for each line
+-- that isn't blank of those that were held and taken. Once the source has ended nothing more is
+-- taken.
 pub record AsksAtMost (before after : Stream) : Type 0 where
   pub bytes : List ℕ
   pub takes : Takes bytes before after
@@ -91,7 +98,8 @@ pub record AsksAtMost (before after : Stream) : Type 0 where
       (length (event_lines_from before.reader.next (before.reader.held ++ bytes))) after.ahead
   pub past_end : IsTrue before.ended → bytes ≡ []
 
--- what a call leaves that stops at this fault; where it is out of memory, all that was taken is counted
+-- what a call leaves that stops at this fault; where it is out of memory, all that was taken is
+-- counted
 abbrev pub StopsAt : (before after : Stream) → BatchFault → Type 0
 StopsAt before after ReadFault = StopsReading 0 before after × (after.reader.taken ≤ input_limit)
 StopsAt before after TooMuch = StopsReading 1 before after × (after.reader.taken ≡ input_limit + 1)

@@ -9,10 +9,12 @@ use Rattle.vrl_batch.specs.declared.line.Line.{Line}
 
 -- whole lines that are whole batches, whatever follows
 abbrev pub AreWholeBatches : List ℕ → Type 0
-AreWholeBatches front = AreWholeLines front × ((rest : List (ℕ × List ℕ)) → lines_in_whole (event_lines front ++ rest) ≡ event_lines front ++ lines_in_whole rest)
+AreWholeBatches front = AreWholeLines front
+    × ((rest : List (ℕ × List ℕ))
+    → lines_in_whole (event_lines front ++ rest) ≡ event_lines front ++ lines_in_whole rest)
 
--- The lines of all batches so far are those of a front of the bytes taken, at the clock's moments. They were whole batches,
--- or the source has ended.
+-- The lines of all batches so far are those of a front of the bytes taken, at the clock's moments.
+-- They were whole batches, or the source has ended.
 pub record HasRead (begin now : Stream) (lines : List Line) : Type 0 where
   pub input : List ℕ
   pub takes : Takes input begin now
@@ -25,9 +27,12 @@ pub record HasRead (begin now : Stream) (lines : List Line) : Type 0 where
   pub lines_are : lines ≡ lines_at moments (event_lines front)
   pub stands : AreWholeBatches front ⊎ HasEnded now
 
--- a batch is empty exactly where the source has ended, and no line that isn't blank was held before or taken
+-- a batch is empty exactly where the source has ended, and no line that isn't blank was held before
+-- or taken
 abbrev pub BatchesEnd : Type 0
-BatchesEnd = (before after : Stream) (batch : List Line) (reads : ReadsBatch before after batch) → (batch ≡ []) ↔ (IsTrue after.ended × (event_lines_from before.reader.next (before.reader.held ++ reads.bytes) ≡ []))
+BatchesEnd = (before after : Stream) (batch : List Line) (reads : ReadsBatch before after batch)
+    → (batch ≡ []) ↔
+    (IsTrue after.ended × (event_lines_from before.reader.next (before.reader.held ++ reads.bytes) ≡ []))
 
 -- a reader that was just made has read nothing
 abbrev pub RunsBegin : Type 0
@@ -35,9 +40,11 @@ RunsBegin = (begin : Stream) → begin.reader.held ≡ [] → begin.reader.next 
 
 -- and with each batch it has read the lines of one more
 abbrev pub RunsGoOn : Type 0
-RunsGoOn = (begin now after : Stream) (lines batch : List Line) → HasRead begin now lines → ReadsBatch now after batch → HasRead begin after (lines ++ batch)
+RunsGoOn = (begin now after : Stream) (lines batch : List Line) → HasRead begin now lines → ReadsBatch now after batch
+    → HasRead begin after (lines ++ batch)
 
--- Moments for the lines of an input, of which these are run: those that the clock tells, as far as it tells them.
+-- Moments for the lines of an input, of which these are run: those that the clock tells, as far as
+-- it tells them.
 pub record IsTimed (begin : Stream) (run : List (ℕ × List ℕ)) (lines : List Line) (moments : ℕ → ℤ) : Type 0 where
   pub are_ahead : IfSome begin.ahead (λ told. (i : ℕ) → told i ≡ moments i)
   pub in_range : (i : ℕ) → i < length run → IsInRange (moments i)
@@ -54,9 +61,11 @@ pub record HasReadAll (begin after : Stream) (lines : List Line) : Type 0 where
 
 -- an empty batch is the end of the input
 abbrev pub RunsEnd : Type 0
-RunsEnd = (begin now after : Stream) (lines : List Line) → HasRead begin now lines → ReadsBatch now after [] → HasReadAll begin after lines
+RunsEnd = (begin now after : Stream) (lines : List Line) → HasRead begin now lines → ReadsBatch now after []
+    → HasReadAll begin after lines
 
--- the lines are those of the whole batches among the lines that have ended in the bytes taken, but for so many bytes behind them
+-- the lines are those of the whole batches among the lines that have ended in the bytes taken, but
+-- for so many bytes behind them
 pub record HasReadWhole (more : ℕ) (begin after : Stream) (lines : List Line) : Type 0 where
   pub input : List ℕ
   pub behind : List ℕ
@@ -69,9 +78,11 @@ pub record HasReadWhole (more : ℕ) (begin after : Stream) (lines : List Line) 
 
 -- at a fault of the source, or at the limit, the batches so far are the whole ones
 abbrev pub RunsStop : Type 0
-RunsStop = (more : ℕ) (begin now after : Stream) (lines : List Line) → HasRead begin now lines → StopsReading more now after → HasReadWhole more begin after lines
+RunsStop = (more : ℕ) (begin now after : Stream) (lines : List Line) → HasRead begin now lines
+    → StopsReading more now after → HasReadWhole more begin after lines
 
--- the lines are the first of an input, which begins with the bytes taken, and is all that was left at the beginning
+-- the lines are the first of an input, which begins with the bytes taken, and is all that was left
+-- at the beginning
 pub record HasReadFront (begin : Stream) (lines : List Line) : Type 0 where
   pub input : List ℕ
   pub is_left : IfSome begin.left (λ left. left ≡ input)
@@ -93,4 +104,5 @@ pub record HasAskedAtMost (begin now : Stream) : Type 0 where
 
 -- so it is after any number of calls that read batches and one more, whatever comes of that
 abbrev pub RunsAskAtMost : Type 0
-RunsAskAtMost = (begin now after : Stream) (lines : List Line) → HasRead begin now lines → AsksAtMost now after → HasAskedAtMost begin after
+RunsAskAtMost = (begin now after : Stream) (lines : List Line) → HasRead begin now lines → AsksAtMost now after
+    → HasAskedAtMost begin after

@@ -53,8 +53,8 @@ impl Begun {
         self.lines.len() >= BATCH_LINES || self.kept >= BATCH_BYTES
     }
 
-    // Adds the lines of these bytes until it is whole, and answers how many bytes were used. The bytes behind
-    // the last newline begin a line.
+    // Adds the lines of these bytes until it is whole, and answers how many bytes were used. The
+    // bytes behind the last newline begin a line.
     pub fn add_lines<C: Clock>(&mut self, bytes: &[u8], clock: &mut C) -> Result<usize, Memory>
         requires room { self.old.number + length bytes.now < 2 ^ 64 }
         ensures lines { (first : ℕ) (ahead : Option (ℕ → ℤ)) (front part : List ℕ)

@@ -40,7 +40,8 @@ impl<'a, G: Gate> Chunk<'a, G> {
         self.lines.len()
     }
 
-    /// The next line, before which it passes the gate with the line's place in the batch. `None`: there is no other.
+    /// The next line, before which it passes the gate with the line's place in the batch. `None`:
+    /// there is no other.
     pub fn next(&mut self) -> Option<&'a Line>
         ensures { MatchOption result (self.old ≡ []) (λ line. self.old ≡ line.now ∷ self.new) }
     {

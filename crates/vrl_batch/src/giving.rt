@@ -4,7 +4,8 @@ ghost use Rattle.vrl_batch.specs.Sinks.{Appends, AppendsFront};
 
 use vrl_io::{Failed, Sink};
 
-/// Gives all of the bytes to the sink, piece by piece. After a failure the sink has taken a front of them.
+/// Gives all of the bytes to the sink, piece by piece. After a failure the sink has taken a front
+/// of them.
 pub fn give_all<K: Sink>(sink: &mut K, bytes: &[u8]) -> Result<(), Failed>
     ensures whole { OnOk result (Appends (K.written sink.old) (K.written sink.new) bytes.now) }
     ensures front { AppendsFront (K.written sink.old) (K.written sink.new) bytes.now }

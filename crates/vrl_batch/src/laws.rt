@@ -1,7 +1,7 @@
 ghost use Rattle.vrl_batch.specs.Runs.{BatchesEnd, RunsAskAtMost, RunsBegin, RunsEnd, RunsFront, RunsGoOn, RunsStop};
 
-/// The law that a batch is empty exactly where the source has ended, and no line that isn't blank was held
-/// before or taken.
+/// The law that a batch is empty exactly where the source has ended, and no line that isn't blank
+/// was held before or taken.
 pub fn batches_end()
     ensures { BatchesEnd }
 {}
@@ -21,8 +21,8 @@ pub fn runs_end()
     ensures { RunsEnd }
 {}
 
-/// The law that at a fault of the source, or at the limit, the lines that were read are those of the whole
-/// batches among the bytes taken.
+/// The law that at a fault of the source, or at the limit, the lines that were read are those of
+/// the whole batches among the bytes taken.
 pub fn runs_stop()
     ensures { RunsStop }
 {}
@@ -32,8 +32,8 @@ pub fn runs_front()
     ensures { RunsFront }
 {}
 
-/// The law that at any time, whatever came of the last call, the clock has told at most one moment for each line
-/// of the bytes taken that isn't blank.
+/// The law that at any time, whatever came of the last call, the clock has told at most one moment
+/// for each line of the bytes taken that isn't blank.
 pub fn runs_ask_at_most()
     ensures { RunsAskAtMost }
 {}

@@ -1,8 +1,12 @@
-//! The lines of an input, read batch by batch as they come, what workers make of them, and bytes given to a sink.
+//! The lines of an input, read batch by batch as they come, what workers make of them, and bytes
+//! given to a sink.
 //!
-//! Files: `line.rt` has what a line is, `reader.rt` the reader of batches, over `piece.rt` (a take), `part.rt` (a line that is begun), `begun.rt` (a batch that
-//! is begun), `lines.rt` (where a line ends, and whether it is blank), `batch.rt` and `fault.rt`; `laws.rt` has what holds over any number of batches; `work.rt` has what is
-//! made of a line, `mapping.rt` the workers, `chunk.rt` the lines of each, `outs.rt` their results and `gate.rt` what they pass; `giving.rt` has bytes for a sink.
+//! Files: `line.rt` has what a line is, `reader.rt` the reader of batches, over `piece.rt` (a
+//! take), `part.rt` (a line that is begun), `begun.rt` (a batch that is begun), `lines.rt` (where a
+//! line ends, and whether it is blank), `batch.rt` and `fault.rt`; `laws.rt` has what holds over
+//! any number of batches; `work.rt` has what is made of a line, `mapping.rt` the workers,
+//! `chunk.rt` the lines of each, `outs.rt` their results and `gate.rt` what they pass; `giving.rt`
+//! has bytes for a sink.
 #![tactic(auto)]
 
 mod batch;

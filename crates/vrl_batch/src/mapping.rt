@@ -12,10 +12,11 @@ use std::thread;
 use std::thread::Threads;
 use vrl_value::Memory;
 
-/// What `work` makes of the lines of a batch, in their order, by at most `jobs` workers, which are 1 to 32. The
-/// batch is cut into consecutive chunks of (lines + jobs - 1) / jobs lines, and each worker owns the results of
-/// its chunk; before each line it passes the gate with the line's place. Where a thread can't be started the
-/// caller does that work itself. `Memory`: out of memory, for a batch that has a line.
+/// What `work` makes of the lines of a batch, in their order, by at most `jobs` workers, which are
+/// 1 to 32. The batch is cut into consecutive chunks of (lines + jobs - 1) / jobs lines, and each
+/// worker owns the results of its chunk; before each line it passes the gate with the line's place.
+/// Where a thread can't be started the caller does that work itself. `Memory`: out of memory, for a
+/// batch that has a line.
 pub fn map_batch<R: Threads + Sync, W: Work + Sync, G: Gate + Sync>(
     rt: &R,
     alloc: Global,

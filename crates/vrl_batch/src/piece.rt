@@ -17,7 +17,8 @@ const INPUT_LIMIT: u64 = 1 << 40;
 /// How many bytes one take asks for.
 const MOST_TAKEN: usize = 65_536;
 
-// What is left of the last take, and how many bytes were taken in all. The buffer is kept from take to take.
+// What is left of the last take, and how many bytes were taken in all. The buffer is kept from take
+// to take.
 #[derive(Drop)]
 pub struct Piece {
     buffer: Vec<u8>,
@@ -36,7 +37,8 @@ impl Model for Piece {
 
     ghost view = { λ p. record { rest = take (p.to - p.from) (drop p.from p.buffer.items); taken = p.taken } };
 
-    ghost invariant = { λ p. (p.from ≤ p.to) × (p.to ≤ length p.buffer.items) × (length p.buffer.items ≡ most_taken) × (p.taken ≤ input_limit + 1) };
+    ghost invariant = { λ p. (p.from ≤ p.to) × (p.to ≤ length p.buffer.items) × (length p.buffer.items ≡ most_taken)
+        × (p.taken ≤ input_limit + 1) };
 }
 
 // A buffer for one take.
@@ -124,7 +126,8 @@ impl Piece {
         Ok(count)
     }
 
-    // Takes one byte past the most that are taken, which is counted and not kept. Answers 0 at the end.
+    // Takes one byte past the most that are taken, which is counted and not kept. Answers 0 at the
+    // end.
     fn take_past<S: Source>(&mut self, source: &mut S) -> Result<usize, BatchFault>
         requires none_left { self.old.rest ≡ [] }
         requires taken { self.old.taken ≡ input_limit }

@@ -18,8 +18,8 @@ use std::marker::Model;
 use vrl_io::{Clock, Source};
 use vrl_value::Memory;
 
-/// Reads the lines of an input batch by batch, as they come. A contract sees the bytes that it holds, the number
-/// of the line with which they begin, how many bytes it has taken, and its fault.
+/// Reads the lines of an input batch by batch, as they come. A contract sees the bytes that it
+/// holds, the number of the line with which they begin, how many bytes it has taken, and its fault.
 #[derive(Drop)]
 pub struct Lines {
     alloc: Global,
@@ -57,7 +57,8 @@ impl Lines {
         Lines::after(alloc, 0)
     }
 
-    /// A reader that counts this many bytes as taken, which are at most 2^40. `Memory`: want of memory.
+    /// A reader that counts this many bytes as taken, which are at most 2^40. `Memory`: want of
+    /// memory.
     pub fn after(alloc: Global, taken: u64) -> Result<Lines, Memory>
         requires { taken ≤ input_limit }
         ensures { IfOk result (λ lines. lines ≡ record {
@@ -73,16 +74,17 @@ impl Lines {
         })
     }
 
-    /// The next lines that aren't blank, each with its number, from 1, and the moment that the clock told for
-    /// it. A line has spaces, tabs and carriage returns alone where it is blank; it is counted. A line of more
-    /// than 1,048,576 bytes keeps none of them.
+    /// The next lines that aren't blank, each with its number, from 1, and the moment that the
+    /// clock told for it. A line has spaces, tabs and carriage returns alone where it is blank; it
+    /// is counted. A line of more than 1,048,576 bytes keeps none of them.
     ///
-    /// A batch ends with its 256th line, or with the line with which the bytes of its lines, newlines not
-    /// counted, reach 8,388,608, or at the end of the input. It is empty exactly at the end. The source is asked
-    /// for at most 65,536 bytes at a time, and only where those that are held make no whole batch.
+    /// A batch ends with its 256th line, or with the line with which the bytes of its lines,
+    /// newlines not counted, reach 8,388,608, or at the end of the input. It is empty exactly at
+    /// the end. The source is asked for at most 65,536 bytes at a time, and only where those that
+    /// are held make no whole batch.
     ///
-    /// `ReadFault`: the source failed. `TooMuch`: 2^40 bytes were taken and more follow; one of them was taken.
-    /// `Memory`: want of memory. After a fault each further call answers it again.
+    /// `ReadFault`: the source failed. `TooMuch`: 2^40 bytes were taken and more follow; one of
+    /// them was taken. `Memory`: want of memory. After a fault each further call answers it again.
     pub fn next_batch<S: Source, C: Clock>(
         &mut self,
         source: &mut S,
@@ -160,14 +162,18 @@ fn fill<S: Source, C: Clock>(
     requires room { begun.old.number + length piece.old.rest ≤ piece.old.taken }
     requires within { piece.old.taken ≤ input_limit }
     ensures batch { OnOk result (ReadsBatch
-        (stream (held_by piece.old begun.old.number) (S.left source.old) (S.taken source.old) (S.ended source.old) (C.ahead clock.old))
-        (stream (held_by piece.new begun.new.number) (S.left source.new) (S.taken source.new) (S.ended source.new) (C.ahead clock.new))
+        (stream (held_by piece.old begun.old.number) (S.left source.old) (S.taken source.old) (S.ended source.old)
+        (C.ahead clock.old))
+        (stream (held_by piece.new begun.new.number) (S.left source.new) (S.taken source.new) (S.ended source.new)
+        (C.ahead clock.new))
         begun.new.lines.items) }
     ensures room { OnOk result (begun.new.number + length piece.new.rest ≤ piece.new.taken) }
     ensures within { OnOk result (piece.new.taken ≤ input_limit) }
     ensures fault { IfErr result (StopsAt
-        (stream (held_by piece.old begun.old.number) (S.left source.old) (S.taken source.old) (S.ended source.old) (C.ahead clock.old))
-        (stream (held_by piece.new begun.old.number) (S.left source.new) (S.taken source.new) (S.ended source.new) (C.ahead clock.new))) }
+        (stream (held_by piece.old begun.old.number) (S.left source.old) (S.taken source.old) (S.ended source.old)
+        (C.ahead clock.old))
+        (stream (held_by piece.new begun.old.number) (S.left source.new) (S.taken source.new) (S.ended source.new)
+        (C.ahead clock.new))) }
     ensures cause { result ≡ Err BatchFault.ReadFault → HasRisen (S.faults source.old) (S.faults source.new) }
     ensures no_fault { OnOk result (S.faults source.new ≡ S.faults source.old) }
     ensures count { IfErr result (KeepsCount (S.faults source.old) (S.faults source.new)) }

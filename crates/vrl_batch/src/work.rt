@@ -39,7 +39,8 @@ pub trait Work {
     /// What it makes of a line.
     ghost makes: { Self → Line → LineOut };
 
-    /// What one worker makes of the lines of a chunk, in their order. What it keeps from line to line is its own. `Memory`: want of memory.
+    /// What one worker makes of the lines of a chunk, in their order. What it keeps from line to
+    /// line is its own. `Memory`: want of memory.
     fn each<G: Gate>(&self, alloc: Global, chunk: Chunk<'_, G>) -> Result<Outs, Memory>
         ensures { IfOk result (λ outs. outs ≡ map (makes self.now) chunk.entry) };
 }

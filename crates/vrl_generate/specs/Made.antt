@@ -6,8 +6,8 @@ use Rattle.vrl_batch.specs.declared.line.Line.{Line}
 
 -- ---- the states
 
--- the state behind a state: a linear congruential generator modulo 2^64, with the multiplier and the
--- increment of Knuth's MMIX
+-- the state behind a state: a linear congruential generator modulo 2^64, with the multiplier and
+-- the increment of Knuth's MMIX
 unfoldable pub state_after : ℕ → ℕ
 state_after state = (state * 6364136223846793005 + 1442695040888963407) % 2 ^ 64
 
@@ -28,8 +28,8 @@ level_of zero = codes "INFO"
 level_of (suc zero) = codes "WARN"
 level_of (suc (suc n)) = codes "ERROR"
 
--- the text of the i-th line, from the number that its state gives: the host is one of 16, the time that the
--- request took below a second, and `n` below 1,000
+-- the text of the i-th line, from the number that its state gives: the host is one of 16, the time
+-- that the request took below a second, and `n` below 1,000
 unfoldable pub line_text : ℕ → ℕ → List ℕ
 line_text i r =
     codes "{\"host\":\"h" ++ (decimal (r % 16)

@@ -1,4 +1,5 @@
--- The summary of the results of lines: what is counted of them, and the digest of what would be written.
+-- The summary of the results of lines: what is counted of them, and the digest of what would be
+-- written.
 use Rattle.std.specs.Prelude.{◌≡◌, ◌≤◌, ◌+◌, ◌-◌, ◌*◌, ◌^◌, min, ◌<◌, ℕ, Bool, true, false, List, [], ◌∷◌, ◌++◌, length, codes, decimal, sum_by, count_by}
 use Rattle.std.specs.List.{flat_map, list_any}
 use Rattle.sha2.specs.Sha256.{sha256}
@@ -63,8 +64,8 @@ summary_of outs =
 
 -- ---- what a summary holds
 
--- the counts and the digest's message are those of these results; no result adds more than a number of 64
--- bits to a count
+-- the counts and the digest's message are those of these results; no result adds more than a number
+-- of 64 bits to a count
 pub record Counts (outs : List LineOut) (summary : Summary) : Type 0 where
   pub lines : summary.lines ≡ length outs
   pub written : summary.written ≡ events_kept outs
@@ -83,6 +84,7 @@ CountsOutcome Errored before after = after ≡ record before { errors = min (bef
 CountsOutcome Aborted before after = after ≡ record before { aborted = min (before.aborted + 1) (2 ^ 64 - 1) }
 CountsOutcome Refused before after = after ≡ record before { refused = min (before.refused + 1) (2 ^ 64 - 1) }
 
--- these are the results that were added to the summary. It counts fewer than 2^64 of them, and no run has more.
+-- these are the results that were added to the summary. It counts fewer than 2^64 of them, and no
+-- run has more.
 unfoldable pub IsSummaryOf : List LineOut → Summary → Type 0
 IsSummaryOf outs summary = length outs < 2 ^ 64 → Counts outs summary

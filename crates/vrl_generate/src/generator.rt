@@ -10,7 +10,8 @@ use vrl_value::Memory;
 /// The most lines of a batch.
 const BATCH_LINES: usize = 256;
 
-/// The lines that are made from a seed, one after the other. A contract sees the list of those to come.
+/// The lines that are made from a seed, one after the other. A contract sees the list of those to
+/// come.
 #[derive(Drop)]
 pub struct Generator {
     // The number of the last line that was made.
@@ -47,8 +48,9 @@ impl Generator {
         }
     }
 
-    /// The next line, with its number, from 1, and its moment; `None` at the end. The first line is of the
-    /// moment 1,700,000,001 seconds behind 1970-01-01T00:00:00Z, and each later one of a second more.
+    /// The next line, with its number, from 1, and its moment; `None` at the end. The first line is
+    /// of the moment 1,700,000,001 seconds behind 1970-01-01T00:00:00Z, and each later one of a
+    /// second more.
     ///
     /// # Errors
     ///

@@ -55,7 +55,8 @@ fn level_of(number: u64) -> &'static str
     }
 }
 
-// The text of the line of this number, from the number that its state gives. `Memory`: want of memory.
+// The text of the line of this number, from the number that its state gives. `Memory`: want of
+// memory.
 fn line_text(alloc: Global, number: u64, drawn: u64) -> Result<String, Memory>
     ensures { IfOk result (λ text. string_bytes text ≡ spec.line_text number drawn) }
 {
