@@ -91,7 +91,7 @@ module _ (rules : OpenRules) (names_apart : ParametersAreToldApart) (code : ℕ)
 
   mutual
     judges_light : {inside : Bool} {known : Option RootMap} {e : Expr} {j : Judgement} → Judges rules inside known e j → count j.codes + at_part (span_of e) ≤ weigh_expr w e
-    judges_light (unreached {e = e}) = unreached_light e
+    judges_light (unreached {e = e} allowed) = unreached_light e
     judges_light (reached {span = span} {f = f} {j = j} gives) = let few = gives_light gives in omega (arith, few)
 
     gives_light : {inside : Bool} {known : RootMap} {span : Span} {f : Form} {j : Judgement} → Gives rules inside known span f j → count j.codes ≤ at_own span + weigh_form w f
@@ -152,27 +152,27 @@ module _ (rules : OpenRules) (names_apart : ParametersAreToldApart) (code : ℕ)
         let more = three_counted code here (is_needless j) (is_nowhere t && is_nowhere u) ((is_alive j.ok || is_alive j.fail) && ((not j.poisoned && is_no_event t K) || is_event u)) 104 640 1006 span in
         let its = both_assigned code here span in
         omega (arith, few, all, more, its)
-    gives_light (a_call_of_nothing {span = span} {s = s} {gs = gs} {c = c} {js = js} {j = j} unknown other arguments) =
+    gives_light (a_call_of_nothing {span = span} {s = s} {gs = gs} {c = c} {js = js} {j = j} unknown other arguments allowed) =
         let few = arguments_light arguments in
         let none = none_counted code here in
         let all = both_counted code here j.codes (at 105 s) in
         let more = one_counted code here 105 s in
         omega (arith, few, none, all, more)
-    gives_light (a_call {span = span} {s = s} function {bang = bang} {gs = gs} {c = c} {js = js} {j = j} {whole = whole} K fails fail named arguments is answered joins) =
+    gives_light (a_call {span = span} {s = s} function {bang = bang} {gs = gs} {c = c} {js = js} {j = j} {whole = whole} {tags = tags} K fails fail named arguments allowed is answered joins) =
         let few = from_nothing js j gs (arguments_light arguments) in
-        let all = call_counted code here (wants_literal (row_of function)) (row_of function).parameters span bang gs c js j whole (record whole { kind = K; fail = fail }) (weigh_args w gs) (names_apart function) few is refl in
+        let all = call_counted code here (wants_literal (row_of function)) (row_of function).parameters span bang gs c tags js j whole (record whole { kind = K; fail = fail }) (weigh_args w gs) (names_apart function) few is refl in
         omega (arith, all)
-    gives_light (a_deletion {span = span} {s = s} {bang = bang} {gs = gs} {c = c} {js = js} {j = j} {whole = whole} ok named arguments is deleted) =
+    gives_light (a_deletion {span = span} {s = s} {bang = bang} {gs = gs} {c = c} {js = js} {j = j} {whole = whole} {tags = tags} ok named arguments allowed is deleted) =
         let few = from_nothing js j gs (arguments_light arguments) in
-        let all = call_counted code here wants_path path_parameters span bang gs c js j whole (record whole { kind = deleted_kind whole.poisoned js; ok = ok }) (weigh_args w gs) refl few is refl in
+        let all = call_counted code here wants_path path_parameters span bang gs c tags js j whole (record whole { kind = deleted_kind whole.poisoned js; ok = ok }) (weigh_args w gs) refl few is refl in
         omega (arith, all)
-    gives_light (an_existence {span = span} {s = s} {bang = bang} {gs = gs} {c = c} {js = js} {j = j} {whole = whole} K named arguments is scalar) =
+    gives_light (an_existence {span = span} {s = s} {bang = bang} {gs = gs} {c = c} {js = js} {j = j} {whole = whole} {tags = tags} K named arguments allowed is scalar) =
         let few = from_nothing js j gs (arguments_light arguments) in
-        let all = call_counted code here wants_path path_parameters span bang gs c js j whole (record whole { kind = K }) (weigh_args w gs) refl few is refl in
+        let all = call_counted code here wants_path path_parameters span bang gs c tags js j whole (record whole { kind = K }) (weigh_args w gs) refl few is refl in
         omega (arith, all)
-    gives_light (a_wrong_closure_call {span = span} {s = s} f {bang = bang} {gs = gs} {c = c} {js = js} {j = j} first others named runs arguments is) =
+    gives_light (a_wrong_closure_call {span = span} {s = s} f {bang = bang} {gs = gs} {c = c} {js = js} {j = j} {tags = tags} first others named runs arguments allowed is) =
         let few = from_nothing js j gs (arguments_light arguments) in
-        let all = wrong_counted code here f span bang gs c js j (with_codes (first ∷ others) (passing_closure c (record j { kind = any_kind }))) (first ∷ others) (weigh_args w gs) few is refl in
+        let all = wrong_counted code here f span bang gs c js j (with_codes (first ∷ others) (passing_closure c tags (record j { kind = any_kind }))) (first ∷ others) (weigh_args w gs) few is refl in
         omega (arith, all)
     gives_light (a_closure_call {span = span} {s = s} f {bang = bang} {gs = gs} {es = es} {t = t} {g = g} {j = j} C key value loop {k = k} {whole = whole} K fail named runs arguments no_codes cut_down key_cut value_cut all_runs next cut joins) =
         let few = from_nothing (g ∷ []) j gs (arguments_light arguments) in
@@ -202,7 +202,7 @@ module _ (rules : OpenRules) (names_apart : ParametersAreToldApart) (code : ℕ)
     merge_light is (a_coalescing left right in_order either ok) = absurd (no_merge_coalesce is)
 
     merge_of : {inside : Bool} {known : Option RootMap} {span : Span} {l r : Expr} {j : Judgement} → Judges rules inside known (expr span (binary op.Merge l r)) j → count j.codes ≤ weigh_expr w l + weigh_expr w r
-    merge_of unreached = let none = none_counted code here in omega (arith, none)
+    merge_of (unreached allowed) = let none = none_counted code here in omega (arith, none)
     merge_of (reached gives) = merge_light refl gives
 
     operands_light : {inside : Bool} {known : RootMap} {l r : Expr} {j k whole : Judgement} → JudgesBoth rules inside known l r j k whole → count whole.codes + (at_part (span_of l) + at_part (span_of r)) ≤ weigh_expr w l + weigh_expr w r
@@ -229,7 +229,7 @@ module _ (rules : OpenRules) (names_apart : ParametersAreToldApart) (code : ℕ)
         omega (arith, first, codes, others)
 
     block_light : {inside : Bool} {known : Option RootMap} {es : Exprs} {j : Judgement} → JudgesBlock rules inside known es j → count j.codes ≤ weigh_exprs w es
-    block_light (unreached_block {es = es}) = let none = none_counted code here in omega (arith, none)
+    block_light (unreached_block {es = es} allowed) = let none = none_counted code here in omega (arith, none)
     block_light (reached_block {es = es} {j = j} null all) = let few = all_light all in let none = none_counted code here in omega (arith, few, none)
 
     arms_light : {inside : Bool} {state : Option RootMap} {ways all : Judgement} {gs : Arms} {otherwise : Else} → JudgesArms rules inside state ways gs otherwise all → count all.codes ≤ count ways.codes + (weigh_arms w gs + weigh_else w otherwise)
@@ -252,7 +252,7 @@ module _ (rules : OpenRules) (names_apart : ParametersAreToldApart) (code : ℕ)
         omega (arith, none, next)
 
     body_light : {b : ClosureBody} {known : Option RootMap} {j : Judgement} → JudgesBody rules b known j → count j.codes ≤ weigh_exprs w b.items
-    body_light (unreached_body {b = b}) = let none = none_counted code here in omega (arith, none)
+    body_light (unreached_body {b = b} allowed) = let none = none_counted code here in omega (arith, none)
     body_light (reached_body branch) = block_light branch
 
     tries_light : {b : ClosureBody} {try : Try} {known last : Option RootMap} {k : Judgement} → JudgesTries rules b try known last k → count k.codes ≤ weigh_exprs w b.items
@@ -260,7 +260,7 @@ module _ (rules : OpenRules) (names_apart : ParametersAreToldApart) (code : ℕ)
     tries_light (an_unstable_try body unstable next tries) = tries_light tries
 
     runs_light : {b : ClosureBody} {known : Option RootMap} {loop : Loop} {k : Judgement} → JudgesRuns rules b known loop k → count k.codes ≤ weigh_exprs w b.items
-    runs_light (by_tries tries) = tries_light tries
+    runs_light (by_tries tried tries) = tries_light tries
     runs_light (by_what_is_given may body begins goes_on) = body_light body
 
   items_light : {before after : Judgement} {es : Exprs} → JudgesItems rules before es after → count after.codes ≤ count before.codes + weigh_exprs w es

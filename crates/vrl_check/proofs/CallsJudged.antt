@@ -18,16 +18,16 @@ use Rattle.vrl_syntax.specs.Calls.{is_exists, is_del}
 use Rattle.vrl_syntax.specs.Calls.{takes_closure}
 use Rattle.vrl_diag.specs.Refusal.{is_error}
 use Rattle.vrl_judge.specs.Rules.{Argument, Judgement, at, gives, if_state, with_codes, IsScalar}
-use Rattle.vrl_check.specs.Judgement.{Gives, JudgesArguments, a_call, a_call_of_nothing, a_deletion, an_existence, bound, deleted_kind, deleted_path, nulls, passing_closure, places_in, IsAnsweredUnless, IsDeletedAt}
+use Rattle.vrl_check.specs.Judgement.{Gives, JudgesArguments, a_call, a_call_of_nothing, a_deletion, an_existence, bound, deleted_kind, deleted_path, passing_closure, places_in, IsAnsweredUnless, IsDeletedAt}
 use Rattle.vrl_judge.specs.Judging.{known_on, AreEnds, HasEnds, HasGathered, HasJudged, IsReported}
 use Rattle.vrl_check.specs.Loops.{closures_in_closure, unjudged}
-use Rattle.vrl_check.specs.Walking.{passed_states, FormCanBeJudged}
+use Rattle.vrl_check.specs.Walking.{nulls, passed_states, FormCanBeJudged}
 use Rattle.vrl_check.specs.declared.calls.Arguments.{Arguments}
 use Rattle.vrl_check.specs.declared.calls.Callee.{Callee}
 use Rattle.vrl_judge.specs.declared.checker.Checker.{Checker}
 use Rattle.vrl_judge.specs.declared.ends.Ends.{Ends}
 use Rattle.vrl_judge.specs.declared.outcome.Outcome.{Outcome}
-use Rattle.vrl_check.proofs.Passed.{loops_passed}
+use Rattle.vrl_check.proofs.Passed.{loops_passed, nulls_allowed}
 use Rattle.vrl_judge.proofs.Parts.{added, loops_added, are_ends_of, ends_of, ends_or_fail, gathered_moved, gathered_of, reported_ends, reported_gathered}
 use Rattle.vrl_judge.proofs.RootKinds.{any_root, scalar_root}
 use Rattle.vrl_judge.proofs.Joining.{join_of}
@@ -38,7 +38,7 @@ use Rattle.vrl_check.specs.OpenRules.{language_rules}
 -- ---- behind the closure
 
 pub closure_gathered : (before now passed : Checker) (c : Closure) (j : Judgement) → HasGathered before now j → passed.empties.items ≡ now.empties.items ++ nulls (in_closure c) → passed.loops.items ≡ now.loops.items ++ passed_states (closures_in_closure c)
-    → passed ≡ record now { empties = passed.empties; loops = passed.loops } → HasGathered before passed (passing_closure c j)
+    → passed ≡ record now { empties = passed.empties; loops = passed.loops } → HasGathered before passed (passing_closure c (nulls (in_closure c)) j)
 closure_gathered before now passed c j has empties loops others = record {
   ok = ap (λ (x : Checker). x.state.known) others ∙ has.ok;
   scopes = ap (λ (x : Checker). x.state.scopes) others ∙ has.scopes;
@@ -55,7 +55,7 @@ pub closure_passed : (before now passed : Checker) (gs : Args) (c : Closure) (ar
 closure_passed before now passed gs c arguments js j has empties loops others = record {
   told = has.told;
   roots = has.roots;
-  ends = ends_of before.state.scopes arguments.ends j (passing_closure c j) has.ends refl refl refl refl;
+  ends = ends_of before.state.scopes arguments.ends j (passing_closure c (nulls (in_closure c)) j) has.ends refl refl refl refl;
   gathered = closure_gathered before now passed c j has.gathered empties loops others;
 }
 
@@ -70,14 +70,14 @@ pub nothing_judged : (name : List ℕ) (s span : Span) (bang : Bool) (gs : Args)
     → IsUnknown name → takes_closure name ≡ false → JudgesArguments (language_rules before.patterns.now) before.inside (gives never_kind (Some known)) gs js j → IsPassed before now gs c arguments js j → outcome.kind ≡ any_kind → IsReported (at 105 s) now after arguments.ends outcome.ends
     → (k : Judgement) × Gives (language_rules before.patterns.now) before.inside known span (call name s bang gs c) k × HasJudged before after outcome k
 nothing_judged name s span bang gs c before now after known js j arguments outcome unknown none judged passed any reported =
-    let whole : Judgement = passing_closure c (record j { kind = any_kind }) in (
+    let whole : Judgement = passing_closure c (nulls (in_closure c)) (record j { kind = any_kind }) in (
       with_codes (at 105 s) whole,
-      a_call_of_nothing unknown.functions (unknown_name name unknown none) judged,
+      a_call_of_nothing unknown.functions (unknown_name name unknown none) judged (nulls_allowed before.patterns.now (in_closure c)),
       record {
         kind = any;
         root = any_root;
-        ends = reported_ends before.state.scopes (at 105 s) now after arguments.ends outcome.ends whole reported (ends_of before.state.scopes arguments.ends (passing_closure c j) whole passed.ends refl refl refl refl);
-        gathered = reported_gathered (at 105 s) before now after arguments.ends outcome.ends whole reported (gathered_of before now (passing_closure c j) whole passed.gathered refl refl refl refl);
+        ends = reported_ends before.state.scopes (at 105 s) now after arguments.ends outcome.ends whole reported (ends_of before.state.scopes arguments.ends (passing_closure c (nulls (in_closure c)) j) whole passed.ends refl refl refl refl);
+        gathered = reported_gathered (at 105 s) before now after arguments.ends outcome.ends whole reported (gathered_of before now (passing_closure c (nulls (in_closure c)) j) whole passed.gathered refl refl refl refl);
       },
     )
 
@@ -86,7 +86,7 @@ nothing_judged name s span bang gs c before now after known js j arguments outco
 pub call_bound : (named : Callee) (span : Span) (before now after : Checker) (gs : Args) (c : Closure) (arguments next : Arguments) (js : List Argument) (j : Judgement) → IsPassed before now gs c arguments js j
     → IsReported (callee_codes named span gs c js) now after arguments.ends next.ends → next.parts ≡ arguments.parts → HasArguments before after gs next js (with_call_codes named span gs c js j)
 call_bound named span before now after gs c arguments next js j passed reported same =
-    let whole = passing_closure c j in
+    let whole = passing_closure c (nulls (in_closure c)) j in
     record {
       told = subst (λ ps. AreTold gs ps.items js) (sym same) passed.told;
       roots = passed.roots;
@@ -141,7 +141,7 @@ function_judged function name s span bang gs c arguments places now after outcom
     join_of (known_on arguments.ends.fail) whole.fail (if_state answer.fails now.state.known) (if_state answer.fails whole.ok) fail ready.ends.fail (ap (if_state answer.fails) ready.gathered.ok) answer.or_fail.fail
     in (
       record whole { kind = outcome.kind; fail = fail },
-      a_call function outcome.kind answer.fails fail is judged refl given joined,
+      a_call function outcome.kind answer.fails fail is judged (nulls_allowed before.patterns.now (in_closure c)) refl given joined,
       record {
         kind = refl;
         root = answer.root;
@@ -180,7 +180,7 @@ deletion_judged name s span bang gs c arguments now after outcome is deletes = �
     in
     let last : Judgement = record whole { kind = deleted_kind whole.poisoned js; ok = after.state.known } in (
       last,
-      a_deletion after.state.known is judged refl taken,
+      a_deletion after.state.known is judged (nulls_allowed before.patterns.now (in_closure c)) refl taken,
       record {
         kind = deleted.kind ∙ ap (λ b. deleted_kind b js) ready.ends.poisoned;
         root = deleted_root whole.poisoned js ready.roots;
@@ -197,7 +197,7 @@ existence_judged name s span bang gs c arguments now outcome is scalar same = λ
     let whole = with_call_codes callee.Existence span gs c js j in
     let last : Judgement = record whole { kind = outcome.kind } in (
       last,
-      an_existence outcome.kind is judged refl scalar,
+      an_existence outcome.kind is judged (nulls_allowed before.patterns.now (in_closure c)) refl scalar,
       record {
         kind = refl;
         root = scalar_root tag.Bool outcome.kind scalar refl;

@@ -42,7 +42,7 @@ cause_of j k is cause = ap (λ w. w.poisoned) is ∙ cause ∙ ap (λ w. list_an
 
 mutual
   judges_cause : {rules : OpenRules} {inside : Bool} {known : Option RootMap} {e : Expr} {j : Judgement} → Judges rules inside known e j → HasCause j
-  judges_cause unreached = refl
+  judges_cause (unreached allowed) = refl
   judges_cause (reached gives) = given_cause gives
 
   given_cause : {rules : OpenRules} {inside : Bool} {known : RootMap} {span : Span} {f : Form} {j : Judgement} → Gives rules inside known span f j → HasCause j
@@ -68,15 +68,15 @@ mutual
   given_cause (a_merge_assignment {j = j} {ok = ok} part written) = cause_with_codes _ (record j { ok = ok }) (judges_cause part)
   given_cause (an_error_assignment {j = j} empty {K = K} given given_both failed failed_both {ok = ok} part may cut either null text one two three four joins) =
       cause_with_codes _ (record j { kind = K; ok = ok; fail = None }) (judges_cause part)
-  given_cause (a_call_of_nothing {j = j} unknown other arguments) = cause_with_codes _ (record j { kind = j.kind }) (arguments_cause arguments refl)
-  given_cause (a_call {span = span} function {bang = bang} {j = j} {whole = whole} K fails fail named arguments is answered joins) =
+  given_cause (a_call_of_nothing {j = j} unknown other arguments allowed) = cause_with_codes _ (record j { kind = j.kind }) (arguments_cause arguments refl)
+  given_cause (a_call {span = span} function {bang = bang} {j = j} {whole = whole} K fails fail named arguments allowed is answered joins) =
       cause_banged span bang (record whole { kind = K; fail = fail }) (cause_of whole _ is (cause_with_codes _ j (arguments_cause arguments refl)))
-  given_cause (a_deletion {span = span} {bang = bang} {js = js} {j = j} {whole = whole} ok named arguments is deleted) =
+  given_cause (a_deletion {span = span} {bang = bang} {js = js} {j = j} {whole = whole} ok named arguments allowed is deleted) =
       cause_banged span bang (record whole { kind = deleted_kind whole.poisoned js; ok = ok }) (cause_of whole _ is (cause_with_codes _ j (arguments_cause arguments refl)))
-  given_cause (an_existence {span = span} {bang = bang} {j = j} {whole = whole} K named arguments is scalar) =
+  given_cause (an_existence {span = span} {bang = bang} {j = j} {whole = whole} K named arguments allowed is scalar) =
       cause_banged span bang (record whole { kind = K }) (cause_of whole _ is (cause_with_codes _ j (arguments_cause arguments refl)))
-  given_cause (a_wrong_closure_call {span = span} f {bang = bang} {c = c} {j = j} first others named runs arguments is) =
-      let passed : Judgement = passing_closure c (record j { kind = any_kind }) in
+  given_cause (a_wrong_closure_call {span = span} f {bang = bang} {c = c} {j = j} {tags = tags} first others named runs arguments allowed is) =
+      let passed : Judgement = passing_closure c tags (record j { kind = any_kind }) in
       cause_banged span bang (with_codes (first ∷ others) passed) (cause_with_codes (first ∷ others) passed (arguments_cause arguments refl))
   given_cause (a_closure_call {span = span} f {bang = bang} {t = t} {j = j} C key value loop {k = k} {whole = whole} K fail named runs arguments no_codes cut_down key_cut value_cut all_runs then cut joins) =
       let called : Judgement = record whole { kind = K; fail = fail } in
@@ -98,7 +98,7 @@ mutual
   arguments_cause (one_more_argument {before = before} {j = j} {middle = middle} part then rest) cause = arguments_cause rest (cause_behind before j middle then.behind cause (judges_cause part))
 
   block_cause : {rules : OpenRules} {inside : Bool} {known : Option RootMap} {es : Exprs} {j : Judgement} → JudgesBlock rules inside known es j → HasCause j
-  block_cause unreached_block = refl
+  block_cause (unreached_block allowed) = refl
   block_cause (reached_block null all) = all_cause all refl
 
   arms_cause : {rules : OpenRules} {inside : Bool} {state : Option RootMap} {ways all : Judgement} {gs : Arms} {otherwise : Else} → JudgesArms rules inside state ways gs otherwise all → HasCause ways → HasCause all
@@ -108,7 +108,7 @@ mutual
   arms_cause (a_missing_else {ways = ways} {all = all} null beside) cause = cause_beside ways _ all beside cause refl
 
   body_cause : {rules : OpenRules} {b : ClosureBody} {known : Option RootMap} {j : Judgement} → JudgesBody rules b known j → HasCause j
-  body_cause unreached_body = refl
+  body_cause (unreached_body allowed) = refl
   body_cause (reached_body block) = block_cause block
 
   tries_cause : {rules : OpenRules} {b : ClosureBody} {try : Try} {known last : Option RootMap} {k : Judgement} → JudgesTries rules b try known last k → HasCause k
@@ -116,7 +116,7 @@ mutual
   tries_cause (an_unstable_try body unstable next tries) = tries_cause tries
 
   runs_cause : {rules : OpenRules} {b : ClosureBody} {known : Option RootMap} {loop : Loop} {k : Judgement} → JudgesRuns rules b known loop k → HasCause k
-  runs_cause (by_tries tries) = tries_cause tries
+  runs_cause (by_tries tried tries) = tries_cause tries
   runs_cause (by_what_is_given may body begins goes_on) = body_cause body
 
 items_cause : {rules : OpenRules} {before after : Judgement} {es : Exprs} → JudgesItems rules before es after → HasCause before → HasCause after

@@ -1,6 +1,7 @@
 -- A judgement has one empty value for each error assignment of what is judged, and tells of each closure in it.
 use Rattle.std.proofs.Common.{arith, ◌≡◌, ℕ, suc, ◌+◌, Bool, true, false, List, [], ◌∷◌, ◌++◌, length, Option, Some, refl, ap, ◌∙◌}
 use Rattle.std.proofs.lemmas.List.{length-append, length-replicate}
+use Rattle.vrl_value.specs.declared.value.Tag.{Tag}
 use Rattle.vrl_diag.specs.declared.diagnostic.Span.{Span}
 use Rattle.vrl_kind.specs.Canonical.{any_kind}
 use Rattle.vrl_kind.specs.KindTree.{KindTree}
@@ -10,7 +11,7 @@ use Rattle.vrl_syntax.specs.Tree.{Args, Arms, Closure, Else, Expr, Exprs, Form, 
 use Rattle.vrl_judge.specs.Closures.{ClosureBody, Try, of_body}
 use Rattle.vrl_judge.specs.Rules.{Argument, Judgement, Loop, banged, with_codes}
 use Rattle.vrl_check.specs.Determined.{EmptiesAreCounted, LoopsAreCounted}
-use Rattle.vrl_check.specs.Judgement.{deleted_kind, nulls, pair_values, passing_closure}
+use Rattle.vrl_check.specs.Judgement.{AreUnjudged, deleted_kind, pair_values, passing_closure}
 use Rattle.vrl_check.specs.Judgement.{Judges, unreached, reached, Gives, a_literal, an_array, an_object, a_known_root, an_unknown_root, a_query, a_group, a_block, a_conditional, a_negation, an_equality, of_table, a_merge, a_conjunction, a_disjunction, a_coalescing, an_assignment, a_merge_into_nothing, a_merge_assignment, an_error_assignment, a_call_of_nothing, a_call, a_deletion, an_existence, a_wrong_closure_call, a_closure_call, a_return, an_abort, an_abort_with, JudgesBoth, operands, JudgesAll, no_more, one_more, JudgesArguments, no_more_arguments, one_more_argument, JudgesBlock, unreached_block, reached_block, JudgesArms, an_arm, an_else, a_missing_else, JudgesBody, unreached_body, reached_body, JudgesTries, a_stable_try, an_unstable_try, JudgesRuns, by_tries, by_what_is_given, JudgesItems, no_more_items, one_more_item, JudgesScript, a_script}
 use Rattle.vrl_check.specs.Loops.{closures_in_args, closures_in_arms, closures_in_closure, closures_in_else, closures_in_expr, closures_in_exprs, closures_in_form, closures_in_pairs, unjudged}
 use Rattle.vrl_check.specs.OpenRules.{OpenRules}
@@ -30,12 +31,12 @@ from_none n m is = omega (arith, is)
 abbrev Counts : Judgement → ℕ → ℕ → Type 0
 Counts j n m = (length j.empties ≡ n) × (length j.loops ≡ m)
 
--- what isn't judged has nulls and no states, as many as they are told to be
-unjudged_counted : (n m : ℕ) → (length (nulls n) ≡ n) × (length (unjudged m) ≡ m)
-unjudged_counted n m = (length-replicate n _, length-replicate m _)
+-- what isn't judged has empty values and no states, as many as they are told to be
+unjudged_counted : {rules : OpenRules} {n : ℕ} {tags : List Tag} (m : ℕ) → AreUnjudged rules n tags → (length tags ≡ n) × (length (unjudged m) ≡ m)
+unjudged_counted m are = (are.counted, length-replicate m _)
 
 -- more than there were before
-abbrev CountsMore : Judgement → Judgement → ℕ → ℕ → Type 0
+abbrev pub CountsMore : Judgement → Judgement → ℕ → ℕ → Type 0
 CountsMore before j n m = (length j.empties ≡ length before.empties + n) × (length j.loops ≡ length before.loops + m)
 
 nothing_more : (j : Judgement) → CountsMore j j 0 0
@@ -77,11 +78,12 @@ banged_counted span false j n m counted = counted
 banged_counted span true j n m counted = counted
 
 -- a call: its arguments, and its closure, which isn't judged
-call_counted : (gs : Args) (c : Closure) (j whole : Judgement) → Counts j (in_args gs) (closures_in_args gs) → whole.empties ≡ (passing_closure c j).empties → whole.loops ≡ (passing_closure c j).loops
+call_counted : {rules : OpenRules} (gs : Args) (c : Closure) (tags : List Tag) (j whole : Judgement) → AreUnjudged rules (in_closure c) tags → Counts j (in_args gs) (closures_in_args gs)
+    → whole.empties ≡ (passing_closure c tags j).empties → whole.loops ≡ (passing_closure c tags j).loops
     → Counts whole (in_args gs + in_closure c) (closures_in_args gs + closures_in_closure c)
-call_counted gs c j whole counted empties loops =
-    let passed = unjudged_counted (in_closure c) (closures_in_closure c) in (
-      joined j.empties (nulls (in_closure c)) whole.empties (in_args gs) (in_closure c) empties counted.0 passed.0,
+call_counted gs c tags j whole allowed counted empties loops =
+    let passed = unjudged_counted (closures_in_closure c) allowed in (
+      joined j.empties tags whole.empties (in_args gs) (in_closure c) empties counted.0 passed.0,
       joined j.loops (unjudged (closures_in_closure c)) whole.loops (closures_in_args gs) (closures_in_closure c) loops counted.1 passed.1,
     )
 
@@ -97,7 +99,7 @@ closure_counted gs loop es j k whole arguments body empties loops = (
 
 mutual
   judges_counted : {rules : OpenRules} {inside : Bool} {known : Option RootMap} {e : Expr} {j : Judgement} → Judges rules inside known e j → Counts j (in_expr e) (closures_in_expr e)
-  judges_counted (unreached {e = e}) = unjudged_counted (in_expr e) (closures_in_expr e)
+  judges_counted (unreached {e = e} allowed) = unjudged_counted (closures_in_expr e) allowed
   judges_counted (reached gives) = gives_counted gives
 
   gives_counted : {rules : OpenRules} {inside : Bool} {known : RootMap} {span : Span} {f : Form} {j : Judgement} → Gives rules inside known span f j → Counts j (in_form f) (closures_in_form f)
@@ -126,19 +128,20 @@ mutual
   gives_counted (an_error_assignment empty given given_both failed failed_both part may cut either null text one two three four joins) =
       let counted = judges_counted part in
       (ap suc counted.0, counted.1)
-  gives_counted (a_call_of_nothing {gs = gs} {c = c} {j = j} unknown other arguments) = call_counted gs c j (passing_closure c j) (from_nothing j (in_args gs) (closures_in_args gs) (arguments_counted arguments)) refl refl
-  gives_counted (a_call {span = span} function {bang = bang} {gs = gs} {c = c} {j = j} {whole = whole} K fails fail named arguments is answered joins) =
+  gives_counted (a_call_of_nothing {gs = gs} {c = c} {j = j} {tags = tags} unknown other arguments allowed) =
+      call_counted gs c tags j (passing_closure c tags j) allowed (from_nothing j (in_args gs) (closures_in_args gs) (arguments_counted arguments)) refl refl
+  gives_counted (a_call {span = span} function {bang = bang} {gs = gs} {c = c} {j = j} {whole = whole} {tags = tags} K fails fail named arguments allowed is answered joins) =
       banged_counted span bang (record whole { kind = K; fail = fail }) (in_args gs + in_closure c) (closures_in_args gs + closures_in_closure c)
-      (call_counted gs c j whole (from_nothing j (in_args gs) (closures_in_args gs) (arguments_counted arguments)) (ap (λ w. w.empties) is) (ap (λ w. w.loops) is))
-  gives_counted (a_deletion {span = span} {bang = bang} {gs = gs} {c = c} {js = js} {j = j} {whole = whole} ok named arguments is deleted) =
+      (call_counted gs c tags j whole allowed (from_nothing j (in_args gs) (closures_in_args gs) (arguments_counted arguments)) (ap (λ w. w.empties) is) (ap (λ w. w.loops) is))
+  gives_counted (a_deletion {span = span} {bang = bang} {gs = gs} {c = c} {js = js} {j = j} {whole = whole} {tags = tags} ok named arguments allowed is deleted) =
       banged_counted span bang (record whole { kind = deleted_kind whole.poisoned js; ok = ok }) (in_args gs + in_closure c) (closures_in_args gs + closures_in_closure c)
-      (call_counted gs c j whole (from_nothing j (in_args gs) (closures_in_args gs) (arguments_counted arguments)) (ap (λ w. w.empties) is) (ap (λ w. w.loops) is))
-  gives_counted (an_existence {span = span} {bang = bang} {gs = gs} {c = c} {j = j} {whole = whole} K named arguments is scalar) =
+      (call_counted gs c tags j whole allowed (from_nothing j (in_args gs) (closures_in_args gs) (arguments_counted arguments)) (ap (λ w. w.empties) is) (ap (λ w. w.loops) is))
+  gives_counted (an_existence {span = span} {bang = bang} {gs = gs} {c = c} {j = j} {whole = whole} {tags = tags} K named arguments allowed is scalar) =
       banged_counted span bang (record whole { kind = K }) (in_args gs + in_closure c) (closures_in_args gs + closures_in_closure c)
-      (call_counted gs c j whole (from_nothing j (in_args gs) (closures_in_args gs) (arguments_counted arguments)) (ap (λ w. w.empties) is) (ap (λ w. w.loops) is))
-  gives_counted (a_wrong_closure_call {span = span} f {bang = bang} {gs = gs} {c = c} {j = j} first others named runs arguments is) =
-      banged_counted span bang (with_codes (first ∷ others) (passing_closure c (record j { kind = any_kind }))) (in_args gs + in_closure c) (closures_in_args gs + closures_in_closure c)
-      (call_counted gs c j (passing_closure c j) (from_nothing j (in_args gs) (closures_in_args gs) (arguments_counted arguments)) refl refl)
+      (call_counted gs c tags j whole allowed (from_nothing j (in_args gs) (closures_in_args gs) (arguments_counted arguments)) (ap (λ w. w.empties) is) (ap (λ w. w.loops) is))
+  gives_counted (a_wrong_closure_call {span = span} f {bang = bang} {gs = gs} {c = c} {j = j} {tags = tags} first others named runs arguments allowed is) =
+      banged_counted span bang (with_codes (first ∷ others) (passing_closure c tags (record j { kind = any_kind }))) (in_args gs + in_closure c) (closures_in_args gs + closures_in_closure c)
+      (call_counted gs c tags j (passing_closure c tags j) allowed (from_nothing j (in_args gs) (closures_in_args gs) (arguments_counted arguments)) refl refl)
   gives_counted (a_closure_call {span = span} f {bang = bang} {gs = gs} {es = es} {t = t} {j = j} C key value loop {k = k} {whole = whole} K fail named runs arguments no_codes cut_down key_cut value_cut all_runs then cut joins) =
       banged_counted span bang (with_codes (of_body f t k) (record whole { kind = K; fail = fail })) (in_args gs + in_exprs es) (closures_in_args gs + suc (closures_in_exprs es))
       (closure_counted gs loop es j k whole (from_nothing j (in_args gs) (closures_in_args gs) (arguments_counted arguments)) (runs_counted all_runs) then.behind.empties then.behind.loops)
@@ -155,13 +158,13 @@ mutual
   all_counted (one_more {before = before} {j = j} {middle = middle} {after = after} {e = e} {es = es} part then rest) =
       step_counted before j middle after (in_expr e) (closures_in_expr e) (in_exprs es) (closures_in_exprs es) (judges_counted part) then.behind.empties then.behind.loops (all_counted rest)
 
-  arguments_counted : {rules : OpenRules} {inside : Bool} {before after : Judgement} {gs : Args} {js : List Argument} → JudgesArguments rules inside before gs js after → CountsMore before after (in_args gs) (closures_in_args gs)
+  pub arguments_counted : {rules : OpenRules} {inside : Bool} {before after : Judgement} {gs : Args} {js : List Argument} → JudgesArguments rules inside before gs js after → CountsMore before after (in_args gs) (closures_in_args gs)
   arguments_counted (no_more_arguments {before = before}) = nothing_more before
   arguments_counted (one_more_argument {before = before} {j = j} {middle = middle} {after = after} {e = e} {gs = gs} part then rest) =
       step_counted before j middle after (in_expr e) (closures_in_expr e) (in_args gs) (closures_in_args gs) (judges_counted part) then.behind.empties then.behind.loops (arguments_counted rest)
 
   block_counted : {rules : OpenRules} {inside : Bool} {known : Option RootMap} {es : Exprs} {j : Judgement} → JudgesBlock rules inside known es j → Counts j (in_exprs es) (closures_in_exprs es)
-  block_counted (unreached_block {es = es}) = unjudged_counted (in_exprs es) (closures_in_exprs es)
+  block_counted (unreached_block {es = es} allowed) = unjudged_counted (closures_in_exprs es) allowed
   block_counted (reached_block {es = es} {j = j} null all) = from_nothing j (in_exprs es) (closures_in_exprs es) (all_counted all)
 
   arms_counted : {rules : OpenRules} {inside : Bool} {state : Option RootMap} {ways all : Judgement} {gs : Arms} {otherwise : Else} → JudgesArms rules inside state ways gs otherwise all
@@ -180,7 +183,7 @@ mutual
       (omega (arith, empties), omega (arith, loops))
 
   body_counted : {rules : OpenRules} {b : ClosureBody} {known : Option RootMap} {j : Judgement} → JudgesBody rules b known j → Counts j (in_exprs b.items) (closures_in_exprs b.items)
-  body_counted (unreached_body {b = b}) = unjudged_counted (in_exprs b.items) (closures_in_exprs b.items)
+  body_counted (unreached_body {b = b} allowed) = unjudged_counted (closures_in_exprs b.items) allowed
   body_counted (reached_body block) = block_counted block
 
   tries_counted : {rules : OpenRules} {b : ClosureBody} {try : Try} {known last : Option RootMap} {k : Judgement} → JudgesTries rules b try known last k → Counts k (in_exprs b.items) (closures_in_exprs b.items)
@@ -188,7 +191,7 @@ mutual
   tries_counted (an_unstable_try body unstable next tries) = tries_counted tries
 
   runs_counted : {rules : OpenRules} {b : ClosureBody} {known : Option RootMap} {loop : Loop} {k : Judgement} → JudgesRuns rules b known loop k → Counts k (in_exprs b.items) (closures_in_exprs b.items)
-  runs_counted (by_tries tries) = tries_counted tries
+  runs_counted (by_tries tried tries) = tries_counted tries
   runs_counted (by_what_is_given may body begins goes_on) = body_counted body
 
 items_counted : {rules : OpenRules} {before after : Judgement} {es : Exprs} → JudgesItems rules before es after → CountsMore before after (in_exprs es) (closures_in_exprs es)

@@ -2,6 +2,7 @@
 use Rattle.std.proofs.Common.{◌≡◌, ℕ, zero, suc, ◌+◌, ◌≤◌, arith, Bool, true, false, ◌&&◌, List, [], ◌∷◌, ◌++◌, Option, Some, None, nat_eq, not, slice_get, if◌then◌else◌, refl, sym, ap, ◌∙◌}
 use Rattle.std.specs.declared.result.Result.TheVariants.{Ok, Err}
 use Rattle.vrl_diag.specs.declared.diagnostic.Diagnostic.{Diagnostic}
+use Rattle.vrl_value.specs.declared.value.Tag.{Tag}
 use Rattle.vrl_diag.specs.declared.diagnostic.Span.{Span}
 use Rattle.vrl_syntax.specs.Tree.{Args, Closure, Expr, no_closure, closure, span_of}
 use Rattle.vrl_syntax.specs.Calls.{has_shape}
@@ -281,9 +282,9 @@ module _ (code : ℕ) (here : Span) where
       let all = own_call span in
       omega (arith, codes, both, its, more, all, arguments)
 
-  pub call_counted : (wants : ℕ → ParameterRow → Expr → Bool) (ps : List ParameterRow) (span : Span) (bang : Bool) (gs : Args) (c : Closure) (js : List Argument) (j whole shown : Judgement) (weight : ℕ) → has_name_twice ps ≡ false →
-      counted j.codes + (values js + spans js) ≤ weight → whole ≡ behind_arguments wants ps span gs c js j → shown.codes ≡ whole.codes → counted (banged span bang shown).codes ≤ own span + weight
-  call_counted wants ps span bang gs c js j whole shown weight apart arguments is same =
+  pub call_counted : (wants : ℕ → ParameterRow → Expr → Bool) (ps : List ParameterRow) (span : Span) (bang : Bool) (gs : Args) (c : Closure) (tags : List Tag) (js : List Argument) (j whole shown : Judgement) (weight : ℕ) → has_name_twice ps ≡ false →
+      counted j.codes + (values js + spans js) ≤ weight → whole ≡ behind_arguments wants ps span gs c tags js j → shown.codes ≡ whole.codes → counted (banged span bang shown).codes ≤ own span + weight
+  call_counted wants ps span bang gs c tags js j whole shown weight apart arguments is same =
       own_counted wants ps span bang gs (of_closure span c) js j shown weight apart (closure_counted span c) arguments (ap counted (same ∙ ap (λ w. w.codes) is))
 
   -- a call of a function that takes a closure, with codes of its own

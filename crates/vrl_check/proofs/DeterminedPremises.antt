@@ -1,12 +1,14 @@
 -- What each premise of a rule tells is told of one thing alone: kinds, what is known, and parts one behind or beside another. And
 -- what is shown of each part of a script: that it has one judgement.
-use Rattle.std.proofs.Common.{◌≡◌, ℕ, Bool, true, false, List, [], ◌∷◌, Option, Some, None, option_map, MatchOption, IsTrue, inl, inr, refl, sym, ap, ◌∙◌, subst}
-use Rattle.std.proofs.lemmas.Bool.{false≢true, cases_lt}
+use Rattle.std.proofs.Common.{arith, ◌≡◌, ℕ, Bool, true, false, List, [], ◌∷◌, length, Option, Some, None, option_map, MatchOption, IsTrue, inl, inr, refl, sym, ap, ◌∙◌, subst}
+use Rattle.std.proofs.lemmas.Bool.{and_parts, false≢true, cases_lt}
 use Rattle.std.proofs.lemmas.Cmp.{nat_list_cmp_total}
 use Rattle.std.specs.Cmp.Lexicographic.{slice_cmp}
+use Rattle.std.specs.List.{list_all}
 use Rattle.std.specs.FinMap.{IsAntisymmetric, nat_cmp-IsAntisymmetric, slice_cmp-IsAntisymmetric}
 use Rattle.std.specs.Ordering.{nat_cmp}
 use Rattle.std.specs.Prelude.{⊤}
+use Rattle.vrl_value.specs.declared.value.Tag.{Tag}
 use Rattle.vrl_path.specs.declared.path.Step.{Step}
 use Rattle.vrl_diag.specs.declared.diagnostic.Span.{Span}
 use Rattle.vrl_syntax.specs.Tree.{Expr, expr, Form, Exprs, Arms, Else, Args, Closure, no_closure, closure}
@@ -23,9 +25,11 @@ use Rattle.vrl_kind.specs.Sets.{Sets}
 use Rattle.vrl_place.specs.Remove.{remove}
 use Rattle.vrl_state.specs.States.{HasNow, IsCutOf, IsEachTurned, IsEither, IsEitherVariable, IsJoined, RootMap, Variables, kind_of, with_kind}
 use Rattle.vrl_builtin.specs.declared.tags.Tags.{Tags as TagSet}
-use Rattle.vrl_judge.specs.Rules.{Argument, Judgement, IsBehind, IsDeleted, IsMerged, IsMergedIf, IsReadAt, IsThen, IsTargetWritten, settle}
-use Rattle.vrl_check.specs.Judgement.{IsBeside, Judges, Gives, JudgesAll, JudgesArguments, JudgesBlock, JudgesArms, IsCutDown, IsDeletedAt, unreached, reached}
+use Rattle.vrl_judge.specs.Rules.{Argument, Judgement, Loop, IsBehind, IsDeleted, IsMerged, IsMergedIf, IsReadAt, IsThen, IsTargetWritten, settle}
+use Rattle.vrl_check.specs.Judgement.{AreUnjudged, IsBeside, Judges, Gives, JudgesAll, JudgesArguments, JudgesBlock, JudgesArms, IsCutDown, IsDeletedAt, unreached, unreached_parts, reached}
+use Rattle.vrl_check.specs.Loops.{closures_in_form}
 use Rattle.vrl_check.specs.OpenRules.{OpenRules, LeaveNothingOpen}
+use Rattle.vrl_check.proofs.Decided.{AreDecided, by_given, by_rules, IsDecided}
 use Rattle.std.specs.FinMap as map
 
 -- ---- kinds
@@ -181,32 +185,51 @@ one_beside kinds {k = k} {l = l} {j' = j'} {k' = k'} {l' = l'} ways way one two 
 -- ---- what is shown of each part
 
 abbrev pub HasOne : Expr → Type 0
-HasOne e = (rules : OpenRules) → LeaveNothingOpen rules → (inside : Bool) (known : Option RootMap) (j k : Judgement) → Judges rules inside known e j → Judges rules inside known e k → j ≡ k
+HasOne e = (rules : OpenRules) (inside : Bool) (known : Option RootMap) (j k : Judgement) → IsDecided rules j k → Judges rules inside known e j → Judges rules inside known e k → j ≡ k
 
 abbrev pub GivesOne : Span → Form → Type 0
-GivesOne span f = (rules : OpenRules) → LeaveNothingOpen rules → (inside : Bool) (known : RootMap) (j k : Judgement) → Gives rules inside known span f j → Gives rules inside known span f k → j ≡ k
+GivesOne span f = (rules : OpenRules) (inside : Bool) (known : RootMap) (j k : Judgement) → IsDecided rules j k → Gives rules inside known span f j → Gives rules inside known span f k → j ≡ k
 
 abbrev pub HaveOne : Exprs → Type 0
-HaveOne es = (rules : OpenRules) → LeaveNothingOpen rules → (inside : Bool) (before : Judgement) (Ks Ls : List KindTree) (j k : Judgement) → JudgesAll rules inside before es Ks j → JudgesAll rules inside before es Ls k → (Ks ≡ Ls) × (j ≡ k)
+HaveOne es = (rules : OpenRules) (inside : Bool) (before : Judgement) (Ks Ls : List KindTree) (j k : Judgement) → IsDecided rules j k → JudgesAll rules inside before es Ks j → JudgesAll rules inside before es Ls k → (Ks ≡ Ls) × (j ≡ k)
 
 abbrev pub ArgumentsHaveOne : Args → Type 0
-ArgumentsHaveOne gs = (rules : OpenRules) → LeaveNothingOpen rules → (inside : Bool) (before : Judgement) (js ks : List Argument) (j k : Judgement) → JudgesArguments rules inside before gs js j → JudgesArguments rules inside before gs ks k → (js ≡ ks) × (j ≡ k)
+ArgumentsHaveOne gs = (rules : OpenRules) (inside : Bool) (before : Judgement) (js ks : List Argument) (j k : Judgement) → IsDecided rules j k → JudgesArguments rules inside before gs js j → JudgesArguments rules inside before gs ks k → (js ≡ ks) × (j ≡ k)
 
 abbrev pub BlockHasOne : Exprs → Type 0
-BlockHasOne es = (rules : OpenRules) → LeaveNothingOpen rules → (inside : Bool) (known : Option RootMap) (j k : Judgement) → JudgesBlock rules inside known es j → JudgesBlock rules inside known es k → j ≡ k
+BlockHasOne es = (rules : OpenRules) (inside : Bool) (known : Option RootMap) (j k : Judgement) → IsDecided rules j k → JudgesBlock rules inside known es j → JudgesBlock rules inside known es k → j ≡ k
 
 abbrev pub ArmsHaveOne : Arms → Else → Type 0
-ArmsHaveOne gs otherwise = (rules : OpenRules) → LeaveNothingOpen rules → (inside : Bool) (known : Option RootMap) (ways j k : Judgement) → JudgesArms rules inside known ways gs otherwise j → JudgesArms rules inside known ways gs otherwise k → j ≡ k
+ArmsHaveOne gs otherwise = (rules : OpenRules) (inside : Bool) (known : Option RootMap) (ways j k : Judgement) → IsDecided rules j k → JudgesArms rules inside known ways gs otherwise j → JudgesArms rules inside known ways gs otherwise k → j ≡ k
 
 abbrev pub ClosureHasOne : Closure → Type 0
 ClosureHasOne no_closure = ⊤
 ClosureHasOne (closure names es span) = BlockHasOne es
 
+-- ---- what isn't judged
+
+-- two lists of tags are one where they are of one length, and each tag is one that the rules allow
+same_tags : (rules : OpenRules) → LeaveNothingOpen rules → (ts us : List Tag) → length ts ≡ length us → list_all rules.unjudged ts ≡ true → list_all rules.unjudged us ≡ true → ts ≡ us
+same_tags rules decided [] [] same one two = refl
+same_tags rules decided [] (u ∷ us) same one two = absurd (omega (arith, same))
+same_tags rules decided (t ∷ ts) [] same one two = absurd (omega (arith, same))
+same_tags rules decided (t ∷ ts) (u ∷ us) same one two =
+    let first = and_parts (rules.unjudged t) (list_all rules.unjudged ts) one in
+    let second = and_parts (rules.unjudged u) (list_all rules.unjudged us) two in
+    let tag : t ≡ u = decided.unjudged t u first.0 second.0 in
+    let rest : ts ≡ us = same_tags rules decided ts us (omega (arith, same)) first.1 second.1 in
+    λ i. tag i ∷ rest i
+
+-- so it has one list of empty values
+pub one_unjudged : {rules : OpenRules} {n : ℕ} {ts us : List Tag} {ls ms : List (Option Loop)} → AreDecided rules ts us ls ms → AreUnjudged rules n ts → AreUnjudged rules n us → ts ≡ us
+one_unjudged {rules = rules} {ts = ts} {us = us} (by_rules decided) one two = same_tags rules decided ts us (one.counted ∙ sym two.counted) one.allowed two.allowed
+one_unjudged (by_given no_tries same have) one two = same
+
 -- an expression is judged where it is reached, and gives nothing where it isn't
 pub settled_once : (span : Span) (f : Form) → GivesOne span f → HasOne (expr span f)
-settled_once span f given rules decided inside None j k unreached unreached = refl
-settled_once span f given rules decided inside (Some known) j k (reached {j = a} one) (reached {j = b} two) = ap settle (given rules decided inside known a b one two)
+settled_once span f given rules inside None j k decided (unreached one) (unreached two) = ap (λ ts. unreached_parts ts (closures_in_form f)) (one_unjudged decided one two)
+settled_once span f given rules inside (Some known) j k decided (reached {j = a} one) (reached {j = b} two) = ap settle (given rules inside known a b decided one two)
 
 -- the same behind what is known to be the same
-pub judged_once : {rules : OpenRules} {inside : Bool} {e : Expr} {known known' : Option RootMap} {j k : Judgement} → LeaveNothingOpen rules → HasOne e → known ≡ known' → Judges rules inside known e j → Judges rules inside known' e k → j ≡ k
-judged_once {rules = rules} {inside = inside} {e = e} {known' = known'} {j = j} {k = k} decided has known one two = has rules decided inside known' j k (subst (λ s. Judges rules inside s e j) known one) two
+pub judged_once : {rules : OpenRules} {inside : Bool} {e : Expr} {known known' : Option RootMap} {j k : Judgement} → IsDecided rules j k → HasOne e → known ≡ known' → Judges rules inside known e j → Judges rules inside known' e k → j ≡ k
+judged_once {rules = rules} {inside = inside} {e = e} {known' = known'} {j = j} {k = k} decided has known one two = has rules inside known' j k decided (subst (λ s. Judges rules inside s e j) known one) two

@@ -16,7 +16,7 @@ use Rattle.vrl_judge.specs.Rules.{Judgement, IsReadAt, at, chained, gives, is_al
 use Rattle.vrl_check.specs.Judgement.{of_item, table_of, unreached_parts}
 use Rattle.vrl_check.specs.Loops.{closures_in_expr, closures_in_exprs}
 use Rattle.vrl_check.specs.Judgement.{Judges, unreached, reached, a_literal, a_known_root, an_unknown_root, a_query, a_group, a_block, a_negation, an_equality, of_table, a_merge, JudgesBoth, operands, JudgesBlock, unreached_block, reached_block, JudgesAll}
-use Rattle.vrl_check.specs.Walking.{AreBoth, IsAnywhereAs, IsBesideAs, IsBlockAs, IsGivenAs, IsItemAs, IsJudgedAs, IsSequenceAs}
+use Rattle.vrl_check.specs.Walking.{nulls, AreBoth, IsAnywhereAs, IsBesideAs, IsBlockAs, IsGivenAs, IsItemAs, IsJudgedAs, IsSequenceAs}
 use Rattle.vrl_judge.specs.Judging.{AreEnds, ArePairedAs, HasEnds, HasJudged, HaveCommonScopes, IsBlockEndAs, IsCombinedAs, IsEquatedAs, IsInBlock, IsMergedAs, IsNegatedAs, IsReadOffAs, IsReported, IsSettledAs, no_ends, table_rule}
 use Rattle.vrl_judge.specs.declared.checker.Checker.{Checker}
 use Rattle.vrl_judge.specs.declared.ends.Ends.{Ends}
@@ -26,6 +26,7 @@ use Rattle.vrl_judge.specs.declared.tables.Table.{Table}
 use Rattle.vrl_judge.proofs.Parts.{fails_as, reported_judged}
 use Rattle.vrl_judge.proofs.Gathering.{value_ends, value_gathered}
 use Rattle.vrl_judge.proofs.RootKinds.{read_root, value_root}
+use Rattle.vrl_check.proofs.Passed.{nulls_allowed}
 use Rattle.vrl_check.proofs.Told.{judges_at}
 use Rattle.vrl_judge.proofs.Joining.{common}
 use Rattle.vrl_judge.proofs.Forms.{other_of, paired}
@@ -44,10 +45,10 @@ here_are before after part j has = subst (λ s. AreEnds s part.ends) (sym has.ga
 -- ---- an expression
 
 -- where no way leads to it
-pub expr_passed : (e : Expr) (before after : Checker) (outcome : Outcome) → before.state.known ≡ None → HasJudged before after outcome (record (unreached_parts (in_expr e) (closures_in_expr e)) { ok = before.state.known }) → IsJudgedAs e before after outcome
+pub expr_passed : (e : Expr) (before after : Checker) (outcome : Outcome) → before.state.known ≡ None → HasJudged before after outcome (record (unreached_parts (nulls (in_expr e)) (closures_in_expr e)) { ok = before.state.known }) → IsJudgedAs e before after outcome
 expr_passed e before after outcome dead has =
-    let j = unreached_parts (in_expr e) (closures_in_expr e) in
-    (j, subst (λ k. Judges (language_rules before.patterns.now) before.inside k e j) (sym dead) unreached, subst (λ k. HasJudged before after outcome (record j { ok = k })) dead has)
+    let j = unreached_parts (nulls (in_expr e)) (closures_in_expr e) in
+    (j, subst (λ k. Judges (language_rules before.patterns.now) before.inside k e j) (sym dead) (unreached (nulls_allowed before.patterns.now (in_expr e))), subst (λ k. HasJudged before after outcome (record j { ok = k })) dead has)
 
 -- where one does
 pub expr_reached : (e : Expr) (span : Span) (f : Form) (before after : Checker) (part outcome : Outcome) → e ≡ expr span f → before.state.known ≢ None → IsGivenAs span f before after part → IsSettledAs part after outcome → IsJudgedAs e before after outcome
@@ -108,10 +109,10 @@ group_given e before after outcome judged span known alive = (judged.0, a_group 
 pub block_given : (es : Exprs) (before after : Checker) (outcome : Outcome) → IsBlockAs es before after outcome → IsAnywhereAs (block es) before after outcome
 block_given es before after outcome judged span known alive = (judged.0, a_block (subst (λ k. JudgesBlock (language_rules before.patterns.now) before.inside k es judged.0) alive judged.1), judged.2)
 
-pub block_passed : (es : Exprs) (before after : Checker) (outcome : Outcome) → before.state.known ≡ None → HasJudged before after outcome (record (unreached_parts (in_exprs es) (closures_in_exprs es)) { ok = before.state.known }) → IsBlockAs es before after outcome
+pub block_passed : (es : Exprs) (before after : Checker) (outcome : Outcome) → before.state.known ≡ None → HasJudged before after outcome (record (unreached_parts (nulls (in_exprs es)) (closures_in_exprs es)) { ok = before.state.known }) → IsBlockAs es before after outcome
 block_passed es before after outcome dead has =
-    let j = unreached_parts (in_exprs es) (closures_in_exprs es) in
-    (j, subst (λ k. JudgesBlock (language_rules before.patterns.now) before.inside k es j) (sym dead) unreached_block, subst (λ k. HasJudged before after outcome (record j { ok = k })) dead has)
+    let j = unreached_parts (nulls (in_exprs es)) (closures_in_exprs es) in
+    (j, subst (λ k. JudgesBlock (language_rules before.patterns.now) before.inside k es j) (sym dead) (unreached_block (nulls_allowed before.patterns.now (in_exprs es))), subst (λ k. HasJudged before after outcome (record j { ok = k })) dead has)
 
 pub block_reached : (es : Exprs) (before entered now after : Checker) (part outcome : Outcome) → before.state.known ≢ None → IsEntered before.state entered.state → entered.diagnostics ≡ before.diagnostics → entered.empties ≡ before.empties → entered.loops ≡ before.loops → entered.patterns ≡ before.patterns → entered.inside ≡ before.inside
     → IsSequenceAs es entered now part → IsBlockEndAs part now after outcome → IsBlockAs es before after outcome

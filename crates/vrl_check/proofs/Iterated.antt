@@ -7,6 +7,7 @@ use Rattle.vrl_diag.specs.declared.diagnostic.Diagnostic.{Diagnostic}
 use Rattle.vrl_diag.specs.declared.diagnostic.Span.{Span}
 use Rattle.vrl_builtin.specs.declared.tags.Tags.{Tags}
 use Rattle.vrl_syntax.specs.Calls.{for_names, form_named, is_closure_form}
+use Rattle.vrl_syntax.specs.ErrorAssignments.{in_closure}
 use Rattle.vrl_syntax.specs.Tree.{Args, Closure, Exprs, call, closure}
 use Rattle.vrl_syntax.specs.declared.call_form.CallForm.{CallForm}
 use Rattle.vrl_syntax.specs.declared.call_form.CallForm.TheVariants as form
@@ -29,9 +30,11 @@ use Rattle.vrl_check.specs.Calling.{AreTold, HasArguments}
 use Rattle.vrl_check.specs.Iterating.{body_in, closure_items, closure_names, closure_span, AreNameKinds, AreRuns, IsCollection, IsIterated, IsMadeOf}
 use Rattle.vrl_check.specs.Judgement.{a_closure_call, a_wrong_closure_call, body_of, of_closure_call, passing_closure, run_through, Gives, IsCutDown, JudgesArguments, JudgesRuns}
 use Rattle.vrl_check.specs.OpenRules.{language_rules}
+use Rattle.vrl_check.specs.Walking.{nulls}
 use Rattle.vrl_check.specs.declared.calls.Arguments.{Arguments}
 use Rattle.vrl_check.specs.declared.iteration.Collection.{Collection}
 use Rattle.vrl_check.specs.declared.iteration.Run.{Run}
+use Rattle.vrl_check.proofs.Passed.{nulls_allowed}
 
 -- ---- kinds
 
@@ -153,24 +156,24 @@ pub wrong_call_judged : (f : CallForm) (name : List ℕ) (s span : Span) (bang :
     → form_named name ≡ Some f → is_closure_form (Some f) ≡ true → JudgesArguments (language_rules before.patterns.now) before.inside (gives never_kind (Some known)) gs js j → HasArguments before now gs arguments js j
     → IsReported (of_closure_call f span gs c js) now bound arguments.ends next.ends
     → ((first : Diagnostic) × (others : List Diagnostic) × (of_closure_call f span gs c js ≡ first ∷ others))
-    → ((k : Judgement) → HasEnds before.state.scopes next.ends k → HasGathered before bound k → HasJudged before last outcome (banged span bang (passing_closure c (record k { kind = any_kind }))))
+    → ((k : Judgement) → HasEnds before.state.scopes next.ends k → HasGathered before bound k → HasJudged before last outcome (banged span bang (passing_closure c (nulls (in_closure c)) (record k { kind = any_kind }))))
     → (k : Judgement) × Gives (language_rules before.patterns.now) before.inside known span (call name s bang gs c) k × HasJudged before last outcome k
 wrong_call_judged f name s span bang gs c before now bound last known arguments next outcome js j named four judged has reported some passes =
     let ds = of_closure_call f span gs c js in
     let ends = reported_ends before.state.scopes ds now bound arguments.ends next.ends j reported has.ends in
     let gathered = reported_gathered ds before now bound arguments.ends next.ends j reported has.gathered in
-    let all : HasJudged before last outcome (banged span bang (with_codes ds (passing_closure c (record j { kind = any_kind })))) = passes (with_codes ds j) ends gathered in (
-      banged span bang (with_codes (some.0 ∷ some.1) (passing_closure c (record j { kind = any_kind }))),
-      a_wrong_closure_call f some.0 some.1 named four judged some.2,
-      subst (λ es. HasJudged before last outcome (banged span bang (with_codes es (passing_closure c (record j { kind = any_kind }))))) some.2 all,
+    let all : HasJudged before last outcome (banged span bang (with_codes ds (passing_closure c (nulls (in_closure c)) (record j { kind = any_kind })))) = passes (with_codes ds j) ends gathered in (
+      banged span bang (with_codes (some.0 ∷ some.1) (passing_closure c (nulls (in_closure c)) (record j { kind = any_kind }))),
+      a_wrong_closure_call f some.0 some.1 named four judged (nulls_allowed before.patterns.now (in_closure c)) some.2,
+      subst (λ es. HasJudged before last outcome (banged span bang (with_codes es (passing_closure c (nulls (in_closure c)) (record j { kind = any_kind }))))) some.2 all,
     )
 
 -- a call whose closure is passed by
-pub passed_judged : (c : Closure) (before passed : Checker) (K : KindTree) (ends : Ends) (j : Judgement) → K ≡ any_kind → HasEnds before.state.scopes ends j → HasGathered before passed (passing_closure c j)
-    → HasJudged before passed (record { kind = K; ends = ends }) (passing_closure c (record j { kind = any_kind }))
+pub passed_judged : (c : Closure) (before passed : Checker) (K : KindTree) (ends : Ends) (j : Judgement) → K ≡ any_kind → HasEnds before.state.scopes ends j → HasGathered before passed (passing_closure c (nulls (in_closure c)) j)
+    → HasJudged before passed (record { kind = K; ends = ends }) (passing_closure c (nulls (in_closure c)) (record j { kind = any_kind }))
 passed_judged c before passed K ends j any has gathered = record {
   kind = any;
   root = any_root;
-  ends = ends_of before.state.scopes ends j (passing_closure c (record j { kind = any_kind })) has refl refl refl refl;
-  gathered = gathered_of before passed (passing_closure c j) (passing_closure c (record j { kind = any_kind })) gathered refl refl refl refl;
+  ends = ends_of before.state.scopes ends j (passing_closure c (nulls (in_closure c)) (record j { kind = any_kind })) has refl refl refl refl;
+  gathered = gathered_of before passed (passing_closure c (nulls (in_closure c)) j) (passing_closure c (nulls (in_closure c)) (record j { kind = any_kind })) gathered refl refl refl refl;
 }

@@ -18,10 +18,12 @@ pub mod Capable
 pub mod Causes
 pub mod Counted
 pub mod CountedCodes
+pub mod Decided
 pub mod Determined
 pub mod DeterminedCalls
 pub mod DeterminedPremises
 pub mod Forms
+pub mod Holding
 pub mod Iterated
 pub mod Partway
 pub mod Passed

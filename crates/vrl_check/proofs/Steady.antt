@@ -221,7 +221,7 @@ module _ (joins : RootKindsJoinThemselves) (present : ResultsArePresent) (rules 
 
   mutual
     judges_goes : (base : RootMap) {inside : Bool} {known : Option RootMap} {e : Expr} {j : Judgement} → Judges rules inside known e j → AreAmong (expr_writes e) W → IsSteady W base known → GoesOn W base j
-    judges_goes base (unreached {e = e}) among steady = nothing_goes joins W base []
+    judges_goes base (unreached {e = e} allowed) among steady = nothing_goes joins W base []
     judges_goes base (reached {j = j} part) among steady = settled_goes joins W base j (form_goes base part among steady)
 
     form_goes : (base : RootMap) {inside : Bool} {known : RootMap} {span : Span} {f : Form} {j : Judgement} → Gives rules inside known span f j → AreAmong (form_writes f) W → IsSteadyMap W base known → GoesOn W base j
@@ -296,9 +296,9 @@ module _ (joins : RootKindsJoinThemselves) (present : ResultsArePresent) (rules 
         let on_value = target_steady W base u N given given_both second (scalar_root tag.Null N null refl) two (target_steady W base t j.kind j.ok given first part.kind one part.ok) in
         let on_error = target_steady W base u T failed failed_both second (scalar_root tag.Text T text refl) four (target_steady W base t E j.fail failed first value three part.fail) in
         record { kind = either_root j.kind E K part.kind value either; ok = joined_steady joins W base given_both failed_both ok ends on_value on_error; fail = tt; ret = part.ret }
-    form_goes base (a_call_of_nothing {known = known} {name = name} {gs = gs} {c = c} {j = j} unknown other arguments) among steady =
+    form_goes base (a_call_of_nothing {known = known} {name = name} {gs = gs} {c = c} {j = j} unknown other arguments allowed) among steady =
         of_kind joins W base j any_kind any_root (arguments_go base arguments (arguments_among name gs c among) (start_goes joins W base never_kind (Some known) never_root steady)).0
-    form_goes base (a_call {known = known} {span = span} function {name = name} {bang = bang} {gs = gs} {c = c} {js = js} {j = j} {whole = whole} K fails fail named arguments is answered ends) among steady =
+    form_goes base (a_call {known = known} {span = span} function {name = name} {bang = bang} {gs = gs} {c = c} {js = js} {j = j} {whole = whole} K fails fail named arguments allowed is answered ends) among steady =
         let parts = arguments_go base arguments (arguments_among name gs c among) (start_goes joins W base never_kind (Some known) never_root steady) in
         let behind : GoesOn W base whole = subst (GoesOn W base) (sym is) parts.0 in
         banged_goes joins W base span bang (record whole { kind = K; fail = fail }) (record {
@@ -307,7 +307,7 @@ module _ (joins : RootKindsJoinThemselves) (present : ResultsArePresent) (rules 
           fail = joined_steady joins W base whole.fail (if_state fails whole.ok) fail ends behind.fail (steady_if W base fails whole.ok behind.ok);
           ret = behind.ret;
         })
-    form_goes base (a_deletion {known = known} {span = span} {name = name} {bang = bang} {gs = gs} {c = c} {js = js} {j = j} {whole = whole} ok del arguments is deleted) among steady =
+    form_goes base (a_deletion {known = known} {span = span} {name = name} {bang = bang} {gs = gs} {c = c} {js = js} {j = j} {whole = whole} ok del arguments allowed is deleted) among steady =
         let parts = arguments_go base arguments (arguments_among name gs c among) (start_goes joins W base never_kind (Some known) never_root steady) in
         let behind : GoesOn W base whole = subst (GoesOn W base) (sym is) parts.0 in
         banged_goes joins W base span bang (record whole { kind = deleted_kind whole.poisoned js; ok = ok }) (record {
@@ -316,13 +316,13 @@ module _ (joins : RootKindsJoinThemselves) (present : ResultsArePresent) (rules 
           fail = behind.fail;
           ret = behind.ret;
         })
-    form_goes base (an_existence {known = known} {span = span} {name = name} {bang = bang} {gs = gs} {c = c} {j = j} {whole = whole} K exists arguments is scalar) among steady =
+    form_goes base (an_existence {known = known} {span = span} {name = name} {bang = bang} {gs = gs} {c = c} {j = j} {whole = whole} K exists arguments allowed is scalar) among steady =
         let parts = arguments_go base arguments (arguments_among name gs c among) (start_goes joins W base never_kind (Some known) never_root steady) in
         let behind : GoesOn W base whole = subst (GoesOn W base) (sym is) parts.0 in
         banged_goes joins W base span bang (record whole { kind = K }) (of_kind joins W base whole K (scalar_root tag.Bool K scalar refl) behind)
-    form_goes base (a_wrong_closure_call {known = known} {span = span} f {name = name} {bang = bang} {gs = gs} {c = c} {j = j} first others named runs arguments codes) among steady =
+    form_goes base (a_wrong_closure_call {known = known} {span = span} f {name = name} {bang = bang} {gs = gs} {c = c} {j = j} {tags = tags} first others named runs arguments allowed codes) among steady =
         let parts = arguments_go base arguments (arguments_among name gs c among) (start_goes joins W base never_kind (Some known) never_root steady) in
-        banged_goes joins W base span bang (with_codes (first ∷ others) (passing_closure c (record j { kind = any_kind }))) (of_kind joins W base j any_kind any_root parts.0)
+        banged_goes joins W base span bang (with_codes (first ∷ others) (passing_closure c tags (record j { kind = any_kind }))) (of_kind joins W base j any_kind any_root parts.0)
     form_goes base (a_closure_call {known = known} {span = span} f {name = name} {bang = bang} {gs = gs} {names = names} {es = es} {t = t} {g = g} {j = j} C key value loop {k = k} {whole = whole} K fail named runs arguments no_codes cut_down key_cut value_cut all_runs next cut ends) among steady =
         let parts = arguments_go base arguments (arguments_among name gs (closure names es t) among) (start_goes joins W base never_kind (Some known) never_root steady) in
         let run = runs_go base all_runs (names_kinds f key value (key_kind C key key_cut) (part_kind C value value_cut)) (closure_among name gs (closure names es t) among) parts.0.ok in
@@ -362,7 +362,7 @@ module _ (joins : RootKindsJoinThemselves) (present : ResultsArePresent) (rules 
         (others.0, (one.kind, others.1))
 
     block_goes : (base : RootMap) {inside : Bool} {known : Option RootMap} {es : Exprs} {j : Judgement} → JudgesBlock rules inside known es j → AreAmong (exprs_write es) W → IsSteady W base known → GoesOn W base j
-    block_goes base unreached_block among steady = nothing_goes joins W base []
+    block_goes base (unreached_block allowed) among steady = nothing_goes joins W base []
     block_goes base (reached_block {known = known} {N = N} {j = j} null all) among steady =
         settled_goes joins W base (left known j) (left_goes joins W base known j steady (all_goes base all among (start_goes joins W base N (Some known) (scalar_root tag.Null N null refl) steady)))
 
@@ -378,7 +378,7 @@ module _ (joins : RootKindsJoinThemselves) (present : ResultsArePresent) (rules 
         beside_goes joins W base ways (settle (gives N state)) all beside given (settled_goes joins W base (gives N state) (start_goes joins W base N state (scalar_root tag.Null N null refl) steady))
 
     body_goes : (base : RootMap) {b : ClosureBody} {known : Option RootMap} {j : Judgement} → JudgesBody rules b known j → All IsRootKind b.kinds → AreAmong (exprs_write b.items) W → IsSteady W base known → GoesOn W base j
-    body_goes base unreached_body kinds among steady = nothing_goes joins W base []
+    body_goes base (unreached_body allowed) kinds among steady = nothing_goes joins W base []
     body_goes base (reached_body {b = b} {known = known} {j = j} block) kinds among steady =
         body_left joins W base b known j steady (block_goes (with_names b.names b.kinds base) block among (names_steady W b.names b.kinds base known kinds steady))
 
@@ -389,14 +389,14 @@ module _ (joins : RootKindsJoinThemselves) (present : ResultsArePresent) (rules 
         tries_go base rest kinds among (next_steady joins W base try b known j.ok next among is steady one.ok)
 
     runs_go : (base : RootMap) {b : ClosureBody} {known : Option RootMap} {loop : Loop} {k : Judgement} → JudgesRuns rules b known loop k → All IsRootKind b.kinds → AreAmong (exprs_write b.items) W → IsSteady W base known → IsSteady W base loop.known × GoesOn W base k
-    runs_go base (by_tries tries) kinds among steady = tries_go base tries kinds among steady
+    runs_go base (by_tries tried tries) kinds among steady = tries_go base tries kinds among steady
     runs_go base (by_what_is_given {loop = loop} may body begins goes_on) kinds among steady = absurd (false≢true (sym (none_given loop) ∙ may))
 
 -- ---- the third try
 
 -- nothing is known behind a body that isn't run
 nothing_within : {rules : OpenRules} (b : ClosureBody) (known : Option RootMap) (j : Judgement) → JudgesBody rules b None j → IsKnownWithin j.ok known
-nothing_within b known j unreached_body = tt
+nothing_within b known j (unreached_body allowed) = tt
 
 pub third_tries : RootKindsJoinThemselves → ForgettingWidens → ResultsArePresent → ThirdTriesAreStable
 third_tries joins widens present rules none_given b before known j kinds roots forgotten judged = by b.runs known roots forgotten judged where

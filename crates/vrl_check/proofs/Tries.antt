@@ -20,7 +20,8 @@ use Rattle.vrl_check.specs.Iterating.{AreRuns, AreTries, BodyCanBeJudged, AreTri
 use Rattle.vrl_check.specs.Judgement.{a_stable_try, an_unstable_try, by_tries, reached_body, run_through, unreached_body, unreached_parts, JudgesBlock, JudgesBody, JudgesTries}
 use Rattle.vrl_check.specs.Loops.{closures_in_exprs}
 use Rattle.vrl_check.specs.OpenRules.{language_rules}
-use Rattle.vrl_check.specs.Walking.{IsBlockAs}
+use Rattle.vrl_check.specs.Walking.{nulls, IsBlockAs}
+use Rattle.vrl_check.proofs.Passed.{nulls_allowed}
 use Rattle.vrl_check.specs.declared.iteration.Run.{Run}
 use Rattle.vrl_check.specs.declared.iteration.Tried.{Tried}
 use Rattle.vrl_check.specs.declared.iteration.Tried.TheVariants as tried
@@ -71,10 +72,10 @@ body_at before now c Ks same can = subst (λ ps. BodyCanBeJudged ps.now c Ks) (s
 -- ---- the body once
 
 -- where no way leads to it
-pub body_passed : (b : ClosureBody) (before after : Checker) (outcome : Outcome) → before.state.known ≡ None → HasJudged before after outcome (record (unreached_parts (in_exprs b.items) (closures_in_exprs b.items)) { ok = before.state.known }) → IsBodyAs b before after outcome
+pub body_passed : (b : ClosureBody) (before after : Checker) (outcome : Outcome) → before.state.known ≡ None → HasJudged before after outcome (record (unreached_parts (nulls (in_exprs b.items)) (closures_in_exprs b.items)) { ok = before.state.known }) → IsBodyAs b before after outcome
 body_passed b before after outcome dead has =
-    let j = unreached_parts (in_exprs b.items) (closures_in_exprs b.items) in
-    (j, subst (λ k. JudgesBody (language_rules before.patterns.now) b k j) (sym dead) unreached_body, subst (λ k. HasJudged before after outcome (record j { ok = k })) dead has)
+    let j = unreached_parts (nulls (in_exprs b.items)) (closures_in_exprs b.items) in
+    (j, subst (λ k. JudgesBody (language_rules before.patterns.now) b k j) (sym dead) (unreached_body (nulls_allowed before.patterns.now (in_exprs b.items))), subst (λ k. HasJudged before after outcome (record j { ok = k })) dead has)
 
 -- the walk stands outside again, or in the closure around
 outside_again : (before within after last : Checker) (outcome : Outcome) (j : Judgement) → within ≡ record before { inside = true } → last ≡ record after { inside = before.inside } → HasJudged within after outcome j → HasJudged before last outcome j
@@ -283,7 +284,7 @@ all_runs f b place before kept now after run state diagnostics empties patterns 
     record {
       loop = loop;
       k = k;
-      runs = by_tries (subst (λ s. JudgesTries (language_rules before.patterns.now) b first_try s.known are.last k) state (subst (λ ps. JudgesTries (language_rules ps.now) b first_try kept.state.known are.last k) patterns are.tries));
+      runs = by_tries refl (subst (λ s. JudgesTries (language_rules before.patterns.now) b first_try s.known are.last k) state (subst (λ ps. JudgesTries (language_rules ps.now) b first_try kept.state.known are.last k) patterns are.tries));
       judged = record {
         kind = has.kind;
         root = has.root;

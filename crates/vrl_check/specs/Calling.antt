@@ -4,6 +4,7 @@ use Rattle.std.specs.List.{list_any}
 use Rattle.vrl_value.specs.Tree.{Tree}
 use Rattle.vrl_diag.specs.declared.diagnostic.Diagnostic.{Diagnostic}
 use Rattle.vrl_diag.specs.declared.diagnostic.Span.{Span}
+use Rattle.vrl_syntax.specs.ErrorAssignments.{in_closure}
 use Rattle.vrl_syntax.specs.Tree.{Expr, Form, Args, no_args, arg, Closure}
 use Rattle.vrl_syntax.specs.View.{args_of, closure_in, closure_of, expr_of}
 use Rattle.vrl_syntax.specs.declared.tree.Arg.{Arg as CodeArg}
@@ -31,6 +32,7 @@ use Rattle.vrl_judge.specs.declared.outcome.Outcome.{Outcome}
 use Rattle.vrl_judge.specs.Calling.{part_of}
 use Rattle.vrl_check.specs.declared.calls.Callee.TheVariants as callee
 use Rattle.vrl_check.specs.OpenRules.{language_rules}
+use Rattle.vrl_check.specs.Walking.{nulls}
 
 -- ---- a call
 
@@ -118,7 +120,8 @@ IsCalledAs span f gs arguments now after outcome = (before : Checker) (known : R
 
 -- behind its closure, which isn't judged
 abbrev pub IsPassed : Checker → Checker → Args → Closure → Arguments → List Argument → Judgement → Type 0
-IsPassed before now gs c arguments js j = HasArguments before now gs arguments js (passing_closure c j)
+IsPassed before now gs c arguments js j =
+    HasArguments before now gs arguments js (passing_closure c (nulls (in_closure c)) j)
 
 abbrev pub IsPassedCallAs : Span → Form → Args → Closure → Arguments → Checker → Checker → Outcome → Type 0
 IsPassedCallAs span f gs c arguments now after outcome = (before : Checker) (known : RootMap) (js : List Argument) (j : Judgement)
@@ -138,7 +141,8 @@ callee_codes f span gs c js = own_codes (callee_wants f) (callee_parameters f) s
 
 -- the arguments with the call's own codes
 abbrev pub with_call_codes : Callee → Span → Args → Closure → List Argument → Judgement → Judgement
-with_call_codes f span gs c js j = with_codes (callee_codes f span gs c js) (passing_closure c j)
+with_call_codes f span gs c js j =
+    with_codes (callee_codes f span gs c js) (passing_closure c (nulls (in_closure c)) j)
 
 -- what the call gives then, but for its `!`
 abbrev pub IsBoundCallAs : Callee → Span → Form → Bool → Args → Closure → Arguments → Checker → Checker → Outcome → Type 0

@@ -1,6 +1,7 @@
--- What holds of every judgement of a script: it has each empty value and each closure, it is poisoned exactly where an error code stands in it, where the
--- rules leave nothing open there is at most one, and then the third try at a closure is stable.
-use Rattle.std.specs.Prelude.{◌≡◌, Bool, false, ℕ, List, All, Option, IfSome, length}
+-- What holds of every judgement of a script: it has each empty value and each closure, and it is poisoned exactly where
+-- an error code stands in it. Where the rules leave nothing open there is at most one, and the third try at a closure
+-- is stable. Where they allow no tries there is at most one with the same empty values and the same states of closures.
+use Rattle.std.specs.Prelude.{◌≡◌, Bool, true, false, ℕ, List, ◌∷◌, All, Option, Some, None, IfSome, length, ⊤}
 use Rattle.std.specs.List.{list_any}
 use Rattle.vrl_diag.specs.Refusal.{is_error}
 use Rattle.vrl_diag.specs.declared.diagnostic.Span.{Span}
@@ -13,11 +14,24 @@ use Rattle.vrl_judge.specs.Closures.{ClosureBody}
 use Rattle.vrl_judge.specs.Rules.{Judgement, Loop, if_state}
 use Rattle.vrl_check.specs.Judgement.{Gives, Judges, JudgesAll, JudgesBlock, JudgesBody, JudgesItems, JudgesScript}
 use Rattle.vrl_check.specs.Loops.{closures_in_expr, closures_in_exprs}
-use Rattle.vrl_check.specs.OpenRules.{LeaveNothingOpen, OpenRules, language_rules}
+use Rattle.vrl_check.specs.OpenRules.{each_holds, language_rules, only_what_holds}
+use Rattle.vrl_check.specs.OpenRules.{GiveWhatHolds, LeaveNothingOpen, OpenRules}
+
+-- closures that are judged in both lists have the same state in them
+abbrev pub HaveOneState : List (Option Loop) → List (Option Loop) → Type 0
+HaveOneState (Some loop ∷ ls) (Some other ∷ ms) = (loop.known ≡ other.known) × HaveOneState ls ms
+HaveOneState (Some loop ∷ ls) (None ∷ ms) = HaveOneState ls ms
+HaveOneState (None ∷ ls) (other ∷ ms) = HaveOneState ls ms
+HaveOneState ls ms = ⊤
 
 pub record JudgementsAreDetermined : Type 0 where
   -- two judgements of a script over events of one kind are the same, where the rules leave nothing open
   pub script : (rules : OpenRules) → LeaveNothingOpen rules → (start : KindTree) (items : Exprs) (j k : Judgement) → JudgesScript rules start items j → JudgesScript rules start items k → j ≡ k
+  -- where they allow no tries, two that have the same empty values, and the same state of each closure that both judge
+  pub given : (rules : OpenRules) → rules.tries ≡ false → (start : KindTree) (items : Exprs) (j k : Judgement)
+      → JudgesScript rules start items j → JudgesScript rules start items k
+      → j.empties ≡ k.empties → HaveOneState j.loops k.loops
+      → j ≡ k
   -- and what it may end with is: the kind that joins two, and what is known behind two ways
   pub kind : (K L M N : KindTree) → IsEither K L M → IsEither K L N → M ≡ N
   pub join : (a b c d : Option RootMap) → IsJoined a b c → IsJoined a b d → c ≡ d
@@ -56,3 +70,12 @@ abbrev pub ThirdTriesAreStable : Type 0
 ThirdTriesAreStable = (rules : OpenRules) → ((loop : Loop) → rules.given loop ≡ false)
     → (b : ClosureBody) (before known : Option RootMap) (j : Judgement) → All IsRootKind b.kinds → IfSome known HasRootKinds → IsForgotten (exprs_write b.items) before known
     → JudgesBody rules b (if_state b.runs known) j → IsKnownWithin j.ok known
+
+-- A judgement without tries, in which the state of each closure holds, is one by rules that allow such states alone; so
+-- it is sound. With tries it needn't be, since the states of closures in a try that wasn't stable stand nowhere in the
+-- judgement.
+pub record StatesThatHoldCanBeGiven : Type 0 where
+  pub script : (rules : OpenRules) → rules.tries ≡ false → (start : KindTree) (items : Exprs) (j : Judgement)
+      → JudgesScript rules start items j → each_holds j.loops ≡ true
+      → JudgesScript (only_what_holds rules) start items j
+  pub given : (rules : OpenRules) → GiveWhatHolds (only_what_holds rules)

@@ -7,7 +7,8 @@
 --
 -- The judgement is told for every way in which the open rules may be given; that of the language is the one at `language_rules`. `inside` says whether
 -- the part stands in the body of a closure.
-use Rattle.std.specs.Prelude.{◌≡◌, ◌≢◌, ◌↔◌, ℕ, suc, Bool, true, false, ◌||◌, ◌&&◌, not, List, [], ◌∷◌, ◌++◌, map as map_list, replicate, slice_get, Option, Some, None, is_some, IsTrue, if◌then◌else◌}
+use Rattle.std.specs.Prelude.{◌≡◌, ◌≢◌, ◌↔◌, ℕ, suc, Bool, true, false, ◌||◌, ◌&&◌, not, List, [], ◌∷◌, ◌++◌, length, map as map_list, slice_get, Option, Some, None, is_some, IsTrue, if◌then◌else◌}
+use Rattle.std.specs.List.{list_all}
 use Rattle.std.specs.Option.{option_map_or}
 use Rattle.std.specs.declared.result.Result.{Result}
 use Rattle.std.specs.declared.result.Result.TheVariants.{Ok, Err}
@@ -49,13 +50,14 @@ use Rattle.vrl_binding.specs.declared.binding.BindFault.TheVariants as fault
 
 -- ---- what isn't judged
 
--- its empty values: so many times null, once for each error assignment in it
-abbrev pub nulls : ℕ → List Tag
-nulls n = replicate n tag.Null
+-- its empty values, one for each of so many error assignments: each has a tag that the rules allow for them
+pub record AreUnjudged (rules : OpenRules) (assignments : ℕ) (tags : List Tag) : Type 0 where
+  pub counted : length tags ≡ assignments
+  pub allowed : list_all rules.unjudged tags ≡ true
 
--- so many error assignments, and so many closures
-abbrev pub unreached_parts : ℕ → ℕ → Judgement
-unreached_parts assignments closures = record (nothing (nulls assignments)) { loops = unjudged closures }
+-- these empty values, and so many closures
+abbrev pub unreached_parts : List Tag → ℕ → Judgement
+unreached_parts tags closures = record (nothing tags) { loops = unjudged closures }
 
 -- ---- parts of forms
 
@@ -158,13 +160,15 @@ of_call wants ps span c js b = own_codes wants ps span (of_closure span c) js b
 abbrev pub of_closure_call : CallForm → Span → Args → Closure → List Argument → List Diagnostic
 of_closure_call f span gs c js = own_codes (λ i p e. false) (collection_parameters f) span (of_wanted_closure f span c) js (binding (collection_parameters f) (keywords_of gs))
 
--- behind the arguments a closure that isn't judged
-abbrev pub passing_closure : Closure → Judgement → Judgement
-passing_closure c j = record j { empties = j.empties ++ nulls (in_closure c); loops = j.loops ++ unjudged (closures_in_closure c) }
+-- behind the arguments a closure that isn't judged, with these empty values
+abbrev pub passing_closure : Closure → List Tag → Judgement → Judgement
+passing_closure c tags j = record j { empties = j.empties ++ tags; loops = j.loops ++ unjudged (closures_in_closure c) }
 
 -- the arguments in order, with the call's own codes; its closure isn't judged
-abbrev pub behind_arguments : (ℕ → ParameterRow → Expr → Bool) → List ParameterRow → Span → Args → Closure → List Argument → Judgement → Judgement
-behind_arguments wants ps span gs c js j = with_codes (of_call wants ps span c js (binding ps (keywords_of gs))) (passing_closure c j)
+abbrev pub behind_arguments : (ℕ → ParameterRow → Expr → Bool) → List ParameterRow → Span → Args → Closure → List Tag
+    → List Argument → Judgement → Judgement
+behind_arguments wants ps span gs c tags js j =
+    with_codes (of_call wants ps span c js (binding ps (keywords_of gs))) (passing_closure c tags j)
 
 -- the places of the parameters' arguments; none where they aren't bound
 abbrev pub places_in : Result (List (Option ℕ)) BindFault → List (Option ℕ)
@@ -231,7 +235,9 @@ run_through loop j = record j { ok = loop.known; loops = Some loop ∷ j.loops }
 
 mutual
   pub data Judges (rules : OpenRules) : Bool → Option RootMap → Expr → Judgement → Type 0 where
-    unreached : {inside : Bool} {e : Expr} → Judges rules inside None e (unreached_parts (in_expr e) (closures_in_expr e))
+    unreached : {inside : Bool} {e : Expr} {tags : List Tag}
+        → AreUnjudged rules (in_expr e) tags
+        → Judges rules inside None e (unreached_parts tags (closures_in_expr e))
     reached : {inside : Bool} {known : RootMap} {span : Span} {f : Form} {j : Judgement} → Gives rules inside known span f j → Judges rules inside (Some known) (expr span f) (settle j)
 
   -- what a form gives where it is reached, before it is settled
@@ -318,37 +324,46 @@ mutual
         → IsJoined given_both failed_both ok
         → Gives rules inside known span (both t u e) (with_codes (of_error_assignment span t u j K) (record j { kind = K; ok = ok; fail = None; empties = empty ∷ j.empties }))
     -- calls: a function that there isn't is 105
-    a_call_of_nothing : {inside : Bool} {known : RootMap} {span s : Span} {name : List ℕ} {bang : Bool} {gs : Args} {c : Closure} {js : List Argument} {j : Judgement}
+    a_call_of_nothing : {inside : Bool} {known : RootMap} {span s : Span} {name : List ℕ} {bang : Bool} {gs : Args}
+        {c : Closure} {js : List Argument} {j : Judgement} {tags : List Tag}
         → ((function : Fun) → (row_of function).name ≢ name) → (is_del name || (is_exists name || takes_closure name)) ≡ false
-        → JudgesArguments rules inside (gives never_kind (Some known)) gs js j
-        → Gives rules inside known span (call name s bang gs c) (with_codes (at 105 s) (passing_closure c (record j { kind = any_kind })))
-    a_call : {inside : Bool} {known : RootMap} {span s : Span} (function : Fun) {name : List ℕ} {bang : Bool} {gs : Args} {c : Closure} {js : List Argument} {j whole : Judgement} (K : KindTree) (fails : Bool) (fail : Option RootMap)
+        → JudgesArguments rules inside (gives never_kind (Some known)) gs js j → AreUnjudged rules (in_closure c) tags
+        → Gives rules inside known span (call name s bang gs c)
+        (with_codes (at 105 s) (passing_closure c tags (record j { kind = any_kind })))
+    a_call : {inside : Bool} {known : RootMap} {span s : Span} (function : Fun) {name : List ℕ} {bang : Bool}
+        {gs : Args} {c : Closure} {js : List Argument} {j whole : Judgement} {tags : List Tag}
+        (K : KindTree) (fails : Bool) (fail : Option RootMap)
         → (row_of function).name ≡ name
-        → JudgesArguments rules inside (gives never_kind (Some known)) gs js j
-        → whole ≡ behind_arguments (wants_literal (row_of function)) (row_of function).parameters span gs c js j
+        → JudgesArguments rules inside (gives never_kind (Some known)) gs js j → AreUnjudged rules (in_closure c) tags
+        → whole ≡ behind_arguments (wants_literal (row_of function)) (row_of function).parameters span gs c tags js j
         → IsAnsweredUnless whole.poisoned rules.sources (row_of function) (bound (places_in (binding (row_of function).parameters (keywords_of gs))) js) K fails
         → IsJoined whole.fail (if_state fails whole.ok) fail
         → Gives rules inside known span (call name s bang gs c) (banged span bang (record whole { kind = K; fail = fail }))
     -- `del`: the kind is that of reading the path, and what stands there is taken out
-    a_deletion : {inside : Bool} {known : RootMap} {span s : Span} {name : List ℕ} {bang : Bool} {gs : Args} {c : Closure} {js : List Argument} {j whole : Judgement} (ok : Option RootMap)
+    a_deletion : {inside : Bool} {known : RootMap} {span s : Span} {name : List ℕ} {bang : Bool} {gs : Args}
+        {c : Closure} {js : List Argument} {j whole : Judgement} {tags : List Tag} (ok : Option RootMap)
         → is_del name ≡ true
-        → JudgesArguments rules inside (gives never_kind (Some known)) gs js j
-        → whole ≡ behind_arguments wants_path path_parameters span gs c js j
+        → JudgesArguments rules inside (gives never_kind (Some known)) gs js j → AreUnjudged rules (in_closure c) tags
+        → whole ≡ behind_arguments wants_path path_parameters span gs c tags js j
         → IsDeletedAt (deleted_path whole.poisoned js) whole.ok ok
         → Gives rules inside known span (call name s bang gs c) (banged span bang (record whole { kind = deleted_kind whole.poisoned js; ok = ok }))
     -- `exists`: a boolean, and the state stays
-    an_existence : {inside : Bool} {known : RootMap} {span s : Span} {name : List ℕ} {bang : Bool} {gs : Args} {c : Closure} {js : List Argument} {j whole : Judgement} (K : KindTree)
+    an_existence : {inside : Bool} {known : RootMap} {span s : Span} {name : List ℕ} {bang : Bool} {gs : Args}
+        {c : Closure} {js : List Argument} {j whole : Judgement} {tags : List Tag} (K : KindTree)
         → is_exists name ≡ true
-        → JudgesArguments rules inside (gives never_kind (Some known)) gs js j
-        → whole ≡ behind_arguments wants_path path_parameters span gs c js j
+        → JudgesArguments rules inside (gives never_kind (Some known)) gs js j → AreUnjudged rules (in_closure c) tags
+        → whole ≡ behind_arguments wants_path path_parameters span gs c tags js j
         → IsScalar tag.Bool K
         → Gives rules inside known span (call name s bang gs c) (banged span bang (record whole { kind = K }))
     -- A function that takes a closure. Where the call has a code of its own the closure isn't judged.
-    a_wrong_closure_call : {inside : Bool} {known : RootMap} {span s : Span} (f : CallForm) {name : List ℕ} {bang : Bool} {gs : Args} {c : Closure} {js : List Argument} {j : Judgement} (first : Diagnostic) (others : List Diagnostic)
+    a_wrong_closure_call : {inside : Bool} {known : RootMap} {span s : Span} (f : CallForm) {name : List ℕ}
+        {bang : Bool} {gs : Args} {c : Closure} {js : List Argument} {j : Judgement} {tags : List Tag}
+        (first : Diagnostic) (others : List Diagnostic)
         → form_named name ≡ Some f → is_closure_form (Some f) ≡ true
-        → JudgesArguments rules inside (gives never_kind (Some known)) gs js j
+        → JudgesArguments rules inside (gives never_kind (Some known)) gs js j → AreUnjudged rules (in_closure c) tags
         → of_closure_call f span gs c js ≡ first ∷ others
-        → Gives rules inside known span (call name s bang gs c) (banged span bang (with_codes (first ∷ others) (passing_closure c (record j { kind = any_kind }))))
+        → Gives rules inside known span (call name s bang gs c)
+        (banged span bang (with_codes (first ∷ others) (passing_closure c tags (record j { kind = any_kind }))))
     -- Else it is judged behind the argument, whose kind, cut down to the tags of a collection, is C; its body has the judgement k. An error may come of
     -- the argument's tag, and of the body. What is known before each run is known behind the call.
     a_closure_call : {inside : Bool} {known : RootMap} {span s : Span} (f : CallForm) {name : List ℕ} {bang : Bool} {gs : Args} {names : List (List ℕ)} {es : Exprs} {t : Span} {g : Argument} {j : Judgement} (C key value : KindTree) (loop : Loop) {k whole : Judgement} (K : KindTree) (fail : Option RootMap)
@@ -394,7 +409,9 @@ mutual
 
   -- the items of a block or a branch; an empty one gives null, and its names end with it
   pub data JudgesBlock (rules : OpenRules) : Bool → Option RootMap → Exprs → Judgement → Type 0 where
-    unreached_block : {inside : Bool} {es : Exprs} → JudgesBlock rules inside None es (unreached_parts (in_exprs es) (closures_in_exprs es))
+    unreached_block : {inside : Bool} {es : Exprs} {tags : List Tag}
+        → AreUnjudged rules (in_exprs es) tags
+        → JudgesBlock rules inside None es (unreached_parts tags (closures_in_exprs es))
     reached_block : {inside : Bool} {known : RootMap} {es : Exprs} {Ks : List KindTree} {N : KindTree} {j : Judgement}
         → IsScalar tag.Null N → JudgesAll rules inside (gives N (Some known)) es Ks j
         → JudgesBlock rules inside (Some known) es (settle (left known j))
@@ -415,7 +432,9 @@ mutual
 
   -- the body of a closure, of which its names have their kinds, and end with it
   pub data JudgesBody (rules : OpenRules) : ClosureBody → Option RootMap → Judgement → Type 0 where
-    unreached_body : {b : ClosureBody} → JudgesBody rules b None (unreached_parts (in_exprs b.items) (closures_in_exprs b.items))
+    unreached_body : {b : ClosureBody} {tags : List Tag}
+        → AreUnjudged rules (in_exprs b.items) tags
+        → JudgesBody rules b None (unreached_parts tags (closures_in_exprs b.items))
     reached_body : {b : ClosureBody} {known : RootMap} {j : Judgement}
         → JudgesBlock rules true (Some (with_names b.names b.kinds known)) b.items j
         → JudgesBody rules b (Some known) (left_body b known j)
@@ -431,10 +450,11 @@ mutual
         → IsNextTry try b known j.ok next → JudgesTries rules b (next_try try) next last k
         → JudgesTries rules b try known last k
 
-  -- all runs of a body, where this is known where the call begins to run it: by tries, or from a state that the rules allow
+  -- all runs of a body, where this is known where the call begins to run it: by tries, where the rules allow them, or
+  -- from a state that they allow
   pub data JudgesRuns (rules : OpenRules) : ClosureBody → Option RootMap → Loop → Judgement → Type 0 where
     by_tries : {b : ClosureBody} {known last : Option RootMap} {k : Judgement}
-        → JudgesTries rules b first_try known last k
+        → rules.tries ≡ true → JudgesTries rules b first_try known last k
         → JudgesRuns rules b known (record { known = last; begins = true; goes_on = true }) k
     by_what_is_given : {b : ClosureBody} {known : Option RootMap} {loop : Loop} {k : Judgement}
         → rules.given loop ≡ true → JudgesBody rules b (if_state b.runs loop.known) k

@@ -1,5 +1,6 @@
 -- What the walk over a script is asked, and what it gives.
 use Rattle.std.specs.Prelude.{◌≡◌, ℕ, Bool, true, false, List, [], Option, Some, None, length, replicate, ◌++◌}
+use Rattle.vrl_value.specs.declared.value.Tag.{Tag}
 use Rattle.vrl_diag.specs.declared.diagnostic.Diagnostic.{Diagnostic}
 use Rattle.vrl_diag.specs.declared.diagnostic.Span.{Span}
 use Rattle.vrl_syntax.specs.Limits.{args_faults, expr_faults, form_faults, exprs_faults, pairs_faults, arms_faults, else_faults}
@@ -50,6 +51,10 @@ abbrev pub ArgumentsCanBeJudged : List (List ℕ) → Args → Type 0
 ArgumentsCanBeJudged = IsJudgeable (args_faults false) args_regexes_below
 
 -- ---- what the walk gives
+
+-- the empty values of what it passes by: so many times null
+abbrev pub nulls : ℕ → List Tag
+nulls n = replicate n tag.Null
 
 -- the states of closures that it passes by: none is kept of any
 abbrev pub passed_states : ℕ → List (Option State)

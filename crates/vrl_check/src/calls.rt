@@ -5,7 +5,7 @@ ghost use Rattle.vrl_builtin.specs.View.{givens_of as trees_of_givens, parameter
 ghost use Rattle.std.specs.List.{list_any};
 ghost use Rattle.vrl_check.specs.Calling.{alone_at, call_args, call_bang, call_closure, call_name, callee_closure, callee_codes, callee_parameters, callee_wants, of_code, written, AreTold, IsCalledAs, IsFound, IsNamed, IsPassedCallAs, IsTold, IsUnknown};
 ghost use Rattle.vrl_check.specs.Judgement.{bound as bound_at, of_argument, of_arguments, of_closure_call, of_fault, of_found, passing_closure, places_in};
-ghost use Rattle.vrl_check.specs.Walking.{FormCanBeJudged};
+ghost use Rattle.vrl_check.specs.Walking.{nulls, FormCanBeJudged};
 ghost use Rattle.vrl_diag.specs.declared.diagnostic.Span.{Span as SpecSpan};
 ghost use Rattle.vrl_judge.specs.declared.checker.Checker.{Checker as SpecChecker};
 ghost use Rattle.vrl_judge.specs.Calling.{part_of};
@@ -14,6 +14,7 @@ ghost use Rattle.vrl_judge.specs.Judging.{AreEnds, HasEnds, HasGathered, HasJudg
 ghost use Rattle.vrl_judge.specs.Rules.{argument_at as argument_of, at, banged as banged_as, when, Argument as JudgedArgument, Judgement};
 ghost use Rattle.vrl_kind.specs.Canonical.{any_kind};
 ghost use Rattle.vrl_syntax.specs.Calls.{literal_of, path_of, takes_closure};
+ghost use Rattle.vrl_syntax.specs.ErrorAssignments.{in_closure};
 ghost use Rattle.vrl_syntax.specs.Regexes.{args_regexes_below, expr_regexes_below};
 ghost use Rattle.vrl_syntax.specs.View.{args_of, args_view, call_of, closure_in, closure_of, expr_of};
 ghost use Rattle.vrl_binding.specs.Binding.{binding, keywords_of};
@@ -198,7 +199,9 @@ pub(crate) fn passed_call(
     arguments: Arguments,
 ) -> Result<Outcome, Memory>
     ensures { IfOk result (λ outcome. (before : SpecChecker) (j : Judgement) → HasEnds before.state.scopes arguments.ends j → HasGathered before checker.old j
-        → HasJudged before checker.new outcome (banged_as span (call_bang call.now) (passing_closure (call_closure call.now) (record j { kind = any_kind })))) }
+        → HasJudged before checker.new outcome (banged_as span (call_bang call.now)
+        (passing_closure (call_closure call.now) (nulls (in_closure (call_closure call.now)))
+        (record j { kind = any_kind })))) }
 {
     pass_closure(checker, &call.closure)?;
     let kind = SharedKind::any(checker.alloc)?;

@@ -1,5 +1,5 @@
 ghost use Rattle.std.specs.Prelude.{option_map, ◌++◌, ◌≡◌, OnOk};
-ghost use Rattle.vrl_check.specs.Judgement.{nulls};
+ghost use Rattle.vrl_check.specs.Walking.{nulls};
 ghost use Rattle.vrl_syntax.specs.ErrorAssignments.{in_args, in_arms, in_closure, in_expr, in_exprs, in_form, in_pairs};
 ghost use Rattle.vrl_syntax.specs.View.{args_of, arms_of, call_of, closure_in, closure_of, expr_of, exprs_of, pairs_of};
 

@@ -1,5 +1,5 @@
 ghost use Rattle.vrl_check.specs.Apart.{NoCodeStandsTwice};
-ghost use Rattle.vrl_check.specs.Determined.{EmptiesAreCounted, JudgementsAreDetermined, LoopsAreCounted, PoisonsHaveCauses, ThirdTriesAreStable};
+ghost use Rattle.vrl_check.specs.Determined.{EmptiesAreCounted, JudgementsAreDetermined, LoopsAreCounted, PoisonsHaveCauses, StatesThatHoldCanBeGiven, ThirdTriesAreStable};
 
 use vrl_kind::equal_tags_are_one_kind;
 use vrl_state::{forgetting_widens, root_kinds_join_themselves};
@@ -7,8 +7,9 @@ use vrl_table::{
     forms_are_no_functions, functions_are_found, parameters_are_told_apart, results_are_present,
 };
 
-/// A script has at most one judgement over events of a kind, where the rules leave nothing open, as those of the language do. This takes no
-/// time: it is a law about the definitions.
+/// A script has at most one judgement over events of a kind, where the rules leave nothing open, as those of the
+/// language do. Where they allow no tries, it has at most one with the same empty values and the same states of
+/// closures. This takes no time: it is a law about the definitions.
 pub fn judgements_are_determined()
     ensures { JudgementsAreDetermined }
 {
@@ -41,6 +42,12 @@ pub fn third_tries_are_stable()
     forgetting_widens();
     results_are_present();
 }
+
+/// A judgement without tries, in which the state of each closure holds, is one by rules that give such states alone, so
+/// what is shown of these is shown of it. This takes no time: it is a law about the definitions.
+pub fn states_that_hold_can_be_given()
+    ensures { StatesThatHoldCanBeGiven }
+{}
 
 /// In a judgement of a script whose expressions, names of calls, arguments and blocks of closures stand at places of their own, no code stands
 /// twice at one place, whatever the open rules are. This takes no time: it is a law about the definitions.

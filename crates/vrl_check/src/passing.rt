@@ -1,7 +1,7 @@
 ghost use Rattle.std.specs.Prelude.{option_map, ◌++◌, ◌≡◌, IfOk, OnOk};
-ghost use Rattle.vrl_check.specs.Judgement.{nulls, unreached_parts};
+ghost use Rattle.vrl_check.specs.Judgement.{unreached_parts};
 ghost use Rattle.vrl_check.specs.Loops.{closures_in_closure, closures_in_expr, closures_in_exprs};
-ghost use Rattle.vrl_check.specs.Walking.{passed_states};
+ghost use Rattle.vrl_check.specs.Walking.{nulls, passed_states};
 ghost use Rattle.vrl_judge.specs.Judging.{HasJudged};
 ghost use Rattle.vrl_syntax.specs.ErrorAssignments.{in_closure, in_expr, in_exprs};
 ghost use Rattle.vrl_syntax.specs.View.{closure_in, closure_of, expr_of, exprs_of};
@@ -14,7 +14,8 @@ use vrl_value::Memory;
 // What isn't judged gives nothing but its empty values and its closures, and the state stays. `Memory`: want of memory.
 pub(crate) fn pass(checker: &mut Checker<'_>, expr: &Expr) -> Result<Outcome, Memory>
     ensures { IfOk result (λ outcome. HasJudged checker.old checker.new outcome
-        (record (unreached_parts (in_expr (expr_of expr.now)) (closures_in_expr (expr_of expr.now))) { ok = checker.old.state.known })) }
+        (record (unreached_parts (nulls (in_expr (expr_of expr.now))) (closures_in_expr (expr_of expr.now)))
+        { ok = checker.old.state.known })) }
 {
     empties::add_expr(expr, &mut checker.empties)?;
     loops::add_expr(expr, &mut checker.loops)?;
@@ -24,7 +25,8 @@ pub(crate) fn pass(checker: &mut Checker<'_>, expr: &Expr) -> Result<Outcome, Me
 // The same of items. `Memory`: want of memory.
 pub(crate) fn pass_items(checker: &mut Checker<'_>, items: &Exprs) -> Result<Outcome, Memory>
     ensures { IfOk result (λ outcome. HasJudged checker.old checker.new outcome
-        (record (unreached_parts (in_exprs (exprs_of items.now)) (closures_in_exprs (exprs_of items.now))) { ok = checker.old.state.known })) }
+        (record (unreached_parts (nulls (in_exprs (exprs_of items.now))) (closures_in_exprs (exprs_of items.now)))
+        { ok = checker.old.state.known })) }
 {
     empties::add_exprs(items, &mut checker.empties)?;
     loops::add_exprs(items, &mut checker.loops)?;

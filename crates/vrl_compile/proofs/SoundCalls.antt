@@ -8,7 +8,7 @@ use Rattle.vrl_value.specs.View.{items_of_trees}
 use Rattle.vrl_value.specs.declared.value.Tag.{Tag}
 use Rattle.vrl_diag.specs.declared.diagnostic.Diagnostic.{Diagnostic}
 use Rattle.vrl_diag.specs.declared.diagnostic.Span.{Span}
-use Rattle.vrl_syntax.specs.ErrorAssignments.{behind_args, in_closure}
+use Rattle.vrl_syntax.specs.ErrorAssignments.{behind_args}
 use Rattle.vrl_syntax.specs.Tree.{Args, Closure, call}
 use Rattle.vrl_kind.specs.Canonical.{never_kind}
 use Rattle.vrl_kind.specs.KindTree.{KindTree}
@@ -26,7 +26,7 @@ use Rattle.vrl_store.specs.Places.{is_within}
 use Rattle.vrl_store.specs.WellFormed.{AreWellFormedArgs, IsWellFormedStore}
 use Rattle.vrl_judge.specs.Rules.{Argument, Judgement, at, banged, gives, if_state, with_codes}
 use Rattle.vrl_check.specs.Determined.{HasCause}
-use Rattle.vrl_check.specs.Judgement.{IsAnswered, IsAnsweredUnless, behind_arguments, bound, nulls, of_call, of_closure, places_in, some_has_others, wants_literal}
+use Rattle.vrl_check.specs.Judgement.{IsAnswered, IsAnsweredUnless, behind_arguments, bound, of_call, of_closure, places_in, some_has_others, wants_literal}
 use Rattle.vrl_resolve.specs.Calls.{acts, answer_outcome, argument_in, called, callee_of, first_unfit, fit_or_else, items_in, within_limit}
 use Rattle.vrl_resolve.specs.Meaning.{eval_args, eval_body, eval_form}
 use Rattle.vrl_compile.specs.Sound.{HasNoError, IsSoundEnd, IsSoundOutcome}
@@ -125,10 +125,10 @@ as_answered : (sources : List (List ℕ)) (r : Row) (js : List Argument) (K : Ki
 as_answered sources r js K fails true b places clean found told = absurd (true≢false clean)
 as_answered sources r js K fails false b places clean found told = subst (λ x. IsAnswered sources r (bound (places_in x) js) K fails) found told
 
-module _ (laws : Laws) (setting : SettingTree) (known : RootMap) (span s : Span) (f : Fun) (name : List ℕ) (bang : Bool) (gs : Args) (c : Closure) (js : List Argument) (j : Judgement) (K : KindTree) (fails : Bool) (fail : Option RootMap)
+module _ (laws : Laws) (setting : SettingTree) (known : RootMap) (span s : Span) (f : Fun) (name : List ℕ) (bang : Bool) (gs : Args) (c : Closure) (tags : List Tag) (js : List Argument) (j : Judgement) (K : KindTree) (fails : Bool) (fail : Option RootMap)
     (named : (row_of f).name ≡ name) (arguments : AreSoundArguments setting (gives never_kind (Some known)) gs js j) where
   abbrev behind_them : Judgement
-  behind_them = behind_arguments (wants_literal (row_of f)) (row_of f).parameters span gs c js j
+  behind_them = behind_arguments (wants_literal (row_of f)) (row_of f).parameters span gs c tags js j
 
   abbrev IsTold : Judgement → Type 0
   IsTold k = IsAnsweredUnless k.poisoned setting.sources (row_of f) (bound (places_in (binding (row_of f).parameters (keywords_of gs))) js) K fails
@@ -140,20 +140,19 @@ module _ (laws : Laws) (setting : SettingTree) (known : RootMap) (span s : Span)
       let codes = no_error_parts j.codes (of_call (wants_literal (row_of f)) (row_of f).parameters span c js (binding (row_of f).parameters (keywords_of gs))) clean.codes in
       let b = call_is_bound (wants_literal (row_of f)) (row_of f).parameters (keywords_of gs) span (of_closure span c) js (binding (row_of f).parameters (keywords_of gs)) refl (arguments_counted arguments) codes.1 in
       let answered : IsAnswered setting.sources (row_of f) (bound b.places js) K fails = as_answered setting.sources (row_of f) js K fails behind_them.poisoned (binding (row_of f).parameters (keywords_of gs)) b.places clean.sound b.found told in
-      let tags = nulls (in_closure c) in
       sound_call laws setting known span s name bang gs c js j whole tags rest arguments codes.0 well.0 (record { fail = left_joins laws j.fail (if_state fails j.ok) fail joined; returns = returns_alike j whole refl refl }) refl
       (λ vs end are there formed.
       subst (λ callee. IsSoundEnd whole (acts setting callee (eval_body setting (tags ++ rest) c) (items_of_trees vs) end)) (sym (ap (callee_of name gs) (closure_told span c b.closure) ∙ function_called laws f name gs js b.places named (arguments_written arguments) b.found b.written))
       (called_is_sound laws behind_them K fails fail joined setting f js vs (of_closure span c) (keywords_of gs) b answered are end there))
       store stored fits
 
-pub call_is_sound : Laws → (setting : SettingTree) (known : RootMap) (span s : Span) (f : Fun) (name : List ℕ) (bang : Bool) (gs : Args) (c : Closure) (js : List Argument) (j whole : Judgement) (K : KindTree) (fails : Bool) (fail : Option RootMap)
-    → (row_of f).name ≡ name → AreSoundArguments setting (gives never_kind (Some known)) gs js j → whole ≡ behind_arguments (wants_literal (row_of f)) (row_of f).parameters span gs c js j
+pub call_is_sound : Laws → (setting : SettingTree) (known : RootMap) (span s : Span) (f : Fun) (name : List ℕ) (bang : Bool) (gs : Args) (c : Closure) (tags : List Tag) (js : List Argument) (j whole : Judgement) (K : KindTree) (fails : Bool) (fail : Option RootMap)
+    → (row_of f).name ≡ name → AreSoundArguments setting (gives never_kind (Some known)) gs js j → whole ≡ behind_arguments (wants_literal (row_of f)) (row_of f).parameters span gs c tags js j
     → IsAnsweredUnless whole.poisoned setting.sources (row_of f) (bound (places_in (binding (row_of f).parameters (keywords_of gs))) js) K fails → IsJoined whole.fail (if_state fails whole.ok) fail → HasCause (banged span bang (record whole { kind = K; fail = fail }))
     → IsSoundForm setting known (call name s bang gs c) (banged span bang (record whole { kind = K; fail = fail }))
-call_is_sound laws setting known span s f name bang gs c js j whole K fails fail named arguments is told joined cause =
+call_is_sound laws setting known span s f name bang gs c tags js j whole K fails fail named arguments is told joined cause =
     subst (λ w. IsSoundForm setting known (call name s bang gs c) (banged span bang (record w { kind = K; fail = fail }))) (sym is)
-    (function_is_sound laws setting known span s f name bang gs c js j K fails fail named arguments
+    (function_is_sound laws setting known span s f name bang gs c tags js j K fails fail named arguments
     (subst (λ w. IsAnsweredUnless w.poisoned setting.sources (row_of f) (bound (places_in (binding (row_of f).parameters (keywords_of gs))) js) K fails) is told)
     (subst (λ w. IsJoined w.fail (if_state fails w.ok) fail) is joined) (subst (λ w. HasCause (banged span bang (record w { kind = K; fail = fail }))) is cause))
 

@@ -92,9 +92,9 @@ bound_path_call setting known span gs c js j none b one = record {
   holds = λ well store stored fits. one.sound (no_error_behind (gives never_kind (Some known)) one.k j one.then.behind none).1 (subst (AreWellFormedArgs (length setting.sources)) one.gs_are well).0 [] store stored fits;
 }
 
-path_call : (setting : SettingTree) (known : RootMap) (span : Span) (gs : Args) (c : Closure) (js : List Argument) (j : Judgement) → AreSoundArguments setting (gives never_kind (Some known)) gs js j
-    → HasNoError (behind_arguments wants_path path_parameters span gs c js j).codes → IsPathCall setting known gs c js j
-path_call setting known span gs c js j arguments none =
+path_call : (setting : SettingTree) (known : RootMap) (span : Span) (gs : Args) (c : Closure) (tags : List Tag) (js : List Argument) (j : Judgement) → AreSoundArguments setting (gives never_kind (Some known)) gs js j
+    → HasNoError (behind_arguments wants_path path_parameters span gs c tags js j).codes → IsPathCall setting known gs c js j
+path_call setting known span gs c tags js j arguments none =
     let codes = no_error_parts j.codes (of_call wants_path path_parameters span c js (binding path_parameters (keywords_of gs))) none in
     let b = call_is_bound wants_path path_parameters (keywords_of gs) span (of_closure span c) js (binding path_parameters (keywords_of gs)) refl (arguments_counted arguments) codes.1 in
     let the_one = one_bound b.places js b.counted b.few b.present b.written in
@@ -132,13 +132,13 @@ path_deleted laws setting known tags name gs c js j whole ok path named clean kn
     (deletion_ends laws setting tags (one.k.empties ++ []) name one.name one.span one.e one.k all path.places store one.path named path.found (path.holds well store stored fits) same_kind
     (subst (λ before. IsDeletedAt (path_of one.e) before ok) (known_there ∙ path.ok) (subst (λ p. IsDeletedAt p whole.ok ok) same_path deleted)))
 
-pub deletion_is_sound : Laws → (setting : SettingTree) (known : RootMap) (span s : Span) (name : List ℕ) (bang : Bool) (gs : Args) (c : Closure) (js : List Argument) (j whole : Judgement) (ok : Option RootMap) → is_del name ≡ true
-    → AreSoundArguments setting (gives never_kind (Some known)) gs js j → whole ≡ behind_arguments wants_path path_parameters span gs c js j → IsDeletedAt (deleted_path whole.poisoned js) whole.ok ok
+pub deletion_is_sound : Laws → (setting : SettingTree) (known : RootMap) (span s : Span) (name : List ℕ) (bang : Bool) (gs : Args) (c : Closure) (passed : List Tag) (js : List Argument) (j whole : Judgement) (ok : Option RootMap) → is_del name ≡ true
+    → AreSoundArguments setting (gives never_kind (Some known)) gs js j → whole ≡ behind_arguments wants_path path_parameters span gs c passed js j → IsDeletedAt (deleted_path whole.poisoned js) whole.ok ok
     → HasCause (banged span bang (record whole { kind = deleted_kind whole.poisoned js; ok = ok })) → IsSoundForm setting known (call name s bang gs c) (banged span bang (record whole { kind = deleted_kind whole.poisoned js; ok = ok }))
-deletion_is_sound laws setting known span s name bang gs c js j whole ok named arguments is deleted cause none well rest store stored fits =
+deletion_is_sound laws setting known span s name bang gs c passed js j whole ok named arguments is deleted cause none well rest store stored fits =
     let all = record whole { kind = deleted_kind whole.poisoned js; ok = ok } in
     let clean = clean_call span bang all none (cause ∙ none) in
-    let path = path_call setting known span gs c js j arguments (ap (λ w. list_any is_error w.codes) (sym is) ∙ clean.codes) in
+    let path = path_call setting known span gs c passed js j arguments (ap (λ w. list_any is_error w.codes) (sym is) ∙ clean.codes) in
     let tags = (banged span bang all).empties ++ rest in
     sound_banged span bang all (run_call setting tags name gs c store) (path_deleted laws setting known tags name gs c js j whole ok path named clean.sound (ap (λ w. w.ok) is) deleted well.0 store stored fits)
 
@@ -151,13 +151,13 @@ existence_ends laws setting tags others name keyword span (expr place (read root
     (of_scalars laws.cuts (boolean (is_there root path store)) (only tag.Bool) whole.kind scalar (λ s. refl) refl, subst (FitsKnown store) (sym ok) holds.1)
 existence_ends laws setting tags others name keyword span (expr place f) k whole places store written named found holds scalar ok = absurd (false≢true written)
 
-pub existence_is_sound : Laws → (setting : SettingTree) (known : RootMap) (span s : Span) (name : List ℕ) (bang : Bool) (gs : Args) (c : Closure) (js : List Argument) (j whole : Judgement) (K : KindTree) → is_exists name ≡ true
-    → AreSoundArguments setting (gives never_kind (Some known)) gs js j → whole ≡ behind_arguments wants_path path_parameters span gs c js j → IsScalar tag.Bool K
+pub existence_is_sound : Laws → (setting : SettingTree) (known : RootMap) (span s : Span) (name : List ℕ) (bang : Bool) (gs : Args) (c : Closure) (passed : List Tag) (js : List Argument) (j whole : Judgement) (K : KindTree) → is_exists name ≡ true
+    → AreSoundArguments setting (gives never_kind (Some known)) gs js j → whole ≡ behind_arguments wants_path path_parameters span gs c passed js j → IsScalar tag.Bool K
     → HasCause (banged span bang (record whole { kind = K })) → IsSoundForm setting known (call name s bang gs c) (banged span bang (record whole { kind = K }))
-existence_is_sound laws setting known span s name bang gs c js j whole K named arguments is scalar cause none well rest store stored fits =
+existence_is_sound laws setting known span s name bang gs c passed js j whole K named arguments is scalar cause none well rest store stored fits =
     let all = record whole { kind = K } in
     let clean = clean_call span bang all none (cause ∙ none) in
-    let path = path_call setting known span gs c js j arguments (ap (λ w. list_any is_error w.codes) (sym is) ∙ clean.codes) in
+    let path = path_call setting known span gs c passed js j arguments (ap (λ w. list_any is_error w.codes) (sym is) ∙ clean.codes) in
     let one = path.one in
     let tags = (banged span bang all).empties ++ rest in
     sound_banged span bang all (run_call setting tags name gs c store)

@@ -93,6 +93,11 @@ module _ (laws : Laws) (setting : SettingTree) (b : ClosureBody) (begin : Option
   pub runs_keep : (vss : List (List Tree)) (store after : Store) → AreRunWith count b vss → IsWellFormedStore count store → FitsKnown store begin → RunsTo body vss store after → FitsKnown after loop.known
   runs_keep vss store after are stored fits ran = ran_to body one_run ran are stored (sound.begins store fits)
 
+-- the first of them
+pub first_run_with : (n : ℕ) (b : ClosureBody) (vss others : List (List Tree)) → AreRunWith n b (vss ++ others) → AreRunWith n b vss
+first_run_with n b [] others are = tt
+first_run_with n b (vs ∷ vss) others are = (are.0, first_run_with n b vss others are.1)
+
 -- values for the names, given for each run
 pub all_run_with : (count : ℕ) (b : ClosureBody) (vss : List (List Tree)) → (vss ≢ [] → b.runs ≡ true) → All (λ vs. AreOfKinds vs b.kinds) vss → All (AreWellFormed count) vss → AreRunWith count b vss
 all_run_with count b [] possible kinds well = tt

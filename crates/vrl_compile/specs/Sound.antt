@@ -1,25 +1,31 @@
 -- Soundness: what the judgement says holds of the meaning. This is the Vector Remap Language's claim that a program that compiles
 -- handles each of its errors.
-use Rattle.std.specs.Prelude.{◌≡◌, ◌≢◌, ℤ, Bool, true, false, List, [], ◌∷◌, ◌++◌, All, Option, ⊤, length}
+use Rattle.std.specs.Prelude.{◌≡◌, ◌≢◌, ℕ, ℤ, Bool, true, false, List, [], ◌∷◌, ◌++◌, All, Option, ⊤, length}
 use Rattle.std.specs.List.{list_any}
+use Rattle.vrl_value.specs.Tag.{tag_of}
 use Rattle.vrl_value.specs.Tree.{Tree}
 use Rattle.vrl_value.specs.declared.value.Tag.{Tag}
 use Rattle.vrl_diag.specs.declared.diagnostic.Diagnostic.{Diagnostic}
 use Rattle.vrl_diag.specs.declared.diagnostic.Span.{Span}
 use Rattle.vrl_syntax.specs.Tree.{closure, Expr, Exprs}
+use Rattle.vrl_syntax.specs.declared.call_form.CallForm.{CallForm}
 use Rattle.vrl_kind.specs.KindTree.{KindTree}
 use Rattle.vrl_kind.specs.Kinds.{Inhabits}
-use Rattle.vrl_state.specs.States.{RootMap}
+use Rattle.vrl_kind.specs.PartSets.{parts_at}
+use Rattle.vrl_state.specs.States.{IsCutOf, RootMap}
 use Rattle.vrl_state.specs.Stores.{AreOfKinds, FitsKnown, Store}
 use Rattle.vrl_builtin.specs.Rows.{SettingTree}
+use Rattle.vrl_builtin.specs.TagSets.{allows}
+use Rattle.vrl_binding.specs.Binding.{collections}
 use Rattle.vrl_store.specs.Outcomes.{Outcome, value, error, returned, Ended}
 use Rattle.vrl_store.specs.WellFormed.{AreWellFormed, IsWellFormed, IsWellFormedExpr, AreWellFormedExprs, IsWellFormedStore}
 use Rattle.vrl_diag.specs.Refusal.{is_error}
-use Rattle.vrl_judge.specs.Closures.{ClosureBody}
-use Rattle.vrl_judge.specs.Rules.{Judgement, Loop}
-use Rattle.vrl_check.specs.Judgement.{Judges, JudgesRuns, JudgesScript}
+use Rattle.vrl_judge.specs.Closures.{ClosureBody, key_tags}
+use Rattle.vrl_judge.specs.Rules.{Judgement, Loop, scalars_at}
+use Rattle.vrl_check.specs.Judgement.{IsCutDown, Judges, JudgesRuns, JudgesScript, body_of}
 use Rattle.vrl_check.specs.OpenRules.{GiveWhatHolds, OpenRules}
 use Rattle.vrl_resolve.specs.Calls.{Body}
+use Rattle.vrl_resolve.specs.Iteration.{given_by}
 use Rattle.vrl_resolve.specs.Meaning.{eval, eval_body, run_script}
 
 -- none of the codes is an error
@@ -63,13 +69,34 @@ pub data RunsTo (body : Body) : List (List Tree) → Store → Store → Type 0 
       → body vs store ≡ record { outcome = value v; store = between } → RunsTo body vss between after
       → RunsTo body (vs ∷ vss) store after
 
--- The store before each run of a closure's body fits what is known there, however many runs there were. It is run for parts that the collection may have, with
--- values of the kinds of its names, and with the tags of its own empty values. So it is of whatever is known that what is known where the call begins to run
--- the body is within, and that the body keeps: whether a try gave it, or the rules allow it.
-abbrev pub ClosuresAreSound : Type 0
-ClosuresAreSound = (moment : ℤ) (rules : OpenRules) → GiveWhatHolds rules → (b : ClosureBody) (span : Span) (begin : Option RootMap) (loop : Loop) (j : Judgement) → JudgesRuns rules b begin loop j → HasNoError j.codes → AreWellFormedExprs (length rules.sources) b.items
-    → (rest : List Tag) (vss : List (List Tree)) (store after : Store) → (vss ≢ [] → b.runs ≡ true) → All (λ vs. AreOfKinds vs b.kinds) vss → All (AreWellFormed (length rules.sources)) vss → IsWellFormedStore (length rules.sources) store → FitsKnown store begin
-    → RunsTo (eval_body (setting_of moment rules) (j.empties ++ rest) (closure b.names b.items span)) vss store after → FitsKnown after loop.known
+-- the store before each run of a closure's body fits what is known there, however many runs there were
+pub record ClosuresAreSound : Type 0 where
+  -- It is so where the body is run for parts that the collection may have, with values of the kinds of its names, and
+  -- with the tags of its own empty values. And it is so of whatever is known that what is known where the call begins
+  -- to run the body is within, and that the body keeps: whether a try gave it, or the rules allow it.
+  pub runs : (moment : ℤ) (rules : OpenRules) → GiveWhatHolds rules
+      → (b : ClosureBody) (span : Span) (begin : Option RootMap) (loop : Loop) (j : Judgement)
+      → JudgesRuns rules b begin loop j → HasNoError j.codes → AreWellFormedExprs (length rules.sources) b.items
+      → (rest : List Tag) (vss : List (List Tree)) (store after : Store)
+      → (vss ≢ [] → b.runs ≡ true)
+      → All (λ vs. AreOfKinds vs b.kinds) vss → All (AreWellFormed (length rules.sources)) vss
+      → IsWellFormedStore (length rules.sources) store → FitsKnown store begin
+      → RunsTo (eval_body (setting_of moment rules) (j.empties ++ rest) (closure b.names b.items span)) vss store after
+      → FitsKnown after loop.known
+  -- So it is of a call of a function that takes a closure. Its argument is of the kind K, which is cut down to the tags
+  -- of a collection, as C; its names stand for keys and parts of that. The argument's value is a collection, and the
+  -- body is run for the first parts of it, or for all.
+  pub calls : (moment : ℤ) (rules : OpenRules) → GiveWhatHolds rules
+      → (f : CallForm) (names : List (List ℕ)) (es : Exprs) (K C key part : KindTree)
+      → IsCutDown (collections f) K C → IsCutOf (scalars_at (key_tags C)) key → IsCutOf (parts_at C) part
+      → (span : Span) (begin : Option RootMap) (loop : Loop) (j : Judgement)
+      → JudgesRuns rules (body_of f names es key part) begin loop j → HasNoError j.codes
+      → AreWellFormedExprs (length rules.sources) es
+      → (v : Tree) → Inhabits v K → allows (collections f) (tag_of v) ≡ true → IsWellFormed (length rules.sources) v
+      → (rest : List Tag) (vss others : List (List Tree)) (store after : Store)
+      → given_by f v ≡ vss ++ others → IsWellFormedStore (length rules.sources) store → FitsKnown store begin
+      → RunsTo (eval_body (setting_of moment rules) (j.empties ++ rest) (closure names es span)) vss store after
+      → FitsKnown after loop.known
 
 -- ---- scripts
 

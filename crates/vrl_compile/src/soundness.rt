@@ -49,8 +49,9 @@ pub fn expressions_are_sound()
     lower_laws();
 }
 
-/// What is known before each run of a closure's body holds there, however many runs there were. This takes no time: it is a law about the
-/// definitions.
+/// What is known before each run of a closure's body holds there, however many runs there were: for any parts that the
+/// collection may have, and so for those of each value that the argument of its call may have. This takes no time: it
+/// is a law about the definitions.
 pub fn closures_are_sound()
     ensures { ClosuresAreSound }
 {

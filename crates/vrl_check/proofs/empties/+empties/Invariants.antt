@@ -1,7 +1,7 @@
 use Rattle.std.proofs.Common.{◌≡◌, ◌≤◌, ◌+◌, ◌*◌, ◌++◌, drop, option_map}
 use Rattle.vrl_syntax.specs.ErrorAssignments.{in_args, in_arms, in_exprs, in_pairs}
 use Rattle.vrl_syntax.specs.View.{args_of, args_view, arms_of, arms_view, call_of, closure_in, closure_of, expr_of, exprs_of, exprs_view, pairs_of, pairs_view}
-use Rattle.vrl_check.specs.Judgement.{nulls}
+use Rattle.vrl_check.specs.Walking.{nulls}
 use Rattle.vrl_syntax.proofs.PartSizes.{args_size, arms_size, closure_size, expr_size, exprs_size, form_size, pairs_size}
 use Rattle.vrl_check.proofs.empties.+empties.Given as goal
 
