@@ -1,4 +1,5 @@
--- No code stands twice at one place: a script whose parts stand at places of their own has no judgement with two equal codes.
+-- No code stands twice at one place: a script whose parts stand at places of their own has no
+-- judgement with two equal codes.
 use Rattle.std.specs.Prelude.{ℕ, ◌+◌, ◌≤◌, Bool, true, false, ◌&&◌, List, [], ◌∷◌, nat_eq}
 use Rattle.vrl_diag.specs.declared.diagnostic.Diagnostic.{Diagnostic}
 use Rattle.vrl_diag.specs.declared.diagnostic.Span.{Span}
@@ -22,7 +23,8 @@ abbrev pub times : ℕ → Span → List Diagnostic → ℕ
 times code span [] = 0
 times code span (d ∷ ds) = one_if (nat_eq d.code code && same_span d.span span) + times code span ds
 
--- what each expression, each name of a call, each argument, and each closure's block counts, by its place
+-- what each expression, each name of a call, each argument, and each closure's block counts, by its
+-- place
 pub record Weights : Type 0 where
   pub expression : Span → ℕ
   pub name : Span → ℕ
@@ -91,8 +93,8 @@ at_place span s = one_if (same_span s span)
 abbrev pub nowhere : Span → ℕ
 nowhere s = 0
 
--- how many expressions stand at a place, how many calls have their name there, how many arguments stand there, from their keyword on, and how many
--- blocks of closures
+-- how many expressions stand at a place, how many calls have their name there, how many arguments
+-- stand there, from their keyword on, and how many blocks of closures
 abbrev pub nothing_weighs : Weights
 nothing_weighs = record { expression = nowhere; name = nowhere; argument = nowhere; closure_block = nowhere }
 
@@ -108,13 +110,16 @@ arguments_at span es = weigh_exprs (record nothing_weighs { argument = at_place 
 abbrev pub closure_blocks_at : Span → Exprs → ℕ
 closure_blocks_at span es = weigh_exprs (record nothing_weighs { closure_block = at_place span }) es
 
--- no two expressions stand at one place, nor two names of calls, nor two arguments, nor two blocks of closures
+-- no two expressions stand at one place, nor two names of calls, nor two arguments, nor two blocks
+-- of closures
 pub record AreApart (items : Exprs) : Type 0 where
   pub expressions : (span : Span) → expressions_at span items ≤ 1
   pub names : (span : Span) → names_at span items ≤ 1
   pub arguments : (span : Span) → arguments_at span items ≤ 1
   pub closure_blocks : (span : Span) → closure_blocks_at span items ≤ 1
 
--- in a judgement of a script whose parts stand apart no code stands twice at one place, whatever the open rules are
+-- in a judgement of a script whose parts stand apart no code stands twice at one place, whatever
+-- the open rules are
 abbrev pub NoCodeStandsTwice : Type 0
-NoCodeStandsTwice = (rules : OpenRules) (start : KindTree) (items : Exprs) (j : Judgement) → AreApart items → JudgesScript rules start items j → (code : ℕ) (span : Span) → times code span j.codes ≤ 1
+NoCodeStandsTwice = (rules : OpenRules) (start : KindTree) (items : Exprs) (j : Judgement) → AreApart items
+    → JudgesScript rules start items j → (code : ℕ) (span : Span) → times code span j.codes ≤ 1

@@ -102,21 +102,28 @@ abbrev pub AreRootKinds : List Argument → Type 0
 AreRootKinds [] = ⊤
 AreRootKinds (g ∷ js) = IsRootKind g.judged.kind × AreRootKinds js
 
-pub record HasArguments (before after : Checker) (gs : Args) (arguments : Arguments) (js : List Argument) (j : Judgement) : Type 0 where
+pub record HasArguments (before after : Checker) (gs : Args) (arguments : Arguments) (js : List Argument)
+    (j : Judgement) : Type 0 where
   pub told : AreTold gs arguments.parts.items js
   pub roots : AreRootKinds js
   pub ends : HasEnds before.state.scopes arguments.ends j
   pub gathered : HasGathered before after j
 
 abbrev pub AreArgumentsAs : Args → Checker → Checker → Arguments → Type 0
-AreArgumentsAs gs before after arguments = (js : List Argument) × (j : Judgement) × JudgesArguments (language_rules before.patterns.now) before.inside (gives never_kind before.state.known) gs js j × HasArguments before after gs arguments js j
+AreArgumentsAs gs before after arguments = (js : List Argument) × (j : Judgement)
+    × JudgesArguments (language_rules before.patterns.now) before.inside (gives never_kind before.state.known) gs js j
+    × HasArguments before after gs arguments js j
 
 -- ---- the call, behind them
 
 abbrev pub IsCalledAs : Span → Form → Args → Arguments → Checker → Checker → Outcome → Type 0
-IsCalledAs span f gs arguments now after outcome = (before : Checker) (known : RootMap) (js : List Argument) (j : Judgement)
-    → before.state.known ≡ Some known → JudgesArguments (language_rules before.patterns.now) before.inside (gives never_kind (Some known)) gs js j → HasArguments before now gs arguments js j
-    → (k : Judgement) × Gives (language_rules before.patterns.now) before.inside known span f k × HasJudged before after outcome k
+IsCalledAs span f gs arguments now after outcome =
+    (before : Checker) (known : RootMap) (js : List Argument) (j : Judgement)
+    → before.state.known ≡ Some known
+    → JudgesArguments (language_rules before.patterns.now) before.inside (gives never_kind (Some known)) gs js j
+    → HasArguments before now gs arguments js j
+    → (k : Judgement) × Gives (language_rules before.patterns.now) before.inside known span f k
+    × HasJudged before after outcome k
 
 -- behind its closure, which isn't judged
 abbrev pub IsPassed : Checker → Checker → Args → Closure → Arguments → List Argument → Judgement → Type 0
@@ -124,9 +131,13 @@ IsPassed before now gs c arguments js j =
     HasArguments before now gs arguments js (passing_closure c (nulls (in_closure c)) j)
 
 abbrev pub IsPassedCallAs : Span → Form → Args → Closure → Arguments → Checker → Checker → Outcome → Type 0
-IsPassedCallAs span f gs c arguments now after outcome = (before : Checker) (known : RootMap) (js : List Argument) (j : Judgement)
-    → before.state.known ≡ Some known → JudgesArguments (language_rules before.patterns.now) before.inside (gives never_kind (Some known)) gs js j → IsPassed before now gs c arguments js j
-    → (k : Judgement) × Gives (language_rules before.patterns.now) before.inside known span f k × HasJudged before after outcome k
+IsPassedCallAs span f gs c arguments now after outcome =
+    (before : Checker) (known : RootMap) (js : List Argument) (j : Judgement)
+    → before.state.known ≡ Some known
+    → JudgesArguments (language_rules before.patterns.now) before.inside (gives never_kind (Some known)) gs js j
+    → IsPassed before now gs c arguments js j
+    → (k : Judgement) × Gives (language_rules before.patterns.now) before.inside known span f k
+    × HasJudged before after outcome k
 
 -- ---- its codes
 
@@ -137,7 +148,8 @@ of_code (Some code) span = at code span
 
 -- the call's own codes
 abbrev pub callee_codes : Callee → Span → Args → Closure → List Argument → List Diagnostic
-callee_codes f span gs c js = own_codes (callee_wants f) (callee_parameters f) span (callee_closure f span c) js (binding (callee_parameters f) (keywords_of gs))
+callee_codes f span gs c js = own_codes (callee_wants f) (callee_parameters f) span (callee_closure f span c) js
+    (binding (callee_parameters f) (keywords_of gs))
 
 -- the arguments with the call's own codes
 abbrev pub with_call_codes : Callee → Span → Args → Closure → List Argument → Judgement → Judgement
@@ -145,13 +157,20 @@ with_call_codes f span gs c js j =
     with_codes (callee_codes f span gs c js) (passing_closure c (nulls (in_closure c)) j)
 
 -- what the call gives then, but for its `!`
-abbrev pub IsBoundCallAs : Callee → Span → Form → Bool → Args → Closure → Arguments → Checker → Checker → Outcome → Type 0
-IsBoundCallAs named span f bang gs c arguments now after outcome = (before : Checker) (known : RootMap) (js : List Argument) (j : Judgement)
-    → before.state.known ≡ Some known → JudgesArguments (language_rules before.patterns.now) before.inside (gives never_kind (Some known)) gs js j → HasArguments before now gs arguments js (with_call_codes named span gs c js j)
-    → (k : Judgement) × Gives (language_rules before.patterns.now) before.inside known span f (banged span bang k) × HasJudged before after outcome k
+abbrev pub IsBoundCallAs : Callee → Span → Form → Bool → Args → Closure → Arguments → Checker → Checker → Outcome
+    → Type 0
+IsBoundCallAs named span f bang gs c arguments now after outcome =
+    (before : Checker) (known : RootMap) (js : List Argument) (j : Judgement)
+    → before.state.known ≡ Some known
+    → JudgesArguments (language_rules before.patterns.now) before.inside (gives never_kind (Some known)) gs js j
+    → HasArguments before now gs arguments js (with_call_codes named span gs c js j)
+    → (k : Judgement) × Gives (language_rules before.patterns.now) before.inside known span f (banged span bang k)
+    × HasJudged before after outcome k
 
--- arguments that are bound so were judged in some way, and where no error code stands on the call, none of its own does
-pub record HasCodes (named : Callee) (gs : Args) (c : Closure) (arguments : Arguments) (places : List (Option ℕ)) : Type 0 where
+-- arguments that are bound so were judged in some way, and where no error code stands on the call,
+-- none of its own does
+pub record HasCodes (named : Callee) (gs : Args) (c : Closure) (arguments : Arguments)
+    (places : List (Option ℕ)) : Type 0 where
   pub js : List Argument
   pub told : AreTold gs arguments.parts.items js
   pub places_are : places ≡ places_in (binding (callee_parameters named) (keywords_of gs))
@@ -160,14 +179,16 @@ pub record HasCodes (named : Callee) (gs : Args) (c : Closure) (arguments : Argu
 
 -- ---- what is called
 
--- a function may be asked about arguments that are bound so: they were judged in some way, and what is known of them is allowed
+-- a function may be asked about arguments that are bound so: they were judged in some way, and what
+-- is known of them is allowed
 pub record MayBeAsked (r : Row) (gs : Args) (parts : List CodeArgument) (places : List (Option ℕ)) : Type 0 where
   pub js : List Argument
   pub told : AreTold gs parts js
   pub allowed : (givens : List GivenTree) → AreAskedAbout r.parameters (bound places js) givens → AreGiven r givens
 
 -- a function is asked about arguments without code
-pub record IsAnsweredAs (function : Fun) (js : List (Option Argument)) (ends : Ends) (before : Checker) (outcome : Outcome) : Type 0 where
+pub record IsAnsweredAs (function : Fun) (js : List (Option Argument)) (ends : Ends) (before : Checker)
+    (outcome : Outcome) : Type 0 where
   pub fails : Bool
   pub answered : IsAnsweredUnless ends.poisoned before.patterns.now (row_of function) js outcome.kind fails
   pub root : IsRootKind outcome.kind

@@ -1,4 +1,5 @@
--- What the walk gives of a closure: of its body once, of a try at it, of all tries and runs, and of the call behind its argument.
+-- What the walk gives of a closure: of its body once, of a try at it, of all tries and runs, and of
+-- the call behind its argument.
 use Rattle.std.specs.Prelude.{◌≡◌, ℕ, Bool, List, [], ◌∷◌, length, All, Option}
 use Rattle.vrl_diag.specs.declared.diagnostic.Span.{Span}
 use Rattle.vrl_syntax.specs.Tree.{Args, Exprs}
@@ -59,7 +60,8 @@ pub record BodyCanBeJudged (sources : List (List ℕ)) (c : CodeClosure) (Ks : L
 
 -- the body once
 abbrev pub IsBodyAs : ClosureBody → Checker → Checker → Outcome → Type 0
-IsBodyAs b before after outcome = (j : Judgement) × JudgesBody (language_rules before.patterns.now) b before.state.known j × HasJudged before after outcome j
+IsBodyAs b before after outcome = (j : Judgement)
+    × JudgesBody (language_rules before.patterns.now) b before.state.known j × HasJudged before after outcome j
 
 -- as much was gathered at both places, in the same scopes; another state may be known
 pub record StandAlike (before after : Checker) : Type 0 where
@@ -109,15 +111,18 @@ IsTriedFrom f held start part now after (tried.Stable run) = IsTaken f start par
 IsTriedFrom f held start part now after (tried.Unstable behind) = IsLetGo held start now after behind
 
 -- the tries from one on, at which this is known
-pub record AreTries (f : CallForm) (b : ClosureBody) (try : Try) (known : Option RootMap) (before after : Checker) (run : Run) : Type 0 where
+pub record AreTries (f : CallForm) (b : ClosureBody) (try : Try) (known : Option RootMap) (before after : Checker)
+    (run : Run) : Type 0 where
   pub last : Option RootMap
   pub k : Judgement
   pub tries : JudgesTries (language_rules before.patterns.now) b try known last k
   pub judged : HasJudged before after run.outcome (record k { ok = last })
   pub wrong : run.wrong ≡ is_wrong_body f k
 
--- the same behind a first try that isn't stable, behind whose body this is known, and behind a second
-pub record AreTriesBehind (f : CallForm) (b : ClosureBody) (behind : Option RootMap) (before after : Checker) (run : Run) : Type 0 where
+-- the same behind a first try that isn't stable, behind whose body this is known, and behind a
+-- second
+pub record AreTriesBehind (f : CallForm) (b : ClosureBody) (behind : Option RootMap) (before after : Checker)
+    (run : Run) : Type 0 where
   pub next : Option RootMap
   pub is_next : IsNextTry first_try b before.state.known behind next
   pub others : AreTries f b second_try next before after run
@@ -149,13 +154,15 @@ pub record AreNameKinds (f : CallForm) (C : KindTree) (Ks : List KindTree) (runs
   pub possible : runs ≡ is_possible value
 
 -- what is taken of an argument of this kind
-pub record IsCollection (f : CallForm) (K : KindTree) (now : Checker) (arguments : Arguments) (taken : Collection) : Type 0 where
+pub record IsCollection (f : CallForm) (K : KindTree) (now : Checker) (arguments : Arguments)
+    (taken : Collection) : Type 0 where
   pub kind : IsCutDown (collections f) K taken.kind
   pub fail : taken.fail ≡ way now.state.scopes (if_state (has_others (collections f) K) now.state.known)
   pub ends : taken.ends ≡ arguments.ends
 
 -- what a call makes of it behind the runs of its closure, but for its `!`
-pub record IsMadeOf (f : CallForm) (block : Span) (taken : Collection) (run : Run) (before after : Checker) (outcome : Outcome) : Type 0 where
+pub record IsMadeOf (f : CallForm) (block : Span) (taken : Collection) (run : Run) (before after : Checker)
+    (outcome : Outcome) : Type 0 where
   pub kind : IsCutOf (call_at f taken.kind run.outcome.kind) outcome.kind
   pub root : IsPresent taken.kind → IsRootKind outcome.kind
   pub both : Ends
@@ -167,7 +174,8 @@ pub record IsMadeOf (f : CallForm) (block : Span) (taken : Collection) (run : Ru
   pub reported : IsReported (when run.wrong (at 1015 block)) before after failing outcome.ends
 
 -- the call, whose argument was judged to be g, as `a_closure_call` asks for it
-pub record IsIterated (f : CallForm) (names : List (List ℕ)) (es : Exprs) (block : Span) (g : Argument) (j : Judgement) (before after : Checker) (outcome : Outcome) : Type 0 where
+pub record IsIterated (f : CallForm) (names : List (List ℕ)) (es : Exprs) (block : Span) (g : Argument) (j : Judgement)
+    (before after : Checker) (outcome : Outcome) : Type 0 where
   pub C : KindTree
   pub key : KindTree
   pub value : KindTree
@@ -187,4 +195,5 @@ pub record IsIterated (f : CallForm) (names : List (List ℕ)) (es : Exprs) (blo
 
 abbrev pub IsIteratedAs : CallForm → CodeClosure → Arguments → Checker → Checker → Outcome → Type 0
 IsIteratedAs f c arguments now after outcome = (before : Checker) (gs : Args) (g : Argument) (j : Judgement)
-    → HasArguments before now gs arguments (g ∷ []) j → IsIterated f (closure_names c) (closure_items c) (closure_span c) g j before after outcome
+    → HasArguments before now gs arguments (g ∷ []) j
+    → IsIterated f (closure_names c) (closure_items c) (closure_span c) g j before after outcome

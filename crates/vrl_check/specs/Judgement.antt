@@ -1,12 +1,13 @@
--- The judgement: what each form of the language gives in a state, before any event is there. The rules are those of the Vector
--- Remap Language, which refuses a script that leaves an error unhandled; the codes are those of its error reference, and some of
--- this project's own.
+-- The judgement: what each form of the language gives in a state, before any event is there. The
+-- rules are those of the Vector Remap Language, which refuses a script that leaves an error
+-- unhandled; the codes are those of its error reference, and some of this project's own.
 --
--- Each form names its four ends: what is known where it ends with a value, with an error and with a return, and the kind of what
--- is returned. In a dead state nothing can happen, and no code is given. Every kind is cut, and so is every join.
+-- Each form names its four ends: what is known where it ends with a value, with an error and with a
+-- return, and the kind of what is returned. In a dead state nothing can happen, and no code is
+-- given. Every kind is cut, and so is every join.
 --
--- The judgement is told for every way in which the open rules may be given; that of the language is the one at `language_rules`. `inside` says whether
--- the part stands in the body of a closure.
+-- The judgement is told for every way in which the open rules may be given; that of the language is
+-- the one at `language_rules`. `inside` says whether the part stands in the body of a closure.
 use Rattle.std.specs.Prelude.{◌≡◌, ◌≢◌, ◌↔◌, ℕ, suc, Bool, true, false, ◌||◌, ◌&&◌, not, List, [], ◌∷◌, ◌++◌, length, map as map_list, slice_get, Option, Some, None, is_some, IsTrue, if◌then◌else◌}
 use Rattle.std.specs.List.{list_all}
 use Rattle.std.specs.Option.{option_map_or}
@@ -50,7 +51,8 @@ use Rattle.vrl_binding.specs.declared.binding.BindFault.TheVariants as fault
 
 -- ---- what isn't judged
 
--- its empty values, one for each of so many error assignments: each has a tag that the rules allow for them
+-- its empty values, one for each of so many error assignments: each has a tag that the rules allow
+-- for them
 pub record AreUnjudged (rules : OpenRules) (assignments : ℕ) (tags : List Tag) : Type 0 where
   pub counted : length tags ≡ assignments
   pub allowed : list_all rules.unjudged tags ≡ true
@@ -103,12 +105,13 @@ predicate_of p j = with_codes (of_predicate (span_of p) j) j
 
 -- ---- calls
 
--- At most one code stands on an argument, the first of these: one that may fail is 630, one whose kind has no tag that the parameter
--- allows 110, and one that isn't written as it must be 1013.
+-- At most one code stands on an argument, the first of these: one that may fail is 630, one whose
+-- kind has no tag that the parameter allows 110, and one that isn't written as it must be 1013.
 abbrev pub of_argument : TagSet → Bool → Argument → List Diagnostic
 of_argument T unwritten a =
     if is_fallible a.judged then at 630 (span_of a.value) else
-    (if is_known a.judged && is_disjoint T a.judged.kind then at 110 (span_of a.value) else when unwritten (at 1013 (span_of a.value)))
+    (if is_known a.judged && is_disjoint T a.judged.kind then at 110 (span_of a.value)
+    else when unwritten (at 1013 (span_of a.value)))
 
 -- a parameter that wants a literal has none, or one that the function doesn't allow
 abbrev pub wants_literal : Row → ℕ → ParameterRow → Expr → Bool
@@ -126,7 +129,8 @@ of_found wants i p None = []
 of_found wants i p (Some g) = of_argument p.allowed (wants i p g.value) g
 
 -- the codes of bound arguments, by the parameters from a place on
-abbrev pub of_arguments : (ℕ → ParameterRow → Expr → Bool) → ℕ → List ParameterRow → List (Option Argument) → List Diagnostic
+abbrev pub of_arguments : (ℕ → ParameterRow → Expr → Bool) → ℕ → List ParameterRow → List (Option Argument)
+    → List Diagnostic
 of_arguments wants i [] js = []
 of_arguments wants i (p ∷ ps) [] = []
 of_arguments wants i (p ∷ ps) (g ∷ js) = of_found wants i p g ++ of_arguments wants (suc i) ps js
@@ -148,17 +152,21 @@ of_fault span js (fault.Unknown i) = of_unknown (slice_get js i)
 of_fault span js (fault.Missing i) = at 107 span
 of_fault span js fault.Memory = []
 
--- a call's own codes: one alone where its arguments aren't bound, else those of its arguments and of its closure
-abbrev pub own_codes : (ℕ → ParameterRow → Expr → Bool) → List ParameterRow → Span → List Diagnostic → List Argument → Result (List (Option ℕ)) BindFault → List Diagnostic
+-- a call's own codes: one alone where its arguments aren't bound, else those of its arguments and
+-- of its closure
+abbrev pub own_codes : (ℕ → ParameterRow → Expr → Bool) → List ParameterRow → Span → List Diagnostic → List Argument
+    → Result (List (Option ℕ)) BindFault → List Diagnostic
 own_codes wants ps span closure_codes js (Ok places) = of_arguments wants 0 ps (bound places js) ++ closure_codes
 own_codes wants ps span closure_codes js (Err f) = of_fault span js f
 
-abbrev pub of_call : (ℕ → ParameterRow → Expr → Bool) → List ParameterRow → Span → Closure → List Argument → Result (List (Option ℕ)) BindFault → List Diagnostic
+abbrev pub of_call : (ℕ → ParameterRow → Expr → Bool) → List ParameterRow → Span → Closure → List Argument
+    → Result (List (Option ℕ)) BindFault → List Diagnostic
 of_call wants ps span c js b = own_codes wants ps span (of_closure span c) js b
 
 -- those of a call of a function that takes a closure
 abbrev pub of_closure_call : CallForm → Span → Args → Closure → List Argument → List Diagnostic
-of_closure_call f span gs c js = own_codes (λ i p e. false) (collection_parameters f) span (of_wanted_closure f span c) js (binding (collection_parameters f) (keywords_of gs))
+of_closure_call f span gs c js = own_codes (λ i p e. false) (collection_parameters f) span
+    (of_wanted_closure f span c) js (binding (collection_parameters f) (keywords_of gs))
 
 -- behind the arguments a closure that isn't judged, with these empty values
 abbrev pub passing_closure : Closure → List Tag → Judgement → Judgement
@@ -180,11 +188,12 @@ pub record IsCutDown (T : TagSet) (K L : KindTree) : Type 0 where
   pub canonical : IsCanonical L
   pub tags : SameSets (tags_at L) (cut_to T K)
 
--- what a function is asked about: the kind of each argument, cut down to the tags that its parameter allows, and its value where it is
--- written as a literal
+-- what a function is asked about: the kind of each argument, cut down to the tags that its
+-- parameter allows, and its value where it is written as a literal
 abbrev pub IsAskedAbout : ParameterRow → Option Argument → GivenTree → Type 0
 IsAskedAbout p None given = given ≡ record { kind = None; literal = None }
-IsAskedAbout p (Some g) given = (L : KindTree) × IsCutDown p.allowed g.judged.kind L × (given ≡ record { kind = Some L; literal = literal_of g.value })
+IsAskedAbout p (Some g) given = (L : KindTree) × IsCutDown p.allowed g.judged.kind L
+    × (given ≡ record { kind = Some L; literal = literal_of g.value })
 
 abbrev pub AreAskedAbout : List ParameterRow → List (Option Argument) → List GivenTree → Type 0
 AreAskedAbout (p ∷ ps) (g ∷ js) (given ∷ givens) = IsAskedAbout p g given × AreAskedAbout ps js givens
@@ -197,9 +206,11 @@ some_has_others (p ∷ ps) (Some g ∷ js) = has_others p.allowed g.judged.kind 
 some_has_others (p ∷ ps) (None ∷ js) = some_has_others ps js
 some_has_others ps js = false
 
--- The kind of a call's value, cut, and whether it may end with an error of its own: where the kind of an argument isn't within its
--- parameter's, or where the function may fail. Of a call that has an error code, or has one in it, nothing is asked.
-pub record IsAnswered (sources : List (List ℕ)) (r : Row) (js : List (Option Argument)) (K : KindTree) (may : Bool) : Type 0 where
+-- The kind of a call's value, cut, and whether it may end with an error of its own: where the kind
+-- of an argument isn't within its parameter's, or where the function may fail. Of a call that has
+-- an error code, or has one in it, nothing is asked.
+pub record IsAnswered (sources : List (List ℕ)) (r : Row) (js : List (Option Argument)) (K : KindTree)
+    (may : Bool) : Type 0 where
   pub givens : List GivenTree
   pub given : AreAskedAbout r.parameters js givens
   pub kind : IsCutOf (r.kind givens sources) K
@@ -223,11 +234,14 @@ abbrev pub deleted_kind : Bool → List Argument → KindTree
 deleted_kind false (g ∷ []) = g.judged.kind
 deleted_kind poisoned js = any_kind
 
--- the body of a closure, of which each name is bound to a key of this kind, or to a value of that one
+-- the body of a closure, of which each name is bound to a key of this kind, or to a value of that
+-- one
 abbrev pub body_of : CallForm → List (List ℕ) → Exprs → KindTree → KindTree → ClosureBody
-body_of f names es key value = record { names = names; kinds = for_names f key value; items = es; runs = is_possible value }
+body_of f names es key value =
+    record { names = names; kinds = for_names f key value; items = es; runs = is_possible value }
 
--- a closure behind the arguments of its call: as it was judged last, and what is known before each of its runs is known behind all of them
+-- a closure behind the arguments of its call: as it was judged last, and what is known before each
+-- of its runs is known behind all of them
 abbrev pub run_through : Loop → Judgement → Judgement
 run_through loop j = record j { ok = loop.known; loops = Some loop ∷ j.loops }
 
@@ -238,27 +252,33 @@ mutual
     unreached : {inside : Bool} {e : Expr} {tags : List Tag}
         → AreUnjudged rules (in_expr e) tags
         → Judges rules inside None e (unreached_parts tags (closures_in_expr e))
-    reached : {inside : Bool} {known : RootMap} {span : Span} {f : Form} {j : Judgement} → Gives rules inside known span f j → Judges rules inside (Some known) (expr span f) (settle j)
+    reached : {inside : Bool} {known : RootMap} {span : Span} {f : Form} {j : Judgement}
+        → Gives rules inside known span f j → Judges rules inside (Some known) (expr span f) (settle j)
 
   -- what a form gives where it is reached, before it is settled
   pub data Gives (rules : OpenRules) : Bool → RootMap → Span → Form → Judgement → Type 0 where
     a_literal : {inside : Bool} {known : RootMap} {span : Span} {v : Tree} {K : KindTree}
         → IsCutOf (found_at v) K
         → Gives rules inside known span (literal v) (gives K (Some known))
-    an_array : {inside : Bool} {known : RootMap} {span : Span} {es : Exprs} {j : Judgement} {Ks : List KindTree} {K : KindTree}
+    an_array : {inside : Bool} {known : RootMap} {span : Span} {es : Exprs} {j : Judgement} {Ks : List KindTree}
+        {K : KindTree}
         → JudgesAll rules inside (gives never_kind (Some known)) es Ks j → IsCutOf (array_at Ks) K
         → Gives rules inside known span (array es) (record j { kind = K })
-    an_object : {inside : Bool} {known : RootMap} {span : Span} {ps : Pairs} {j : Judgement} {Ks : List KindTree} {K : KindTree}
-        → JudgesAll rules inside (gives never_kind (Some known)) (pair_values ps) Ks j → IsCutOf (object_at (pair_names ps) Ks) K
+    an_object : {inside : Bool} {known : RootMap} {span : Span} {ps : Pairs} {j : Judgement} {Ks : List KindTree}
+        {K : KindTree}
+        → JudgesAll rules inside (gives never_kind (Some known)) (pair_values ps) Ks j
+        → IsCutOf (object_at (pair_names ps) Ks) K
         → Gives rules inside known span (object ps) (record j { kind = K })
     -- reads: a variable that isn't known is 701
-    a_known_root : {inside : Bool} {known : RootMap} {span : Span} {root : Root} {path : List steps.Step} {K M : KindTree}
+    a_known_root : {inside : Bool} {known : RootMap} {span : Span} {root : Root} {path : List steps.Step}
+        {K M : KindTree}
         → kind_of root known ≡ Some K → IsReadAt K path M
         → Gives rules inside known span (read root path) (gives M (Some known))
     an_unknown_root : {inside : Bool} {known : RootMap} {span : Span} {root : Root} {path : List steps.Step}
         → kind_of root known ≡ None
         → Gives rules inside known span (read root path) (with_codes (at 701 span) (gives any_kind (Some known)))
-    a_query : {inside : Bool} {known : RootMap} {span : Span} {e : Expr} {path : List steps.Step} {j : Judgement} {K : KindTree}
+    a_query : {inside : Bool} {known : RootMap} {span : Span} {e : Expr} {path : List steps.Step} {j : Judgement}
+        {K : KindTree}
         → Judges rules inside (Some known) e j → IsReadAt j.kind path K
         → Gives rules inside known span (query e path) (record j { kind = K })
     -- what holds items
@@ -274,59 +294,82 @@ mutual
     -- operators
     a_negation : {inside : Bool} {known : RootMap} {span : Span} {e : Expr} {j : Judgement} {K : KindTree}
         → Judges rules inside (Some known) e j → IsScalar tag.Bool K
-        → Gives rules inside known span (negation e) (with_codes (when (is_other tag.Bool j) (at 660 span)) (record j { kind = K }))
-    an_equality : {inside : Bool} {known : RootMap} {span : Span} {o : Op} {l r : Expr} {j k whole : Judgement} {K : KindTree}
+        → Gives rules inside known span (negation e)
+        (with_codes (when (is_other tag.Bool j) (at 660 span)) (record j { kind = K }))
+    an_equality : {inside : Bool} {known : RootMap} {span : Span} {o : Op} {l r : Expr} {j k whole : Judgement}
+        {K : KindTree}
         → is_equality o ≡ true → JudgesBoth rules inside known l r j k whole → IsScalar tag.Bool K
         → Gives rules inside known span (binary o l r) (with_codes (chained span o l r) (record whole { kind = K }))
-    of_table : {inside : Bool} {known : RootMap} {span : Span} {o : Op} {table : Tag → Tag → Option Tag} {l r : Expr} {j k whole : Judgement} {K : KindTree} {fail : Option RootMap}
+    of_table : {inside : Bool} {known : RootMap} {span : Span} {o : Op} {table : Tag → Tag → Option Tag} {l r : Expr}
+        {j k whole : Judgement} {K : KindTree} {fail : Option RootMap}
         → table_of o ≡ Some table → JudgesBoth rules inside known l r j k whole
         → IsCutOf (scalars_at (table_tags table j.kind k.kind)) K
         → IsJoined whole.fail (if_state (some_pair (λ a b. not (is_some (table a b))) j.kind k.kind) whole.ok) fail
-        → Gives rules inside known span (binary o l r) (of_pairs table j k (with_codes (chained span o l r) whole) K fail)
+        → Gives rules inside known span (binary o l r)
+        (of_pairs table j k (with_codes (chained span o l r) whole) K fail)
     a_merge : {inside : Bool} {known : RootMap} {span : Span} {l r : Expr} {j k whole : Judgement} {K : KindTree}
         → JudgesBoth rules inside known l r j k whole → IsMerged j.kind k.kind K
-        → Gives rules inside known span (binary op.Merge l r) (with_codes (no_objects (span_of l) (span_of r) j k) (record whole { kind = K }))
+        → Gives rules inside known span (binary op.Merge l r)
+        (with_codes (no_objects (span_of l) (span_of r) j k) (record whole { kind = K }))
     -- `&&`: the right side is judged where the left one may be a boolean
-    a_conjunction : {inside : Bool} {known : RootMap} {span : Span} {l r : Expr} {j k whole : Judgement} {K : KindTree} (left_fail part_fail : Option RootMap) {ok fail : Option RootMap}
-        → Judges rules inside (Some known) l j → Judges rules inside (if_state (root_tags j.kind tag.Bool) j.ok) r k → IsBehind j k whole → IsScalar tag.Bool K
+    a_conjunction : {inside : Bool} {known : RootMap} {span : Span} {l r : Expr} {j k whole : Judgement} {K : KindTree}
+        (left_fail part_fail : Option RootMap) {ok fail : Option RootMap}
+        → Judges rules inside (Some known) l j → Judges rules inside (if_state (root_tags j.kind tag.Bool) j.ok) r k
+        → IsBehind j k whole → IsScalar tag.Bool K
         → IsJoined (if_state (may_be_truth j.kind) j.ok) (if_state (may_be_truth k.kind) k.ok) ok
-        → IsJoined j.fail (if_state (may_be_no_truth j.kind) j.ok) left_fail → IsJoined left_fail k.fail part_fail → IsJoined part_fail (if_state (may_be_no_truth k.kind) k.ok) fail
+        → IsJoined j.fail (if_state (may_be_no_truth j.kind) j.ok) left_fail → IsJoined left_fail k.fail part_fail
+        → IsJoined part_fail (if_state (may_be_no_truth k.kind) k.ok) fail
         → Gives rules inside known span (binary op.And l r) (record whole { kind = K; ok = ok; fail = fail })
-    -- `||`: the right side is judged where the left one may be null or a boolean; its value is the whole's alone where the left is exactly null
-    a_disjunction : {inside : Bool} {known : RootMap} {span : Span} {l r : Expr} {j k whole : Judgement} {K : KindTree} {ok : Option RootMap}
-        → Judges rules inside (Some known) l j → Judges rules inside (if_state (may_be_truth j.kind) j.ok) r k → IsThen j k whole
+    -- `||`: the right side is judged where the left one may be null or a boolean; its value is the
+    -- whole's alone where the left is exactly null
+    a_disjunction : {inside : Bool} {known : RootMap} {span : Span} {l r : Expr} {j k whole : Judgement} {K : KindTree}
+        {ok : Option RootMap}
+        → Judges rules inside (Some known) l j → Judges rules inside (if_state (may_be_truth j.kind) j.ok) r k
+        → IsThen j k whole
         → IsCutOf (or_else_at j.kind k.kind) K
         → IsJoined (if_state (not (is_alone (root_tags j.kind) tag.Null)) j.ok) k.ok ok
         → Gives rules inside known span (binary op.Or l r) (record whole { kind = K; ok = ok })
-    -- `??`: the right side is judged where the left one ended with an error. A left side that can't fail is 651, a warning
-    a_coalescing : {inside : Bool} {known : RootMap} {span : Span} {l r : Expr} {j k whole : Judgement} {K : KindTree} {ok : Option RootMap}
+    -- `??`: the right side is judged where the left one ended with an error. A left side that can't
+    -- fail is 651, a warning
+    a_coalescing : {inside : Bool} {known : RootMap} {span : Span} {l r : Expr} {j k whole : Judgement} {K : KindTree}
+        {ok : Option RootMap}
         → Judges rules inside (Some known) l j → Judges rules inside j.fail r k → IsBehind j k whole
         → IsEither j.kind k.kind K → IsJoined j.ok k.ok ok
-        → Gives rules inside known span (binary op.Coalesce l r) (with_codes (when (is_needless j) (at 651 span)) (record whole { kind = K; ok = ok; fail = k.fail }))
+        → Gives rules inside known span (binary op.Coalesce l r)
+        (with_codes (when (is_needless j) (at 651 span)) (record whole { kind = K; ok = ok; fail = k.fail }))
     -- assignments
-    an_assignment : {inside : Bool} {known : RootMap} {span : Span} {t : Target} {e : Expr} {j : Judgement} {ok : Option RootMap}
+    an_assignment : {inside : Bool} {known : RootMap} {span : Span} {t : Target} {e : Expr} {j : Judgement}
+        {ok : Option RootMap}
         → Judges rules inside (Some known) e j → IsTargetWritten t j.kind j.ok ok
         → Gives rules inside known span (assign t e) (with_codes (of_assignment span t j) (record j { ok = ok }))
     a_merge_into_nothing : {inside : Bool} {known : RootMap} {span : Span} {e : Expr} {j : Judgement}
         → Judges rules inside (Some known) e j
         → Gives rules inside known span (merge Nowhere e) (with_codes (at 640 span) j)
     -- `t |= e` is `t = t | e`
-    a_merge_assignment : {inside : Bool} {known : RootMap} {span s : Span} {root : Root} {path : List steps.Step} {e : Expr} {j : Judgement} {ok : Option RootMap}
-        → Judges rules inside (Some known) (expr span (binary op.Merge (expr s (read root path)) e)) j → IsTargetWritten (Place s root path) j.kind j.ok ok
-        → Gives rules inside known span (merge (Place s root path) e) (with_codes (of_assignment span (Place s root path) j) (record j { ok = ok }))
-    -- `t, u = e`: behind a value the value and null are written; behind an error the empty value, of any tag that the rules allow, and a text
-    an_error_assignment : {inside : Bool} {known : RootMap} {span : Span} {t u : Target} {e : Expr} {j : Judgement} (empty : Tag) {E K N T : KindTree} (given given_both failed failed_both : Option RootMap) {ok : Option RootMap}
+    a_merge_assignment : {inside : Bool} {known : RootMap} {span s : Span} {root : Root} {path : List steps.Step}
+        {e : Expr} {j : Judgement} {ok : Option RootMap}
+        → Judges rules inside (Some known) (expr span (binary op.Merge (expr s (read root path)) e)) j
+        → IsTargetWritten (Place s root path) j.kind j.ok ok
+        → Gives rules inside known span (merge (Place s root path) e)
+        (with_codes (of_assignment span (Place s root path) j) (record j { ok = ok }))
+    -- `t, u = e`: behind a value the value and null are written; behind an error the empty value,
+    -- of any tag that the rules allow, and a text
+    an_error_assignment : {inside : Bool} {known : RootMap} {span : Span} {t u : Target} {e : Expr} {j : Judgement}
+        (empty : Tag) {E K N T : KindTree} (given given_both failed failed_both : Option RootMap) {ok : Option RootMap}
         → Judges rules inside (Some known) e j
         → rules.empty j.kind empty ≡ true → IsCutOf (found_at (empty_value empty)) E → IsEither j.kind E K
         → IsScalar tag.Null N → IsScalar tag.Text T
         → IsTargetWritten t j.kind j.ok given → IsTargetWritten u N given given_both
         → IsTargetWritten t E j.fail failed → IsTargetWritten u T failed failed_both
         → IsJoined given_both failed_both ok
-        → Gives rules inside known span (both t u e) (with_codes (of_error_assignment span t u j K) (record j { kind = K; ok = ok; fail = None; empties = empty ∷ j.empties }))
+        → Gives rules inside known span (both t u e)
+        (with_codes (of_error_assignment span t u j K)
+        (record j { kind = K; ok = ok; fail = None; empties = empty ∷ j.empties }))
     -- calls: a function that there isn't is 105
     a_call_of_nothing : {inside : Bool} {known : RootMap} {span s : Span} {name : List ℕ} {bang : Bool} {gs : Args}
         {c : Closure} {js : List Argument} {j : Judgement} {tags : List Tag}
-        → ((function : Fun) → (row_of function).name ≢ name) → (is_del name || (is_exists name || takes_closure name)) ≡ false
+        → ((function : Fun) → (row_of function).name ≢ name)
+        → (is_del name || (is_exists name || takes_closure name)) ≡ false
         → JudgesArguments rules inside (gives never_kind (Some known)) gs js j → AreUnjudged rules (in_closure c) tags
         → Gives rules inside known span (call name s bang gs c)
         (with_codes (at 105 s) (passing_closure c tags (record j { kind = any_kind })))
@@ -336,9 +379,11 @@ mutual
         → (row_of function).name ≡ name
         → JudgesArguments rules inside (gives never_kind (Some known)) gs js j → AreUnjudged rules (in_closure c) tags
         → whole ≡ behind_arguments (wants_literal (row_of function)) (row_of function).parameters span gs c tags js j
-        → IsAnsweredUnless whole.poisoned rules.sources (row_of function) (bound (places_in (binding (row_of function).parameters (keywords_of gs))) js) K fails
+        → IsAnsweredUnless whole.poisoned rules.sources (row_of function)
+        (bound (places_in (binding (row_of function).parameters (keywords_of gs))) js) K fails
         → IsJoined whole.fail (if_state fails whole.ok) fail
-        → Gives rules inside known span (call name s bang gs c) (banged span bang (record whole { kind = K; fail = fail }))
+        → Gives rules inside known span (call name s bang gs c)
+        (banged span bang (record whole { kind = K; fail = fail }))
     -- `del`: the kind is that of reading the path, and what stands there is taken out
     a_deletion : {inside : Bool} {known : RootMap} {span s : Span} {name : List ℕ} {bang : Bool} {gs : Args}
         {c : Closure} {js : List Argument} {j whole : Judgement} {tags : List Tag} (ok : Option RootMap)
@@ -346,7 +391,8 @@ mutual
         → JudgesArguments rules inside (gives never_kind (Some known)) gs js j → AreUnjudged rules (in_closure c) tags
         → whole ≡ behind_arguments wants_path path_parameters span gs c tags js j
         → IsDeletedAt (deleted_path whole.poisoned js) whole.ok ok
-        → Gives rules inside known span (call name s bang gs c) (banged span bang (record whole { kind = deleted_kind whole.poisoned js; ok = ok }))
+        → Gives rules inside known span (call name s bang gs c)
+        (banged span bang (record whole { kind = deleted_kind whole.poisoned js; ok = ok }))
     -- `exists`: a boolean, and the state stays
     an_existence : {inside : Bool} {known : RootMap} {span s : Span} {name : List ℕ} {bang : Bool} {gs : Args}
         {c : Closure} {js : List Argument} {j whole : Judgement} {tags : List Tag} (K : KindTree)
@@ -355,7 +401,8 @@ mutual
         → whole ≡ behind_arguments wants_path path_parameters span gs c tags js j
         → IsScalar tag.Bool K
         → Gives rules inside known span (call name s bang gs c) (banged span bang (record whole { kind = K }))
-    -- A function that takes a closure. Where the call has a code of its own the closure isn't judged.
+    -- A function that takes a closure. Where the call has a code of its own the closure isn't
+    -- judged.
     a_wrong_closure_call : {inside : Bool} {known : RootMap} {span s : Span} (f : CallForm) {name : List ℕ}
         {bang : Bool} {gs : Args} {c : Closure} {js : List Argument} {j : Judgement} {tags : List Tag}
         (first : Diagnostic) (others : List Diagnostic)
@@ -364,9 +411,12 @@ mutual
         → of_closure_call f span gs c js ≡ first ∷ others
         → Gives rules inside known span (call name s bang gs c)
         (banged span bang (with_codes (first ∷ others) (passing_closure c tags (record j { kind = any_kind }))))
-    -- Else it is judged behind the argument, whose kind, cut down to the tags of a collection, is C; its body has the judgement k. An error may come of
-    -- the argument's tag, and of the body. What is known before each run is known behind the call.
-    a_closure_call : {inside : Bool} {known : RootMap} {span s : Span} (f : CallForm) {name : List ℕ} {bang : Bool} {gs : Args} {names : List (List ℕ)} {es : Exprs} {t : Span} {g : Argument} {j : Judgement} (C key value : KindTree) (loop : Loop) {k whole : Judgement} (K : KindTree) (fail : Option RootMap)
+    -- Else it is judged behind the argument, whose kind, cut down to the tags of a collection, is
+    -- C; its body has the judgement k. An error may come of the argument's tag, and of the body.
+    -- What is known before each run is known behind the call.
+    a_closure_call : {inside : Bool} {known : RootMap} {span s : Span} (f : CallForm) {name : List ℕ} {bang : Bool}
+        {gs : Args} {names : List (List ℕ)} {es : Exprs} {t : Span} {g : Argument} {j : Judgement}
+        (C key value : KindTree) (loop : Loop) {k whole : Judgement} (K : KindTree) (fail : Option RootMap)
         → form_named name ≡ Some f → is_closure_form (Some f) ≡ true
         → JudgesArguments rules inside (gives never_kind (Some known)) gs (g ∷ []) j
         → of_closure_call f span gs (closure names es t) (g ∷ []) ≡ []
@@ -375,20 +425,27 @@ mutual
         → IsThen j (run_through loop k) whole
         → IsCutOf (call_at f C k.kind) K
         → IsJoined whole.fail (if_state (has_others (collections f) g.judged.kind) j.ok) fail
-        → Gives rules inside known span (call name s bang gs (closure names es t)) (banged span bang (with_codes (of_body f t k) (record whole { kind = K; fail = fail })))
+        → Gives rules inside known span (call name s bang gs (closure names es t))
+        (banged span bang (with_codes (of_body f t k) (record whole { kind = K; fail = fail })))
     -- ends: a return in a closure is 1004, and goes on behind its expression
-    a_return : {inside : Bool} {known : RootMap} {span : Span} {e : Expr} {j : Judgement} {ret : Option RootMap} {R : KindTree}
-        → Judges rules inside (Some known) e j → IsJoined j.ret j.ok ret → IsEither j.returned (settled_kind false (is_alive j.ok) j.kind) R
-        → Gives rules inside known span (return_of e) (with_codes (when inside (at 1004 span)) (record j { kind = never_kind; ok = if_state inside j.ok; ret = ret; returned = R }))
+    a_return : {inside : Bool} {known : RootMap} {span : Span} {e : Expr} {j : Judgement} {ret : Option RootMap}
+        {R : KindTree}
+        → Judges rules inside (Some known) e j → IsJoined j.ret j.ok ret
+        → IsEither j.returned (settled_kind false (is_alive j.ok) j.kind) R
+        → Gives rules inside known span (return_of e)
+        (with_codes (when inside (at 1004 span))
+        (record j { kind = never_kind; ok = if_state inside j.ok; ret = ret; returned = R }))
     an_abort : {inside : Bool} {known : RootMap} {span : Span}
         → Gives rules inside known span (abort_with no_message) (nothing [])
     -- a message that may fail, or isn't exactly a text, is 1011
     an_abort_with : {inside : Bool} {known : RootMap} {span : Span} {e : Expr} {j : Judgement}
         → Judges rules inside (Some known) e j
-        → Gives rules inside known span (abort_with (message e)) (with_codes (of_message (span_of e) j) (record j { kind = never_kind; ok = None }))
+        → Gives rules inside known span (abort_with (message e))
+        (with_codes (of_message (span_of e) j) (record j { kind = never_kind; ok = None }))
 
   -- two operands, the second judged where the first ends with a value
-  pub data JudgesBoth (rules : OpenRules) : Bool → RootMap → Expr → Expr → Judgement → Judgement → Judgement → Type 0 where
+  pub data JudgesBoth
+      (rules : OpenRules) : Bool → RootMap → Expr → Expr → Judgement → Judgement → Judgement → Type 0 where
     operands : {inside : Bool} {known : RootMap} {l r : Expr} {j k whole : Judgement}
         → Judges rules inside (Some known) l j → Judges rules inside j.ok r k → IsThen j k whole
         → JudgesBoth rules inside known l r j k whole
@@ -403,9 +460,11 @@ mutual
   -- the arguments of a call behind what was judged before them
   pub data JudgesArguments (rules : OpenRules) : Bool → Judgement → Args → List Argument → Judgement → Type 0 where
     no_more_arguments : {inside : Bool} {before : Judgement} → JudgesArguments rules inside before no_args [] before
-    one_more_argument : {inside : Bool} {before j middle after : Judgement} {name : Option (List ℕ)} {span : Span} {e : Expr} {gs : Args} {js : List Argument}
+    one_more_argument : {inside : Bool} {before j middle after : Judgement} {name : Option (List ℕ)} {span : Span}
+        {e : Expr} {gs : Args} {js : List Argument}
         → Judges rules inside before.ok e j → IsThen before j middle → JudgesArguments rules inside middle gs js after
-        → JudgesArguments rules inside before (arg name span e gs) (record { span = span; value = e; judged = j } ∷ js) after
+        → JudgesArguments rules inside before (arg name span e gs)
+        (record { span = span; value = e; judged = j } ∷ js) after
 
   -- the items of a block or a branch; an empty one gives null, and its names end with it
   pub data JudgesBlock (rules : OpenRules) : Bool → Option RootMap → Exprs → Judgement → Type 0 where
@@ -416,10 +475,13 @@ mutual
         → IsScalar tag.Null N → JudgesAll rules inside (gives N (Some known)) es Ks j
         → JudgesBlock rules inside (Some known) es (settle (left known j))
 
-  -- the arms of an `if` beside the ways before them: each branch is judged behind all predicates before it
+  -- the arms of an `if` beside the ways before them: each branch is judged behind all predicates
+  -- before it
   pub data JudgesArms (rules : OpenRules) : Bool → Option RootMap → Judgement → Arms → Else → Judgement → Type 0 where
-    an_arm : {inside : Bool} {state : Option RootMap} {ways j with_predicate k with_branch all : Judgement} {p : Expr} {es : Exprs} {gs : Arms} {otherwise : Else}
-        → Judges rules inside state p j → IsBeside ways (record (predicate_of p j) { kind = never_kind; ok = None }) with_predicate
+    an_arm : {inside : Bool} {state : Option RootMap} {ways j with_predicate k with_branch all : Judgement} {p : Expr}
+        {es : Exprs} {gs : Arms} {otherwise : Else}
+        → Judges rules inside state p j
+        → IsBeside ways (record (predicate_of p j) { kind = never_kind; ok = None }) with_predicate
         → JudgesBlock rules inside j.ok es k → IsBeside with_predicate k with_branch
         → JudgesArms rules inside j.ok with_branch gs otherwise all
         → JudgesArms rules inside state ways (arm p es gs) otherwise all
@@ -439,9 +501,11 @@ mutual
         → JudgesBlock rules true (Some (with_names b.names b.kinds known)) b.items j
         → JudgesBody rules b (Some known) (left_body b known j)
 
-  -- The tries at a body, from one on, with what is known at it; then what is known at the last one, and the judgement there. The first that is stable is
-  -- the last: what is known behind the body is within what is known at it.
-  pub data JudgesTries (rules : OpenRules) : ClosureBody → Try → Option RootMap → Option RootMap → Judgement → Type 0 where
+  -- The tries at a body, from one on, with what is known at it; then what is known at the last one,
+  -- and the judgement there. The first that is stable is the last: what is known behind the body is
+  -- within what is known at it.
+  pub data JudgesTries
+      (rules : OpenRules) : ClosureBody → Try → Option RootMap → Option RootMap → Judgement → Type 0 where
     a_stable_try : {b : ClosureBody} {try : Try} {known : Option RootMap} {j : Judgement}
         → JudgesBody rules b (if_state b.runs known) j → IsKnownWithin j.ok known
         → JudgesTries rules b try known known j
@@ -450,8 +514,8 @@ mutual
         → IsNextTry try b known j.ok next → JudgesTries rules b (next_try try) next last k
         → JudgesTries rules b try known last k
 
-  -- all runs of a body, where this is known where the call begins to run it: by tries, where the rules allow them, or
-  -- from a state that they allow
+  -- all runs of a body, where this is known where the call begins to run it: by tries, where the
+  -- rules allow them, or from a state that they allow
   pub data JudgesRuns (rules : OpenRules) : ClosureBody → Option RootMap → Loop → Judgement → Type 0 where
     by_tries : {b : ClosureBody} {known last : Option RootMap} {k : Judgement}
         → rules.tries ≡ true → JudgesTries rules b first_try known last k
@@ -465,7 +529,8 @@ mutual
 pub data JudgesItems (rules : OpenRules) : Judgement → Exprs → Judgement → Type 0 where
   no_more_items : {before : Judgement} → JudgesItems rules before no_exprs before
   one_more_item : {before j middle after : Judgement} {e : Expr} {es : Exprs}
-      → Judges rules false before.ok e j → IsThen before (with_codes (of_item (span_of e) j) j) middle → JudgesItems rules middle es after
+      → Judges rules false before.ok e j → IsThen before (with_codes (of_item (span_of e) j) j) middle
+      → JudgesItems rules middle es after
       → JudgesItems rules before (exprs e es) after
 
 -- a script over events of a kind; an empty one gives null

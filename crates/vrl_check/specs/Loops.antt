@@ -1,4 +1,5 @@
--- The closures of a script. A walk of the tree as written meets them in order, an outer one before those in it.
+-- The closures of a script. A walk of the tree as written meets them in order, an outer one before
+-- those in it.
 use Rattle.std.specs.Prelude.{ℕ, suc, ◌+◌, List, replicate, Option, None}
 use Rattle.vrl_judge.specs.Rules.{Loop}
 use Rattle.vrl_syntax.specs.Tree.{Expr, expr, Form, literal, array, object, read, query, group, block, conditional, negation, binary, assign, merge, both, call, return_of, abort_with, Exprs, no_exprs, exprs, Pairs, no_pairs, pair, Arms, no_arms, arm, Else, no_else, else_block, Args, no_args, arg, Closure, no_closure, closure, Message, no_message, message}

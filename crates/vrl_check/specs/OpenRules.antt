@@ -1,11 +1,13 @@
--- What the rules of the judgement leave open: which tag the empty value of an error assignment has, whether the state
--- of a closure is found by tries, and which state it may have that isn't.
+-- What the rules of the judgement leave open: which tag the empty value of an error assignment has,
+-- whether the state of a closure is found by tries, and which state it may have that isn't.
 --
--- The judgement of the language is one instance, where each closure has the state of its last try. Another is a
--- judgement whose empty values and whose states of closures are given beforehand: it allows every tag, and no tries,
--- so what each closure was judged with stands in the judgement. What is shown of every instance holds of both.
+-- The judgement of the language is one instance, where each closure has the state of its last try.
+-- Another is a judgement whose empty values and whose states of closures are given beforehand: it
+-- allows every tag, and no tries, so what each closure was judged with stands in the judgement.
+-- What is shown of every instance holds of both.
 --
--- A rule is a test, since a law over all instances of rules that are relations would be too large for a clause.
+-- A rule is a test, since a law over all instances of rules that are relations would be too large
+-- for a clause.
 use Rattle.std.specs.Prelude.{◌≡◌, ◌&&◌, ℕ, Bool, true, false, List, Option}
 use Rattle.std.specs.List.{list_all}
 use Rattle.std.specs.Option.{option_map_or}
@@ -20,15 +22,16 @@ pub record OpenRules : Type 0 where
   pub sources : List (List ℕ)
   -- whether the empty value that stands for one of this kind may have this tag
   pub empty : KindTree → Tag → Bool
-  -- whether that of an error assignment which isn't judged, or is judged in a dead state, may have this tag
+  -- whether that of an error assignment which isn't judged, or is judged in a dead state, may have
+  -- this tag
   pub unjudged : Tag → Bool
   -- whether the state of a closure may be found by tries
   pub tries : Bool
   -- whether a closure may have this state, though no try gave it
   pub given : Loop → Bool
 
--- those of the language, where each kind has one tag, what isn't judged has null, and a closure has the state that a
--- try gave
+-- those of the language, where each kind has one tag, what isn't judged has null, and a closure has
+-- the state that a try gave
 abbrev pub language_rules : List (List ℕ) → OpenRules
 language_rules sources = record {
   sources = sources;
@@ -38,8 +41,8 @@ language_rules sources = record {
   given = λ loop. false;
 }
 
--- Nothing is left open: each kind has one tag at most, so has what isn't judged, and no closure has a state that no
--- try gave.
+-- Nothing is left open: each kind has one tag at most, so has what isn't judged, and no closure has
+-- a state that no try gave.
 pub record LeaveNothingOpen (rules : OpenRules) : Type 0 where
   pub tag : (K : KindTree) (t u : Tag) → rules.empty K t ≡ true → rules.empty K u ≡ true → t ≡ u
   pub unjudged : (t u : Tag) → rules.unjudged t ≡ true → rules.unjudged u ≡ true → t ≡ u
@@ -47,8 +50,8 @@ pub record LeaveNothingOpen (rules : OpenRules) : Type 0 where
 
 -- ---- states that are given
 
--- a closure's state holds: what is known where the call begins to run it is within it, and so is what is known behind
--- a run
+-- a closure's state holds: what is known where the call begins to run it is within it, and so is
+-- what is known behind a run
 abbrev pub holds : Loop → Bool
 holds loop = loop.begins && loop.goes_on
 

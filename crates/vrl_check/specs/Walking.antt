@@ -23,8 +23,10 @@ use Rattle.vrl_check.specs.OpenRules.{language_rules}
 
 -- ---- what can be judged
 
--- A part can be judged where, as these functions tell, its paths keep their limits, and each of its regexes has a source.
-pub record IsJudgeable {A : Type 0} (faults : A → List Diagnostic) (regexes_below : ℕ → A → Bool) (sources : List (List ℕ)) (part : A) : Type 0 where
+-- A part can be judged where, as these functions tell, its paths keep their limits, and each of its
+-- regexes has a source.
+pub record IsJudgeable {A : Type 0} (faults : A → List Diagnostic) (regexes_below : ℕ → A → Bool)
+    (sources : List (List ℕ)) (part : A) : Type 0 where
   pub limits : faults part ≡ []
   pub regexes : regexes_below (length sources) part ≡ true
 
@@ -62,38 +64,54 @@ passed_states n = replicate n None
 
 -- an expression, a form where a way leads to it, items of a block, items before their block ends
 abbrev pub IsJudgedAs : Expr → Checker → Checker → Outcome → Type 0
-IsJudgedAs e before after outcome = (j : Judgement) × Judges (language_rules before.patterns.now) before.inside before.state.known e j × HasJudged before after outcome j
+IsJudgedAs e before after outcome = (j : Judgement)
+    × Judges (language_rules before.patterns.now) before.inside before.state.known e j
+    × HasJudged before after outcome j
 
 abbrev pub IsGivenAs : Span → Form → Checker → Checker → Outcome → Type 0
-IsGivenAs span f before after outcome = (known : RootMap) → before.state.known ≡ Some known → (j : Judgement) × Gives (language_rules before.patterns.now) before.inside known span f j × HasJudged before after outcome j
+IsGivenAs span f before after outcome = (known : RootMap) → before.state.known ≡ Some known → (j : Judgement)
+    × Gives (language_rules before.patterns.now) before.inside known span f j × HasJudged before after outcome j
 
 -- the same wherever it stands
 abbrev pub IsAnywhereAs : Form → Checker → Checker → Outcome → Type 0
 IsAnywhereAs f before after outcome = (span : Span) → IsGivenAs span f before after outcome
 
 abbrev pub IsBlockAs : Exprs → Checker → Checker → Outcome → Type 0
-IsBlockAs es before after outcome = (j : Judgement) × JudgesBlock (language_rules before.patterns.now) before.inside before.state.known es j × HasJudged before after outcome j
+IsBlockAs es before after outcome = (j : Judgement)
+    × JudgesBlock (language_rules before.patterns.now) before.inside before.state.known es j
+    × HasJudged before after outcome j
 
 abbrev pub IsSequenceAs : Exprs → Checker → Checker → Outcome → Type 0
 IsSequenceAs es before after outcome = (known : RootMap) → before.state.known ≡ Some known
-    → (N : KindTree) × (Ks : List KindTree) × (j : Judgement) × IsScalar tag.Null N × JudgesAll (language_rules before.patterns.now) before.inside (gives N (Some known)) es Ks j × HasJudged before after outcome j
+    → (N : KindTree) × (Ks : List KindTree) × (j : Judgement) × IsScalar tag.Null N
+    × JudgesAll (language_rules before.patterns.now) before.inside (gives N (Some known)) es Ks j
+    × HasJudged before after outcome j
 
 -- items of a script, and one of them
 abbrev pub IsScriptAs : Exprs → Checker → Checker → Outcome → Type 0
-IsScriptAs es before after outcome = (N : KindTree) × (j : Judgement) × IsScalar tag.Null N × JudgesItems (language_rules before.patterns.now) (gives N before.state.known) es j × HasJudged before after outcome (settle j)
+IsScriptAs es before after outcome = (N : KindTree) × (j : Judgement) × IsScalar tag.Null N
+    × JudgesItems (language_rules before.patterns.now) (gives N before.state.known) es j
+    × HasJudged before after outcome (settle j)
 
 abbrev pub IsItemAs : Expr → Checker → Checker → Outcome → Type 0
-IsItemAs e before after outcome = (j : Judgement) × Judges (language_rules before.patterns.now) before.inside before.state.known e j × HasJudged before after outcome (with_codes (of_item (span_of e) j) j)
+IsItemAs e before after outcome = (j : Judgement)
+    × Judges (language_rules before.patterns.now) before.inside before.state.known e j
+    × HasJudged before after outcome (with_codes (of_item (span_of e) j) j)
 
 -- ---- steps of the walk
 
 abbrev pub AreBoth : Expr → Expr → Checker → Checker → Operands → Type 0
-AreBoth l r before after parts = (j : Judgement) × (k : Judgement) × (whole : Judgement) × Judges (language_rules before.patterns.now) before.inside before.state.known l j × Judges (language_rules before.patterns.now) before.inside j.ok r k × IsThen j k whole × HasOperands before after parts j k whole
+AreBoth l r before after parts = (j : Judgement) × (k : Judgement) × (whole : Judgement)
+    × Judges (language_rules before.patterns.now) before.inside before.state.known l j
+    × Judges (language_rules before.patterns.now) before.inside j.ok r k × IsThen j k whole
+    × HasOperands before after parts j k whole
 
 -- the right one, behind the left one
 abbrev pub IsBesideAs : Expr → Outcome → Checker → Checker → Operands → Type 0
 IsBesideAs r left now after parts = (before : Checker) (j : Judgement) → HasJudged before now left j
-    → (k : Judgement) × (whole : Judgement) × Judges (language_rules before.patterns.now) before.inside now.state.known r k × IsThen j k whole × HasOperands before after parts j k whole
+    → (k : Judgement) × (whole : Judgement)
+    × Judges (language_rules before.patterns.now) before.inside now.state.known r k × IsThen j k whole
+    × HasOperands before after parts j k whole
 
 -- the ways of an `if` that were judged so far
 pub record HasWays (before now : Checker) (ways : Ways) (w : Judgement) : Type 0 where
@@ -123,8 +141,10 @@ pub record IsArmAs (a : ArmTree) (w : Judgement) (before now after : Checker) (w
   pub told : HasWays before after ways all
 
 abbrev pub IsArmBehind : ArmTree → Ways → Checker → Checker → Ways → Type 0
-IsArmBehind a ways now after all = (before : Checker) (w : Judgement) → HasWays before now ways w → IsArmAs a w before now after all
+IsArmBehind a ways now after all =
+    (before : Checker) (w : Judgement) → HasWays before now ways w → IsArmAs a w before now after all
 
 abbrev pub IsElseAs : Else → Checker → Checker → Outcome → Type 0
 IsElseAs (else_block es) before after outcome = IsBlockAs es before after outcome
-IsElseAs no_else before after outcome = (N : KindTree) × IsScalar tag.Null N × HasJudged before after outcome (settle (gives N before.state.known))
+IsElseAs no_else before after outcome =
+    (N : KindTree) × IsScalar tag.Null N × HasJudged before after outcome (settle (gives N before.state.known))

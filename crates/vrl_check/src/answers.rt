@@ -48,7 +48,9 @@ pub(crate) fn answer_call(
     requires form { FormCanBeJudged checker.old.patterns.now (call_of call.now) }
     requires codes { HasCodes callee (call_args call.now) (call_closure call.now) arguments bound.now }
     requires ends { AreEnds checker.old.state.scopes arguments.ends }
-    ensures { IfOk result (λ outcome. (span : SpecSpan) → IsBoundCallAs callee span (call_of call.now) (call_bang call.now) (call_args call.now)
+    ensures { IfOk result
+        (λ outcome. (span : SpecSpan)
+        → IsBoundCallAs callee span (call_of call.now) (call_bang call.now) (call_args call.now)
         (call_closure call.now) arguments checker.old checker.new outcome) }
 {
     match callee {
@@ -59,8 +61,8 @@ pub(crate) fn answer_call(
     }
 }
 
-// What a function answers to arguments without code, whose places these are: it may fail, or the kind of one may not be within its
-// parameter's. `Memory`: want of memory.
+// What a function answers to arguments without code, whose places these are: it may fail, or the
+// kind of one may not be within its parameter's. `Memory`: want of memory.
 fn answered(
     checker: &mut Checker<'_>,
     function: Fun,
@@ -68,7 +70,8 @@ fn answered(
     bound: &Bound,
     arguments: Arguments,
 ) -> Result<Outcome, Memory>
-    requires asked { arguments.ends.poisoned ≡ false → MayBeAsked (row_of function) (args_of args.now) arguments.parts.items bound.now }
+    requires asked { arguments.ends.poisoned ≡ false
+        → MayBeAsked (row_of function) (args_of args.now) arguments.parts.items bound.now }
     requires regexes { args_regexes_below (length checker.old.patterns.now) (args_of args.now) ≡ true }
     requires ends { AreEnds checker.old.state.scopes arguments.ends }
     ensures answered { IfOk result (λ outcome. (js : List JudgedArgument) → AreTold (args_of args.now) arguments.parts.items js
@@ -139,7 +142,8 @@ fn existing(checker: &Checker<'_>, arguments: Arguments) -> Result<Outcome, Memo
 
 // The kind of the one argument; any where there is another number. `Memory`: want of memory.
 pub(crate) fn only_kind(alloc: Global, parts: Vec<Argument>) -> Result<SharedKind, Memory>
-    ensures { IfOk result (λ kind. (js : List JudgedArgument) → parts.items ≡ map part_of js → kind ≡ deleted_kind false js) }
+    ensures { IfOk result
+        (λ kind. (js : List JudgedArgument) → parts.items ≡ map part_of js → kind ≡ deleted_kind false js) }
 {
     let mut parts = parts;
     let Some(part) = parts.pop() else {
@@ -153,7 +157,8 @@ pub(crate) fn only_kind(alloc: Global, parts: Vec<Argument>) -> Result<SharedKin
 
 // Whether the kind of some argument isn't within its parameter's.
 fn some_has_others(parameters: &[Parameter], places: &[Option<usize>], parts: &[Argument]) -> bool
-    ensures { (js : List JudgedArgument) → parts.now ≡ map part_of js → result ≡ some_have_others (map parameter_row parameters.now) (bound_at places.now js) }
+    ensures { (js : List JudgedArgument) → parts.now ≡ map part_of js
+        → result ≡ some_have_others (map parameter_row parameters.now) (bound_at places.now js) }
 {
     let mut left = parameters;
     let mut bound = places;
@@ -170,8 +175,8 @@ fn some_has_others(parameters: &[Parameter], places: &[Option<usize>], parts: &[
     false
 }
 
-// What a function is asked about: of each argument its kind, cut down to the tags that its parameter allows, and its value where it is
-// written as a literal. `Memory`: want of memory.
+// What a function is asked about: of each argument its kind, cut down to the tags that its
+// parameter allows, and its value where it is written as a literal. `Memory`: want of memory.
 fn givens_of(
     alloc: Global,
     parameters: &[Parameter],
@@ -181,7 +186,9 @@ fn givens_of(
 ) -> Result<Givens, Memory>
     ensures given { IfOk result (λ givens. (js : List JudgedArgument) → AreTold (args_view args.now) parts.now js
         → AreAskedAbout (map parameter_row parameters.now) (bound_at places.now js) (trees_of_givens givens)) }
-    ensures regexes { IfOk result (λ givens. (count : ℕ) → args_regexes_below count (args_view args.now) ≡ true → literals_below count (trees_of_givens givens) ≡ true) }
+    ensures regexes { IfOk result
+        (λ givens. (count : ℕ) → args_regexes_below count (args_view args.now) ≡ true
+        → literals_below count (trees_of_givens givens) ≡ true) }
 {
     let mut givens = Vec::with_capacity(alloc, parameters.len())?;
     let mut left = parameters;
@@ -204,8 +211,12 @@ fn given_of(
     parameter: &Parameter,
     argument: Option<(&Arg, &Argument)>,
 ) -> Result<Given, Memory>
-    ensures given { IfOk result (λ given. (g : Option JudgedArgument) → IsFound g (option_map (λ f. (f.0.now, f.1.now)) argument.entry) → IsAskedAbout (parameter_row parameter.now) g (given_tree given)) }
-    ensures regexes { IfOk result (λ given. (count : ℕ) → IfSome argument.entry (λ f. expr_regexes_below count (expr_of f.0.now.value) ≡ true) → below_if count (given_tree given).literal ≡ true) }
+    ensures given { IfOk result
+        (λ given. (g : Option JudgedArgument) → IsFound g (option_map (λ f. (f.0.now, f.1.now)) argument.entry)
+        → IsAskedAbout (parameter_row parameter.now) g (given_tree given)) }
+    ensures regexes { IfOk result
+        (λ given. (count : ℕ) → IfSome argument.entry (λ f. expr_regexes_below count (expr_of f.0.now.value) ≡ true)
+        → below_if count (given_tree given).literal ≡ true) }
 {
     let Some((arg, part)) = argument else {
         return Ok(Given {

@@ -88,7 +88,8 @@ impl Callee {
 
     // Whether a call has a closure that isn't wanted, or none that is: 1010.
     fn is_wrong_closure(self, closure: &Option<Closure>) -> bool
-        ensures { (span : SpecSpan) → when result (at 1010 span) ≡ callee_closure self span (closure_in (option_map closure_of closure.now)) }
+        ensures { (span : SpecSpan)
+            → when result (at 1010 span) ≡ callee_closure self span (closure_in (option_map closure_of closure.now)) }
     {
         match self {
             Callee::Function(_) | Callee::Deletion | Callee::Existence => closure.is_some(),
@@ -105,7 +106,8 @@ impl Callee {
         value: &Expr,
     ) -> Result<bool, Memory>
         requires { slice_get (callee_parameters self) place ≡ Some (parameter_row parameter.now) }
-        ensures { IfOk result (λ unwritten. unwritten ≡ callee_wants self place (parameter_row parameter.now) (expr_of value.now)) }
+        ensures { IfOk result
+            (λ unwritten. unwritten ≡ callee_wants self place (parameter_row parameter.now) (expr_of value.now)) }
     {
         match self {
             Callee::Function(function) => {
@@ -130,7 +132,8 @@ impl Callee {
     ) -> Result<Option<u16>, Memory>
         requires { slice_get (callee_parameters self) place ≡ Some (parameter_row parameter.now) }
         ensures { IfOk result (λ code. (g : JudgedArgument) → g.value ≡ expr_of value.now → part_of g ≡ part.now
-            → of_code code value.now.span ≡ of_argument parameter.now.allowed (callee_wants self place (parameter_row parameter.now) g.value) g) }
+            → of_code code value.now.span ≡ of_argument parameter.now.allowed
+            (callee_wants self place (parameter_row parameter.now) g.value) g) }
     {
         if part.fallible {
             return Ok(Some(code::FALLIBLE_ARGUMENT));
@@ -145,7 +148,8 @@ impl Callee {
     }
 }
 
-// A call of what takes no closure, behind its arguments. Its closure isn't judged. `Memory`: want of memory.
+// A call of what takes no closure, behind its arguments. Its closure isn't judged. `Memory`: want
+// of memory.
 pub(crate) fn called(
     checker: &mut Checker<'_>,
     span: Span,
@@ -156,7 +160,8 @@ pub(crate) fn called(
     requires name { takes_closure (call_name call.now) ≡ false }
     requires told { IsTold (call_args call.now) arguments.parts.items }
     requires ends { AreEnds checker.old.state.scopes arguments.ends }
-    ensures { IfOk result (λ outcome. IsCalledAs span (call_of call.now) (call_args call.now) arguments checker.old checker.new outcome) }
+    ensures { IfOk result
+        (λ outcome. IsCalledAs span (call_of call.now) (call_args call.now) arguments checker.old checker.new outcome) }
 {
     pass_closure(checker, &call.closure)?;
     match Callee::of(call.name.as_str()) {
@@ -165,7 +170,8 @@ pub(crate) fn called(
     }
 }
 
-// The own codes of a call of a function that takes a closure, behind its arguments, and whether it has one. `Memory`: want of memory.
+// The own codes of a call of a function that takes a closure, behind its arguments, and whether it
+// has one. `Memory`: want of memory.
 pub(crate) fn is_wrong_call(
     checker: &mut Checker<'_>,
     span: Span,
@@ -174,7 +180,8 @@ pub(crate) fn is_wrong_call(
     arguments: &mut Arguments,
 ) -> Result<bool, Memory>
     ensures reported { OnOk result ((js : List JudgedArgument) → AreTold (call_args call.now) arguments.old.parts.items js
-        → IsReported (of_closure_call form span (call_args call.now) (call_closure call.now) js) checker.old checker.new arguments.old.ends arguments.new.ends) }
+        → IsReported (of_closure_call form span (call_args call.now)
+        (call_closure call.now) js) checker.old checker.new arguments.old.ends arguments.new.ends) }
     ensures wrong { IfOk result (λ wrong. (js : List JudgedArgument) → AreTold (call_args call.now) arguments.old.parts.items js
         → wrong ≡ list_any (λ d. true) (of_closure_call form span (call_args call.now) (call_closure call.now) js)) }
     ensures parts { arguments.new.parts ≡ arguments.old.parts }
@@ -191,14 +198,17 @@ fn is_more(before: usize, after: usize) -> bool
     before < after
 }
 
-// The same call where it has a code of its own, so its closure isn't judged. `Memory`: want of memory.
+// The same call where it has a code of its own, so its closure isn't judged. `Memory`: want of
+// memory.
 pub(crate) fn passed_call(
     checker: &mut Checker<'_>,
     span: Span,
     call: &Call,
     arguments: Arguments,
 ) -> Result<Outcome, Memory>
-    ensures { IfOk result (λ outcome. (before : SpecChecker) (j : Judgement) → HasEnds before.state.scopes arguments.ends j → HasGathered before checker.old j
+    ensures { IfOk result
+        (λ outcome. (before : SpecChecker) (j : Judgement) → HasEnds before.state.scopes arguments.ends j
+        → HasGathered before checker.old j
         → HasJudged before checker.new outcome (banged_as span (call_bang call.now)
         (passing_closure (call_closure call.now) (nulls (in_closure (call_closure call.now)))
         (record j { kind = any_kind })))) }
@@ -211,7 +221,8 @@ pub(crate) fn passed_call(
 
 // Whether a closure isn't one for the function, or there is none.
 fn is_other_closure(form: CallForm, closure: &Option<Closure>) -> bool
-    ensures { (span : SpecSpan) → when result (at 1010 span) ≡ of_wanted_closure form span (closure_in (option_map closure_of closure.now)) }
+    ensures { (span : SpecSpan)
+        → when result (at 1010 span) ≡ of_wanted_closure form span (closure_in (option_map closure_of closure.now)) }
 {
     match closure {
         Some(closure) => !has_shape(form, &closure.names),
@@ -246,7 +257,9 @@ fn call_of(
     requires form { FormCanBeJudged checker.old.patterns.now (call_of call.now) }
     requires told { IsTold (call_args call.now) arguments.parts.items }
     requires ends { AreEnds checker.old.state.scopes arguments.ends }
-    ensures { IfOk result (λ outcome. IsPassedCallAs span (call_of call.now) (call_args call.now) (call_closure call.now) arguments checker.old checker.new outcome) }
+    ensures { IfOk result
+        (λ outcome. IsPassedCallAs span (call_of call.now) (call_args call.now)
+        (call_closure call.now) arguments checker.old checker.new outcome) }
 {
     let mut arguments = arguments;
     let bound = bound(checker, span, callee, call, &mut arguments)?;
@@ -254,8 +267,8 @@ fn call_of(
     checker.banged(span, call.bang, outcome)
 }
 
-// The places of a call's arguments, none where they aren't bound, with the call's own codes: one alone where they aren't, and else those
-// of arguments and closure. `Memory`: want of memory.
+// The places of a call's arguments, none where they aren't bound, with the call's own codes: one
+// alone where they aren't, and else those of arguments and closure. `Memory`: want of memory.
 fn bound(
     checker: &mut Checker<'_>,
     span: Span,
@@ -263,7 +276,8 @@ fn bound(
     call: &Call,
     arguments: &mut Arguments,
 ) -> Result<Bound, Memory>
-    ensures places { IfOk result (λ bound. bound ≡ places_in (binding (callee_parameters callee) (keywords_of (call_args call.now)))) }
+    ensures places { IfOk result
+        (λ bound. bound ≡ places_in (binding (callee_parameters callee) (keywords_of (call_args call.now)))) }
     ensures reported { OnOk result ((js : List JudgedArgument) → AreTold (call_args call.now) arguments.old.parts.items js
         → IsReported (callee_codes callee span (call_args call.now) (call_closure call.now) js)
         checker.old checker.new arguments.old.ends arguments.new.ends) }
@@ -291,7 +305,8 @@ fn bound_codes(
     arguments: &mut Arguments,
 ) -> Result<(), Memory>
     ensures reported { OnOk result ((js : List JudgedArgument) → AreTold (call_args call.now) arguments.old.parts.items js
-        → IsReported (of_arguments (callee_wants callee) 0 (callee_parameters callee) (bound_at places.now js) ++ callee_closure callee span (call_closure call.now))
+        → IsReported (of_arguments (callee_wants callee) 0 (callee_parameters callee)
+        (bound_at places.now js) ++ callee_closure callee span (call_closure call.now))
         checker.old checker.new arguments.old.ends arguments.new.ends) }
     ensures parts { arguments.new.parts ≡ arguments.old.parts }
 {
@@ -338,7 +353,9 @@ fn report_unknown(
     args: &[Arg],
     place: usize,
 ) -> Result<(), Memory>
-    ensures { OnOk result (IsReported (option_map_or (λ arg. at 108 arg.span) (slice_get args.now place) []) checker.old checker.new ends.old ends.new) }
+    ensures { OnOk result
+        (IsReported (option_map_or (λ arg. at 108 arg.span) (slice_get args.now place)
+        []) checker.old checker.new ends.old ends.new) }
 {
     match args.get(place) {
         Some(arg) => checker.report(ends, true, code::UNKNOWN_ARGUMENT_NAME, arg.span),
@@ -356,7 +373,8 @@ fn argument_codes(
     ends: &mut Ends,
 ) -> Result<(), Memory>
     ensures { OnOk result ((js : List JudgedArgument) → AreTold (args_view args.now) parts.now js
-        → IsReported (of_arguments (callee_wants callee) 0 (callee_parameters callee) (bound_at places.now js)) checker.old checker.new ends.old ends.new) }
+        → IsReported (of_arguments (callee_wants callee) 0 (callee_parameters callee)
+        (bound_at places.now js)) checker.old checker.new ends.old ends.new) }
 {
     let parameters = callee.parameters();
     let mut place = 0;
@@ -386,7 +404,8 @@ fn found_code(
 ) -> Result<(), Memory>
     requires { slice_get (callee_parameters callee) place ≡ Some (parameter_row parameter.now) }
     ensures { OnOk result ((g : Option JudgedArgument) → IsFound g (option_map (λ f. (f.0.now, f.1.now)) found.entry)
-        → IsReported (of_found (callee_wants callee) place (parameter_row parameter.now) g) checker.old checker.new ends.old ends.new) }
+        → IsReported (of_found (callee_wants callee) place
+        (parameter_row parameter.now) g) checker.old checker.new ends.old ends.new) }
 {
     let Some((arg, part)) = found else {
         return Ok(());
@@ -416,8 +435,10 @@ pub(crate) fn argument_at<'a>(
     parts: &'a [Argument],
     place: Option<usize>,
 ) -> Option<(&'a Arg, &'a Argument)>
-    ensures found { (js : List JudgedArgument) → AreTold (args_view args.now) parts.now js → IsFound (argument_of js place) (option_map (λ f. (f.0.now, f.1.now)) result) }
-    ensures regexes { (count : ℕ) → args_regexes_below count (args_view args.now) ≡ true → IfSome result (λ f. expr_regexes_below count (expr_of f.0.now.value) ≡ true) }
+    ensures found { (js : List JudgedArgument) → AreTold (args_view args.now) parts.now js
+        → IsFound (argument_of js place) (option_map (λ f. (f.0.now, f.1.now)) result) }
+    ensures regexes { (count : ℕ) → args_regexes_below count (args_view args.now) ≡ true
+        → IfSome result (λ f. expr_regexes_below count (expr_of f.0.now.value) ≡ true) }
 {
     let place = place?;
     let arg = args.get(place)?;
@@ -432,11 +453,12 @@ fn is_path(value: &Expr) -> bool
     value.as_path().is_some()
 }
 
-// Whether an argument is no literal, or one that the function doesn't allow at this place, where its parameter wants one. `Memory`: want of
-// memory.
+// Whether an argument is no literal, or one that the function doesn't allow at this place, where
+// its parameter wants one. `Memory`: want of memory.
 fn is_no_literal(alloc: Global, function: Fun, place: usize, value: &Expr) -> Result<bool, Memory>
     ensures { IfOk result (λ wanting. IsSomeAnd (slice_get (row_of function).parameters place) (λ p. p.literal ≡ true)
-        → wanting ≡ option_map_or (λ v. not ((row_of function).accepts place v)) (literal_of (expr_of value.now)) true) }
+        → wanting ≡ option_map_or (λ v. not ((row_of function).accepts place v))
+        (literal_of (expr_of value.now)) true) }
 {
     let Some(value) = value.as_literal() else {
         return Ok(true);
@@ -447,7 +469,8 @@ fn is_no_literal(alloc: Global, function: Fun, place: usize, value: &Expr) -> Re
 
 // A literal at a place, and nothing at those before it. `Memory`: want of memory.
 fn given_alone(alloc: Global, place: usize, value: &Value) -> Result<Givens, Memory>
-    ensures { IfOk result (λ alone. (i : ℕ) → literal_at i (trees_of_givens alone) ≡ alone_at place (tree_of value.now) i) }
+    ensures { IfOk result
+        (λ alone. (i : ℕ) → literal_at i (trees_of_givens alone) ≡ alone_at place (tree_of value.now) i) }
 {
     let mut givens = Vec::new(alloc);
     for _step in 0..place {

@@ -53,7 +53,8 @@ fn add_call(call: &Call, empties: &mut Vec<Tag>) -> Result<(), Memory>
 // Adds those of a closure.
 #[cycle(empties)]
 pub(crate) fn add_closure(closure: &Option<Closure>, empties: &mut Vec<Tag>) -> Result<(), Memory>
-    ensures { OnOk result (empties.new.items ≡ empties.old.items ++ nulls (in_closure (closure_in (option_map closure_of closure.now)))) }
+    ensures { OnOk result
+        (empties.new.items ≡ empties.old.items ++ nulls (in_closure (closure_in (option_map closure_of closure.now)))) }
 {
     match closure {
         Some(closure) => add_exprs(&closure.body, empties),

@@ -59,7 +59,8 @@ pub(crate) enum Tried {
 
 // The function of this name that takes a closure. None: it is no such name.
 pub(crate) fn closure_form(name: &str) -> Option<CallForm>
-    ensures { MatchOption result (takes_closure name.now ≡ false) (λ form. (form_named name.now ≡ Some form) × (is_closure_form (Some form) ≡ true)) }
+    ensures { MatchOption result (takes_closure name.now ≡ false)
+        (λ form. (form_named name.now ≡ Some form) × (is_closure_form (Some form) ≡ true)) }
 {
     match CallForm::named(name) {
         Some(CallForm::ForEach) => Some(CallForm::ForEach),
@@ -72,7 +73,8 @@ pub(crate) fn closure_form(name: &str) -> Option<CallForm>
 
 // The closure of a call that has no code of its own. None: the call has one, or no closure.
 pub(crate) fn right_closure(call: &Call, wrong: bool) -> Option<&Closure>
-    ensures { MatchOption (option_map (λ closure. closure.now) result) ((wrong ≡ true) ⊎ (closure_at call.now ≡ None)) (λ closure. (wrong ≡ false) × (closure_at call.now ≡ Some closure)) }
+    ensures { MatchOption (option_map (λ closure. closure.now) result) ((wrong ≡ true) ⊎ (closure_at call.now ≡ None))
+        (λ closure. (wrong ≡ false) × (closure_at call.now ≡ Some closure)) }
 {
     if wrong {
         return None;
@@ -89,7 +91,9 @@ pub(crate) fn collection_of(
     form: CallForm,
     arguments: Arguments,
 ) -> Result<Collection, Memory>
-    ensures taken { IfOk result (λ taken. (g : JudgedArgument) → arguments.parts.items ≡ part_of g ∷ [] → IsCollection form g.judged.kind checker.old arguments taken) }
+    ensures taken { IfOk result
+        (λ taken. (g : JudgedArgument) → arguments.parts.items ≡ part_of g ∷ []
+        → IsCollection form g.judged.kind checker.old arguments taken) }
     ensures fail { IfOk result (λ taken. IsWay checker.old.state.scopes taken.fail) }
     ensures ends { IfOk result (λ taken. taken.ends ≡ arguments.ends) }
     ensures checker { checker.new ≡ checker.old }
@@ -112,7 +116,8 @@ fn cut_to_tags(alloc: Global, kind: &Kind, tags: &Tags) -> Result<Kind, Memory>
     Ok(lower)
 }
 
-// The kinds of the names of a closure that is run for a collection of this kind, and whether it is run at all. `Memory`: want of memory.
+// The kinds of the names of a closure that is run for a collection of this kind, and whether it is
+// run at all. `Memory`: want of memory.
 pub(crate) fn name_kinds(
     alloc: Global,
     form: CallForm,
@@ -210,8 +215,8 @@ pub(crate) fn keep_loop(checker: &mut Checker<'_>, place: usize) -> Result<(), M
     Ok(())
 }
 
-// What a call gives behind the runs of its closure, but for its `!`: an error where the argument has another tag, and 1015 of a body of a wrong
-// kind. `Memory`: want of memory.
+// What a call gives behind the runs of its closure, but for its `!`: an error where the argument
+// has another tag, and 1015 of a body of a wrong kind. `Memory`: want of memory.
 pub(crate) fn made_of(
     checker: &mut Checker<'_>,
     form: CallForm,

@@ -17,8 +17,8 @@ pub struct Judged {
     pub ret: Option<Returned>,
     /// The tag of the empty value of each error assignment.
     pub empties: Empties,
-    /// What is known before each run of each closure, in the order in which a walk of the tree as written meets them, an outer one before
-    /// those in it; dead for one that isn't judged.
+    /// What is known before each run of each closure, in the order in which a walk of the tree as
+    /// written meets them, an outer one before those in it; dead for one that isn't judged.
     pub loops: Knowns,
     /// What is wrong with it, by start, end and code.
     pub diagnostics: Diagnostics,

@@ -54,7 +54,9 @@ pub(crate) fn add_closure(
     closure: &Option<Closure>,
     loops: &mut Vec<Option<Branch>>,
 ) -> Result<(), Memory>
-    ensures { OnOk result (loops.new.items ≡ loops.old.items ++ passed_states (closures_in_closure (closure_in (option_map closure_of closure.now)))) }
+    ensures { OnOk result
+        (loops.new.items ≡ loops.old.items ++ passed_states
+        (closures_in_closure (closure_in (option_map closure_of closure.now)))) }
 {
     match closure {
         Some(closure) => {
@@ -68,7 +70,8 @@ pub(crate) fn add_closure(
 // Adds those of expressions.
 #[cycle(loops)]
 pub(crate) fn add_exprs(exprs: &Exprs, loops: &mut Vec<Option<Branch>>) -> Result<(), Memory>
-    ensures { OnOk result (loops.new.items ≡ loops.old.items ++ passed_states (closures_in_exprs (exprs_of exprs.now))) }
+    ensures { OnOk result
+        (loops.new.items ≡ loops.old.items ++ passed_states (closures_in_exprs (exprs_of exprs.now))) }
 {
     for expr in exprs.as_slice() {
         add_expr(expr, loops)?;
@@ -79,7 +82,8 @@ pub(crate) fn add_exprs(exprs: &Exprs, loops: &mut Vec<Option<Branch>>) -> Resul
 // Adds those of the values of an object.
 #[cycle(loops)]
 fn add_pairs(pairs: &Pairs, loops: &mut Vec<Option<Branch>>) -> Result<(), Memory>
-    ensures { OnOk result (loops.new.items ≡ loops.old.items ++ passed_states (closures_in_pairs (pairs_of pairs.now))) }
+    ensures { OnOk result
+        (loops.new.items ≡ loops.old.items ++ passed_states (closures_in_pairs (pairs_of pairs.now))) }
 {
     for (_, value) in pairs.as_slice() {
         add_expr(value, loops)?;

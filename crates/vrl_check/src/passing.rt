@@ -11,7 +11,8 @@ use vrl_judge::{Checker, Outcome};
 use vrl_syntax::{Closure, Expr, Exprs};
 use vrl_value::Memory;
 
-// What isn't judged gives nothing but its empty values and its closures, and the state stays. `Memory`: want of memory.
+// What isn't judged gives nothing but its empty values and its closures, and the state stays.
+// `Memory`: want of memory.
 pub(crate) fn pass(checker: &mut Checker<'_>, expr: &Expr) -> Result<Outcome, Memory>
     ensures { IfOk result (λ outcome. HasJudged checker.old checker.new outcome
         (record (unreached_parts (nulls (in_expr (expr_of expr.now))) (closures_in_expr (expr_of expr.now)))
@@ -38,8 +39,12 @@ pub(crate) fn pass_closure(
     checker: &mut Checker<'_>,
     closure: &Option<Closure>,
 ) -> Result<(), Memory>
-    ensures empties { OnOk result (checker.new.empties.items ≡ checker.old.empties.items ++ nulls (in_closure (closure_in (option_map closure_of closure.now)))) }
-    ensures loops { OnOk result (checker.new.loops.items ≡ checker.old.loops.items ++ passed_states (closures_in_closure (closure_in (option_map closure_of closure.now)))) }
+    ensures empties { OnOk result
+        (checker.new.empties.items ≡ checker.old.empties.items ++ nulls
+        (in_closure (closure_in (option_map closure_of closure.now)))) }
+    ensures loops { OnOk result
+        (checker.new.loops.items ≡ checker.old.loops.items ++ passed_states
+        (closures_in_closure (closure_in (option_map closure_of closure.now)))) }
     ensures others { OnOk result (checker.new ≡ record checker.old { empties = checker.new.empties; loops = checker.new.loops }) }
 {
     empties::add_closure(closure, &mut checker.empties)?;

@@ -22,9 +22,10 @@ use vrl_state::{Branch, Known, Knowns, State};
 use vrl_syntax::{Empties, Expr, Exprs, Script};
 use vrl_value::{Memory, Tag};
 
-/// Judges a script over events of a kind. `patterns` are its regex literals, one for each of its sources, and each regex in it is one of
-/// them. It walks the script once, but for the bodies of closures: each is walked up to three times for each time that the body around it is.
-/// `Memory`: want of memory.
+/// Judges a script over events of a kind. `patterns` are its regex literals, one for each of its
+/// sources, and each regex in it is one of them. It walks the script once, but for the bodies of
+/// closures: each is walked up to three times for each time that the body around it is. `Memory`:
+/// want of memory.
 pub fn check(
     alloc: Global,
     script: &Script,
@@ -35,7 +36,9 @@ pub fn check(
     requires patterns { patterns.now ≡ script.now.patterns }
     requires regexes { exprs_regexes_below (length patterns.now) (exprs_of script.now.items) ≡ true }
     requires present { allows_absent start.now ≡ false }
-    ensures { IfOk result (λ judged. (j : Judgement) × JudgesScript (language_rules patterns.now) start.now (exprs_of script.now.items) j × IsJudged j judged) }
+    ensures { IfOk result
+        (λ judged. (j : Judgement) × JudgesScript (language_rules patterns.now) start.now (exprs_of script.now.items) j
+        × IsJudged j judged) }
 {
     let state = State::start(alloc, start)?;
     let mut checker = Checker {
@@ -143,8 +146,8 @@ fn or_dead(alloc: Global, branch: Option<Branch>) -> Result<Branch, Memory>
     }
 }
 
-/// The kind of a script's value, from its end or from a return, and what is known there. `Memory`: want of
-/// memory.
+/// The kind of a script's value, from its end or from a return, and what is known there. `Memory`:
+/// want of memory.
 pub fn ending(alloc: Global, judged: &Judged) -> Result<Ending, Memory>
     requires { (j : Judgement) × IsJudged j judged.now }
     ensures { IfOk result (λ ending. IsEnding judged.now ending) }

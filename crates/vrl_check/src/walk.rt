@@ -120,7 +120,8 @@ fn read(checker: &mut Checker<'_>, span: Span, root: &Root, path: &Path) -> Resu
 #[cycle(judge)]
 fn query(checker: &mut Checker<'_>, inner: &Expr, path: &Path) -> Result<Outcome, Memory>
     requires { ExprCanBeJudged checker.old.patterns.now (expr_of inner.now) }
-    ensures { IfOk result (λ outcome. IsAnywhereAs (query_form (expr_of inner.now) path.now) checker.old checker.new outcome) }
+    ensures { IfOk result
+        (λ outcome. IsAnywhereAs (query_form (expr_of inner.now) path.now) checker.old checker.new outcome) }
 {
     let part = expr(checker, inner)?;
     checker.read_off(part, path)
@@ -187,7 +188,8 @@ fn arguments(checker: &mut Checker<'_>, args: &Args) -> Result<Arguments, Memory
 #[cycle(judge)]
 fn return_with(checker: &mut Checker<'_>, span: Span, value: &Expr) -> Result<Outcome, Memory>
     requires { ExprCanBeJudged checker.old.patterns.now (expr_of value.now) }
-    ensures { IfOk result (λ outcome. IsGivenAs span (return_form (expr_of value.now)) checker.old checker.new outcome) }
+    ensures { IfOk result
+        (λ outcome. IsGivenAs span (return_form (expr_of value.now)) checker.old checker.new outcome) }
 {
     let part = expr(checker, value)?;
     checker.returned(part, span)
@@ -204,7 +206,8 @@ fn abort(checker: &mut Checker<'_>) -> Result<Outcome, Memory>
 #[cycle(judge)]
 fn abort_with(checker: &mut Checker<'_>, message: &Expr) -> Result<Outcome, Memory>
     requires { ExprCanBeJudged checker.old.patterns.now (expr_of message.now) }
-    ensures { IfOk result (λ outcome. IsAnywhereAs (abort_form (message_form (expr_of message.now))) checker.old checker.new outcome) }
+    ensures { IfOk result
+        (λ outcome. IsAnywhereAs (abort_form (message_form (expr_of message.now))) checker.old checker.new outcome) }
 {
     let part = expr(checker, message)?;
     checker.aborted(part, message.span)

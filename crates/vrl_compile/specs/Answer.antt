@@ -1,5 +1,6 @@
--- What `compile` answers: the diagnostics of a text under a declared kind, by the first step that gives any. The numbers of
--- diagnostics are those of the Vector Remap Language's error reference, but for those from 1000 on, which are this compiler's.
+-- What `compile` answers: the diagnostics of a text under a declared kind, by the first step that
+-- gives any. The numbers of diagnostics are those of the Vector Remap Language's error reference,
+-- but for those from 1000 on, which are this compiler's.
 use Rattle.std.specs.Prelude.{◌≡◌, ℕ, ℤ, true, List, [], ◌∷◌, ◌++◌, length, Option, if◌then◌else◌, ⊤}
 use Rattle.std.specs.List.{list_any}
 use Rattle.vrl_value.specs.Tree.{Tree}
@@ -53,7 +54,8 @@ pub record IsUngrammatical (text : List ℕ) (span : Span) : Type 0 where
 abbrev pub unread_at : Span → List Diagnostic
 unread_at span = record { code = 203; span = span } ∷ []
 
--- 101, malformed regex literal, where the token has a source, as a regex literal has, and that isn't well formed
+-- 101, malformed regex literal, where the token has a source, as a regex literal has, and that
+-- isn't well formed
 abbrev pub malformed_at : Span → List (List ℕ) → List Diagnostic
 malformed_at span [] = []
 malformed_at span (source ∷ sources) = if is_malformed source then record { code = 101; span = span } ∷ [] else []
@@ -63,31 +65,42 @@ abbrev pub malformed_literals : List Spanned → List Diagnostic
 malformed_literals [] = []
 malformed_literals (t ∷ ts) = malformed_at t.span (regex_of t.token) ++ malformed_literals ts
 
--- nothing is wrong with a script before it is judged: its paths keep the limits, and its regex literals are well formed
+-- nothing is wrong with a script before it is judged: its paths keep the limits, and its regex
+-- literals are well formed
 pub record CanBeJudged (tokens : List Spanned) (script : Script) : Type 0 where
   pub limits : KeepsLimits script.items
   pub well_formed : malformed_literals tokens ≡ []
 
 -- the diagnostics of a script over events of a kind
-pub data AreOfScript (declared : KindTree) (tokens : List Spanned) (script : Script) (diagnostics : List Diagnostic) : Type 0 where
+pub data AreOfScript (declared : KindTree) (tokens : List Spanned) (script : Script)
+    (diagnostics : List Diagnostic) : Type 0 where
   -- the first path that is written or deleted beyond the limits (1007, 1012)
-  beyond : (first : Diagnostic) (others : List Diagnostic) → exprs_faults script.items ≡ first ∷ others → diagnostics ≡ first ∷ [] → AreOfScript declared tokens script diagnostics
+  beyond : (first : Diagnostic) (others : List Diagnostic) → exprs_faults script.items ≡ first ∷ others
+      → diagnostics ≡ first ∷ [] → AreOfScript declared tokens script diagnostics
   -- regex literals are malformed
-  malformed : KeepsLimits script.items → (first : Diagnostic) (others : List Diagnostic) → malformed_literals tokens ≡ first ∷ others → diagnostics ≡ first ∷ others → AreOfScript declared tokens script diagnostics
+  malformed : KeepsLimits script.items → (first : Diagnostic) (others : List Diagnostic)
+      → malformed_literals tokens ≡ first ∷ others → diagnostics ≡ first ∷ others
+      → AreOfScript declared tokens script diagnostics
   -- those of the judgement
-  judged : CanBeJudged tokens script → (j : Judgement) → JudgesScript (language_rules script.patterns) declared script.items j → AreOrdered j.codes diagnostics → AreOfScript declared tokens script diagnostics
+  judged : CanBeJudged tokens script → (j : Judgement)
+      → JudgesScript (language_rules script.patterns) declared script.items j → AreOrdered j.codes diagnostics
+      → AreOfScript declared tokens script diagnostics
 
 -- the diagnostics of a text
 pub data AreDiagnostics (declared : KindTree) (text : List ℕ) (diagnostics : List Diagnostic) : Type 0 where
   -- a spelling is at fault, or tokens are nested too deeply (1008)
-  wrong : (fault : Diagnostic) → IsTextFault text fault → diagnostics ≡ fault ∷ [] → AreDiagnostics declared text diagnostics
+  wrong : (fault : Diagnostic) → IsTextFault text fault → diagnostics ≡ fault ∷ []
+      → AreDiagnostics declared text diagnostics
   -- the grammar reads no script
-  unread : (span : Span) → IsUngrammatical text span → diagnostics ≡ unread_at span → AreDiagnostics declared text diagnostics
-  of_script : (tokens : List Spanned) (script : Script) → IsScript text tokens script → AreOfScript declared tokens script diagnostics → AreDiagnostics declared text diagnostics
+  unread : (span : Span) → IsUngrammatical text span → diagnostics ≡ unread_at span
+      → AreDiagnostics declared text diagnostics
+  of_script : (tokens : List Spanned) (script : Script) → IsScript text tokens script
+      → AreOfScript declared tokens script diagnostics → AreDiagnostics declared text diagnostics
 
 -- ---- answers
 
--- the text is this script, nothing is wrong with it before it is judged, and of its diagnostics none is an error
+-- the text is this script, nothing is wrong with it before it is judged, and of its diagnostics
+-- none is an error
 pub record IsAccepted (declared : KindTree) (text : List ℕ) (script : Script) (judgement : Judgement) : Type 0 where
   pub tokens : List Spanned
   pub is_script : IsScript text tokens script
@@ -95,8 +108,8 @@ pub record IsAccepted (declared : KindTree) (text : List ℕ) (script : Script) 
   pub judges : JudgesScript (language_rules script.patterns) declared script.items judgement
   pub no_error : HasNoError judgement.codes
 
--- the text is a script that is accepted: this is how it was judged, the program is what it is run as, and the sources are those of its
--- regex literals
+-- the text is a script that is accepted: this is how it was judged, the program is what it is run
+-- as, and the sources are those of its regex literals
 pub record IsAcceptedAs (declared : KindTree) (text : List ℕ) (answer : AcceptedScript) : Type 0 where
   pub script : Script
   pub judgement : Judgement
@@ -119,22 +132,31 @@ IsAnswer declared text (Refused diagnostics) = IsRefused declared text diagnosti
 
 -- the ends that an answer tells
 abbrev pub ends_told : Judged → Ends
-ends_told told = record { kind = told.kind; ok = told.ok.known; returned = return_kind told.ret; ret = return_state told.ret }
+ends_told told =
+    record { kind = told.kind; ok = told.ok.known; returned = return_kind told.ret; ret = return_state told.ret }
 
 -- a run of an accepted script ended so
 pub record IsSoundlyEnded (ends : Ends) (ended : Ended) : Type 0 where
   -- it handled each of its errors
   pub handled : ¬ IsUnhandled ended.outcome
   pub came : ComesTo ends ended.outcome ended.store
-  -- whichever end it is, a value is of the kind that joins those of both, which `ending` tells, and the store fits the join of what is known at them
-  pub joined : (K : KindTree) (known : Option RootMap) → IsEither ends.kind ends.returned K → IsJoined ends.ok ends.ret known → ComesTo (record { kind = K; ok = known; returned = K; ret = known }) ended.outcome ended.store
+  -- whichever end it is, a value is of the kind that joins those of both, which `ending` tells, and
+  -- the store fits the join of what is known at them
+  pub joined : (K : KindTree) (known : Option RootMap) → IsEither ends.kind ends.returned K
+      → IsJoined ends.ok ends.ret known
+      → ComesTo (record { kind = K; ok = known; returned = K; ret = known }) ended.outcome ended.store
 
--- so ends every script that is accepted, over every well-formed event of the declared kind, at every moment
+-- so ends every script that is accepted, over every well-formed event of the declared kind, at
+-- every moment
 abbrev pub AcceptedScriptsAreSound : Type 0
-AcceptedScriptsAreSound = (declared : KindTree) (text : List ℕ) (script : Script) (j : Judgement) → IsAccepted declared text script j → (moment : ℤ) (event : Tree) → Inhabits event declared → IsWellFormed (length script.patterns) event
+AcceptedScriptsAreSound = (declared : KindTree) (text : List ℕ) (script : Script) (j : Judgement)
+    → IsAccepted declared text script j → (moment : ℤ) (event : Tree) → Inhabits event declared
+    → IsWellFormed (length script.patterns) event
     → IsSoundlyEnded (ends_of j) (ended_over (program_for script j) moment event)
 
 -- the same of what `compile` answers
 abbrev pub IsSoundAnswer : KindTree → Compiled → Type 0
-IsSoundAnswer declared (Accepted answer) = (moment : ℤ) (event : Tree) → Inhabits event declared → IsWellFormed (length answer.sources) event → IsSoundlyEnded (ends_told answer.judged) (ended_over (program_of answer.program) moment event)
+IsSoundAnswer declared (Accepted answer) = (moment : ℤ) (event : Tree) → Inhabits event declared
+    → IsWellFormed (length answer.sources) event
+    → IsSoundlyEnded (ends_told answer.judged) (ended_over (program_of answer.program) moment event)
 IsSoundAnswer declared (Refused diagnostics) = ⊤

@@ -13,8 +13,10 @@ pub record AreOneReading (tokens others : List Spanned) (script other : Script) 
 
 -- so are any two readings of any text
 abbrev pub ScriptsHaveOneReading : Type 0
-ScriptsHaveOneReading = (text : List ℕ) (tokens others : List Spanned) (script other : Script) → IsScript text tokens script → IsScript text others other → AreOneReading tokens others script other
+ScriptsHaveOneReading = (text : List ℕ) (tokens others : List Spanned) (script other : Script)
+    → IsScript text tokens script → IsScript text others other → AreOneReading tokens others script other
 
 -- so the diagnostics of a text under a kind are one list
 abbrev pub DiagnosticsAreDetermined : Type 0
-DiagnosticsAreDetermined = (declared : KindTree) (text : List ℕ) (a b : List Diagnostic) → AreDiagnostics declared text a → AreDiagnostics declared text b → a ≡ b
+DiagnosticsAreDetermined = (declared : KindTree) (text : List ℕ) (a b : List Diagnostic)
+    → AreDiagnostics declared text a → AreDiagnostics declared text b → a ≡ b

@@ -1,5 +1,5 @@
--- Soundness: what the judgement says holds of the meaning. This is the Vector Remap Language's claim that a program that compiles
--- handles each of its errors.
+-- Soundness: what the judgement says holds of the meaning. This is the Vector Remap Language's
+-- claim that a program that compiles handles each of its errors.
 use Rattle.std.specs.Prelude.{◌≡◌, ◌≢◌, ℕ, ℤ, Bool, true, false, List, [], ◌∷◌, ◌++◌, All, Option, ⊤, length}
 use Rattle.std.specs.List.{list_any}
 use Rattle.vrl_value.specs.Tag.{tag_of}
@@ -34,8 +34,8 @@ HasNoError codes = list_any is_error codes ≡ false
 
 -- ---- expressions
 
--- A value, also that of a return, is of the kind that was judged, and the store fits what is known at that end. Of an end by `abort`, by a
--- call with a `!` or by the limit of depth nothing is said.
+-- A value, also that of a return, is of the kind that was judged, and the store fits what is known
+-- at that end. Of an end by `abort`, by a call with a `!` or by the limit of depth nothing is said.
 abbrev pub IsSoundOutcome : Judgement → Outcome → Store → Type 0
 IsSoundOutcome j (value v) store = Inhabits v j.kind × FitsKnown store j.ok
 IsSoundOutcome j (error text) store = FitsKnown store j.fail
@@ -46,34 +46,41 @@ IsSoundOutcome j other store = ⊤
 abbrev pub IsSoundEnd : Judgement → Ended → Type 0
 IsSoundEnd j ended = IsSoundOutcome j ended.outcome ended.store
 
--- run from any store that fits what is known, and with any tags behind its own, it ends as it was judged
+-- run from any store that fits what is known, and with any tags behind its own, it ends as it was
+-- judged
 abbrev pub IsSoundFrom : SettingTree → Option RootMap → Expr → Judgement → Type 0
-IsSoundFrom setting known e j = (rest : List Tag) (store : Store) → IsWellFormedStore (length setting.sources) store → FitsKnown store known → IsSoundEnd j (eval setting (j.empties ++ rest) e store)
+IsSoundFrom setting known e j = (rest : List Tag) (store : Store) → IsWellFormedStore (length setting.sources) store
+    → FitsKnown store known → IsSoundEnd j (eval setting (j.empties ++ rest) e store)
 
 -- the setting of a run of what is judged by these rules
 abbrev pub setting_of : ℤ → OpenRules → SettingTree
 setting_of moment rules = record { moment = moment; sources = rules.sources }
 
--- so it is of every expression of well-formed literals, wherever it is judged without an error code, by whatever the rules leave open, where each state of a
--- closure that they give holds
+-- so it is of every expression of well-formed literals, wherever it is judged without an error
+-- code, by whatever the rules leave open, where each state of a closure that they give holds
 abbrev pub ExpressionsAreSound : Type 0
-ExpressionsAreSound = (moment : ℤ) (rules : OpenRules) → GiveWhatHolds rules → (inside : Bool) (known : Option RootMap) (e : Expr) (j : Judgement) → Judges rules inside known e j → HasNoError j.codes → IsWellFormedExpr (length rules.sources) e
+ExpressionsAreSound = (moment : ℤ) (rules : OpenRules) → GiveWhatHolds rules
+    → (inside : Bool) (known : Option RootMap) (e : Expr) (j : Judgement) → Judges rules inside known e j
+    → HasNoError j.codes → IsWellFormedExpr (length rules.sources) e
     → IsSoundFrom (setting_of moment rules) known e j
 
 -- ---- closures
 
--- a closure's body runs over values for its names, one list of them behind the other, from the first store to the second: each of these runs ends with a value
+-- a closure's body runs over values for its names, one list of them behind the other, from the
+-- first store to the second: each of these runs ends with a value
 pub data RunsTo (body : Body) : List (List Tree) → Store → Store → Type 0 where
   not_yet : {store : Store} → RunsTo body [] store store
   once_more : {vs : List Tree} {vss : List (List Tree)} {v : Tree} {store between after : Store}
       → body vs store ≡ record { outcome = value v; store = between } → RunsTo body vss between after
       → RunsTo body (vs ∷ vss) store after
 
--- the store before each run of a closure's body fits what is known there, however many runs there were
+-- the store before each run of a closure's body fits what is known there, however many runs there
+-- were
 pub record ClosuresAreSound : Type 0 where
-  -- It is so where the body is run for parts that the collection may have, with values of the kinds of its names, and
-  -- with the tags of its own empty values. And it is so of whatever is known that what is known where the call begins
-  -- to run the body is within, and that the body keeps: whether a try gave it, or the rules allow it.
+  -- It is so where the body is run for parts that the collection may have, with values of the kinds
+  -- of its names, and with the tags of its own empty values. And it is so of whatever is known that
+  -- what is known where the call begins to run the body is within, and that the body keeps: whether
+  -- a try gave it, or the rules allow it.
   pub runs : (moment : ℤ) (rules : OpenRules) → GiveWhatHolds rules
       → (b : ClosureBody) (span : Span) (begin : Option RootMap) (loop : Loop) (j : Judgement)
       → JudgesRuns rules b begin loop j → HasNoError j.codes → AreWellFormedExprs (length rules.sources) b.items
@@ -83,9 +90,9 @@ pub record ClosuresAreSound : Type 0 where
       → IsWellFormedStore (length rules.sources) store → FitsKnown store begin
       → RunsTo (eval_body (setting_of moment rules) (j.empties ++ rest) (closure b.names b.items span)) vss store after
       → FitsKnown after loop.known
-  -- So it is of a call of a function that takes a closure. Its argument is of the kind K, which is cut down to the tags
-  -- of a collection, as C; its names stand for keys and parts of that. The argument's value is a collection, and the
-  -- body is run for the first parts of it, or for all.
+  -- So it is of a call of a function that takes a closure. Its argument is of the kind K, which is
+  -- cut down to the tags of a collection, as C; its names stand for keys and parts of that. The
+  -- argument's value is a collection, and the body is run for the first parts of it, or for all.
   pub calls : (moment : ℤ) (rules : OpenRules) → GiveWhatHolds rules
       → (f : CallForm) (names : List (List ℕ)) (es : Exprs) (K C key part : KindTree)
       → IsCutDown (collections f) K C → IsCutOf (scalars_at (key_tags C)) key → IsCutOf (parts_at C) part
@@ -100,7 +107,8 @@ pub record ClosuresAreSound : Type 0 where
 
 -- ---- scripts
 
--- the ends of a script that has a value: at its end, of which kind it is and what is known there, and the same at a return
+-- the ends of a script that has a value: at its end, of which kind it is and what is known there,
+-- and the same at a return
 pub record Ends : Type 0 where
   pub kind : KindTree
   pub ok : Option RootMap
@@ -111,20 +119,27 @@ pub record Ends : Type 0 where
 abbrev pub ends_of : Judgement → Ends
 ends_of j = record { kind = j.kind; ok = j.ok; returned = j.returned; ret = j.ret }
 
--- A run came to one of its ends: a value is of the kind that it has there, and the store that is left fits what is known there. An error is none
--- of them; of an `abort`, a call with a `!` and the limit of depth nothing more is said.
+-- A run came to one of its ends: a value is of the kind that it has there, and the store that is
+-- left fits what is known there. An error is none of them; of an `abort`, a call with a `!` and the
+-- limit of depth nothing more is said.
 abbrev pub ComesTo : Ends → Outcome → Store → Type 0
 ComesTo ends (value v) store = Inhabits v ends.kind × FitsKnown store ends.ok
 ComesTo ends (returned v) store = Inhabits v ends.returned × FitsKnown store ends.ret
 ComesTo ends (error text) store = ⊥
 ComesTo ends other store = ⊤
 
--- the run of a script over an event, with the empty values of its judgement, comes to one of the ends that were judged
+-- the run of a script over an event, with the empty values of its judgement, comes to one of the
+-- ends that were judged
 abbrev pub IsSoundOver : SettingTree → Judgement → Exprs → Tree → Type 0
-IsSoundOver setting j items event = let ended = run_script setting j.empties items event in ComesTo (ends_of j) ended.outcome ended.store
+IsSoundOver setting j items event =
+    let ended = run_script setting j.empties items event in ComesTo (ends_of j) ended.outcome ended.store
 
--- so it is of every script of well-formed literals that is judged without an error code, by whatever the rules leave open, where each state of a closure that
--- they give holds, over every well-formed event of the declared kind
+-- so it is of every script of well-formed literals that is judged without an error code, by
+-- whatever the rules leave open, where each state of a closure that they give holds, over every
+-- well-formed event of the declared kind
 abbrev pub ScriptsAreSound : Type 0
-ScriptsAreSound = (moment : ℤ) (rules : OpenRules) → GiveWhatHolds rules → (declared : KindTree) (items : Exprs) (j : Judgement) → JudgesScript rules declared items j → HasNoError j.codes → AreWellFormedExprs (length rules.sources) items
-    → (event : Tree) → Inhabits event declared → IsWellFormed (length rules.sources) event → IsSoundOver (setting_of moment rules) j items event
+ScriptsAreSound = (moment : ℤ) (rules : OpenRules) → GiveWhatHolds rules
+    → (declared : KindTree) (items : Exprs) (j : Judgement) → JudgesScript rules declared items j → HasNoError j.codes
+    → AreWellFormedExprs (length rules.sources) items
+    → (event : Tree) → Inhabits event declared → IsWellFormed (length rules.sources) event
+    → IsSoundOver (setting_of moment rules) j items event

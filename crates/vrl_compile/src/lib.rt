@@ -1,9 +1,12 @@
-//! Scripts: what a text says, whether it is accepted, and that what is accepted handles each of its errors.
+//! Scripts: what a text says, whether it is accepted, and that what is accepted handles each of its
+//! errors.
 //!
-//! Files: `script.rt` has `compile`, step by step, and `literals.rt` the places of malformed regexes. `reading.rt` and `soundness.rt` state the laws. That of
-//! soundness is shown by a lemma for each form, which takes that its parts are sound (`proofs/Sound*.antt`), over ways in which one thing follows
-//! another (`SoundEnds`); one block of functions (`SoundAll`) hands the parts' results on. Of a closure that is an induction on its runs
-//! (`SoundRuns`), each of which begins with what the tries have found (`SoundBodies`).
+//! Files: `script.rt` has `compile`, step by step, and `literals.rt` the places of malformed
+//! regexes. `reading.rt` and `soundness.rt` state the laws. That of soundness is shown by a lemma
+//! for each form, which takes that its parts are sound (`proofs/Sound*.antt`), over ways in which
+//! one thing follows another (`SoundEnds`); one block of functions (`SoundAll`) hands the parts'
+//! results on. Of a closure that is an induction on its runs (`SoundRuns`), each of which begins
+//! with what the tries have found (`SoundBodies`).
 #![tactic(auto)]
 
 mod literals;

@@ -61,7 +61,8 @@ fn malformed_numbers(fault: BuildFault) -> Result<Numbers, Memory>
     }
 }
 
-// 101 at each regex literal that has one of these numbers, which ascend; the first literal has the number 0.
+// 101 at each regex literal that has one of these numbers, which ascend; the first literal has the
+// number 0.
 fn literals_at(
     alloc: Global,
     tokens: &[Spanned],
@@ -84,7 +85,8 @@ fn literals_at(
     Ok(found)
 }
 
-// Adds 101 at the literal of this number, if that is the first of the numbers, and gives those behind it.
+// Adds 101 at the literal of this number, if that is the first of the numbers, and gives those
+// behind it.
 fn add_if_next<'a>(
     span: Span,
     number: usize,

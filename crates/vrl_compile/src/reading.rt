@@ -13,7 +13,8 @@ pub fn scripts_have_one_reading()
     scripts_are_determined();
 }
 
-/// The diagnostics of a text under a kind are one list. This takes no time: it is a law about the definitions.
+/// The diagnostics of a text under a kind are one list. This takes no time: it is a law about the
+/// definitions.
 pub fn diagnostics_are_determined()
     ensures { DiagnosticsAreDetermined }
 {
@@ -23,8 +24,8 @@ pub fn diagnostics_are_determined()
     judgements_are_determined();
 }
 
-/// No code stands twice at one place in a judgement of the script that is read in a text, and no diagnostic of a text stands twice. This
-/// takes no time: it is a law about the definitions.
+/// No code stands twice at one place in a judgement of the script that is read in a text, and no
+/// diagnostic of a text stands twice. This takes no time: it is a law about the definitions.
 pub fn diagnostics_stand_once()
     ensures codes { CodesStandOnce }
     ensures diagnostics { DiagnosticsStandOnce }

@@ -49,21 +49,22 @@ pub enum Compiled {
     Refused(Diagnostics),
 }
 
-/// Reads a script of at most 65,536 bytes and judges it over events of the declared kind, which isn't absent,
-/// before any event is there.
+/// Reads a script of at most 65,536 bytes and judges it over events of the declared kind, which
+/// isn't absent, before any event is there.
 ///
-/// The first of these steps that finds something wrong gives all the diagnostics, and each of the first four
-/// gives one: the first spelling at fault; tokens that are nested too deeply (1008); tokens in which the grammar
-/// reads no script (203); the first path that is written or deleted beyond the limits (1007, 1012); the regex
-/// literals that are malformed (101); the judgement.
-/// Diagnostics stand in the order of their starts, those of one start in the order of their ends, and those of
-/// one span in the order of their codes; none stands twice.
+/// The first of these steps that finds something wrong gives all the diagnostics, and each of the
+/// first four gives one: the first spelling at fault; tokens that are nested too deeply (1008);
+/// tokens in which the grammar reads no script (203); the first path that is written or deleted
+/// beyond the limits (1007, 1012); the regex literals that are malformed (101); the judgement.
+/// Diagnostics stand in the order of their starts, those of one start in the order of their ends,
+/// and those of one span in the order of their codes; none stands twice.
 ///
-/// The script is accepted where none of its diagnostics is an error; those that are left are warnings. Else it is
-/// refused, with all its diagnostics, one of which at least is an error.
+/// The script is accepted where none of its diagnostics is an error; those that are left are
+/// warnings. Else it is refused, with all its diagnostics, one of which at least is an error.
 ///
-/// An accepted script handles each of its errors: over a well-formed event of the declared kind, at any moment, it never ends with one. Where
-/// it ends with a value, that value is of the kind that was judged, and the event and the variables are of theirs.
+/// An accepted script handles each of its errors: over a well-formed event of the declared kind, at
+/// any moment, it never ends with one. Where it ends with a value, that value is of the kind that
+/// was judged, and the event and the variables are of theirs.
 ///
 /// # Errors
 ///
@@ -86,9 +87,11 @@ pub fn compile(alloc: Global, text: &str, declared: &Kind) -> Result<Compiled, M
     }
 }
 
-// What is told of a text that is at fault. `Memory`: there is nothing to tell, since memory was wanted.
+// What is told of a text that is at fault. `Memory`: there is nothing to tell, since memory was
+// wanted.
 fn diagnostic_of(fault: SyntaxFault) -> Result<Diagnostic, Memory>
-    ensures { MatchResult result (λ diagnostic. fault ≡ SyntaxFault.Fault diagnostic) (λ _. fault ≡ SyntaxFault.Memory) }
+    ensures { MatchResult result (λ diagnostic. fault ≡ SyntaxFault.Fault diagnostic)
+        (λ _. fault ≡ SyntaxFault.Memory) }
 {
     match fault {
         SyntaxFault::Fault(diagnostic) => Ok(diagnostic),
@@ -137,7 +140,8 @@ fn compile_parsed(alloc: Global, parsed: Parsed, declared: &Kind) -> Result<Comp
     }
 }
 
-// What is answered for a script whose regex literals aren't built. `Memory`: memory was wanted for that.
+// What is answered for a script whose regex literals aren't built. `Memory`: memory was wanted for
+// that.
 fn refused_literals(fault: LiteralFault) -> Result<Compiled, Memory>
     ensures { IsRefusedFor fault result }
 {
@@ -159,7 +163,8 @@ fn decided(
     requires patterns { patterns ≡ script.patterns }
     ensures { (declared : KindTree) (text : List ℕ) (tokens : List SpecSpanned) (judgement : Judgement)
         → IsScript text tokens (script_of script) → CanBeJudged tokens (script_of script)
-        → JudgesScript (language_rules script.patterns) declared (exprs_of script.items) judgement → IsJudged judgement judged
+        → JudgesScript (language_rules script.patterns) declared (exprs_of script.items) judgement
+        → IsJudged judgement judged
         → IfOk result (IsAnswer declared text) }
 {
     if judged.diagnostics.has_error() {

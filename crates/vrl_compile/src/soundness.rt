@@ -42,24 +42,26 @@ fn lower_laws()
     evaluations_stay_well_formed();
 }
 
-/// What the judgement says of expressions holds of their meaning. This takes no time: it is a law about the definitions.
+/// What the judgement says of expressions holds of their meaning. This takes no time: it is a law
+/// about the definitions.
 pub fn expressions_are_sound()
     ensures { ExpressionsAreSound }
 {
     lower_laws();
 }
 
-/// What is known before each run of a closure's body holds there, however many runs there were: for any parts that the
-/// collection may have, and so for those of each value that the argument of its call may have. This takes no time: it
-/// is a law about the definitions.
+/// What is known before each run of a closure's body holds there, however many runs there were: for
+/// any parts that the collection may have, and so for those of each value that the argument of its
+/// call may have. This takes no time: it is a law about the definitions.
 pub fn closures_are_sound()
     ensures { ClosuresAreSound }
 {
     lower_laws();
 }
 
-/// A script that is judged without an error code ends over every event of the declared kind as it was judged, and never with an error
-/// that it doesn't handle. This takes no time: it is a law about the definitions.
+/// A script that is judged without an error code ends over every event of the declared kind as it
+/// was judged, and never with an error that it doesn't handle. This takes no time: it is a law
+/// about the definitions.
 pub fn scripts_are_sound()
     ensures { ScriptsAreSound }
 {
@@ -67,8 +69,9 @@ pub fn scripts_are_sound()
     expressions_are_sound();
 }
 
-/// A script that is accepted handles each of its errors, over every event of the declared kind, and what it leaves is of the kinds that it was
-/// judged to have. This takes no time: it is a law about the definitions.
+/// A script that is accepted handles each of its errors, over every event of the declared kind, and
+/// what it leaves is of the kinds that it was judged to have. This takes no time: it is a law about
+/// the definitions.
 pub fn accepted_scripts_are_sound()
     ensures { AcceptedScriptsAreSound }
 {

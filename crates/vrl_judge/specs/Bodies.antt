@@ -3,7 +3,8 @@ use Rattle.std.specs.Prelude.{◌≡◌, ℕ, Bool, true, false, List, [], ◌�
 use Rattle.vrl_kind.specs.KindTree.{KindTree}
 use Rattle.vrl_state.specs.States.{IsHidden, State}
 
--- a name has this kind, and what was known of it is hidden; `_`, of which this holds, is passed over
+-- a name has this kind, and what was known of it is hidden; `_`, of which this holds, is passed
+-- over
 abbrev pub IsBoundUnless : Bool → List ℕ → KindTree → State → State → Type 0
 IsBoundUnless true x K before after = after ≡ before
 IsBoundUnless false x K before after = IsHidden x K before after

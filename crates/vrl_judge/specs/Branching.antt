@@ -1,4 +1,5 @@
--- What is known between the parts of a branching form, which the walk judges one by one, and behind the last one.
+-- What is known between the parts of a branching form, which the walk judges one by one, and behind
+-- the last one.
 use Rattle.std.specs.Prelude.{◌≡◌, ◌||◌, ◌++◌, false, List, [], Option, None, IfSome}
 use Rattle.std.specs.List.{list_any}
 use Rattle.vrl_diag.specs.declared.diagnostic.Diagnostic.{Diagnostic}
@@ -64,7 +65,8 @@ pub record AreWays (scopes : List Scope) (ways : Ways) : Type 0 where
   pub ends : AreEnds scopes ways.ends
 
 -- a predicate, with its own codes, beside the ways before it
-pub record IsPredicateBeside (span : Span) (part : Outcome) (ways : Ways) (before after : Checker) (all : Ways) : Type 0 where
+pub record IsPredicateBeside (span : Span) (part : Outcome) (ways : Ways) (before after : Checker)
+    (all : Ways) : Type 0 where
   pub predicate : Ends
   pub reported : IsReported (of_predicate span (seen part before [] [] [])) before after part.ends predicate
   pub kind : all.kind ≡ ways.kind
@@ -73,7 +75,8 @@ pub record IsPredicateBeside (span : Span) (part : Outcome) (ways : Ways) (befor
   pub are : AreWays before.state.scopes all
 
 -- a block beside the ways before it, and back to the state that was marked before the block
-pub record IsBlockBeside (mark : State) (block : Outcome) (ways : Ways) (before after : Checker) (all : Ways) : Type 0 where
+pub record IsBlockBeside (mark : State) (block : Outcome) (ways : Ways) (before after : Checker)
+    (all : Ways) : Type 0 where
   pub back : after ≡ record before { state = mark }
   pub kind : IsEither ways.kind block.kind all.kind
   pub ok : IsJoined (known_on ways.ok) before.state.known (known_on all.ok)
@@ -90,19 +93,22 @@ pub record IsLastBeside (ways : Ways) (last : Outcome) (before after : Checker) 
 
 -- ---- ends of the script
 
--- It returns with the part's value, and no way leads on. In a closure it is 1004, and goes on behind the part
+-- It returns with the part's value, and no way leads on. In a closure it is 1004, and goes on
+-- behind the part
 pub record IsReturned (span : Span) (part : Outcome) (before after : Checker) (outcome : Outcome) : Type 0 where
   pub scopes : after.state.scopes ≡ before.state.scopes
   pub known : after.state.known ≡ if_state before.inside before.state.known
   pub kind : outcome.kind ≡ never_kind
   pub ret : IsJoined (return_state part.ends.ret) before.state.known (return_state outcome.ends.ret)
-  pub returned : IsEither (return_kind part.ends.ret) (settled_kind false (is_alive before.state.known) part.kind) (return_kind outcome.ends.ret)
+  pub returned : IsEither (return_kind part.ends.ret) (settled_kind false (is_alive before.state.known) part.kind)
+      (return_kind outcome.ends.ret)
   pub diagnostics : after.diagnostics.items ≡ before.diagnostics.items ++ when before.inside (at 1004 span)
   pub empties : after.empties ≡ before.empties
   pub loops : after.loops ≡ before.loops
   pub patterns : after.patterns ≡ before.patterns
   pub inside : after.inside ≡ before.inside
-  pub ends : outcome.ends ≡ record part.ends { ret = outcome.ends.ret; poisoned = part.ends.poisoned || list_any is_error (when before.inside (at 1004 span)) }
+  pub ends : outcome.ends ≡ record part.ends
+      { ret = outcome.ends.ret; poisoned = part.ends.poisoned || list_any is_error (when before.inside (at 1004 span)) }
   pub are : AreEnds before.state.scopes outcome.ends
 
 -- behind the part and these codes no way leads on

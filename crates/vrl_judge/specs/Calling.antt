@@ -17,4 +17,5 @@ part_of g = record { kind = g.judged.kind; fallible = is_fallible g.judged; know
 
 -- a `!` leaves no error
 abbrev pub IsBangedAs : Span → Bool → Outcome → Checker → Checker → Outcome → Type 0
-IsBangedAs span bang part now after outcome = (before : Checker) (j : Judgement) → HasJudged before now part j → HasJudged before after outcome (banged span bang j)
+IsBangedAs span bang part now after outcome = (before : Checker) (j : Judgement) → HasJudged before now part j
+    → HasJudged before after outcome (banged span bang j)

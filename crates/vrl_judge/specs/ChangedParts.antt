@@ -1,4 +1,5 @@
--- Kinds of collections whose parts are changed: by a filter, or by values that are put in their places. No public function cites these.
+-- Kinds of collections whose parts are changed: by a filter, or by values that are put in their
+-- places. No public function cites these.
 use Rattle.std.specs.Prelude.{◌≡◌, ◌&&◌, ℕ, List, [], ◌∷◌}
 use Rattle.std.specs.Cmp.Lexicographic.{slice_cmp}
 use Rattle.std.specs.List.{AllZip}
@@ -41,11 +42,13 @@ put_part K F = mapped_part (root_tags F) K
 -- what the fields allow at a name, where f is made of the kind of each, or T
 abbrev pub fields_made : (KindTree → Sets) → List KindField → List ℕ → List Step → Tags → Tags
 fields_made f [] n p T = T
-fields_made f (g ∷ fs) n p T = match_ordering (slice_cmp nat_cmp n g.name) (fields_made f fs n p T) (f g.kind p) (fields_made f fs n p T)
+fields_made f (g ∷ fs) n p T =
+    match_ordering (slice_cmp nat_cmp n g.name) (fields_made f fs n p T) (f g.kind p) (fields_made f fs n p T)
 
 -- f is made of the kind of each field
 pub record AreFieldsMade (f : KindTree → Sets) (fs : List KindField) (named : List (List ℕ × KindTree)) : Type 0 where
-  pub at : (n : List ℕ) (p : List Step) (T : Tags) (t : Tag) → fields_at (named_view named) n p T t ≡ fields_made f fs n p T t
+  pub at : (n : List ℕ) (p : List Step) (T : Tags) (t : Tag)
+      → fields_at (named_view named) n p T t ≡ fields_made f fs n p T t
 
 -- f is made of the kind of each place
 abbrev pub ArePlacesMade : (KindTree → Sets) → List KindTree → List KindTree → Type 0

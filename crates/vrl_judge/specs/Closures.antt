@@ -1,8 +1,10 @@
--- Calls of the functions that run a closure for each part of a collection: what the closure's names are bound to, what is known behind its body, how
--- the state before each run is found, the kind of the call's value, and the codes of the closure. The rules are those by which the Vector Remap
+-- Calls of the functions that run a closure for each part of a collection: what the closure's names
+-- are bound to, what is known behind its body, how the state before each run is found, the kind of
+-- the call's value, and the codes of the closure. The rules are those by which the Vector Remap
 -- Language types its iteration functions; the states of a closure are this project's own.
 --
--- C is the kind of the collection: that of the argument, cut down to the tags that the parameter allows.
+-- C is the kind of the collection: that of the argument, cut down to the tags that the parameter
+-- allows.
 use Rattle.std.specs.Prelude.{◌≡◌, ℕ, Bool, true, false, ◌||◌, ◌&&◌, not, List, [], ◌∷◌, length, map, take, Option, Some, None, option_map, if◌then◌else◌}
 use Rattle.vrl_value.specs.Look.{field, place}
 use Rattle.vrl_value.specs.declared.value.Tag.TheVariants as tag
@@ -42,21 +44,25 @@ key_tags C t = (root_tags C tag.Object && same_tag t tag.Text) || (root_tags C t
 abbrev pub is_possible : KindTree → Bool
 is_possible K = some_tag (λ t. true) K
 
--- the names between the bars, the kinds that they are bound to, and the items; and whether the collection may have a part, so that it is run at all
+-- the names between the bars, the kinds that they are bound to, and the items; and whether the
+-- collection may have a part, so that it is run at all
 pub record ClosureBody : Type 0 where
   pub names : List (List ℕ)
   pub kinds : List KindTree
   pub items : Exprs
   pub runs : Bool
 
--- behind the body its own names end, and names that it hid have the kinds again that they had before, in all three ends
+-- behind the body its own names end, and names that it hid have the kinds again that they had
+-- before, in all three ends
 abbrev pub left_body : ClosureBody → RootMap → Judgement → Judgement
-left_body b before j = let scope = body_scope (hidden_by b.names) before in record j { ok = option_map (kept scope) j.ok; fail = option_map (kept scope) j.fail; ret = option_map (kept scope) j.ret }
+left_body b before j = let scope = body_scope (hidden_by b.names) before in record j
+    { ok = option_map (kept scope) j.ok; fail = option_map (kept scope) j.fail; ret = option_map (kept scope) j.ret }
 
 -- ---- what is known before each run
 
--- The body is judged in three tries at most, each from what is known at it: the first from what is known where the call begins to run the body, the
--- second where the first isn't stable, and the third where neither is.
+-- The body is judged in three tries at most, each from what is known at it: the first from what is
+-- known where the call begins to run the body, the second where the first isn't stable, and the
+-- third where neither is.
 pub data Try : Type 0 where
   first_try : Try
   second_try : Try
@@ -66,10 +72,12 @@ abbrev pub next_try : Try → Try
 next_try first_try = second_try
 next_try try = third_try
 
--- What is known at the next try, by what is known at one and behind the body there. The second: what is known at either, where each root that the
--- body writes keeps its outer tags alone. The third: the same, where of each of these nothing is known but that it is there.
+-- What is known at the next try, by what is known at one and behind the body there. The second:
+-- what is known at either, where each root that the body writes keeps its outer tags alone. The
+-- third: the same, where of each of these nothing is known but that it is there.
 abbrev pub IsNextTry : Try → ClosureBody → Option RootMap → Option RootMap → Option RootMap → Type 0
-IsNextTry first_try b known behind next = (either : Option RootMap) × IsJoined known behind either × IsFlattened (exprs_write b.items) either next
+IsNextTry first_try b known behind next =
+    (either : Option RootMap) × IsJoined known behind either × IsFlattened (exprs_write b.items) either next
 IsNextTry second_try b known behind next = IsForgotten (exprs_write b.items) known next
 IsNextTry third_try b known behind next = ⊥
 
@@ -81,9 +89,11 @@ filtered_at C [] t = root_tags C t
 filtered_at C (field n ∷ p) t = root_tags C tag.Object && or_absent p (tags_at C (field n ∷ p)) t
 filtered_at C (place i ∷ p) t = root_tags C tag.List && or_absent p (parts_at (arrays_alone C) p) t
 
--- of a part with these tags, in whose place a value of the kind K is put: a part that is never there stays so, and one that may be absent still may
+-- of a part with these tags, in whose place a value of the kind K is put: a part that is never
+-- there stays so, and one that may be absent still may
 abbrev pub mapped_part : Tags → KindTree → Sets
-mapped_part T K p t = if is_alone T tag.Absent then is_absence p t else (tags_at K p t || (T tag.Absent && is_absence p t))
+mapped_part T K p t =
+    if is_alone T tag.Absent then is_absence p t else (tags_at K p t || (T tag.Absent && is_absence p t))
 
 abbrev pub mapped_at : KindTree → KindTree → Sets
 mapped_at C K [] t = root_tags C t
@@ -104,7 +114,8 @@ abbrev pub of_wanted_closure : CallForm → Span → Closure → List Diagnostic
 of_wanted_closure f span no_closure = at 1010 span
 of_wanted_closure f span (closure names es s) = when (not (has_shape f names)) (at 1010 span)
 
--- a filter's body that isn't exactly a boolean, and a body that gives keys and isn't exactly a text, is 1015
+-- a filter's body that isn't exactly a boolean, and a body that gives keys and isn't exactly a
+-- text, is 1015
 abbrev pub is_wrong_body : CallForm → Judgement → Bool
 is_wrong_body form.Filter j = is_other tag.Bool j
 is_wrong_body form.MapKeys j = is_other tag.Text j
@@ -136,11 +147,13 @@ pub record IsBodyEntered (names : List (List ℕ)) (Ks : List KindTree) (before 
 -- it ends, behind its items
 abbrev pub IsBodyEndAs : Outcome → Checker → Checker → Outcome → Type 0
 IsBodyEndAs part now after outcome = (b : ClosureBody) (before entered : Checker) (known : RootMap) (j : Judgement)
-    → before.state.known ≡ Some known → IsBodyEntered b.names b.kinds before entered → HasJudged entered now part j → HasJudged before after outcome (left_body b known j)
+    → before.state.known ≡ Some known → IsBodyEntered b.names b.kinds before entered → HasJudged entered now part j
+    → HasJudged before after outcome (left_body b known j)
 
 -- how much was gathered
 abbrev pub held_of : Checker → Held
-held_of c = record { diagnostics = length c.diagnostics.items; empties = length c.empties.items; loops = length c.loops.items }
+held_of c =
+    record { diagnostics = length c.diagnostics.items; empties = length c.empties.items; loops = length c.loops.items }
 
 -- what was gathered since is let go
 pub record IsTakenBack (held : Held) (before after : Checker) : Type 0 where

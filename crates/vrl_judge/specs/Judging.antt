@@ -1,4 +1,5 @@
--- What was judged of a part and gathered in it, told as a judgement, and what each plain form makes of such parts.
+-- What was judged of a part and gathered in it, told as a judgement, and what each plain form makes
+-- of such parts.
 use Rattle.std.specs.Prelude.{◌≡◌, ◌||◌, not, Bool, false, List, ◌∷◌, ◌++◌, map, Option, Some, None, is_some, option_map}
 use Rattle.std.specs.List.{list_any}
 use Rattle.vrl_value.specs.declared.value.Tag.{Tag}
@@ -68,7 +69,8 @@ abbrev pub IsLeftWay : Scope → List Scope → Option State → Option State �
 IsLeftWay scope scopes before after = after ≡ way scopes (option_map (kept_by scope) (known_on before))
 
 abbrev pub IsLeftReturn : Scope → List Scope → Option Returned → Option Returned → Type 0
-IsLeftReturn scope scopes before after = after ≡ returning scopes (return_kind before) (option_map (kept_by scope) (return_state before))
+IsLeftReturn scope scopes before after =
+    after ≡ returning scopes (return_kind before) (option_map (kept_by scope) (return_state before))
 
 pub record AreLeftEnds (scope : Scope) (scopes : List Scope) (before after : Ends) : Type 0 where
   pub fail : IsLeftWay scope scopes before.fail after.fail
@@ -146,7 +148,8 @@ pub record IsReported (ds : List Diagnostic) (before after : Checker) (old new :
 
 -- what is settled
 abbrev pub IsSettledAs : Outcome → Checker → Outcome → Type 0
-IsSettledAs part now outcome = (before : Checker) (j : Judgement) → HasJudged before now part j → HasJudged before now outcome (settle j)
+IsSettledAs part now outcome =
+    (before : Checker) (j : Judgement) → HasJudged before now part j → HasJudged before now outcome (settle j)
 
 -- what is read at a path of a part
 abbrev pub IsReadOffAs : List Step → Outcome → Checker → Outcome → Type 0
@@ -156,7 +159,8 @@ IsReadOffAs path part now outcome = (before : Checker) (j : Judgement) → HasJu
 -- a negation, behind its operand
 abbrev pub IsNegatedAs : Span → Outcome → Checker → Checker → Outcome → Type 0
 IsNegatedAs span part now after outcome = (before : Checker) (j : Judgement) → HasJudged before now part j
-    → (K : KindTree) × IsScalar tag.Bool K × HasJudged before after outcome (with_codes (when (is_other tag.Bool j) (at 660 span)) (record j { kind = K }))
+    → (K : KindTree) × IsScalar tag.Bool K
+    × HasJudged before after outcome (with_codes (when (is_other tag.Bool j) (at 660 span)) (record j { kind = K }))
 
 -- a block is open, and its items were judged in it
 pub record IsInBlock (now : Checker) (part : Outcome) : Type 0 where
@@ -168,7 +172,8 @@ pub record IsInBlock (now : Checker) (part : Outcome) : Type 0 where
 -- the block ends, behind its items
 abbrev pub IsBlockEndAs : Outcome → Checker → Checker → Outcome → Type 0
 IsBlockEndAs part now after outcome = (before entered : Checker) (known : RootMap) (j : Judgement)
-    → before.state.known ≡ Some known → IsEntered before.state entered.state → entered.diagnostics ≡ before.diagnostics → entered.empties ≡ before.empties → entered.loops ≡ before.loops
+    → before.state.known ≡ Some known → IsEntered before.state entered.state → entered.diagnostics ≡ before.diagnostics
+    → entered.empties ≡ before.empties → entered.loops ≡ before.loops
     → entered.patterns ≡ before.patterns → entered.inside ≡ before.inside
     → HasJudged entered now part j → HasJudged before after outcome (settle (left_behind known j))
 
@@ -183,31 +188,40 @@ pub record HasOperands (before after : Checker) (parts : Operands) (j k whole : 
 
 -- both, where the left one is known not to be exactly an object, or is
 abbrev pub ArePairedAs : Outcome → Bool → Outcome → Checker → Operands → Type 0
-ArePairedAs left other right after parts = (before now : Checker) (j k : Judgement) → HasJudged before now left j → other ≡ is_other tag.Object j → HasJudged now after right k
+ArePairedAs left other right after parts = (before now : Checker) (j k : Judgement) → HasJudged before now left j
+    → other ≡ is_other tag.Object j → HasJudged now after right k
     → (whole : Judgement) × IsThen j k whole × HasOperands before after parts j k whole
 
 -- their equality, which compares a comparison or doesn't
 abbrev pub IsEquatedAs : Span → Bool → Operands → Checker → Checker → Outcome → Type 0
-IsEquatedAs span chained parts now after outcome = (before : Checker) (j k whole : Judgement) → HasOperands before now parts j k whole
-    → (K : KindTree) × IsScalar tag.Bool K × HasJudged before after outcome (with_codes (when chained (at 650 span)) (record whole { kind = K }))
+IsEquatedAs span chained parts now after outcome =
+    (before : Checker) (j k whole : Judgement) → HasOperands before now parts j k whole
+    → (K : KindTree) × IsScalar tag.Bool K
+    × HasJudged before after outcome (with_codes (when chained (at 650 span)) (record whole { kind = K }))
 
 -- what an operator of a table makes of them
 abbrev pub IsCombinedAs : Span → Table → Bool → Operands → Checker → Checker → Outcome → Type 0
-IsCombinedAs span operator chained parts now after outcome = (before : Checker) (j k whole : Judgement) → HasOperands before now parts j k whole
+IsCombinedAs span operator chained parts now after outcome =
+    (before : Checker) (j k whole : Judgement) → HasOperands before now parts j k whole
     → (K : KindTree) × (fail : Option RootMap)
     × IsCutOf (scalars_at (table_tags (table_rule operator) j.kind k.kind)) K
-    × IsJoined whole.fail (if_state (some_pair (λ a b. not (is_some (table_rule operator a b))) j.kind k.kind) whole.ok) fail
-    × HasJudged before after outcome (of_pairs (table_rule operator) j k (with_codes (when chained (at 650 span)) whole) K fail)
+    × IsJoined whole.fail
+    (if_state (some_pair (λ a b. not (is_some (table_rule operator a b))) j.kind k.kind) whole.ok) fail
+    × HasJudged before after outcome
+    (of_pairs (table_rule operator) j k (with_codes (when chained (at 650 span)) whole) K fail)
 
 -- their merge
 abbrev pub IsMergedAs : Span → Span → Operands → Checker → Checker → Outcome → Type 0
-IsMergedAs left_span right_span parts now after outcome = (before : Checker) (j k whole : Judgement) → HasOperands before now parts j k whole
-    → (K : KindTree) × IsMerged j.kind k.kind K × HasJudged before after outcome (with_codes (no_objects left_span right_span j k) (record whole { kind = K }))
+IsMergedAs left_span right_span parts now after outcome =
+    (before : Checker) (j k whole : Judgement) → HasOperands before now parts j k whole
+    → (K : KindTree) × IsMerged j.kind k.kind K
+    × HasJudged before after outcome (with_codes (no_objects left_span right_span j k) (record whole { kind = K }))
 
 -- an assignment, behind its expression
 abbrev pub IsAssignedAs : Span → Target → Outcome → Checker → Checker → Outcome → Type 0
 IsAssignedAs span target part now after outcome = (before : Checker) (j : Judgement) → HasJudged before now part j
-    → (ok : Option RootMap) × IsTargetWritten target j.kind j.ok ok × HasJudged before after outcome (with_codes (of_assignment span target j) (record j { ok = ok }))
+    → (ok : Option RootMap) × IsTargetWritten target j.kind j.ok ok
+    × HasJudged before after outcome (with_codes (of_assignment span target j) (record j { ok = ok }))
 
 -- one target is written, and then the other
 pub record AreWritten (t u : Target) (K L : KindTree) (before after : Option RootMap) : Type 0 where

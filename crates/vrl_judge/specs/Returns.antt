@@ -17,4 +17,5 @@ return_kind (Some r) = r.kind
 
 -- a return of this kind; none where no way leads there
 abbrev pub returning : List Scope → KindTree → Option RootMap → Option Returned
-returning scopes K known = option_map (λ roots. record { kind = K; state = record { known = Some roots; scopes = scopes } }) known
+returning scopes K known =
+    option_map (λ roots. record { kind = K; state = record { known = Some roots; scopes = scopes } }) known

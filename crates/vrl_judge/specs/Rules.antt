@@ -1,6 +1,7 @@
--- The words in which the rules of the judgement are told: kinds by their tags, what a part was judged to be, what a rule asks of it, and the
--- codes of each form. The rules are those of the Vector Remap Language; the codes are those of its error reference, and some of this
--- project's own. Every kind is cut, and so is every join.
+-- The words in which the rules of the judgement are told: kinds by their tags, what a part was
+-- judged to be, what a rule asks of it, and the codes of each form. The rules are those of the
+-- Vector Remap Language; the codes are those of its error reference, and some of this project's
+-- own. Every kind is cut, and so is every join.
 use Rattle.std.specs.Prelude.{◌≡◌, ℕ, zero, suc, Bool, true, false, ◌||◌, ◌&&◌, not, List, [], ◌∷◌, ◌++◌, slice_get, Option, Some, None, is_some, bytes_eq, find, unwrap_or, if◌then◌else◌, option_map}
 use Rattle.std.specs.List.{list_any}
 use Rattle.vrl_value.specs.Look.{field, place}
@@ -86,8 +87,9 @@ object_at ms Ks (place i ∷ p) = never
 
 -- ---- judgements
 
--- Of a closure that is judged: what is known before each run of its body; whether what is known where the call begins to run it is within that, and
--- whether what is known behind a run is. By the rules of the language both are.
+-- Of a closure that is judged: what is known before each run of its body; whether what is known
+-- where the call begins to run it is within that, and whether what is known behind a run is. By the
+-- rules of the language both are.
 pub record Loop : Type 0 where
   pub known : Option RootMap
   pub begins : Bool
@@ -105,9 +107,11 @@ pub record Judgement : Type 0 where
   -- an error code stands on it or in it
   pub poisoned : Bool
   pub codes : List Diagnostic
-  -- the tag of the empty value of each error assignment in it, as they stand in the text, an outer one before those in it
+  -- the tag of the empty value of each error assignment in it, as they stand in the text, an outer
+  -- one before those in it
   pub empties : List Tag
-  -- each closure in it, as they stand in the text, an outer one before those in it; none for one that isn't judged
+  -- each closure in it, as they stand in the text, an outer one before those in it; none for one
+  -- that isn't judged
   pub loops : List (Option Loop)
 
 abbrev pub is_alive : Option RootMap → Bool
@@ -120,7 +124,18 @@ if_state false state = None
 
 -- nothing can happen: no value, no error, no return
 abbrev pub nothing : List Tag → Judgement
-nothing tags = record { kind = never_kind; ok = None; fail = None; ret = None; returned = never_kind; poisoned = false; codes = []; empties = tags; loops = [] }
+nothing tags = record {
+  kind = never_kind;
+  ok = None;
+  fail = None;
+  ret = None;
+  returned = never_kind;
+  poisoned = false;
+  codes =
+      [];
+  empties = tags;
+  loops = [];
+}
 
 -- what gives a value of this kind, and does nothing else
 abbrev pub gives : KindTree → Option RootMap → Judgement
@@ -137,7 +152,8 @@ when false ds = []
 abbrev pub with_codes : List Diagnostic → Judgement → Judgement
 with_codes ds j = record j { codes = j.codes ++ ds; poisoned = j.poisoned || list_any is_error ds }
 
--- what is poisoned has kind any and no error is left of it; what can't end with a value has kind never
+-- what is poisoned has kind any and no error is left of it; what can't end with a value has kind
+-- never
 abbrev pub settled_kind : Bool → Bool → KindTree → KindTree
 settled_kind true alive K = any_kind
 settled_kind false true K = K
@@ -148,7 +164,8 @@ settle j = record j { kind = settled_kind j.poisoned (is_alive j.ok) j.kind; fai
 
 -- ---- what a rule asks of a part
 
--- a code about the kind of a part stands only where the part can end with a value and has no error of its own
+-- a code about the kind of a part stands only where the part can end with a value and has no error
+-- of its own
 abbrev pub is_known : Judgement → Bool
 is_known j = is_alive j.ok && not j.poisoned
 
@@ -174,7 +191,8 @@ may_be_no_truth K = some_tag (λ t. not (same_tag t tag.Bool || same_tag t tag.N
 
 -- ---- parts in order, and alternatives
 
--- one part behind others: it is judged where these end with a value, and the whole ends so where it does
+-- one part behind others: it is judged where these end with a value, and the whole ends so where it
+-- does
 pub record IsBehind (before part after : Judgement) : Type 0 where
   pub kind : after.kind ≡ part.kind
   pub ok : after.ok ≡ part.ok
@@ -192,14 +210,21 @@ pub record IsThen (before part after : Judgement) : Type 0 where
 
 -- the names of a block or a branch end with it: what is known behind it is known before it
 abbrev pub without_new_names : RootMap → RootMap → RootMap
-without_new_names before after = record after { variables = map.retain_keys after.variables (λ x. map.contains_key before.variables x) }
+without_new_names before after =
+    record after { variables = map.retain_keys after.variables (λ x. map.contains_key before.variables x) }
 
 abbrev pub left : RootMap → Judgement → Judgement
-left before j = record j { ok = option_map (without_new_names before) j.ok; fail = option_map (without_new_names before) j.fail; ret = option_map (without_new_names before) j.ret }
+left before j = record j {
+  ok = option_map (without_new_names before) j.ok;
+  fail = option_map
+      (without_new_names before) j.fail;
+  ret = option_map (without_new_names before) j.ret;
+}
 
 -- ---- operators
 
--- the pairs of tags that a sum takes, each with the tag of what it gives; a null beside a text counts as empty
+-- the pairs of tags that a sum takes, each with the tag of what it gives; a null beside a text
+-- counts as empty
 abbrev pub sum_tag : Tag → Tag → Option Tag
 sum_tag tag.Int tag.Int = Some tag.Int
 sum_tag tag.Text tag.Text = Some tag.Text
@@ -252,9 +277,11 @@ is_compared e = false
 abbrev pub chained : Span → Op → Expr → Expr → List Diagnostic
 chained span o l r = when (is_comparison o && (is_compared l || is_compared r)) (at 650 span)
 
--- Both operands are judged. It may end with an error where a pair that isn't in the table is possible, and not with a value
--- where none of the table is; but behind a code it goes on behind both operands.
-abbrev pub of_pairs : (Tag → Tag → Option Tag) → Judgement → Judgement → Judgement → KindTree → Option RootMap → Judgement
+-- Both operands are judged. It may end with an error where a pair that isn't in the table is
+-- possible, and not with a value where none of the table is; but behind a code it goes on behind
+-- both operands.
+abbrev pub of_pairs : (Tag → Tag → Option Tag) → Judgement → Judgement → Judgement → KindTree → Option RootMap
+    → Judgement
 of_pairs table l r parts K fail = record parts {
   kind = K;
   ok = if_state (parts.poisoned || some_pair (λ a b. is_some (table a b)) l.kind r.kind) parts.ok;
@@ -263,10 +290,11 @@ of_pairs table l r parts K fail = record parts {
 
 -- `|`: each side is exactly an object, or 652 stands on it
 abbrev pub no_objects : Span → Span → Judgement → Judgement → List Diagnostic
-no_objects left_span right_span l r = when (is_other tag.Object l) (at 652 left_span) ++ when (is_other tag.Object r) (at 652 right_span)
+no_objects left_span right_span l r =
+    when (is_other tag.Object l) (at 652 left_span) ++ when (is_other tag.Object r) (at 652 right_span)
 
--- The kind of a merge of two objects. Where a side isn't exactly an object the merge is poisoned or gives no value, and no kind is
--- asked for.
+-- The kind of a merge of two objects. Where a side isn't exactly an object the merge is poisoned or
+-- gives no value, and no kind is asked for.
 abbrev pub IsMergedIf : Bool → KindTree → KindTree → KindTree → Type 0
 IsMergedIf true K L M = IsCutOf (overlaid_at K L) M
 IsMergedIf false K L M = M ≡ any_kind
@@ -299,19 +327,23 @@ is_no_event target K = is_event target && not (root_tags K tag.List || root_tags
 
 -- `t = e`: an expression that may fail is 103, and a target that takes nothing 640
 abbrev pub of_assignment : Span → Target → Judgement → List Diagnostic
-of_assignment span target j = when (is_fallible j) (at 103 span) ++ (when (is_nowhere target) (at 640 span) ++ when (is_known j && is_no_event target j.kind) (at 1006 span))
+of_assignment span target j = when (is_fallible j) (at 103 span) ++
+    (when (is_nowhere target) (at 640 span) ++ when (is_known j && is_no_event target j.kind) (at 1006 span))
 
 -- the tag of the empty value of a kind; null for a regex, for several tags and for none
 abbrev pub empty_tag : KindTree → Tag
-empty_tag K = unwrap_or (find (λ t. is_alone (root_tags K) t) (tag.Text ∷ tag.Int ∷ tag.Bool ∷ tag.Object ∷ tag.List ∷ tag.Time ∷ [])) tag.Null
+empty_tag K = unwrap_or
+    (find (λ t. is_alone (root_tags K) t)
+    (tag.Text ∷ tag.Int ∷ tag.Bool ∷ tag.Object ∷ tag.List ∷ tag.Time ∷ [])) tag.Null
 
--- `ok, err = e`: an expression that can't fail is 104, and two targets that take nothing are 640. What is written to `err`, a text or
--- null, is no event; no code stands twice at one place.
+-- `ok, err = e`: an expression that can't fail is 104, and two targets that take nothing are 640.
+-- What is written to `err`, a text or null, is no event; no code stands twice at one place.
 abbrev pub of_error_assignment : Span → Target → Target → Judgement → KindTree → List Diagnostic
 of_error_assignment span ok err j value =
     when (is_needless j) (at 104 span) ++
     (when (is_nowhere ok && is_nowhere err) (at 640 span) ++
-    when ((is_alive j.ok || is_alive j.fail) && ((not j.poisoned && is_no_event ok value) || is_event err)) (at 1006 span))
+    when ((is_alive j.ok || is_alive j.fail) && ((not j.poisoned && is_no_event ok value) || is_event err))
+    (at 1006 span))
 
 -- ---- ends
 
@@ -347,12 +379,14 @@ abbrev pub argument_at : List Argument → Option ℕ → Option Argument
 argument_at js None = None
 argument_at js (Some i) = slice_get js i
 
--- A `!` leaves no error. A call that can't end with one is 620, where no other error code stands on it or in it.
+-- A `!` leaves no error. A call that can't end with one is 620, where no other error code stands on
+-- it or in it.
 abbrev pub banged : Span → Bool → Judgement → Judgement
 banged span false j = j
 banged span true j = with_codes (when (is_needless j) (at 620 span)) (record j { fail = None })
 
 -- the state without what stands at a path; that of a root is what is left in it
 abbrev pub IsDeleted : Root → List steps.Step → Option RootMap → Option RootMap → Type 0
-IsDeleted root [] before after = (K : KindTree) × IsCutOf (found_at (left_in root)) K × (after ≡ option_map (with_kind root K) before)
+IsDeleted root [] before after =
+    (K : KindTree) × IsCutOf (found_at (left_in root)) K × (after ≡ option_map (with_kind root K) before)
 IsDeleted root (step ∷ path) before after = states.IsTakenOut root (step ∷ path) before after

@@ -1,4 +1,5 @@
--- What the checker holds behind a part, taken as a judgement, with the codes, the tags and the closures that were gathered in it.
+-- What the checker holds behind a part, taken as a judgement, with the codes, the tags and the
+-- closures that were gathered in it.
 use Rattle.std.specs.Prelude.{List, Option}
 use Rattle.vrl_value.specs.declared.value.Tag.{Tag}
 use Rattle.vrl_diag.specs.declared.diagnostic.Diagnostic.{Diagnostic}

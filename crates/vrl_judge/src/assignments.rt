@@ -20,7 +20,8 @@ use vrl_syntax::{Root, Target, empty_value};
 use vrl_value::{Memory, Tag};
 
 impl Checker<'_> {
-    // Writes a kind where a target says; one that takes nothing changes nothing. `Memory`: want of memory.
+    // Writes a kind where a target says; one that takes nothing changes nothing. `Memory`: want of
+    // memory.
     fn write(&mut self, target: &Target, kind: &SharedKind) -> Result<(), Memory>
         requires target { target_faults target.now ≡ [] }
         requires present { allows_absent kind.now ≡ false }
@@ -33,8 +34,8 @@ impl Checker<'_> {
         }
     }
 
-    /// An assignment, behind its expression: one that may fail is 103, a target that takes nothing 640, and an event that is neither an object nor
-    /// an array 1006. `Memory`: want of memory.
+    /// An assignment, behind its expression: one that may fail is 103, a target that takes nothing
+    /// 640, and an event that is neither an object nor an array 1006. `Memory`: want of memory.
     pub fn assigned(
         &mut self,
         span: Span,
@@ -72,13 +73,15 @@ impl Checker<'_> {
 
     // Whether the event gets a value that can't stand there.
     fn puts_no_event(&self, target: &Target, part: &Outcome) -> bool
-        ensures { result ≡ (is_some self.now.state.known && not part.now.ends.poisoned && is_no_event_at target.now part.now.kind) }
+        ensures { result ≡
+            (is_some self.now.state.known && not part.now.ends.poisoned && is_no_event_at target.now part.now.kind) }
     {
         self.is_known(part) && is_no_event(target, &part.kind)
     }
 
-    /// An error assignment, behind its expression, with the place of its empty value: behind a value the value and null are written, and behind an
-    /// error the empty value and a text. `Memory`: want of memory.
+    /// An error assignment, behind its expression, with the place of its empty value: behind a
+    /// value the value and null are written, and behind an error the empty value and a text.
+    /// `Memory`: want of memory.
     pub fn both_assigned(
         &mut self,
         span: Span,
@@ -119,8 +122,8 @@ impl Checker<'_> {
         self.empties[place] = tag;
     }
 
-    // An expression that can't fail is 104, and two targets that take nothing are 640. An event that is
-    // neither an object nor an array is 1006, once.
+    // An expression that can't fail is 104, and two targets that take nothing are 640. An event
+    // that is neither an object nor an array is 1006, once.
     fn error_codes(
         &mut self,
         span: Span,
@@ -163,7 +166,9 @@ impl Checker<'_> {
         requires present { allows_absent kind.now ≡ false }
         requires empty { allows_absent empty.now ≡ false }
         requires way { IsWay self.old.state.scopes fail }
-        ensures written { OnOk result (AreBothWritten ok.now err.now kind.now empty.now self.old.state.known (known_on fail) self.new.state.known) }
+        ensures written { OnOk result
+            (AreBothWritten ok.now err.now kind.now empty.now self.old.state.known
+            (known_on fail) self.new.state.known) }
         ensures others { IsMoved self.old self.new }
     {
         let null = scalar(self.alloc, Tag::Null)?;
@@ -186,7 +191,9 @@ impl Checker<'_> {
         requires empty { allows_absent empty.now ≡ false }
         requires text { allows_absent text.now ≡ false }
         requires way { IsWay self.old.state.scopes fail }
-        ensures written { OnOk result (AreWrittenBeside ok.now err.now empty.now text.now self.old.state.known (known_on fail) self.new.state.known) }
+        ensures written { OnOk result
+            (AreWrittenBeside ok.now err.now empty.now text.now self.old.state.known
+            (known_on fail) self.new.state.known) }
         ensures others { IsMoved self.old self.new }
     {
         if fail.is_none() {

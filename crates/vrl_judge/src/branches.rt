@@ -23,7 +23,8 @@ use vrl_value::{Memory, Tag};
 pub struct LeftSide {
     /// What it was judged to be.
     pub part: Outcome,
-    /// What is known where the right side is left out. `None`: the whole doesn't end with a value there.
+    /// What is known where the right side is left out. `None`: the whole doesn't end with a value
+    /// there.
     pub beside: Option<Mark>,
 }
 
@@ -80,14 +81,16 @@ impl Checker<'_> {
         }
     }
 
-    /// The left side of a `&&`. It ends with an error where it is neither a boolean nor null; the right side is judged where it may be a boolean, and
-    /// left out where it may be a boolean or null. `Memory`: want of memory.
+    /// The left side of a `&&`. It ends with an error where it is neither a boolean nor null; the
+    /// right side is judged where it may be a boolean, and left out where it may be a boolean or
+    /// null. `Memory`: want of memory.
     pub fn left_of_and(&mut self, part: Outcome) -> Result<LeftSide, Memory>
         requires { AreEnds self.old.state.scopes part.ends }
         ensures side { IfOk result (IsLeftSide (if_state (root_tags part.kind tags.Bool) self.old.state.known)
             (if_state (may_be_true part.kind) self.old.state.known) self.old self.new) }
         ensures kind { IfOk result (λ side. side.part.kind ≡ part.kind) }
-        ensures ends { IfOk result (λ side. IsOrFail part.ends (if_state (may_be_another part.kind) self.old.state.known) side.part.ends) }
+        ensures ends { IfOk result
+            (λ side. IsOrFail part.ends (if_state (may_be_another part.kind) self.old.state.known) side.part.ends) }
     {
         let mut part = part;
         let refuses = may_be_no_truth(&part.kind);
@@ -97,7 +100,8 @@ impl Checker<'_> {
         Ok(LeftSide { part, beside })
     }
 
-    /// A `&&`, behind both sides: the right one ends with an error where it is neither a boolean nor null. `Memory`: want of memory.
+    /// A `&&`, behind both sides: the right one ends with an error where it is neither a boolean
+    /// nor null. `Memory`: want of memory.
     pub fn conjoined(&mut self, left: LeftSide, right: Outcome) -> Result<Outcome, Memory>
         requires left { StandsIn self.old.state.scopes left }
         requires right { AreEnds self.old.state.scopes right.ends }
@@ -112,8 +116,8 @@ impl Checker<'_> {
         Ok(both)
     }
 
-    /// The left side of a `||`: the right one is judged where it may be null or a boolean, and left out where it isn't exactly null. `Memory`: want
-    /// of memory.
+    /// The left side of a `||`: the right one is judged where it may be null or a boolean, and left
+    /// out where it isn't exactly null. `Memory`: want of memory.
     pub fn left_of_or(&mut self, part: Outcome) -> Result<LeftSide, Memory>
         requires { AreEnds self.old.state.scopes part.ends }
         ensures side { IfOk result (IsLeftSide (if_state (may_be_true part.kind) self.old.state.known)
@@ -125,7 +129,8 @@ impl Checker<'_> {
         Ok(LeftSide { part, beside })
     }
 
-    /// A `||`, behind both sides: either value, but for a null on the left. `Memory`: want of memory.
+    /// A `||`, behind both sides: either value, but for a null on the left. `Memory`: want of
+    /// memory.
     pub fn disjoined(&mut self, left: LeftSide, right: Outcome) -> Result<Outcome, Memory>
         requires left { StandsIn self.old.state.scopes left }
         requires right { AreEnds self.old.state.scopes right.ends }
@@ -138,8 +143,8 @@ impl Checker<'_> {
         Ok(both)
     }
 
-    /// The left side of a `??`: the right one is judged where it ended with an error, of which none is left. Where it ends with a value, the whole
-    /// does. `Memory`: want of memory.
+    /// The left side of a `??`: the right one is judged where it ended with an error, of which none
+    /// is left. Where it ends with a value, the whole does. `Memory`: want of memory.
     pub fn left_of_coalescing(&mut self, part: Outcome) -> Result<LeftSide, Memory>
         requires { AreEnds self.old.state.scopes part.ends }
         ensures side { IfOk result (IsLeftSide (known_on part.ends.fail) self.old.state.known self.old self.new) }
@@ -165,7 +170,8 @@ impl Checker<'_> {
         Ok(both)
     }
 
-    // The left side with the ends of both; what is known is that behind the right side or where it is left out.
+    // The left side with the ends of both; what is known is that behind the right side or where it
+    // is left out.
     fn both_sides(&mut self, left: LeftSide, right: Ends) -> Result<Outcome, Memory>
         requires left { StandsIn self.old.state.scopes left }
         requires right { AreEnds self.old.state.scopes right }
@@ -178,7 +184,8 @@ impl Checker<'_> {
         Ok(part)
     }
 
-    /// Adds a predicate to the ways before it: one that may fail is 1005, and one that isn't exactly a boolean 102. `Memory`: want of memory.
+    /// Adds a predicate to the ways before it: one that may fail is 1005, and one that isn't
+    /// exactly a boolean 102. `Memory`: want of memory.
     pub fn add_predicate(
         &mut self,
         ways: &mut Ways,
@@ -197,7 +204,8 @@ impl Checker<'_> {
     // A predicate that may fail is 1005, and one that isn't exactly a boolean 102.
     fn predicate(&mut self, part: Outcome, span: Span) -> Result<Ends, Memory>
         requires { AreEnds self.old.state.scopes part.ends }
-        ensures { IfOk result (IsReported (of_predicate span (seen part self.old [] [] [])) self.old self.new part.ends) }
+        ensures { IfOk result
+            (IsReported (of_predicate span (seen part self.old [] [] [])) self.old self.new part.ends) }
     {
         let mut part = part;
         if part.is_fallible() {
@@ -209,7 +217,8 @@ impl Checker<'_> {
         Ok(part.into_parts().1)
     }
 
-    /// Adds the block behind a predicate to the ways before it, and goes back to the state behind the predicate. `Memory`: want of memory.
+    /// Adds the block behind a predicate to the ways before it, and goes back to the state behind
+    /// the predicate. `Memory`: want of memory.
     pub fn add_block(&mut self, ways: &mut Ways, mark: Mark, block: Outcome) -> Result<(), Memory>
         requires ways { AreWays self.old.state.scopes ways.old }
         requires block { AreEnds self.old.state.scopes block.ends }
@@ -222,7 +231,8 @@ impl Checker<'_> {
         Ok(())
     }
 
-    /// The last way beside the others, and what is known behind any of them. `Memory`: want of memory.
+    /// The last way beside the others, and what is known behind any of them. `Memory`: want of
+    /// memory.
     pub fn add_last(&mut self, ways: Ways, last: Outcome) -> Result<Outcome, Memory>
         requires ways { AreWays self.old.state.scopes ways }
         requires last { AreEnds self.old.state.scopes last.ends }
@@ -236,8 +246,8 @@ impl Checker<'_> {
         Ok(all)
     }
 
-    /// A return, behind its expression: no way leads on. In the body of a closure it is 1004, and goes on behind the expression. `Memory`: want of
-    /// memory.
+    /// A return, behind its expression: no way leads on. In the body of a closure it is 1004, and
+    /// goes on behind the expression. `Memory`: want of memory.
     pub fn returned(&mut self, part: Outcome, span: Span) -> Result<Outcome, Memory>
         requires ends { AreEnds self.old.state.scopes part.ends }
         requires kind { IsRootKind part.kind }
@@ -253,7 +263,8 @@ impl Checker<'_> {
         Ok(Outcome { kind, ends })
     }
 
-    /// An abort, behind its message: one that may fail, or isn't exactly a text, is 1011. `Memory`: want of memory.
+    /// An abort, behind its message: one that may fail, or isn't exactly a text, is 1011. `Memory`:
+    /// want of memory.
     pub fn aborted(&mut self, part: Outcome, span: Span) -> Result<Outcome, Memory>
         requires { AreEnds self.old.state.scopes part.ends }
         ensures { IfOk result (IsAborted (of_message span (seen part self.old [] [] [])) part self.old self.new) }

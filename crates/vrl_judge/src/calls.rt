@@ -43,7 +43,8 @@ impl Checker<'_> {
           known = is_some self.now.state.known && not part.ends.poisoned;
         }) }
         ensures joined { OnOk result (AreJoinedEnds ends.old part.ends ends.new) }
-        ensures scopes { OnOk result ((scopes : List Scope) → AreEnds scopes ends.old → AreEnds scopes part.ends → AreEnds scopes ends.new) }
+        ensures scopes { OnOk result
+            ((scopes : List Scope) → AreEnds scopes ends.old → AreEnds scopes part.ends → AreEnds scopes ends.new) }
     {
         let fallible = part.is_fallible();
         let known = self.is_known(&part);
@@ -71,7 +72,8 @@ impl Checker<'_> {
         self.state.assign(root, path, shared.as_shared())
     }
 
-    /// A call, behind all but its `!`, which leaves no error; of a call that can't end with one it is 620. `Memory`: want of memory.
+    /// A call, behind all but its `!`, which leaves no error; of a call that can't end with one it
+    /// is 620. `Memory`: want of memory.
     pub fn banged(&mut self, span: Span, bang: bool, call: Outcome) -> Result<Outcome, Memory>
         ensures { IfOk result (λ outcome. IsBangedAs span bang call self.old self.new outcome) }
     {
@@ -126,10 +128,12 @@ pub fn has_others(tags: &Tags, kind: &Kind) -> bool
         .any(|tag| has(kind, *tag) && !tags.contains(*tag))
 }
 
-/// Whether the kind of the argument at a place has a tag that its parameter doesn't allow. `None`: the parameter has no argument.
+/// Whether the kind of the argument at a place has a tag that its parameter doesn't allow. `None`:
+/// the parameter has no argument.
 pub fn part_has_others(parameter: &Parameter, place: Option<usize>, parts: &[Argument]) -> bool
     ensures { (js : List JudgedArgument) → parts.now ≡ map part_of js
-        → result ≡ option_map_or (λ g. has_tags_beside parameter.now.allowed g.judged.kind) (argument_of js place) false }
+        → result ≡ option_map_or (λ g. has_tags_beside parameter.now.allowed g.judged.kind)
+        (argument_of js place) false }
 {
     match place {
         Some(place) => match parts.get(place) {

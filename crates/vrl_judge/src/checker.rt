@@ -53,7 +53,9 @@ impl Checker<'_> {
 
     /// Whether the part that was judged last has a kind that isn't exactly this tag.
     pub fn is_other(&self, tag: Tag, part: &Outcome) -> bool
-        ensures { result ≡ (is_some self.now.state.known && not part.now.ends.poisoned && not (is_alone (root_tags part.now.kind) tag)) }
+        ensures { result ≡
+            (is_some self.now.state.known && not part.now.ends.poisoned && not
+            (is_alone (root_tags part.now.kind) tag)) }
     {
         self.is_known(part) && !is_exactly(&part.kind, tag)
     }
@@ -86,14 +88,16 @@ impl Checker<'_> {
         span: Span,
     ) -> Result<Outcome, Memory>
         ensures same { IfOk result (λ outcome. outcome ≡ record part { ends = outcome.ends }) }
-        ensures reported { IfOk result (λ outcome. IsReported (when stands (at code span)) self.old self.new part.ends outcome.ends) }
+        ensures reported { IfOk result
+            (λ outcome. IsReported (when stands (at code span)) self.old self.new part.ends outcome.ends) }
     {
         let mut part = part;
         self.report(&mut part.ends, stands, code, span)?;
         Ok(part)
     }
 
-    /// What is known here, as a branch; the state stays. `None`: no way leads here, or it isn't wanted. `Memory`: want of memory.
+    /// What is known here, as a branch; the state stays. `None`: no way leads here, or it isn't
+    /// wanted. `Memory`: want of memory.
     pub fn branch_if(&mut self, wanted: bool) -> Result<Option<Branch>, Memory>
         ensures branch { IfOk result (λ branch. branch ≡ way self.old.state.scopes (if_state wanted self.old.state.known)) }
         ensures checker { self.new ≡ self.old }
@@ -117,7 +121,8 @@ impl Checker<'_> {
         Ok(())
     }
 
-    // A return from here with a value of this kind. `None`: no way leads here. `Memory`: want of memory.
+    // A return from here with a value of this kind. `None`: no way leads here. `Memory`: want of
+    // memory.
     pub(crate) fn return_of(&mut self, kind: SharedKind) -> Result<Option<Returned>, Memory>
         ensures returned { IfOk result (λ returned. returned ≡ returning self.old.state.scopes kind self.old.state.known) }
         ensures checker { self.new ≡ self.old }

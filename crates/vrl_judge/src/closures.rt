@@ -29,7 +29,8 @@ use vrl_state::{Branch, State};
 use vrl_syntax::{CallForm, Roots};
 use vrl_value::{Chars, Memory, Names, Tag};
 
-/// The kind of the keys of a collection, cut: texts in an object, whole numbers in an array. `Memory`: want of memory.
+/// The kind of the keys of a collection, cut: texts in an object, whole numbers in an array.
+/// `Memory`: want of memory.
 pub fn key_kind(alloc: Global, collection: &Kind) -> Result<SharedKind, Memory>
     ensures kind { IfOk result (IsCutOf (scalars_at (key_tags collection.now))) }
     ensures root { IfOk result IsRootKind }
@@ -56,7 +57,8 @@ pub fn is_possible(kind: &Kind) -> bool
     TAGS.iter().any(|tag| has(kind, *tag))
 }
 
-/// The kind of the value of a call with a closure, cut, from those of its collection and of the closure's body. `Memory`: want of memory.
+/// The kind of the value of a call with a closure, cut, from those of its collection and of the
+/// closure's body. `Memory`: want of memory.
 pub fn call_kind(
     alloc: Global,
     form: CallForm,
@@ -85,7 +87,8 @@ fn whole_kind(alloc: Global, form: CallForm, collection: &Kind, body: &Kind) -> 
     }
 }
 
-// What a filter leaves of a collection: each field may be gone, and any part may stand at each place.
+// What a filter leaves of a collection: each field may be gone, and any part may stand at each
+// place.
 fn filtered(alloc: Global, collection: &Kind) -> Result<Kind, Memory>
     ensures { IfOk result (λ kind. SameSets (tags_at kind) (filtered_at collection.now)) }
 {
@@ -143,7 +146,8 @@ fn mapped(alloc: Global, collection: &Kind, body: &Kind) -> Result<Kind, Memory>
 
 // The collection with such values in its arrays.
 fn mapped_lists(alloc: Global, collection: &Kind, body: &Kind) -> Result<Kind, Memory>
-    ensures { IfOk result (λ kind. SameSets (tags_at kind) (with_places collection.now (put_place collection.now body.now))) }
+    ensures { IfOk result
+        (λ kind. SameSets (tags_at kind) (with_places collection.now (put_place collection.now body.now))) }
 {
     match list_part(collection) {
         None => collection.copy(alloc),
@@ -187,14 +191,16 @@ fn mapped_fields(
 
 // Such a value in place of what stands where nothing is known by itself.
 fn mapped_rest(alloc: Global, rest: &Rest, body: &Kind) -> Result<Rest, Memory>
-    ensures { IfOk result (λ put. SameSets (rest_at (rest_of put)) (part_mapped (rest_at (rest_of rest.now) []) body.now)) }
+    ensures { IfOk result
+        (λ put. SameSets (rest_at (rest_of put)) (part_mapped (rest_at (rest_of rest.now) []) body.now)) }
 {
     let own = rest.kind(alloc)?;
     let kind = mapped_part(alloc, &own, body)?;
     exactly(alloc, kind)
 }
 
-// Such a value in place of a part: one that is never there stays so, and one that may be absent still may.
+// Such a value in place of a part: one that is never there stays so, and one that may be absent
+// still may.
 fn mapped_part(alloc: Global, part: &Kind, body: &Kind) -> Result<Kind, Memory>
     ensures { IfOk result (λ kind. SameSets (tags_at kind) (put_part body.now part.now)) }
 {
@@ -225,8 +231,8 @@ fn exactly(alloc: Global, kind: Kind) -> Result<Rest, Memory>
 }
 
 impl Checker<'_> {
-    /// Begins the body of a closure: a scope is open, in which each of its names has its kind and hides what was known of a variable of that name;
-    /// `_` takes none. `Memory`: want of memory.
+    /// Begins the body of a closure: a scope is open, in which each of its names has its kind and
+    /// hides what was known of a variable of that name; `_` takes none. `Memory`: want of memory.
     pub fn enter_body(&mut self, names: &Names, kinds: &[SharedKind]) -> Result<(), Memory>
         requires count { length names.now ≡ length kinds.now }
         requires kinds { All IsRootKind kinds.now }
@@ -236,8 +242,8 @@ impl Checker<'_> {
         bind_all(&mut self.state, names.as_slice(), kinds)
     }
 
-    /// Ends the body of a closure, behind its items: its names end, and those that it hid have the kinds again that they had. `Memory`: want of
-    /// memory.
+    /// Ends the body of a closure, behind its items: its names end, and those that it hid have the
+    /// kinds again that they had. `Memory`: want of memory.
     pub fn end_body(&mut self, part: Outcome) -> Result<Outcome, Memory>
         requires { IsInBlock self.old part }
         ensures { IfOk result (λ outcome. IsBodyEndAs part self.old self.new outcome) }
@@ -248,30 +254,37 @@ impl Checker<'_> {
         Ok(part)
     }
 
-    /// What is known at the second try at a body that writes these roots, from what is known here, at the first, and behind the body: each of the roots
-    /// keeps its outer tags alone. `Memory`: want of memory.
+    /// What is known at the second try at a body that writes these roots, from what is known here,
+    /// at the first, and behind the body: each of the roots keeps its outer tags alone. `Memory`:
+    /// want of memory.
     pub fn widened(&mut self, behind: Branch, roots: &Roots) -> Result<(), Memory>
         requires { behind.scopes ≡ self.old.state.scopes }
-        ensures known { OnOk result ((b : ClosureBody) → exprs_write b.items ≡ roots.now → IsNextTry first_try b self.old.state.known behind.known self.new.state.known) }
+        ensures known { OnOk result
+            ((b : ClosureBody) → exprs_write b.items ≡ roots.now
+            → IsNextTry first_try b self.old.state.known behind.known self.new.state.known) }
         ensures others { IsMoved self.old self.new }
     {
         self.state.join(&behind)?;
         self.state.flatten(roots)
     }
 
-    /// What is known at the third try at a body that writes these roots, from what is known here, at the second: of each of the roots nothing is known
-    /// but that it is there. `Memory`: want of memory.
+    /// What is known at the third try at a body that writes these roots, from what is known here,
+    /// at the second: of each of the roots nothing is known but that it is there. `Memory`: want of
+    /// memory.
     pub fn forgotten(&mut self, roots: &Roots) -> Result<(), Memory>
-        ensures known { OnOk result ((b : ClosureBody) (behind : Option RootMap) → exprs_write b.items ≡ roots.now → IsNextTry second_try b self.old.state.known behind self.new.state.known) }
+        ensures known { OnOk result
+            ((b : ClosureBody) (behind : Option RootMap) → exprs_write b.items ≡ roots.now
+            → IsNextTry second_try b self.old.state.known behind self.new.state.known) }
         ensures others { IsMoved self.old self.new }
     {
         self.state.forget(roots)
     }
 
-    /// Whether the body of a closure, which was judged last, gives what is wrong for the function: a filter's isn't exactly a boolean, or one that gives
-    /// keys isn't exactly a text.
+    /// Whether the body of a closure, which was judged last, gives what is wrong for the function:
+    /// a filter's isn't exactly a boolean, or one that gives keys isn't exactly a text.
     pub fn is_wrong_body(&self, form: CallForm, part: &Outcome) -> bool
-        ensures { (before : SpecChecker) (j : Judgement) → HasJudged before self.now part.now j → result ≡ is_wrong_value form j }
+        ensures { (before : SpecChecker) (j : Judgement) → HasJudged before self.now part.now j
+            → result ≡ is_wrong_value form j }
     {
         match form {
             CallForm::Filter => self.is_other(Tag::Bool, part),

@@ -25,7 +25,8 @@ impl Drop for Returned {
     }
 }
 
-/// The ends of what was judged, but for that with a value, where the checker's state is what is known.
+/// The ends of what was judged, but for that with a value, where the checker's state is what is
+/// known.
 pub struct Ends {
     /// What is known where it ends with an error. `None`: it can't.
     pub fail: Option<Branch>,
@@ -83,7 +84,8 @@ impl Ends {
     pub(crate) fn add(&mut self, alloc: Global, part: Ends) -> Result<(), Memory>
         requires { HaveCommonScopes self.old part }
         ensures joined { OnOk result (AreJoinedEnds self.old part self.new) }
-        ensures scopes { OnOk result ((scopes : List Scope) → AreEnds scopes self.old → AreEnds scopes part → AreEnds scopes self.new) }
+        ensures scopes { OnOk result
+            ((scopes : List Scope) → AreEnds scopes self.old → AreEnds scopes part → AreEnds scopes self.new) }
     {
         let (fail, ret, poisoned) = part.into_parts();
         add_way(&mut self.fail, fail)?;
@@ -92,24 +94,28 @@ impl Ends {
         Ok(())
     }
 
-    /// Adds the ends of a part beside or behind these, and gives the kind of its value. `Memory`: want of memory.
+    /// Adds the ends of a part beside or behind these, and gives the kind of its value. `Memory`:
+    /// want of memory.
     pub fn absorb(&mut self, alloc: Global, part: Outcome) -> Result<SharedKind, Memory>
         requires { HaveCommonScopes self.old part.ends }
         ensures kind { IfOk result (λ kind. kind ≡ part.kind) }
         ensures joined { OnOk result (AreJoinedEnds self.old part.ends self.new) }
-        ensures scopes { OnOk result ((scopes : List Scope) → AreEnds scopes self.old → AreEnds scopes part.ends → AreEnds scopes self.new) }
+        ensures scopes { OnOk result
+            ((scopes : List Scope) → AreEnds scopes self.old → AreEnds scopes part.ends → AreEnds scopes self.new) }
     {
         let (kind, ends) = part.into_parts();
         self.add(alloc, ends)?;
         Ok(kind)
     }
 
-    /// The same of a part that a container is made of, whose kind becomes one of its parts. `Memory`: want of memory.
+    /// The same of a part that a container is made of, whose kind becomes one of its parts.
+    /// `Memory`: want of memory.
     pub fn absorb_inner(&mut self, alloc: Global, part: Outcome) -> Result<Kind, Memory>
         requires { HaveCommonScopes self.old part.ends }
         ensures kind { IfOk result (λ kind. kind ≡ part.kind) }
         ensures joined { OnOk result (AreJoinedEnds self.old part.ends self.new) }
-        ensures scopes { OnOk result ((scopes : List Scope) → AreEnds scopes self.old → AreEnds scopes part.ends → AreEnds scopes self.new) }
+        ensures scopes { OnOk result
+            ((scopes : List Scope) → AreEnds scopes self.old → AreEnds scopes part.ends → AreEnds scopes self.new) }
     {
         let (kind, ends) = part.into_parts();
         self.add(alloc, ends)?;
@@ -121,7 +127,8 @@ impl Ends {
         requires { HaveCommonScopes self.old (record no_ends { fail = point }) }
         ensures joined { OnOk result (IsJoined (known_on self.old.fail) (known_on point) (known_on self.new.fail)) }
         ensures others { OnOk result (self.new ≡ record self.old { fail = self.new.fail }) }
-        ensures scopes { OnOk result ((scopes : List Scope) → AreEnds scopes self.old → IsWay scopes point → AreEnds scopes self.new) }
+        ensures scopes { OnOk result
+            ((scopes : List Scope) → AreEnds scopes self.old → IsWay scopes point → AreEnds scopes self.new) }
     {
         add_way(&mut self.fail, point)
     }
@@ -135,7 +142,8 @@ impl Ends {
         requires { HaveCommonScopes self.old (record no_ends { ret = point }) }
         ensures joined { OnOk result (AreJoinedReturns self.old.ret point self.new.ret) }
         ensures others { OnOk result (self.new ≡ record self.old { ret = self.new.ret }) }
-        ensures scopes { OnOk result ((scopes : List Scope) → AreEnds scopes self.old → IsReturnIn scopes point → AreEnds scopes self.new) }
+        ensures scopes { OnOk result
+            ((scopes : List Scope) → AreEnds scopes self.old → IsReturnIn scopes point → AreEnds scopes self.new) }
     {
         add_return(&mut self.ret, alloc, point)
     }
@@ -150,7 +158,9 @@ impl Ends {
     // The innermost block ends in each of them. `Memory`: want of memory.
     pub(crate) fn leave(&mut self) -> Result<(), Memory>
         requires { (scope : Scope) × (scopes : List Scope) × AreEnds (scope ∷ scopes) self.old }
-        ensures { OnOk result ((scope : Scope) (scopes : List Scope) → AreEnds (scope ∷ scopes) self.old → AreLeftEnds scope scopes self.old self.new) }
+        ensures { OnOk result
+            ((scope : Scope) (scopes : List Scope) → AreEnds (scope ∷ scopes) self.old
+            → AreLeftEnds scope scopes self.old self.new) }
     {
         leave_way(&mut self.fail)?;
         leave_return(&mut self.ret)
@@ -198,7 +208,8 @@ fn add_return(
 ) -> Result<(), Memory>
     requires { (scopes : List Scope) × IsReturnIn scopes ret.old × IsReturnIn scopes other }
     ensures joined { OnOk result (AreJoinedReturns ret.old other ret.new) }
-    ensures scopes { OnOk result ((scopes : List Scope) → IsReturnIn scopes ret.old → IsReturnIn scopes other → IsReturnIn scopes ret.new) }
+    ensures scopes { OnOk result
+        ((scopes : List Scope) → IsReturnIn scopes ret.old → IsReturnIn scopes other → IsReturnIn scopes ret.new) }
 {
     match other {
         None => Ok(()),
@@ -232,7 +243,9 @@ impl Returned {
 // The innermost block ends at a way. `Memory`: want of memory.
 fn leave_way(way: &mut Option<Branch>) -> Result<(), Memory>
     requires { (scope : Scope) × (scopes : List Scope) × IsWay (scope ∷ scopes) way.old }
-    ensures { OnOk result ((scope : Scope) (scopes : List Scope) → IsWay (scope ∷ scopes) way.old → IsLeftWay scope scopes way.old way.new) }
+    ensures { OnOk result
+        ((scope : Scope) (scopes : List Scope) → IsWay (scope ∷ scopes) way.old
+        → IsLeftWay scope scopes way.old way.new) }
 {
     match way {
         None => Ok(()),
@@ -242,7 +255,9 @@ fn leave_way(way: &mut Option<Branch>) -> Result<(), Memory>
 
 fn leave_return(ret: &mut Option<Returned>) -> Result<(), Memory>
     requires { (scope : Scope) × (scopes : List Scope) × IsReturnIn (scope ∷ scopes) ret.old }
-    ensures { OnOk result ((scope : Scope) (scopes : List Scope) → IsReturnIn (scope ∷ scopes) ret.old → IsLeftReturn scope scopes ret.old ret.new) }
+    ensures { OnOk result
+        ((scope : Scope) (scopes : List Scope) → IsReturnIn (scope ∷ scopes) ret.old
+        → IsLeftReturn scope scopes ret.old ret.new) }
 {
     match ret {
         None => Ok(()),

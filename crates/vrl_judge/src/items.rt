@@ -21,13 +21,15 @@ impl Checker<'_> {
 }
 
 impl Outcome {
-    /// Goes on with a part behind what was judged: the whole ends with a value where the part does, and otherwise where either of them does.
-    /// `Memory`: want of memory.
+    /// Goes on with a part behind what was judged: the whole ends with a value where the part does,
+    /// and otherwise where either of them does. `Memory`: want of memory.
     pub fn go_on(&mut self, alloc: Global, part: Outcome) -> Result<(), Memory>
         requires { HaveCommonScopes self.old.ends part.ends }
         ensures kind { OnOk result (self.new.kind ≡ part.kind) }
         ensures joined { OnOk result (AreJoinedEnds self.old.ends part.ends self.new.ends) }
-        ensures scopes { OnOk result ((scopes : List Scope) → AreEnds scopes self.old.ends → AreEnds scopes part.ends → AreEnds scopes self.new.ends) }
+        ensures scopes { OnOk result
+            ((scopes : List Scope) → AreEnds scopes self.old.ends → AreEnds scopes part.ends
+            → AreEnds scopes self.new.ends) }
     {
         self.kind = self.ends.absorb(alloc, part)?;
         Ok(())

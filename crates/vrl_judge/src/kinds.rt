@@ -40,7 +40,8 @@ pub(crate) fn widen(kind: &mut SharedKind, alloc: Global, other: &SharedKind) ->
     Ok(())
 }
 
-/// The kind of what is read at a path of a root's kind, cut; that of the whole root is shared. `Memory`: want of memory.
+/// The kind of what is read at a path of a root's kind, cut; that of the whole root is shared.
+/// `Memory`: want of memory.
 pub fn read_root(alloc: Global, kind: Rc<Kind>, path: &Path) -> Result<SharedKind, Memory>
     requires { IsRootKind kind.value }
     ensures { IfOk result (λ found. IsReadAt kind.value path.now found) }

@@ -1,13 +1,18 @@
-//! What the judgement of a script makes of parts that were judged: operators, branches, assignments, blocks, the bodies of closures, returns and the
-//! arguments of calls, each behind its parts.
+//! What the judgement of a script makes of parts that were judged: operators, branches,
+//! assignments, blocks, the bodies of closures, returns and the arguments of calls, each behind its
+//! parts.
 //!
-//! The walk over a script, in the crate above, judges the parts and hands them on. Where a form is one call here, its contract is told for
-//! all judgements of the parts. Where the walk takes several steps, as for a branch or an error assignment, each step's contract says what
-//! it does to the checker's state and to the ends of the parts, with codes that are told of what was seen of a part.
+//! The walk over a script, in the crate above, judges the parts and hands them on. Where a form is
+//! one call here, its contract is told for all judgements of the parts. Where the walk takes
+//! several steps, as for a branch or an error assignment, each step's contract says what it does to
+//! the checker's state and to the ends of the parts, with codes that are told of what was seen of a
+//! part.
 //!
-//! Files: `checker.rt` has the state that the walk changes, `outcome.rt` and `ends.rt` what a part gave, and `shared_kind.rt` its kind. `values.rt`,
-//! `operators.rt`, `branches.rt`, `assignments.rt`, `items.rt` and `calls.rt` make of parts that were judged what their form gives, and `closures.rt` has the
-//! steps at a closure and the kinds of its call; `tables.rt` has the pairs of tags that operators take, `kinds.rt` kinds that are cut, and `ordering.rt` the
+//! Files: `checker.rt` has the state that the walk changes, `outcome.rt` and `ends.rt` what a part
+//! gave, and `shared_kind.rt` its kind. `values.rt`, `operators.rt`, `branches.rt`,
+//! `assignments.rt`, `items.rt` and `calls.rt` make of parts that were judged what their form
+//! gives, and `closures.rt` has the steps at a closure and the kinds of its call; `tables.rt` has
+//! the pairs of tags that operators take, `kinds.rt` kinds that are cut, and `ordering.rt` the
 //! order of the codes.
 #![tactic(auto)]
 

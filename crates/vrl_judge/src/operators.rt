@@ -56,7 +56,8 @@ impl Operands {
 }
 
 impl Checker<'_> {
-    /// A negation, behind its operand: one that isn't exactly a boolean is 660. `Memory`: want of memory.
+    /// A negation, behind its operand: one that isn't exactly a boolean is 660. `Memory`: want of
+    /// memory.
     pub fn negated(&mut self, span: Span, part: Outcome) -> Result<Outcome, Memory>
         ensures { IfOk result (λ outcome. IsNegatedAs span part self.old self.new outcome) }
     {
@@ -90,7 +91,8 @@ impl Checker<'_> {
         })
     }
 
-    /// An equality, behind its operands: a comparison of a comparison is 650. `Memory`: want of memory.
+    /// An equality, behind its operands: a comparison of a comparison is 650. `Memory`: want of
+    /// memory.
     pub fn equated(&mut self, span: Span, chained: bool, parts: Operands) -> Result<Outcome, Memory>
         ensures { IfOk result (λ outcome. IsEquatedAs span chained parts self.old self.new outcome) }
     {
@@ -101,9 +103,10 @@ impl Checker<'_> {
         Ok(Outcome { kind, ends })
     }
 
-    /// An operator of a table, behind its operands: a comparison of a comparison is 650. It may end with an error where a pair that isn't in the
-    /// table is possible, and not with a value where none of the table is; but behind an error code it goes on behind both operands. `Memory`: want of
-    /// memory.
+    /// An operator of a table, behind its operands: a comparison of a comparison is 650. It may end
+    /// with an error where a pair that isn't in the table is possible, and not with a value where
+    /// none of the table is; but behind an error code it goes on behind both operands. `Memory`:
+    /// want of memory.
     pub fn combined(
         &mut self,
         span: Span,
@@ -126,7 +129,8 @@ impl Checker<'_> {
         Ok(Outcome { kind, ends })
     }
 
-    /// A merge, behind its operands: a side that isn't exactly an object is 652. `Memory`: want of memory.
+    /// A merge, behind its operands: a side that isn't exactly an object is 652. `Memory`: want of
+    /// memory.
     pub fn merged(
         &mut self,
         parts: Operands,
@@ -153,7 +157,8 @@ impl Checker<'_> {
         Ok(Outcome { kind, ends })
     }
 
-    // The kind of a merge; any where a side isn't exactly an object, which is poisoned or gives no value.
+    // The kind of a merge; any where a side isn't exactly an object, which is poisoned or gives no
+    // value.
     fn merged_kind(&self, left: &SharedKind, right: &SharedKind) -> Result<SharedKind, Memory>
         ensures { IfOk result (λ kind. IsMerged left.now right.now kind) }
     {

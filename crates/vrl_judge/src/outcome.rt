@@ -57,8 +57,8 @@ impl Outcome {
         self.ends.fail.is_some()
     }
 
-    // What is poisoned has kind any and no error is left of it; what can't end with a value has kind never.
-    // `Memory`: want of memory.
+    // What is poisoned has kind any and no error is left of it; what can't end with a value has
+    // kind never. `Memory`: want of memory.
     pub(crate) fn settle(&mut self, alloc: Global, alive: bool) -> Result<(), Memory>
         ensures kind { OnOk result (self.new.kind ≡ kind_settled self.old.ends.poisoned alive self.old.kind) }
         ensures ends { OnOk result (self.new.ends ≡ settled_ends self.old.ends) }

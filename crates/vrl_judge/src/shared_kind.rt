@@ -7,7 +7,8 @@ use std::rc::Rc;
 use vrl_kind::Kind;
 use vrl_value::Memory;
 
-/// The kind of a part that was judged, which may be shared, with the state where it is that of a whole root. A contract sees the kind.
+/// The kind of a part that was judged, which may be shared, with the state where it is that of a
+/// whole root. A contract sees the kind.
 pub struct SharedKind {
     kind: Rc<Kind>,
 }

@@ -15,8 +15,8 @@ use vrl_path::Path;
 use vrl_value::{Chars, Memory};
 
 impl Checker<'_> {
-    /// What is judged of a part in the end: of what is poisoned the kind is any and no error is left, and of what can't end with a value it is
-    /// never. `Memory`: want of memory.
+    /// What is judged of a part in the end: of what is poisoned the kind is any and no error is
+    /// left, and of what can't end with a value it is never. `Memory`: want of memory.
     pub fn settled(&self, part: Outcome) -> Result<Outcome, Memory>
         ensures { IfOk result (λ outcome. IsSettledAs part self.now outcome) }
     {
@@ -27,7 +27,9 @@ impl Checker<'_> {
 
     /// A read of a variable that isn't known, which is 701. `Memory`: want of memory.
     pub fn unknown(&mut self, span: Span) -> Result<Outcome, Memory>
-        ensures { IfOk result (λ outcome. HasJudged self.old self.new outcome (with_codes (at 701 span) (gives any_kind self.old.state.known))) }
+        ensures { IfOk result
+            (λ outcome. HasJudged self.old self.new outcome
+            (with_codes (at 701 span) (gives any_kind self.old.state.known))) }
     {
         let part = Outcome::value(SharedKind::any(self.alloc)?);
         self.reported(part, true, code::UNDEFINED_VARIABLE, span)
@@ -68,7 +70,8 @@ pub fn add_field(
 
 /// The kind of objects with these kinds at their fields, cut. `Memory`: want of memory.
 pub fn object_kind(alloc: Global, fields: Vec<(Chars, Kind)>) -> Result<SharedKind, Memory>
-    ensures { IfOk result (λ kind. IsCutOf (object_at (map (λ e. e.0) fields.items) (map (λ e. e.1) fields.items)) kind) }
+    ensures { IfOk result
+        (λ kind. IsCutOf (object_at (map (λ e. e.0) fields.items) (map (λ e. e.1) fields.items)) kind) }
 {
     let whole = Kind::object(alloc, fields, Rest::Nothing)?;
     kind_is_canonical(&whole);

@@ -22,7 +22,8 @@ pub(super) fn assignment(
 ) -> Result<Outcome, Memory>
     requires target { target_faults target.now ≡ [] }
     requires value { ExprCanBeJudged checker.old.patterns.now (expr_of value.now) }
-    ensures { IfOk result (λ outcome. IsGivenAs span (assign_form target.now (expr_of value.now)) checker.old checker.new outcome) }
+    ensures { IfOk result
+        (λ outcome. IsGivenAs span (assign_form target.now (expr_of value.now)) checker.old checker.new outcome) }
 {
     let part = expr(checker, value)?;
     checker.assigned(span, target, part)
@@ -38,7 +39,8 @@ pub(super) fn merge_assignment(
 ) -> Result<Outcome, Memory>
     requires target { target_faults target.now ≡ [] }
     requires value { ExprCanBeJudged checker.old.patterns.now (expr_of value.now) }
-    ensures { IfOk result (λ outcome. IsGivenAs span (merge_form target.now (expr_of value.now)) checker.old checker.new outcome) }
+    ensures { IfOk result
+        (λ outcome. IsGivenAs span (merge_form target.now (expr_of value.now)) checker.old checker.new outcome) }
 {
     match target {
         Target::Nowhere => {
@@ -53,7 +55,8 @@ pub(super) fn merge_assignment(
     }
 }
 
-// `t, u = e`: behind a value the value and null are written; behind an error the empty value and a text.
+// `t, u = e`: behind a value the value and null are written; behind an error the empty value and a
+// text.
 #[cycle(judge)]
 pub(super) fn error_assignment(
     checker: &mut Checker<'_>,
@@ -65,7 +68,8 @@ pub(super) fn error_assignment(
     requires ok { target_faults ok.now ≡ [] }
     requires err { target_faults err.now ≡ [] }
     requires value { ExprCanBeJudged checker.old.patterns.now (expr_of value.now) }
-    ensures { IfOk result (λ outcome. IsGivenAs span (both_form ok.now err.now (expr_of value.now)) checker.old checker.new outcome) }
+    ensures { IfOk result
+        (λ outcome. IsGivenAs span (both_form ok.now err.now (expr_of value.now)) checker.old checker.new outcome) }
 {
     let place = checker.empties.len();
     checker.empties.push(Tag::Null)?;

@@ -21,7 +21,9 @@ pub(super) fn conjunction(
 ) -> Result<Outcome, Memory>
     requires left { ExprCanBeJudged checker.old.patterns.now (expr_of left.now) }
     requires right { ExprCanBeJudged checker.old.patterns.now (expr_of right.now) }
-    ensures { IfOk result (λ outcome. IsAnywhereAs (binary_form ops.And (expr_of left.now) (expr_of right.now)) checker.old checker.new outcome) }
+    ensures { IfOk result
+        (λ outcome. IsAnywhereAs
+        (binary_form ops.And (expr_of left.now) (expr_of right.now)) checker.old checker.new outcome) }
 {
     let part = expr(checker, left)?;
     let side = checker.left_of_and(part)?;
@@ -29,8 +31,8 @@ pub(super) fn conjunction(
     checker.conjoined(side, other)
 }
 
-// The right side is judged where the left one may be null or a boolean; the value is the right one's alone
-// where the left one is exactly null.
+// The right side is judged where the left one may be null or a boolean; the value is the right
+// one's alone where the left one is exactly null.
 #[cycle(judge)]
 pub(super) fn disjunction(
     checker: &mut Checker<'_>,
@@ -39,7 +41,9 @@ pub(super) fn disjunction(
 ) -> Result<Outcome, Memory>
     requires left { ExprCanBeJudged checker.old.patterns.now (expr_of left.now) }
     requires right { ExprCanBeJudged checker.old.patterns.now (expr_of right.now) }
-    ensures { IfOk result (λ outcome. IsAnywhereAs (binary_form ops.Or (expr_of left.now) (expr_of right.now)) checker.old checker.new outcome) }
+    ensures { IfOk result
+        (λ outcome. IsAnywhereAs
+        (binary_form ops.Or (expr_of left.now) (expr_of right.now)) checker.old checker.new outcome) }
 {
     let part = expr(checker, left)?;
     let side = checker.left_of_or(part)?;
@@ -47,7 +51,8 @@ pub(super) fn disjunction(
     checker.disjoined(side, other)
 }
 
-// The right side is judged where the left one ended with an error. A left side that can't fail is 651.
+// The right side is judged where the left one ended with an error. A left side that can't fail is
+// 651.
 #[cycle(judge)]
 pub(super) fn coalescing(
     checker: &mut Checker<'_>,
@@ -57,7 +62,9 @@ pub(super) fn coalescing(
 ) -> Result<Outcome, Memory>
     requires left { ExprCanBeJudged checker.old.patterns.now (expr_of left.now) }
     requires right { ExprCanBeJudged checker.old.patterns.now (expr_of right.now) }
-    ensures { IfOk result (λ outcome. IsGivenAs span (binary_form ops.Coalesce (expr_of left.now) (expr_of right.now)) checker.old checker.new outcome) }
+    ensures { IfOk result
+        (λ outcome. IsGivenAs span
+        (binary_form ops.Coalesce (expr_of left.now) (expr_of right.now)) checker.old checker.new outcome) }
 {
     let part = expr(checker, left)?;
     let needless = part.ends.is_needless();
@@ -76,7 +83,10 @@ pub(super) fn conditional(
 ) -> Result<Outcome, Memory>
     requires arms { ArmsCanBeJudged checker.old.patterns.now (arms_of arms.now) }
     requires otherwise { ElseCanBeJudged checker.old.patterns.now (else_of (option_map exprs_of otherwise.now)) }
-    ensures { IfOk result (λ outcome. IsAnywhereAs (conditional_form (arms_of arms.now) (else_of (option_map exprs_of otherwise.now))) checker.old checker.new outcome) }
+    ensures { IfOk result
+        (λ outcome. IsAnywhereAs
+        (conditional_form (arms_of arms.now)
+        (else_of (option_map exprs_of otherwise.now))) checker.old checker.new outcome) }
 {
     let mut ways = Ways::none(checker.alloc)?;
     for arm in arms.as_slice() {
@@ -105,7 +115,8 @@ fn add_arm(checker: &mut Checker<'_>, ways: &mut Ways, arm: &Arm) -> Result<(), 
 #[cycle(judge)]
 fn last_way(checker: &mut Checker<'_>, otherwise: &Option<Exprs>) -> Result<Outcome, Memory>
     requires { ElseCanBeJudged checker.old.patterns.now (else_of (option_map exprs_of otherwise.now)) }
-    ensures { IfOk result (λ outcome. IsElseAs (else_of (option_map exprs_of otherwise.now)) checker.old checker.new outcome) }
+    ensures { IfOk result
+        (λ outcome. IsElseAs (else_of (option_map exprs_of otherwise.now)) checker.old checker.new outcome) }
 {
     match otherwise {
         Some(items) => block(checker, items),

@@ -1,4 +1,5 @@
-//! Calls of functions that take a closure, behind their arguments: the runs of its body, and the tries at it.
+//! Calls of functions that take a closure, behind their arguments: the runs of its body, and the
+//! tries at it.
 ghost use Rattle.std.specs.Prelude.{true, ◌≡◌, Bool, IfOk, Some};
 ghost use Rattle.vrl_check.specs.Calling.{call_args, call_name, IsCalledAs, IsTold};
 ghost use Rattle.vrl_check.specs.Iterating.{body_in, closure_items, closure_names, AreRuns, AreTries, AreTriesBehind, BodyCanBeJudged, IsBodyAs, IsIteratedAs, IsLastTry, IsTriedAs};
@@ -22,8 +23,8 @@ use vrl_state::Branch;
 use vrl_syntax::{Call, CallForm, Closure, Roots, written_roots};
 use vrl_value::Memory;
 
-// A call of a function that takes a closure, behind its arguments. Where it has a code of its own the closure isn't judged. `Memory`: want of
-// memory.
+// A call of a function that takes a closure, behind its arguments. Where it has a code of its own
+// the closure isn't judged. `Memory`: want of memory.
 #[cycle(judge)]
 pub(super) fn closure_call(
     checker: &mut Checker<'_>,
@@ -37,7 +38,8 @@ pub(super) fn closure_call(
     requires can { FormCanBeJudged checker.old.patterns.now (call_of call.now) }
     requires told { IsTold (call_args call.now) arguments.parts.items }
     requires ends { AreEnds checker.old.state.scopes arguments.ends }
-    ensures { IfOk result (λ outcome. IsCalledAs span (call_of call.now) (call_args call.now) arguments checker.old checker.new outcome) }
+    ensures { IfOk result
+        (λ outcome. IsCalledAs span (call_of call.now) (call_args call.now) arguments checker.old checker.new outcome) }
 {
     let mut arguments = arguments;
     let wrong = is_wrong_call(checker, span, form, call, &mut arguments)?;
@@ -50,7 +52,8 @@ pub(super) fn closure_call(
     }
 }
 
-// A closure that has the shape which the function asks for, behind the one argument of its call. `Memory`: want of memory.
+// A closure that has the shape which the function asks for, behind the one argument of its call.
+// `Memory`: want of memory.
 #[cycle(judge)]
 fn iterated(
     checker: &mut Checker<'_>,
@@ -69,8 +72,8 @@ fn iterated(
     made_of(checker, form, closure.span, collection, run)
 }
 
-// All runs of the body of a closure, whose names have these kinds, from what is known here. The closure stands at this place among those that
-// are judged. `Memory`: want of memory.
+// All runs of the body of a closure, whose names have these kinds, from what is known here. The
+// closure stands at this place among those that are judged. `Memory`: want of memory.
 #[cycle(judge)]
 fn all_runs(
     checker: &mut Checker<'_>,
@@ -89,7 +92,8 @@ fn all_runs(
     Ok(run)
 }
 
-// The tries at a body, from the first one on; what is known at the last one is known again. `Memory`: want of memory.
+// The tries at a body, from the first one on; what is known at the last one is known again.
+// `Memory`: want of memory.
 #[cycle(judge)]
 fn first_try(
     checker: &mut Checker<'_>,
@@ -99,7 +103,9 @@ fn first_try(
     runs: bool,
 ) -> Result<Run, Memory>
     requires { BodyCanBeJudged checker.old.patterns.now closure.now kinds.now }
-    ensures { IfOk result (λ run. AreTries form (body_in closure.now kinds.now runs) first checker.old.state.known checker.old checker.new run) }
+    ensures { IfOk result
+        (λ run. AreTries form
+        (body_in closure.now kinds.now runs) first checker.old.state.known checker.old checker.new run) }
 {
     let attempt = one_try(checker, form, closure, kinds, runs)?;
     match attempt {
@@ -108,7 +114,8 @@ fn first_try(
     }
 }
 
-// The second one, from what was known at the first or behind it, where each root that the body writes keeps its outer tags alone.
+// The second one, from what was known at the first or behind it, where each root that the body
+// writes keeps its outer tags alone.
 #[cycle(judge)]
 fn second_try(
     checker: &mut Checker<'_>,
@@ -120,7 +127,8 @@ fn second_try(
 ) -> Result<Run, Memory>
     requires body { BodyCanBeJudged checker.old.patterns.now closure.now kinds.now }
     requires behind { behind.scopes ≡ checker.old.state.scopes }
-    ensures { IfOk result (λ run. AreTriesBehind form (body_in closure.now kinds.now runs) behind.known checker.old checker.new run) }
+    ensures { IfOk result
+        (λ run. AreTriesBehind form (body_in closure.now kinds.now runs) behind.known checker.old checker.new run) }
 {
     let roots = written_roots(checker.alloc, &closure.body)?;
     checker.widened(behind, &roots)?;
@@ -131,7 +139,8 @@ fn second_try(
     }
 }
 
-// The third one, where of each of these roots nothing is known but that it is there. It always is stable.
+// The third one, where of each of these roots nothing is known but that it is there. It always is
+// stable.
 #[cycle(judge)]
 fn third_try(
     checker: &mut Checker<'_>,
@@ -155,7 +164,8 @@ fn third_try(
     }
 }
 
-// One try at a body, from what is known here. Where it isn't stable, what was gathered in it is let go. `Memory`: want of memory.
+// One try at a body, from what is known here. Where it isn't stable, what was gathered in it is let
+// go. `Memory`: want of memory.
 #[cycle(judge)]
 fn one_try(
     checker: &mut Checker<'_>,
@@ -182,7 +192,8 @@ fn body(
     kinds: &[SharedKind],
 ) -> Result<Outcome, Memory>
     requires { BodyCanBeJudged checker.old.patterns.now closure.now kinds.now }
-    ensures { IfOk result (λ outcome. (runs : Bool) → IsBodyAs (body_in closure.now kinds.now runs) checker.old checker.new outcome) }
+    ensures { IfOk result
+        (λ outcome. (runs : Bool) → IsBodyAs (body_in closure.now kinds.now runs) checker.old checker.new outcome) }
 {
     if checker.state.is_dead() {
         return pass_items(checker, &closure.body);

@@ -1,4 +1,5 @@
-//! Operators; of those with two sides `branches.rt` has the ones whose right side may be passed over.
+//! Operators; of those with two sides `branches.rt` has the ones whose right side may be passed
+//! over.
 ghost use Rattle.std.specs.Prelude.{true, ◌≡◌, IfOk, Some};
 ghost use Rattle.vrl_check.specs.Walking.{AreBoth, ExprCanBeJudged, IsAnywhereAs, IsBesideAs, IsGivenAs};
 ghost use Rattle.vrl_judge.specs.Judging.{table_rule, AreEnds, HasJudged};
@@ -27,7 +28,9 @@ pub(super) fn binary(
 ) -> Result<Outcome, Memory>
     requires left { ExprCanBeJudged checker.old.patterns.now (expr_of left.now) }
     requires right { ExprCanBeJudged checker.old.patterns.now (expr_of right.now) }
-    ensures { IfOk result (λ outcome. IsGivenAs span (binary_form op (expr_of left.now) (expr_of right.now)) checker.old checker.new outcome) }
+    ensures { IfOk result
+        (λ outcome. IsGivenAs span
+        (binary_form op (expr_of left.now) (expr_of right.now)) checker.old checker.new outcome) }
 {
     match op {
         Op::Coalesce => coalescing(checker, span, left, right),
@@ -51,7 +54,8 @@ pub(super) fn negation(
     inner: &Expr,
 ) -> Result<Outcome, Memory>
     requires { ExprCanBeJudged checker.old.patterns.now (expr_of inner.now) }
-    ensures { IfOk result (λ outcome. IsGivenAs span (negation_form (expr_of inner.now)) checker.old checker.new outcome) }
+    ensures { IfOk result
+        (λ outcome. IsGivenAs span (negation_form (expr_of inner.now)) checker.old checker.new outcome) }
 {
     let part = expr(checker, inner)?;
     checker.negated(span, part)
@@ -91,7 +95,9 @@ fn equality(
     requires op { is_equality op ≡ true }
     requires left { ExprCanBeJudged checker.old.patterns.now (expr_of left.now) }
     requires right { ExprCanBeJudged checker.old.patterns.now (expr_of right.now) }
-    ensures { IfOk result (λ outcome. IsGivenAs span (binary_form op (expr_of left.now) (expr_of right.now)) checker.old checker.new outcome) }
+    ensures { IfOk result
+        (λ outcome. IsGivenAs span
+        (binary_form op (expr_of left.now) (expr_of right.now)) checker.old checker.new outcome) }
 {
     let parts = operands(checker, left, right)?;
     checker.equated(span, is_chained(op, left, right), parts)
@@ -109,7 +115,9 @@ fn of_table(
     requires op { table_of op ≡ Some (table_rule table) }
     requires left { ExprCanBeJudged checker.old.patterns.now (expr_of left.now) }
     requires right { ExprCanBeJudged checker.old.patterns.now (expr_of right.now) }
-    ensures { IfOk result (λ outcome. IsGivenAs span (binary_form op (expr_of left.now) (expr_of right.now)) checker.old checker.new outcome) }
+    ensures { IfOk result
+        (λ outcome. IsGivenAs span
+        (binary_form op (expr_of left.now) (expr_of right.now)) checker.old checker.new outcome) }
 {
     let parts = operands(checker, left, right)?;
     checker.combined(span, table, is_chained(op, left, right), parts)
@@ -119,7 +127,9 @@ fn of_table(
 fn merge(checker: &mut Checker<'_>, left: &Expr, right: &Expr) -> Result<Outcome, Memory>
     requires left { ExprCanBeJudged checker.old.patterns.now (expr_of left.now) }
     requires right { ExprCanBeJudged checker.old.patterns.now (expr_of right.now) }
-    ensures { IfOk result (λ outcome. IsAnywhereAs (binary_form ops.Merge (expr_of left.now) (expr_of right.now)) checker.old checker.new outcome) }
+    ensures { IfOk result
+        (λ outcome. IsAnywhereAs
+        (binary_form ops.Merge (expr_of left.now) (expr_of right.now)) checker.old checker.new outcome) }
 {
     let parts = operands(checker, left, right)?;
     checker.merged(parts, left.span, right.span)
@@ -135,7 +145,10 @@ pub(super) fn merge_into(
     value: &Expr,
 ) -> Result<Outcome, Memory>
     requires { ExprCanBeJudged checker.old.patterns.now (expr_of value.now) }
-    ensures given { IfOk result (λ outcome. IsAnywhereAs (binary_form ops.Merge (expr_form place (read_form root.now path.now)) (expr_of value.now)) checker.old checker.new outcome) }
+    ensures given { IfOk result
+        (λ outcome. IsAnywhereAs
+        (binary_form ops.Merge (expr_form place (read_form root.now path.now))
+        (expr_of value.now)) checker.old checker.new outcome) }
     ensures judged { IfOk result (λ outcome. (j : Judgement) × HasJudged checker.old checker.new outcome j) }
 {
     let read = read(checker, place, root, path)?;
