@@ -74,7 +74,8 @@ fn answered(
         → MayBeAsked (row_of function) (args_of args.now) arguments.parts.items bound.now }
     requires regexes { args_regexes_below (length checker.old.patterns.now) (args_of args.now) ≡ true }
     requires ends { AreEnds checker.old.state.scopes arguments.ends }
-    ensures answered { IfOk result (λ outcome. (js : List JudgedArgument) → AreTold (args_of args.now) arguments.parts.items js
+    ensures answered { IfOk result
+        (λ outcome. (js : List JudgedArgument) → AreTold (args_of args.now) arguments.parts.items js
         → IsAnsweredAs function (bound_at bound.now js) arguments.ends checker.old outcome) }
     ensures checker { checker.new ≡ checker.old }
 {
@@ -114,7 +115,8 @@ fn deleted(checker: &mut Checker<'_>, args: &Args, arguments: Arguments) -> Resu
 // Takes out what stands at the one argument, if it is a path. `Memory`: want of memory.
 fn take_out_at(checker: &mut Checker<'_>, args: &[Arg]) -> Result<(), Memory>
     requires { args_faults true (args_view args.now) ≡ [] }
-    ensures known { OnOk result ((js : List JudgedArgument) → written (args_view args.now) ≡ map (λ g. (g.span, g.value)) js
+    ensures known { OnOk result
+        ((js : List JudgedArgument) → written (args_view args.now) ≡ map (λ g. (g.span, g.value)) js
         → IsDeletedAt (deleted_path false js) checker.old.state.known checker.new.state.known) }
     ensures others { IsMoved checker.old checker.new }
 {

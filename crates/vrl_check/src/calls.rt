@@ -179,10 +179,12 @@ pub(crate) fn is_wrong_call(
     call: &Call,
     arguments: &mut Arguments,
 ) -> Result<bool, Memory>
-    ensures reported { OnOk result ((js : List JudgedArgument) → AreTold (call_args call.now) arguments.old.parts.items js
+    ensures reported { OnOk result
+        ((js : List JudgedArgument) → AreTold (call_args call.now) arguments.old.parts.items js
         → IsReported (of_closure_call form span (call_args call.now)
         (call_closure call.now) js) checker.old checker.new arguments.old.ends arguments.new.ends) }
-    ensures wrong { IfOk result (λ wrong. (js : List JudgedArgument) → AreTold (call_args call.now) arguments.old.parts.items js
+    ensures wrong { IfOk result
+        (λ wrong. (js : List JudgedArgument) → AreTold (call_args call.now) arguments.old.parts.items js
         → wrong ≡ list_any (λ d. true) (of_closure_call form span (call_args call.now) (call_closure call.now) js)) }
     ensures parts { arguments.new.parts ≡ arguments.old.parts }
 {
@@ -237,7 +239,8 @@ fn call_of_nothing(
     arguments: Arguments,
 ) -> Result<Outcome, Memory>
     ensures kind { IfOk result (λ outcome. outcome.kind ≡ any_kind) }
-    ensures reported { IfOk result (λ outcome. IsReported (at 105 name) checker.old checker.new arguments.ends outcome.ends) }
+    ensures reported { IfOk result
+        (λ outcome. IsReported (at 105 name) checker.old checker.new arguments.ends outcome.ends) }
 {
     let mut ends = arguments.ends;
     checker.report(&mut ends, true, code::UNDEFINED_FUNCTION, name)?;
@@ -278,7 +281,8 @@ fn bound(
 ) -> Result<Bound, Memory>
     ensures places { IfOk result
         (λ bound. bound ≡ places_in (binding (callee_parameters callee) (keywords_of (call_args call.now)))) }
-    ensures reported { OnOk result ((js : List JudgedArgument) → AreTold (call_args call.now) arguments.old.parts.items js
+    ensures reported { OnOk result
+        ((js : List JudgedArgument) → AreTold (call_args call.now) arguments.old.parts.items js
         → IsReported (callee_codes callee span (call_args call.now) (call_closure call.now) js)
         checker.old checker.new arguments.old.ends arguments.new.ends) }
     ensures parts { arguments.new.parts ≡ arguments.old.parts }
@@ -304,7 +308,8 @@ fn bound_codes(
     places: &[Option<usize>],
     arguments: &mut Arguments,
 ) -> Result<(), Memory>
-    ensures reported { OnOk result ((js : List JudgedArgument) → AreTold (call_args call.now) arguments.old.parts.items js
+    ensures reported { OnOk result
+        ((js : List JudgedArgument) → AreTold (call_args call.now) arguments.old.parts.items js
         → IsReported (of_arguments (callee_wants callee) 0 (callee_parameters callee)
         (bound_at places.now js) ++ callee_closure callee span (call_closure call.now))
         checker.old checker.new arguments.old.ends arguments.new.ends) }
@@ -335,7 +340,8 @@ fn unbound(
     ends: &mut Ends,
 ) -> Result<(), Memory>
     ensures fault { OnOk result (fault ≢ faults.Memory) }
-    ensures reported { OnOk result ((js : List JudgedArgument) → written (args_of args.now) ≡ map (λ g. (g.span, g.value)) js
+    ensures reported { OnOk result
+        ((js : List JudgedArgument) → written (args_of args.now) ≡ map (λ g. (g.span, g.value)) js
         → IsReported (of_fault span js fault) checker.old checker.new ends.old ends.new) }
 {
     match fault {

@@ -207,7 +207,8 @@ pub(crate) fn end_try(
 // What is known here stands at this place among the closures. `Memory`: want of memory.
 pub(crate) fn keep_loop(checker: &mut Checker<'_>, place: usize) -> Result<(), Memory>
     requires { place < length checker.old.loops.items }
-    ensures loops { OnOk result (checker.new.loops.items ≡ slice_set checker.old.loops.items place (Some checker.old.state)) }
+    ensures loops { OnOk result
+        (checker.new.loops.items ≡ slice_set checker.old.loops.items place (Some checker.old.state)) }
     ensures others { OnOk result (checker.new ≡ record checker.old { loops = checker.new.loops }) }
 {
     let known = here(checker)?;

@@ -45,7 +45,8 @@ pub(crate) fn pass_closure(
     ensures loops { OnOk result
         (checker.new.loops.items ≡ checker.old.loops.items ++ passed_states
         (closures_in_closure (closure_in (option_map closure_of closure.now)))) }
-    ensures others { OnOk result (checker.new ≡ record checker.old { empties = checker.new.empties; loops = checker.new.loops }) }
+    ensures others { OnOk result
+        (checker.new ≡ record checker.old { empties = checker.new.empties; loops = checker.new.loops }) }
 {
     empties::add_closure(closure, &mut checker.empties)?;
     loops::add_closure(closure, &mut checker.loops)

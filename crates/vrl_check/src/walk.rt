@@ -107,7 +107,8 @@ fn object(checker: &mut Checker<'_>, pairs: &Pairs) -> Result<Outcome, Memory>
 
 // A variable that isn't known is 701.
 fn read(checker: &mut Checker<'_>, span: Span, root: &Root, path: &Path) -> Result<Outcome, Memory>
-    ensures given { IfOk result (λ outcome. IsGivenAs span (read_form root.now path.now) checker.old checker.new outcome) }
+    ensures given { IfOk result
+        (λ outcome. IsGivenAs span (read_form root.now path.now) checker.old checker.new outcome) }
     ensures judged { IfOk result (λ outcome. (j : Judgement) × HasJudged checker.old checker.new outcome j) }
 {
     let found = checker.state.shared(root)?;

@@ -39,7 +39,8 @@ pub(crate) fn build_literals(
     requires { sources.now ≡ sources_of tokens.now.tokens }
     ensures sources { IfOk result (λ patterns. patterns ≡ sources.now) }
     ensures formed { IfOk result (λ _. malformed_literals tokens.now.tokens ≡ []) }
-    ensures malformed { IfErr result (OnMalformed (λ found. (found ≡ malformed_literals tokens.now.tokens) × (found ≢ []))) }
+    ensures malformed { IfErr result
+        (OnMalformed (λ found. (found ≡ malformed_literals tokens.now.tokens) × (found ≢ []))) }
 {
     match Patterns::build(alloc, sources) {
         Ok(patterns) => Ok(patterns),

@@ -217,7 +217,8 @@ impl Checker<'_> {
         requires err { target_faults err.now ≡ [] }
         requires first { allows_absent first.now ≡ false }
         requires second { allows_absent second.now ≡ false }
-        ensures written { OnOk result (AreWritten ok.now err.now first.now second.now self.old.state.known self.new.state.known) }
+        ensures written { OnOk result
+            (AreWritten ok.now err.now first.now second.now self.old.state.known self.new.state.known) }
         ensures others { IsMoved self.old self.new }
     {
         self.write(ok, first)?;

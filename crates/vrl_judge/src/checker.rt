@@ -99,7 +99,8 @@ impl Checker<'_> {
     /// What is known here, as a branch; the state stays. `None`: no way leads here, or it isn't
     /// wanted. `Memory`: want of memory.
     pub fn branch_if(&mut self, wanted: bool) -> Result<Option<Branch>, Memory>
-        ensures branch { IfOk result (λ branch. branch ≡ way self.old.state.scopes (if_state wanted self.old.state.known)) }
+        ensures branch { IfOk result
+            (λ branch. branch ≡ way self.old.state.scopes (if_state wanted self.old.state.known)) }
         ensures checker { self.new ≡ self.old }
     {
         if !wanted || self.state.is_dead() {
@@ -124,7 +125,8 @@ impl Checker<'_> {
     // A return from here with a value of this kind. `None`: no way leads here. `Memory`: want of
     // memory.
     pub(crate) fn return_of(&mut self, kind: SharedKind) -> Result<Option<Returned>, Memory>
-        ensures returned { IfOk result (λ returned. returned ≡ returning self.old.state.scopes kind self.old.state.known) }
+        ensures returned { IfOk result
+            (λ returned. returned ≡ returning self.old.state.scopes kind self.old.state.known) }
         ensures checker { self.new ≡ self.old }
     {
         match self.branch_if(true)? {

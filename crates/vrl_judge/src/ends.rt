@@ -187,7 +187,8 @@ pub fn either_of(a: bool, b: bool) -> bool
 pub(crate) fn add_way(way: &mut Option<Branch>, other: Option<Branch>) -> Result<(), Memory>
     requires { (scopes : List Scope) × IsWay scopes way.old × IsWay scopes other }
     ensures joined { OnOk result (IsJoined (known_on way.old) (known_on other) (known_on way.new)) }
-    ensures scopes { OnOk result ((scopes : List Scope) → IsWay scopes way.old → IsWay scopes other → IsWay scopes way.new) }
+    ensures scopes { OnOk result
+        ((scopes : List Scope) → IsWay scopes way.old → IsWay scopes other → IsWay scopes way.new) }
 {
     match other {
         None => Ok(()),
