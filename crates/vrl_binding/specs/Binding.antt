@@ -44,11 +44,12 @@ positional_at zero (None ∷ ks) = Some zero
 positional_at (suc i) (None ∷ ks) = option_map suc (positional_at i ks)
 positional_at i (Some keyword ∷ ks) = option_map suc (positional_at i ks)
 
--- the arguments of the parameters: the one with the parameter's name as a keyword, and else the next one without a keyword, so many of
--- which are those of earlier parameters
+-- the arguments of the parameters: the one with the parameter's name as a keyword, and else the next one
+-- without a keyword, so many of which are those of earlier parameters
 abbrev pub bound_from : ℕ → List ParameterRow → Keywords → List (Option ℕ)
 bound_from i [] ks = []
-bound_from i (p ∷ ps) ks = option_map_or (λ place. Some place ∷ bound_from i ps ks) (keyword_at p.name ks) (positional_at i ks ∷ bound_from (suc i) ps ks)
+bound_from i (p ∷ ps) ks = option_map_or (λ place. Some place ∷ bound_from i ps ks) (keyword_at p.name ks)
+    (positional_at i ks ∷ bound_from (suc i) ps ks)
 
 -- one of these has the same keyword
 abbrev pub is_repeated : Option (List ℕ) → Keywords → Bool
@@ -72,7 +73,8 @@ first_unknown ps ks = position (is_unknown ps) ks
 abbrev pub first_missing : List ParameterRow → List (Option ℕ) → Option ℕ
 first_missing [] places = None
 first_missing (p ∷ ps) [] = None
-first_missing (p ∷ ps) (place ∷ places) = if p.required && is_none place then Some zero else option_map suc (first_missing ps places)
+first_missing (p ∷ ps) (place ∷ places) =
+    if p.required && is_none place then Some zero else option_map suc (first_missing ps places)
 
 abbrev pub is_wrong_number : List ParameterRow → Keywords → Bool
 is_wrong_number ps ks = nat_lt (length ps) (length ks) || has_twice ks
@@ -85,22 +87,26 @@ abbrev pub bound_or_unknown : Option ℕ → Result (List (Option ℕ)) BindFaul
 bound_or_unknown None bound = bound
 bound_or_unknown (Some place) bound = Err (fault.Unknown place)
 
--- the arguments of the parameters: first whether their number is wrong, then whether a keyword is unknown, then whether one is missing
+-- the arguments of the parameters: first whether their number is wrong, then whether a keyword is unknown,
+-- then whether one is missing
 abbrev pub binding : List ParameterRow → Keywords → Result (List (Option ℕ)) BindFault
 binding ps ks =
     if is_wrong_number ps ks then Err fault.Number
-    else bound_or_unknown (first_unknown ps ks) (let places = bound_from 0 ps ks in bound_or_missing (first_missing ps places) places)
+    else bound_or_unknown (first_unknown ps ks)
+    (let places = bound_from 0 ps ks in bound_or_missing (first_missing ps places) places)
 
 -- what is answered, but for want of memory
 abbrev pub IsBound : Result (List (Option ℕ)) BindFault → Result (List (Option ℕ)) BindFault → Type 0
 IsBound bound (Err fault.Memory) = ⊤
 IsBound bound answer = answer ≡ bound
 
--- `del` and `exists`, which aren't functions of the table, take one argument of any kind; it is written as a path or a name
+-- `del` and `exists`, which aren't functions of the table, take one argument of any kind; it is written as a
+-- path or a name
 abbrev pub path_parameters : List ParameterRow
 path_parameters = parameter (codes "value") any_tags ∷ []
 
--- the functions that take a closure aren't of the table either: they take one argument, a collection, which is an array or an object, and for `map_keys` an object
+-- the functions that take a closure aren't of the table either: they take one argument, a collection, which
+-- is an array or an object, and for `map_keys` an object
 abbrev pub collections : CallForm → Tags
 collections form.MapKeys = objects
 collections f = containers

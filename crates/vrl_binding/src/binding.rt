@@ -10,7 +10,8 @@ use vrl_builtin::Parameter;
 use vrl_syntax::{Arg, Args};
 use vrl_value::Memory;
 
-/// For each parameter of a function, the place of its argument among those of the call, where it has one. A contract sees the list.
+/// For each parameter of a function, the place of its argument among those of the call, where it has one. A
+/// contract sees the list.
 #[derive(Drop)]
 pub struct Bound {
     places: Vec<Option<usize>>,
@@ -145,7 +146,8 @@ fn is_unknown(parameters: &[Parameter], argument: &Arg) -> bool
 
 // The place of the first argument with a keyword that is no parameter's name.
 fn first_unknown(parameters: &[Parameter], arguments: &[Arg]) -> Option<usize>
-    ensures { result ≡ position (λ argument. is_unknown (map parameter_row parameters.now) argument.name) arguments.now }
+    ensures { result ≡ position
+        (λ argument. is_unknown (map parameter_row parameters.now) argument.name) arguments.now }
 {
     arguments
         .iter()
@@ -177,13 +179,15 @@ fn place_of_positional(arguments: &[Arg], index: usize) -> Option<usize>
     None
 }
 
-// For each parameter the place of its argument: the one with its name as a keyword, or else the next one without a keyword.
+// For each parameter the place of its argument: the one with its name as a keyword, or else the next one
+// without a keyword.
 fn places_of(
     alloc: Global,
     parameters: &[Parameter],
     arguments: &[Arg],
 ) -> Result<Vec<Option<usize>>, Memory>
-    ensures { IfOk result (λ places. places.items ≡ bound_from 0 (map parameter_row parameters.now) (names_of arguments.now)) }
+    ensures { IfOk result
+        (λ places. places.items ≡ bound_from 0 (map parameter_row parameters.now) (names_of arguments.now)) }
 {
     let mut places = Vec::with_capacity(alloc, parameters.len())?;
     let mut taken = 0;
@@ -220,10 +224,11 @@ fn first_missing(parameters: &[Parameter], places: &[Option<usize>]) -> Option<u
     None
 }
 
-/// Binds the arguments of a call to parameters: an argument with a keyword to the parameter of this name, and the i-th one without to
-/// the i-th parameter that no keyword names. `Number`: there are more arguments than parameters, or a keyword stands twice. Else
-/// `Unknown`: the place of the first argument whose keyword is no parameter's name. Else `Missing`: the place of the first required
-/// parameter without an argument. `Memory`: want of memory.
+/// Binds the arguments of a call to parameters: an argument with a keyword to the parameter of this name, and
+/// the i-th one without to the i-th parameter that no keyword names. `Number`: there are more arguments than
+/// parameters, or a keyword stands twice. Else `Unknown`: the place of the first argument whose keyword is no
+/// parameter's name. Else `Missing`: the place of the first required parameter without an argument. `Memory`:
+/// want of memory.
 pub fn bind_to(
     alloc: Global,
     parameters: &[Parameter],

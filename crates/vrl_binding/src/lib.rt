@@ -1,6 +1,7 @@
 //! How the arguments of a call are bound to parameters, those of a function or of a form that runs a closure.
 //!
-//! Files: `binding.rt` has `bind_to`, `collection.rt` what the functions that run a closure take, which aren't of the table of functions.
+//! Files: `binding.rt` has `bind_to`, `collection.rt` what the functions that run a closure take, which
+//! aren't of the table of functions.
 #![tactic(auto)]
 
 mod binding;

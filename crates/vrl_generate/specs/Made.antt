@@ -6,7 +6,8 @@ use Rattle.vrl_batch.specs.declared.line.Line.{Line}
 
 -- ---- the states
 
--- the state behind a state: a linear congruential generator modulo 2^64, with the multiplier and the increment of Knuth's MMIX
+-- the state behind a state: a linear congruential generator modulo 2^64, with the multiplier and the
+-- increment of Knuth's MMIX
 unfoldable pub state_after : ℕ → ℕ
 state_after state = (state * 6364136223846793005 + 1442695040888963407) % 2 ^ 64
 
@@ -27,7 +28,8 @@ level_of zero = codes "INFO"
 level_of (suc zero) = codes "WARN"
 level_of (suc (suc n)) = codes "ERROR"
 
--- the text of the i-th line, from the number that its state gives: the host is one of 16, the time that the request took below a second, and `n` below 1,000
+-- the text of the i-th line, from the number that its state gives: the host is one of 16, the time that the
+-- request took below a second, and `n` below 1,000
 unfoldable pub line_text : ℕ → ℕ → List ℕ
 line_text i r =
     codes "{\"host\":\"h" ++ (decimal (r % 16)
@@ -58,7 +60,8 @@ made_lines count seed = map (λ i. line_at (made_moment i) (i, made_line seed i)
 -- the lines that are still to come, so many of them, behind those that were made up to this state
 unfoldable pub lines_behind : (made state left : ℕ) → List Line
 lines_behind made state zero = []
-lines_behind made state (suc left) = line_from (state_after state) (made + 1) ∷ lines_behind (made + 1) (state_after state) left
+lines_behind made state (suc left) =
+    line_from (state_after state) (made + 1) ∷ lines_behind (made + 1) (state_after state) left
 
 -- the first of the lines to come, and those behind it; none where nothing is to come
 abbrev pub IsNext : (to_come : List Line) → Option Line → (left : List Line) → Type 0

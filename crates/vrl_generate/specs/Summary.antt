@@ -63,7 +63,8 @@ summary_of outs =
 
 -- ---- what a summary holds
 
--- the counts and the digest's message are those of these results; no result adds more than a number of 64 bits to a count
+-- the counts and the digest's message are those of these results; no result adds more than a number of 64
+-- bits to a count
 pub record Counts (outs : List LineOut) (summary : Summary) : Type 0 where
   pub lines : summary.lines ≡ length outs
   pub written : summary.written ≡ events_kept outs

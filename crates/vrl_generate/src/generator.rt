@@ -47,8 +47,8 @@ impl Generator {
         }
     }
 
-    /// The next line, with its number, from 1, and its moment; `None` at the end. The first line is of the moment 1,700,000,001 seconds behind
-    /// 1970-01-01T00:00:00Z, and each later one of a second more.
+    /// The next line, with its number, from 1, and its moment; `None` at the end. The first line is of the
+    /// moment 1,700,000,001 seconds behind 1970-01-01T00:00:00Z, and each later one of a second more.
     ///
     /// # Errors
     ///

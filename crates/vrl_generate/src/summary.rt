@@ -4,7 +4,8 @@ use std::alloc::Global;
 use vrl_batch::{LineOut, Outcome};
 use vrl_value::Memory;
 
-/// What is counted of the results of lines, and the digest of what would be written of them. None of their bytes are kept.
+/// What is counted of the results of lines, and the digest of what would be written of them. None of their
+/// bytes are kept.
 #[derive(Drop)]
 pub struct Summary {
     lines: u64,
@@ -62,13 +63,15 @@ impl Summary {
 
     /// Whether some line was refused.
     pub fn is_marked(&self) -> bool
-        ensures { (outs : List LineOut) → length outs < 2 ^ 64 → IsSummaryOf outs self.now → result ≡ some_refused outs }
+        ensures { (outs : List LineOut) → length outs < 2 ^ 64 → IsSummaryOf outs self.now
+            → result ≡ some_refused outs }
     {
         self.refused > 0
     }
 
-    /// The seven lines, each with its newline: `lines`, `written` (the events that are kept), `errors`, `aborted`, `refused` and `bytes` (of what would
-    /// be written), each with its number, and `sha256` with the digest (FIPS 180-4) of these bytes in lower-case hexadecimal digits.
+    /// The seven lines, each with its newline: `lines`, `written` (the events that are kept), `errors`,
+    /// `aborted`, `refused` and `bytes` (of what would be written), each with its number, and `sha256` with
+    /// the digest (FIPS 180-4) of these bytes in lower-case hexadecimal digits.
     ///
     /// # Errors
     ///

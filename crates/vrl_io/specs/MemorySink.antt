@@ -3,7 +3,8 @@ use Rattle.std.specs.Prelude.{ℕ, min, max, List, ◌++◌, Option, Some, None}
 use Rattle.vrl_io.specs.Calls.{CallNumbers, after_call}
 use Rattle.vrl_io.specs.Faults.{raised}
 
--- the bytes that were written, how many a call takes at most, where it doesn't take its whole piece, and what has happened so far
+-- the bytes that were written, how many a call takes at most, where it doesn't take its whole piece, and what
+-- has happened so far
 pub record BytesWritten : Type 0 where
   pub written : List ℕ
   pub most : Option ℕ

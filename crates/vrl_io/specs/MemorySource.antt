@@ -37,7 +37,8 @@ after_failure source = record source { calls = after_call source.calls; faults =
 
 -- any other uses up the bytes that it gives, and a piece size; one that gives none is the end
 abbrev pub after_piece : BytesLeft → ℕ → BytesLeft
-after_piece source count = record source { left = drop count source.left; pieces = drop 1 source.pieces; calls = after_call source.calls; taken = source.taken + count; ended = count == 0 }
+after_piece source count =
+    record source { left = drop count source.left; pieces = drop 1 source.pieces; calls = after_call source.calls; taken = source.taken + count; ended = count == 0 }
 
 -- the source after a take into this much room
 abbrev pub after_take : BytesLeft → ℕ → BytesLeft

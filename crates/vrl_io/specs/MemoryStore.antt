@@ -16,4 +16,5 @@ held_under entries name = option_map (λ entry. entry.1) (find (λ entry. bytes_
 
 -- what a load gives where there is memory; None: it fails
 abbrev pub bytes_loaded : NamesHeld → List ℕ → ℕ → Option (List ℕ)
-bytes_loaded store name limit = if next_fails store.calls then None else option_map (take limit) (held_under store.entries name)
+bytes_loaded store name limit =
+    if next_fails store.calls then None else option_map (take limit) (held_under store.entries name)

@@ -4,8 +4,9 @@
 //! left is optional: one that does not tell it has `None` there. For each trait there is an object in
 //! memory, which tells all, and an adapter over what std has, which tells none of its content.
 //!
-//! Files: `source.rt`, `sink.rt`, `store.rt` and `clock.rt` have the traits, `calls.rt` and `failures.rt` what they count; the files that begin with
-//! `memory_` have the devices in memory, and `std_source.rt`, `std_sink.rt`, `file_store.rt` and `system_clock.rt` the adapters.
+//! Files: `source.rt`, `sink.rt`, `store.rt` and `clock.rt` have the traits, `calls.rt` and `failures.rt`
+//! what they count; the files that begin with `memory_` have the devices in memory, and `std_source.rt`,
+//! `std_sink.rt`, `file_store.rt` and `system_clock.rt` the adapters.
 #![tactic(auto)]
 
 mod calls;

@@ -83,7 +83,8 @@ impl Sink for MemorySink {
         ensures no_call { bytes.now ≡ [] → (result ≡ Ok 0) × (self.new ≡ self.old) }
         // A call writes as much of the piece's front as it takes, or fails.
         ensures call { 0 < length bytes.now → MatchResult result
-            (λ n. (n ≡ count_taken self.old.most (length bytes.now)) × (self.new ≡ after_write self.old (take n bytes.now)))
+            (λ n. (n ≡ count_taken self.old.most (length bytes.now))
+            × (self.new ≡ after_write self.old (take n bytes.now)))
             (λ _. self.new ≡ after_fault self.old) }
         ensures failing { 0 < length bytes.now → IsTrue (next_fails self.old.calls) → IsErr result }
 

@@ -89,7 +89,8 @@ abbrev mutual
 
   pub members_faults : Role → Members → List (List Step)
   members_faults role no_members = []
-  members_faults role (member name t ms) = under (field name) (faults (member_role role name) t) ++ members_faults role ms
+  members_faults role (member name t ms) =
+      under (field name) (faults (member_role role name) t) ++ members_faults role ms
 
 abbrev pub first_of : List (List Step) → Option (List Step)
 first_of [] = None

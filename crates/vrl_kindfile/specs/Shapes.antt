@@ -29,7 +29,8 @@ shape_named name parts rest =
 abbrev pub shape_of : Members → Option Shape
 shape_of no_members = None
 shape_of (member name parts no_members) = shape_named name parts None
-shape_of (member name parts (member other rest no_members)) = if bytes_eq other (codes "rest") then shape_named name parts (Some rest) else None
+shape_of (member name parts (member other rest no_members)) =
+    if bytes_eq other (codes "rest") then shape_named name parts (Some rest) else None
 shape_of (member name parts (member other rest (member third t ms))) = None
 
 abbrev pub only_optional : Members → Option Tree

@@ -135,4 +135,5 @@ shape_faults (objects t rest) = under (field (codes "object")) (faults as_fields
 pub record IsShape (shape : Shape) (K : KindTree) : Type 0 where
   pub faultless : shape_faults shape ≡ []
   pub root : (u : Tag) → tags_at K [] u ≡ shape_tags (Some shape) u
-  pub parts : (s : Step) (p : List Step) (u : Tag) → tags_at K (s ∷ p) u ≡ part_tags (shape_part (Some shape) s) p (described_at p) u
+  pub parts : (s : Step) (p : List Step) (u : Tag)
+      → tags_at K (s ∷ p) u ≡ part_tags (shape_part (Some shape) s) p (described_at p) u

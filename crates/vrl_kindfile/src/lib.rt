@@ -3,8 +3,9 @@
 //! What a text stands for is told by `vrl_json`, and what a kind allows by `vrl_kind`; here it is told which
 //! tags a description allows at each path, and which of its values are at fault.
 //!
-//! Files: `file.rt` reads a file, `description.rt` walks what it describes, over `word.rt` and `container.rt`; `refusal.rt` and `pointer.rt` tell where the
-//! first fault is, and `fault.rt` why a file is refused. `laws.rt` has that a file has one answer.
+//! Files: `file.rt` reads a file, `description.rt` walks what it describes, over `word.rt` and
+//! `container.rt`; `refusal.rt` and `pointer.rt` tell where the first fault is, and `fault.rt` why a file is
+//! refused. `laws.rt` has that a file has one answer.
 #![tactic(auto)]
 
 mod container;

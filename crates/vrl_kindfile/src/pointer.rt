@@ -69,7 +69,8 @@ fn escaped_name(alloc: Global, name: &str) -> Result<String, Memory>
 }
 
 fn push_escaped(text: &mut String, c: char) -> Result<(), Memory>
-    ensures { OnOk result (string_bytes text.new ≡ string_bytes text.old ++ encode_utf8_all (flat_map escaped (c ∷ []))) }
+    ensures { OnOk result
+        (string_bytes text.new ≡ string_bytes text.old ++ encode_utf8_all (flat_map escaped (c ∷ []))) }
 {
     match c {
         '~' => text.push_str("~0")?,

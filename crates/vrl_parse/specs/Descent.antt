@@ -114,8 +114,8 @@ pub data Rule : Type 0 where
   chain : ℕ → Expr → Rule
   operand parts pairs arguments argument closing names more_names braces arms : Rule
 
--- what a rule answers; an argument with its name and place, a closure and a block with the block's place, and arms with the place of the
--- last block
+-- what a rule answers; an argument with its name and place, a closure and a block with the block's place, and
+-- arms with the place of the last block
 abbrev pub Meaning : Rule → Type 0
 Meaning script = Exprs
 Meaning item = Expr
@@ -153,14 +153,17 @@ abbrev pub suffixed : Expr → Program Expr
 suffixed e = take suffix_word (λ path end. done (expr (over (span_of e) end) (query e path))) (done e)
 
 abbrev pub assignment : Program Expr
-assignment = expect target_word λ t start. expect (sign_word token.Assign) λ _ _. go single λ e. done (expr (over start (span_of e)) (assign t e))
+assignment = expect target_word λ t start. expect (sign_word token.Assign) λ _ _. go single λ e. done
+    (expr (over start (span_of e)) (assign t e))
 
 abbrev pub merging : Program Expr
-merging = expect target_word λ t start. expect (sign_word token.MergeAssign) λ _ _. go single λ e. done (expr (over start (span_of e)) (merge t e))
+merging = expect target_word λ t start. expect (sign_word token.MergeAssign) λ _ _. go single λ e. done
+    (expr (over start (span_of e)) (merge t e))
 
 -- behind `abort`
 abbrev pub aborting : Span → Program Expr
-aborting start = look expression_end (done (expr start (abort_with no_message))) (go single λ e. done (expr (over start (span_of e)) (abort_with (message e))))
+aborting start = look expression_end (done (expr start (abort_with no_message)))
+    (go single λ e. done (expr (over start (span_of e)) (abort_with (message e))))
 
 -- behind the arguments of a call
 abbrev pub calling : List ℕ × Bool → Span → Args → Span → Program Expr
@@ -169,42 +172,60 @@ calling f start gs end = look (next token.Arrow)
     (suffixed (expr (over start end) (call f.0 (name_span start f.1) f.1 gs no_closure)))
 
 abbrev pub operand_program : Operand → Program Expr
-operand_program a_negation = expect (sign_word token.Not) λ _ start. go operand λ e. done (expr (over start (span_of e)) (negation e))
-operand_program a_call = expect function_word λ f start. expect (sign_word token.OpenParenthesis) λ _ _. go arguments λ gs. expect (sign_word token.CloseParenthesis) λ _ end. calling f start gs end
-operand_program an_array = expect (sign_word token.OpenBracket) λ _ start. go parts λ es. expect (sign_word token.CloseBracket) λ _ end. suffixed (expr (over start end) (array es))
-operand_program a_group = expect (sign_word token.OpenParenthesis) λ _ start. go item λ e. expect (sign_word token.CloseParenthesis) λ _ end. suffixed (expr (over start end) (group e))
-operand_program an_object = expect (sign_word token.OpenObject) λ _ start. go pairs λ ps. expect (sign_word token.CloseBrace) λ _ end. done (expr (over start end) (object ps))
+operand_program a_negation =
+    expect (sign_word token.Not) λ _ start. go operand λ e. done (expr (over start (span_of e)) (negation e))
+operand_program a_call = expect function_word λ f start. expect
+    (sign_word token.OpenParenthesis) λ _ _. go arguments λ gs. expect
+    (sign_word token.CloseParenthesis) λ _ end. calling f start gs end
+operand_program an_array = expect (sign_word token.OpenBracket) λ _ start. go parts λ es. expect
+    (sign_word token.CloseBracket) λ _ end. suffixed (expr (over start end) (array es))
+operand_program a_group = expect (sign_word token.OpenParenthesis) λ _ start. go item λ e. expect
+    (sign_word token.CloseParenthesis) λ _ end. suffixed (expr (over start end) (group e))
+operand_program an_object = expect (sign_word token.OpenObject) λ _ start. go pairs λ ps. expect
+    (sign_word token.CloseBrace) λ _ end. done (expr (over start end) (object ps))
 operand_program a_block = go braces λ b. done (expr b.1 (block b.0))
-operand_program an_if = expect (sign_word token.If) λ _ start. go arms λ a. done (expr (over start a.2) (conditional a.0 a.1))
+operand_program an_if =
+    expect (sign_word token.If) λ _ start. go arms λ a. done (expr (over start a.2) (conditional a.0 a.1))
 operand_program a_path = expect path_word λ p span. done (expr span (read p.0 p.1))
 operand_program a_literal = expect literal_word λ v span. done (expr span (literal v))
 
 abbrev pub program_of : (r : Rule) → Program (Meaning r)
 program_of script = take (sign_word token.Separator) (λ _ _. go script done)
     (look at_end (done no_exprs) (look (next token.CloseBrace) (done no_exprs)
-    (go item λ e. take (sign_word token.Separator) (λ _ _. go script λ es. done (exprs e es)) (done (exprs e no_exprs)))))
+    (go item λ e. take (sign_word token.Separator) (λ _ _. go script λ es. done (exprs e es))
+    (done (exprs e no_exprs)))))
 program_of item = look (before path_word token.Comma)
-    (expect target_word λ t start. expect (sign_word token.Comma) λ _ _. expect target_word λ u _. expect (sign_word token.Assign) λ _ _. go single λ e. done (expr (over start (span_of e)) (both t u e)))
+    (expect target_word λ t start. expect (sign_word token.Comma) λ _ _. expect target_word λ u _. expect
+    (sign_word token.Assign) λ _ _. go single λ e. done (expr (over start (span_of e)) (both t u e)))
     (go single done)
 program_of single = look (before path_word token.Assign) assignment (look (before path_word token.MergeAssign) merging
     (take (sign_word token.Return) (λ _ start. go single λ e. done (expr (over start (span_of e)) (return_of e)))
     (take (sign_word token.Abort) (λ _ start. aborting start) (go (level 0) done))))
 program_of (level n) = look (tightest n) (go operand done) (go (level (suc n)) λ left. go (chain n left) done)
-program_of (chain n left) = take (operator_word n) (λ o _. go (level (suc n)) λ right. go (chain n (expr (over (span_of left) (span_of right)) (binary o left right))) done) (done left)
+program_of (chain n left) = take (operator_word n)
+    (λ o _. go (level (suc n)) λ right. go
+    (chain n (expr (over (span_of left) (span_of right)) (binary o left right))) done) (done left)
 program_of operand = by_operand operand_program
 program_of parts = look (next token.CloseBracket) (done no_exprs)
     (go single λ e. take (sign_word token.Comma) (λ _ _. go parts λ es. done (exprs e es)) (done (exprs e no_exprs)))
 program_of pairs = look (next token.CloseBrace) (done no_pairs)
-    (expect key_word λ key _. expect (sign_word token.Colon) λ _ _. go single λ e. take (sign_word token.Comma) (λ _ _. go pairs λ ps. done (pair key e ps)) (done (pair key e no_pairs)))
+    (expect key_word λ key _. expect (sign_word token.Colon) λ _ _. go single λ e. take (sign_word token.Comma)
+    (λ _ _. go pairs λ ps. done (pair key e ps)) (done (pair key e no_pairs)))
 program_of arguments = look (next token.CloseParenthesis) (done no_args)
-    (go argument λ a. take (sign_word token.Comma) (λ _ _. go arguments λ gs. done (arg a.0 a.1 a.2 gs)) (done (arg a.0 a.1 a.2 no_args)))
+    (go argument λ a. take (sign_word token.Comma) (λ _ _. go arguments λ gs. done (arg a.0 a.1 a.2 gs))
+    (done (arg a.0 a.1 a.2 no_args)))
 program_of argument = look (before name_word token.Colon)
-    (expect name_word λ n start. expect (sign_word token.Colon) λ _ _. go single λ e. done (Some n, over start (span_of e), e))
+    (expect name_word λ n start. expect (sign_word token.Colon) λ _ _. go single λ e. done
+    (Some n, over start (span_of e), e))
     (go single λ e. done (None, span_of e, e))
-program_of closing = expect (sign_word token.Arrow) λ _ _. expect (sign_word token.OpenBars) λ _ _. go names λ ns. expect (sign_word token.CloseBars) λ _ _. go braces λ b. done (ns, b.0, b.1)
+program_of closing = expect (sign_word token.Arrow) λ _ _. expect
+    (sign_word token.OpenBars) λ _ _. go names λ ns. expect (sign_word token.CloseBars) λ _ _. go braces λ b. done
+    (ns, b.0, b.1)
 program_of names = expect name_word λ n _. go more_names λ ns. done (n ∷ ns)
-program_of more_names = take (sign_word token.Comma) (λ _ _. expect name_word λ n _. go more_names λ ns. done (n ∷ ns)) (done [])
-program_of braces = expect (sign_word token.OpenBlock) λ _ start. go script λ es. expect (sign_word token.CloseBrace) λ _ end. done (es, over start end)
+program_of more_names =
+    take (sign_word token.Comma) (λ _ _. expect name_word λ n _. go more_names λ ns. done (n ∷ ns)) (done [])
+program_of braces = expect (sign_word token.OpenBlock) λ _ start. go script λ es. expect
+    (sign_word token.CloseBrace) λ _ end. done (es, over start end)
 program_of arms = go (level 0) λ e. go braces λ b. take (sign_word token.Else)
     (λ _ _. take (sign_word token.If)
     (λ _ _. go arms λ a. done (arm e b.0 a.0, a.1, a.2))
@@ -213,7 +234,8 @@ program_of arms = go (level 0) λ e. go braces λ b. take (sign_word token.Else)
 
 -- ---- what programs do
 
--- how a program ends: with an answer and the words that are left, or without a script, before the words with which none goes on
+-- how a program ends: with an answer and the words that are left, or without a script, before the words with
+-- which none goes on
 pub data Outcome (A : Type 0) : Type 0 where
   took : A → List Word → Outcome A
   refused : List Word → Outcome A
@@ -222,13 +244,23 @@ pub data Outcome (A : Type 0) : Type 0 where
 pub data Runs : (r : Rule) → Program (Meaning r) → List Word → Outcome (Meaning r) → Type 0 where
   ran : {r : Rule} {x : Meaning r} {ws : List Word} → Runs r (done x) ws (took x ws)
   refuses : {r : Rule} {ws : List Word} → Runs r refuse ws (refused ws)
-  taken : {r : Rule} {k : Piece} {p : Said k → Span → Program (Meaning r)} {q : Program (Meaning r)} {ws vs : List Word} {v : Said k} {s : Span} {o : Outcome (Meaning r)} → Takes k ws v s vs → Runs r (p v s) vs o → Runs r (take k p q) ws o
-  untaken : {r : Rule} {k : Piece} {p : Said k → Span → Program (Meaning r)} {q : Program (Meaning r)} {ws : List Word} {o : Outcome (Meaning r)} → Lacks k ws → Runs r q ws o → Runs r (take k p q) ws o
-  seen : {r : Rule} {l : Look} {p q : Program (Meaning r)} {ws : List Word} {o : Outcome (Meaning r)} → Sees l ws → Runs r p ws o → Runs r (look l p q) ws o
-  unseen : {r : Rule} {l : Look} {p q : Program (Meaning r)} {ws : List Word} {o : Outcome (Meaning r)} → ¬ Sees l ws → Runs r q ws o → Runs r (look l p q) ws o
-  chosen : {r : Rule} {p : Operand → Program (Meaning r)} {a : Operand} {ws : List Word} {o : Outcome (Meaning r)} → operand_at ws ≡ a → Runs r (p a) ws o → Runs r (by_operand p) ws o
-  gone : {r q : Rule} {p : Meaning q → Program (Meaning r)} {x : Meaning q} {ws vs : List Word} {o : Outcome (Meaning r)} → Runs q (program_of q) ws (took x vs) → Runs r (p x) vs o → Runs r (go q p) ws o
-  not_gone : {r q : Rule} {p : Meaning q → Program (Meaning r)} {ws vs : List Word} → Runs q (program_of q) ws (refused vs) → Runs r (go q p) ws (refused vs)
+  taken : {r : Rule} {k : Piece} {p : Said k → Span
+      → Program (Meaning r)} {q : Program (Meaning r)} {ws vs : List Word} {v : Said k} {s : Span} {o : Outcome
+      (Meaning r)} → Takes k ws v s vs → Runs r (p v s) vs o → Runs r (take k p q) ws o
+  untaken : {r : Rule} {k : Piece} {p : Said k → Span
+      → Program (Meaning r)} {q : Program (Meaning r)} {ws : List Word} {o : Outcome (Meaning r)} → Lacks k ws
+      → Runs r q ws o → Runs r (take k p q) ws o
+  seen : {r : Rule} {l : Look} {p q : Program (Meaning r)} {ws : List Word} {o : Outcome (Meaning r)} → Sees l ws
+      → Runs r p ws o → Runs r (look l p q) ws o
+  unseen : {r : Rule} {l : Look} {p q : Program (Meaning r)} {ws : List Word} {o : Outcome (Meaning r)} → ¬ Sees l ws
+      → Runs r q ws o → Runs r (look l p q) ws o
+  chosen : {r : Rule} {p : Operand → Program (Meaning r)} {a : Operand} {ws : List Word} {o : Outcome (Meaning r)}
+      → operand_at ws ≡ a → Runs r (p a) ws o → Runs r (by_operand p) ws o
+  gone : {r q : Rule} {p : Meaning q
+      → Program (Meaning r)} {x : Meaning q} {ws vs : List Word} {o : Outcome (Meaning r)}
+      → Runs q (program_of q) ws (took x vs) → Runs r (p x) vs o → Runs r (go q p) ws o
+  not_gone : {r q : Rule} {p : Meaning q → Program (Meaning r)} {ws vs : List Word}
+      → Runs q (program_of q) ws (refused vs) → Runs r (go q p) ws (refused vs)
 
 -- the rule answers this and leaves these words, or finds no script and stops before these words
 abbrev pub RuleTakes : (r : Rule) → List Word → Meaning r → List Word → Type 0

@@ -25,16 +25,20 @@ pub record BeginsScript (ts : List Spanned) : Type 0 where
   pub script : Script
   pub reads : Reads (ts ++ more) script
 
--- where tokens that are no script go wrong: at the first with which no script begins, or, where one begins with all of them, at the end of
--- the text
+-- where tokens that are no script go wrong: at the first with which no script begins, or, where one begins
+-- with all of them, at the end of the text
 pub data IsErrorPlace (tokens : TokenList) (span : Span) : Type 0 where
-  at_token : (before behind : List Spanned) (t : Spanned) → tokens.tokens ≡ before ++ t ∷ behind → BeginsScript before → ¬ BeginsScript (before ++ t ∷ []) → span ≡ t.span → IsErrorPlace tokens span
-  at_end : BeginsScript tokens.tokens → span ≡ record { start = tokens.«end»; end = tokens.«end» } → IsErrorPlace tokens span
+  at_token : (before behind : List Spanned) (t : Spanned) → tokens.tokens ≡ before ++ t ∷ behind → BeginsScript before
+      → ¬ BeginsScript (before ++ t ∷ []) → span ≡ t.span → IsErrorPlace tokens span
+  at_end : BeginsScript tokens.tokens → span ≡ record { start = tokens.«end»; end = tokens.«end» }
+      → IsErrorPlace tokens span
 
 -- what is wrong with tokens: that no script is read from them, or the first path that breaks a limit
 pub data IsScriptFault (tokens : TokenList) (d : Diagnostic) : Type 0 where
-  no_script : d.code ≡ 203 → ((s : Script) → ¬ Reads tokens.tokens s) → IsErrorPlace tokens d.span → IsScriptFault tokens d
-  path_fault : {s : Script} {ds : List Diagnostic} → Reads tokens.tokens s → exprs_faults s.items ≡ d ∷ ds → IsScriptFault tokens d
+  no_script : d.code ≡ 203 → ((s : Script) → ¬ Reads tokens.tokens s) → IsErrorPlace tokens d.span
+      → IsScriptFault tokens d
+  path_fault : {s : Script} {ds : List Diagnostic} → Reads tokens.tokens s → exprs_faults s.items ≡ d ∷ ds
+      → IsScriptFault tokens d
 
 -- the codes of what can be wrong with tokens
 abbrev pub parse_codes : List ℕ

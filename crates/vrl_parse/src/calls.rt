@@ -14,8 +14,12 @@ impl<'a> Parser<'a> {
     // Takes a call, with its closure or its suffix.
     #[cycle(parser)]
     pub(crate) fn call(&mut self) -> Result<Expr, Stop>
-        ensures takes { IfOk result (λ x. Runs operand_rule (operand_program a_call) (words_left self.old) (took (expr_of x) (words_left self.new))) }
-        ensures refuses { IfErr result (OnRefusal (Runs operand_rule (operand_program a_call) (words_left self.old) (refused (words_left self.new)))) }
+        ensures takes { IfOk result
+            (λ x. Runs operand_rule (operand_program a_call) (words_left self.old)
+            (took (expr_of x) (words_left self.new))) }
+        ensures refuses { IfErr result
+            (OnRefusal (Runs operand_rule (operand_program a_call) (words_left self.old)
+            (refused (words_left self.new)))) }
         ensures shorter { OnOk result (length self.new.rest.now < length self.old.rest.now) }
     {
         let (function, start) = self.function()?;
@@ -34,8 +38,12 @@ impl<'a> Parser<'a> {
         args: Args,
         end: Span,
     ) -> Result<Expr, Stop>
-        ensures takes { IfOk result (λ x. Runs operand_rule (calling function start (args_of args) end) (words_left self.old) (took (expr_of x) (words_left self.new))) }
-        ensures refuses { IfErr result (OnRefusal (Runs operand_rule (calling function start (args_of args) end) (words_left self.old) (refused (words_left self.new)))) }
+        ensures takes { IfOk result
+            (λ x. Runs operand_rule (calling function start (args_of args) end) (words_left self.old)
+            (took (expr_of x) (words_left self.new))) }
+        ensures refuses { IfErr result
+            (OnRefusal (Runs operand_rule (calling function start (args_of args) end) (words_left self.old)
+            (refused (words_left self.new)))) }
         ensures shorter { OnOk result (length self.new.rest.now ≤ length self.old.rest.now) }
     {
         if self.is_next(Sign::Arrow) {
@@ -49,8 +57,11 @@ impl<'a> Parser<'a> {
     // Takes the arguments of a call, up to its closing parenthesis.
     #[cycle(parser)]
     fn args(&mut self) -> Result<Args, Stop>
-        ensures takes { IfOk result (λ x. Runs arguments (program_of arguments) (words_left self.old) (took (args_of x) (words_left self.new))) }
-        ensures refuses { IfErr result (OnRefusal (Runs arguments (program_of arguments) (words_left self.old) (refused (words_left self.new)))) }
+        ensures takes { IfOk result
+            (λ x. Runs arguments (program_of arguments) (words_left self.old)
+            (took (args_of x) (words_left self.new))) }
+        ensures refuses { IfErr result
+            (OnRefusal (Runs arguments (program_of arguments) (words_left self.old) (refused (words_left self.new)))) }
         ensures shorter { OnOk result (length self.new.rest.now ≤ length self.old.rest.now) }
     {
         let mut args = Vec::new(self.alloc);
@@ -68,8 +79,10 @@ impl<'a> Parser<'a> {
     // Takes an argument.
     #[cycle(parser)]
     fn arg(&mut self) -> Result<Arg, Stop>
-        ensures takes { IfOk result (λ x. Runs argument (program_of argument) (words_left self.old) (took (arg_of x) (words_left self.new))) }
-        ensures refuses { IfErr result (OnRefusal (Runs argument (program_of argument) (words_left self.old) (refused (words_left self.new)))) }
+        ensures takes { IfOk result
+            (λ x. Runs argument (program_of argument) (words_left self.old) (took (arg_of x) (words_left self.new))) }
+        ensures refuses { IfErr result
+            (OnRefusal (Runs argument (program_of argument) (words_left self.old) (refused (words_left self.new)))) }
         ensures shorter { OnOk result (length self.new.rest.now < length self.old.rest.now) }
     {
         if self.is_name_before(Sign::Colon) {

@@ -14,8 +14,11 @@ impl<'a> Parser<'a> {
     // Takes a closure: its names, the items of its block, and the block's place.
     #[cycle(parser)]
     pub(crate) fn closure(&mut self) -> Result<(Names, Exprs, Span), Stop>
-        ensures takes { IfOk result (λ x. Runs closing (program_of closing) (words_left self.old) (took (x.0, exprs_of x.1, x.2) (words_left self.new))) }
-        ensures refuses { IfErr result (OnRefusal (Runs closing (program_of closing) (words_left self.old) (refused (words_left self.new)))) }
+        ensures takes { IfOk result
+            (λ x. Runs closing (program_of closing) (words_left self.old)
+            (took (x.0, exprs_of x.1, x.2) (words_left self.new))) }
+        ensures refuses { IfErr result
+            (OnRefusal (Runs closing (program_of closing) (words_left self.old) (refused (words_left self.new)))) }
         ensures shorter { OnOk result (length self.new.rest.now < length self.old.rest.now) }
     {
         self.expect(Sign::Arrow)?;
@@ -28,8 +31,11 @@ impl<'a> Parser<'a> {
 
     // Takes the names of a closure.
     fn names(&mut self) -> Result<Names, Stop>
-        ensures takes { IfOk result (λ x. Runs names_rule (program_of names_rule) (words_left self.old) (took x (words_left self.new))) }
-        ensures refuses { IfErr result (OnRefusal (Runs names_rule (program_of names_rule) (words_left self.old) (refused (words_left self.new)))) }
+        ensures takes { IfOk result
+            (λ x. Runs names_rule (program_of names_rule) (words_left self.old) (took x (words_left self.new))) }
+        ensures refuses { IfErr result
+            (OnRefusal (Runs names_rule (program_of names_rule) (words_left self.old)
+            (refused (words_left self.new)))) }
         ensures shorter { OnOk result (length self.new.rest.now < length self.old.rest.now) }
     {
         let mut names: Vec<Chars> = Vec::new(self.alloc);
@@ -45,8 +51,11 @@ impl<'a> Parser<'a> {
     // Takes a block, and tells its place.
     #[cycle(parser)]
     pub(crate) fn block(&mut self) -> Result<(Exprs, Span), Stop>
-        ensures takes { IfOk result (λ x. Runs braces (program_of braces) (words_left self.old) (took (exprs_of x.0, x.1) (words_left self.new))) }
-        ensures refuses { IfErr result (OnRefusal (Runs braces (program_of braces) (words_left self.old) (refused (words_left self.new)))) }
+        ensures takes { IfOk result
+            (λ x. Runs braces (program_of braces) (words_left self.old)
+            (took (exprs_of x.0, x.1) (words_left self.new))) }
+        ensures refuses { IfErr result
+            (OnRefusal (Runs braces (program_of braces) (words_left self.old) (refused (words_left self.new)))) }
         ensures shorter { OnOk result (length self.new.rest.now < length self.old.rest.now) }
     {
         let start = self.expect(Sign::OpenBlock)?;

@@ -13,8 +13,12 @@ impl<'a> Parser<'a> {
     // Takes an `if`, with all its blocks.
     #[cycle(parser)]
     pub(crate) fn conditional(&mut self) -> Result<Expr, Stop>
-        ensures takes { IfOk result (λ x. Runs operand_rule (operand_program an_if) (words_left self.old) (took (expr_of x) (words_left self.new))) }
-        ensures refuses { IfErr result (OnRefusal (Runs operand_rule (operand_program an_if) (words_left self.old) (refused (words_left self.new)))) }
+        ensures takes { IfOk result
+            (λ x. Runs operand_rule (operand_program an_if) (words_left self.old)
+            (took (expr_of x) (words_left self.new))) }
+        ensures refuses { IfErr result
+            (OnRefusal (Runs operand_rule (operand_program an_if) (words_left self.old)
+            (refused (words_left self.new)))) }
         ensures shorter { OnOk result (length self.new.rest.now < length self.old.rest.now) }
     {
         let start = self.expect(Sign::If)?;
@@ -22,11 +26,15 @@ impl<'a> Parser<'a> {
         Ok(forms::conditional(start, arms, otherwise, end))
     }
 
-    // Takes what stands behind the word `if`: the predicates, their blocks, the block behind a last `else`, and the place of the last block.
+    // Takes what stands behind the word `if`: the predicates, their blocks, the block behind a last `else`,
+    // and the place of the last block.
     #[cycle(parser)]
     fn arms(&mut self) -> Result<(Arms, Option<Exprs>, Span), Stop>
-        ensures takes { IfOk result (λ x. Runs arms_rule (program_of arms_rule) (words_left self.old) (took (arms_of x.0, else_of (option_map exprs_of x.1), x.2) (words_left self.new))) }
-        ensures refuses { IfErr result (OnRefusal (Runs arms_rule (program_of arms_rule) (words_left self.old) (refused (words_left self.new)))) }
+        ensures takes { IfOk result
+            (λ x. Runs arms_rule (program_of arms_rule) (words_left self.old)
+            (took (arms_of x.0, else_of (option_map exprs_of x.1), x.2) (words_left self.new))) }
+        ensures refuses { IfErr result
+            (OnRefusal (Runs arms_rule (program_of arms_rule) (words_left self.old) (refused (words_left self.new)))) }
         ensures shorter { OnOk result (length self.new.rest.now < length self.old.rest.now) }
     {
         let mut arms = Vec::new(self.alloc);

@@ -13,8 +13,12 @@ impl<'a> Parser<'a> {
     // Takes items, and the separators before, between and behind them.
     #[cycle(parser)]
     pub(crate) fn script(&mut self) -> Result<Exprs, Stop>
-        ensures takes { IfOk result (λ x. Runs script_rule (program_of script_rule) (words_left self.old) (took (exprs_of x) (words_left self.new))) }
-        ensures refuses { IfErr result (OnRefusal (Runs script_rule (program_of script_rule) (words_left self.old) (refused (words_left self.new)))) }
+        ensures takes { IfOk result
+            (λ x. Runs script_rule (program_of script_rule) (words_left self.old)
+            (took (exprs_of x) (words_left self.new))) }
+        ensures refuses { IfErr result
+            (OnRefusal (Runs script_rule (program_of script_rule) (words_left self.old)
+            (refused (words_left self.new)))) }
         ensures shorter { OnOk result (length self.new.rest.now ≤ length self.old.rest.now) }
     {
         let mut items = Vec::new(self.alloc);
@@ -38,8 +42,11 @@ impl<'a> Parser<'a> {
     // Takes an item.
     #[cycle(parser)]
     pub(crate) fn item(&mut self) -> Result<Expr, Stop>
-        ensures takes { IfOk result (λ x. Runs item_rule (program_of item_rule) (words_left self.old) (took (expr_of x) (words_left self.new))) }
-        ensures refuses { IfErr result (OnRefusal (Runs item_rule (program_of item_rule) (words_left self.old) (refused (words_left self.new)))) }
+        ensures takes { IfOk result
+            (λ x. Runs item_rule (program_of item_rule) (words_left self.old)
+            (took (expr_of x) (words_left self.new))) }
+        ensures refuses { IfErr result
+            (OnRefusal (Runs item_rule (program_of item_rule) (words_left self.old) (refused (words_left self.new)))) }
         ensures shorter { OnOk result (length self.new.rest.now < length self.old.rest.now) }
     {
         if !self.is_path_before(Sign::Comma) {
@@ -56,8 +63,12 @@ impl<'a> Parser<'a> {
     // Takes an expression that may be an argument.
     #[cycle(parser)]
     pub(crate) fn single(&mut self) -> Result<Expr, Stop>
-        ensures takes { IfOk result (λ x. Runs single_rule (program_of single_rule) (words_left self.old) (took (expr_of x) (words_left self.new))) }
-        ensures refuses { IfErr result (OnRefusal (Runs single_rule (program_of single_rule) (words_left self.old) (refused (words_left self.new)))) }
+        ensures takes { IfOk result
+            (λ x. Runs single_rule (program_of single_rule) (words_left self.old)
+            (took (expr_of x) (words_left self.new))) }
+        ensures refuses { IfErr result
+            (OnRefusal (Runs single_rule (program_of single_rule) (words_left self.old)
+            (refused (words_left self.new)))) }
         ensures shorter { OnOk result (length self.new.rest.now < length self.old.rest.now) }
     {
         if self.is_path_before(Sign::Assign) {
@@ -79,8 +90,10 @@ impl<'a> Parser<'a> {
     // Takes an assignment.
     #[cycle(parser)]
     fn assignment(&mut self) -> Result<Expr, Stop>
-        ensures takes { IfOk result (λ x. Runs single_rule assigning (words_left self.old) (took (expr_of x) (words_left self.new))) }
-        ensures refuses { IfErr result (OnRefusal (Runs single_rule assigning (words_left self.old) (refused (words_left self.new)))) }
+        ensures takes { IfOk result
+            (λ x. Runs single_rule assigning (words_left self.old) (took (expr_of x) (words_left self.new))) }
+        ensures refuses { IfErr result
+            (OnRefusal (Runs single_rule assigning (words_left self.old) (refused (words_left self.new)))) }
         ensures shorter { OnOk result (length self.new.rest.now < length self.old.rest.now) }
     {
         let (target, start) = self.target()?;
@@ -92,8 +105,10 @@ impl<'a> Parser<'a> {
     // Takes an assignment that merges.
     #[cycle(parser)]
     fn merge(&mut self) -> Result<Expr, Stop>
-        ensures takes { IfOk result (λ x. Runs single_rule merging (words_left self.old) (took (expr_of x) (words_left self.new))) }
-        ensures refuses { IfErr result (OnRefusal (Runs single_rule merging (words_left self.old) (refused (words_left self.new)))) }
+        ensures takes { IfOk result
+            (λ x. Runs single_rule merging (words_left self.old) (took (expr_of x) (words_left self.new))) }
+        ensures refuses { IfErr result
+            (OnRefusal (Runs single_rule merging (words_left self.old) (refused (words_left self.new)))) }
         ensures shorter { OnOk result (length self.new.rest.now < length self.old.rest.now) }
     {
         let (target, start) = self.target()?;
@@ -105,8 +120,10 @@ impl<'a> Parser<'a> {
     // Takes the message of an `abort` that stands there, where there is one.
     #[cycle(parser)]
     fn abort(&mut self, start: Span) -> Result<Expr, Stop>
-        ensures takes { IfOk result (λ x. Runs single_rule (aborting start) (words_left self.old) (took (expr_of x) (words_left self.new))) }
-        ensures refuses { IfErr result (OnRefusal (Runs single_rule (aborting start) (words_left self.old) (refused (words_left self.new)))) }
+        ensures takes { IfOk result
+            (λ x. Runs single_rule (aborting start) (words_left self.old) (took (expr_of x) (words_left self.new))) }
+        ensures refuses { IfErr result
+            (OnRefusal (Runs single_rule (aborting start) (words_left self.old) (refused (words_left self.new)))) }
         ensures shorter { OnOk result (length self.new.rest.now ≤ length self.old.rest.now) }
     {
         if self.ends_expression() {

@@ -13,8 +13,12 @@ impl<'a> Parser<'a> {
     // Takes an operand.
     #[cycle(parser)]
     pub(crate) fn operand(&mut self) -> Result<Expr, Stop>
-        ensures takes { IfOk result (λ x. Runs operand_rule (program_of operand_rule) (words_left self.old) (took (expr_of x) (words_left self.new))) }
-        ensures refuses { IfErr result (OnRefusal (Runs operand_rule (program_of operand_rule) (words_left self.old) (refused (words_left self.new)))) }
+        ensures takes { IfOk result
+            (λ x. Runs operand_rule (program_of operand_rule) (words_left self.old)
+            (took (expr_of x) (words_left self.new))) }
+        ensures refuses { IfErr result
+            (OnRefusal (Runs operand_rule (program_of operand_rule) (words_left self.old)
+            (refused (words_left self.new)))) }
         ensures shorter { OnOk result (length self.new.rest.now < length self.old.rest.now) }
     {
         match self.next_operand() {
@@ -33,8 +37,12 @@ impl<'a> Parser<'a> {
     // Takes a negation.
     #[cycle(parser)]
     fn negation(&mut self) -> Result<Expr, Stop>
-        ensures takes { IfOk result (λ x. Runs operand_rule (operand_program a_negation) (words_left self.old) (took (expr_of x) (words_left self.new))) }
-        ensures refuses { IfErr result (OnRefusal (Runs operand_rule (operand_program a_negation) (words_left self.old) (refused (words_left self.new)))) }
+        ensures takes { IfOk result
+            (λ x. Runs operand_rule (operand_program a_negation) (words_left self.old)
+            (took (expr_of x) (words_left self.new))) }
+        ensures refuses { IfErr result
+            (OnRefusal (Runs operand_rule (operand_program a_negation) (words_left self.old)
+            (refused (words_left self.new)))) }
         ensures shorter { OnOk result (length self.new.rest.now < length self.old.rest.now) }
     {
         let start = self.expect(Sign::Not)?;
@@ -45,8 +53,12 @@ impl<'a> Parser<'a> {
     // Takes a group and its suffix.
     #[cycle(parser)]
     fn group(&mut self) -> Result<Expr, Stop>
-        ensures takes { IfOk result (λ x. Runs operand_rule (operand_program a_group) (words_left self.old) (took (expr_of x) (words_left self.new))) }
-        ensures refuses { IfErr result (OnRefusal (Runs operand_rule (operand_program a_group) (words_left self.old) (refused (words_left self.new)))) }
+        ensures takes { IfOk result
+            (λ x. Runs operand_rule (operand_program a_group) (words_left self.old)
+            (took (expr_of x) (words_left self.new))) }
+        ensures refuses { IfErr result
+            (OnRefusal (Runs operand_rule (operand_program a_group) (words_left self.old)
+            (refused (words_left self.new)))) }
         ensures shorter { OnOk result (length self.new.rest.now < length self.old.rest.now) }
     {
         let start = self.expect(Sign::OpenParenthesis)?;
@@ -59,8 +71,12 @@ impl<'a> Parser<'a> {
     // Takes an array and its suffix.
     #[cycle(parser)]
     fn array(&mut self) -> Result<Expr, Stop>
-        ensures takes { IfOk result (λ x. Runs operand_rule (operand_program an_array) (words_left self.old) (took (expr_of x) (words_left self.new))) }
-        ensures refuses { IfErr result (OnRefusal (Runs operand_rule (operand_program an_array) (words_left self.old) (refused (words_left self.new)))) }
+        ensures takes { IfOk result
+            (λ x. Runs operand_rule (operand_program an_array) (words_left self.old)
+            (took (expr_of x) (words_left self.new))) }
+        ensures refuses { IfErr result
+            (OnRefusal (Runs operand_rule (operand_program an_array) (words_left self.old)
+            (refused (words_left self.new)))) }
         ensures shorter { OnOk result (length self.new.rest.now < length self.old.rest.now) }
     {
         let start = self.expect(Sign::OpenBracket)?;
@@ -72,8 +88,12 @@ impl<'a> Parser<'a> {
     // Takes an object.
     #[cycle(parser)]
     fn object(&mut self) -> Result<Expr, Stop>
-        ensures takes { IfOk result (λ x. Runs operand_rule (operand_program an_object) (words_left self.old) (took (expr_of x) (words_left self.new))) }
-        ensures refuses { IfErr result (OnRefusal (Runs operand_rule (operand_program an_object) (words_left self.old) (refused (words_left self.new)))) }
+        ensures takes { IfOk result
+            (λ x. Runs operand_rule (operand_program an_object) (words_left self.old)
+            (took (expr_of x) (words_left self.new))) }
+        ensures refuses { IfErr result
+            (OnRefusal (Runs operand_rule (operand_program an_object) (words_left self.old)
+            (refused (words_left self.new)))) }
         ensures shorter { OnOk result (length self.new.rest.now < length self.old.rest.now) }
     {
         let start = self.expect(Sign::OpenObject)?;
@@ -85,8 +105,12 @@ impl<'a> Parser<'a> {
     // Takes a block that is an operand.
     #[cycle(parser)]
     fn braced(&mut self) -> Result<Expr, Stop>
-        ensures takes { IfOk result (λ x. Runs operand_rule (operand_program a_block) (words_left self.old) (took (expr_of x) (words_left self.new))) }
-        ensures refuses { IfErr result (OnRefusal (Runs operand_rule (operand_program a_block) (words_left self.old) (refused (words_left self.new)))) }
+        ensures takes { IfOk result
+            (λ x. Runs operand_rule (operand_program a_block) (words_left self.old)
+            (took (expr_of x) (words_left self.new))) }
+        ensures refuses { IfErr result
+            (OnRefusal (Runs operand_rule (operand_program a_block) (words_left self.old)
+            (refused (words_left self.new)))) }
         ensures shorter { OnOk result (length self.new.rest.now < length self.old.rest.now) }
     {
         let (body, span) = self.block()?;
@@ -95,8 +119,12 @@ impl<'a> Parser<'a> {
 
     // Takes a path or a name that is read.
     fn read(&mut self) -> Result<Expr, Stop>
-        ensures takes { IfOk result (λ x. Runs operand_rule (operand_program a_path) (words_left self.old) (took (expr_of x) (words_left self.new))) }
-        ensures refuses { IfErr result (OnRefusal (Runs operand_rule (operand_program a_path) (words_left self.old) (refused (words_left self.new)))) }
+        ensures takes { IfOk result
+            (λ x. Runs operand_rule (operand_program a_path) (words_left self.old)
+            (took (expr_of x) (words_left self.new))) }
+        ensures refuses { IfErr result
+            (OnRefusal (Runs operand_rule (operand_program a_path) (words_left self.old)
+            (refused (words_left self.new)))) }
         ensures shorter { OnOk result (length self.new.rest.now < length self.old.rest.now) }
     {
         let ((root, path), span) = self.path()?;
@@ -105,8 +133,12 @@ impl<'a> Parser<'a> {
 
     // Takes a literal.
     fn constant(&mut self) -> Result<Expr, Stop>
-        ensures takes { IfOk result (λ x. Runs operand_rule (operand_program a_literal) (words_left self.old) (took (expr_of x) (words_left self.new))) }
-        ensures refuses { IfErr result (OnRefusal (Runs operand_rule (operand_program a_literal) (words_left self.old) (refused (words_left self.new)))) }
+        ensures takes { IfOk result
+            (λ x. Runs operand_rule (operand_program a_literal) (words_left self.old)
+            (took (expr_of x) (words_left self.new))) }
+        ensures refuses { IfErr result
+            (OnRefusal (Runs operand_rule (operand_program a_literal) (words_left self.old)
+            (refused (words_left self.new)))) }
         ensures shorter { OnOk result (length self.new.rest.now < length self.old.rest.now) }
     {
         let (value, span) = self.literal()?;
@@ -115,7 +147,9 @@ impl<'a> Parser<'a> {
 
     // An expression, queried by the suffix behind it where there is one.
     pub(crate) fn with_suffix(&mut self, inner: Expr) -> Result<Expr, Memory>
-        ensures takes { IfOk result (λ x. Runs operand_rule (suffixed (expr_of inner)) (words_left self.old) (took (expr_of x) (words_left self.new))) }
+        ensures takes { IfOk result
+            (λ x. Runs operand_rule (suffixed (expr_of inner)) (words_left self.old)
+            (took (expr_of x) (words_left self.new))) }
         ensures no_longer { length self.new.rest.now ≤ length self.old.rest.now }
     {
         let Some((path, end)) = self.suffix() else {

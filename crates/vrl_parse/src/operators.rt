@@ -17,8 +17,12 @@ impl<'a> Parser<'a> {
     #[cycle(parser)]
     pub(crate) fn level(&mut self, level: usize) -> Result<Expr, Stop>
         requires { level ≤ LEVELS }
-        ensures takes { IfOk result (λ x. Runs (level_rule level) (program_of (level_rule level)) (words_left self.old) (took (expr_of x) (words_left self.new))) }
-        ensures refuses { IfErr result (OnRefusal (Runs (level_rule level) (program_of (level_rule level)) (words_left self.old) (refused (words_left self.new)))) }
+        ensures takes { IfOk result
+            (λ x. Runs (level_rule level) (program_of (level_rule level)) (words_left self.old)
+            (took (expr_of x) (words_left self.new))) }
+        ensures refuses { IfErr result
+            (OnRefusal (Runs (level_rule level) (program_of (level_rule level)) (words_left self.old)
+            (refused (words_left self.new)))) }
         ensures shorter { OnOk result (length self.new.rest.now < length self.old.rest.now) }
     {
         if level == LEVELS {

@@ -12,8 +12,12 @@ impl<'a> Parser<'a> {
     // Takes the parts of an array, up to its closing bracket.
     #[cycle(parser)]
     pub(crate) fn parts(&mut self) -> Result<Exprs, Stop>
-        ensures takes { IfOk result (λ x. Runs parts_rule (program_of parts_rule) (words_left self.old) (took (exprs_of x) (words_left self.new))) }
-        ensures refuses { IfErr result (OnRefusal (Runs parts_rule (program_of parts_rule) (words_left self.old) (refused (words_left self.new)))) }
+        ensures takes { IfOk result
+            (λ x. Runs parts_rule (program_of parts_rule) (words_left self.old)
+            (took (exprs_of x) (words_left self.new))) }
+        ensures refuses { IfErr result
+            (OnRefusal (Runs parts_rule (program_of parts_rule) (words_left self.old)
+            (refused (words_left self.new)))) }
         ensures shorter { OnOk result (length self.new.rest.now ≤ length self.old.rest.now) }
     {
         let mut parts = Vec::new(self.alloc);
@@ -31,8 +35,12 @@ impl<'a> Parser<'a> {
     // Takes the keys and values of an object, up to its closing brace.
     #[cycle(parser)]
     pub(crate) fn pairs(&mut self) -> Result<Pairs, Stop>
-        ensures takes { IfOk result (λ x. Runs pairs_rule (program_of pairs_rule) (words_left self.old) (took (pairs_of x) (words_left self.new))) }
-        ensures refuses { IfErr result (OnRefusal (Runs pairs_rule (program_of pairs_rule) (words_left self.old) (refused (words_left self.new)))) }
+        ensures takes { IfOk result
+            (λ x. Runs pairs_rule (program_of pairs_rule) (words_left self.old)
+            (took (pairs_of x) (words_left self.new))) }
+        ensures refuses { IfErr result
+            (OnRefusal (Runs pairs_rule (program_of pairs_rule) (words_left self.old)
+            (refused (words_left self.new)))) }
         ensures shorter { OnOk result (length self.new.rest.now ≤ length self.old.rest.now) }
     {
         let mut pairs = Vec::new(self.alloc);

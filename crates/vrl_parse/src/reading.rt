@@ -21,10 +21,10 @@ use vrl_value::{Chars, Memory, Names};
 ///
 /// # Errors
 ///
-/// `Fault`: 203 where no script is read, at the first token such that none begins with the tokens up to and with it, or,
-/// where there is no such token, at the end of the text; else the first, by place, of the paths that are written or
-/// deleted and have a negative index (1007), or an index above 65,535 or more than 128 steps (1012). `Memory`: want of
-/// memory.
+/// `Fault`: 203 where no script is read, at the first token such that none begins with the tokens up to and
+/// with it, or, where there is no such token, at the end of the text; else the first, by place, of the paths
+/// that are written or deleted and have a negative index (1007), or an index above 65,535 or more than 128
+/// steps (1012). `Memory`: want of memory.
 pub fn parse(alloc: Global, tokens: &Tokens) -> Result<Script, SyntaxFault>
     ensures script { IfOk result (λ script. Reads tokens.now.tokens (script_of script)) }
     ensures limits { IfOk result (λ script. KeepsLimits (exprs_of script.items)) }
@@ -63,7 +63,9 @@ fn told(stop: Stop, place: Span) -> SyntaxFault
 
 // The first thing that is wrong with the paths that items write or delete.
 fn first_fault(alloc: Global, items: &Exprs) -> Result<Option<Diagnostic>, Memory>
-    ensures { IfOk result (λ first. MatchOption first (KeepsLimits (exprs_of items.now)) (λ fault. (others : List SpecDiagnostic) × (exprs_faults (exprs_of items.now) ≡ fault ∷ others))) }
+    ensures { IfOk result
+        (λ first. MatchOption first (KeepsLimits (exprs_of items.now)) (λ fault. (others : List SpecDiagnostic)
+        × (exprs_faults (exprs_of items.now) ≡ fault ∷ others))) }
 {
     let faults = limit_faults(alloc, items)?;
     match faults.as_slice().split_first() {

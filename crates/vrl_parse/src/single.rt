@@ -17,7 +17,8 @@ use vrl_word::{Sign, function_of, is_sign, literal_of, operator_of, path_of, tar
 impl<'a> Parser<'a> {
     // Takes the next token where it is this sign, and tells its place.
     pub(crate) fn take(&mut self, sign: Sign) -> Option<Span>
-        ensures takes { IfSome result (λ span. Takes (sign_word (token_of sign)) (words_left self.old) tt span (words_left self.new)) }
+        ensures takes { IfSome result
+            (λ span. Takes (sign_word (token_of sign)) (words_left self.old) tt span (words_left self.new)) }
         ensures lacks { IfNone result (Without (sign_word (token_of sign)) (words_left self.old)) }
         ensures stays { IfNone result (words_left self.new ≡ words_left self.old) }
         ensures shorter { OnSome result (length self.new.rest.now < length self.old.rest.now) }
@@ -33,8 +34,10 @@ impl<'a> Parser<'a> {
 
     // The same; without it there is no script.
     pub(crate) fn expect(&mut self, sign: Sign) -> Result<Span, Stop>
-        ensures takes { IfOk result (λ span. Takes (sign_word (token_of sign)) (words_left self.old) tt span (words_left self.new)) }
-        ensures refuses { IfErr result (OnRefusal (Missing (sign_word (token_of sign)) (words_left self.old) (words_left self.new))) }
+        ensures takes { IfOk result
+            (λ span. Takes (sign_word (token_of sign)) (words_left self.old) tt span (words_left self.new)) }
+        ensures refuses { IfErr result
+            (OnRefusal (Missing (sign_word (token_of sign)) (words_left self.old) (words_left self.new))) }
         ensures memory { result ≢ Err Stop.Memory }
         ensures shorter { OnOk result (length self.new.rest.now < length self.old.rest.now) }
     {
@@ -46,7 +49,8 @@ impl<'a> Parser<'a> {
 
     // Takes the next token where it is an operator of this level, and tells its place.
     pub(crate) fn operator(&mut self, level: usize) -> Option<(Op, Span)>
-        ensures takes { IfSome result (λ found. Takes (operator_word level) (words_left self.old) found.0 found.1 (words_left self.new)) }
+        ensures takes { IfSome result
+            (λ found. Takes (operator_word level) (words_left self.old) found.0 found.1 (words_left self.new)) }
         ensures lacks { IfNone result (Without (operator_word level) (words_left self.old)) }
         ensures stays { IfNone result (words_left self.new ≡ words_left self.old) }
         ensures shorter { OnSome result (length self.new.rest.now < length self.old.rest.now) }
@@ -63,7 +67,8 @@ impl<'a> Parser<'a> {
 
     // Takes the target of an assignment, and tells its place.
     pub(crate) fn target(&mut self) -> Result<(Target, Span), Stop>
-        ensures takes { IfOk result (λ found. Takes target_word (words_left self.old) found.0 found.1 (words_left self.new)) }
+        ensures takes { IfOk result
+            (λ found. Takes target_word (words_left self.old) found.0 found.1 (words_left self.new)) }
         ensures refuses { IfErr result (OnRefusal (Missing target_word (words_left self.old) (words_left self.new))) }
         ensures memory { result ≡ Err Stop.Memory → Holds target_word (words_left self.old) }
         ensures shorter { OnOk result (length self.new.rest.now < length self.old.rest.now) }
@@ -82,7 +87,8 @@ impl<'a> Parser<'a> {
 
     // Takes a name, and tells its place.
     pub(crate) fn name(&mut self) -> Result<(Chars, Span), Stop>
-        ensures takes { IfOk result (λ found. Takes name_word (words_left self.old) found.0 found.1 (words_left self.new)) }
+        ensures takes { IfOk result
+            (λ found. Takes name_word (words_left self.old) found.0 found.1 (words_left self.new)) }
         ensures refuses { IfErr result (OnRefusal (Missing name_word (words_left self.old) (words_left self.new))) }
         ensures memory { result ≡ Err Stop.Memory → Holds name_word (words_left self.old) }
         ensures shorter { OnOk result (length self.new.rest.now < length self.old.rest.now) }
@@ -101,7 +107,8 @@ impl<'a> Parser<'a> {
 
     // Takes the key of a part of an object, and tells its place.
     pub(crate) fn key(&mut self) -> Result<(Chars, Span), Stop>
-        ensures takes { IfOk result (λ found. Takes key_word (words_left self.old) found.0 found.1 (words_left self.new)) }
+        ensures takes { IfOk result
+            (λ found. Takes key_word (words_left self.old) found.0 found.1 (words_left self.new)) }
         ensures refuses { IfErr result (OnRefusal (Missing key_word (words_left self.old) (words_left self.new))) }
         ensures memory { result ≡ Err Stop.Memory → Holds key_word (words_left self.old) }
         ensures shorter { OnOk result (length self.new.rest.now < length self.old.rest.now) }
@@ -120,7 +127,8 @@ impl<'a> Parser<'a> {
 
     // Takes the name of a function and whether it has a bang, and tells the place of its token.
     pub(crate) fn function(&mut self) -> Result<((Chars, bool), Span), Stop>
-        ensures takes { IfOk result (λ found. Takes function_word (words_left self.old) found.0 found.1 (words_left self.new)) }
+        ensures takes { IfOk result
+            (λ found. Takes function_word (words_left self.old) found.0 found.1 (words_left self.new)) }
         ensures refuses { IfErr result (OnRefusal (Missing function_word (words_left self.old) (words_left self.new))) }
         ensures memory { result ≡ Err Stop.Memory → Holds function_word (words_left self.old) }
         ensures shorter { OnOk result (length self.new.rest.now < length self.old.rest.now) }
@@ -139,7 +147,8 @@ impl<'a> Parser<'a> {
 
     // Takes a path or a name, and tells its place.
     pub(crate) fn path(&mut self) -> Result<((Root, Path), Span), Stop>
-        ensures takes { IfOk result (λ found. Takes path_word (words_left self.old) found.0 found.1 (words_left self.new)) }
+        ensures takes { IfOk result
+            (λ found. Takes path_word (words_left self.old) found.0 found.1 (words_left self.new)) }
         ensures refuses { IfErr result (OnRefusal (Missing path_word (words_left self.old) (words_left self.new))) }
         ensures memory { result ≡ Err Stop.Memory → Holds path_word (words_left self.old) }
         ensures shorter { OnOk result (length self.new.rest.now < length self.old.rest.now) }
@@ -158,7 +167,8 @@ impl<'a> Parser<'a> {
 
     // Takes a literal, and tells its place. More regex literals than a number of 32 bits counts are want of memory.
     pub(crate) fn literal(&mut self) -> Result<(Value, Span), Stop>
-        ensures takes { IfOk result (λ found. Takes literal_word (words_left self.old) (tree_of found.0) found.1 (words_left self.new)) }
+        ensures takes { IfOk result
+            (λ found. Takes literal_word (words_left self.old) (tree_of found.0) found.1 (words_left self.new)) }
         ensures refuses { IfErr result (OnRefusal (Missing literal_word (words_left self.old) (words_left self.new))) }
         ensures memory { result ≡ Err Stop.Memory → Holds literal_word (words_left self.old) }
         ensures shorter { OnOk result (length self.new.rest.now < length self.old.rest.now) }
@@ -178,7 +188,8 @@ impl<'a> Parser<'a> {
 
     // Takes a suffix where the next token is one, and tells its place.
     pub(crate) fn suffix(&mut self) -> Option<(&'a Path, Span)>
-        ensures takes { IfSome result (λ found. Takes suffix_word (words_left self.old) found.0.now found.1 (words_left self.new)) }
+        ensures takes { IfSome result
+            (λ found. Takes suffix_word (words_left self.old) found.0.now found.1 (words_left self.new)) }
         ensures lacks { IfNone result (Without suffix_word (words_left self.old)) }
         ensures stays { IfNone result (words_left self.new ≡ words_left self.old) }
         ensures no_longer { length self.new.rest.now ≤ length self.old.rest.now }

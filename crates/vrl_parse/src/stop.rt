@@ -4,7 +4,8 @@ use vrl_value::Memory;
 /// Why the parser stops within a part of the grammar.
 #[derive(Clone, Copy, Debug, PartialEq, Eq)]
 pub(crate) enum Stop {
-    /// The part doesn't go on with the next token, or doesn't end with the last one. The parser stands before that token, or at the end.
+    /// The part doesn't go on with the next token, or doesn't end with the last one. The parser stands before
+    /// that token, or at the end.
     Refused,
     /// Want of memory.
     Memory,

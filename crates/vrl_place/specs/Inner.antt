@@ -1,4 +1,5 @@
--- What inner functions promise: the parts of a kind in memory, and those of a changed kind. No public function cites these.
+-- What inner functions promise: the parts of a kind in memory, and those of a changed kind. No public
+-- function cites these.
 use Rattle.std.specs.Prelude.{◌≡◌, ◌<◌, ◌↔◌, ◌||◌, not, Bool, true, false, ℕ, suc, ℤ, pos, negsuc, Option, Some, None, MatchOption, List, [], ◌∷◌, ◌++◌, length, IsTrue}
 use Rattle.std.specs.Cmp.Lexicographic.{slice_cmp}
 use Rattle.std.specs.Ordering.{nat_cmp, match_ordering}
@@ -55,7 +56,8 @@ pub record PlacesAreOf (A : Sets) (ps : Places) : Type 0 where
   pub at : (i : ℕ) (p : List Step) (t : Tag) → A (place i ∷ p) t ≡ places_sets ps i p t
   pub absent : IsTrue (A [] tag.List) → ps.behind.absent ≡ true
 
--- what A allows at the fields of an object; where A allows an object, those that aren't known may be absent. The known ones stand in the order of their names' bytes
+-- what A allows at the fields of an object; where A allows an object, those that aren't known may be absent.
+-- The known ones stand in the order of their names' bytes
 pub record FieldsAreOf (A : Sets) (fs : Fields) : Type 0 where
   pub at : (n : List ℕ) (p : List Step) (t : Tag) → A (field n ∷ p) t ≡ fields_sets fs n p t
   pub absent : IsTrue (A [] tag.Object) → fs.behind.absent ≡ true
@@ -67,7 +69,8 @@ pub record AreOtherFields (K : KindTree) (S : Sets) : Type 0 where
 
 -- the kinds at the first places
 pub record ArePlaces (ks : List KindTree) (S : ℕ → Sets) : Type 0 where
-  pub at : (i : ℕ) → i < length ks → (p : List Step) (T : Tag → Bool) (t : Tag) → places_at (places_view ks) i p T t ≡ S i p t
+  pub at : (i : ℕ) → i < length ks → (p : List Step) (T : Tag → Bool) (t : Tag)
+      → places_at (places_view ks) i p T t ≡ S i p t
 
 abbrev pub null_if : Bool → Sets → Sets
 null_if true A = null_for_absent A
@@ -79,31 +82,39 @@ lower_place ps absent filled i = null_if filled (or_absent_if absent (places_set
 
 -- the places with M at the place k
 abbrev pub changed_place : Places → ℕ → Sets → Bool → Bool → ℕ → Sets
-changed_place ps k M absent filled i = by_step (place i) (place k) (lower_place ps absent filled i) M (or_absent_if absent (places_sets ps i)) never_at
+changed_place ps k M absent filled i =
+    by_step (place i) (place k) (lower_place ps absent filled i) M (or_absent_if absent (places_sets ps i)) never_at
 
 -- the places without the one at k
 abbrev pub moved_place : Places → ℕ → Bool → ℕ → Sets
-moved_place ps k absent i = by_step (place i) (place k) (places_sets ps i) (or_absent_if absent (places_sets ps (suc i))) (or_absent_if absent (places_sets ps (suc i))) never_at
+moved_place ps k absent i = by_step (place i) (place k) (places_sets ps i)
+    (or_absent_if absent (places_sets ps (suc i))) (or_absent_if absent (places_sets ps (suc i))) never_at
 
 -- the fields with M at the name k
-pub record FieldsAre (fs : Fields) (k : List ℕ) (M : Sets) (absent : Bool) (named : List (List ℕ × KindTree)) : Type 0 where
-  pub at : (n : List ℕ) (p : List Step) (t : Tag) → fields_at (named_view named) n p (or_absent_if absent (spot_sets fs.behind) p) t
-      ≡ by_step (field n) (field k) (or_absent_if absent (fields_sets fs n)) M (or_absent_if absent (fields_sets fs n)) never_at p t
+pub record FieldsAre (fs : Fields) (k : List ℕ) (M : Sets) (absent : Bool)
+    (named : List (List ℕ × KindTree)) : Type 0 where
+  pub at : (n : List ℕ) (p : List Step) (t : Tag)
+      → fields_at (named_view named) n p (or_absent_if absent (spot_sets fs.behind) p) t
+      ≡ by_step (field n) (field k) (or_absent_if absent (fields_sets fs n)) M
+      (or_absent_if absent (fields_sets fs n)) never_at p t
 
 -- the fields are those before the name k, the one that has it, if there is one, and those behind it
 pub record IsCutAt (k : List ℕ) (fs : List KindField) (cut : Cut) : Type 0 where
   pub before : AreBefore k cut.before.now
-  pub at : MatchOption cut.at (fs ≡ cut.before.now ++ cut.behind.now) (λ f. (fs ≡ cut.before.now ++ f.now ∷ cut.behind.now) × (f.now.name ≡ k))
+  pub at : MatchOption cut.at (fs ≡ cut.before.now ++ cut.behind.now)
+      (λ f. (fs ≡ cut.before.now ++ f.now ∷ cut.behind.now) × (f.now.name ≡ k))
   pub behind : IsBeforeFields k (fields_view cut.behind.now)
 
 -- what the fields say of a name, which may be absent too, or else T
 abbrev pub opened_at : Bool → List KindField → List ℕ → List Step → Tags → Tags
 opened_at b [] n p T = T
-opened_at b (f ∷ fs) n p T = match_ordering (slice_cmp nat_cmp n f.name) (opened_at b fs n p T) (or_absent_if b (tags_at f.kind) p) (opened_at b fs n p T)
+opened_at b (f ∷ fs) n p T = match_ordering (slice_cmp nat_cmp n f.name) (opened_at b fs n p T)
+    (or_absent_if b (tags_at f.kind) p) (opened_at b fs n p T)
 
 -- the fields were put to others, and count before them
 pub record ArePushed (b : Bool) (fs : List KindField) (olds news : List (List ℕ × KindTree)) : Type 0 where
-  pub at : (n : List ℕ) (p : List Step) (T : Tags) (t : Tag) → fields_at (named_view news) n p T t ≡ opened_at b fs n p (fields_at (named_view olds) n p T) t
+  pub at : (n : List ℕ) (p : List Step) (T : Tags) (t : Tag)
+      → fields_at (named_view news) n p T t ≡ opened_at b fs n p (fields_at (named_view olds) n p T) t
 
 -- a place that counts from the start
 abbrev pub from_start : ℤ → Option ℕ
@@ -112,4 +123,5 @@ from_start (negsuc i) = None
 
 -- what A allows at some place, but for absent
 pub record AreSomePlaces (A M : Sets) : Type 0 where
-  pub at : (p : List Step) (t : Tag) → IsTrue (M p t) ↔ (((i : ℕ) × IsTrue (A (place i ∷ p) t)) × IsTrue (not (is_absence p t)))
+  pub at : (p : List Step) (t : Tag)
+      → IsTrue (M p t) ↔ (((i : ℕ) × IsTrue (A (place i ∷ p) t)) × IsTrue (not (is_absence p t)))

@@ -1,8 +1,9 @@
 //! Kinds at paths: what a read finds at a path of a value of a kind, and what the kind becomes where a value
 //! is written or removed there.
 //!
-//! Files: `spot.rt` has what stands somewhere in a kind, borrowed, `places.rt` and `fields.rt` what an array and an object have there, and each call has
-//! a file: `read.rt`, `write.rt`, `remove.rt` and `absence.rt`. `laws.rt` tells of values what these tell of kinds.
+//! Files: `spot.rt` has what stands somewhere in a kind, borrowed, `places.rt` and `fields.rt` what an array
+//! and an object have there, and each call has a file: `read.rt`, `write.rt`, `remove.rt` and `absence.rt`.
+//! `laws.rt` tells of values what these tell of kinds.
 #![tactic(auto)]
 
 mod absence;

@@ -66,7 +66,8 @@ fn read_one(alloc: Global, spot: Spot<'_>, step: &Step) -> Result<Kind, Memory>
 }
 
 fn read_field(alloc: Global, spot: Spot<'_>, name: &Chars) -> Result<Kind, Memory>
-    ensures { IfOk result (λ kind. HasJust (tags_at kind) (read_part (allowed (spot_sets spot.entry)) (field name.now))) }
+    ensures { IfOk result
+        (λ kind. HasJust (tags_at kind) (read_part (allowed (spot_sets spot.entry)) (field name.now))) }
 {
     let part = spot.fields().field(name);
     let open = part.or_absent_if(spot.has_other(Tag::Object));

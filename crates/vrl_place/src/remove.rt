@@ -158,7 +158,8 @@ fn remove_in_known(
     requires object { tags_at kind.old [] tag.Object ≡ true }
     ensures ok { OnOk result ((whole : KindTree) → IsTaken name.now whole kind.old part
         → SameSets (tags_at kind.new) (plain_remove (tags_at whole) (field name.now ∷ plain behind.now))) }
-    ensures err { OnErr result ((whole : KindTree) → IsCanonical whole → IsTaken name.now whole kind.old part → kind.new ≡ whole) }
+    ensures err { OnErr result ((whole : KindTree) → IsCanonical whole → IsTaken name.now whole kind.old part
+        → kind.new ≡ whole) }
 {
     equal_tags_are_one_kind();
     let mut part = part;
@@ -205,7 +206,8 @@ fn remove_field(
 
 fn remove_last_field(alloc: Global, spot: Spot<'_>, name: &Chars) -> Result<Kind, Memory>
     requires { spot_sets spot [] tag.Object ≡ true }
-    ensures { IfOk result (λ kind. SameSets (tags_at kind) (plain_remove (spot_sets spot.entry) (field name.now ∷ []))) }
+    ensures { IfOk result
+        (λ kind. SameSets (tags_at kind) (plain_remove (spot_sets spot.entry) (field name.now ∷ []))) }
 {
     let fields = spot.fields();
     let part = Kind::of(alloc, Tag::Absent);

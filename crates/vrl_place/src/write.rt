@@ -137,9 +137,11 @@ fn write_known_field(
     requires behind { IsWritable behind.now }
     requires known { knows_field name.now kind.old ≡ true }
     requires object { tags_at kind.old [] tag.Object ≡ true }
-    ensures ok { OnOk result ((whole : KindTree) → IsTaken name.now whole kind.old part → is_alone (tags_at whole []) tag.Object ≡ true
+    ensures ok { OnOk result ((whole : KindTree) → IsTaken name.now whole kind.old part
+        → is_alone (tags_at whole []) tag.Object ≡ true
         → SameSets (tags_at kind.new) (plain_write (tags_at whole) (field name.now ∷ plain behind.now) (tags_at new))) }
-    ensures err { OnErr result ((whole : KindTree) → IsCanonical whole → IsTaken name.now whole kind.old part → kind.new ≡ whole) }
+    ensures err { OnErr result ((whole : KindTree) → IsCanonical whole → IsTaken name.now whole kind.old part
+        → kind.new ≡ whole) }
 {
     equal_tags_are_one_kind();
     let mut part = part;

@@ -22,11 +22,13 @@ is_too_large (Field name) = false
 is_too_large (Place (pos i)) = nat_lt last_place i
 is_too_large (Place (negsuc i)) = false
 
--- what is wrong with the path that stands there: a negative index, else one above the greatest place or more steps than a value is deep
+-- what is wrong with the path that stands there: a negative index, else one above the greatest place or more
+-- steps than a value is deep
 abbrev pub fault_at : Span → List Step → Option Diagnostic
 fault_at span path =
     if list_any is_negative path then Some (record { code = 1007; span = span }) else
-    (if nat_lt depth_limit (length path) || list_any is_too_large path then Some (record { code = 1012; span = span }) else None)
+    (if nat_lt depth_limit (length path) || list_any is_too_large path then Some (record { code = 1012; span = span })
+    else None)
 
 abbrev pub faults_at : Span → List Step → List Diagnostic
 faults_at span path = option_to_list (fault_at span path)
@@ -82,7 +84,8 @@ abbrev mutual
   -- whether they are deleted
   pub args_faults : Bool → Args → List Diagnostic
   args_faults deleted no_args = []
-  args_faults deleted (arg name span e gs) = (if deleted then path_faults e else []) ++ (expr_faults e ++ args_faults deleted gs)
+  args_faults deleted (arg name span e gs) =
+      (if deleted then path_faults e else []) ++ (expr_faults e ++ args_faults deleted gs)
 
   pub closure_faults : Closure → List Diagnostic
   closure_faults no_closure = []

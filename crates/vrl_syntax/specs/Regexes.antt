@@ -36,7 +36,8 @@ abbrev mutual
 
   pub arms_regexes_below : ℕ → Arms → Bool
   arms_regexes_below count no_arms = true
-  arms_regexes_below count (arm predicate es gs) = expr_regexes_below count predicate && (exprs_regexes_below count es && arms_regexes_below count gs)
+  arms_regexes_below count (arm predicate es gs) =
+      expr_regexes_below count predicate && (exprs_regexes_below count es && arms_regexes_below count gs)
 
   pub else_regexes_below : ℕ → Else → Bool
   else_regexes_below count no_else = true

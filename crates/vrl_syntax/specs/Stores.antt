@@ -36,7 +36,8 @@ left_in (Name x) = null
 
 -- behind a block only what the store held where it began
 abbrev pub store_kept : Store → Store → Store
-store_kept before after = record after { variables = map.retain_keys after.variables (λ x. map.contains_key before.variables x) }
+store_kept before after =
+    record after { variables = map.retain_keys after.variables (λ x. map.contains_key before.variables x) }
 
 -- ---- the body of a closure
 
@@ -49,7 +50,8 @@ hidden_by (x ∷ names) = if bytes_eq x (codes "_") then hidden_by names else x 
 abbrev pub bound_to : List (List ℕ) → List Tree → Store → Store
 bound_to [] vs store = store
 bound_to (x ∷ names) [] store = store
-bound_to (x ∷ names) (v ∷ vs) store = bound_to names vs (if bytes_eq x (codes "_") then store else with_value (Name x) v store)
+bound_to (x ∷ names) (v ∷ vs) store =
+    bound_to names vs (if bytes_eq x (codes "_") then store else with_value (Name x) v store)
 
 -- a name with the value that it had; one that wasn't there stays as it is
 abbrev pub value_back : List ℕ → Option Tree → Values → Values
@@ -60,7 +62,8 @@ abbrev pub values_back : List (List ℕ) → Values → Values → Values
 values_back [] before values = values
 values_back (x ∷ names) before values = value_back x (map.get before x) (values_back names before values)
 
--- behind a closure's body: what the store held where it began, and in it the hidden names with the values that they had there; where none is
--- hidden that is the end of a block
+-- behind a closure's body: what the store held where it began, and in it the hidden names with the values
+-- that they had there; where none is hidden that is the end of a block
 abbrev pub store_back : List (List ℕ) → Store → Store → Store
-store_back hidden before after = record after { variables = values_back hidden before.variables (store_kept before after).variables }
+store_back hidden before after =
+    record after { variables = values_back hidden before.variables (store_kept before after).variables }

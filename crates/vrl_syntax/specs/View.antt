@@ -101,34 +101,45 @@ pairs_step ps = pairs_of_trees ps.pairs.items
 
 -- an expression as a tree, and its parts
 abbrev pub expr_of : CodeExpr → Expr
-expr_of = fold-Expr Form ArgTree Args ArmTree Arms Form Closure Expr Exprs Pairs form_step arg_step args_step arm_step arms_step call_step closure_step expr_step exprs_step pairs_step
+expr_of = fold-Expr Form ArgTree Args ArmTree Arms Form Closure Expr Exprs Pairs form_step arg_step args_step arm_step
+    arms_step call_step closure_step expr_step exprs_step pairs_step
 
 abbrev pub form_of : CodeForm → Form
-form_of = fold-Form Form ArgTree Args ArmTree Arms Form Closure Expr Exprs Pairs form_step arg_step args_step arm_step arms_step call_step closure_step expr_step exprs_step pairs_step
+form_of = fold-Form Form ArgTree Args ArmTree Arms Form Closure Expr Exprs Pairs form_step arg_step args_step arm_step
+    arms_step call_step closure_step expr_step exprs_step pairs_step
 
 abbrev pub exprs_of : CodeExprs → Exprs
-exprs_of = fold-Exprs Form ArgTree Args ArmTree Arms Form Closure Expr Exprs Pairs form_step arg_step args_step arm_step arms_step call_step closure_step expr_step exprs_step pairs_step
+exprs_of = fold-Exprs Form ArgTree Args ArmTree Arms Form Closure Expr Exprs Pairs form_step arg_step args_step
+    arm_step arms_step call_step closure_step expr_step exprs_step pairs_step
 
 abbrev pub pairs_of : CodePairs → Pairs
-pairs_of = fold-Pairs Form ArgTree Args ArmTree Arms Form Closure Expr Exprs Pairs form_step arg_step args_step arm_step arms_step call_step closure_step expr_step exprs_step pairs_step
+pairs_of = fold-Pairs Form ArgTree Args ArmTree Arms Form Closure Expr Exprs Pairs form_step arg_step args_step
+    arm_step arms_step call_step closure_step expr_step exprs_step pairs_step
 
 abbrev pub arm_of : CodeArm → ArmTree
-arm_of = fold-Arm Form ArgTree Args ArmTree Arms Form Closure Expr Exprs Pairs form_step arg_step args_step arm_step arms_step call_step closure_step expr_step exprs_step pairs_step
+arm_of = fold-Arm Form ArgTree Args ArmTree Arms Form Closure Expr Exprs Pairs form_step arg_step args_step arm_step
+    arms_step call_step closure_step expr_step exprs_step pairs_step
 
 abbrev pub arms_of : CodeArms → Arms
-arms_of = fold-Arms Form ArgTree Args ArmTree Arms Form Closure Expr Exprs Pairs form_step arg_step args_step arm_step arms_step call_step closure_step expr_step exprs_step pairs_step
+arms_of = fold-Arms Form ArgTree Args ArmTree Arms Form Closure Expr Exprs Pairs form_step arg_step args_step arm_step
+    arms_step call_step closure_step expr_step exprs_step pairs_step
 
 abbrev pub arg_of : CodeArg → ArgTree
-arg_of = fold-Arg Form ArgTree Args ArmTree Arms Form Closure Expr Exprs Pairs form_step arg_step args_step arm_step arms_step call_step closure_step expr_step exprs_step pairs_step
+arg_of = fold-Arg Form ArgTree Args ArmTree Arms Form Closure Expr Exprs Pairs form_step arg_step args_step arm_step
+    arms_step call_step closure_step expr_step exprs_step pairs_step
 
 abbrev pub args_of : CodeArgs → Args
-args_of = fold-Args Form ArgTree Args ArmTree Arms Form Closure Expr Exprs Pairs form_step arg_step args_step arm_step arms_step call_step closure_step expr_step exprs_step pairs_step
+args_of = fold-Args Form ArgTree Args ArmTree Arms Form Closure Expr Exprs Pairs form_step arg_step args_step arm_step
+    arms_step call_step closure_step expr_step exprs_step pairs_step
 
 abbrev pub call_of : CodeCall → Form
-call_of = fold-Call Form ArgTree Args ArmTree Arms Form Closure Expr Exprs Pairs form_step arg_step args_step arm_step arms_step call_step closure_step expr_step exprs_step pairs_step
+call_of = fold-Call Form ArgTree Args ArmTree Arms Form Closure Expr Exprs Pairs form_step arg_step args_step arm_step
+    arms_step call_step closure_step expr_step exprs_step pairs_step
 
 abbrev pub closure_of : CodeClosure → Closure
-closure_of = fold-Closure Form ArgTree Args ArmTree Arms Form Closure Expr Exprs Pairs form_step arg_step args_step arm_step arms_step call_step closure_step expr_step exprs_step pairs_step
+closure_of =
+    fold-Closure Form ArgTree Args ArmTree Arms Form Closure Expr Exprs Pairs form_step arg_step args_step arm_step
+    arms_step call_step closure_step expr_step exprs_step pairs_step
 
 -- the same of what a vector holds
 abbrev pub exprs_view : List CodeExpr → Exprs

@@ -76,7 +76,8 @@ pub(crate) fn is_del(name: &str) -> bool
     }
 }
 
-/// Whether a closure with these names is one for the function: there are as many as it asks for, and none but `_` stands twice. It takes no memory.
+/// Whether a closure with these names is one for the function: there are as many as it asks for, and none but
+/// `_` stands twice. It takes no memory.
 pub fn has_shape(form: CallForm, names: &Names) -> bool
     ensures { result ≡ has_shape form names.now }
 {

@@ -125,7 +125,8 @@ fn add_args(args: &Args, deleted: bool, faults: &mut Vec<Diagnostic>) -> Result<
 
 // Adds that of an expression that is a path or a name, where it is deleted.
 fn add_deleted(expr: &Expr, deleted: bool, faults: &mut Vec<Diagnostic>) -> Result<(), Memory>
-    ensures { OnOk result (faults.new.items ≡ faults.old.items ++ (if deleted then path_faults (expr_of expr.now) else [])) }
+    ensures { OnOk result (faults.new.items ≡ faults.old.items ++ (if deleted then path_faults (expr_of expr.now)
+        else [])) }
 {
     if !deleted {
         return Ok(());

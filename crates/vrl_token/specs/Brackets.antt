@@ -1,5 +1,5 @@
--- Brackets and newlines: what `{`, `|` and a newline are among the tokens. The tokens before a place are listed from the nearest on;
--- a newline that doesn't part items is none of them.
+-- Brackets and newlines: what `{`, `|` and a newline are among the tokens. The tokens before a place are
+-- listed from the nearest on; a newline that doesn't part items is none of them.
 use Rattle.std.specs.Prelude.{ℕ, suc, Bool, true, false, ◌&&◌, ◌||◌, not, if◌then◌else◌, List, [], ◌∷◌, Option, Some, None}
 use Rattle.std.specs.List.{list_any}
 use Rattle.vrl_diag.specs.declared.diagnostic.Span.{Span}
@@ -168,13 +168,16 @@ is_bars _ = false
 
 -- `{` opens a block behind an operand, `else` and closing bars, and else where no object begins.
 abbrev pub brace_token : List Token → List Lexeme → Token
-brace_token before behind = if not (block_follows before) && begins_object behind then token.OpenObject else token.OpenBlock
+brace_token before behind =
+    if not (block_follows before) && begins_object behind then token.OpenObject else token.OpenBlock
 
 -- `|` opens bars behind `->`, closes bars where some are open, and else is the operator.
 abbrev pub bar_token : List Token → Token
-bar_token before = if arrow_before before then token.OpenBars else if list_any is_bars (open_behind before) then token.CloseBars else token.Merge
+bar_token before = if arrow_before before then token.OpenBars
+    else if list_any is_bars (open_behind before) then token.CloseBars else token.Merge
 
--- A newline parts items unless it stands in a bracket that encloses it, behind a token where the item goes on, or before a piece that joins lines.
+-- A newline parts items unless it stands in a bracket that encloses it, behind a token where the item goes
+-- on, or before a piece that joins lines.
 abbrev pub newline_parts : List Token → List Lexeme → Bool
 newline_parts before behind = not (encloses (open_behind before)) && (not (goes_on_behind before) && not (joins behind))
 
@@ -198,4 +201,5 @@ with_spanned (Some t) span ts = record { token = t; span = span } ∷ ts
 -- the tokens that pieces are behind these tokens
 abbrev pub tokens_from : List Token → List Lexeme → List Spanned
 tokens_from before [] = []
-tokens_from before (p ∷ ps) = with_spanned (token_of before p.piece ps) p.span (tokens_from (with_token (token_of before p.piece ps) before) ps)
+tokens_from before (p ∷ ps) =
+    with_spanned (token_of before p.piece ps) p.span (tokens_from (with_token (token_of before p.piece ps) before) ps)

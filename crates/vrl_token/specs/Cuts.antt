@@ -27,7 +27,8 @@ IsCutOf before text (cut.Fault code left) = FaultsBefore before text code left
 
 -- the cut is the token before a rest, or where something is wrong with its path the fault
 abbrev pub IsPathCut : Token → Option ℕ → Bor (List ℕ) → Cut → Type 0
-IsPathCut t fault rest c = MatchOption fault (c ≡ cut.Piece (Word t) rest) (λ code. c ≡ cut.Fault code (length rest.now))
+IsPathCut t fault rest c =
+    MatchOption fault (c ≡ cut.Piece (Word t) rest) (λ code. c ≡ cut.Fault code (length rest.now))
 
 -- what the pieces before a place say
 pub record IsContext (before : List Piece) (context : Context) : Type 0 where
@@ -48,7 +49,8 @@ IsKeyword name _ = ⊥
 
 -- behind its first byte a sign goes on with `=`, or it doesn't
 abbrev pub IsEqualsCut : List ℕ → Token → Token → Cut → Type 0
-IsEqualsCut rest alone joined (cut.Piece (Word t) behind) = ((t ≡ joined) × (rest ≡ 61 ∷ behind.now)) ⊎ ((t ≡ alone) × (rest ≡ behind.now) × BeginsWithout 61 rest)
+IsEqualsCut rest alone joined (cut.Piece (Word t) behind) =
+    ((t ≡ joined) × (rest ≡ 61 ∷ behind.now)) ⊎ ((t ≡ alone) × (rest ≡ behind.now) × BeginsWithout 61 rest)
 IsEqualsCut rest alone joined _ = ⊥
 
 -- the sign of one character that the byte is, with which no other sign begins
@@ -77,4 +79,5 @@ pub record LeavesBehind (text : List ℕ) (left : ℕ) : Type 0 where
 
 -- a byte with which a sign begins, or none: no blank, newline, comment, literal, name, path or square bracket does
 abbrev pub IsNoOther : ℕ → Type 0
-IsNoOther b = (b < 128) × ¬ IsBlank b × ¬ IsDigit b × ¬ IsNameStart b × (b ≢ 10) × (b ≢ 35) × (b ≢ 34) × (b ≢ 46) × (b ≢ 91)
+IsNoOther b =
+    (b < 128) × ¬ IsBlank b × ¬ IsDigit b × ¬ IsNameStart b × (b ≢ 10) × (b ≢ 35) × (b ≢ 34) × (b ≢ 46) × (b ≢ 91)

@@ -44,7 +44,8 @@ nesting_inside (Some around) count = held (held (around + 1) + count)
 
 -- the nesting of a stretch that begins behind the token with this count, from the nestings before the token
 abbrev pub nesting_behind : Token → ℕ → List ℕ → ℕ
-nesting_behind t count around = nesting_inside (if opens t then first_of around else first_of (behind_first around)) count
+nesting_behind t count around =
+    nesting_inside (if opens t then first_of around else first_of (behind_first around)) count
 
 -- the nestings of stretches that hold one another
 abbrev pub nestings_of : List Token → List ℕ → List ℕ

@@ -15,7 +15,8 @@ pub record IsDigitsCut (text rest : List ℕ) : Type 0 where
 
 -- the rest stands behind a sign, or where none is it is the text
 abbrev pub PowerSign : List ℕ → List ℕ → Type 0
-PowerSign text rest = (text ≡ 43 ∷ rest) ⊎ (text ≡ 45 ∷ rest) ⊎ ((text ≡ rest) × ((behind : List ℕ) → text ≢ 43 ∷ behind) × ((behind : List ℕ) → text ≢ 45 ∷ behind))
+PowerSign text rest = (text ≡ 43 ∷ rest) ⊎ (text ≡ 45 ∷ rest)
+    ⊎ ((text ≡ rest) × ((behind : List ℕ) → text ≢ 43 ∷ behind) × ((behind : List ℕ) → text ≢ 45 ∷ behind))
 
 -- the rest stands behind `e` or `E`
 abbrev pub PowerLetter : List ℕ → List ℕ → Type 0

@@ -58,11 +58,13 @@ abbrev pub Segments : List ℕ → List Segment → List ℕ → Type 0
 Segments text [] rest = (text ≡ rest) × ((segment : Segment) (behind : List ℕ) → ¬ BeginsDotted text segment behind)
 Segments text (segment ∷ segments) rest = (next : List ℕ) × BeginsDotted text segment next × Segments next segments rest
 
--- The text is the segments of a path of the event, and a rest. Behind the dot that such a path begins with, the first segment
--- has no dot of its own; the dot alone is the whole event.
+-- The text is the segments of a path of the event, and a rest. Behind the dot that such a path begins with,
+-- the first segment has no dot of its own; the dot alone is the whole event.
 abbrev pub EventSegments : List ℕ → List Segment → List ℕ → Type 0
-EventSegments text [] rest = (text ≡ 46 ∷ rest) × ((segment : Segment) (behind : List ℕ) → ¬ BeginsUndotted rest segment behind)
-EventSegments text (segment ∷ segments) rest = (behind : List ℕ) × (next : List ℕ) × (text ≡ 46 ∷ behind) × BeginsUndotted behind segment next × Segments next segments rest
+EventSegments text [] rest =
+    (text ≡ 46 ∷ rest) × ((segment : Segment) (behind : List ℕ) → ¬ BeginsUndotted rest segment behind)
+EventSegments text (segment ∷ segments) rest = (behind : List ℕ) × (next : List ℕ) × (text ≡ 46 ∷ behind)
+    × BeginsUndotted behind segment next × Segments next segments rest
 
 -- ---- steps
 
@@ -95,4 +97,5 @@ pub record HasSteps (segments : List Segment) (steps : List Step) : Type 0 where
 
 -- the code of what is wrong with segments: an escape that isn't known (203), else an index out of range (1002)
 abbrev pub HasFlaw : List Segment → ℕ → Type 0
-HasFlaw segments code = ((code ≡ 203) × ¬ AllByRecursion IsReadable segments) ⊎ ((code ≡ 1002) × AllByRecursion IsReadable segments × ¬ AllByRecursion IsInRange segments)
+HasFlaw segments code = ((code ≡ 203) × ¬ AllByRecursion IsReadable segments)
+    ⊎ ((code ≡ 1002) × AllByRecursion IsReadable segments × ¬ AllByRecursion IsInRange segments)

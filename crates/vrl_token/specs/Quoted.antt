@@ -1,4 +1,5 @@
--- Words of the code for cutting a text at its closing quote, and for reading its escapes; the characters are those of `Characters`.
+-- Words of the code for cutting a text at its closing quote, and for reading its escapes; the characters are
+-- those of `Characters`.
 use Rattle.std.specs.Prelude.{◌≡◌, ◌≢◌, ℕ, ◌⊎◌, List, [], ◌∷◌, length}
 use Rattle.std.specs.List.{AllByRecursion}
 use Rattle.vrl_token.specs.Characters.{Character, IsInside, IsQuoted, spelling_of}
@@ -21,7 +22,8 @@ abbrev pub RawPair : List ℕ → List ℕ → List ℕ → Type 0
 RawPair escaped meaning behind =
     ((escaped ≡ 39 ∷ behind) × (meaning ≡ 39 ∷ []))
     ⊎ ((escaped ≡ 92 ∷ behind) × (meaning ≡ 92 ∷ 92 ∷ []))
-    ⊎ ((escaped ≡ behind) × (meaning ≡ 92 ∷ []) × ((rest : List ℕ) → escaped ≢ 39 ∷ rest) × ((rest : List ℕ) → escaped ≢ 92 ∷ rest))
+    ⊎ ((escaped ≡ behind) × (meaning ≡ 92 ∷ []) × ((rest : List ℕ) → escaped ≢ 39 ∷ rest)
+    × ((rest : List ℕ) → escaped ≢ 92 ∷ rest))
 
 -- the bytes between quotes are these characters
 pub record IsInner (quote : ℕ) (inner : List ℕ) (characters : List Character) : Type 0 where

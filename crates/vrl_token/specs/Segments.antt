@@ -14,7 +14,8 @@ use Rattle.vrl_token.specs.Paths.{BeginsDotted, BeginsUndotted, IsInRange, IsRea
 -- the code's segment is this one
 abbrev pub IsSaid : Cut → Segment → Type 0
 IsSaid (cut.Field name) segment = (segment ≡ field name.now) × IsSegment segment
-IsSaid (cut.Quoted inner) segment = (characters : List Character) × (segment ≡ quoted characters) × IsInner 34 inner.now characters
+IsSaid (cut.Quoted inner) segment =
+    (characters : List Character) × (segment ≡ quoted characters) × IsInner 34 inner.now characters
 IsSaid (cut.Index negative digits) segment = (segment ≡ index negative digits.now) × IsSegment segment
 
 abbrev pub CutsDotted : List ℕ → Option (Cut × Bor (List ℕ)) → Type 0
@@ -22,7 +23,8 @@ CutsDotted text found = MatchOption found ((segment : Segment) (behind : List �
     (λ c. (segment : Segment) × IsSaid c.0 segment × BeginsDotted text segment c.1.now)
 
 abbrev pub CutsUndotted : List ℕ → Option (Cut × Bor (List ℕ)) → Type 0
-CutsUndotted text found = MatchOption found ((segment : Segment) (behind : List ℕ) → ¬ BeginsUndotted text segment behind)
+CutsUndotted text found =
+    MatchOption found ((segment : Segment) (behind : List ℕ) → ¬ BeginsUndotted text segment behind)
     (λ c. (segment : Segment) × IsSaid c.0 segment × BeginsUndotted text segment c.1.now)
 
 abbrev pub IsIndexSegment : Segment → Type 0
@@ -36,11 +38,13 @@ IsFieldSegment (quoted characters) = Unit {0}
 IsFieldSegment (index negative digits) = ⊥
 
 abbrev pub CutsIndex : List ℕ → Option (Cut × Bor (List ℕ)) → Type 0
-CutsIndex text found = MatchOption found ((segment : Segment) (behind : List ℕ) → IsIndexSegment segment → ¬ BeginsUndotted text segment behind)
+CutsIndex text found = MatchOption found ((segment : Segment) (behind : List ℕ) → IsIndexSegment segment
+    → ¬ BeginsUndotted text segment behind)
     (λ c. (segment : Segment) × IsSaid c.0 segment × IsIndexSegment segment × BeginsUndotted text segment c.1.now)
 
 abbrev pub IsCutField : List ℕ → Option (Cut × Bor (List ℕ)) → Type 0
-IsCutField text found = MatchOption found ((segment : Segment) (behind : List ℕ) → IsFieldSegment segment → ¬ BeginsUndotted text segment behind)
+IsCutField text found = MatchOption found ((segment : Segment) (behind : List ℕ) → IsFieldSegment segment
+    → ¬ BeginsUndotted text segment behind)
     (λ c. (segment : Segment) × IsSaid c.0 segment × IsFieldSegment segment × BeginsUndotted text segment c.1.now)
 
 -- what is wrong with a segment
@@ -50,7 +54,8 @@ IsFlawOf segment Range = IsReadable segment × ¬ IsInRange segment
 
 -- the step that a segment stands for, or what is wrong with it
 abbrev pub StepOf : Segment → Result Step Flaw → Type 0
-StepOf segment found = MatchResult found (λ step. IsReadable segment × IsInRange segment × (step ≡ step_of segment)) (IsFlawOf segment)
+StepOf segment found =
+    MatchResult found (λ step. IsReadable segment × IsInRange segment × (step ≡ step_of segment)) (IsFlawOf segment)
 
 -- the step of what was read of a quoted name, and of an index; None where it can't be read
 abbrev pub field_step : Option (List ℕ) → Result Step Flaw

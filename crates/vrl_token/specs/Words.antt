@@ -82,11 +82,17 @@ IsNonempty (segment ∷ segments) = Unit {0}
 
 -- the text is this token behind the pieces before it, as long as it can be, and a rest
 abbrev pub BeginsWithToken : List Piece → Token → List ℕ → List ℕ → Type 0
-BeginsWithToken before (token.Text value) text rest = (characters : List Character) × IsTextSpelling text characters rest × AllByRecursion IsKnown characters × (value ≡ text_of characters) × ¬ HasTemplate value
-BeginsWithToken before (token.RawText value) text rest = (characters : List Character) × IsRaw 115 text characters rest × (value ≡ raw_of characters)
-BeginsWithToken before (token.Regex source) text rest = (characters : List Character) × IsRaw 114 text characters rest × (source ≡ raw_of characters) × (regexes_before before < 256)
-BeginsWithToken before (token.Timestamp moment) text rest = (characters : List Character) × IsRaw 116 text characters rest × IsReading (raw_of characters) moment
-BeginsWithToken before (token.Number number) text rest = (negative : Bool) × (digits : List ℕ) × IsNumberToken before text digits rest negative × BeginsOutside IsNameStart rest × IsNumber negative digits number
+BeginsWithToken before (token.Text value) text rest = (characters : List Character)
+    × IsTextSpelling text characters rest × AllByRecursion IsKnown characters × (value ≡ text_of characters)
+    × ¬ HasTemplate value
+BeginsWithToken before (token.RawText value) text rest =
+    (characters : List Character) × IsRaw 115 text characters rest × (value ≡ raw_of characters)
+BeginsWithToken before (token.Regex source) text rest = (characters : List Character) × IsRaw 114 text characters rest
+    × (source ≡ raw_of characters) × (regexes_before before < 256)
+BeginsWithToken before (token.Timestamp moment) text rest =
+    (characters : List Character) × IsRaw 116 text characters rest × IsReading (raw_of characters) moment
+BeginsWithToken before (token.Number number) text rest = (negative : Bool) × (digits : List ℕ)
+    × IsNumberToken before text digits rest negative × BeginsOutside IsNameStart rest × IsNumber negative digits number
 BeginsWithToken before token.True text rest = IsNameRun text (codes "true") rest
 BeginsWithToken before token.False text rest = IsNameRun text (codes "false") rest
 BeginsWithToken before token.Null text rest = IsNameRun text (codes "null") rest
@@ -94,12 +100,16 @@ BeginsWithToken before token.If text rest = IsNameRun text (codes "if") rest
 BeginsWithToken before token.Else text rest = IsNameRun text (codes "else") rest
 BeginsWithToken before token.Abort text rest = IsNameRun text (codes "abort") rest
 BeginsWithToken before token.Return text rest = IsNameRun text (codes "return") rest
-BeginsWithToken before (token.Name name) text rest = IsFreeName text name rest × ¬ BeginsRaw text × ¬ IsCallRest rest × NoSegment rest
+BeginsWithToken before (token.Name name) text rest =
+    IsFreeName text name rest × ¬ BeginsRaw text × ¬ IsCallRest rest × NoSegment rest
 BeginsWithToken before (token.Function name) text rest = IsFreeName text name rest × BeginsWith 40 rest
 BeginsWithToken before (token.BangFunction name) text rest = IsFreeName text name (33 ∷ rest) × BeginsWith 40 rest
-BeginsWithToken before (token.EventPath path) text rest = (segments : List Segment) × EventSegments text segments rest × HasSteps segments path × NoSuffix before text
-BeginsWithToken before (token.NamePath name path) text rest = (behind : List ℕ) × (segments : List Segment) × IsFreeName text name behind × Segments behind segments rest × IsNonempty segments × HasSteps segments path
-BeginsWithToken before (token.Suffix path) text rest = (segments : List Segment) × (closes_before before ≡ true) × Segments text segments rest × IsNonempty segments × HasSteps segments path
+BeginsWithToken before (token.EventPath path) text rest =
+    (segments : List Segment) × EventSegments text segments rest × HasSteps segments path × NoSuffix before text
+BeginsWithToken before (token.NamePath name path) text rest = (behind : List ℕ) × (segments : List Segment)
+    × IsFreeName text name behind × Segments behind segments rest × IsNonempty segments × HasSteps segments path
+BeginsWithToken before (token.Suffix path) text rest = (segments : List Segment) × (closes_before before ≡ true)
+    × Segments text segments rest × IsNonempty segments × HasSteps segments path
 BeginsWithToken before token.Assign text rest = (text ≡ 61 ∷ rest) × BeginsWithout 61 rest
 BeginsWithToken before token.MergeAssign text rest = text ≡ 124 ∷ 61 ∷ rest
 BeginsWithToken before token.Coalesce text rest = (text ≡ 63 ∷ 63 ∷ rest) × BeginsWithout 61 rest
@@ -113,7 +123,8 @@ BeginsWithToken before token.More text rest = (text ≡ 62 ∷ rest) × BeginsWi
 BeginsWithToken before token.AtLeast text rest = text ≡ 62 ∷ 61 ∷ rest
 BeginsWithToken before token.Merge text rest = ⊥
 BeginsWithToken before token.Plus text rest = text ≡ 43 ∷ rest
-BeginsWithToken before token.Minus text rest = (text ≡ 45 ∷ rest) × BeginsWithout 62 rest × ((operand_before before ≡ true) ⊎ BeginsOutside IsDigit rest)
+BeginsWithToken before token.Minus text rest =
+    (text ≡ 45 ∷ rest) × BeginsWithout 62 rest × ((operand_before before ≡ true) ⊎ BeginsOutside IsDigit rest)
 BeginsWithToken before token.Times text rest = text ≡ 42 ∷ rest
 BeginsWithToken before token.Not text rest = (text ≡ 33 ∷ rest) × BeginsWithout 61 rest
 BeginsWithToken before token.OpenParenthesis text rest = text ≡ 40 ∷ rest

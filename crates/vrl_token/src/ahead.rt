@@ -59,7 +59,8 @@ impl Ahead {
     // Before a token.
     fn before_token(self, token: &Token) -> Ahead
         ensures joins { result.joins ≡ joins_piece (Piece.Word token.now) }
-        ensures object { result.object ≡ (is_close_brace (Piece.Word token.now) || (is_text (Piece.Word token.now) && self.colon)) }
+        ensures object { result.object ≡
+            (is_close_brace (Piece.Word token.now) || (is_text (Piece.Word token.now) && self.colon)) }
         ensures colon { result.colon ≡ is_colon (Piece.Word token.now) }
     {
         Ahead {

@@ -214,7 +214,8 @@ impl Before {
 
     /// The token that a piece is here. `None`: a newline that parts no items, or a blank or a comment.
     pub(crate) fn token_of(&self, piece: Piece, ahead: Ahead) -> Option<Token>
-        ensures { (before : List SpecToken) (behind : List SpecLexeme) → IsBefore before self.now → IsAhead behind ahead → result ≡ token_of before piece behind }
+        ensures { (before : List SpecToken) (behind : List SpecLexeme) → IsBefore before self.now
+            → IsAhead behind ahead → result ≡ token_of before piece behind }
     {
         match piece {
             Piece::Blank | Piece::Comment => None,
@@ -243,7 +244,8 @@ impl Before {
     // Opens a bracket.
     fn open(&mut self, bracket: Bracket) -> Result<(), Memory>
         ensures last { self.new.last ≡ self.old.last }
-        ensures opens { OnOk result ((brackets : List SpecBracket) → IsOpen brackets self.old → IsOpen (bracket ∷ brackets) self.new) }
+        ensures opens { OnOk result ((brackets : List SpecBracket) → IsOpen brackets self.old
+            → IsOpen (bracket ∷ brackets) self.new) }
     {
         self.open.push(bracket)?;
         self.bars = one_more(self.bars, is_closure_bars(bracket));
@@ -265,7 +267,8 @@ impl Before {
     // Opens this bracket, or else closes one where a token does.
     fn add_bracket(&mut self, opened: Option<Bracket>, closes: bool) -> Result<(), Memory>
         ensures last { self.new.last ≡ self.old.last }
-        ensures brackets { OnOk result ((brackets : List SpecBracket) → IsOpen brackets self.old → IsOpen (with_bracket opened closes brackets) self.new) }
+        ensures brackets { OnOk result ((brackets : List SpecBracket) → IsOpen brackets self.old
+            → IsOpen (with_bracket opened closes brackets) self.new) }
     {
         match opened {
             Some(bracket) => self.open(bracket),
@@ -279,7 +282,8 @@ impl Before {
 
     /// Behind one more token.
     pub(crate) fn add(&mut self, token: &Token) -> Result<(), Memory>
-        ensures { OnOk result ((before : List SpecToken) → IsBefore before self.old → IsBefore (token.now ∷ before) self.new) }
+        ensures { OnOk result ((before : List SpecToken) → IsBefore before self.old
+            → IsBefore (token.now ∷ before) self.new) }
     {
         self.add_bracket(opened(token, self.last), is_closing(token))?;
         self.last = Last::of(token);

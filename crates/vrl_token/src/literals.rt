@@ -37,7 +37,8 @@ fn has_template(text: &str) -> bool
 
 // The token of what stands between the quotes of a text, or that it has a template.
 fn cut_escaped(text: Chars, rest: &str) -> Cut<'_>
-    ensures { (before : List SpecPiece) (opening : List ℕ) (characters : List Character) → IsTextSpelling opening characters rest.now → AllByRecursion IsKnown characters → text ≡ text_of characters
+    ensures { (before : List SpecPiece) (opening : List ℕ) (characters : List Character)
+        → IsTextSpelling opening characters rest.now → AllByRecursion IsKnown characters → text ≡ text_of characters
         → IsCutOf before opening result }
 {
     if has_template(text.as_str()) {
@@ -48,8 +49,10 @@ fn cut_escaped(text: Chars, rest: &str) -> Cut<'_>
 
 // The same where the text was read, or that it has an escape that isn't known.
 fn cut_read(text: Option<Chars>, rest: &str) -> Cut<'_>
-    ensures { (before : List SpecPiece) (opening : List ℕ) (characters : List Character) → IsTextSpelling opening characters rest.now
-        → MatchOption text (¬ AllByRecursion IsKnown characters) (λ t. AllByRecursion IsKnown characters × (t ≡ text_of characters)) → IsCutOf before opening result }
+    ensures { (before : List SpecPiece) (opening : List ℕ) (characters : List Character)
+        → IsTextSpelling opening characters rest.now
+        → MatchOption text (¬ AllByRecursion IsKnown characters) (λ t. AllByRecursion IsKnown characters
+        × (t ≡ text_of characters)) → IsCutOf before opening result }
 {
     match text {
         None => Cut::Fault(code::UNRECOGNIZED_TOKEN, rest.len()),
@@ -70,7 +73,8 @@ pub(crate) fn cut_text(alloc: Global, behind: &str) -> Result<Cut<'_>, Memory>
 // The token of what stands between the quotes of a raw text, a regex or a timestamp, which begins with this letter.
 fn cut_value<'a>(letter: u8, value: Chars, rest: &'a str, regexes_left: usize) -> Cut<'a>
     requires { IsRawLetter letter }
-    ensures { (before : List SpecPiece) (text : List ℕ) (characters : List Character) → IsRaw letter text characters rest.now → value ≡ raw_of characters
+    ensures { (before : List SpecPiece) (text : List ℕ) (characters : List Character)
+        → IsRaw letter text characters rest.now → value ≡ raw_of characters
         → regexes_left ≡ 256 - regexes_before before → IsCutOf before text result }
 {
     match letter {
@@ -92,7 +96,8 @@ pub(crate) fn cut_raw<'a>(
     regexes_left: usize,
 ) -> Result<Cut<'a>, Memory>
     requires { IsRawLetter letter }
-    ensures { IfOk result (λ cut. (before : List SpecPiece) → regexes_left ≡ 256 - regexes_before before → IsCutOf before (letter ∷ 39 ∷ behind.now) cut) }
+    ensures { IfOk result (λ cut. (before : List SpecPiece) → regexes_left ≡ 256 - regexes_before before
+        → IsCutOf before (letter ∷ 39 ∷ behind.now) cut) }
 {
     let Some((inner, rest)) = split_quoted(behind, b'\'') else {
         return Ok(Cut::Fault(code::UNRECOGNIZED_TOKEN, 0));
@@ -103,7 +108,8 @@ pub(crate) fn cut_raw<'a>(
 /// The number whose digits a text begins with. Where the flag says so a minus stands before them and belongs to it.
 pub(crate) fn cut_number(negative: bool, unsigned: &str) -> Cut<'_>
     requires { BeginsInside IsDigit unsigned.now }
-    ensures { (before : List SpecPiece) (text : List ℕ) → MayHaveSign before negative → IsBehindSign negative text unsigned.now → IsCutOf before text result }
+    ensures { (before : List SpecPiece) (text : List ℕ) → MayHaveSign before negative
+        → IsBehindSign negative text unsigned.now → IsCutOf before text result }
 {
     let (digits, rest) = split_digits(unsigned);
     if let Some(behind) = behind_float(rest) {

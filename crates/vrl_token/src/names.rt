@@ -32,7 +32,9 @@ fn keyword(name: &str) -> Option<Token>
 
 // The function whose name stands before a text. `None` where no call goes on with the text.
 fn cut_function<'a>(alloc: Global, name: &str, behind: &'a str) -> Result<Option<Cut<'a>>, Memory>
-    ensures { IfOk result (λ found. MatchOption found (¬ IsCallRest behind.now) (λ cut. (text : List ℕ) (before : List SpecPiece) → IsFreeName text name.now behind.now → IsCutOf before text cut)) }
+    ensures { IfOk result
+        (λ found. MatchOption found (¬ IsCallRest behind.now) (λ cut. (text : List ℕ) (before : List SpecPiece)
+        → IsFreeName text name.now behind.now → IsCutOf before text cut)) }
 {
     if begins_with(behind, b'(') {
         let name = Chars::copy_of(alloc, name)?;
@@ -60,7 +62,8 @@ fn path_cut(token: Token, fault: Option<u16>, rest: &str) -> Cut<'_>
 // The name or the path behind a name, that stands before a text with which no call goes on.
 fn cut_name<'a>(alloc: Global, name: &str, behind: &'a str) -> Result<Cut<'a>, Memory>
     requires { ¬ IsCallRest behind.now }
-    ensures { IfOk result (λ cut. (text : List ℕ) (before : List SpecPiece) → IsFreeName text name.now behind.now → ¬ BeginsRaw text → IsCutOf before text cut) }
+    ensures { IfOk result (λ cut. (text : List ℕ) (before : List SpecPiece) → IsFreeName text name.now behind.now
+        → ¬ BeginsRaw text → IsCutOf before text cut) }
 {
     let mut found = Gathering::new(alloc);
     let rest = found.gather(alloc, behind)?;
@@ -90,7 +93,8 @@ pub(crate) fn cut_word(alloc: Global, text: &str) -> Result<Cut<'_>, Memory>
 
 // The suffix that a text begins with directly behind `)` or `]`. `None` where no segment begins it.
 fn cut_suffix(alloc: Global, text: &str) -> Result<Option<Cut<'_>>, Memory>
-    ensures { IfOk result (λ found. MatchOption found (NoSegment text.now) (λ cut. (before : List SpecPiece) → closes_before before ≡ true → IsCutOf before text.now cut)) }
+    ensures { IfOk result (λ found. MatchOption found (NoSegment text.now) (λ cut. (before : List SpecPiece)
+        → closes_before before ≡ true → IsCutOf before text.now cut)) }
 {
     let mut found = Gathering::new(alloc);
     let rest = found.gather(alloc, text)?;
@@ -103,7 +107,8 @@ fn cut_suffix(alloc: Global, text: &str) -> Result<Option<Cut<'_>>, Memory>
 
 // The path of the event whose dot stands before a text.
 fn cut_event<'a>(alloc: Global, behind: &'a str) -> Result<Cut<'a>, Memory>
-    ensures { IfOk result (λ cut. (before : List SpecPiece) → NoSuffix before (46 ∷ behind.now) → IsCutOf before (46 ∷ behind.now) cut) }
+    ensures { IfOk result (λ cut. (before : List SpecPiece) → NoSuffix before (46 ∷ behind.now)
+        → IsCutOf before (46 ∷ behind.now) cut) }
 {
     let mut found = Gathering::new(alloc);
     let rest = found.gather_event(alloc, behind)?;

@@ -181,7 +181,8 @@ impl Tally {
     // Adds levels to the count of the innermost stretch.
     fn count(&mut self, levels: usize)
         ensures stretches { self.new.stretches ≡ self.old.stretches }
-        ensures counts { let at = self.old.stretches.innermost in self.new.counts.items ≡ set self.old.counts.items at (held (get_or self.old.counts.items at 0 + levels)) }
+        ensures counts { let at = self.old.stretches.innermost in self.new.counts.items ≡ set self.old.counts.items at
+            (held (get_or self.old.counts.items at 0 + levels)) }
     {
         let place = self.stretches.innermost;
         if place < self.counts.len() {
@@ -191,7 +192,8 @@ impl Tally {
 
     // Takes one more token.
     fn add(&mut self, token: &Token) -> Result<(), Memory>
-        ensures { OnOk result ((before : List SpecToken) → IsTally before self.old → IsTally (token.now ∷ before) self.new) }
+        ensures { OnOk result ((before : List SpecToken) → IsTally before self.old
+            → IsTally (token.now ∷ before) self.new) }
     {
         let place = self.counts.len();
         self.count(levels(token));
@@ -252,7 +254,8 @@ impl Place {
 
     // Behind one more token; a stretch that begins there has this count.
     fn add(&mut self, token: &Token, count: usize) -> Result<(), Memory>
-        ensures { OnOk result ((all before : List SpecToken) → count ≡ held (count_in (suc (length before)) all) → IsPlace all before self.old → IsPlace all (token.now ∷ before) self.new) }
+        ensures { OnOk result ((all before : List SpecToken) → count ≡ held (count_in (suc (length before)) all)
+            → IsPlace all before self.old → IsPlace all (token.now ∷ before) self.new) }
     {
         let nesting = self.nestings.nesting_behind(token, count);
         self.nestings.add(token, nesting)?;
@@ -268,8 +271,8 @@ impl Place {
     }
 }
 
-/// Whether tokens are nested too deeply: a nesting over 64, or more than four open bodies of closures. Goes over the tokens twice, since
-/// the count of a stretch takes in its tokens behind an inner bracket.
+/// Whether tokens are nested too deeply: a nesting over 64, or more than four open bodies of closures. Goes
+/// over the tokens twice, since the count of a stretch takes in its tokens behind an inner bracket.
 pub(crate) fn is_nested_too_deeply(alloc: Global, tokens: &[Spanned]) -> Result<bool, Memory>
     ensures { IfOk result (λ deep. IsTrue deep ↔ IsTooDeep (backwards tokens.now)) }
 {

@@ -30,9 +30,11 @@ fn magnitude(digits: &str) -> Option<u64>
     Some(value)
 }
 
-/// The number that digits stand for behind a minus, where the flag says so. `None`: it has more than 64 bits with its sign.
+/// The number that digits stand for behind a minus, where the flag says so. `None`: it has more than 64 bits
+/// with its sign.
 pub(crate) fn number_of(negative: bool, digits: &str) -> Option<i64>
-    ensures { let number = signed negative (decimal_value 0 digits.now) in SomeIff result (FitsSigned w64 number) number }
+    ensures { let number = signed negative (decimal_value 0 digits.now) in SomeIff result
+        (FitsSigned w64 number) number }
 {
     let magnitude = magnitude(digits)?;
     if negative {
@@ -42,7 +44,8 @@ pub(crate) fn number_of(negative: bool, digits: &str) -> Option<i64>
     }
 }
 
-// Whether a text that follows digits goes on with them: with a digit, or with `_` and a digit. Then, what stands behind the `_`.
+// Whether a text that follows digits goes on with them: with a digit, or with `_` and a digit. Then, what
+// stands behind the `_`.
 fn behind_underscore(text: &str) -> Option<&str>
     ensures { MatchOption result
         ((behind : List ℕ) → text.now ≡ 95 ∷ behind → BeginsOutside IsDigit behind)
@@ -126,7 +129,8 @@ fn behind_fraction(text: &str) -> Option<&str>
     Some(rest)
 }
 
-/// What stands behind the rest of a float that the text behind its first digits begins with. `None` where it begins with none.
+/// What stands behind the rest of a float that the text behind its first digits begins with. `None` where it
+/// begins with none.
 pub(crate) fn behind_float(text: &str) -> Option<&str>
     ensures { MatchOption result ((rest : List ℕ) → ¬ IsFloat text.now rest) (λ rest. IsFloat text.now rest.now) }
 {

@@ -40,7 +40,8 @@ impl Gathering {
 
     /// Takes one more segment.
     pub(crate) fn add(&mut self, alloc: Global, segment: Segment<'_>) -> Result<(), Memory>
-        ensures { OnOk result ((before : List Spelled) (spelled : Spelled) → IsGathered before self.old → IsSaid segment.entry spelled
+        ensures { OnOk result ((before : List Spelled) (spelled : Spelled) → IsGathered before self.old
+            → IsSaid segment.entry spelled
             → IsGathered (before ++ spelled ∷ []) self.new) }
     {
         match segment.to_step(alloc)? {
@@ -53,7 +54,8 @@ impl Gathering {
     /// Takes all segments that a text begins with, and gives what stands behind them.
     pub(crate) fn gather<'a>(&mut self, alloc: Global, text: &'a str) -> Result<&'a str, Memory>
         ensures { IfOk result (λ rest. (before : List Spelled) → IsGathered before self.old
-            → (segments : List Spelled) × Segments text.now segments rest.now × IsGathered (before ++ segments) self.new) }
+            → (segments : List Spelled) × Segments text.now segments rest.now
+            × IsGathered (before ++ segments) self.new) }
     {
         let mut rest = text;
         while let Some((segment, behind)) = split_dotted(rest) {
@@ -69,7 +71,8 @@ impl Gathering {
         alloc: Global,
         text: &'a str,
     ) -> Result<&'a str, Memory>
-        ensures { IfOk result (λ rest. IsGathered [] self.old → (segments : List Spelled) × EventSegments (46 ∷ text.now) segments rest.now × IsGathered segments self.new) }
+        ensures { IfOk result (λ rest. IsGathered [] self.old → (segments : List Spelled)
+            × EventSegments (46 ∷ text.now) segments rest.now × IsGathered segments self.new) }
     {
         match split_undotted(text) {
             Some((first, next)) => {
@@ -82,7 +85,8 @@ impl Gathering {
 
     /// The path of the steps, and the code of what is wrong with the segments.
     pub(crate) fn into_path(self) -> (Path, Option<u16>)
-        ensures { (segments : List Spelled) → IsGathered segments self → MatchOption result.1 (HasSteps segments result.0) (HasFlaw segments) }
+        ensures { (segments : List Spelled) → IsGathered segments self
+            → MatchOption result.1 (HasSteps segments result.0) (HasFlaw segments) }
     {
         (Path::new(self.steps), code_of(self.flaw))
     }

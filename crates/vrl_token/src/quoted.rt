@@ -27,8 +27,8 @@ fn closing_quote(text: &str, quote: u8) -> Option<usize>
     None
 }
 
-/// Cuts a text that stands behind an opening quote into what stands before its closing quote, and what stands behind that. `None`
-/// where it isn't closed.
+/// Cuts a text that stands behind an opening quote into what stands before its closing quote, and what stands
+/// behind that. `None` where it isn't closed.
 pub(crate) fn split_quoted(text: &str, quote: u8) -> Option<(&str, &str)>
     requires ascii { quote < 128 }
     requires other { quote ≢ 92 }
@@ -42,7 +42,8 @@ pub(crate) fn split_quoted(text: &str, quote: u8) -> Option<(&str, &str)>
 
 // What the letter behind a backslash stands for, in a text or a quoted field. `None` where it stands for nothing.
 fn escape(letter: u8) -> Option<&'static str>
-    ensures { MatchOption result (¬ IsEscape letter) (λ meaning. IsEscape letter × (meaning.now ≡ escape_of letter ∷ [])) }
+    ensures { MatchOption result (¬ IsEscape letter) (λ meaning. IsEscape letter
+        × (meaning.now ≡ escape_of letter ∷ [])) }
 {
     match letter {
         b'n' => Some("\n"),
@@ -60,7 +61,8 @@ fn escape(letter: u8) -> Option<&'static str>
 pub(crate) fn unescaped(alloc: Global, inner: &str) -> Result<Option<Chars>, Memory>
     ensures { IfOk result (λ found. MatchOption found
         ((characters : List Character) → IsInner 34 inner.now characters → ¬ AllByRecursion IsKnown characters)
-        (λ text. (characters : List Character) → IsInner 34 inner.now characters → AllByRecursion IsKnown characters × (text ≡ text_of characters))) }
+        (λ text. (characters : List Character) → IsInner 34 inner.now characters → AllByRecursion IsKnown characters
+        × (text ≡ text_of characters))) }
 {
     let mut text = String::new(alloc);
     let mut rest = inner;
@@ -79,7 +81,8 @@ pub(crate) fn unescaped(alloc: Global, inner: &str) -> Result<Option<Chars>, Mem
     Ok(Some(Chars::new(text)))
 }
 
-// What the start of a text that stands behind a backslash stands for in a raw text, with the backslash, and what goes on behind that.
+// What the start of a text that stands behind a backslash stands for in a raw text, with the backslash, and
+// what goes on behind that.
 fn raw_pair(escaped: &str) -> (&'static str, &str)
     ensures { RawPair escaped.now result.0.now result.1.now }
 {
@@ -94,7 +97,8 @@ fn raw_pair(escaped: &str) -> (&'static str, &str)
 
 /// The text that the characters between `'` of a raw text, a regex or a timestamp stand for.
 pub(crate) fn raw(alloc: Global, inner: &str) -> Result<Chars, Memory>
-    ensures { IfOk result (λ text. (characters : List Character) → IsInner 39 inner.now characters → text ≡ raw_of characters) }
+    ensures { IfOk result (λ text. (characters : List Character) → IsInner 39 inner.now characters
+        → text ≡ raw_of characters) }
 {
     let mut text = String::new(alloc);
     let mut rest = inner;

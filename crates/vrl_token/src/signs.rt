@@ -34,7 +34,8 @@ fn cut_bar(behind: &str) -> Cut<'_>
     }
 }
 
-// `??`, the operator `??=` that is left out, or a `?` that is part of no spelling. Its first byte stands before the text.
+// `??`, the operator `??=` that is left out, or a `?` that is part of no spelling. Its first byte stands
+// before the text.
 fn cut_question(behind: &str) -> Cut<'_>
     ensures { (before : List SpecPiece) → IsCutOf before (63 ∷ behind.now) result }
 {
@@ -130,7 +131,8 @@ pub(crate) fn cut_stray(text: &str) -> Cut<'_>
 /// The sign whose first byte stands before the text, or what is wrong with it.
 pub(crate) fn cut_sign(first: u8, behind: &str) -> Cut<'_>
     requires { IsNoOther first }
-    ensures { (before : List SpecPiece) → (first ≡ 45 → MayBeMinus before behind.now) → IsCutOf before (first ∷ behind.now) result }
+    ensures { (before : List SpecPiece) → (first ≡ 45 → MayBeMinus before behind.now)
+        → IsCutOf before (first ∷ behind.now) result }
 {
     match first {
         b'=' => cut_equals(Token::Assign, Token::Equal, behind),

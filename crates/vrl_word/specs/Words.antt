@@ -31,7 +31,8 @@ pub record Word : Type 0 where
 -- the words of tokens that have so many regex literals before them
 abbrev pub words_from : ℕ → List Spanned → List Word
 words_from n [] = []
-words_from n (t ∷ ts) = record { token = t.token; span = t.span; number = n } ∷ words_from (length (regex_of t.token) + n) ts
+words_from n (t ∷ ts) =
+    record { token = t.token; span = t.span; number = n } ∷ words_from (length (regex_of t.token) + n) ts
 
 -- the value of a literal; a regex is its number among those of the script
 abbrev pub literal_at : Token → ℕ → Option Tree

@@ -56,7 +56,8 @@ pub fn block(body: Exprs, span: Span) -> Expr
 
 /// A query of what stands at a path of a value.
 pub fn queried(alloc: Global, inner: Expr, path: Path, end: Span) -> Result<Expr, Memory>
-    ensures { IfOk result (λ e. expr_of e ≡ expr (place_over (span_of (expr_of inner)) end) (query (expr_of inner) path)) }
+    ensures { IfOk result
+        (λ e. expr_of e ≡ expr (place_over (span_of (expr_of inner)) end) (query (expr_of inner) path)) }
 {
     let span = over(inner.span, end);
     let form = Form::Query(Box::new(alloc, inner)?, path);
@@ -74,7 +75,8 @@ pub fn group(alloc: Global, start: Span, inner: Expr, end: Span) -> Result<Expr,
 
 /// A negation.
 pub fn negation(alloc: Global, start: Span, inner: Expr) -> Result<Expr, Memory>
-    ensures { IfOk result (λ e. expr_of e ≡ expr (place_over start (span_of (expr_of inner))) (negation_form (expr_of inner))) }
+    ensures { IfOk result
+        (λ e. expr_of e ≡ expr (place_over start (span_of (expr_of inner))) (negation_form (expr_of inner))) }
 {
     let span = over(start, inner.span);
     let form = Form::Not(Box::new(alloc, inner)?);
@@ -83,7 +85,9 @@ pub fn negation(alloc: Global, start: Span, inner: Expr) -> Result<Expr, Memory>
 
 /// An operator between its sides.
 pub fn joined(alloc: Global, op: Op, left: Expr, right: Expr) -> Result<Expr, Memory>
-    ensures { IfOk result (λ e. expr_of e ≡ expr (place_over (span_of (expr_of left)) (span_of (expr_of right))) (binary op (expr_of left) (expr_of right))) }
+    ensures { IfOk result
+        (λ e. expr_of e ≡ expr (place_over (span_of (expr_of left)) (span_of (expr_of right)))
+        (binary op (expr_of left) (expr_of right))) }
 {
     let span = over(left.span, right.span);
     let left = Box::new(alloc, left)?;
@@ -94,7 +98,8 @@ pub fn joined(alloc: Global, op: Op, left: Expr, right: Expr) -> Result<Expr, Me
 
 /// An `if`, given the place of its last block.
 pub fn conditional(start: Span, arms: Arms, otherwise: Option<Exprs>, end: Span) -> Expr
-    ensures { expr_of result ≡ expr (place_over start end) (conditional_form (arms_of arms) (else_of (option_map exprs_of otherwise))) }
+    ensures { expr_of result ≡ expr (place_over start end)
+        (conditional_form (arms_of arms) (else_of (option_map exprs_of otherwise))) }
 {
     let span = over(start, end);
     let form = Form::If(arms, otherwise);
@@ -103,7 +108,8 @@ pub fn conditional(start: Span, arms: Arms, otherwise: Option<Exprs>, end: Span)
 
 /// An assignment.
 pub fn assignment(alloc: Global, start: Span, target: Target, value: Expr) -> Result<Expr, Memory>
-    ensures { IfOk result (λ e. expr_of e ≡ expr (place_over start (span_of (expr_of value))) (assign target (expr_of value))) }
+    ensures { IfOk result
+        (λ e. expr_of e ≡ expr (place_over start (span_of (expr_of value))) (assign target (expr_of value))) }
 {
     let span = over(start, value.span);
     let form = Form::Assign(target, Box::new(alloc, value)?);
@@ -112,7 +118,8 @@ pub fn assignment(alloc: Global, start: Span, target: Target, value: Expr) -> Re
 
 /// An assignment that merges.
 pub fn merge(alloc: Global, start: Span, target: Target, value: Expr) -> Result<Expr, Memory>
-    ensures { IfOk result (λ e. expr_of e ≡ expr (place_over start (span_of (expr_of value))) (merge_form target (expr_of value))) }
+    ensures { IfOk result
+        (λ e. expr_of e ≡ expr (place_over start (span_of (expr_of value))) (merge_form target (expr_of value))) }
 {
     let span = over(start, value.span);
     let form = Form::Merge(target, Box::new(alloc, value)?);
@@ -127,7 +134,8 @@ pub fn both(
     error: Target,
     value: Expr,
 ) -> Result<Expr, Memory>
-    ensures { IfOk result (λ e. expr_of e ≡ expr (place_over start (span_of (expr_of value))) (both_form target error (expr_of value))) }
+    ensures { IfOk result
+        (λ e. expr_of e ≡ expr (place_over start (span_of (expr_of value))) (both_form target error (expr_of value))) }
 {
     let span = over(start, value.span);
     let form = Form::Both(target, error, Box::new(alloc, value)?);
@@ -136,7 +144,8 @@ pub fn both(
 
 /// A `return`.
 pub fn return_of_value(alloc: Global, start: Span, value: Expr) -> Result<Expr, Memory>
-    ensures { IfOk result (λ e. expr_of e ≡ expr (place_over start (span_of (expr_of value))) (return_of (expr_of value))) }
+    ensures { IfOk result
+        (λ e. expr_of e ≡ expr (place_over start (span_of (expr_of value))) (return_of (expr_of value))) }
 {
     let span = over(start, value.span);
     let form = Form::Return(Box::new(alloc, value)?);
@@ -153,7 +162,8 @@ pub fn abort(span: Span, text: Option<Box<Expr>>) -> Expr
 
 /// An `abort` with its message.
 pub fn abort_with_message(alloc: Global, start: Span, text: Expr) -> Result<Expr, Memory>
-    ensures { IfOk result (λ e. expr_of e ≡ expr (place_over start (span_of (expr_of text))) (abort_with (message (expr_of text)))) }
+    ensures { IfOk result
+        (λ e. expr_of e ≡ expr (place_over start (span_of (expr_of text))) (abort_with (message (expr_of text)))) }
 {
     let span = over(start, text.span);
     let text = Box::new(alloc, text)?;
@@ -168,7 +178,9 @@ pub fn call(
     args: Args,
     end: Span,
 ) -> Result<Expr, Memory>
-    ensures { IfOk result (λ e. expr_of e ≡ expr (place_over start end) (call_form function.0 (name_place start function.1) function.1 (args_of args) no_closure)) }
+    ensures { IfOk result
+        (λ e. expr_of e ≡ expr (place_over start end)
+        (call_form function.0 (name_place start function.1) function.1 (args_of args) no_closure)) }
 {
     let span = over(start, end);
     let (name, bang) = function;
@@ -184,7 +196,8 @@ pub fn call(
     Ok(Expr { span, form })
 }
 
-/// A call with a closure, given its function's name and bang and the place of its first token, and the closure's names, body and block.
+/// A call with a closure, given its function's name and bang and the place of its first token, and the
+/// closure's names, body and block.
 pub fn call_with_closure(
     alloc: Global,
     function: (Chars, bool),
@@ -192,7 +205,10 @@ pub fn call_with_closure(
     args: Args,
     closure: (Names, Exprs, Span),
 ) -> Result<Expr, Memory>
-    ensures { IfOk result (λ e. expr_of e ≡ expr (place_over start closure.2) (call_form function.0 (name_place start function.1) function.1 (args_of args) (closure_form closure.0 (exprs_of closure.1) closure.2))) }
+    ensures { IfOk result
+        (λ e. expr_of e ≡ expr (place_over start closure.2)
+        (call_form function.0 (name_place start function.1) function.1 (args_of args)
+        (closure_form closure.0 (exprs_of closure.1) closure.2))) }
 {
     let (name, bang) = function;
     let name_span = name_span(start, bang);

@@ -1,4 +1,5 @@
-//! What the single tokens of a script say, and expressions made of their parts: what a parser of the Vector Remap Language stands on.
+//! What the single tokens of a script say, and expressions made of their parts: what a parser of the Vector
+//! Remap Language stands on.
 //!
 //! Files: `word.rt` and `sign.rt` say what a token is, and `forms.rt` makes expressions of their parts.
 #![tactic(auto)]

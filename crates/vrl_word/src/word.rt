@@ -48,7 +48,8 @@ pub fn path_of(alloc: Global, token: &Token) -> Result<Option<(Root, Path)>, Mem
     }
 }
 
-/// Where an assignment to what stands there writes. `None` where it is neither a path nor a name, which takes no memory.
+/// Where an assignment to what stands there writes. `None` where it is neither a path nor a name, which takes
+/// no memory.
 pub fn target_of(alloc: Global, word: &Spanned) -> Result<Option<Target>, Memory>
     ensures found { IfOk result (λ found. found ≡ target_at word.now.token word.now.span) }
     ensures memory { IsErr result → IsSome (target_at word.now.token word.now.span) }
@@ -90,7 +91,8 @@ pub fn name_span(span: Span, bang: bool) -> Span
     }
 }
 
-/// The value of a literal, given how many regex literals stand before it. `None` where the token is no literal. Only a text takes memory.
+/// The value of a literal, given how many regex literals stand before it. `None` where the token is no
+/// literal. Only a text takes memory.
 pub fn literal_of(alloc: Global, token: &Token, number: u32) -> Result<Option<Value>, Memory>
     ensures found { IfOk result (λ found. option_map tree_of found ≡ literal_at token.now number) }
     ensures memory { IsErr result → IsTrue (is_copied token.now) }
