@@ -137,18 +137,18 @@ before_unused : (x : Context) (ns : List Linked) (store : Store) (last : Linked)
 before_unused x [] store last v w = refl
 before_unused x (n ∷ ns) store last v w = refl
 
-pub items_start : (x : Context) (before : CodeStore) (ns : List Linked) → IsReadyStore x before
+pub before_start : (x : Context) (before : CodeStore) (ns : List Linked) → IsReadyStore x before
     → IsPartway {A = Linked → Tree → Ended} x before before (items_before x ns (store_at x before)) (λ last v. items_before x ns (store_at x before) last null)
-items_start x before ns ready =
+before_start x before ns ready =
     record { same = λ i last v. before_unused x ns (store_at x before) last v null i; ready = ready; stays = stays_here before }
 
-pub items_next : (law : MeaningsStayWellFormed) (x : Context) (before now after : CodeStore) (all : List Node) (i : ℕ) (n : Node) (v : Tree)
+pub before_next : (law : MeaningsStayWellFormed) (x : Context) (before now after : CodeStore) (all : List Node) (i : ℕ) (n : Node) (v : Tree)
     (whole : Linked → Tree → Ended) → i < length all → n ≡ get_or all i n → AllFitIn x (parts_view (drop i all))
     → IsPartway {A = Linked → Tree → Ended} x before now (items_before x (map linked_of (drop i all)) (store_at x now)) whole
     → meant x (linked_of n) now ≡ ends (value v) (store_at x after) → Stays now after
     → IsPartway {A = Linked → Tree → Ended} x before after (items_before x (map linked_of (drop (i + 1) all)) (store_at x after)) whole
     × AllFitIn x (parts_view (drop (i + 1) all))
-items_next law x before now after all i n v whole below here fits so_far is stays =
+before_next law x before now after all i n v whole below here fits so_far is stays =
     let next = next_part all i n below here in
     let rest = map linked_of (drop (i + 1) all) in
     let both : FitsIn x (linked_of n) × AllFitIn x (parts_of_list rest) = subst (λ ns. AllFitIn x (parts_of_list ns)) next fits in
@@ -158,11 +158,11 @@ items_next law x before now after all i n v whole below here fits so_far is stay
     (partway_next {A = Linked → Tree → Ended} x before now after _ _ whole so_far (λ j last w. step last w j)
     (ready_after x now after (linked_of n) (value v) law both.0 is so_far.ready stays) stays, both.1)
 
-pub items_stop : (x : Context) (before now : CodeStore) (all : List Node) (i : ℕ) (n : Node) (whole : Linked → Tree → Ended) (store : Store) (stop : Stop)
+pub before_stop : (x : Context) (before now : CodeStore) (all : List Node) (i : ℕ) (n : Node) (whole : Linked → Tree → Ended) (store : Store) (stop : Stop)
     → i < length all → n ≡ get_or all i n
     → IsPartway {A = Linked → Tree → Ended} x before now (items_before x (map linked_of (drop i all)) (store_at x now)) whole
     → Stops (meant x (linked_of n) now) store stop → (last : Linked) (v : Tree) → Stops (whole last v) store stop
-items_stop x before now all i n whole store stop below here so_far is last v =
+before_stop x before now all i n whole store stop below here so_far is last v =
     let rest = map linked_of (drop (i + 1) all) in
     subst (λ f. Stops (f last v) store stop) so_far.same
     (subst (λ ns. Stops (items_before x ns (store_at x now) last v) store stop) (sym (next_part all i n below here))
@@ -178,10 +178,10 @@ value_itself (banged text) store = refl
 value_itself deep store = refl
 
 -- the last one is left
-pub items_end : (x : Context) (before now : CodeStore) (all : List Node) (i : ℕ) (whole : Linked → Tree → Ended) → length all ≤ i
+pub before_end : (x : Context) (before now : CodeStore) (all : List Node) (i : ℕ) (whole : Linked → Tree → Ended) → length all ≤ i
     → IsPartway {A = Linked → Tree → Ended} x before now (items_before x (map linked_of (drop i all)) (store_at x now)) whole
     → (last : Linked) (v : Tree) → whole last v ≡ meant x last now
-items_end x before now all i whole end so_far last v =
+before_end x before now all i whole end so_far last v =
     let m = meant x last now in
     sym (ap (λ f. f last v) so_far.same) ∙ ap (λ ns. items_before x ns (store_at x now) last v) (no_part_left all i end) ∙ value_itself m.outcome m.store
 

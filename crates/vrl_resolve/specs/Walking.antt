@@ -73,13 +73,17 @@ pub record Stays (before after : CodeStore) : Type 0 where
 abbrev pub meant : Context → Linked → CodeStore → Ended
 meant x n s = means (names_in x) (setting_in x) n (store_at x s)
 
--- it ended so, and left this store; where its value isn't asked for, nothing is told but that there is one
-abbrev pub EndsAsked : Bool → Ended → Store → Result Value Stop → Type 0
-EndsAsked true ended store result = Ends ended store result
-EndsAsked false ended store (Ok unasked) = (v : Tree) × (ended ≡ ends (value v) store)
-EndsAsked false ended store (Err stop) = Stops ended store stop
+-- it ended with a value; where that isn't asked for, nothing is told but that there is one
+abbrev pub EndsWith : Bool → Ended → Store → Value → Type 0
+EndsWith true ended store v = ended ≡ ends (value (tree_of v)) store
+EndsWith false ended store v = (w : Tree) × (ended ≡ ends (value w) store)
 
--- the same where it is asked for
+-- it ended so, and left this store
+abbrev pub EndsAsked : Bool → Ended → Store → Result Value Stop → Type 0
+EndsAsked asked ended store (Ok v) = EndsWith asked ended store v
+EndsAsked asked ended store (Err stop) = Stops ended store stop
+
+-- the same where its value is asked for
 abbrev pub EndsIn : Context → Ended → CodeStore → Result Value Stop → Type 0
 EndsIn x ended after result = Ends ended (store_at x after) result
 

@@ -21,7 +21,7 @@ use Rattle.vrl_resolve.proofs.Partway.{none_left, one_gone}
 use Rattle.vrl_resolve.proofs.Turns.{args_ready, collection_formed, field_values, fields_begin, fields_end, fields_stop, fields_turn, item_values, items_begin, items_end, items_stop, items_turn, iterate_ends, arrays_taken, none_given, is_container, objects_taken, other_is_refused, refused_ends, taken_ends}
 use Rattle.vrl_resolve.proofs.WalkArms.{arm_fits, arm_passed, arm_taken, arms_end}
 use Rattle.vrl_resolve.proofs.WalkCalls.{call_ends, call_stops, first_fit, given_are_of, given_formed, left_formed}
-use Rattle.vrl_resolve.proofs.Walks.{after_error, after_stop, array_ends, array_stops, asks_both, assigned_ends, assigned_stops, beside_ends, block_store, both_end, copy_told, ends_then, first_stops, items_before, items_end, items_next, items_start, items_stop, known_base, last_fits, last_part, names_after, next_pair, next_part, pairs_end, pairs_next, parts_end, parts_next, parts_stop, ready_after, second_stops, stays_here, stays_then, told_anyhow, told_asked}
+use Rattle.vrl_resolve.proofs.Walks.{after_error, after_stop, array_ends, array_stops, asks_both, assigned_ends, assigned_stops, before_end, before_next, before_start, before_stop, beside_ends, block_store, both_end, copy_told, ends_then, first_stops, items_before, known_base, last_fits, last_part, names_after, next_pair, next_part, pairs_end, pairs_next, parts_end, parts_next, parts_stop, ready_after, second_stops, stays_here, stays_then, told_anyhow, told_asked}
 use Rattle.vrl_resolve.specs.Calls as called
 use Rattle.vrl_resolve.specs.Calls.{acts, items_in, iterated}
 use Rattle.vrl_resolve.specs.Fits.{AreKnownSlots}
@@ -525,7 +525,7 @@ items-loop-item-init t c =
     let last = c.in-Some.last.now in
     let split : c.args.items.now ≡ others ++ last ∷ [] = search rules in
     let fits = last_fits x (map linked_of others) (linked_of last) (subst (AllFitIn x) (last_part c.args.items.now others last split) c.requires.fits) in
-    record { so_far = items_start x c.args.store.now (map linked_of others) c.requires.ready; fits = fits.0; fewer = omega arith }
+    record { so_far = before_start x c.args.store.now (map linked_of others) c.requires.ready; fits = fits.0; fewer = omega arith }
 
 pub items-loop-item-preserved : goal.items-loop-item-preserved
 items-loop-item-preserved t c =
@@ -533,7 +533,7 @@ items-loop-item-preserved t c =
     let x = c.args.context.now in
     let others = c.in-Some.others.now in
     let told = c.in_ok-eval.ensures.ended in
-    let next = items_next c.meanings_stay_well_formed.ensures x c.args.store.now l.store c.eval.new.store others l.item-index c.item-item.result told.0
+    let next = before_next c.meanings_stay_well_formed.ensures x c.args.store.now l.store c.eval.new.store others l.item-index c.item-item.result told.0
     (λ last v. items_before x (map linked_of others) (store_at x c.args.store.now) last null) c.loop-item-test.true c.item-item.is
     l.invariant.fits l.invariant.so_far told.1 c.in_ok-eval.ensures.stays in
     let size = parts_fewer others l.item-index c.item-item.result c.loop-item-test.true c.item-item.is in
@@ -548,7 +548,7 @@ items-returns-clause-ended t c =
     let split : c.args.items.now ≡ others ++ last ∷ [] = search rules in
     let before : Parts → Ended = λ ns. items_mean (names_in x) (setting_in x) null ns (store_at x c.args.store.now) in
     let whole : before (parts_view c.args.items.now) ≡ meant x (linked_of last) l.store = ap before (last_part c.args.items.now others last split)
-    ∙ items_end x c.args.store.now l.store others l.item-index (λ n v. items_before x (map linked_of others) (store_at x c.args.store.now) n null) c.loop-item-test.false l.invariant.so_far (linked_of last) null in
+    ∙ before_end x c.args.store.now l.store others l.item-index (λ n v. items_before x (map linked_of others) (store_at x c.args.store.now) n null) c.loop-item-test.false l.invariant.so_far (linked_of last) null in
     subst (λ e. EndsAsked c.args.is_asked e (store_at x c.eval-2.new.store) c.eval-2.result) (sym whole) c.eval-2.ensures.ended
 
 pub items-returns-in_err-eval-clause-ended : goal.items-returns-in_err-eval-clause-ended
@@ -561,7 +561,7 @@ items-returns-in_err-eval-clause-ended t c =
     let stop = c.in_err-eval.field-0.0 in
     let told : Stops (items_mean (names_in x) (setting_in x) null (parts_view c.args.items.now) (store_at x c.args.store.now)) (store_at x c.eval.new.store) stop =
     subst (λ ns. Stops (items_mean (names_in x) (setting_in x) null ns (store_at x c.args.store.now)) (store_at x c.eval.new.store) stop) (sym (last_part c.args.items.now others last split))
-    (items_stop x c.args.store.now l.store others l.item-index c.item-item.result (λ n v. items_before x (map linked_of others) (store_at x c.args.store.now) n null) (store_at x c.eval.new.store) stop
+    (before_stop x c.args.store.now l.store others l.item-index c.item-item.result (λ n v. items_before x (map linked_of others) (store_at x c.args.store.now) n null) (store_at x c.eval.new.store) stop
     c.loop-item-test.true c.item-item.is l.invariant.so_far c.in_err-eval.ensures.ended (linked_of last) null) in
     search rules
 
