@@ -565,6 +565,15 @@ items-returns-in_err-eval-clause-ended t c =
     c.loop-item-test.true c.item-item.is l.invariant.so_far c.in_err-eval.ensures.ended (linked_of last) null) in
     search rules
 
+pub items-returns-in_default-clause-ended : goal.items-returns-in_default-clause-ended
+items-returns-in_default-clause-ended t c =
+    let x = c.args.context.now in
+    let here = store_at x c.args.store.now in
+    let none : c.args.items.now ≡ [] = search rules in
+    let is : tree_of values.Null ≡ null = search (rules, value_lemmas) in
+    let before : Parts → Ended = λ ns. items_mean (names_in x) (setting_in x) null ns here in
+    told_anyhow c.args.is_asked (before (parts_view c.args.items.now)) here (Ok values.Null) (ap (λ ns. before (parts_view ns)) none ∙ ap (λ v. ends (value v) here) (sym is))
+
 pub negation-eval-requires : goal.negation-eval-requires
 negation-eval-requires t c =
     (omega (arith, c.decreases), (c.requires.ready, c.requires.fits))
