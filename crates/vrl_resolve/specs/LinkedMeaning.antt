@@ -85,7 +85,8 @@ abbrev mutual
       assigned (target_of names t)
       (combined op.Merge (ends (value (target_value (target_of names t) store)) store) (λ after. means names setting n after))
   means names setting (both t u tag n) store =
-      let given = means names setting n store in both_assigned (target_of names t) (target_of names u) tag given.outcome given.store
+      let given = means names setting n store in
+      both_assigned (target_of names t) (target_of names u) tag given.outcome given.store
   means names setting (call c bang ns) store = banged_if bang (on_value (all_mean names setting ns [] store) (λ vs after. acts setting (callee_in names c) no_body (items_in vs) after))
   means names setting (iterate f bang ns body) store =
       banged_if bang (on_value (all_mean names setting ns [] store) (λ vs after. acts setting (iteration (form_in f)) (λ us now. body_left (hidden_slots names (slots_in f)) now (items_mean names setting null body (bound_slots names (slots_in f) us now))) (items_in vs) after))

@@ -282,7 +282,8 @@ impl Linker<'_> {
 
     #[cycle(link)]
     fn binary(&mut self, op: Op, left: Box<Expr>, right: Box<Expr>) -> Result<Node, Memory>
-        ensures { IfOk result (λ node. LinksForm self.old self.new (binary op (expr_of left.value) (expr_of right.value)) (linked_of node)) }
+        ensures { IfOk result (λ node. LinksForm self.old self.new
+            (binary op (expr_of left.value) (expr_of right.value)) (linked_of node)) }
     {
         let left = self.boxed(left)?;
         let right = self.boxed(right)?;
@@ -291,7 +292,8 @@ impl Linker<'_> {
 
     #[cycle(link)]
     fn assign(&mut self, target: Target, part: Box<Expr>) -> Result<Node, Memory>
-        ensures { IfOk result (λ node. LinksForm self.old self.new (assign target (expr_of part.value)) (linked_of node)) }
+        ensures { IfOk result (λ node. LinksForm self.old self.new
+            (assign target (expr_of part.value)) (linked_of node)) }
     {
         let part = self.boxed(part)?;
         let target = self.target(target)?;
@@ -300,7 +302,8 @@ impl Linker<'_> {
 
     #[cycle(link)]
     fn merge(&mut self, target: Target, part: Box<Expr>) -> Result<Node, Memory>
-        ensures { IfOk result (λ node. LinksForm self.old self.new (merge target (expr_of part.value)) (linked_of node)) }
+        ensures { IfOk result (λ node. LinksForm self.old self.new
+            (merge target (expr_of part.value)) (linked_of node)) }
     {
         let part = self.boxed(part)?;
         let target = self.target(target)?;
@@ -314,7 +317,8 @@ impl Linker<'_> {
         err: Target,
         part: Box<Expr>,
     ) -> Result<Node, Memory>
-        ensures { IfOk result (λ node. LinksForm self.old self.new (both ok err (expr_of part.value)) (linked_of node)) }
+        ensures { IfOk result (λ node. LinksForm self.old self.new
+            (both ok err (expr_of part.value)) (linked_of node)) }
     {
         let tag = self.tag();
         let part = self.boxed(part)?;
@@ -338,7 +342,8 @@ impl Linker<'_> {
 
     #[cycle(link)]
     fn abort(&mut self, message: Option<Box<Expr>>) -> Result<Node, Memory>
-        ensures { IfOk result (λ node. LinksForm self.old self.new (abort_with (message_of (option_map (λ part. expr_of part.value) message))) (linked_of node)) }
+        ensures { IfOk result (λ node. LinksForm self.old self.new
+            (abort_with (message_of (option_map (λ part. expr_of part.value) message))) (linked_of node)) }
     {
         match message {
             Some(part) => {

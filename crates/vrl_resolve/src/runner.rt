@@ -71,7 +71,9 @@ fn left(
 ) -> Result<Ran, Memory>
     requires names { AreNames names.now store }
     requires handled { IsHandled end }
-    ensures ran { IfOk result (λ ran. (meant : meaning.Ended) → EndsAsked is_asked meant (store_in names.now store) end → IsRan is_asked meant ran) }
+    ensures ran { IfOk result (λ ran. (meant : meaning.Ended)
+        → EndsAsked is_asked meant (store_in names.now store) end
+        → IsRan is_asked meant ran) }
     ensures told { IfOk result AreTold }
     ensures want { IsErr result → MayWant is_asked end }
 {

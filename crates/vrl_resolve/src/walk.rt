@@ -43,8 +43,8 @@ pub(crate) struct Context<'a, 'r> {
     pub(crate) names: &'a Names,
 }
 
-/// Runs an expression: its value, or why it ends without one. Where the value isn't asked for another one may be given, and none is copied.
-/// What was written before stays.
+/// Runs an expression: its value, or why it ends without one. A value that isn't asked for may be another one, and isn't
+/// copied. What was written before stays.
 #[cycle(walk)]
 pub(crate) fn eval(
     store: &mut Store,
@@ -54,7 +54,8 @@ pub(crate) fn eval(
 ) -> Result<Value, Stop>
     requires ready { IsReadyStore context.now store.old }
     requires fits { FitsIn context.now (linked_of node.now) }
-    ensures ended { EndsAsked is_asked (meant context.now (linked_of node.now) store.old) (store_at context.now store.new) result }
+    ensures ended { EndsAsked is_asked (meant context.now (linked_of node.now) store.old)
+        (store_at context.now store.new) result }
     ensures stays { Stays store.old store.new }
 {
     match &node.form {
@@ -160,8 +161,9 @@ pub(crate) fn items(
 ) -> Result<Value, Stop>
     requires ready { IsReadyStore context.now store.old }
     requires fits { AllFitIn context.now (parts_view items.now) }
-    ensures ended { EndsAsked is_asked (items_mean (names_in context.now) (setting_in context.now) null
-        (parts_view items.now) (store_at context.now store.old)) (store_at context.now store.new) result }
+    ensures ended { EndsAsked is_asked
+        (items_mean (names_in context.now) (setting_in context.now) null (parts_view items.now) (store_at context.now store.old))
+        (store_at context.now store.new) result }
     ensures stays { Stays store.old store.new }
 {
     meanings_stay_well_formed();
@@ -184,7 +186,8 @@ fn block(
 ) -> Result<Value, Stop>
     requires ready { IsReadyStore context.now store.old }
     requires fits { AllFitIn context.now (parts_view body.now) }
-    ensures ended { EndsAsked is_asked (meant context.now (linked.block (parts_view body.now)) store.old) (store_at context.now store.new) result }
+    ensures ended { EndsAsked is_asked (meant context.now (linked.block (parts_view body.now)) store.old)
+        (store_at context.now store.new) result }
     ensures stays { Stays store.old store.new }
 {
     let count = store.count();
@@ -204,8 +207,9 @@ fn conditional(
     requires ready { IsReadyStore context.now store.old }
     requires arms { ArmsFitIn context.now (arms_view arms.now) }
     requires otherwise { ElseFitsIn context.now (else_view otherwise.now) }
-    ensures ended { EndsAsked is_asked (meant context.now (linked.conditional (arms_view arms.now) (else_view otherwise.now))
-        store.old) (store_at context.now store.new) result }
+    ensures ended { EndsAsked is_asked
+        (meant context.now (linked.conditional (arms_view arms.now) (else_view otherwise.now)) store.old)
+        (store_at context.now store.new) result }
     ensures stays { Stays store.old store.new }
 {
     meanings_stay_well_formed();

@@ -23,7 +23,8 @@ pub(super) fn assign(
     requires ready { IsReadyStore context.now store.old }
     requires target { IsTarget (length (names_in context.now)) target.now }
     requires fits { FitsIn context.now (linked_of part.now) }
-    ensures ended { EndsAsked is_asked (meant context.now (linked.assign target.now (linked_of part.now)) store.old) (store_at context.now store.new) result }
+    ensures ended { EndsAsked is_asked (meant context.now (linked.assign target.now (linked_of part.now)) store.old)
+        (store_at context.now store.new) result }
     ensures stays { Stays store.old store.new }
 {
     let value = eval(store, context, true, part)?;
@@ -44,7 +45,8 @@ pub(super) fn merge(
     requires ready { IsReadyStore context.now store.old }
     requires target { IsTarget (length (names_in context.now)) target.now }
     requires fits { FitsIn context.now (linked_of part.now) }
-    ensures ended { EndsAsked is_asked (meant context.now (linked.merge target.now (linked_of part.now)) store.old) (store_at context.now store.new) result }
+    ensures ended { EndsAsked is_asked (meant context.now (linked.merge target.now (linked_of part.now)) store.old)
+        (store_at context.now store.new) result }
     ensures stays { Stays store.old store.new }
 {
     let current = at_target(store, context, target)?;
@@ -85,7 +87,9 @@ pub(super) fn both(
     requires ok { IsTarget (length (names_in context.now)) ok.now }
     requires err { IsTarget (length (names_in context.now)) err.now }
     requires fits { FitsIn context.now (linked_of part.now) }
-    ensures ended { EndsAsked is_asked (meant context.now (linked.both ok.now err.now tag (linked_of part.now)) store.old) (store_at context.now store.new) result }
+    ensures ended { EndsAsked is_asked
+        (meant context.now (linked.both ok.now err.now tag (linked_of part.now)) store.old)
+        (store_at context.now store.new) result }
     ensures stays { Stays store.old store.new }
 {
     let (value, error) = outcome(store, context, tag, part)?;

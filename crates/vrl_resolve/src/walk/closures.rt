@@ -167,8 +167,10 @@ fn run(
     requires slots { AreKnownSlots (length (names_in context.now)) (bound_variables bindings) }
     requires values { AreWellFormed (length (setting_in context.now).sources) (bound_values bindings) }
     requires fits { AllFitIn context.now (parts_view body.now) }
-    ensures ended { EndsAsked is_asked (body_means (names_in context.now) (setting_in context.now) (bound_variables bindings)
-        (parts_view body.now) (bound_values bindings) (store_at context.now store.old)) (store_at context.now store.new) result }
+    ensures ended { EndsAsked is_asked
+        (body_means (names_in context.now) (setting_in context.now) (bound_variables bindings)
+            (parts_view body.now) (bound_values bindings) (store_at context.now store.old))
+        (store_at context.now store.new) result }
     ensures stays { Stays store.old store.new }
 {
     match bindings {
@@ -197,8 +199,10 @@ fn run_with(
     requires slot { IsKnownSlot (length (names_in context.now)) slot }
     requires value { IsWellFormed (length (setting_in context.now).sources) (tree_of value) }
     requires fits { AllFitIn context.now (parts_view body.now) }
-    ensures ended { EndsAsked is_asked (body_means (names_in context.now) (setting_in context.now) (slot ∷ [])
-        (parts_view body.now) (tree_of value ∷ []) (store_at context.now store.old)) (store_at context.now store.new) result }
+    ensures ended { EndsAsked is_asked
+        (body_means (names_in context.now) (setting_in context.now) (slot ∷ [])
+            (parts_view body.now) (tree_of value ∷ []) (store_at context.now store.old))
+        (store_at context.now store.new) result }
     ensures stays { Stays store.old store.new }
 {
     let count = store.count();
