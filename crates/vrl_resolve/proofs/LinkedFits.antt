@@ -209,7 +209,7 @@ function_is false false b gs o f places is = named_is o gs f places is
 
 -- the argument and the part at a place
 abbrev IsPartAt : Names → Args → Parts → ℕ → Type 0
-IsPartAt names gs ns place = (e : Expr) × (n : Linked) × (tags : List Tag) × (slice_get (values_of gs) place ≡ Some e) × (part_at place ns ≡ Some n) × IsLinked names tags true e n
+IsPartAt names gs ns place = (e : Expr) × (n : Linked) × (tags : List Tag) × (slice_get (values_of gs) place ≡ Some e) × (part_at place ns ≡ Some n) × IsLinked names tags e n
 
 part_there : {names : Names} {tags : List Tag} {gs : Args} {ns : Parts} → AreArgsLinked names tags gs ns → (place : ℕ) → place < length (keywords_of gs) → IsPartAt names gs ns place
 part_there no_argument place below = absurd (omega arith)
@@ -218,11 +218,11 @@ part_there (one_argument one rest) (suc place) below =
     let there = part_there rest place (omega arith) in
     (there.0, there.1, there.2, there.3, there.4, there.5)
 
-literal_part : {names : Names} {tags : List Tag} {e : Expr} {n : Linked} (accepts : Tree → Bool) → IsLinked names tags true e n → option_map_or accepts (literal_of e) false ≡ true → IsAllowedPart accepts (Some n)
+literal_part : {names : Names} {tags : List Tag} {e : Expr} {n : Linked} (accepts : Tree → Bool) → IsLinked names tags e n → option_map_or accepts (literal_of e) false ≡ true → IsAllowedPart accepts (Some n)
 literal_part accepts (stands (a_literal ordered)) allowed = allowed
 literal_part accepts (stands form) allowed = absurd (true≢false (sym allowed))
 
-allowed_part : {names : Names} {tags : List Tag} {e : Expr} {n : Linked} (wants : Bool) (accepts : Tree → Bool) → IsLinked names tags true e n → (if wants then option_map_or accepts (literal_of e) false else true) ≡ true → IsAllowedPartIf wants accepts (Some n)
+allowed_part : {names : Names} {tags : List Tag} {e : Expr} {n : Linked} (wants : Bool) (accepts : Tree → Bool) → IsLinked names tags e n → (if wants then option_map_or accepts (literal_of e) false else true) ≡ true → IsAllowedPartIf wants accepts (Some n)
 allowed_part false accepts one allowed = tt
 allowed_part true accepts one allowed = literal_part accepts one allowed
 

@@ -569,7 +569,7 @@ pub items-returns-in_default-clause-ended : goal.items-returns-in_default-clause
 items-returns-in_default-clause-ended t c =
     let x = c.args.context.now in
     let here = store_at x c.args.store.now in
-    let none : c.args.items.now ≡ [] = search rules in
+    let none = none_left c.args.items.now (length c.args.items.now) refl c.in_default.ensures.cases in
     let is : tree_of values.Null ≡ null = search (rules, value_lemmas) in
     let before : Parts → Ended = λ ns. items_mean (names_in x) (setting_in x) null ns here in
     told_anyhow c.args.is_asked (before (parts_view c.args.items.now)) here (Ok values.Null) (ap (λ ns. before (parts_view ns)) none ∙ ap (λ v. ends (value v) here) (sym is))

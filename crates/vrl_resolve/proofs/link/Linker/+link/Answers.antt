@@ -167,16 +167,10 @@ node-call-requires t c =
 
 -- ---- a part is no larger than what is left
 
-pub array-node-requires : goal.array-node-requires
-array-node-requires t c =
-    let fewer = c.loop-part.invariant.partway.fewer in
-    let size = ap (λ es. exprs_size (exprs_view es)) c.in-Some.ensures.steps.0 in
-    (omega (arith, c.decreases, fewer, size), tt)
-
 pub items-node-requires : goal.items-node-requires
 items-node-requires t c =
     let fewer = c.loop-item.invariant.partway.fewer in
-    let size = ap (λ es. exprs_size (exprs_view es)) c.in-Some.ensures.cases.0 in
+    let size = ap (λ es. exprs_size (exprs_view es)) c.in-Some.ensures.steps.0 in
     (omega (arith, c.decreases, fewer, size), tt)
 
 pub object-node-requires : goal.object-node-requires
