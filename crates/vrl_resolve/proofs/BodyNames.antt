@@ -3,19 +3,16 @@ use Rattle.std.proofs.Common.{◌≡◌, ℕ, Bool, true, false, cond, ◌||◌,
 use Rattle.std.specs.FinMap as finite
 use Rattle.std.specs.Prelude.{IfSome, IsTrue}
 use Rattle.std.specs.declared.result.Result.{Result}
-use Rattle.std.specs.declared.result.Result.TheVariants.{Ok, Err}
 use Rattle.vrl_value.specs.Tree.{Tree, null}
 use Rattle.vrl_value.specs.declared.value.Value.{Value}
 use Rattle.vrl_syntax.specs.Stores.{Store, Values, store_back, store_kept, value_back, value_of, values_back, with_value}
 use Rattle.vrl_syntax.specs.declared.root.Root.TheVariants.{Name}
 use Rattle.vrl_store.specs.Kept.{is_one_of}
 use Rattle.vrl_store.specs.Outcomes.{Ended, ends}
-use Rattle.vrl_store.specs.Results.{Ends}
 use Rattle.vrl_store.specs.StoreView.{count_of, hidden_tree, is_among, left_with, name_at, present_of, store_in, AreNames, IsFront, Names}
 use Rattle.vrl_store.specs.WellFormed.{IsWellFormed, IsWellFormedStore}
 use Rattle.vrl_store.specs.declared.hidden_value.HiddenValue.{HiddenValue}
 use Rattle.vrl_store.specs.declared.stop.Stop.{Stop}
-use Rattle.vrl_store.specs.declared.stop.Stop.TheVariants as stops
 use Rattle.vrl_store.specs.declared.store.Store.{Store as CodeStore}
 use Rattle.vrl_store.proofs.Left.{block_ended, retained, take_front}
 use Rattle.vrl_store.proofs.Variables.{inserted, named_so, one_map, tied}
@@ -24,9 +21,9 @@ use Rattle.vrl_resolve.specs.Iterating.{bound_slot, given_back, IsHiddenBy, MayB
 use Rattle.vrl_resolve.specs.LinkedMeaning.{body_means, bound_slots, hidden_slots, items_mean}
 use Rattle.vrl_resolve.specs.Linked.{Parts}
 use Rattle.vrl_resolve.specs.Meaning.{body_left}
-use Rattle.vrl_resolve.specs.Walking.{names_in, setting_in, store_at, IsReadyStore, Stays}
+use Rattle.vrl_resolve.specs.Walking.{names_in, setting_in, store_at, EndsAsked, IsReadyStore, Stays}
 use Rattle.vrl_resolve.specs.declared.walk.Context.{Context}
-use Rattle.vrl_resolve.proofs.Walks.{names_after, stays_then}
+use Rattle.vrl_resolve.proofs.Walks.{ends_then, names_after, stays_then}
 use Rattle.vrl_resolve.proofs.WellFormedEnds.{with_value_is}
 
 -- ---- maps
@@ -119,16 +116,6 @@ one_within x v hidden before after = λ i. record { event = after.event; variabl
 
 -- ---- how a body ends
 
--- what becomes of the store in which a part ended
-pub ends_then : (next : Store → Store) (m : Ended) (store : Store) (r : Result Value Stop) → Ends m store r → Ends (ends m.outcome (next m.store)) (next store) r
-ends_then next m store (Ok v) is = ap (λ e. ends e.outcome (next e.store)) is
-ends_then next m store (Err (stops.Error text)) is = ap (λ e. ends e.outcome (next e.store)) is
-ends_then next m store (Err (stops.Aborted message)) is = ap (λ e. ends e.outcome (next e.store)) is
-ends_then next m store (Err (stops.Returned v)) is = ap (λ e. ends e.outcome (next e.store)) is
-ends_then next m store (Err (stops.Banged text)) is = ap (λ e. ends e.outcome (next e.store)) is
-ends_then next m store (Err stops.Deep) is = ap (λ e. ends e.outcome (next e.store)) is
-ends_then next m store (Err stops.Memory) is = tt
-
 -- the store that is left where the values that were hidden are given back
 back_given : (x : List ℕ) (before kept : Store) (hidden : Option Tree) → hidden ≡ finite.get before.variables x
     → (names : Names) (number : ℕ) → name_at names number ≡ x → given_back names (Some number) hidden kept ≡ record kept { variables = value_back x (finite.get before.variables x) kept.variables }
@@ -208,18 +195,18 @@ left_store x slot hidden before middle after count ready stays counted was left 
     (was_hidden (names_in x) slot hidden before ready.names was) (store_at x middle) kept
 
 -- items behind one name
-pub one_name_ends : (x : Context) (slot : Option ℕ) (v : Tree) (ns : Parts) (hidden : Option HiddenValue) (before bound middle after : CodeStore) (count : ℕ) (r : Result Value Stop) → IsReadyStore x before
+pub one_name_ends : (x : Context) (slot : Option ℕ) (v : Tree) (ns : Parts) (hidden : Option HiddenValue) (before bound middle after : CodeStore) (count : ℕ) (asked : Bool) (r : Result Value Stop) → IsReadyStore x before
     → Stays before middle → count ≡ length (present_of before) → IsHiddenBy slot hidden before
     → store_at x bound ≡ bound_slot (names_in x) slot v (store_at x before)
-    → Ends (items_mean (names_in x) (setting_in x) null ns (store_at x bound)) (store_at x middle) r
+    → EndsAsked asked (items_mean (names_in x) (setting_in x) null ns (store_at x bound)) (store_at x middle) r
     → store_at x after ≡ given_back (names_in x) slot (option_map hidden_tree hidden) (left_with (names_in x) (take count (present_of middle)) (store_at x middle))
-    → Ends (body_means (names_in x) (setting_in x) (slot ∷ []) ns (v ∷ []) (store_at x before)) (store_at x after) r
-one_name_ends x slot v ns hidden before bound middle after count r ready stays counted was is ended left =
+    → EndsAsked asked (body_means (names_in x) (setting_in x) (slot ∷ []) ns (v ∷ []) (store_at x before)) (store_at x after) r
+one_name_ends x slot v ns hidden before bound middle after count asked r ready stays counted was is ended left =
     let names = names_in x in
     let left_so = left_store x slot hidden before middle after count ready stays counted was left in
-    let told = subst (λ s. Ends (items_mean names (setting_in x) null ns s) (store_at x middle) r) (is ∙ one_bound names slot v (store_at x before)) ended in
-    subst (λ s. Ends (body_means names (setting_in x) (slot ∷ []) ns (v ∷ []) (store_at x before)) s r) (sym left_so)
-    (ends_then (store_back (hidden_slots names (slot ∷ [])) (store_at x before)) (items_mean names (setting_in x) null ns (bound_slots names (slot ∷ []) (v ∷ []) (store_at x before))) (store_at x middle) r told) where
+    let told = subst (λ s. EndsAsked asked (items_mean names (setting_in x) null ns s) (store_at x middle) r) (is ∙ one_bound names slot v (store_at x before)) ended in
+    subst (λ s. EndsAsked asked (body_means names (setting_in x) (slot ∷ []) ns (v ∷ []) (store_at x before)) s r) (sym left_so)
+    (ends_then asked (store_back (hidden_slots names (slot ∷ [])) (store_at x before)) (items_mean names (setting_in x) null ns (bound_slots names (slot ∷ []) (v ∷ []) (store_at x before))) (store_at x middle) r told) where
       one_bound : (names : Names) (s : Option ℕ) (u : Tree) (store : Store) → bound_slot names s u store ≡ bound_slots names (s ∷ []) (u ∷ []) store
       one_bound names None u store = refl
       one_bound names (Some number) u store = refl
@@ -234,22 +221,22 @@ two_bound : (names : Names) (first second : Option ℕ) (v w : Tree) (store : St
 two_bound names None second v w store = refl
 two_bound names (Some number) second v w store = refl
 
-pub two_names_end : (x : Context) (first second : Option ℕ) (v w : Tree) (ns : Parts) (hidden : Option HiddenValue) (before bound middle after : CodeStore) (count : ℕ) (r : Result Value Stop) → IsReadyStore x before
+pub two_names_end : (x : Context) (first second : Option ℕ) (v w : Tree) (ns : Parts) (hidden : Option HiddenValue) (before bound middle after : CodeStore) (count : ℕ) (asked : Bool) (r : Result Value Stop) → IsReadyStore x before
     → Stays before middle → count ≡ length (present_of before) → IsHiddenBy first hidden before
     → store_at x bound ≡ bound_slot (names_in x) first v (store_at x before)
-    → Ends (body_means (names_in x) (setting_in x) (second ∷ []) ns (w ∷ []) (store_at x bound)) (store_at x middle) r
+    → EndsAsked asked (body_means (names_in x) (setting_in x) (second ∷ []) ns (w ∷ []) (store_at x bound)) (store_at x middle) r
     → store_at x after ≡ given_back (names_in x) first (option_map hidden_tree hidden) (left_with (names_in x) (take count (present_of middle)) (store_at x middle))
-    → Ends (body_means (names_in x) (setting_in x) (first ∷ second ∷ []) ns (v ∷ w ∷ []) (store_at x before)) (store_at x after) r
-two_names_end x first second v w ns hidden before bound middle after count r ready stays counted was is ended left =
+    → EndsAsked asked (body_means (names_in x) (setting_in x) (first ∷ second ∷ []) ns (v ∷ w ∷ []) (store_at x before)) (store_at x after) r
+two_names_end x first second v w ns hidden before bound middle after count asked r ready stays counted was is ended left =
     let names = names_in x in
     let start = store_at x before in
     let inner : Store → Ended = λ s. items_mean names (setting_in x) null ns (bound_slots names (second ∷ []) (w ∷ []) s) in
     let left_so = left_store x first hidden before middle after count ready stays counted was left in
-    let told = subst (λ s. Ends (body_means names (setting_in x) (second ∷ []) ns (w ∷ []) s) (store_at x middle) r) is ended in
+    let told = subst (λ s. EndsAsked asked (body_means names (setting_in x) (second ∷ []) ns (w ∷ []) s) (store_at x middle) r) is ended in
     let m = inner (bound_slot names first v start) in
-    let behind = ends_then (store_back (hidden_slots names (first ∷ [])) start) (body_left (hidden_slots names (second ∷ [])) (bound_slot names first v start) m) (store_at x middle) r told in
+    let behind = ends_then asked (store_back (hidden_slots names (first ∷ [])) start) (body_left (hidden_slots names (second ∷ [])) (bound_slot names first v start) m) (store_at x middle) r told in
     let both : ends m.outcome (store_back (hidden_slots names (first ∷ [])) start (store_back (hidden_slots names (second ∷ [])) (bound_slot names first v start) m.store)) ≡ body_means names (setting_in x) (first ∷ second ∷ []) ns (v ∷ w ∷ []) start =
     ap (ends m.outcome) (two_names names first second v start m.store)
     ∙ ap (λ s. body_left (hidden_slots names (first ∷ second ∷ [])) start (items_mean names (setting_in x) null ns s)) (two_bound names first second v w start) in
-    subst (λ s. Ends (body_means names (setting_in x) (first ∷ second ∷ []) ns (v ∷ w ∷ []) start) s r) (sym left_so)
-    (subst (λ e. Ends e (store_back (hidden_slots names (first ∷ [])) start (store_at x middle)) r) both behind)
+    subst (λ s. EndsAsked asked (body_means names (setting_in x) (first ∷ second ∷ []) ns (v ∷ w ∷ []) start) s r) (sym left_so)
+    (subst (λ e. EndsAsked asked e (store_back (hidden_slots names (first ∷ [])) start (store_at x middle)) r) both behind)

@@ -17,12 +17,12 @@ use Rattle.vrl_store.specs.StoreView.{Names}
 use Rattle.vrl_resolve.specs.Calls as called
 use Rattle.vrl_resolve.specs.Linked as linked
 use Rattle.vrl_resolve.specs.Linked.{Linked, Parts}
-use Rattle.vrl_resolve.specs.Linking.{an_iteration, names_in, AreArgsLinked, AreItemsLinked, AreSlotsOf, IsBeginning, IsBodyLinked, IsCalleeIn, IsLinkedForm, IsLoopBy, IsLoopIn, IsSlotOf, Links, LinksAny}
+use Rattle.vrl_resolve.specs.Linking.{an_iteration, names_in, AreArgsLinked, AreLinked, AreSlotsOf, IsBeginning, IsBodyLinked, IsCalleeIn, IsLinkedForm, IsLoopBy, IsLoopIn, IsSlotOf, Links, LinksForm}
 use Rattle.vrl_resolve.specs.declared.link.Linker.{Linker}
 use Rattle.vrl_resolve.specs.declared.node.Callee.TheVariants as callee
 use Rattle.vrl_resolve.specs.declared.node.Loop.{Loop}
 use Rattle.vrl_resolve.proofs.LinkedCalls.{call_seen, callee_seen}
-use Rattle.vrl_resolve.proofs.Links.{any_made, links_with}
+use Rattle.vrl_resolve.proofs.Links.{form_made, links_with}
 
 pub closure_seen : (k : CodeClosure) → closure_of k ≡ closure (out-Closure k).names (exprs_of (out-Closure k).body) (out-Closure k).span
 closure_seen k = search (rules, the_lemmas)
@@ -66,27 +66,27 @@ two_are names (u ∷ v ∷ w ∷ xs) x y a b as_many first second one other = ab
 
 -- ---- its items
 
-pub body_linked : {a b : Linker} (k : CodeClosure) (ns : Parts) → Links a b (in_exprs (exprs_of (out-Closure k).body)) (λ names tags. AreItemsLinked names tags true (exprs_of (out-Closure k).body) ns)
+pub body_linked : {a b : Linker} (k : CodeClosure) (ns : Parts) → Links a b (in_exprs (exprs_of (out-Closure k).body)) (λ names tags. AreLinked names tags (exprs_of (out-Closure k).body) ns)
     → Links a b (in_closure (closure_of k)) (λ names tags. IsBodyLinked names tags (closure_of k) ns)
 body_linked {a} {b} k ns links = subst (λ c. Links a b (in_closure c) (λ names tags. IsBodyLinked names tags c ns)) (sym (closure_seen k)) links
 
 -- ---- the call
 
-one_made : {names : Names} {tags : List Tag} (name : List ℕ) (span : Span) (bang asked : Bool) (gs : Args) (c : Closure) (f : Loop) (ns body : Parts) → IsLoopIn names (call name span bang gs c) (Some f)
-    → AreArgsLinked names tags gs ns → IsBodyLinked names (drop (in_args gs) tags) c body → IsLinkedForm names tags asked (call name span bang gs c) (linked.iterate f bang ns body)
-one_made name span bang asked gs no_closure f ns body is args items = absurd is
-one_made name span bang asked gs (closure xs es at) f ns body is args items = an_iteration is.0 is.1 args items
+one_made : {names : Names} {tags : List Tag} (name : List ℕ) (span : Span) (bang : Bool) (gs : Args) (c : Closure) (f : Loop) (ns body : Parts) → IsLoopIn names (call name span bang gs c) (Some f)
+    → AreArgsLinked names tags gs ns → IsBodyLinked names (drop (in_args gs) tags) c body → IsLinkedForm names tags (call name span bang gs c) (linked.iterate f bang ns body)
+one_made name span bang gs no_closure f ns body is args items = absurd is
+one_made name span bang gs (closure xs es at) f ns body is args items = an_iteration is.0 is.1 args items
 
 pub iteration_made : {a b : Linker} (c : CodeCall) (m : Linked) (f : Loop) (ns body : Parts) → m ≡ linked.iterate f (out-Call c).bang ns body
     → ((names : Names) → IsBeginning (names_in a) names → IsLoopIn names (call_of c) (Some f))
     → Links a b (in_args (args_of (out-Call c).args) + in_closure (closure_in (option_map closure_of (out-Call c).closure)))
     (λ names tags. AreArgsLinked names tags (args_of (out-Call c).args) ns × IsBodyLinked names (drop (in_args (args_of (out-Call c).args)) tags) (closure_in (option_map closure_of (out-Call c).closure)) body)
-    → LinksAny a b (call_of c) m
+    → LinksForm a b (call_of c) m
 iteration_made {a} {b} c m f ns body is runs links =
     let seen = call_seen c in
     let k = closure_in (option_map closure_of (out-Call c).closure) in
-    subst (λ form. LinksAny a b form m) (sym seen)
-    (any_made _ m _ is (λ names asked all. one_made (out-Call c).name (out-Call c).name_span (out-Call c).bang asked (args_of (out-Call c).args) k f ns body all.0 all.1.0 all.1.1)
+    subst (λ form. LinksForm a b form m) (sym seen)
+    (form_made _ m _ is (λ names all. one_made (out-Call c).name (out-Call c).name_span (out-Call c).bang (args_of (out-Call c).args) k f ns body all.0 all.1.0 all.1.1)
     (links_with (λ names begins. subst (λ form. IsLoopIn names form (Some f)) seen (runs names begins)) links))
 
 -- what runs the closure, as the call in memory is seen

@@ -1,5 +1,4 @@
 pub mod Arguments
-pub mod Asked
 pub mod Begins
 pub mod BodyNames
 pub mod BoundPlaces
@@ -11,6 +10,7 @@ pub mod GivenArguments
 pub mod Gives
 pub mod IterationKept
 pub mod LawfulCalls
+pub mod Left
 pub mod LinkedCalls
 pub mod LinkedFits
 pub mod LinkedMeans

@@ -18,10 +18,10 @@ use Rattle.vrl_store.specs.StoreView.{Names}
 use Rattle.vrl_resolve.specs.Calls as called
 use Rattle.vrl_resolve.specs.Linked as linked
 use Rattle.vrl_resolve.specs.Linked.{Linked, Parts}
-use Rattle.vrl_resolve.specs.Linking.{a_call, path_argument, path_called, AreArgsLinked, IsCalleeIn, IsCalleeOf, IsPathCallee, Links, LinksAny}
+use Rattle.vrl_resolve.specs.Linking.{a_call, path_argument, path_called, AreArgsLinked, IsCalleeIn, IsCalleeOf, IsPathCallee, Links, LinksForm}
 use Rattle.vrl_resolve.specs.declared.link.Linker.{Linker}
 use Rattle.vrl_resolve.specs.declared.node.Callee.{Callee}
-use Rattle.vrl_resolve.proofs.Links.{any_made}
+use Rattle.vrl_resolve.proofs.Links.{form_made}
 
 pub call_seen : (c : CodeCall) → call_of c ≡ call (out-Call c).name (out-Call c).name_span (out-Call c).bang (args_of (out-Call c).args) (closure_in (option_map closure_of (out-Call c).closure))
 call_seen c = search (rules, the_lemmas)
@@ -93,8 +93,8 @@ existence_called names c d none other named is =
 
 pub call_made : {a b : Linker} (c : CodeCall) (m : Linked) (d : Callee) (ns : Parts) → m ≡ linked.call d (out-Call c).bang ns
     → Links a b (in_args (args_of (out-Call c).args) + in_closure (closure_in (option_map closure_of (out-Call c).closure))) (λ names tags. IsCalleeIn names (call_of c) d × (AreArgsLinked names tags (args_of (out-Call c).args) ns × ⊤))
-    → LinksAny a b (call_of c) m
+    → LinksForm a b (call_of c) m
 call_made {a} {b} c m d ns is one =
     let seen = call_seen c in
-    subst (λ f. LinksAny a b f m) (sym seen)
-    (any_made _ m _ is (λ names asked all. a_call (subst (λ f. IsCalleeIn names f d) seen all.0) all.1.0) one)
+    subst (λ f. LinksForm a b f m) (sym seen)
+    (form_made _ m _ is (λ names all. a_call (subst (λ f. IsCalleeIn names f d) seen all.0) all.1.0) one)

@@ -37,7 +37,7 @@ use Rattle.vrl_resolve.specs.Fits.{part_at, AllFit, AreGiven, AreKnownSlots, Arm
 use Rattle.vrl_resolve.specs.Linked as linked
 use Rattle.vrl_resolve.specs.Linked.{Linked, Parts}
 use Rattle.vrl_resolve.specs.LinkedMeaning.{slots_in}
-use Rattle.vrl_resolve.specs.Linking.{AreArgsLinked, AreArmsLinked, AreItemsLinked, AreLinked, ArePairsLinked, AreSlotsOf, IsCalleeOf, IsElseLinked, IsLinked, IsLinkedForm, IsTargetOf, stands, a_literal, an_array, an_object, a_read, a_query, a_group, a_block, a_conditional, a_negation, a_binary, an_assignment, a_merge, an_error_assignment, a_call, an_iteration, a_return, a_bare_abort, an_abort, none_linked, one_linked, no_item, one_item, no_pair, one_pair, no_arm, one_arm, no_last, a_last, no_argument, one_argument}
+use Rattle.vrl_resolve.specs.Linking.{AreArgsLinked, AreArmsLinked, AreLinked, ArePairsLinked, AreSlotsOf, IsCalleeOf, IsElseLinked, IsLinked, IsLinkedForm, IsTargetOf, stands, a_literal, an_array, an_object, a_read, a_query, a_group, a_block, a_conditional, a_negation, a_binary, an_assignment, a_merge, an_error_assignment, a_call, an_iteration, a_return, a_bare_abort, an_abort, none_linked, one_linked, no_pair, one_pair, no_arm, one_arm, no_last, a_last, no_argument, one_argument}
 use Rattle.vrl_resolve.specs.declared.node.Callee.{Callee}
 use Rattle.vrl_resolve.specs.declared.node.Callee.TheVariants as callee
 use Rattle.vrl_resolve.proofs.BoundPlaces.{places_are, ArePlaced, IsPlaced}
@@ -209,7 +209,7 @@ function_is false false b gs o f places is = named_is o gs f places is
 
 -- the argument and the part at a place
 abbrev IsPartAt : Names → Args → Parts → ℕ → Type 0
-IsPartAt names gs ns place = (e : Expr) × (n : Linked) × (tags : List Tag) × (slice_get (values_of gs) place ≡ Some e) × (part_at place ns ≡ Some n) × IsLinked names tags true e n
+IsPartAt names gs ns place = (e : Expr) × (n : Linked) × (tags : List Tag) × (slice_get (values_of gs) place ≡ Some e) × (part_at place ns ≡ Some n) × IsLinked names tags e n
 
 part_there : {names : Names} {tags : List Tag} {gs : Args} {ns : Parts} → AreArgsLinked names tags gs ns → (place : ℕ) → place < length (keywords_of gs) → IsPartAt names gs ns place
 part_there no_argument place below = absurd (omega arith)
@@ -218,11 +218,11 @@ part_there (one_argument one rest) (suc place) below =
     let there = part_there rest place (omega arith) in
     (there.0, there.1, there.2, there.3, there.4, there.5)
 
-literal_part : {names : Names} {tags : List Tag} {e : Expr} {n : Linked} (accepts : Tree → Bool) → IsLinked names tags true e n → option_map_or accepts (literal_of e) false ≡ true → IsAllowedPart accepts (Some n)
+literal_part : {names : Names} {tags : List Tag} {e : Expr} {n : Linked} (accepts : Tree → Bool) → IsLinked names tags e n → option_map_or accepts (literal_of e) false ≡ true → IsAllowedPart accepts (Some n)
 literal_part accepts (stands (a_literal ordered)) allowed = allowed
 literal_part accepts (stands form) allowed = absurd (true≢false (sym allowed))
 
-allowed_part : {names : Names} {tags : List Tag} {e : Expr} {n : Linked} (wants : Bool) (accepts : Tree → Bool) → IsLinked names tags true e n → (if wants then option_map_or accepts (literal_of e) false else true) ≡ true → IsAllowedPartIf wants accepts (Some n)
+allowed_part : {names : Names} {tags : List Tag} {e : Expr} {n : Linked} (wants : Bool) (accepts : Tree → Bool) → IsLinked names tags e n → (if wants then option_map_or accepts (literal_of e) false else true) ≡ true → IsAllowedPartIf wants accepts (Some n)
 allowed_part false accepts one allowed = tt
 allowed_part true accepts one allowed = literal_part accepts one allowed
 
@@ -268,17 +268,17 @@ slots_fit names (x ∷ xs) (Some number ∷ slots) are = (are.0.1.known, slots_f
 -- ---- forms
 
 mutual
-  pub expr_fits : {names : Names} {tags : List Tag} {asked : Bool} {e : Expr} {n : Linked} (sources : ℕ) → IsLinked names tags asked e n → expr_faults e ≡ [] → expr_regexes_below sources e ≡ true → Fits (length names) sources n
+  pub expr_fits : {names : Names} {tags : List Tag} {e : Expr} {n : Linked} (sources : ℕ) → IsLinked names tags e n → expr_faults e ≡ [] → expr_regexes_below sources e ≡ true → Fits (length names) sources n
   expr_fits sources (stands form) none below = form_fits sources form none below
 
-  form_fits : {names : Names} {tags : List Tag} {asked : Bool} {f : Form} {n : Linked} (sources : ℕ) → IsLinkedForm names tags asked f n → form_faults f ≡ [] → form_regexes_below sources f ≡ true → Fits (length names) sources n
+  form_fits : {names : Names} {tags : List Tag} {f : Form} {n : Linked} (sources : ℕ) → IsLinkedForm names tags f n → form_faults f ≡ [] → form_regexes_below sources f ≡ true → Fits (length names) sources n
   form_fits sources (a_literal ordered) none below = record { ordered = ordered; below = below }
   form_fits sources (an_array all) none below = parts_fit sources all none below
   form_fits sources (an_object all) none below = pairs_fit sources all none below
   form_fits sources (a_read is) none below = is.begins.known
   form_fits sources (a_query part) none below = expr_fits sources part none below
   form_fits sources (a_group part) none below = expr_fits sources part none below
-  form_fits sources (a_block items) none below = items_fit sources items none below
+  form_fits sources (a_block items) none below = parts_fit sources items none below
   form_fits sources (a_conditional {gs = gs} {es = es} arms last) none below = (
     arms_fit sources arms (no_front (arms_faults gs) _ none) (left_holds (arms_regexes_below sources gs) _ below),
     else_fits sources last (no_back (arms_faults gs) _ none) (right_holds (arms_regexes_below sources gs) _ below),
@@ -305,25 +305,18 @@ mutual
         slots_fit names xs (slots_in f) slots,
         (
           args_fit sources (is_del name) args written (left_holds (args_regexes_below sources gs) _ below),
-          items_fit sources items (no_back (args_faults (is_del name) gs) _ none) (right_holds (args_regexes_below sources gs) _ below),
+          parts_fit sources items (no_back (args_faults (is_del name) gs) _ none) (right_holds (args_regexes_below sources gs) _ below),
         ),
       )
   form_fits sources (a_return part) none below = expr_fits sources part none below
   form_fits sources a_bare_abort none below = tt
   form_fits sources (an_abort part) none below = expr_fits sources part none below
 
-  parts_fit : {names : Names} {tags : List Tag} {es : Exprs} {ns : Parts} (sources : ℕ) → AreLinked names tags es ns → exprs_faults es ≡ [] → exprs_regexes_below sources es ≡ true → AllFit (length names) sources ns
+  pub parts_fit : {names : Names} {tags : List Tag} {es : Exprs} {ns : Parts} (sources : ℕ) → AreLinked names tags es ns → exprs_faults es ≡ [] → exprs_regexes_below sources es ≡ true → AllFit (length names) sources ns
   parts_fit sources none_linked none below = tt
   parts_fit sources (one_linked {e = e} one rest) none below = (
     expr_fits sources one (no_front (expr_faults e) _ none) (left_holds (expr_regexes_below sources e) _ below),
     parts_fit sources rest (no_back (expr_faults e) _ none) (right_holds (expr_regexes_below sources e) _ below),
-  )
-
-  pub items_fit : {names : Names} {tags : List Tag} {asked : Bool} {es : Exprs} {ns : Parts} (sources : ℕ) → AreItemsLinked names tags asked es ns → exprs_faults es ≡ [] → exprs_regexes_below sources es ≡ true → AllFit (length names) sources ns
-  items_fit sources no_item none below = tt
-  items_fit sources (one_item {e = e} one rest) none below = (
-    expr_fits sources one (no_front (expr_faults e) _ none) (left_holds (expr_regexes_below sources e) _ below),
-    items_fit sources rest (no_back (expr_faults e) _ none) (right_holds (expr_regexes_below sources e) _ below),
   )
 
   pairs_fit : {names : Names} {tags : List Tag} {ps : Pairs} {qs : linked.Pairs} (sources : ℕ) → ArePairsLinked names tags ps qs → pairs_faults ps ≡ [] → pairs_regexes_below sources ps ≡ true → PairsFit (length names) sources qs
@@ -333,21 +326,21 @@ mutual
     pairs_fit sources rest (no_back (expr_faults e) _ none) (right_holds (expr_regexes_below sources e) _ below),
   )
 
-  arms_fit : {names : Names} {tags : List Tag} {asked : Bool} {gs : Arms} {as_ : linked.Arms} (sources : ℕ) → AreArmsLinked names tags asked gs as_ → arms_faults gs ≡ [] → arms_regexes_below sources gs ≡ true → ArmsFit (length names) sources as_
+  arms_fit : {names : Names} {tags : List Tag} {gs : Arms} {as_ : linked.Arms} (sources : ℕ) → AreArmsLinked names tags gs as_ → arms_faults gs ≡ [] → arms_regexes_below sources gs ≡ true → ArmsFit (length names) sources as_
   arms_fit sources no_arm none below = tt
   arms_fit sources (one_arm {predicate = p} {es = es} predicate items rest) none below =
       let others = no_back (expr_faults p) _ none in
       let others_below = right_holds (expr_regexes_below sources p) _ below in (
         expr_fits sources predicate (no_front (expr_faults p) _ none) (left_holds (expr_regexes_below sources p) _ below),
         (
-          items_fit sources items (no_front (exprs_faults es) _ others) (left_holds (exprs_regexes_below sources es) _ others_below),
+          parts_fit sources items (no_front (exprs_faults es) _ others) (left_holds (exprs_regexes_below sources es) _ others_below),
           arms_fit sources rest (no_back (exprs_faults es) _ others) (right_holds (exprs_regexes_below sources es) _ others_below),
         ),
       )
 
-  else_fits : {names : Names} {tags : List Tag} {asked : Bool} {es : Else} {otherwise : linked.Else} (sources : ℕ) → IsElseLinked names tags asked es otherwise → else_faults es ≡ [] → else_regexes_below sources es ≡ true → ElseFits (length names) sources otherwise
+  else_fits : {names : Names} {tags : List Tag} {es : Else} {otherwise : linked.Else} (sources : ℕ) → IsElseLinked names tags es otherwise → else_faults es ≡ [] → else_regexes_below sources es ≡ true → ElseFits (length names) sources otherwise
   else_fits sources no_last none below = tt
-  else_fits sources (a_last items) none below = items_fit sources items none below
+  else_fits sources (a_last items) none below = parts_fit sources items none below
 
   args_fit : {names : Names} {tags : List Tag} {gs : Args} {ns : Parts} (sources : ℕ) (deleted : Bool) → AreArgsLinked names tags gs ns → args_faults deleted gs ≡ [] → args_regexes_below sources gs ≡ true → AllFit (length names) sources ns
   args_fit sources deleted no_argument none below = tt

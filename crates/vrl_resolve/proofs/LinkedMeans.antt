@@ -1,29 +1,28 @@
 -- What is linked means what the part of the script means that it was made of.
-use Rattle.std.proofs.Common.{◌≡◌, ℕ, Bool, true, false, ◌&&◌, List, [], ◌∷◌, ◌++◌, Option, Some, None, refl, sym, ap, ap₂, ◌∙◌, if◌then◌else◌}
+use Rattle.std.proofs.Common.{◌≡◌, ℕ, List, [], ◌∷◌, ◌++◌, Option, Some, None, refl, sym, ap, ap₂, ◌∙◌, if◌then◌else◌}
 use Rattle.vrl_value.specs.Tree.{Tree, null, Items, Members, no_members, put}
 use Rattle.vrl_value.specs.declared.value.Tag.{Tag}
 use Rattle.vrl_syntax.specs.ErrorAssignments.{behind, behind_args, first_tag}
 use Rattle.vrl_syntax.specs.Stores.{Store, bound_to, hidden_by, with_value}
-use Rattle.vrl_syntax.specs.Tree.{Expr, Form, Exprs, no_exprs, exprs, Pairs, Arms, Else, Args, closure}
+use Rattle.vrl_syntax.specs.Tree.{Expr, Form, Exprs, Pairs, Arms, Else, Args, closure}
 use Rattle.vrl_syntax.specs.declared.root.Op.TheVariants as op
 use Rattle.vrl_syntax.specs.declared.root.Root.TheVariants.{Name}
 use Rattle.vrl_syntax.specs.declared.root.Target.{Target}
 use Rattle.vrl_syntax.specs.declared.root.Target.TheVariants as target
 use Rattle.vrl_builtin.specs.Rows.{SettingTree}
 use Rattle.vrl_store.specs.Operators.{is_true, negated}
-use Rattle.vrl_store.specs.Outcomes.{Outcome, value, error, aborted, returned, banged, deep, Ended, banged_if, ends, on_value}
+use Rattle.vrl_store.specs.Outcomes.{Outcome, value, error, aborted, returned, banged, deep, Ended, banged_if, block_left, ends, on_value}
 use Rattle.vrl_store.specs.Places.{part_of, read_in, target_value, writes, writes_to}
 use Rattle.vrl_store.specs.StoreView.{name_at, Names}
 use Rattle.vrl_store.specs.declared.place.Place.{Place}
 use Rattle.vrl_resolve.specs.Calls.{Body, acts, items_in}
 use Rattle.vrl_resolve.specs.Linked as linked
 use Rattle.vrl_resolve.specs.Linked.{Linked, Parts}
-use Rattle.vrl_resolve.specs.LinkedMeaning.{all_mean, arms_mean, body_means, bound_slots, callee_in, else_means, hidden_slots, if_asked, items_mean, means, no_body, pairs_mean, slots_in, target_of}
-use Rattle.vrl_resolve.specs.Linking.{AreArgsLinked, AreArmsLinked, AreItemsLinked, AreLinked, ArePairsLinked, AreSlotsOf, IsElseLinked, IsLinked, IsLinkedForm, IsTargetOf, stands, a_literal, an_array, an_object, a_read, a_query, a_group, a_block, a_conditional, a_negation, a_binary, an_assignment, a_merge, an_error_assignment, a_call, an_iteration, a_return, a_bare_abort, an_abort, none_linked, one_linked, no_item, one_item, no_pair, one_pair, no_arm, one_arm, no_last, a_last, no_argument, one_argument}
+use Rattle.vrl_resolve.specs.LinkedMeaning.{all_mean, arms_mean, body_means, bound_slots, callee_in, else_means, hidden_slots, items_mean, means, no_body, pairs_mean, slots_in, target_of}
+use Rattle.vrl_resolve.specs.Linking.{AreArgsLinked, AreArmsLinked, AreLinked, ArePairsLinked, AreSlotsOf, IsElseLinked, IsLinked, IsLinkedForm, IsTargetOf, stands, a_literal, an_array, an_object, a_read, a_query, a_group, a_block, a_conditional, a_negation, a_binary, an_assignment, a_merge, an_error_assignment, a_call, an_iteration, a_return, a_bare_abort, an_abort, none_linked, one_linked, no_pair, one_pair, no_arm, one_arm, no_last, a_last, no_argument, one_argument}
 use Rattle.vrl_resolve.specs.Meaning.{aborted_with, assigned, body_left, both_assigned, combined, eval, eval_all, eval_args, eval_arms, eval_body, eval_else, eval_form, eval_items, eval_pairs, written_both}
 use Rattle.vrl_resolve.specs.declared.node.Callee.{Callee}
 use Rattle.vrl_resolve.specs.declared.node.Callee.TheVariants as callee
-use Rattle.vrl_resolve.proofs.Asked.{asked_behind, asked_twice, block_same, same_value, unasked_before}
 
 -- ---- targets
 
@@ -54,37 +53,6 @@ both_same names t u ok err tag is to (aborted m) store = refl
 both_same names t u ok err tag is to (returned v) store = refl
 both_same names t u ok err tag is to (banged text) store = refl
 both_same names t u ok err tag is to deep store = refl
-
--- ---- items
-
--- where an item follows, the value before it plays no part
-last_unused : {names : Names} {tags : List Tag} {asked : Bool} {e : Expr} {es : Exprs} {ns : Parts} (setting : SettingTree) → AreItemsLinked names tags asked (exprs e es) ns → (v w : Tree) (store : Store) → items_mean names setting v ns store ≡ items_mean names setting w ns store
-last_unused setting (one_item one rest) v w store = refl
-
-abbrev IsMeant : Bool → Ended → Ended → Type 0
-IsMeant asked m e = if_asked asked m ≡ if_asked asked e
-
-last_meant : (asked : Bool) (m e : Ended) → IsMeant (asked && true) m e → IsMeant asked (on_value m (λ v after. ends (value v) after)) (on_value e (λ v after. ends (value v) after))
-last_meant true m e same = same_value m ∙ same ∙ sym (same_value e)
-last_meant false m e same = ap (if_asked false) (same_value m) ∙ same ∙ sym (ap (if_asked false) (same_value e))
-
-unasked : (asked : Bool) (m e : Ended) → IsMeant (asked && false) m e → IsMeant false m e
-unasked true m e same = same
-unasked false m e same = same
-
-item_meant : (asked : Bool) (m e : Ended) (next follows : Store → Ended) → IsMeant (asked && false) m e → ((after : Store) → IsMeant asked (next after) (follows after)) → IsMeant asked (on_value m (λ v after. next after)) (on_value e (λ v after. follows after))
-item_meant asked m e next follows same rest =
-    asked_behind asked m (λ v after. next after)
-    ∙ unasked_before m (λ after. if_asked asked (next after))
-    ∙ (λ i. on_value (unasked asked m e same i) (λ v after. rest after i))
-    ∙ sym (unasked_before e (λ after. if_asked asked (follows after)))
-    ∙ sym (asked_behind asked e (λ v after. follows after))
-
--- ---- branches
-
-branch_meant : (asked b : Bool) (m n e f : Ended) → IsMeant asked m e → IsMeant asked n f → IsMeant asked (if b then m else n) (if b then e else f)
-branch_meant asked true m n e f first second = first
-branch_meant asked false m n e f first second = second
 
 -- ---- calls
 
@@ -127,41 +95,46 @@ bound_same names (x ∷ xs) (Some number ∷ slots) are (v ∷ vs) store =
 -- ---- forms
 
 mutual
-  pub expr_means : {names : Names} {tags : List Tag} {asked : Bool} {e : Expr} {n : Linked} (setting : SettingTree) → IsLinked names tags asked e n → (store : Store) → if_asked asked (means names setting n store) ≡ if_asked asked (eval setting tags e store)
+  pub expr_means : {names : Names} {tags : List Tag} {e : Expr} {n : Linked} (setting : SettingTree) → IsLinked names tags e n
+      → (store : Store) → means names setting n store ≡ eval setting tags e store
   expr_means setting (stands form) store = form_means setting form store
 
-  form_means : {names : Names} {tags : List Tag} {asked : Bool} {f : Form} {n : Linked} (setting : SettingTree) → IsLinkedForm names tags asked f n → (store : Store) → if_asked asked (means names setting n store) ≡ if_asked asked (eval_form setting tags f store)
+  form_means : {names : Names} {tags : List Tag} {f : Form} {n : Linked} (setting : SettingTree) → IsLinkedForm names tags f n
+      → (store : Store) → means names setting n store ≡ eval_form setting tags f store
   form_means setting (a_literal ordered) store = refl
-  form_means setting (an_array {asked = asked} all) store = ap (if_asked asked) (parts_mean setting all [] store)
-  form_means setting (an_object {asked = asked} all) store = ap (if_asked asked) (object_means setting all no_members store)
-  form_means setting (a_read {asked = asked} is) store = ap (if_asked asked) (ap₂ (λ r steps. ends (value (read_in r steps store)) store) is.begins.same is.steps)
-  form_means setting (a_query {asked = asked} {path = path} part) store = ap (if_asked asked) (ap (λ m. on_value m (λ v after. ends (value (part_of v path)) after)) (expr_means setting part store))
+  form_means setting (an_array all) store = parts_mean setting all [] store
+  form_means setting (an_object all) store = object_means setting all no_members store
+  form_means setting (a_read is) store = ap₂ (λ r steps. ends (value (read_in r steps store)) store) is.begins.same is.steps
+  form_means setting (a_query {path = path} part) store =
+      ap (λ m. on_value m (λ v after. ends (value (part_of v path)) after)) (expr_means setting part store)
   form_means setting (a_group part) store = expr_means setting part store
-  form_means setting (a_block {asked = asked} items) store = block_same asked store _ _ (items_are_meant setting items null store)
-  form_means setting (a_conditional {asked = asked} arms last) store = arms_are_meant setting arms _ _ (λ after. else_is_meant setting last after) store
-  form_means setting (a_negation {asked = asked} part) store = ap (if_asked asked) (ap (λ m. on_value m (λ v after. ends (negated v) after)) (expr_means setting part store))
-  form_means setting (a_binary {asked = asked} {o = o} left right) store = ap (if_asked asked) (λ i. combined o (expr_means setting left store i) (λ after. expr_means setting right after i))
-  form_means {names = names} setting (an_assignment {asked = asked} {t = t} {place = place} is part) store =
-      asked_twice asked _ ∙ ap (if_asked asked) (assigned_same names t place is _ _ (expr_means setting part store))
-  form_means {names = names} setting (a_merge {asked = asked} {t = t} {place = place} is part) store =
-      asked_twice asked _
-      ∙ ap (if_asked asked) (assigned_same names t place is _ _ (λ i. combined op.Merge (ends (value (value_same names t place is store i)) store) (λ after. expr_means setting part after i)))
-  form_means {names = names} setting (an_error_assignment {tags = tags} {asked = asked} {t = t} {u = u} {ok = ok} {err = err} is to part) store =
-      asked_twice asked _
-      ∙ ap (if_asked asked) (both_same names t u ok err (first_tag tags) is to _ _ ∙ ap (λ m. both_assigned t u (first_tag tags) m.outcome m.store) (expr_means setting part store))
-  form_means {names = names} setting (a_call {tags = tags} {asked = asked} {name = name} {bang = bang} {gs = gs} {c = c} {d = d} {ns = ns} is args) store =
+  form_means setting (a_block items) store = ap (block_left store) (items_are_meant setting items null store)
+  form_means setting (a_conditional arms last) store =
+      arms_are_meant setting arms _ _ (λ after. else_is_meant setting last after) store
+  form_means setting (a_negation part) store = ap (λ m. on_value m (λ v after. ends (negated v) after)) (expr_means setting part store)
+  form_means setting (a_binary {o = o} left right) store =
+      λ i. combined o (expr_means setting left store i) (λ after. expr_means setting right after i)
+  form_means {names = names} setting (an_assignment {t = t} {place = place} is part) store =
+      assigned_same names t place is _ _ (expr_means setting part store)
+  form_means {names = names} setting (a_merge {t = t} {place = place} is part) store =
+      assigned_same names t place is _ _
+      (λ i. combined op.Merge (ends (value (value_same names t place is store i)) store) (λ after. expr_means setting part after i))
+  form_means {names = names} setting (an_error_assignment {tags = tags} {t = t} {u = u} {ok = ok} {err = err} is to part) store =
+      both_same names t u ok err (first_tag tags) is to _ _
+      ∙ ap (λ m. both_assigned t u (first_tag tags) m.outcome m.store) (expr_means setting part store)
+  form_means {names = names} setting (a_call {tags = tags} {name = name} {bang = bang} {gs = gs} {c = c} {d = d} {ns = ns} is args) store =
       let body : Body = eval_body setting (behind_args gs tags) c in
-      ap (if_asked asked) (ap (banged_if bang) (body_unused names setting d no_body body (all_mean names setting ns [] store)
-      ∙ (λ i. on_value (args_mean setting args [] store i) (λ vs after. acts setting (is.same i) body (items_in vs) after))))
-  form_means {names = names} setting (an_iteration {tags = tags} {asked = asked} {name = name} {bang = bang} {gs = gs} {xs = xs} {es = es} {at = at} {f = f} {ns = ns} {body = body} is slots args items) store =
+      ap (banged_if bang) (body_unused names setting d no_body body (all_mean names setting ns [] store)
+      ∙ (λ i. on_value (args_mean setting args [] store i) (λ vs after. acts setting (is.same i) body (items_in vs) after)))
+  form_means {names = names} setting (an_iteration {tags = tags} {name = name} {bang = bang} {gs = gs} {xs = xs} {es = es} {at = at} {f = f} {ns = ns} {body = body} is slots args items) store =
       let same : (vs : List Tree) (after : Store) → body_means names setting (slots_in f) body vs after ≡ eval_body setting (behind_args gs tags) (closure xs es at) vs after =
       λ vs after. ap₂ (λ hidden ended. body_left hidden after ended) (hidden_same names xs (slots_in f) slots)
       (ap (items_mean names setting null body) (bound_same names xs (slots_in f) slots vs after) ∙ items_are_meant setting items null (bound_to xs vs after)) in
       let called = sym is in
-      ap (if_asked asked) (ap (banged_if bang) (λ i. on_value (args_mean setting args [] store i) (λ vs after. acts setting (called i) (λ us now. same us now i) (items_in vs) after)))
-  form_means setting (a_return {asked = asked} part) store = ap (if_asked asked) (ap (λ m. on_value m (λ v after. ends (returned v) after)) (expr_means setting part store))
+      ap (banged_if bang) (λ i. on_value (args_mean setting args [] store i) (λ vs after. acts setting (called i) (λ us now. same us now i) (items_in vs) after))
+  form_means setting (a_return part) store = ap (λ m. on_value m (λ v after. ends (returned v) after)) (expr_means setting part store)
   form_means setting a_bare_abort store = refl
-  form_means setting (an_abort {asked = asked} part) store = ap (if_asked asked) (ap (λ m. on_value m (λ v after. ends (aborted_with v) after)) (expr_means setting part store))
+  form_means setting (an_abort part) store = ap (λ m. on_value m (λ v after. ends (aborted_with v) after)) (expr_means setting part store)
 
   parts_mean : {names : Names} {tags : List Tag} {es : Exprs} {ns : Parts} (setting : SettingTree) → AreLinked names tags es ns → (vs : List Tree) (store : Store) → all_mean names setting ns vs store ≡ eval_all setting tags es vs store
   parts_mean setting none_linked vs store = refl
@@ -175,20 +148,21 @@ mutual
   args_mean setting no_argument vs store = refl
   args_mean setting (one_argument one rest) vs store = λ i. on_value (expr_means setting one store i) (λ v after. args_mean setting rest (vs ++ (v ∷ [])) after i)
 
-  pub items_are_meant : {names : Names} {tags : List Tag} {asked : Bool} {es : Exprs} {ns : Parts} (setting : SettingTree) → AreItemsLinked names tags asked es ns → (last : Tree) (store : Store) → if_asked asked (items_mean names setting last ns store) ≡ if_asked asked (eval_items setting tags last es store)
-  items_are_meant setting no_item last store = refl
-  items_are_meant setting (one_item {asked = asked} {es = no_exprs} one no_item) last store = last_meant asked _ _ (expr_means setting one store)
-  items_are_meant {names = names} {tags = tags} setting (one_item {asked = asked} {e = e} {es = exprs f fs} {n = n} {ns = ns} one rest) last store =
-      ap (if_asked asked) (λ i. on_value (means names setting n store) (λ v after. last_unused setting rest v null after i))
-      ∙ item_meant asked (means names setting n store) (eval setting tags e store) (λ after. items_mean names setting null ns after) (λ after. eval_items setting (behind e tags) null (exprs f fs) after) (expr_means setting one store) (λ after. items_are_meant setting rest null after)
+  pub items_are_meant : {names : Names} {tags : List Tag} {es : Exprs} {ns : Parts} (setting : SettingTree) → AreLinked names tags es ns
+      → (last : Tree) (store : Store) → items_mean names setting last ns store ≡ eval_items setting tags last es store
+  items_are_meant setting none_linked last store = refl
+  items_are_meant setting (one_linked one rest) last store =
+      λ i. on_value (expr_means setting one store i) (λ v after. items_are_meant setting rest v after i)
 
-  arms_are_meant : {names : Names} {tags : List Tag} {asked : Bool} {gs : Arms} {as_ : linked.Arms} (setting : SettingTree) → AreArmsLinked names tags asked gs as_ → (other follows : Store → Ended) → ((after : Store) → if_asked asked (other after) ≡ if_asked asked (follows after)) → (store : Store) → if_asked asked (arms_mean names setting as_ other store) ≡ if_asked asked (eval_arms setting tags gs follows store)
+  arms_are_meant : {names : Names} {tags : List Tag} {gs : Arms} {as_ : linked.Arms} (setting : SettingTree) → AreArmsLinked names tags gs as_
+      → (other follows : Store → Ended) → ((after : Store) → other after ≡ follows after)
+      → (store : Store) → arms_mean names setting as_ other store ≡ eval_arms setting tags gs follows store
   arms_are_meant setting no_arm other follows same store = same store
-  arms_are_meant setting (one_arm {asked = asked} predicate items rest) other follows same store =
-      asked_behind asked _ _
-      ∙ (λ i. on_value (expr_means setting predicate store i) (λ v after. branch_meant asked (is_true v) _ _ _ _ (block_same asked after _ _ (items_are_meant setting items null after)) (arms_are_meant setting rest other follows same after) i))
-      ∙ sym (asked_behind asked _ _)
+  arms_are_meant setting (one_arm predicate items rest) other follows same store =
+      λ i. on_value (expr_means setting predicate store i) (λ v after.
+      (if is_true v then block_left after (items_are_meant setting items null after i) else arms_are_meant setting rest other follows same after i))
 
-  else_is_meant : {names : Names} {tags : List Tag} {asked : Bool} {es : Else} {otherwise : linked.Else} (setting : SettingTree) → IsElseLinked names tags asked es otherwise → (store : Store) → if_asked asked (else_means names setting otherwise store) ≡ if_asked asked (eval_else setting tags es store)
+  else_is_meant : {names : Names} {tags : List Tag} {es : Else} {otherwise : linked.Else} (setting : SettingTree) → IsElseLinked names tags es otherwise
+      → (store : Store) → else_means names setting otherwise store ≡ eval_else setting tags es store
   else_is_meant setting no_last store = refl
-  else_is_meant setting (a_last {asked = asked} items) store = block_same asked store _ _ (items_are_meant setting items null store)
+  else_is_meant setting (a_last items) store = ap (block_left store) (items_are_meant setting items null store)

@@ -9,31 +9,31 @@ use Rattle.vrl_syntax.specs.Tree.{Exprs}
 use Rattle.vrl_store.specs.StoreView.{AreDistinct, Names}
 use Rattle.vrl_resolve.specs.Linked.{Parts}
 use Rattle.vrl_resolve.specs.LinkedMeaning.{items_mean}
-use Rattle.vrl_resolve.specs.Linking.{names_in, AreItemsLinked, IsBeginning, Links}
+use Rattle.vrl_resolve.specs.Linking.{names_in, AreLinked, IsBeginning, Links}
 use Rattle.vrl_resolve.specs.Program.{script_program, ProgramTree}
 use Rattle.vrl_resolve.specs.Ready.{IsReady}
 use Rattle.vrl_resolve.specs.declared.link.Linker.{Linker}
-use Rattle.vrl_resolve.proofs.LinkedFits.{items_fit}
+use Rattle.vrl_resolve.proofs.LinkedFits.{parts_fit}
 use Rattle.vrl_resolve.proofs.LinkedMeans.{items_are_meant}
 
 -- the names that there are in the end are those of the linker
 all_names : (known names : Names) → names ≡ known → IsBeginning known names
 all_names known names is = ([], is ∙ sym (append-nil known))
 
-pub linked_is_ready : (before after : Linker) (count : ℕ) (names : Names) (es : Exprs) (ns : Parts) (written given : List (List ℕ)) → Links before after count (λ known tags. AreItemsLinked known tags true es ns) → names ≡ names_in after → AreDistinct (names_in after)
+pub linked_is_ready : (before after : Linker) (count : ℕ) (names : Names) (es : Exprs) (ns : Parts) (written given : List (List ℕ)) → Links before after count (λ known tags. AreLinked known tags es ns) → names ≡ names_in after → AreDistinct (names_in after)
     → given ≡ written → KeepsLimits es → exprs_regexes_below (length written) es ≡ true → IsReady names ns (length given)
 linked_is_ready before after count names es ns written given links is distinct same limits below =
     record {
       distinct = subst AreDistinct (sym is) distinct;
-      fits = items_fit (length given) (links.so names (all_names (names_in after) names is)) limits (subst (λ sources. exprs_regexes_below (length sources) es ≡ true) (sym same) below);
+      fits = parts_fit (length given) (links.so names (all_names (names_in after) names is)) limits (subst (λ sources. exprs_regexes_below (length sources) es ≡ true) (sym same) below);
     }
 
 -- the program of linked items
 abbrev linked_program : Names → Parts → List (List ℕ) → ProgramTree
 linked_program names ns sources = record { sources = sources; ended = λ moment event. items_mean names (record { moment = moment; sources = sources }) null ns (store_of event) }
 
-pub linked_is_program : (before after : Linker) (count : ℕ) (names : Names) (tags : List Tag) (es : Exprs) (ns : Parts) (sources : List (List ℕ)) → Links before after count (λ known tags. AreItemsLinked known tags true es ns) → names ≡ names_in after
+pub linked_is_program : (before after : Linker) (count : ℕ) (names : Names) (tags : List Tag) (es : Exprs) (ns : Parts) (sources : List (List ℕ)) → Links before after count (λ known tags. AreLinked known tags es ns) → names ≡ names_in after
     → before.tags.left.now ≡ tags → linked_program names ns sources ≡ script_program es tags sources
 linked_is_program before after count names tags es ns sources links is same =
-    let items : AreItemsLinked names tags true es ns = subst (λ ts. AreItemsLinked names ts true es ns) same (links.so names (all_names (names_in after) names is)) in
+    let items : AreLinked names tags es ns = subst (λ ts. AreLinked names ts es ns) same (links.so names (all_names (names_in after) names is)) in
     λ i. record { sources = sources; ended = λ moment event. items_are_meant (record { moment = moment; sources = sources }) items null (store_of event) i }

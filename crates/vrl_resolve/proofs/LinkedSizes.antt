@@ -1,11 +1,11 @@
 -- How large a linked expression is, for the measures of the walk.
-use Rattle.std.proofs.Common.{◌≡◌, ℕ, ◌+◌, ◌<◌, ◌≤◌, List, [], ◌∷◌, ◌++◌, drop, get_or, length, map, take, sym, ap, subst, arith}
+use Rattle.std.proofs.Common.{◌≡◌, ℕ, ◌+◌, ◌<◌, ◌≤◌, List, [], ◌∷◌, ◌++◌, drop, get_or, length, map, take, sym, ap, ◌∙◌, subst, arith}
 use Rattle.vrl_resolve.specs.Linked.{ArmTree, Linked, arm_of, arms_view, linked_of, pairs_view, parts_of_list, parts_view, literal, array, object, read, query, block, conditional, negation, binary, assign, merge, both, call, iterate, return_of, abort_with, Parts, no_parts, parts, Pairs, no_pairs, pair, Arms, no_arms, arm, Else, no_else, else_block, Message, no_message, message}
 use Rattle.vrl_resolve.specs.declared.node.Arm.{Arm}
 use Rattle.vrl_resolve.specs.declared.node.Node.{Node}
 use Rattle.vrl_resolve.proofs.WalkArms.{next_arm}
 use Rattle.vrl_resolve.proofs.WalkCalls.{cut}
-use Rattle.vrl_resolve.proofs.Walks.{next_pair, next_part}
+use Rattle.vrl_resolve.proofs.Walks.{last_part, next_pair, next_part}
 
 abbrev mutual
   pub linked_size : Linked → ℕ
@@ -18,9 +18,9 @@ abbrev mutual
   linked_size (conditional as_ otherwise) = arms_size as_ + else_size otherwise + 1
   linked_size (negation n) = linked_size n + 1
   linked_size (binary o l r) = linked_size l + linked_size r + 1
-  linked_size (assign asked t n) = linked_size n + 1
-  linked_size (merge asked t n) = linked_size n + 1
-  linked_size (both asked t u tag n) = linked_size n + 1
+  linked_size (assign t n) = linked_size n + 1
+  linked_size (merge t n) = linked_size n + 1
+  linked_size (both t u tag n) = linked_size n + 1
   linked_size (call c bang ns) = parts_size ns + 1
   linked_size (iterate f bang ns body) = parts_size ns + parts_size body + 1
   linked_size (return_of n) = linked_size n + 1
@@ -57,6 +57,14 @@ pairs_fewer all i p below here = ap pairs_size (next_pair all i p below here)
 pub arms_fewer : (all : List Arm) (i : ℕ) (a : Arm) (p : Linked) (body : Parts) → i < length all → a ≡ get_or all i a → ◌≡◌ {A = ArmTree} (arm_of a) (p, body)
     → arms_size (arms_view (drop i all)) ≡ linked_size p + parts_size body + arms_size (arms_view (drop (i + 1) all))
 arms_fewer all i a p body below here is = ap arms_size (next_arm all i a p body below here is)
+
+last_size : (ns : List Linked) (last : Linked) → parts_size (parts_of_list (ns ++ last ∷ [])) ≡ parts_size (parts_of_list ns) + linked_size last
+last_size [] last = omega arith
+last_size (n ∷ ns) last = let rest = last_size ns last in omega arith
+
+-- the last one, and those before it
+pub last_fewer : (all others : List Node) (last : Node) → all ≡ others ++ last ∷ [] → parts_size (parts_view all) ≡ parts_size (parts_view others) + linked_size (linked_of last)
+last_fewer all others last is = ap parts_size (last_part all others last is) ∙ last_size (map linked_of others) (linked_of last)
 
 front_size : (ns more : List Linked) → parts_size (parts_of_list ns) ≤ parts_size (parts_of_list (ns ++ more))
 front_size [] more = omega arith

@@ -1,5 +1,5 @@
 -- What the calls of a linker say of it, one behind the other.
-use Rattle.std.proofs.Common.{◌≡◌, ℕ, suc, ◌+◌, Bool, List, [], ◌∷◌, drop, map, refl, sym, ap, ◌∙◌, subst, drop-drop}
+use Rattle.std.proofs.Common.{◌≡◌, ℕ, suc, ◌+◌, List, [], ◌∷◌, drop, map, refl, sym, ap, ◌∙◌, subst, drop-drop}
 use Rattle.std.proofs.Math.Seq.{drop-nil}
 use Rattle.std.proofs.lemmas.Result.{IfOk-weaker}
 use Rattle.std.specs.Prelude.{IfOk, ⊤}
@@ -14,7 +14,7 @@ use Rattle.vrl_syntax.specs.declared.tree.Expr.{Expr as CodeExpr}
 use Rattle.vrl_diag.specs.declared.diagnostic.Span.{Span}
 use Rattle.vrl_store.specs.StoreView.{Names}
 use Rattle.vrl_resolve.specs.Linked.{Linked, linked_of}
-use Rattle.vrl_resolve.specs.Linking.{names_in, a_group, stands, IsBeginning, IsLinked, IsLinkedForm, Links, LinksAny, LinksForm, Numbers}
+use Rattle.vrl_resolve.specs.Linking.{names_in, a_group, stands, IsBeginning, IsLinked, IsLinkedForm, Links, LinksForm, Numbers}
 use Rattle.vrl_resolve.specs.declared.link.Linker.{Linker}
 use Rattle.vrl_resolve.specs.declared.node.Node.{Node}
 use Rattle.vrl_resolve.proofs.Begins.{begins_behind, begins_itself}
@@ -86,36 +86,24 @@ links_passed a b count same passed = record { grows = subst (IsBeginning (names_
 
 -- ---- a form of an expression
 
-pub form_stands : {a b : Linker} {asked : Bool} {n : Linked} (e : Expr) (span : Span) (f : Form) → e ≡ expr span f → LinksForm a b asked f n → Links a b (in_expr e) (λ names tags. IsLinked names tags asked e n)
-form_stands {a} {b} {asked} {n} e span f is links =
-    subst (λ x. Links a b (in_expr x) (λ names tags. IsLinked names tags asked x n)) (sym is) (record { grows = links.grows; behind = links.behind; so = λ names begins. stands (links.so names begins) })
-
-pub any_stands : {a b : Linker} {asked : Bool} {n : Linked} (e : Expr) (span : Span) (f : Form) → e ≡ expr span f → LinksAny a b f n → Links a b (in_expr e) (λ names tags. IsLinked names tags asked e n)
-any_stands {a} {b} {asked} {n} e span f is links = form_stands e span f is (record { grows = links.grows; behind = links.behind; so = λ names begins. links.so names begins asked })
+pub form_stands : {a b : Linker} {n : Linked} (e : Expr) (span : Span) (f : Form) → e ≡ expr span f → LinksForm a b f n → Links a b (in_expr e) (λ names tags. IsLinked names tags e n)
+form_stands {a} {b} {n} e span f is links =
+    subst (λ x. Links a b (in_expr x) (λ names tags. IsLinked names tags x n)) (sym is) (record { grows = links.grows; behind = links.behind; so = λ names begins. stands (links.so names begins) })
 
 -- what the function of a form gives is the node of the expression
-pub form_given : (a b : Linker) (asked : Bool) (r : Result Node Memory) (e : CodeExpr) (f : Form) → IfOk r (λ node. LinksForm a b asked f (linked_of node)) → expr_of e ≡ expr e.span f
-    → IfOk r (λ node. Links a b (in_expr (expr_of e)) (λ names tags. IsLinked names tags asked (expr_of e) (linked_of node)))
-form_given a b asked r e f given is = IfOk-weaker r _ _ (λ node links. form_stands (expr_of e) e.span f is links) given
-
-pub any_given : (a b : Linker) (asked : Bool) (r : Result Node Memory) (e : CodeExpr) (f : Form) → IfOk r (λ node. LinksAny a b f (linked_of node)) → expr_of e ≡ expr e.span f
-    → IfOk r (λ node. Links a b (in_expr (expr_of e)) (λ names tags. IsLinked names tags asked (expr_of e) (linked_of node)))
-any_given a b asked r e f given is = IfOk-weaker r _ _ (λ node links. any_stands (expr_of e) e.span f is links) given
+pub form_given : (a b : Linker) (r : Result Node Memory) (e : CodeExpr) (f : Form) → IfOk r (λ node. LinksForm a b f (linked_of node)) → expr_of e ≡ expr e.span f
+    → IfOk r (λ node. Links a b (in_expr (expr_of e)) (λ names tags. IsLinked names tags (expr_of e) (linked_of node)))
+form_given a b r e f given is = IfOk-weaker r _ _ (λ node links. form_stands (expr_of e) e.span f is links) given
 
 -- ---- a form is made
 
-pub any_made : {a b : Linker} {count : ℕ} {P : Names → List Tag → Type 0} (f : Form) (m n : Linked) → m ≡ n → ((names : Names) (asked : Bool) → P names a.tags.left.now → IsLinkedForm names a.tags.left.now asked f n) → Links a b count P
-    → Links a b count (λ names tags. (asked : Bool) → IsLinkedForm names tags asked f m)
-any_made {a} {b} {count} f m n is made one =
-    links_weaker (λ names holds asked. subst (IsLinkedForm names a.tags.left.now asked f) (sym is) (made names asked holds)) one
+pub form_made : {a b : Linker} {count : ℕ} {P : Names → List Tag → Type 0} (f : Form) (m n : Linked) → m ≡ n → ((names : Names) → P names a.tags.left.now → IsLinkedForm names a.tags.left.now f n) → Links a b count P
+    → Links a b count (λ names tags. IsLinkedForm names tags f m)
+form_made {a} {b} {count} f m n is made one =
+    links_weaker (λ names holds. subst (IsLinkedForm names a.tags.left.now f) (sym is) (made names holds)) one
 
-pub form_made : {a b : Linker} {count : ℕ} {P : Names → List Tag → Type 0} (asked : Bool) (f : Form) (m n : Linked) → m ≡ n → ((names : Names) → P names a.tags.left.now → IsLinkedForm names a.tags.left.now asked f n) → Links a b count P
-    → Links a b count (λ names tags. IsLinkedForm names tags asked f m)
-form_made {a} {b} {count} asked f m n is made one =
-    links_weaker (λ names holds. subst (IsLinkedForm names a.tags.left.now asked f) (sym is) (made names holds)) one
-
-pub group_stands : {a b : Linker} {asked : Bool} {n : Linked} (e part : Expr) (span : Span) → e ≡ expr span (group part) → Links a b (in_expr part) (λ names tags. IsLinked names tags asked part n) → Links a b (in_expr e) (λ names tags. IsLinked names tags asked e n)
-group_stands {a} {b} {asked} {n} e part span is links = form_stands e span (group part) is (links_weaker (λ names one. a_group one) links)
+pub group_stands : {a b : Linker} {n : Linked} (e part : Expr) (span : Span) → e ≡ expr span (group part) → Links a b (in_expr part) (λ names tags. IsLinked names tags part n) → Links a b (in_expr e) (λ names tags. IsLinked names tags e n)
+group_stands {a} {b} {n} e part span is links = form_stands e span (group part) is (links_weaker (λ names one. a_group one) links)
 
 pub same_names : (a b : Linker) → b.names ≡ a.names → names_in b ≡ names_in a
 same_names a b same = λ i. map string_bytes (same i).keys

@@ -1,18 +1,19 @@
 -- A node by its form: what it is by the parts that a walk takes out of it, and that it ends as its form does.
-use Rattle.std.proofs.Common.{◌≡◌, List, ap, ap₂, rules, subst, sym, ◌∙◌}
+use Rattle.std.proofs.Common.{◌≡◌, Bool, List, ap, ap₂, rules, subst, sym, ◌∙◌}
 use Rattle.std.specs.declared.result.Result.{Result}
 use Rattle.vrl_value.specs.declared.value.Value.{Value}
 use Rattle.vrl_store.specs.Results.{Ends}
 use Rattle.vrl_store.specs.declared.stop.Stop.{Stop}
 use Rattle.vrl_store.specs.declared.store.Store.{Store}
 use Rattle.vrl_resolve.specs.Linked.{ArmTree, Linked, arm_of, call, call_of, iterate, iteration_of, linked_of, parts_view}
-use Rattle.vrl_resolve.specs.Walking.{meant, store_at}
+use Rattle.vrl_resolve.specs.Walking.{EndsAsked, meant, store_at}
 use Rattle.vrl_resolve.specs.declared.node.Arm.{Arm, out-Arm}
 use Rattle.vrl_resolve.specs.declared.node.Call.{Call, out-Call}
 use Rattle.vrl_resolve.specs.declared.node.Form.{the_lemmas}
 use Rattle.vrl_resolve.specs.declared.node.Iteration.{Iteration, out-Iteration}
 use Rattle.vrl_resolve.specs.declared.node.Node.{Node}
 use Rattle.vrl_resolve.specs.declared.walk.Context.{Context}
+use Rattle.vrl_resolve.proofs.Walks.{told_anyhow}
 
 -- a part that was taken out of a box
 pub of_boxed : {A : Type 0} (n : Linked) (f : A → Linked) (part box : A) → part ≡ box → n ≡ f box → n ≡ f part
@@ -40,3 +41,12 @@ of_iteration run args body here there = seen ∙ ap₂ (λ ns ms. iterate (out-I
 -- as the form ended, so did the node
 pub ended_as : (x : Context) (before after : Store) {n m : Linked} (r : Result Value Stop) → n ≡ m → Ends (meant x m before) (store_at x after) r → Ends (meant x n before) (store_at x after) r
 ended_as x before after r is ended = subst (λ l. Ends (meant x l before) (store_at x after) r) (sym is) ended
+
+pub asked_as : (x : Context) (before after : Store) {n m : Linked} (asked : Bool) (r : Result Value Stop) → n ≡ m
+    → EndsAsked asked (meant x m before) (store_at x after) r → EndsAsked asked (meant x n before) (store_at x after) r
+asked_as x before after asked r is ended = subst (λ l. EndsAsked asked (meant x l before) (store_at x after) r) (sym is) ended
+
+-- whose value is told anyhow
+pub told_as : (x : Context) (before after : Store) {n m : Linked} (asked : Bool) (r : Result Value Stop) → n ≡ m
+    → Ends (meant x m before) (store_at x after) r → EndsAsked asked (meant x n before) (store_at x after) r
+told_as x before after asked r is ended = told_anyhow asked _ (store_at x after) r (ended_as x before after r is ended)

@@ -9,12 +9,11 @@ use Rattle.vrl_syntax.specs.View.{arm_of, expr_of, exprs_of, exprs_view}
 use Rattle.vrl_syntax.specs.declared.tree.Arm.{Arm as CodeArm, out-Arm}
 use Rattle.vrl_syntax.specs.declared.tree.Expr.{Expr as CodeExpr}
 use Rattle.vrl_syntax.specs.declared.tree.Form.{the_lemmas}
-use Rattle.vrl_store.specs.Asked.{is_last}
 use Rattle.vrl_store.specs.StoreView.{Names}
 use Rattle.vrl_syntax.proofs.PartSizes.{args_size, arms_size, exprs_size, pairs_size}
 use Rattle.vrl_resolve.specs.Linked as linked
 use Rattle.vrl_resolve.specs.Linked.{arm_of as linked_arm, Linked, Parts, parts, no_parts, linked_of, parts_of_list, pairs_of_list, arms_of_list, ArmTree}
-use Rattle.vrl_resolve.specs.Linking.{names_in, AreArgsLinked, AreArmsLinked, AreItemsLinked, AreLinked, ArePairsLinked, IsBeginning, IsLinked, Links, none_linked, one_linked, no_item, one_item, no_pair, one_pair, no_arm, one_arm, no_argument, one_argument}
+use Rattle.vrl_resolve.specs.Linking.{names_in, AreArgsLinked, AreArmsLinked, AreLinked, ArePairsLinked, IsBeginning, IsLinked, Links, none_linked, one_linked, no_pair, one_pair, no_arm, one_arm, no_argument, one_argument}
 use Rattle.vrl_resolve.specs.declared.link.Linker.{Linker}
 use Rattle.vrl_resolve.specs.declared.node.Arm.{Arm}
 use Rattle.vrl_resolve.specs.declared.node.Node.{Node}
@@ -84,66 +83,35 @@ arms_more : (as_ : List ArmTree) (a : ArmTree) (more : linked.Arms) → arms_ont
 arms_more [] a more = refl
 arms_more (b ∷ as_) a more = ap (linked.arm b.0 b.1) (arms_more as_ a more)
 
--- ---- arrays
+-- ---- items, and parts of an array
 
-abbrev ArrayLeads : Exprs → Exprs → List Linked → Names → List Tag → List Tag → Type 0
-ArrayLeads whole left ns names old new = (more : Parts) → AreLinked names new left more → AreLinked names old whole (parts_onto ns more)
+abbrev ItemsLead : Exprs → Exprs → List Linked → Names → List Tag → List Tag → Type 0
+ItemsLead whole left ns names old new = (more : Parts) → AreLinked names new left more → AreLinked names old whole (parts_onto ns more)
 
-pub record IsArrayPartway (before now : Linker) (whole left : Exprs) (ns : List Linked) : Type 0 where
-  pub linked : IsPartway before now (in_exprs whole) (in_exprs left) (ArrayLeads whole left ns)
+pub record IsItemsPartway (before now : Linker) (whole left : Exprs) (ns : List Linked) : Type 0 where
+  pub linked : IsPartway before now (in_exprs whole) (in_exprs left) (ItemsLead whole left ns)
   pub fewer : exprs_size left ≤ exprs_size whole
 
-pub array_start : (before : Linker) (whole left : Exprs) (ns : List Linked) → left ≡ whole → ns ≡ [] → IsArrayPartway before before whole left ns
-array_start before whole left ns same none =
-    let first : IsArrayPartway before before whole whole [] = record { linked = partway_start before _ (λ names tags more all. all); fewer = omega arith } in
-    subst (λ l. IsArrayPartway before before whole l ns) (sym same) (subst (IsArrayPartway before before whole whole) (sym none) first)
+pub items_start : (before : Linker) (whole left : Exprs) (ns : List Linked) → left ≡ whole → ns ≡ [] → IsItemsPartway before before whole left ns
+items_start before whole left ns same none =
+    let first : IsItemsPartway before before whole whole [] = record { linked = partway_start before _ (λ names tags more all. all); fewer = omega arith } in
+    subst (λ l. IsItemsPartway before before whole l ns) (sym same) (subst (IsItemsPartway before before whole whole) (sym none) first)
 
-pub array_next : (before now after : Linker) (whole left rest : Exprs) (e : Expr) (ns ms : List Linked) (n : Linked) → left ≡ exprs e rest → ms ≡ ns ++ (n ∷ [])
-    → IsArrayPartway before now whole left ns → Links now after (in_expr e) (λ names tags. IsLinked names tags true e n) → IsArrayPartway before after whole rest ms
-array_next before now after whole left rest e ns ms n is more so_far one =
-    let here = subst (λ l. IsArrayPartway before now whole l ns) is so_far in
+pub items_next : (before now after : Linker) (whole left rest : Exprs) (e : Expr) (ns ms : List Linked) (n : Linked) → left ≡ exprs e rest → ms ≡ ns ++ (n ∷ [])
+    → IsItemsPartway before now whole left ns → Links now after (in_expr e) (λ names tags. IsLinked names tags e n) → IsItemsPartway before after whole rest ms
+items_next before now after whole left rest e ns ms n is more so_far one =
+    let here = subst (λ l. IsItemsPartway before now whole l ns) is so_far in
     let fewer = here.fewer in
-    subst (IsArrayPartway before after whole rest) (sym more) (record {
-      linked = partway_next {Follows = ArrayLeads whole rest (ns ++ (n ∷ []))} here.linked one
+    subst (IsItemsPartway before after whole rest) (sym more) (record {
+      linked = partway_next {Follows = ItemsLead whole rest (ns ++ (n ∷ []))} here.linked one
           (λ names old new leads first others all. subst (AreLinked names old whole) (sym (parts_more ns n others)) (leads (parts n others) (one_linked first all)));
       fewer = omega (arith, fewer);
     })
 
-pub array_end : (before now : Linker) (whole left : Exprs) (ns : List Linked) → left ≡ no_exprs → IsArrayPartway before now whole left ns → Links before now (in_exprs whole) (λ names tags. AreLinked names tags whole (parts_of_list ns))
-array_end before now whole left ns is so_far =
-    let here = subst (λ l. IsArrayPartway before now whole l ns) is so_far in
+pub items_end : (before now : Linker) (whole left : Exprs) (ns : List Linked) → left ≡ no_exprs → IsItemsPartway before now whole left ns → Links before now (in_exprs whole) (λ names tags. AreLinked names tags whole (parts_of_list ns))
+items_end before now whole left ns is so_far =
+    let here = subst (λ l. IsItemsPartway before now whole l ns) is so_far in
     partway_end here.linked (λ names old new leads. subst (AreLinked names old whole) (parts_ended ns) (leads no_parts none_linked))
-
--- ---- items
-
-abbrev ItemsLead : Bool → Exprs → Exprs → List Linked → Names → List Tag → List Tag → Type 0
-ItemsLead asked whole left ns names old new = (more : Parts) → AreItemsLinked names new asked left more → AreItemsLinked names old asked whole (parts_onto ns more)
-
-pub record IsItemsPartway (before now : Linker) (asked : Bool) (whole left : Exprs) (ns : List Linked) : Type 0 where
-  pub linked : IsPartway before now (in_exprs whole) (in_exprs left) (ItemsLead asked whole left ns)
-  pub fewer : exprs_size left ≤ exprs_size whole
-
-pub items_start : (before : Linker) (asked : Bool) (whole left : Exprs) (ns : List Linked) → left ≡ whole → ns ≡ [] → IsItemsPartway before before asked whole left ns
-items_start before asked whole left ns same none =
-    let first : IsItemsPartway before before asked whole whole [] = record { linked = partway_start before _ (λ names tags more all. all); fewer = omega arith } in
-    subst (λ l. IsItemsPartway before before asked whole l ns) (sym same) (subst (IsItemsPartway before before asked whole whole) (sym none) first)
-
-pub items_next : (before now after : Linker) (asked here_asked : Bool) (whole left rest : Exprs) (e : Expr) (ns ms : List Linked) (n : Linked) → left ≡ exprs e rest → ms ≡ ns ++ (n ∷ []) → here_asked ≡ (asked && is_last rest)
-    → IsItemsPartway before now asked whole left ns → Links now after (in_expr e) (λ names tags. IsLinked names tags here_asked e n) → IsItemsPartway before after asked whole rest ms
-items_next before now after asked here_asked whole left rest e ns ms n is more same so_far one =
-    let here = subst (λ l. IsItemsPartway before now asked whole l ns) is so_far in
-    let fewer = here.fewer in
-    let last = subst (λ b. Links now after (in_expr e) (λ names tags. IsLinked names tags b e n)) same one in
-    subst (IsItemsPartway before after asked whole rest) (sym more) (record {
-      linked = partway_next {Follows = ItemsLead asked whole rest (ns ++ (n ∷ []))} here.linked last
-          (λ names old new leads first others all. subst (AreItemsLinked names old asked whole) (sym (parts_more ns n others)) (leads (parts n others) (one_item first all)));
-      fewer = omega (arith, fewer);
-    })
-
-pub items_end : (before now : Linker) (asked : Bool) (whole left : Exprs) (ns : List Linked) → left ≡ no_exprs → IsItemsPartway before now asked whole left ns → Links before now (in_exprs whole) (λ names tags. AreItemsLinked names tags asked whole (parts_of_list ns))
-items_end before now asked whole left ns is so_far =
-    let here = subst (λ l. IsItemsPartway before now asked whole l ns) is so_far in
-    partway_end here.linked (λ names old new leads. subst (AreItemsLinked names old asked whole) (parts_ended ns) (leads no_parts no_item))
 
 -- ---- arguments
 
@@ -160,7 +128,7 @@ args_start before whole left ns same none =
     subst (λ l. IsArgsPartway before before whole l ns) (sym same) (subst (IsArgsPartway before before whole whole) (sym none) first)
 
 pub args_next : (before now after : Linker) (whole left rest : Args) (name : _) (span : Span) (e : Expr) (ns ms : List Linked) (n : Linked) → left ≡ arg name span e rest → ms ≡ ns ++ (n ∷ [])
-    → IsArgsPartway before now whole left ns → Links now after (in_expr e) (λ names tags. IsLinked names tags true e n) → IsArgsPartway before after whole rest ms
+    → IsArgsPartway before now whole left ns → Links now after (in_expr e) (λ names tags. IsLinked names tags e n) → IsArgsPartway before after whole rest ms
 args_next before now after whole left rest name span e ns ms n is more so_far one =
     let here = subst (λ l. IsArgsPartway before now whole l ns) is so_far in
     let fewer = here.fewer in
@@ -190,7 +158,7 @@ object_start before whole left ns same none =
     subst (λ l. IsObjectPartway before before whole l ns) (sym same) (subst (IsObjectPartway before before whole whole) (sym none) first)
 
 pub object_next : (before now after : Linker) (whole left rest : Pairs) (key : List ℕ) (e : Expr) (ps qs : List (List ℕ × Linked)) (n : Linked) → left ≡ pair key e rest → qs ≡ ps ++ ((key, n) ∷ [])
-    → IsObjectPartway before now whole left ps → Links now after (in_expr e) (λ names tags. IsLinked names tags true e n) → IsObjectPartway before after whole rest qs
+    → IsObjectPartway before now whole left ps → Links now after (in_expr e) (λ names tags. IsLinked names tags e n) → IsObjectPartway before after whole rest qs
 object_next before now after whole left rest key e ps qs n is more so_far one =
     let here = subst (λ l. IsObjectPartway before now whole l ps) is so_far in
     let fewer = here.fewer in
@@ -207,39 +175,39 @@ object_end before now whole left ps is so_far =
 
 -- ---- arms
 
-abbrev ArmsLead : Bool → Arms → Arms → List ArmTree → Names → List Tag → List Tag → Type 0
-ArmsLead asked whole left as_ names old new = (more : linked.Arms) → AreArmsLinked names new asked left more → AreArmsLinked names old asked whole (arms_onto as_ more)
+abbrev ArmsLead : Arms → Arms → List ArmTree → Names → List Tag → List Tag → Type 0
+ArmsLead whole left as_ names old new = (more : linked.Arms) → AreArmsLinked names new left more → AreArmsLinked names old whole (arms_onto as_ more)
 
-pub record IsArmsPartway (before now : Linker) (asked : Bool) (whole left : Arms) (as_ : List ArmTree) : Type 0 where
-  pub linked : IsPartway before now (in_arms whole) (in_arms left) (ArmsLead asked whole left as_)
+pub record IsArmsPartway (before now : Linker) (whole left : Arms) (as_ : List ArmTree) : Type 0 where
+  pub linked : IsPartway before now (in_arms whole) (in_arms left) (ArmsLead whole left as_)
   pub fewer : arms_size left ≤ arms_size whole
 
-pub arms_start : (before : Linker) (asked : Bool) (whole left : Arms) (ns : List ArmTree) → left ≡ whole → ns ≡ [] → IsArmsPartway before before asked whole left ns
-arms_start before asked whole left ns same none =
-    let first : IsArmsPartway before before asked whole whole [] = record { linked = partway_start before _ (λ names tags more all. all); fewer = omega arith } in
-    subst (λ l. IsArmsPartway before before asked whole l ns) (sym same) (subst (IsArmsPartway before before asked whole whole) (sym none) first)
+pub arms_start : (before : Linker) (whole left : Arms) (ns : List ArmTree) → left ≡ whole → ns ≡ [] → IsArmsPartway before before whole left ns
+arms_start before whole left ns same none =
+    let first : IsArmsPartway before before whole whole [] = record { linked = partway_start before _ (λ names tags more all. all); fewer = omega arith } in
+    subst (λ l. IsArmsPartway before before whole l ns) (sym same) (subst (IsArmsPartway before before whole whole) (sym none) first)
 
-pub arms_next : (before now middle after : Linker) (asked : Bool) (whole left rest : Arms) (predicate : Expr) (es : Exprs) (as_ bs : List ArmTree) (last : ArmTree) (n : Linked) (ns : Parts) → left ≡ arm predicate es rest → bs ≡ as_ ++ (last ∷ []) → last ≡ (n, ns)
-    → IsArmsPartway before now asked whole left as_ → Links now middle (in_expr predicate) (λ names tags. IsLinked names tags true predicate n)
-    → Links middle after (in_exprs es) (λ names tags. AreItemsLinked names tags asked es ns) → IsArmsPartway before after asked whole rest bs
-arms_next before now middle after asked whole left rest predicate es as_ bs last n ns is pushed last_is so_far one two =
+pub arms_next : (before now middle after : Linker) (whole left rest : Arms) (predicate : Expr) (es : Exprs) (as_ bs : List ArmTree) (last : ArmTree) (n : Linked) (ns : Parts) → left ≡ arm predicate es rest → bs ≡ as_ ++ (last ∷ []) → last ≡ (n, ns)
+    → IsArmsPartway before now whole left as_ → Links now middle (in_expr predicate) (λ names tags. IsLinked names tags predicate n)
+    → Links middle after (in_exprs es) (λ names tags. AreLinked names tags es ns) → IsArmsPartway before after whole rest bs
+arms_next before now middle after whole left rest predicate es as_ bs last n ns is pushed last_is so_far one two =
     let more : bs ≡ as_ ++ ((n, ns) ∷ []) = pushed ∙ ap (λ a. as_ ++ (a ∷ [])) last_is in
-    let here = subst (λ l. IsArmsPartway before now asked whole l as_) is so_far in
+    let here = subst (λ l. IsArmsPartway before now whole l as_) is so_far in
     let fewer = here.fewer in
     let counted : in_expr predicate + (in_exprs es + in_arms rest) ≡ in_expr predicate + in_exprs es + in_arms rest = omega arith in
-    let so = subst (λ k. IsPartway before now (in_arms whole) k (ArmsLead asked whole (arm predicate es rest) as_)) counted here.linked in
-    subst (IsArmsPartway before after asked whole rest) (sym more) (record {
-      linked = partway_next {Follows = ArmsLead asked whole rest (as_ ++ ((n, ns) ∷ []))} so (links_then one two)
+    let so = subst (λ k. IsPartway before now (in_arms whole) k (ArmsLead whole (arm predicate es rest) as_)) counted here.linked in
+    subst (IsArmsPartway before after whole rest) (sym more) (record {
+      linked = partway_next {Follows = ArmsLead whole rest (as_ ++ ((n, ns) ∷ []))} so (links_then one two)
           (λ names old new leads both others all.
-          let behind_both = subst (λ tags. AreArmsLinked names tags asked rest others) (sym (drop-drop (in_exprs es) (in_expr predicate) new)) all in
-          subst (AreArmsLinked names old asked whole) (sym (arms_more as_ (n, ns) others)) (leads (linked.arm n ns others) (one_arm both.0 both.1 behind_both)));
+          let behind_both = subst (λ tags. AreArmsLinked names tags rest others) (sym (drop-drop (in_exprs es) (in_expr predicate) new)) all in
+          subst (AreArmsLinked names old whole) (sym (arms_more as_ (n, ns) others)) (leads (linked.arm n ns others) (one_arm both.0 both.1 behind_both)));
       fewer = omega (arith, fewer);
     })
 
-pub arms_end : (before now : Linker) (asked : Bool) (whole left : Arms) (as_ : List ArmTree) → left ≡ no_arms → IsArmsPartway before now asked whole left as_ → Links before now (in_arms whole) (λ names tags. AreArmsLinked names tags asked whole (arms_of_list as_))
-arms_end before now asked whole left as_ is so_far =
-    let here = subst (λ l. IsArmsPartway before now asked whole l as_) is so_far in
-    partway_end here.linked (λ names old new leads. subst (AreArmsLinked names old asked whole) (arms_ended as_) (leads linked.no_arms no_arm))
+pub arms_end : (before now : Linker) (whole left : Arms) (as_ : List ArmTree) → left ≡ no_arms → IsArmsPartway before now whole left as_ → Links before now (in_arms whole) (λ names tags. AreArmsLinked names tags whole (arms_of_list as_))
+arms_end before now whole left as_ is so_far =
+    let here = subst (λ l. IsArmsPartway before now whole l as_) is so_far in
+    partway_end here.linked (λ names old new leads. subst (AreArmsLinked names old whole) (arms_ended as_) (leads linked.no_arms no_arm))
 
 -- ---- what is left to be taken out
 
@@ -249,14 +217,6 @@ one_gone all rest x before after is gone counted = let whole : length all ≡ le
 pub none_left : {A : Type 0} (left : List A) (count : ℕ) → count ≡ length left → count ≡ 0 → left ≡ []
 none_left [] count counted none = refl
 none_left (x ∷ left) count counted none = absurd (omega (arith, counted, none))
-
-not_none : (n count : ℕ) (b : Bool) → (count == 0) ≡ b → count ≡ suc n → b ≡ false
-not_none n count false is counted = refl
-not_none n count true is counted = let none : count ≡ 0 = search rules in absurd (omega (arith, none, counted))
-
-pub is_last_before : (left : List CodeExpr) (count : ℕ) → count ≡ length left → (count == 0) ≡ is_last (exprs_view left)
-is_last_before [] count counted = ap (λ n. n == 0) counted
-is_last_before (e ∷ left) count counted = not_none (length left) count (count == 0) refl counted
 
 -- ---- what is seen in memory
 

@@ -27,12 +27,12 @@ use Rattle.vrl_store.specs.WellFormed.{AreWellFormed, IsWellFormed, IsWellFormed
 use Rattle.vrl_store.specs.declared.stop.Stop.{Stop}
 use Rattle.vrl_store.specs.declared.store.Store.{Store as CodeStore}
 use Rattle.vrl_resolve.specs.Calls.{acts, argument_text, first_unfit, items_in, iterated, iteration, made_of, or_others, within_limit, Body}
-use Rattle.vrl_resolve.specs.Iterating.{body_in, bound_values, bound_variables, items_onto, made_fields, made_in, made_items, takes_arrays, Binds, IsFieldHeld, IsItemHeld, TakesField, TakesItem}
+use Rattle.vrl_resolve.specs.Iterating.{body_in, bound_values, bound_variables, is_body_asked, items_onto, made_fields, made_in, made_items, takes_arrays, Binds, IsFieldHeld, IsItemHeld, TakesField, TakesItem}
 use Rattle.vrl_resolve.specs.Iteration.{given_by, kept_items, kept_members, new_members, parts_by_name, parts_from, runs}
 use Rattle.vrl_resolve.specs.Laws.{MeaningsStayWellFormed}
 use Rattle.vrl_resolve.specs.Linked.{array, linked_of, Linked, parts_of_list, parts_view, Parts}
 use Rattle.vrl_resolve.specs.LinkedMeaning.{all_mean, body_means, form_in}
-use Rattle.vrl_resolve.specs.Walking.{names_in, setting_in, store_at, AllFitIn, IsReadyStore, Stays}
+use Rattle.vrl_resolve.specs.Walking.{names_in, setting_in, store_at, AllFitIn, EndsAsked, IsReadyStore, Stays}
 use Rattle.vrl_resolve.specs.declared.iteration.Bindings.{Bindings}
 use Rattle.vrl_resolve.specs.declared.iteration.Held.{Held}
 use Rattle.vrl_resolve.specs.declared.iteration.MadeFields.{MadeFields}
@@ -195,19 +195,39 @@ pub run_ready : (law : MeaningsStayWellFormed) (x : Context) (ns : Parts) (b : B
 run_ready law x ns b now after o fits values ready stays is =
     ready_from x now after _ o (law.body (names_in x) (setting_in x) (length (names_in x)) (bound_variables b) ns fits (bound_values b) (store_at x now) values ready.formed) is ready stays
 
-pub items_turn : (law : MeaningsStayWellFormed) (x : Context) (f : Loop) (ns : Parts) (before now after : CodeStore) (place next : ℕ) (left rest : Items) (t r : Tree) (made again : List Tree) (whole : Ended) (b : Bindings) (held : Option Value)
+-- the value of a run is one of which something holds; where it isn't asked for, that holds of each
+run_gives : (f : Loop) (asked : Bool) (given : Value) (m : Ended) (store : Store) (Holds : Tree → Type 0) → asked ≡ is_body_asked f
+    → EndsAsked asked m store (Ok given) → Holds (tree_of given) → (is_body_asked f ≡ false → (v : Tree) → Holds v)
+    → (v : Tree) × ((m ≡ ends (value v) store) × Holds v)
+run_gives f true given m store Holds is came holds any = (tree_of given, (came, holds))
+run_gives f false given m store Holds is came holds any = (came.0, (came.1, any (sym is) came.0))
+
+no_item_made : (f : Loop) → is_body_asked f ≡ false → (made again : List Tree) (t v : Tree) (ts : Items) (rs : List Tree)
+    → made_items f again ts rs ≡ made_items f made (item t ts) (v ∷ rs)
+no_item_made (loops.ForEach key part) unasked made again t v ts rs = refl
+no_item_made (loops.Filter key part) unasked made again t v ts rs = absurd (true≢false unasked)
+no_item_made (loops.MapValues part) unasked made again t v ts rs = absurd (true≢false unasked)
+no_item_made (loops.MapKeys key) unasked made again t v ts rs = absurd (true≢false unasked)
+
+pub items_turn : (law : MeaningsStayWellFormed) (x : Context) (f : Loop) (ns : Parts) (before now after : CodeStore) (place next : ℕ) (left rest : Items) (t : Tree) (given : Value) (asked : Bool) (made again : List Tree) (whole : Ended) (b : Bindings) (held : Option Value)
     → AllFitIn x ns → IsOverItems x f ns before now place left made whole → left ≡ item t rest → next ≡ suc place → Binds f (integer (pos place)) t b
-    → body_means (names_in x) (setting_in x) (bound_variables b) ns (bound_values b) (store_at x now) ≡ ends (value r) (store_at x after) → Stays now after
-    → IsItemHeld f t held → TakesItem f made again held r → IsOverItems x f ns before after next rest again whole
-items_turn law x f ns before now after place next left rest t r made again whole b held fits so_far is more binds ran stays kept takes =
+    → asked ≡ is_body_asked f
+    → EndsAsked asked (body_means (names_in x) (setting_in x) (bound_variables b) ns (bound_values b) (store_at x now)) (store_at x after) (Ok given)
+    → Stays now after → IsItemHeld f t held → TakesItem f made again held (tree_of given) → IsOverItems x f ns before after next rest again whole
+items_turn law x f ns before now after place next left rest t given asked made again whole b held fits so_far is more binds told came stays kept takes =
     let count = length (setting_in x).sources in
     let body = body_in x f ns in
+    let m = body_means (names_in x) (setting_in x) (bound_variables b) ns (bound_values b) (store_at x now) in
+    let gives = run_gives f asked given m (store_at x after) (λ v. (ts : Items) (rs : List Tree) → made_items f again ts rs ≡ made_items f made (item t ts) (v ∷ rs))
+    told came (takes t kept) (λ unasked v. no_item_made f unasked made again t v) in
+    let r = gives.0 in
+    let ran = gives.1.0 in
     let formed = item_values x f ns before now place left rest t made whole b so_far is binds in
     let here = subst (λ l. IsOverItems x f ns before now place l made whole) is so_far in
     let gave : body (for_names (form_in f) (integer (pos place)) t) (store_at x now) ≡ ends (value r) (store_at x after) = sym (run_of x f ns (integer (pos place)) t b now binds) ∙ ran in
     let step : turns body (given_from f place (item t rest)) (made_items f made (item t rest)) (store_at x now) ≡ turns body (given_from f (suc place) rest) (made_items f again rest) (store_at x after) =
     ap (λ e. on_value e (λ v end. turns body (given_from f (suc place) rest) (λ rs. made_items f made (item t rest) (v ∷ rs)) end)) gave
-    ∙ made_so body (given_from f (suc place) rest) (λ rs. made_items f made (item t rest) (r ∷ rs)) (made_items f again rest) (store_at x after) (λ rs. sym (takes t kept rest rs)) in
+    ∙ made_so body (given_from f (suc place) rest) (λ rs. made_items f made (item t rest) (r ∷ rs)) (made_items f again rest) (store_at x after) (λ rs. sym (gives.1.1 rest rs)) in
     let end : IsOverItems x f ns before after (suc place) rest again whole = record {
       so_far = partway_next x before now after _ _ whole here.so_far step (run_ready law x ns b now after (value r) fits formed so_far.so_far.ready stays ran) stays;
       formed = other_items count t rest here.formed;
@@ -277,19 +297,32 @@ field_values x f ns before now left rest k t made whole b so_far is binds =
     let formed = subst (λ l. IsWellFormed count (members l)) is so_far.formed in
     subst (AreWellFormed count) (sym binds.values) (names_formed count (form_in f) (string k) t (text_is count k) (first_member count k t rest formed))
 
-pub fields_turn : (law : MeaningsStayWellFormed) (x : Context) (f : Loop) (ns : Parts) (before now after : CodeStore) (left rest : Members) (k : List ℕ) (t r : Tree) (made again : MadeFields) (whole : Ended) (b : Bindings) (held : Held)
+no_field_made : (f : Loop) → is_body_asked f ≡ false → (made again : MadeFields) (k : List ℕ) (t v : Tree) (ms : Members) (rs : List Tree)
+    → made_in f again ms rs ≡ made_in f made (member k t ms) (v ∷ rs)
+no_field_made (loops.ForEach key part) unasked made again k t v ms rs = refl
+no_field_made (loops.Filter key part) unasked made again k t v ms rs = absurd (true≢false unasked)
+no_field_made (loops.MapValues part) unasked made again k t v ms rs = absurd (true≢false unasked)
+no_field_made (loops.MapKeys key) unasked made again k t v ms rs = absurd (true≢false unasked)
+
+pub fields_turn : (law : MeaningsStayWellFormed) (x : Context) (f : Loop) (ns : Parts) (before now after : CodeStore) (left rest : Members) (k : List ℕ) (t : Tree) (given : Value) (asked : Bool) (made again : MadeFields) (whole : Ended) (b : Bindings) (held : Held)
     → AllFitIn x ns → IsOverFields x f ns before now left (made_in f made left) whole → left ≡ member k t rest → Binds f (string k) t b
-    → body_means (names_in x) (setting_in x) (bound_variables b) ns (bound_values b) (store_at x now) ≡ ends (value r) (store_at x after) → Stays now after
-    → IsFieldHeld f k t held → TakesField made again held r → IsOverFields x f ns before after rest (made_in f again rest) whole
-fields_turn law x f ns before now after left rest k t r made again whole b held fits so_far is binds ran stays kept takes =
+    → asked ≡ is_body_asked f
+    → EndsAsked asked (body_means (names_in x) (setting_in x) (bound_variables b) ns (bound_values b) (store_at x now)) (store_at x after) (Ok given)
+    → Stays now after → IsFieldHeld f k t held → TakesField made again held (tree_of given) → IsOverFields x f ns before after rest (made_in f again rest) whole
+fields_turn law x f ns before now after left rest k t given asked made again whole b held fits so_far is binds told came stays kept takes =
     let count = length (setting_in x).sources in
     let body = body_in x f ns in
+    let m = body_means (names_in x) (setting_in x) (bound_variables b) ns (bound_values b) (store_at x now) in
+    let gives = run_gives f asked given m (store_at x after) (λ v. (ms : Members) (rs : List Tree) → made_in f again ms rs ≡ made_in f made (member k t ms) (v ∷ rs))
+    told came (takes f k t kept) (λ unasked v. no_field_made f unasked made again k t v) in
+    let r = gives.0 in
+    let ran = gives.1.0 in
     let formed = field_values x f ns before now left rest k t (made_in f made left) whole b so_far is binds in
     let here = subst (λ l. IsOverFields x f ns before now l (made_in f made l) whole) is so_far in
     let gave : body (for_names (form_in f) (string k) t) (store_at x now) ≡ ends (value r) (store_at x after) = sym (run_of x f ns (string k) t b now binds) ∙ ran in
     let step : turns body (given_fields f (member k t rest)) (made_in f made (member k t rest)) (store_at x now) ≡ turns body (given_fields f rest) (made_in f again rest) (store_at x after) =
     ap (λ e. on_value e (λ v end. turns body (given_fields f rest) (λ rs. made_in f made (member k t rest) (v ∷ rs)) end)) gave
-    ∙ made_so body (given_fields f rest) (λ rs. made_in f made (member k t rest) (r ∷ rs)) (made_in f again rest) (store_at x after) (λ rs. sym (takes f k t kept rest rs)) in
+    ∙ made_so body (given_fields f rest) (λ rs. made_in f made (member k t rest) (r ∷ rs)) (made_in f again rest) (store_at x after) (λ rs. sym (gives.1.1 rest rs)) in
     record {
       so_far = partway_next x before now after _ _ whole here.so_far step (run_ready law x ns b now after (value r) fits formed so_far.so_far.ready stays ran) stays;
       formed = other_members count k t rest here.formed;

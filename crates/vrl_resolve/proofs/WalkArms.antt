@@ -7,13 +7,12 @@ use Rattle.vrl_value.specs.declared.value.Value.{Value}
 use Rattle.vrl_syntax.specs.Stores.{Store}
 use Rattle.vrl_store.specs.Operators.{is_true}
 use Rattle.vrl_store.specs.Outcomes.{Ended, block_left, ends, on_value, value}
-use Rattle.vrl_store.specs.Results.{Ends}
 use Rattle.vrl_store.specs.declared.stop.Stop.{Stop}
 use Rattle.vrl_store.specs.declared.store.Store.{Store as CodeStore}
 use Rattle.vrl_resolve.specs.Laws.{MeaningsStayWellFormed}
 use Rattle.vrl_resolve.specs.Linked.{ArmTree, Linked, Parts, arm, arm_of, arms_view, block}
 use Rattle.vrl_resolve.specs.LinkedMeaning.{arms_mean, items_mean}
-use Rattle.vrl_resolve.specs.Walking.{AllFitIn, ArmsFitIn, FitsIn, Stays, meant, names_in, setting_in, store_at}
+use Rattle.vrl_resolve.specs.Walking.{AllFitIn, ArmsFitIn, EndsAsked, FitsIn, Stays, meant, names_in, setting_in, store_at}
 use Rattle.vrl_resolve.specs.declared.node.Arm.{Arm}
 use Rattle.vrl_resolve.specs.declared.walk.Context.{Context}
 use Rattle.vrl_resolve.proofs.Walks.{IsPartway, partway_next, ready_after}
@@ -40,13 +39,13 @@ behind x now after all i a p body otherwise v b below here is came told =
     ∙ ap (λ c. chosen x body (arms_mean (names_in x) (setting_in x) rest otherwise (store_at x after)) c (store_at x after)) (sym told)
 
 -- its block, where the predicate is true
-pub arm_taken : (x : Context) (before now after : CodeStore) (all : List Arm) (i : ℕ) (a : Arm) (p : Linked) (body : Parts) (otherwise : Store → Ended) (whole : Ended) (b : Bool) (v : Tree) (t : Store) (r : Result Value Stop)
+pub arm_taken : (x : Context) (before now after : CodeStore) (all : List Arm) (i : ℕ) (a : Arm) (p : Linked) (body : Parts) (otherwise : Store → Ended) (whole : Ended) (b : Bool) (v : Tree) (t : Store) (asked : Bool) (r : Result Value Stop)
     → i < length all → a ≡ get_or all i a → ◌≡◌ {A = ArmTree} (arm_of a) (p, body) → IsPartway x before now (arms_mean (names_in x) (setting_in x) (arms_view (drop i all)) otherwise (store_at x now)) whole
-    → meant x p now ≡ ends (value v) (store_at x after) → b ≡ is_true v → b ≡ true → Ends (meant x (block body) after) t r → Ends whole t r
-arm_taken x before now after all i a p body otherwise whole b v t r below here is so_far came told true_is rest =
+    → meant x p now ≡ ends (value v) (store_at x after) → b ≡ is_true v → b ≡ true → EndsAsked asked (meant x (block body) after) t r → EndsAsked asked whole t r
+arm_taken x before now after all i a p body otherwise whole b v t asked r below here is so_far came told true_is rest =
     let step = behind x now after all i a p body otherwise v b below here is came told
     ∙ ap (λ c. chosen x body (arms_mean (names_in x) (setting_in x) (arms_view (drop (i + 1) all)) otherwise (store_at x after)) c (store_at x after)) true_is in
-    subst (λ e. Ends e t r) (sym step ∙ so_far.same) rest
+    subst (λ e. EndsAsked asked e t r) (sym step ∙ so_far.same) rest
 
 -- the arms behind it, where it is false
 pub arm_passed : (law : MeaningsStayWellFormed) (x : Context) (before now after : CodeStore) (all : List Arm) (i : ℕ) (a : Arm) (p : Linked) (body : Parts) (otherwise : Store → Ended) (whole : Ended) (b : Bool) (v : Tree)

@@ -1,5 +1,5 @@
 -- Steps of a walk: what is behind a part that was run.
-use Rattle.std.proofs.Common.{◌≡◌, Bool, true, false, if◌then◌else◌, ℕ, ◌+◌, ◌<◌, ◌≤◌, List, [], ◌∷◌, ◌++◌, drop, get_or, length, map, take, arith, refl, sym, ap, ◌∙◌, subst, append_assoc, append-nil}
+use Rattle.std.proofs.Common.{◌≡◌, Bool, true, false, ℕ, ◌+◌, ◌<◌, ◌≤◌, List, [], ◌∷◌, ◌++◌, drop, get_or, length, map, take, arith, refl, sym, ap, ◌∙◌, subst, append_assoc, append-nil}
 use Rattle.std.proofs.lemmas.List.{at_drop_all, at_drop_more, map-append}
 use Rattle.std.specs.declared.result.Result.{Result}
 use Rattle.std.specs.declared.result.Result.TheVariants.{Ok, Err}
@@ -11,7 +11,7 @@ use Rattle.vrl_syntax.specs.declared.root.Op.{Op}
 use Rattle.vrl_syntax.specs.declared.root.Op.TheVariants as ops
 use Rattle.vrl_syntax.specs.declared.root.Target.{Target}
 use Rattle.vrl_store.specs.Operators.{applied}
-use Rattle.vrl_store.specs.Outcomes.{Ended, Outcome, block_left, ends, error, on_error, on_value, value}
+use Rattle.vrl_store.specs.Outcomes.{Ended, Outcome, aborted, banged, deep, ends, error, on_error, on_value, returned, value, value_then}
 use Rattle.vrl_store.specs.Places.{writes_to}
 use Rattle.vrl_store.specs.StoreView.{count_of, left_with, AreNames, IsKnown, Names}
 use Rattle.vrl_store.specs.Results.{Ends, Stops}
@@ -24,9 +24,9 @@ use Rattle.vrl_store.specs.declared.store.Store.{Store as CodeStore}
 use Rattle.vrl_store.proofs.Left.{block_ended}
 use Rattle.vrl_resolve.specs.Laws.{MeaningsStayWellFormed}
 use Rattle.vrl_resolve.specs.Linked.{Linked, array, linked_of, no_pairs, pair, pairs_view, parts_of_list, parts_view}
-use Rattle.vrl_resolve.specs.LinkedMeaning.{all_mean, if_asked, items_mean, pairs_mean}
+use Rattle.vrl_resolve.specs.LinkedMeaning.{all_mean, items_mean, pairs_mean}
 use Rattle.vrl_resolve.specs.Meaning.{assigned, both_sides, combined, written_both}
-use Rattle.vrl_resolve.specs.Walking.{AllFitIn, FitsIn, IsReadyStore, PairsFitIn, Stays, meant, names_in, setting_in, store_at}
+use Rattle.vrl_resolve.specs.Walking.{AllFitIn, EndsAsked, FitsIn, IsReadyStore, PairsFitIn, Stays, meant, names_in, setting_in, store_at}
 use Rattle.vrl_resolve.specs.declared.node.Node.{Node}
 use Rattle.vrl_resolve.specs.declared.walk.Context.{Context}
 
@@ -77,6 +77,40 @@ after_stop m next store stops.Memory is = tt
 pub after_error : (m : Ended) (next : List ℕ → Store → Ended) (text : List ℕ) (store t : Store) (r : Result Value Stop) → m ≡ ends (error text) store → Ends (next text store) t r → Ends (on_error m next) t r
 after_error m next text store t r is rest = subst (λ e. Ends (on_error e next) t r) (sym is) rest
 
+-- what becomes of the store in which a part ended
+stops_then : (next : Store → Store) (m : Ended) (store : Store) (stop : Stop) → Stops m store stop → Stops (ends m.outcome (next m.store)) (next store) stop
+stops_then next m store (stops.Error text) is = ap (λ e. ends e.outcome (next e.store)) is
+stops_then next m store (stops.Aborted message) is = ap (λ e. ends e.outcome (next e.store)) is
+stops_then next m store (stops.Returned v) is = ap (λ e. ends e.outcome (next e.store)) is
+stops_then next m store (stops.Banged text) is = ap (λ e. ends e.outcome (next e.store)) is
+stops_then next m store stops.Deep is = ap (λ e. ends e.outcome (next e.store)) is
+stops_then next m store stops.Memory is = tt
+
+pub ends_then : (asked : Bool) (next : Store → Store) (m : Ended) (store : Store) (r : Result Value Stop) → EndsAsked asked m store r
+    → EndsAsked asked (ends m.outcome (next m.store)) (next store) r
+ends_then asked next m store (Err stop) is = stops_then next m store stop is
+ends_then true next m store (Ok v) is = ap (λ e. ends e.outcome (next e.store)) is
+ends_then false next m store (Ok v) is = (is.0, ap (λ e. ends e.outcome (next e.store)) is.1)
+
+-- ---- a value that is asked for, or isn't
+
+-- where it is told anyhow
+pub told_anyhow : (asked : Bool) (m : Ended) (store : Store) (r : Result Value Stop) → Ends m store r → EndsAsked asked m store r
+told_anyhow asked m store (Err stop) is = is
+told_anyhow true m store (Ok v) is = is
+told_anyhow false m store (Ok v) is = (tree_of v, is)
+
+-- where it is asked for
+pub told_asked : (m : Ended) (store : Store) (r : Result Value Stop) → EndsAsked true m store r → Ends m store r
+told_asked m store (Ok v) is = is
+told_asked m store (Err stop) is = is
+
+-- where it is copied if it is asked for
+pub copy_told : (asked : Bool) (m : Ended) (v : Tree) (copy : Value) (store : Store) → m ≡ ends (value v) store → (asked ≡ true → tree_of copy ≡ v)
+    → EndsAsked asked m store (Ok copy)
+copy_told true m v copy store is copied = is ∙ ap (λ w. ends (value w) store) (sym (copied refl))
+copy_told false m v copy store is copied = (v, is)
+
 -- ---- loops
 
 -- what is left to be run, in the store behind what was run, is all that there was to be run
@@ -94,17 +128,70 @@ next_part all i n below is = at_drop_more (map linked_of) all i n below ∙ ap (
 pub no_part_left : (all : List Node) (i : ℕ) → length all ≤ i → map linked_of (drop i all) ≡ []
 no_part_left all i end = at_drop_all (map linked_of) all i end
 
-pub items_next : (law : MeaningsStayWellFormed) (x : Context) (before now after : CodeStore) (all : List Node) (i : ℕ) (n : Node) (last v : Tree) (whole : Ended) → i < length all → n ≡ get_or all i n
-    → AllFitIn x (parts_view (drop i all)) → IsPartway x before now (items_mean (names_in x) (setting_in x) last (parts_view (drop i all)) (store_at x now)) whole
+-- items before one more, whatever value stands before them
+abbrev pub items_before : Context → List Linked → Store → Linked → Tree → Ended
+items_before x ns store last v = items_mean (names_in x) (setting_in x) v (parts_of_list (ns ++ last ∷ [])) store
+
+-- that value plays no part
+before_unused : (x : Context) (ns : List Linked) (store : Store) (last : Linked) (v w : Tree) → items_before x ns store last v ≡ items_before x ns store last w
+before_unused x [] store last v w = refl
+before_unused x (n ∷ ns) store last v w = refl
+
+pub before_start : (x : Context) (before : CodeStore) (ns : List Linked) → IsReadyStore x before
+    → IsPartway {A = Linked → Tree → Ended} x before before (items_before x ns (store_at x before)) (λ last v. items_before x ns (store_at x before) last null)
+before_start x before ns ready =
+    record { same = λ i last v. before_unused x ns (store_at x before) last v null i; ready = ready; stays = stays_here before }
+
+pub before_next : (law : MeaningsStayWellFormed) (x : Context) (before now after : CodeStore) (all : List Node) (i : ℕ) (n : Node) (v : Tree)
+    (whole : Linked → Tree → Ended) → i < length all → n ≡ get_or all i n → AllFitIn x (parts_view (drop i all))
+    → IsPartway {A = Linked → Tree → Ended} x before now (items_before x (map linked_of (drop i all)) (store_at x now)) whole
     → meant x (linked_of n) now ≡ ends (value v) (store_at x after) → Stays now after
-    → IsPartway x before after (items_mean (names_in x) (setting_in x) v (parts_view (drop (i + 1) all)) (store_at x after)) whole × AllFitIn x (parts_view (drop (i + 1) all))
-items_next law x before now after all i n last v whole below here fits so_far is stays =
+    → IsPartway {A = Linked → Tree → Ended} x before after (items_before x (map linked_of (drop (i + 1) all)) (store_at x after)) whole
+    × AllFitIn x (parts_view (drop (i + 1) all))
+before_next law x before now after all i n v whole below here fits so_far is stays =
     let next = next_part all i n below here in
-    let rest = parts_view (drop (i + 1) all) in
-    let both : FitsIn x (linked_of n) × AllFitIn x rest = subst (λ ns. AllFitIn x (parts_of_list ns)) next fits in
-    let step : items_mean (names_in x) (setting_in x) last (parts_view (drop i all)) (store_at x now) ≡ items_mean (names_in x) (setting_in x) v rest (store_at x after) =
-    ap (λ ns. items_mean (names_in x) (setting_in x) last (parts_of_list ns) (store_at x now)) next ∙ ap (λ e. on_value e (λ w end. items_mean (names_in x) (setting_in x) w rest end)) is in
-    (partway_next x before now after _ _ whole so_far step (ready_after x now after (linked_of n) (value v) law both.0 is so_far.ready stays) stays, both.1)
+    let rest = map linked_of (drop (i + 1) all) in
+    let both : FitsIn x (linked_of n) × AllFitIn x (parts_of_list rest) = subst (λ ns. AllFitIn x (parts_of_list ns)) next fits in
+    let step : (last : Linked) (w : Tree) → items_before x (map linked_of (drop i all)) (store_at x now) last w ≡ items_before x rest (store_at x after) last w =
+    λ last w. ap (λ ns. items_before x ns (store_at x now) last w) next
+    ∙ (ap (λ e. on_value e (λ u end. items_before x rest end last u)) is ∙ before_unused x rest (store_at x after) last v w) in
+    (partway_next {A = Linked → Tree → Ended} x before now after _ _ whole so_far (λ j last w. step last w j)
+    (ready_after x now after (linked_of n) (value v) law both.0 is so_far.ready stays) stays, both.1)
+
+pub before_stop : (x : Context) (before now : CodeStore) (all : List Node) (i : ℕ) (n : Node) (whole : Linked → Tree → Ended) (store : Store) (stop : Stop)
+    → i < length all → n ≡ get_or all i n
+    → IsPartway {A = Linked → Tree → Ended} x before now (items_before x (map linked_of (drop i all)) (store_at x now)) whole
+    → Stops (meant x (linked_of n) now) store stop → (last : Linked) (v : Tree) → Stops (whole last v) store stop
+before_stop x before now all i n whole store stop below here so_far is last v =
+    let rest = map linked_of (drop (i + 1) all) in
+    subst (λ f. Stops (f last v) store stop) so_far.same
+    (subst (λ ns. Stops (items_before x ns (store_at x now) last v) store stop) (sym (next_part all i n below here))
+    (after_stop (meant x (linked_of n) now) (λ u end. items_before x rest end last u) store stop is))
+
+-- the step that gives the value itself
+value_itself : (o : Outcome) (store : Store) → value_then o store (λ v after. ends (value v) after) ≡ ends o store
+value_itself (value v) store = refl
+value_itself (error text) store = refl
+value_itself (aborted m) store = refl
+value_itself (returned v) store = refl
+value_itself (banged text) store = refl
+value_itself deep store = refl
+
+-- the last one is left
+pub before_end : (x : Context) (before now : CodeStore) (all : List Node) (i : ℕ) (whole : Linked → Tree → Ended) → length all ≤ i
+    → IsPartway {A = Linked → Tree → Ended} x before now (items_before x (map linked_of (drop i all)) (store_at x now)) whole
+    → (last : Linked) (v : Tree) → whole last v ≡ meant x last now
+before_end x before now all i whole end so_far last v =
+    let m = meant x last now in
+    sym (ap (λ f. f last v) so_far.same) ∙ ap (λ ns. items_before x ns (store_at x now) last v) (no_part_left all i end) ∙ value_itself m.outcome m.store
+
+-- the last one, and those before it
+pub last_part : (all others : List Node) (last : Node) → all ≡ others ++ last ∷ [] → parts_view all ≡ parts_of_list (map linked_of others ++ linked_of last ∷ [])
+last_part all others last is = ap parts_of_list (ap (map linked_of) is ∙ map-append linked_of others (last ∷ []))
+
+pub last_fits : (x : Context) (ns : List Linked) (last : Linked) → AllFitIn x (parts_of_list (ns ++ last ∷ [])) → AllFitIn x (parts_of_list ns) × FitsIn x last
+last_fits x [] last fits = (tt, fits.0)
+last_fits x (n ∷ ns) last fits = let others = last_fits x ns last fits.1 in ((fits.0, others.0), others.1)
 
 pub parts_next : (law : MeaningsStayWellFormed) (x : Context) (before now after : CodeStore) (all : List Node) (i : ℕ) (n : Node) (vs ws : List Value) (v : Value) (whole : List Linked → Ended) → i < length all → n ≡ get_or all i n
     → AllFitIn x (parts_view (drop i all))
@@ -165,15 +252,6 @@ pairs_end x before now all i ms v whole end is so_far =
 
 -- ---- blocks
 
-pub block_ends : (before : Store) (m : Ended) (store : Store) (r : Result Value Stop) → Ends m store r → Ends (block_left before m) (store_kept before store) r
-block_ends before m store (Ok v) is = ap (block_left before) is
-block_ends before m store (Err (stops.Error text)) is = ap (block_left before) is
-block_ends before m store (Err (stops.Aborted message)) is = ap (block_left before) is
-block_ends before m store (Err (stops.Returned v)) is = ap (block_left before) is
-block_ends before m store (Err (stops.Banged text)) is = ap (block_left before) is
-block_ends before m store (Err stops.Deep) is = ap (block_left before) is
-block_ends before m store (Err stops.Memory) is = tt
-
 -- the store behind a block, with the names that were there before it
 pub block_store : (x : Context) (before middle after : CodeStore) (count : ℕ) → IsReadyStore x before → Stays before middle → count ≡ length before.present.items
     → store_at x after ≡ left_with (names_in x) (take count middle.present.items) (store_at x middle) → store_kept (store_at x before) (store_at x middle) ≡ store_at x after
@@ -215,40 +293,34 @@ pub array_stops : (x : Context) (ns : List Linked) (before : CodeStore) (store :
     → Stops (meant x (array (parts_of_list ns)) before) store stop
 array_stops x ns before store stop all = subst (λ ms. Stops (all_mean (names_in x) (setting_in x) (parts_of_list ms) [] (store_at x before)) store stop) (append-nil ns) (all [])
 
--- ---- writes, whose value is asked for or isn't
+-- ---- writes
 
--- the value itself, or null in its place
-asked_ends : (asked : Bool) (m : Ended) (v copy : Tree) (store : Store) → m ≡ ends (value v) store → copy ≡ (if asked then v else null) → if_asked asked m ≡ ends (value copy) store
-asked_ends true m v copy store is copied = is ∙ ap (λ w. ends (value w) store) (sym copied)
-asked_ends false m v copy store is copied = ap (if_asked false) is ∙ ap (λ w. ends (value w) store) (sym copied)
+pub assigned_ends : (asked : Bool) (target : Target) (m : Ended) (v : Tree) (copy : Value) (store t : Store) → m ≡ ends (value v) store
+    → (asked ≡ true → tree_of copy ≡ v) → ((next : Store → Ended) → writes_to target v store next ≡ next t)
+    → EndsAsked asked (assigned target m) t (Ok copy)
+assigned_ends asked target m v copy store t is copied writes =
+    copy_told asked (assigned target m) v copy t (ap (assigned target) is ∙ writes (λ end. ends (value v) end)) copied
 
-pub asked_stops : (asked : Bool) (m : Ended) (store : Store) (stop : Stop) → Stops m store stop → Stops (if_asked asked m) store stop
-asked_stops true m store stop is = is
-asked_stops false m store stop is = after_stop m (λ v after. ends (value null) after) store stop is
-
-pub assigned_ends : (asked : Bool) (target : Target) (m : Ended) (v copy : Tree) (store t : Store) → m ≡ ends (value v) store → copy ≡ (if asked then v else null) → ((next : Store → Ended) → writes_to target v store next ≡ next t)
-    → if_asked asked (assigned target m) ≡ ends (value copy) t
-assigned_ends asked target m v copy store t is copied writes = asked_ends asked (assigned target m) v copy t (ap (assigned target) is ∙ writes (λ end. ends (value v) end)) copied
-
-pub assigned_stops : (asked : Bool) (target : Target) (m : Ended) (v : Tree) (store t : Store) (stop : Stop) → m ≡ ends (value v) store → ((next : Store → Ended) → Stops (writes_to target v store next) t stop)
-    → Stops (if_asked asked (assigned target m)) t stop
-assigned_stops asked target m v store t stop is writes =
-    asked_stops asked (assigned target m) t stop (subst (λ e. Stops (assigned target e) t stop) (sym is) (writes (λ end. ends (value v) end)))
+pub assigned_stops : (target : Target) (m : Ended) (v : Tree) (store t : Store) (stop : Stop) → m ≡ ends (value v) store
+    → ((next : Store → Ended) → Stops (writes_to target v store next) t stop) → Stops (assigned target m) t stop
+assigned_stops target m v store t stop is writes = subst (λ e. Stops (assigned target e) t stop) (sym is) (writes (λ end. ends (value v) end))
 
 -- both of two writes
-pub both_end : (asked : Bool) (ok err : Target) (whole : Ended) (v w copy : Tree) (store middle t : Store) → whole ≡ written_both ok err v w store → copy ≡ (if asked then v else null)
-    → ((next : Store → Ended) → writes_to ok v store next ≡ next middle) → ((next : Store → Ended) → writes_to err w middle next ≡ next t) → if_asked asked whole ≡ ends (value copy) t
+pub both_end : (asked : Bool) (ok err : Target) (whole : Ended) (v w : Tree) (copy : Value) (store middle t : Store) → whole ≡ written_both ok err v w store
+    → (asked ≡ true → tree_of copy ≡ v) → ((next : Store → Ended) → writes_to ok v store next ≡ next middle)
+    → ((next : Store → Ended) → writes_to err w middle next ≡ next t) → EndsAsked asked whole t (Ok copy)
 both_end asked ok err whole v w copy store middle t is copied first second =
-    asked_ends asked whole v copy t (is ∙ first (λ after. writes_to err w after (λ end. ends (value v) end)) ∙ second (λ end. ends (value v) end)) copied
+    copy_told asked whole v copy t (is ∙ first (λ after. writes_to err w after (λ end. ends (value v) end)) ∙ second (λ end. ends (value v) end)) copied
 
 -- the first one isn't done
-pub first_stops : (asked : Bool) (ok err : Target) (whole : Ended) (v w : Tree) (store t : Store) (stop : Stop) → whole ≡ written_both ok err v w store → ((next : Store → Ended) → Stops (writes_to ok v store next) t stop)
-    → Stops (if_asked asked whole) t stop
-first_stops asked ok err whole v w store t stop is writes =
-    asked_stops asked whole t stop (subst (λ e. Stops e t stop) (sym is) (writes (λ after. writes_to err w after (λ end. ends (value v) end))))
+pub first_stops : (ok err : Target) (whole : Ended) (v w : Tree) (store t : Store) (stop : Stop) → whole ≡ written_both ok err v w store
+    → ((next : Store → Ended) → Stops (writes_to ok v store next) t stop) → Stops whole t stop
+first_stops ok err whole v w store t stop is writes =
+    subst (λ e. Stops e t stop) (sym is) (writes (λ after. writes_to err w after (λ end. ends (value v) end)))
 
 -- the second one
-pub second_stops : (asked : Bool) (ok err : Target) (whole : Ended) (v w : Tree) (store middle t : Store) (stop : Stop) → whole ≡ written_both ok err v w store → ((next : Store → Ended) → writes_to ok v store next ≡ next middle)
-    → ((next : Store → Ended) → Stops (writes_to err w middle next) t stop) → Stops (if_asked asked whole) t stop
-second_stops asked ok err whole v w store middle t stop is first second =
-    asked_stops asked whole t stop (subst (λ e. Stops e t stop) (sym (is ∙ first (λ after. writes_to err w after (λ end. ends (value v) end)))) (second (λ end. ends (value v) end)))
+pub second_stops : (ok err : Target) (whole : Ended) (v w : Tree) (store middle t : Store) (stop : Stop) → whole ≡ written_both ok err v w store
+    → ((next : Store → Ended) → writes_to ok v store next ≡ next middle) → ((next : Store → Ended) → Stops (writes_to err w middle next) t stop)
+    → Stops whole t stop
+second_stops ok err whole v w store middle t stop is first second =
+    subst (λ e. Stops e t stop) (sym (is ∙ first (λ after. writes_to err w after (λ end. ends (value v) end)))) (second (λ end. ends (value v) end))

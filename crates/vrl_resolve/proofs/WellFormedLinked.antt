@@ -18,17 +18,13 @@ use Rattle.vrl_resolve.specs.Calls.{items_in, iteration}
 use Rattle.vrl_resolve.specs.Fits.{part_at, AllFit, AreGiven, ArmsFit, ElseFits, Fits, IsAllowedPartIf, IsCallee, IsGiven, PairsFit}
 use Rattle.vrl_resolve.specs.Laws.{KeepsWellFormed, MeaningsStayWellFormed}
 use Rattle.vrl_resolve.specs.Linked.{Linked, literal, array, object, read, query, block, conditional, negation, binary, assign, merge, both, call, iterate, return_of, abort_with, Parts, no_parts, parts, Pairs, no_pairs, pair, Arms, no_arms, arm, Else, no_else, else_block, no_message, message}
-use Rattle.vrl_resolve.specs.LinkedMeaning.{all_mean, arms_mean, body_means, bound_slots, callee_in, else_means, form_in, hidden_slots, if_asked, items_mean, means, no_body, pairs_mean, slots_in, target_of}
+use Rattle.vrl_resolve.specs.LinkedMeaning.{all_mean, arms_mean, body_means, bound_slots, callee_in, else_means, form_in, hidden_slots, items_mean, means, no_body, pairs_mean, slots_in, target_of}
 use Rattle.vrl_resolve.specs.declared.node.Callee.{Callee}
 use Rattle.vrl_resolve.specs.declared.node.Callee.TheVariants as callee
 use Rattle.vrl_resolve.proofs.GivenArguments.{AreGivenAs, AreKnownAs, IsAllowedAs, IsGivenAs, IsKnownAs}
 use Rattle.vrl_resolve.proofs.WellFormedCalls.{acts_is, items_in_is, TakesKnown}
 use Rattle.vrl_resolve.proofs.WellFormedEnds.{aborted_is, assigned_is, banged_is, block_is, body_left_is, both_is, combined_is, either_is, came_of, negated_is, on_value_is, on_value_known, part_of_is, read_in_is, same_value, target_is, with_value_is}
 use Rattle.vrl_resolve.proofs.WellFormedValues.{Laws, array_is, no_members_is, null_is, one_more, put_is}
-
-asked_is : (count : ℕ) (asked : Bool) (ended : Ended) → IsWellFormedEnded count ended → IsWellFormedEnded count (if_asked asked ended)
-asked_is count true ended is = is
-asked_is count false ended is = on_value_is count ended _ is (λ v after one stored. (null_is count, stored))
 
 -- ---- what is known of the arguments of a call
 
@@ -107,12 +103,14 @@ module _ (laws : Laws) (names : Names) (setting : SettingTree) (variables : ℕ)
     node_is (conditional as_ otherwise) store fits is = arms_are as_ (λ after. else_means names setting otherwise after) store fits.0 (λ after stored. else_is otherwise after fits.1 stored) is
     node_is (negation n) store fits is = on_value_is count (means names setting n store) _ (node_is n store fits is) (λ v after one stored. (negated_is count v, stored))
     node_is (binary o l r) store fits is = combined_is laws count o (means names setting l store) (λ after. means names setting r after) (node_is l store fits.0 is) (λ after stored. node_is r after fits.1 stored)
-    node_is (assign asked t n) store fits is = asked_is count asked _ (assigned_is laws count (target_of names t) _ (node_is n store fits.1 is))
-    node_is (merge asked t n) store fits is =
-        asked_is count asked _ (assigned_is laws count (target_of names t) _
-        (combined_is laws count op.Merge (ends (value (target_value (target_of names t) store)) store) (λ after. means names setting n after) (target_is laws count (target_of names t) store is, is) (λ after stored. node_is n after fits.1 stored)))
-    node_is (both asked t u tag n) store fits is =
-        let given = node_is n store fits.1.1 is in asked_is count asked _ (both_is laws count (target_of names t) (target_of names u) tag (means names setting n store).outcome (means names setting n store).store given.0 given.1)
+    node_is (assign t n) store fits is = assigned_is laws count (target_of names t) _ (node_is n store fits.1 is)
+    node_is (merge t n) store fits is =
+        assigned_is laws count (target_of names t) _
+        (combined_is laws count op.Merge (ends (value (target_value (target_of names t) store)) store) (λ after. means names setting n after)
+        (target_is laws count (target_of names t) store is, is) (λ after stored. node_is n after fits.1 stored))
+    node_is (both t u tag n) store fits is =
+        let given = node_is n store fits.1.1 is in
+        both_is laws count (target_of names t) (target_of names u) tag (means names setting n store).outcome (means names setting n store).store given.0 given.1
     node_is (call c bang ns) store fits is =
         let given = parts_are ns [] store fits.1 tt is in
         banged_is count bang _ (on_value_known count (all_mean names setting ns [] store) _ given

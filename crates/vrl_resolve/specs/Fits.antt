@@ -69,9 +69,9 @@ abbrev mutual
   Fits count sources (conditional as_ otherwise) = ArmsFit count sources as_ × ElseFits count sources otherwise
   Fits count sources (negation n) = Fits count sources n
   Fits count sources (binary o l r) = Fits count sources l × Fits count sources r
-  Fits count sources (assign asked t n) = IsTarget count t × Fits count sources n
-  Fits count sources (merge asked t n) = IsTarget count t × Fits count sources n
-  Fits count sources (both asked t u tag n) = IsTarget count t × (IsTarget count u × Fits count sources n)
+  Fits count sources (assign t n) = IsTarget count t × Fits count sources n
+  Fits count sources (merge t n) = IsTarget count t × Fits count sources n
+  Fits count sources (both t u tag n) = IsTarget count t × (IsTarget count u × Fits count sources n)
   Fits count sources (call c bang ns) = IsCallee count ns c × AllFit count sources ns
   Fits count sources (iterate f bang ns body) = AreKnownSlots count (slots_in f) × (AllFit count sources ns × AllFit count sources body)
   Fits count sources (return_of n) = Fits count sources n

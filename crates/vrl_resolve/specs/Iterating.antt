@@ -74,6 +74,11 @@ abbrev pub takes_arrays : Loop → Bool
 takes_arrays (loops.MapKeys key) = false
 takes_arrays f = true
 
+-- what the runs of its closure give is asked for
+abbrev pub is_body_asked : Loop → Bool
+is_body_asked (loops.ForEach key v) = false
+is_body_asked f = true
+
 -- items in order, before others
 abbrev pub items_onto : List Tree → Items → Items
 items_onto [] ts = ts

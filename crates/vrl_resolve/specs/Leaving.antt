@@ -1,23 +1,19 @@
 -- What a run leaves, by how its walk ended.
-use Rattle.std.specs.Prelude.{◌≡◌, Bool, Option, Some, None, IsTrue, ⊤}
+use Rattle.std.specs.Prelude.{◌≡◌, Bool, true, Some, ⊤}
 use Rattle.std.specs.declared.result.Result.{Result}
 use Rattle.std.specs.declared.result.Result.TheVariants.{Ok, Err}
 use Rattle.vrl_value.specs.Tree.{Tree}
 use Rattle.vrl_value.specs.View.{members_of, tree_of}
 use Rattle.vrl_value.specs.declared.value.Value.{Value}
 use Rattle.vrl_syntax.specs.Stores.{Store}
-use Rattle.vrl_store.specs.StoreView.{map_of}
 use Rattle.vrl_store.specs.Told.{AreToldByMap}
 use Rattle.vrl_store.specs.declared.stop.Stop.{Stop}
 use Rattle.vrl_store.specs.declared.stop.Stop.TheVariants as stop
+use Rattle.vrl_resolve.specs.Meaning.{ended}
+use Rattle.vrl_resolve.specs.Program.{IsEnd}
 use Rattle.vrl_resolve.specs.declared.ran.Ended.{Ended}
 use Rattle.vrl_resolve.specs.declared.ran.Ended.TheVariants as code
 use Rattle.vrl_resolve.specs.declared.ran.Ran.{Ran}
-
--- this value was given, and the variables of this store
-abbrev pub IsValue : Tree → Store → Ended → Type 0
-IsValue v store (code.Value (Some given)) = (tree_of given.value ≡ v) × (map_of (members_of given.variables) ≡ store.variables)
-IsValue v store other = ⊥
 
 -- the variables that were given, where they were
 abbrev pub AreToldIn : Ended → Type 0
@@ -27,9 +23,9 @@ AreToldIn other = ⊤
 abbrev pub AreTold : Ran → Type 0
 AreTold ran = AreToldIn ran.ended
 
--- with this value, and what the store has
-pub record IsValued (v : Tree) (store : Store) (ran : Ran) : Type 0 where
-  pub end : IsValue v store ran.ended
+-- with this value, which is told just where it is asked for, and what the store has
+pub record IsValued (asked : Bool) (v : Tree) (store : Store) (ran : Ran) : Type 0 where
+  pub end : IsEnd asked (ended v) store ran.ended
   pub event : tree_of ran.event ≡ store.event
   pub told : AreTold ran
 
@@ -43,17 +39,17 @@ abbrev pub IsHandledStop : Stop → Type 0
 IsHandledStop (stop.Error text) = ⊥
 IsHandledStop other = ⊤
 
-abbrev pub IsHandled : Result (Option Value) Stop → Type 0
+abbrev pub IsHandled : Result Value Stop → Type 0
 IsHandled (Ok v) = ⊤
 IsHandled (Err s) = IsHandledStop s
 
--- with a value that is asked for, beside which variables and their names are gathered, or for want of memory; what else it ended with takes no memory to leave
+-- with a value that is asked for, beside which variables and their names are gathered, or for want of memory; what else it
+-- ended with takes no memory to leave
 abbrev pub MayWantAt : Bool → Stop → Type 0
-MayWantAt asked (stop.Returned v) = IsTrue asked
+MayWantAt asked (stop.Returned v) = asked ≡ true
 MayWantAt asked stop.Memory = ⊤
 MayWantAt asked other = ⊥
 
-abbrev pub MayWant : Bool → Result (Option Value) Stop → Type 0
-MayWant asked (Ok (Some v)) = ⊤
-MayWant asked (Ok None) = ⊥
+abbrev pub MayWant : Bool → Result Value Stop → Type 0
+MayWant asked (Ok v) = asked ≡ true
 MayWant asked (Err s) = MayWantAt asked s

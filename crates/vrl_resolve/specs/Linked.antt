@@ -30,10 +30,9 @@ mutual
     conditional : Arms → Else → Linked
     negation : Linked → Linked
     binary : Op → Linked → Linked → Linked
-    -- whether the value of the whole is asked for; else it is null
-    assign : Bool → Option Place → Linked → Linked
-    merge : Bool → Option Place → Linked → Linked
-    both : Bool → Option Place → Option Place → Tag → Linked → Linked
+    assign : Option Place → Linked → Linked
+    merge : Option Place → Linked → Linked
+    both : Option Place → Option Place → Tag → Linked → Linked
     call : Callee → Bool → Parts → Linked
     -- a call that runs a closure, with the closure's items behind its arguments
     iterate : Loop → Bool → Parts → Parts → Linked
@@ -96,9 +95,9 @@ form_step (Form-F.Block ns) = block (parts_of_list ns.items)
 form_step (Form-F.If as_ otherwise) = conditional (arms_of_list as_.items) (else_of (option_map (λ ns. ns.items) otherwise))
 form_step (Form-F.Not n) = negation n.value
 form_step (Form-F.Binary o l r) = binary o l.value r.value
-form_step (Form-F.Assign asked t n) = assign asked t n.value
-form_step (Form-F.Merge asked t n) = merge asked t n.value
-form_step (Form-F.Both asked t u tag n) = both asked t u tag n.value
+form_step (Form-F.Assign t n) = assign t n.value
+form_step (Form-F.Merge t n) = merge t n.value
+form_step (Form-F.Both t u tag n) = both t u tag n.value
 form_step (Form-F.Call c) = c.value
 form_step (Form-F.Iteration i) = i.value
 form_step (Form-F.Return n) = return_of n.value

@@ -69,11 +69,6 @@ bound_slots names (Some number ∷ slots) (v ∷ vs) store = bound_slots names s
 
 -- ---- the meaning
 
--- a value that nobody asks for is null
-abbrev pub if_asked : Bool → Ended → Ended
-if_asked true ended = ended
-if_asked false ended = on_value ended (λ v after. ends (value null) after)
-
 abbrev mutual
   pub means : Names → SettingTree → Linked → Store → Ended
   means names setting (literal v) store = ends (value v) store
@@ -85,9 +80,13 @@ abbrev mutual
   means names setting (conditional as_ otherwise) store = arms_mean names setting as_ (λ after. else_means names setting otherwise after) store
   means names setting (negation n) store = on_value (means names setting n store) (λ v after. ends (negated v) after)
   means names setting (binary o l r) store = combined o (means names setting l store) (λ after. means names setting r after)
-  means names setting (assign asked t n) store = if_asked asked (assigned (target_of names t) (means names setting n store))
-  means names setting (merge asked t n) store = if_asked asked (assigned (target_of names t) (combined op.Merge (ends (value (target_value (target_of names t) store)) store) (λ after. means names setting n after)))
-  means names setting (both asked t u tag n) store = let given = means names setting n store in if_asked asked (both_assigned (target_of names t) (target_of names u) tag given.outcome given.store)
+  means names setting (assign t n) store = assigned (target_of names t) (means names setting n store)
+  means names setting (merge t n) store =
+      assigned (target_of names t)
+      (combined op.Merge (ends (value (target_value (target_of names t) store)) store) (λ after. means names setting n after))
+  means names setting (both t u tag n) store =
+      let given = means names setting n store in
+      both_assigned (target_of names t) (target_of names u) tag given.outcome given.store
   means names setting (call c bang ns) store = banged_if bang (on_value (all_mean names setting ns [] store) (λ vs after. acts setting (callee_in names c) no_body (items_in vs) after))
   means names setting (iterate f bang ns body) store =
       banged_if bang (on_value (all_mean names setting ns [] store) (λ vs after. acts setting (iteration (form_in f)) (λ us now. body_left (hidden_slots names (slots_in f)) now (items_mean names setting null body (bound_slots names (slots_in f) us now))) (items_in vs) after))

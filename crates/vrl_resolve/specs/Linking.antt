@@ -1,7 +1,7 @@
 -- What linking makes of the parts of a script, told of the names that the variables have in the end.
 --
--- Each part has its own tags of empty values in front of those left. Whether somebody asks for a value is told of an expression and of items.
-use Rattle.std.specs.Prelude.{◌≡◌, ℕ, Bool, true, false, ◌&&◌, List, [], ◌∷◌, ◌++◌, length, drop, map, Option, Some, None, bytes_eq, codes, if◌then◌else◌, ⊤}
+-- Each part has its own tags of empty values in front of those left.
+use Rattle.std.specs.Prelude.{◌≡◌, ℕ, Bool, true, false, List, [], ◌∷◌, ◌++◌, length, drop, map, Option, Some, None, bytes_eq, codes, if◌then◌else◌, ⊤}
 use Rattle.std.specs.String.{string_bytes}
 use Rattle.vrl_value.specs.Tree.{Tree, IsOrdered}
 use Rattle.vrl_value.specs.declared.value.Tag.{Tag}
@@ -17,7 +17,6 @@ use Rattle.vrl_syntax.specs.declared.root.Root.TheVariants.{Name}
 use Rattle.vrl_syntax.specs.declared.root.Target.{Target}
 use Rattle.vrl_syntax.specs.declared.root.Target.TheVariants as target
 use Rattle.vrl_table.specs.declared.function.Fun.{Fun}
-use Rattle.vrl_store.specs.Asked.{is_last}
 use Rattle.vrl_store.specs.StoreView.{root_of, IsKnown, Names}
 use Rattle.vrl_store.specs.declared.place.Base.{Base}
 use Rattle.vrl_store.specs.declared.place.Base.TheVariants as base
@@ -72,103 +71,95 @@ AreSlotsOf names (x ∷ xs) (slot ∷ slots) = IsSlotOf names x slot × AreSlots
 -- ---- expressions
 
 mutual
-  pub data IsLinked (names : Names) : List Tag → Bool → Expr → Linked → Type 0 where
-    stands : {tags : List Tag} {asked : Bool} {span : Span} {f : Form} {n : Linked}
-        → IsLinkedForm names tags asked f n
-        → IsLinked names tags asked (expr span f) n
+  pub data IsLinked (names : Names) : List Tag → Expr → Linked → Type 0 where
+    stands : {tags : List Tag} {span : Span} {f : Form} {n : Linked}
+        → IsLinkedForm names tags f n
+        → IsLinked names tags (expr span f) n
 
-  pub data IsLinkedForm (names : Names) : List Tag → Bool → Form → Linked → Type 0 where
-    a_literal : {tags : List Tag} {asked : Bool} {v : Tree}
+  pub data IsLinkedForm (names : Names) : List Tag → Form → Linked → Type 0 where
+    a_literal : {tags : List Tag} {v : Tree}
         → IsOrdered v
-        → IsLinkedForm names tags asked (literal v) (linked.literal v)
-    an_array : {tags : List Tag} {asked : Bool} {es : Exprs} {ns : Parts}
+        → IsLinkedForm names tags (literal v) (linked.literal v)
+    an_array : {tags : List Tag} {es : Exprs} {ns : Parts}
         → AreLinked names tags es ns
-        → IsLinkedForm names tags asked (array es) (linked.array ns)
-    an_object : {tags : List Tag} {asked : Bool} {ps : Pairs} {qs : linked.Pairs}
+        → IsLinkedForm names tags (array es) (linked.array ns)
+    an_object : {tags : List Tag} {ps : Pairs} {qs : linked.Pairs}
         → ArePairsLinked names tags ps qs
-        → IsLinkedForm names tags asked (object ps) (linked.object qs)
-    a_read : {tags : List Tag} {asked : Bool} {root : Root} {path : List Step} {place : Place}
+        → IsLinkedForm names tags (object ps) (linked.object qs)
+    a_read : {tags : List Tag} {root : Root} {path : List Step} {place : Place}
         → IsPlaceOf names root path place
-        → IsLinkedForm names tags asked (read root path) (linked.read place)
-    a_query : {tags : List Tag} {asked : Bool} {e : Expr} {path : List Step} {n : Linked}
-        → IsLinked names tags true e n
-        → IsLinkedForm names tags asked (query e path) (linked.query n path)
-    a_group : {tags : List Tag} {asked : Bool} {e : Expr} {n : Linked}
-        → IsLinked names tags asked e n
-        → IsLinkedForm names tags asked (group e) n
-    a_block : {tags : List Tag} {asked : Bool} {es : Exprs} {ns : Parts}
-        → AreItemsLinked names tags asked es ns
-        → IsLinkedForm names tags asked (block es) (linked.block ns)
-    a_conditional : {tags : List Tag} {asked : Bool} {gs : Arms} {es : Else} {as_ : linked.Arms} {otherwise : linked.Else}
-        → AreArmsLinked names tags asked gs as_ → IsElseLinked names (behind_arms gs tags) asked es otherwise
-        → IsLinkedForm names tags asked (conditional gs es) (linked.conditional as_ otherwise)
-    a_negation : {tags : List Tag} {asked : Bool} {e : Expr} {n : Linked}
-        → IsLinked names tags true e n
-        → IsLinkedForm names tags asked (negation e) (linked.negation n)
-    a_binary : {tags : List Tag} {asked : Bool} {o : Op} {l r : Expr} {m n : Linked}
-        → IsLinked names tags true l m → IsLinked names (behind l tags) true r n
-        → IsLinkedForm names tags asked (binary o l r) (linked.binary o m n)
-    an_assignment : {tags : List Tag} {asked : Bool} {t : Target} {e : Expr} {place : Option Place} {n : Linked}
-        → IsTargetOf names t place → IsLinked names tags true e n
-        → IsLinkedForm names tags asked (assign t e) (linked.assign asked place n)
-    a_merge : {tags : List Tag} {asked : Bool} {t : Target} {e : Expr} {place : Option Place} {n : Linked}
-        → IsTargetOf names t place → IsLinked names tags true e n
-        → IsLinkedForm names tags asked (merge t e) (linked.merge asked place n)
-    an_error_assignment : {tags : List Tag} {asked : Bool} {t u : Target} {e : Expr} {ok err : Option Place} {n : Linked}
-        → IsTargetOf names t ok → IsTargetOf names u err → IsLinked names (other_tags tags) true e n
-        → IsLinkedForm names tags asked (both t u e) (linked.both asked ok err (first_tag tags) n)
-    a_call : {tags : List Tag} {asked : Bool} {name : List ℕ} {span : Span} {bang : Bool} {gs : Args} {c : Closure} {d : Callee} {ns : Parts}
+        → IsLinkedForm names tags (read root path) (linked.read place)
+    a_query : {tags : List Tag} {e : Expr} {path : List Step} {n : Linked}
+        → IsLinked names tags e n
+        → IsLinkedForm names tags (query e path) (linked.query n path)
+    a_group : {tags : List Tag} {e : Expr} {n : Linked}
+        → IsLinked names tags e n
+        → IsLinkedForm names tags (group e) n
+    a_block : {tags : List Tag} {es : Exprs} {ns : Parts}
+        → AreLinked names tags es ns
+        → IsLinkedForm names tags (block es) (linked.block ns)
+    a_conditional : {tags : List Tag} {gs : Arms} {es : Else} {as_ : linked.Arms} {otherwise : linked.Else}
+        → AreArmsLinked names tags gs as_ → IsElseLinked names (behind_arms gs tags) es otherwise
+        → IsLinkedForm names tags (conditional gs es) (linked.conditional as_ otherwise)
+    a_negation : {tags : List Tag} {e : Expr} {n : Linked}
+        → IsLinked names tags e n
+        → IsLinkedForm names tags (negation e) (linked.negation n)
+    a_binary : {tags : List Tag} {o : Op} {l r : Expr} {m n : Linked}
+        → IsLinked names tags l m → IsLinked names (behind l tags) r n
+        → IsLinkedForm names tags (binary o l r) (linked.binary o m n)
+    an_assignment : {tags : List Tag} {t : Target} {e : Expr} {place : Option Place} {n : Linked}
+        → IsTargetOf names t place → IsLinked names tags e n
+        → IsLinkedForm names tags (assign t e) (linked.assign place n)
+    a_merge : {tags : List Tag} {t : Target} {e : Expr} {place : Option Place} {n : Linked}
+        → IsTargetOf names t place → IsLinked names tags e n
+        → IsLinkedForm names tags (merge t e) (linked.merge place n)
+    an_error_assignment : {tags : List Tag} {t u : Target} {e : Expr} {ok err : Option Place} {n : Linked}
+        → IsTargetOf names t ok → IsTargetOf names u err → IsLinked names (other_tags tags) e n
+        → IsLinkedForm names tags (both t u e) (linked.both ok err (first_tag tags) n)
+    a_call : {tags : List Tag} {name : List ℕ} {span : Span} {bang : Bool} {gs : Args} {c : Closure} {d : Callee} {ns : Parts}
         → IsCalleeOf names name gs c d → AreArgsLinked names tags gs ns
-        → IsLinkedForm names tags asked (call name span bang gs c) (linked.call d bang ns)
-    -- the value of a closure's last item is asked for
-    an_iteration : {tags : List Tag} {asked : Bool} {name : List ℕ} {span : Span} {bang : Bool} {gs : Args} {xs : List (List ℕ)} {es : Exprs} {at : Span} {f : Loop} {ns body : Parts}
+        → IsLinkedForm names tags (call name span bang gs c) (linked.call d bang ns)
+    an_iteration : {tags : List Tag} {name : List ℕ} {span : Span} {bang : Bool} {gs : Args} {xs : List (List ℕ)} {es : Exprs} {at : Span} {f : Loop} {ns body : Parts}
         → callee_of name gs (closure xs es at) ≡ called.iteration (form_in f) → AreSlotsOf names xs (slots_in f)
-        → AreArgsLinked names tags gs ns → AreItemsLinked names (behind_args gs tags) true es body
-        → IsLinkedForm names tags asked (call name span bang gs (closure xs es at)) (linked.iterate f bang ns body)
-    a_return : {tags : List Tag} {asked : Bool} {e : Expr} {n : Linked}
-        → IsLinked names tags true e n
-        → IsLinkedForm names tags asked (return_of e) (linked.return_of n)
-    a_bare_abort : {tags : List Tag} {asked : Bool}
-        → IsLinkedForm names tags asked (abort_with no_message) (linked.abort_with linked.no_message)
-    an_abort : {tags : List Tag} {asked : Bool} {e : Expr} {n : Linked}
-        → IsLinked names tags true e n
-        → IsLinkedForm names tags asked (abort_with (message e)) (linked.abort_with (linked.message n))
+        → AreArgsLinked names tags gs ns → AreLinked names (behind_args gs tags) es body
+        → IsLinkedForm names tags (call name span bang gs (closure xs es at)) (linked.iterate f bang ns body)
+    a_return : {tags : List Tag} {e : Expr} {n : Linked}
+        → IsLinked names tags e n
+        → IsLinkedForm names tags (return_of e) (linked.return_of n)
+    a_bare_abort : {tags : List Tag}
+        → IsLinkedForm names tags (abort_with no_message) (linked.abort_with linked.no_message)
+    an_abort : {tags : List Tag} {e : Expr} {n : Linked}
+        → IsLinked names tags e n
+        → IsLinkedForm names tags (abort_with (message e)) (linked.abort_with (linked.message n))
 
-  -- parts whose values are all asked for
   pub data AreLinked (names : Names) : List Tag → Exprs → Parts → Type 0 where
     none_linked : {tags : List Tag} → AreLinked names tags no_exprs linked.no_parts
     one_linked : {tags : List Tag} {e : Expr} {es : Exprs} {n : Linked} {ns : Parts}
-        → IsLinked names tags true e n → AreLinked names (behind e tags) es ns
+        → IsLinked names tags e n → AreLinked names (behind e tags) es ns
         → AreLinked names tags (exprs e es) (linked.parts n ns)
-
-  pub data AreItemsLinked (names : Names) : List Tag → Bool → Exprs → Parts → Type 0 where
-    no_item : {tags : List Tag} {asked : Bool} → AreItemsLinked names tags asked no_exprs linked.no_parts
-    one_item : {tags : List Tag} {asked : Bool} {e : Expr} {es : Exprs} {n : Linked} {ns : Parts}
-        → IsLinked names tags (asked && is_last es) e n → AreItemsLinked names (behind e tags) asked es ns
-        → AreItemsLinked names tags asked (exprs e es) (linked.parts n ns)
 
   pub data ArePairsLinked (names : Names) : List Tag → Pairs → linked.Pairs → Type 0 where
     no_pair : {tags : List Tag} → ArePairsLinked names tags no_pairs linked.no_pairs
     one_pair : {tags : List Tag} {key : List ℕ} {e : Expr} {ps : Pairs} {n : Linked} {qs : linked.Pairs}
-        → IsLinked names tags true e n → ArePairsLinked names (behind e tags) ps qs
+        → IsLinked names tags e n → ArePairsLinked names (behind e tags) ps qs
         → ArePairsLinked names tags (pair key e ps) (linked.pair key n qs)
 
-  pub data AreArmsLinked (names : Names) : List Tag → Bool → Arms → linked.Arms → Type 0 where
-    no_arm : {tags : List Tag} {asked : Bool} → AreArmsLinked names tags asked no_arms linked.no_arms
-    one_arm : {tags : List Tag} {asked : Bool} {predicate : Expr} {es : Exprs} {gs : Arms} {n : Linked} {ns : Parts} {as_ : linked.Arms}
-        → IsLinked names tags true predicate n → AreItemsLinked names (behind predicate tags) asked es ns → AreArmsLinked names (behind_all es (behind predicate tags)) asked gs as_
-        → AreArmsLinked names tags asked (arm predicate es gs) (linked.arm n ns as_)
+  pub data AreArmsLinked (names : Names) : List Tag → Arms → linked.Arms → Type 0 where
+    no_arm : {tags : List Tag} → AreArmsLinked names tags no_arms linked.no_arms
+    one_arm : {tags : List Tag} {predicate : Expr} {es : Exprs} {gs : Arms} {n : Linked} {ns : Parts} {as_ : linked.Arms}
+        → IsLinked names tags predicate n → AreLinked names (behind predicate tags) es ns → AreArmsLinked names (behind_all es (behind predicate tags)) gs as_
+        → AreArmsLinked names tags (arm predicate es gs) (linked.arm n ns as_)
 
-  pub data IsElseLinked (names : Names) : List Tag → Bool → Else → linked.Else → Type 0 where
-    no_last : {tags : List Tag} {asked : Bool} → IsElseLinked names tags asked no_else linked.no_else
-    a_last : {tags : List Tag} {asked : Bool} {es : Exprs} {ns : Parts}
-        → AreItemsLinked names tags asked es ns
-        → IsElseLinked names tags asked (else_block es) (linked.else_block ns)
+  pub data IsElseLinked (names : Names) : List Tag → Else → linked.Else → Type 0 where
+    no_last : {tags : List Tag} → IsElseLinked names tags no_else linked.no_else
+    a_last : {tags : List Tag} {es : Exprs} {ns : Parts}
+        → AreLinked names tags es ns
+        → IsElseLinked names tags (else_block es) (linked.else_block ns)
 
   pub data AreArgsLinked (names : Names) : List Tag → Args → Parts → Type 0 where
     no_argument : {tags : List Tag} → AreArgsLinked names tags no_args linked.no_parts
     one_argument : {tags : List Tag} {name : Option (List ℕ)} {span : Span} {e : Expr} {gs : Args} {n : Linked} {ns : Parts}
-        → IsLinked names tags true e n → AreArgsLinked names (behind e tags) gs ns
+        → IsLinked names tags e n → AreArgsLinked names (behind e tags) gs ns
         → AreArgsLinked names tags (arg name span e gs) (linked.parts n ns)
 
 -- ---- what the calls of a linker say of it
@@ -193,12 +184,8 @@ pub record Numbers (before after : Linker) (So : Names → Type 0) : Type 0 wher
   pub tags : after.tags.left.now ≡ before.tags.left.now
   pub so : (names : Names) → IsBeginning (names_in after) names → So names
 
--- a form is linked, whether or not its value is asked for
-abbrev pub LinksForm : Linker → Linker → Bool → Form → Linked → Type 0
-LinksForm before after asked f n = Links before after (in_form f) (λ names tags. IsLinkedForm names tags asked f n)
-
-abbrev pub LinksAny : Linker → Linker → Form → Linked → Type 0
-LinksAny before after f n = Links before after (in_form f) (λ names tags. (asked : Bool) → IsLinkedForm names tags asked f n)
+abbrev pub LinksForm : Linker → Linker → Form → Linked → Type 0
+LinksForm before after f n = Links before after (in_form f) (λ names tags. IsLinkedForm names tags f n)
 
 -- what a call in memory calls
 abbrev pub IsCalleeIn : Names → Form → Callee → Type 0
@@ -232,7 +219,7 @@ IsLoopIn names f o = ⊥
 -- the items of a closure, where there is one
 abbrev pub IsBodyLinked : Names → List Tag → Closure → Parts → Type 0
 IsBodyLinked names tags no_closure ns = ⊤
-IsBodyLinked names tags (closure xs es at) ns = AreItemsLinked names tags true es ns
+IsBodyLinked names tags (closure xs es at) ns = AreLinked names tags es ns
 
 -- ---- the arguments of a call
 

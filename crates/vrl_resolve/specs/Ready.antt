@@ -133,9 +133,9 @@ mutual
   fits-prop count sources (conditional as_ otherwise) = ×_prop (arms-prop count sources as_) (else-prop count sources otherwise)
   fits-prop count sources (negation n) = fits-prop count sources n
   fits-prop count sources (binary o l r) = ×_prop (fits-prop count sources l) (fits-prop count sources r)
-  fits-prop count sources (assign asked t n) = ×_prop (target-prop count t) (fits-prop count sources n)
-  fits-prop count sources (merge asked t n) = ×_prop (target-prop count t) (fits-prop count sources n)
-  fits-prop count sources (both asked t u tag n) = ×_prop (target-prop count t) (×_prop (target-prop count u) (fits-prop count sources n))
+  fits-prop count sources (assign t n) = ×_prop (target-prop count t) (fits-prop count sources n)
+  fits-prop count sources (merge t n) = ×_prop (target-prop count t) (fits-prop count sources n)
+  fits-prop count sources (both t u tag n) = ×_prop (target-prop count t) (×_prop (target-prop count u) (fits-prop count sources n))
   fits-prop count sources (call c bang ns) = ×_prop (callee-prop count ns c) (all_fit-prop count sources ns)
   fits-prop count sources (iterate f bang ns body) = ×_prop (slots-prop count (slots_in f)) (×_prop (all_fit-prop count sources ns) (all_fit-prop count sources body))
   fits-prop count sources (return_of n) = fits-prop count sources n

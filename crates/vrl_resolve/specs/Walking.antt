@@ -73,7 +73,17 @@ pub record Stays (before after : CodeStore) : Type 0 where
 abbrev pub meant : Context → Linked → CodeStore → Ended
 meant x n s = means (names_in x) (setting_in x) n (store_at x s)
 
+-- it ended with a value; where that isn't asked for, nothing is told but that there is one
+abbrev pub EndsWith : Bool → Ended → Store → Value → Type 0
+EndsWith true ended store v = ended ≡ ends (value (tree_of v)) store
+EndsWith false ended store v = (w : Tree) × (ended ≡ ends (value w) store)
+
 -- it ended so, and left this store
+abbrev pub EndsAsked : Bool → Ended → Store → Result Value Stop → Type 0
+EndsAsked asked ended store (Ok v) = EndsWith asked ended store v
+EndsAsked asked ended store (Err stop) = Stops ended store stop
+
+-- the same where its value is asked for
 abbrev pub EndsIn : Context → Ended → CodeStore → Result Value Stop → Type 0
 EndsIn x ended after result = Ends ended (store_at x after) result
 
@@ -96,14 +106,3 @@ WritesTo target v before after (Err stop) = (next : Store → Ended) → Stops (
 abbrev pub GivesBoth : Tag → Ended → Store → Result (Value × Value) Stop → Type 0
 GivesBoth tag given store (Ok vs) = (ok err : Target) → both_assigned ok err tag given.outcome given.store ≡ written_both ok err (tree_of vs.0) (tree_of vs.1) store
 GivesBoth tag given store (Err stop) = (ok err : Target) → Stops (both_assigned ok err tag given.outcome given.store) store stop
-
--- it ended with a value, of which nothing is told
-abbrev pub EndsDone : Ended → Store → Result (Unit {0}) Stop → Type 0
-EndsDone ended store (Ok done) = (v : Tree) × (ended ≡ ends (value v) store)
-EndsDone ended store (Err stop) = Stops ended store stop
-
--- it ended with a value, which is told just where it is asked for
-abbrev pub EndsAsked : Bool → Ended → Store → Result (Option Value) Stop → Type 0
-EndsAsked asked ended store (Ok (Some v)) = (asked ≡ true) × (ended ≡ ends (value (tree_of v)) store)
-EndsAsked asked ended store (Ok None) = (asked ≡ false) × ((v : Tree) × (ended ≡ ends (value v) store))
-EndsAsked asked ended store (Err stop) = Stops ended store stop

@@ -8,7 +8,7 @@ ghost use Rattle.vrl_store.specs.Results.{Gives};
 ghost use Rattle.vrl_store.specs.StoreView.{count_of, hidden_tree, left_with, present_of, store_in, AreNames, IsFront, Names};
 ghost use Rattle.vrl_resolve.specs.Calls.{argument_text};
 ghost use Rattle.vrl_resolve.specs.Fits.{IsKnownSlot};
-ghost use Rattle.vrl_resolve.specs.Iterating.{bound_slot, given_back, made_in, made_items, Binds, IsFieldHeld, IsHiddenBy, IsItemHeld, MayBeGivenBack, TakesField, TakesItem, TakesName, takes_arrays};
+ghost use Rattle.vrl_resolve.specs.Iterating.{bound_slot, given_back, is_body_asked, made_in, made_items, Binds, IsFieldHeld, IsHiddenBy, IsItemHeld, MayBeGivenBack, TakesField, TakesItem, TakesName, takes_arrays};
 ghost use Rattle.vrl_resolve.specs.LinkedMeaning.{form_in};
 
 use crate::calls::{argument_text, within_limit};
@@ -82,6 +82,18 @@ pub(crate) fn takes_arrays(function: Loop) -> bool
         Loop::Filter(_, _) => true,
         Loop::MapValues(_) => true,
         Loop::MapKeys(_) => false,
+    }
+}
+
+/// Whether what the runs of a function's closure give is asked for.
+pub(crate) fn is_body_asked(function: Loop) -> bool
+    ensures { result ≡ is_body_asked function }
+{
+    match function {
+        Loop::ForEach(_, _) => false,
+        Loop::Filter(_, _) => true,
+        Loop::MapValues(_) => true,
+        Loop::MapKeys(_) => true,
     }
 }
 

@@ -1,4 +1,4 @@
-ghost use Rattle.std.specs.Prelude.{◌≡◌, ◌&&◌, ◌==◌, [], true, map, option_map, IfOk, OnOk, ⊤};
+ghost use Rattle.std.specs.Prelude.{◌≡◌, [], map, option_map, IfOk, OnOk, ⊤};
 ghost use Rattle.vrl_syntax.specs.ErrorAssignments.{first_tag, in_args, in_arms, in_closure, in_else, in_expr, in_exprs, other_tags};
 ghost use Rattle.vrl_syntax.specs.Tree.{abort_with, array, assign, binary, block, both, conditional, literal, merge, negation, object, query, read, return_of};
 ghost use Rattle.vrl_syntax.specs.View.{arg_of, args_of, arms_of, call_of, closure_in, closure_of, else_of, expr_of, exprs_of, message_of, pairs_of};
@@ -7,7 +7,7 @@ ghost use Rattle.vrl_value.specs.View.{tree_of};
 ghost use Rattle.vrl_store.specs.StoreView.{AreDistinct, Names as VariableNames};
 ghost use Rattle.vrl_store.specs.declared.place.Base.TheVariants as base;
 ghost use Rattle.vrl_resolve.specs.Linked.{arms_view, linked_of, parts_view, else_of as linked_else};
-ghost use Rattle.vrl_resolve.specs.Linking.{names_in, AreArgsLinked, AreArmsLinked, AreItemsLinked, IsBaseOf, IsBeginning, IsBodyLinked, IsElseLinked, IsLinked, IsLoopIn, IsPlaceOf, IsTargetOf, Links, LinksAny, LinksForm, Numbers};
+ghost use Rattle.vrl_resolve.specs.Linking.{names_in, AreArgsLinked, AreArmsLinked, AreLinked, IsBaseOf, IsBeginning, IsBodyLinked, IsElseLinked, IsLinked, IsLoopIn, IsPlaceOf, IsTargetOf, Links, LinksForm, Numbers};
 
 use crate::node::{Arm, Call, Form, Iteration, Loop, Node};
 use indexmap::IndexSet;
@@ -40,13 +40,6 @@ impl<'a> Linker<'a> {
             tags: EmptyTags { left: tags },
         }
     }
-}
-
-// Whether the value of an item is asked for, before so many others: where that of all the items is, and it is the last one.
-fn is_asked_before(is_asked: bool, others: usize) -> bool
-    ensures { result ≡ (is_asked && (others == 0)) }
-{
-    is_asked && others == 0
 }
 
 // The value of an argument, which is let go but for that.
@@ -127,26 +120,26 @@ impl Linker<'_> {
         self.tags.next()
     }
 
-    /// The nodes of items, of which only the value of the last is asked for, and that only where the whole's is. `Memory`: want of memory.
+    /// The nodes of items, or of the parts of an array. `Memory`: want of memory.
     #[cycle(link)]
-    pub(crate) fn items(&mut self, items: Exprs, is_asked: bool) -> Result<Vec<Node>, Memory>
+    pub(crate) fn items(&mut self, items: Exprs) -> Result<Vec<Node>, Memory>
         ensures { IfOk result (λ nodes. Links self.old self.new (in_exprs (exprs_of items))
-            (λ names tags. AreItemsLinked names tags is_asked (exprs_of items) (parts_view nodes.items))) }
+            (λ names tags. AreLinked names tags (exprs_of items) (parts_view nodes.items))) }
     {
-        let mut left = items.into_vec().into_iter();
-        let mut nodes = Vec::with_capacity(self.alloc, left.len())?;
-        while let Some(item) = left.next() {
-            let node = self.node(item, is_asked_before(is_asked, left.len()))?;
+        let items = items.into_vec();
+        let mut nodes = Vec::with_capacity(self.alloc, items.len())?;
+        for item in items {
+            let node = self.node(item)?;
             nodes.push(node)?;
         }
         Ok(nodes)
     }
 
-    // The node of an expression, whose value is asked for or isn't. `Memory`: want of memory.
+    // The node of an expression. `Memory`: want of memory.
     #[cycle(link)]
-    fn node(&mut self, expr: Expr, is_asked: bool) -> Result<Node, Memory>
+    fn node(&mut self, expr: Expr) -> Result<Node, Memory>
         ensures { IfOk result (λ node. Links self.old self.new (in_expr (expr_of expr))
-            (λ names tags. IsLinked names tags is_asked (expr_of expr) (linked_of node))) }
+            (λ names tags. IsLinked names tags (expr_of expr) (linked_of node))) }
     {
         match expr.into_form() {
             SyntaxForm::Literal(value) => Ok(self.literal(value)),
@@ -154,40 +147,40 @@ impl Linker<'_> {
             SyntaxForm::Map(pairs) => self.object(pairs),
             SyntaxForm::Read(root, path) => self.read(root, path),
             SyntaxForm::Query(part, path) => self.query(part, path),
-            SyntaxForm::Group(part) => self.node(Box::into_inner(part), is_asked),
-            SyntaxForm::Block(items) => self.block(items, is_asked),
-            SyntaxForm::If(arms, otherwise) => self.conditional(arms, otherwise, is_asked),
+            SyntaxForm::Group(part) => self.node(Box::into_inner(part)),
+            SyntaxForm::Block(items) => self.block(items),
+            SyntaxForm::If(arms, otherwise) => self.conditional(arms, otherwise),
             SyntaxForm::Not(part) => self.negation(part),
             SyntaxForm::Binary(op, left, right) => self.binary(op, left, right),
-            SyntaxForm::Assign(target, part) => self.assign(target, part, is_asked),
-            SyntaxForm::Merge(target, part) => self.merge(target, part, is_asked),
-            SyntaxForm::Both(ok, err, part) => self.both(ok, err, part, is_asked),
+            SyntaxForm::Assign(target, part) => self.assign(target, part),
+            SyntaxForm::Merge(target, part) => self.merge(target, part),
+            SyntaxForm::Both(ok, err, part) => self.both(ok, err, part),
             SyntaxForm::Call(call) => self.call(Box::into_inner(call)),
             SyntaxForm::Return(part) => self.give_back(part),
             SyntaxForm::Abort(message) => self.abort(message),
         }
     }
 
-    // The node of a part whose value is asked for, in a box. `Memory`: want of memory.
+    // The node of a part, in a box. `Memory`: want of memory.
     #[cycle(link)]
     fn boxed(&mut self, part: Box<Expr>) -> Result<Box<Node>, Memory>
         ensures { IfOk result (λ node. Links self.old self.new (in_expr (expr_of part.value))
-            (λ names tags. IsLinked names tags true (expr_of part.value) (linked_of node.value))) }
+            (λ names tags. IsLinked names tags (expr_of part.value) (linked_of node.value))) }
     {
-        let node = self.node(Box::into_inner(part), true)?;
+        let node = self.node(Box::into_inner(part))?;
         Ok(Box::new(self.alloc, node)?)
     }
 
     // A literal, which is in order: its depth says so.
     fn literal(&self, value: Value) -> Node
-        ensures { LinksAny self.now self.now (literal (tree_of value)) (linked_of result) }
+        ensures { LinksForm self.now self.now (literal (tree_of value)) (linked_of result) }
     {
         let _depth = value.depth();
         Node::of(Form::Literal(value))
     }
 
     fn read(&mut self, root: Root, path: Path) -> Result<Node, Memory>
-        ensures { IfOk result (λ node. LinksAny self.old self.new (read root path) (linked_of node)) }
+        ensures { IfOk result (λ node. LinksForm self.old self.new (read root path) (linked_of node)) }
     {
         let place = self.place(&root, path)?;
         Ok(Node::of(Form::Read(place)))
@@ -195,25 +188,20 @@ impl Linker<'_> {
 
     #[cycle(link)]
     fn array(&mut self, parts: Exprs) -> Result<Node, Memory>
-        ensures { IfOk result (λ node. LinksAny self.old self.new (array (exprs_of parts)) (linked_of node)) }
+        ensures { IfOk result (λ node. LinksForm self.old self.new (array (exprs_of parts)) (linked_of node)) }
     {
-        let parts = parts.into_vec();
-        let mut nodes = Vec::with_capacity(self.alloc, parts.len())?;
-        for part in parts {
-            let node = self.node(part, true)?;
-            nodes.push(node)?;
-        }
+        let nodes = self.items(parts)?;
         Ok(Node::of(Form::Array(nodes)))
     }
 
     #[cycle(link)]
     fn object(&mut self, pairs: Pairs) -> Result<Node, Memory>
-        ensures { IfOk result (λ node. LinksAny self.old self.new (object (pairs_of pairs)) (linked_of node)) }
+        ensures { IfOk result (λ node. LinksForm self.old self.new (object (pairs_of pairs)) (linked_of node)) }
     {
         let pairs = pairs.into_vec();
         let mut nodes = Vec::with_capacity(self.alloc, pairs.len())?;
         for (name, part) in pairs {
-            let node = self.node(part, true)?;
+            let node = self.node(part)?;
             nodes.push((name, node))?;
         }
         Ok(Node::of(Form::Object(nodes)))
@@ -221,17 +209,17 @@ impl Linker<'_> {
 
     #[cycle(link)]
     fn query(&mut self, part: Box<Expr>, path: Path) -> Result<Node, Memory>
-        ensures { IfOk result (λ node. LinksAny self.old self.new (query (expr_of part.value) path) (linked_of node)) }
+        ensures { IfOk result (λ node. LinksForm self.old self.new (query (expr_of part.value) path) (linked_of node)) }
     {
         let part = self.boxed(part)?;
         Ok(Node::of(Form::Query(part, path)))
     }
 
     #[cycle(link)]
-    fn block(&mut self, items: Exprs, is_asked: bool) -> Result<Node, Memory>
-        ensures { IfOk result (λ node. LinksForm self.old self.new is_asked (block (exprs_of items)) (linked_of node)) }
+    fn block(&mut self, items: Exprs) -> Result<Node, Memory>
+        ensures { IfOk result (λ node. LinksForm self.old self.new (block (exprs_of items)) (linked_of node)) }
     {
-        let nodes = self.items(items, is_asked)?;
+        let nodes = self.items(items)?;
         Ok(Node::of(Form::Block(nodes)))
     }
 
@@ -240,27 +228,26 @@ impl Linker<'_> {
         &mut self,
         arms: Arms,
         otherwise: Option<Exprs>,
-        is_asked: bool,
     ) -> Result<Node, Memory>
-        ensures { IfOk result (λ node. LinksForm self.old self.new is_asked
+        ensures { IfOk result (λ node. LinksForm self.old self.new
             (conditional (arms_of arms) (else_of (option_map exprs_of otherwise))) (linked_of node)) }
     {
-        let arms = self.arms(arms, is_asked)?;
-        let otherwise = self.otherwise(otherwise, is_asked)?;
+        let arms = self.arms(arms)?;
+        let otherwise = self.otherwise(otherwise)?;
         Ok(Node::of(Form::If(arms, otherwise)))
     }
 
     #[cycle(link)]
-    fn arms(&mut self, arms: Arms, is_asked: bool) -> Result<Vec<Arm>, Memory>
+    fn arms(&mut self, arms: Arms) -> Result<Vec<Arm>, Memory>
         ensures { IfOk result (λ linked. Links self.old self.new (in_arms (arms_of arms))
-            (λ names tags. AreArmsLinked names tags is_asked (arms_of arms) (arms_view linked.items))) }
+            (λ names tags. AreArmsLinked names tags (arms_of arms) (arms_view linked.items))) }
     {
         let arms = arms.into_vec();
         let mut linked = Vec::with_capacity(self.alloc, arms.len())?;
         for arm in arms {
             let SyntaxArm { predicate, body } = arm;
-            let predicate = self.node(predicate, true)?;
-            let body = self.items(body, is_asked)?;
+            let predicate = self.node(predicate)?;
+            let body = self.items(body)?;
             linked.push(Arm { predicate, body })?;
         }
         Ok(linked)
@@ -271,15 +258,14 @@ impl Linker<'_> {
     fn otherwise(
         &mut self,
         otherwise: Option<Exprs>,
-        is_asked: bool,
     ) -> Result<Option<Vec<Node>>, Memory>
         ensures { IfOk result (λ linked. Links self.old self.new (in_else (else_of (option_map exprs_of otherwise)))
-            (λ names tags. IsElseLinked names tags is_asked (else_of (option_map exprs_of otherwise))
+            (λ names tags. IsElseLinked names tags (else_of (option_map exprs_of otherwise))
             (linked_else (option_map (λ nodes. map linked_of nodes.items) linked)))) }
     {
         match otherwise {
             Some(items) => {
-                let nodes = self.items(items, is_asked)?;
+                let nodes = self.items(items)?;
                 Ok(Some(nodes))
             }
             None => Ok(None),
@@ -288,7 +274,7 @@ impl Linker<'_> {
 
     #[cycle(link)]
     fn negation(&mut self, part: Box<Expr>) -> Result<Node, Memory>
-        ensures { IfOk result (λ node. LinksAny self.old self.new (negation (expr_of part.value)) (linked_of node)) }
+        ensures { IfOk result (λ node. LinksForm self.old self.new (negation (expr_of part.value)) (linked_of node)) }
     {
         let part = self.boxed(part)?;
         Ok(Node::of(Form::Not(part)))
@@ -296,7 +282,8 @@ impl Linker<'_> {
 
     #[cycle(link)]
     fn binary(&mut self, op: Op, left: Box<Expr>, right: Box<Expr>) -> Result<Node, Memory>
-        ensures { IfOk result (λ node. LinksAny self.old self.new (binary op (expr_of left.value) (expr_of right.value)) (linked_of node)) }
+        ensures { IfOk result (λ node. LinksForm self.old self.new
+            (binary op (expr_of left.value) (expr_of right.value)) (linked_of node)) }
     {
         let left = self.boxed(left)?;
         let right = self.boxed(right)?;
@@ -304,29 +291,23 @@ impl Linker<'_> {
     }
 
     #[cycle(link)]
-    fn assign(&mut self, target: Target, part: Box<Expr>, is_asked: bool) -> Result<Node, Memory>
-        ensures { IfOk result (λ node. LinksForm self.old self.new is_asked (assign target (expr_of part.value)) (linked_of node)) }
+    fn assign(&mut self, target: Target, part: Box<Expr>) -> Result<Node, Memory>
+        ensures { IfOk result (λ node. LinksForm self.old self.new
+            (assign target (expr_of part.value)) (linked_of node)) }
     {
         let part = self.boxed(part)?;
         let target = self.target(target)?;
-        Ok(Node::of(Form::Assign {
-            is_asked,
-            target,
-            part,
-        }))
+        Ok(Node::of(Form::Assign(target, part)))
     }
 
     #[cycle(link)]
-    fn merge(&mut self, target: Target, part: Box<Expr>, is_asked: bool) -> Result<Node, Memory>
-        ensures { IfOk result (λ node. LinksForm self.old self.new is_asked (merge target (expr_of part.value)) (linked_of node)) }
+    fn merge(&mut self, target: Target, part: Box<Expr>) -> Result<Node, Memory>
+        ensures { IfOk result (λ node. LinksForm self.old self.new
+            (merge target (expr_of part.value)) (linked_of node)) }
     {
         let part = self.boxed(part)?;
         let target = self.target(target)?;
-        Ok(Node::of(Form::Merge {
-            is_asked,
-            target,
-            part,
-        }))
+        Ok(Node::of(Form::Merge(target, part)))
     }
 
     #[cycle(link)]
@@ -335,16 +316,15 @@ impl Linker<'_> {
         ok: Target,
         err: Target,
         part: Box<Expr>,
-        is_asked: bool,
     ) -> Result<Node, Memory>
-        ensures { IfOk result (λ node. LinksForm self.old self.new is_asked (both ok err (expr_of part.value)) (linked_of node)) }
+        ensures { IfOk result (λ node. LinksForm self.old self.new
+            (both ok err (expr_of part.value)) (linked_of node)) }
     {
         let tag = self.tag();
         let part = self.boxed(part)?;
         let ok = self.target(ok)?;
         let err = self.target(err)?;
         Ok(Node::of(Form::Both {
-            is_asked,
             ok,
             err,
             tag,
@@ -354,7 +334,7 @@ impl Linker<'_> {
 
     #[cycle(link)]
     fn give_back(&mut self, part: Box<Expr>) -> Result<Node, Memory>
-        ensures { IfOk result (λ node. LinksAny self.old self.new (return_of (expr_of part.value)) (linked_of node)) }
+        ensures { IfOk result (λ node. LinksForm self.old self.new (return_of (expr_of part.value)) (linked_of node)) }
     {
         let part = self.boxed(part)?;
         Ok(Node::of(Form::Return(part)))
@@ -362,7 +342,8 @@ impl Linker<'_> {
 
     #[cycle(link)]
     fn abort(&mut self, message: Option<Box<Expr>>) -> Result<Node, Memory>
-        ensures { IfOk result (λ node. LinksAny self.old self.new (abort_with (message_of (option_map (λ part. expr_of part.value) message))) (linked_of node)) }
+        ensures { IfOk result (λ node. LinksForm self.old self.new
+            (abort_with (message_of (option_map (λ part. expr_of part.value) message))) (linked_of node)) }
     {
         match message {
             Some(part) => {
@@ -375,7 +356,7 @@ impl Linker<'_> {
 
     #[cycle(link)]
     fn call(&mut self, call: SyntaxCall) -> Result<Node, Memory>
-        ensures { IfOk result (λ node. LinksAny self.old self.new (call_of call) (linked_of node)) }
+        ensures { IfOk result (λ node. LinksForm self.old self.new (call_of call) (linked_of node)) }
     {
         let function = self.function(&call)?;
         match function {
@@ -388,7 +369,7 @@ impl Linker<'_> {
     #[cycle(link)]
     fn iteration(&mut self, call: SyntaxCall, function: Loop) -> Result<Node, Memory>
         requires { (names : VariableNames) → IsBeginning (names_in self.old) names → IsLoopIn names (call_of call) (Some function) }
-        ensures { IfOk result (λ node. LinksAny self.old self.new (call_of call) (linked_of node)) }
+        ensures { IfOk result (λ node. LinksForm self.old self.new (call_of call) (linked_of node)) }
     {
         let SyntaxCall {
             name: _,
@@ -421,7 +402,7 @@ impl Linker<'_> {
                     body,
                     span: _,
                 } = closure;
-                self.items(body, true)
+                self.items(body)
             }
             None => Ok(Vec::new(self.alloc)),
         }
@@ -431,7 +412,7 @@ impl Linker<'_> {
     #[cycle(link)]
     fn plain_call(&mut self, call: SyntaxCall) -> Result<Node, Memory>
         requires { (names : VariableNames) → IsBeginning (names_in self.old) names → IsLoopIn names (call_of call) None }
-        ensures { IfOk result (λ node. LinksAny self.old self.new (call_of call) (linked_of node)) }
+        ensures { IfOk result (λ node. LinksForm self.old self.new (call_of call) (linked_of node)) }
     {
         let callee = self.callee(&call)?;
         let SyntaxCall {
@@ -462,7 +443,7 @@ impl Linker<'_> {
         let args = args.into_vec();
         let mut nodes = Vec::with_capacity(self.alloc, args.len())?;
         for arg in args {
-            let node = self.node(value_of(arg), true)?;
+            let node = self.node(value_of(arg))?;
             nodes.push(node)?;
         }
         Ok(nodes)

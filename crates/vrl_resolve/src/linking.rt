@@ -28,7 +28,7 @@ impl Program {
     {
         let mut linker = Linker::new(alloc, empties.as_slice());
         let Script { items, patterns: _ } = script;
-        let items = linker.items(items, true)?;
+        let items = linker.items(items)?;
         let names = linker.into_names()?;
         Ok(Program {
             items,

@@ -57,8 +57,7 @@ impl Drop for Node {
     }
 }
 
-/// The forms of a node. Three forms write a value: where it is asked for, the value is that of the whole too; else the whole is null, and
-/// nothing is copied.
+/// The forms of a node.
 #[cycle(node)]
 #[derive(Drop)]
 pub(crate) enum Form {
@@ -81,27 +80,11 @@ pub(crate) enum Form {
     /// An operator between two sides.
     Binary(Op, Box<Node>, Box<Node>),
     /// A value is written, where the target takes one.
-    Assign {
-        /// Whether the value is asked for.
-        is_asked: bool,
-        /// Where it is written.
-        target: Option<Place>,
-        /// Whose value it is.
-        part: Box<Node>,
-    },
+    Assign(Option<Place>, Box<Node>),
     /// The fields of a value are put over those at a target.
-    Merge {
-        /// Whether what is written is asked for.
-        is_asked: bool,
-        /// Where it is written.
-        target: Option<Place>,
-        /// Whose value has the fields.
-        part: Box<Node>,
-    },
+    Merge(Option<Place>, Box<Node>),
     /// An error assignment.
     Both {
-        /// Whether the value is asked for.
-        is_asked: bool,
         /// Where the value is written.
         ok: Option<Place>,
         /// Where the text of the error is written.

@@ -1,5 +1,4 @@
-ghost use Rattle.std.specs.Prelude.{◌≡◌, ◌≢◌, if◌then◌else◌, Err, IfOk};
-ghost use Rattle.vrl_value.specs.Tree.{null};
+ghost use Rattle.std.specs.Prelude.{◌≡◌, ◌≢◌, true, Err, IfOk, IsErr};
 ghost use Rattle.vrl_value.specs.View.{tree_of};
 ghost use Rattle.vrl_syntax.specs.Stores.{Store as StoreTree};
 ghost use Rattle.vrl_store.specs.Outcomes.{Ended};
@@ -35,9 +34,10 @@ pub(crate) fn write_to(
     Ok(())
 }
 
-/// The value again, where it is asked for; else null. `Memory`: want of memory.
+/// The value again, where it is asked for; else null. `Memory`: want of memory, where it is asked for.
 pub(crate) fn asked_copy(alloc: Global, is_asked: bool, value: &Value) -> Result<Value, Memory>
-    ensures { IfOk result (λ copy. tree_of copy ≡ (if is_asked then tree_of value.now else null)) }
+    ensures copy { IfOk result (λ copy. is_asked ≡ true → tree_of copy ≡ tree_of value.now) }
+    ensures want { IsErr result → is_asked ≡ true }
 {
     if is_asked {
         return value.copy(alloc);

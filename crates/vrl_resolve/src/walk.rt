@@ -10,7 +10,7 @@ ghost use Rattle.vrl_resolve.specs.Linked.{arms_view, call_of, else_view, linked
 ghost use Rattle.vrl_resolve.specs.LinkedMeaning.{all_mean, callee_in, items_mean, means, no_body};
 ghost use Rattle.vrl_resolve.specs.Meaning.{both_sides};
 ghost use Rattle.vrl_resolve.specs.Fits.{IsCallee};
-ghost use Rattle.vrl_resolve.specs.Walking.{meant, names_in, setting_in, store_at, AllEnd, AllFitIn, ArmsFitIn, ElseFitsIn, EndsIn, EndsTrue, FitsIn, IsReadyStore, MessageFitsIn, PairsFitIn, Stays};
+ghost use Rattle.vrl_resolve.specs.Walking.{meant, names_in, setting_in, store_at, AllEnd, AllFitIn, ArmsFitIn, ElseFitsIn, EndsAsked, EndsIn, EndsTrue, FitsIn, IsReadyStore, MessageFitsIn, PairsFitIn, Stays};
 
 mod assignments;
 mod closures;
@@ -18,8 +18,8 @@ mod closures;
 use crate::calls::{act, peek, run_before};
 use crate::laws::meanings_stay_well_formed;
 use crate::node::{Arm, Call, Callee, Form, Node};
-use crate::steps::{aborted, part_of};
-pub(crate) use crate::walk::assignments::{assign, both, merge};
+use crate::steps::{aborted, asked_copy, part_of};
+use crate::walk::assignments::{assign, both, merge};
 use crate::walk::closures::iteration;
 use std::alloc::Global;
 use std::collections::BTreeMap;
@@ -43,41 +43,39 @@ pub(crate) struct Context<'a, 'r> {
     pub(crate) names: &'a Names,
 }
 
-/// Runs an expression: its value, or why it ends without one. What was written before stays.
+/// Runs an expression: its value, or why it ends without one. A value that isn't asked for may be another one, and isn't
+/// copied. What was written before stays.
 #[cycle(walk)]
-pub(crate) fn eval(store: &mut Store, context: &Context<'_, '_>, node: &Node) -> Result<Value, Stop>
+pub(crate) fn eval(
+    store: &mut Store,
+    context: &Context<'_, '_>,
+    is_asked: bool,
+    node: &Node,
+) -> Result<Value, Stop>
     requires ready { IsReadyStore context.now store.old }
     requires fits { FitsIn context.now (linked_of node.now) }
-    ensures ended { EndsIn context.now (meant context.now (linked_of node.now) store.old) store.new result }
+    ensures ended { EndsAsked is_asked (meant context.now (linked_of node.now) store.old)
+        (store_at context.now store.new) result }
     ensures stays { Stays store.old store.new }
 {
     match &node.form {
-        Form::Literal(value) => Ok(value.copy(context.alloc)?),
-        Form::Read(place) => Ok(store.read(place).copy(context.alloc)?),
+        Form::Literal(value) => Ok(asked_copy(context.alloc, is_asked, value)?),
+        Form::Read(place) => Ok(asked_copy(context.alloc, is_asked, store.read(place))?),
         Form::Array(parts) => array(store, context, parts),
         Form::Object(pairs) => object(store, context, pairs),
         Form::Query(part, path) => query(store, context, part, path),
-        Form::Block(items) => block(store, context, items),
-        Form::If(arms, otherwise) => conditional(store, context, arms, otherwise),
+        Form::Block(items) => block(store, context, is_asked, items),
+        Form::If(arms, otherwise) => conditional(store, context, is_asked, arms, otherwise),
         Form::Not(part) => negation(store, context, part),
         Form::Binary(op, left, right) => binary(store, context, *op, left, right),
-        Form::Assign {
-            is_asked,
-            target,
-            part,
-        } => assign(store, context, *is_asked, target, part),
-        Form::Merge {
-            is_asked,
-            target,
-            part,
-        } => merge(store, context, *is_asked, target, part),
+        Form::Assign(target, part) => assign(store, context, is_asked, target, part),
+        Form::Merge(target, part) => merge(store, context, is_asked, target, part),
         Form::Both {
-            is_asked,
             ok,
             err,
             tag,
             part,
-        } => both(store, context, *is_asked, ok, err, *tag, part),
+        } => both(store, context, is_asked, ok, err, *tag, part),
         Form::Call(called) => call(store, context, called),
         Form::Iteration(called) => iteration(store, context, called),
         Form::Return(part) => give_back(store, context, part),
@@ -97,7 +95,7 @@ fn values(store: &mut Store, context: &Context<'_, '_>, nodes: &[Node]) -> Resul
     meanings_stay_well_formed();
     let mut values = Vec::with_capacity(context.alloc, nodes.len())?;
     for node in nodes {
-        let value = eval(store, context, node)?;
+        let value = eval(store, context, true, node)?;
         values.push(value)?;
     }
     Ok(values)
@@ -128,7 +126,7 @@ fn object(
     meanings_stay_well_formed();
     let mut fields = Fields::new(BTreeMap::new(context.alloc));
     for (name, node) in pairs {
-        let value = eval(store, context, node)?;
+        let value = eval(store, context, true, node)?;
         fields.insert(name.copy(context.alloc)?, value)?;
     }
     Ok(Value::Object(fields))
@@ -149,40 +147,51 @@ fn query(
     if let Some(value) = peek(store, part) {
         return Ok(part_of(context.alloc, value, path)?);
     }
-    let value = eval(store, context, part)?;
+    let value = eval(store, context, true, part)?;
     Ok(part_of(context.alloc, &value, path)?)
 }
 
-// Items in order: the value of the last, null where there is none.
+/// Runs items in order: the value of the last, null where there is none. No other one's value is asked for.
 #[cycle(walk)]
 pub(crate) fn items(
     store: &mut Store,
     context: &Context<'_, '_>,
+    is_asked: bool,
     items: &[Node],
 ) -> Result<Value, Stop>
     requires ready { IsReadyStore context.now store.old }
     requires fits { AllFitIn context.now (parts_view items.now) }
-    ensures ended { EndsIn context.now (items_mean (names_in context.now) (setting_in context.now) null (parts_view items.now) (store_at context.now store.old)) store.new result }
+    ensures ended { EndsAsked is_asked
+        (items_mean (names_in context.now) (setting_in context.now) null (parts_view items.now) (store_at context.now store.old))
+        (store_at context.now store.new) result }
     ensures stays { Stays store.old store.new }
 {
     meanings_stay_well_formed();
-    let mut last = Value::Null;
-    for item in items {
-        last = eval(store, context, item)?;
+    let Some((last, others)) = items.split_last() else {
+        return Ok(Value::Null);
+    };
+    for item in others {
+        eval(store, context, false, item)?;
     }
-    Ok(last)
+    eval(store, context, is_asked, last)
 }
 
 // Items whose variables end with them, by whatever end.
 #[cycle(walk)]
-fn block(store: &mut Store, context: &Context<'_, '_>, body: &[Node]) -> Result<Value, Stop>
+fn block(
+    store: &mut Store,
+    context: &Context<'_, '_>,
+    is_asked: bool,
+    body: &[Node],
+) -> Result<Value, Stop>
     requires ready { IsReadyStore context.now store.old }
     requires fits { AllFitIn context.now (parts_view body.now) }
-    ensures ended { EndsIn context.now (meant context.now (linked.block (parts_view body.now)) store.old) store.new result }
+    ensures ended { EndsAsked is_asked (meant context.now (linked.block (parts_view body.now)) store.old)
+        (store_at context.now store.new) result }
     ensures stays { Stays store.old store.new }
 {
     let count = store.count();
-    let value = items(store, context, body);
+    let value = items(store, context, is_asked, body);
     store.leave(count);
     value
 }
@@ -191,23 +200,26 @@ fn block(store: &mut Store, context: &Context<'_, '_>, body: &[Node]) -> Result<
 fn conditional(
     store: &mut Store,
     context: &Context<'_, '_>,
+    is_asked: bool,
     arms: &[Arm],
     otherwise: &Option<Vec<Node>>,
 ) -> Result<Value, Stop>
     requires ready { IsReadyStore context.now store.old }
     requires arms { ArmsFitIn context.now (arms_view arms.now) }
     requires otherwise { ElseFitsIn context.now (else_view otherwise.now) }
-    ensures ended { EndsIn context.now (meant context.now (linked.conditional (arms_view arms.now) (else_view otherwise.now)) store.old) store.new result }
+    ensures ended { EndsAsked is_asked
+        (meant context.now (linked.conditional (arms_view arms.now) (else_view otherwise.now)) store.old)
+        (store_at context.now store.new) result }
     ensures stays { Stays store.old store.new }
 {
     meanings_stay_well_formed();
     for arm in arms {
         if holds(store, context, &arm.predicate)? {
-            return block(store, context, &arm.body);
+            return block(store, context, is_asked, &arm.body);
         }
     }
     match otherwise {
-        Some(items) => block(store, context, items),
+        Some(items) => block(store, context, is_asked, items),
         None => Ok(Value::Null),
     }
 }
@@ -223,7 +235,7 @@ fn holds(store: &mut Store, context: &Context<'_, '_>, node: &Node) -> Result<bo
     if let Some(value) = peek(store, node) {
         return Ok(is_true(value));
     }
-    let value = eval(store, context, node)?;
+    let value = eval(store, context, true, node)?;
     Ok(is_true(&value))
 }
 
@@ -237,7 +249,7 @@ fn negation(store: &mut Store, context: &Context<'_, '_>, part: &Node) -> Result
     if let Some(value) = peek(store, part) {
         return negated(context.alloc, value);
     }
-    let value = eval(store, context, part)?;
+    let value = eval(store, context, true, part)?;
     negated(context.alloc, &value)
 }
 
@@ -264,7 +276,7 @@ fn binary(
             if let Some(value) = look(store, context, op, left, right) {
                 return value;
             }
-            let left = eval(store, context, left)?;
+            let left = eval(store, context, true, left)?;
             beside(store, context, op, left, right)
         }
     }
@@ -311,7 +323,7 @@ fn beside(
             Operand::Borrowed(value),
         );
     }
-    let right = eval(store, context, right)?;
+    let right = eval(store, context, true, right)?;
     apply(
         context.alloc,
         op,
@@ -335,10 +347,10 @@ fn coalescing(
     ensures stays { Stays store.old store.new }
 {
     meanings_stay_well_formed();
-    let value = eval(store, context, left);
+    let value = eval(store, context, true, left);
     match unless_error(value)? {
         Some(value) => Ok(value),
-        None => eval(store, context, right),
+        None => eval(store, context, true, right),
     }
 }
 
@@ -357,9 +369,9 @@ fn disjunction(
     ensures stays { Stays store.old store.new }
 {
     meanings_stay_well_formed();
-    let value = eval(store, context, left)?;
+    let value = eval(store, context, true, left)?;
     if is_falsy(&value) {
-        return eval(store, context, right);
+        return eval(store, context, true, right);
     }
     Ok(value)
 }
@@ -379,11 +391,11 @@ fn conjunction(
     ensures stays { Stays store.old store.new }
 {
     meanings_stay_well_formed();
-    let value = eval(store, context, left)?;
+    let value = eval(store, context, true, left)?;
     if !truth(context.alloc, &value)? {
         return Ok(Value::Bool(false));
     }
-    let value = eval(store, context, right)?;
+    let value = eval(store, context, true, right)?;
     Ok(Value::Bool(truth(context.alloc, &value)?))
 }
 
@@ -427,7 +439,7 @@ fn give_back(store: &mut Store, context: &Context<'_, '_>, part: &Node) -> Resul
     ensures ended { EndsIn context.now (meant context.now (linked.return_of (linked_of part.now)) store.old) store.new result }
     ensures stays { Stays store.old store.new }
 {
-    let value = eval(store, context, part)?;
+    let value = eval(store, context, true, part)?;
     Err(Stop::Returned(value))
 }
 
@@ -444,7 +456,7 @@ fn abort(
 {
     match message {
         Some(part) => {
-            let value = eval(store, context, part)?;
+            let value = eval(store, context, true, part)?;
             Err(aborted(context.alloc, value))
         }
         None => Err(Stop::Aborted(None)),

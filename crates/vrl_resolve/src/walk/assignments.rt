@@ -3,7 +3,7 @@ ghost use Rattle.std.specs.Prelude.{length};
 ghost use Rattle.vrl_resolve.specs.Linked as linked;
 ghost use Rattle.vrl_resolve.specs.Linked.{linked_of};
 ghost use Rattle.vrl_resolve.specs.Fits.{IsTarget};
-ghost use Rattle.vrl_resolve.specs.Walking.{meant, names_in, store_at, EndsIn, FitsIn, GivesBoth, IsReadyStore, Stays};
+ghost use Rattle.vrl_resolve.specs.Walking.{meant, names_in, store_at, EndsAsked, FitsIn, GivesBoth, IsReadyStore, Stays};
 
 use crate::node::Node;
 use crate::steps::{asked_copy, at_target, both_values, write_to};
@@ -13,7 +13,7 @@ use vrl_syntax::Op;
 use vrl_value::{Tag, Value};
 
 #[cycle(walk)]
-pub(crate) fn assign(
+pub(super) fn assign(
     store: &mut Store,
     context: &Context<'_, '_>,
     is_asked: bool,
@@ -23,10 +23,11 @@ pub(crate) fn assign(
     requires ready { IsReadyStore context.now store.old }
     requires target { IsTarget (length (names_in context.now)) target.now }
     requires fits { FitsIn context.now (linked_of part.now) }
-    ensures ended { EndsIn context.now (meant context.now (linked.assign is_asked target.now (linked_of part.now)) store.old) store.new result }
+    ensures ended { EndsAsked is_asked (meant context.now (linked.assign target.now (linked_of part.now)) store.old)
+        (store_at context.now store.new) result }
     ensures stays { Stays store.old store.new }
 {
-    let value = eval(store, context, part)?;
+    let value = eval(store, context, true, part)?;
     let copy = asked_copy(context.alloc, is_asked, &value)?;
     write_to(store, context, target, value)?;
     Ok(copy)
@@ -34,7 +35,7 @@ pub(crate) fn assign(
 
 // Writes the value at a target, null where it takes nothing, with the fields of another one over it.
 #[cycle(walk)]
-pub(crate) fn merge(
+pub(super) fn merge(
     store: &mut Store,
     context: &Context<'_, '_>,
     is_asked: bool,
@@ -44,7 +45,8 @@ pub(crate) fn merge(
     requires ready { IsReadyStore context.now store.old }
     requires target { IsTarget (length (names_in context.now)) target.now }
     requires fits { FitsIn context.now (linked_of part.now) }
-    ensures ended { EndsIn context.now (meant context.now (linked.merge is_asked target.now (linked_of part.now)) store.old) store.new result }
+    ensures ended { EndsAsked is_asked (meant context.now (linked.merge target.now (linked_of part.now)) store.old)
+        (store_at context.now store.new) result }
     ensures stays { Stays store.old store.new }
 {
     let current = at_target(store, context, target)?;
@@ -67,12 +69,12 @@ fn outcome(
     ensures ended { GivesBoth tag (meant context.now (linked_of part.now) store.old) (store_at context.now store.new) result }
     ensures stays { Stays store.old store.new }
 {
-    let given = eval(store, context, part);
+    let given = eval(store, context, true, part);
     both_values(context.alloc, tag, given)
 }
 
 #[cycle(walk)]
-pub(crate) fn both(
+pub(super) fn both(
     store: &mut Store,
     context: &Context<'_, '_>,
     is_asked: bool,
@@ -85,7 +87,9 @@ pub(crate) fn both(
     requires ok { IsTarget (length (names_in context.now)) ok.now }
     requires err { IsTarget (length (names_in context.now)) err.now }
     requires fits { FitsIn context.now (linked_of part.now) }
-    ensures ended { EndsIn context.now (meant context.now (linked.both is_asked ok.now err.now tag (linked_of part.now)) store.old) store.new result }
+    ensures ended { EndsAsked is_asked
+        (meant context.now (linked.both ok.now err.now tag (linked_of part.now)) store.old)
+        (store_at context.now store.new) result }
     ensures stays { Stays store.old store.new }
 {
     let (value, error) = outcome(store, context, tag, part)?;

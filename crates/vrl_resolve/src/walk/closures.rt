@@ -11,11 +11,11 @@ ghost use Rattle.vrl_resolve.specs.Iterating.{body_in, bound_values, bound_varia
 ghost use Rattle.vrl_resolve.specs.Linked.{iteration_of, parts_view};
 ghost use Rattle.vrl_resolve.specs.LinkedMeaning.{all_mean, body_means, form_in, slots_in};
 ghost use Rattle.vrl_resolve.specs.Fits.{AreKnownSlots, IsKnownSlot};
-ghost use Rattle.vrl_resolve.specs.Walking.{meant, names_in, setting_in, store_at, AllFitIn, EndsIn, FitsIn, IsReadyStore, Stays};
+ghost use Rattle.vrl_resolve.specs.Walking.{meant, names_in, setting_in, store_at, AllFitIn, EndsAsked, EndsIn, FitsIn, IsReadyStore, Stays};
 
 use crate::iteration::{
-    Bindings, bind, field_bindings, finish_fields, finish_items, first_of, item_bindings,
-    no_fields, push_item, put_field, refuse, takes_arrays, unbind, values_in,
+    Bindings, bind, field_bindings, finish_fields, finish_items, first_of, is_body_asked,
+    item_bindings, no_fields, push_item, put_field, refuse, takes_arrays, unbind, values_in,
 };
 use crate::laws::meanings_stay_well_formed;
 use crate::node::{Iteration, Loop, Node};
@@ -121,7 +121,7 @@ fn over_items(
     let items = values_in(items);
     for item in items {
         let (bindings, held) = item_bindings(context.alloc, function, place, item)?;
-        let given = run(store, context, bindings, body)?;
+        let given = run(store, context, is_body_asked(function), bindings, body)?;
         push_item(function, &mut made, held, given)?;
         place += 1;
     }
@@ -147,7 +147,7 @@ fn over_fields(
     let mut made = no_fields(context.alloc);
     for (name, part) in fields.into_map() {
         let (bindings, held) = field_bindings(context.alloc, function, Chars::new(name), part)?;
-        let given = run(store, context, bindings, body)?;
+        let given = run(store, context, is_body_asked(function), bindings, body)?;
         put_field(&mut made, held, given)?;
     }
     finish_fields(context.alloc, function, made)
@@ -159,6 +159,7 @@ fn over_fields(
 fn run(
     store: &mut Store,
     context: &Context<'_, '_>,
+    is_asked: bool,
     bindings: Bindings,
     body: &[Node],
 ) -> Result<Value, Stop>
@@ -166,15 +167,18 @@ fn run(
     requires slots { AreKnownSlots (length (names_in context.now)) (bound_variables bindings) }
     requires values { AreWellFormed (length (setting_in context.now).sources) (bound_values bindings) }
     requires fits { AllFitIn context.now (parts_view body.now) }
-    ensures ended { EndsIn context.now (body_means (names_in context.now) (setting_in context.now) (bound_variables bindings) (parts_view body.now) (bound_values bindings) (store_at context.now store.old)) store.new result }
+    ensures ended { EndsAsked is_asked
+        (body_means (names_in context.now) (setting_in context.now) (bound_variables bindings)
+            (parts_view body.now) (bound_values bindings) (store_at context.now store.old))
+        (store_at context.now store.new) result }
     ensures stays { Stays store.old store.new }
 {
     match bindings {
-        Bindings::One(slot, value) => run_with(store, context, slot, value, body),
+        Bindings::One(slot, value) => run_with(store, context, is_asked, slot, value, body),
         Bindings::Two(first, key, second, value) => {
             let count = store.count();
             let hidden = bind(store, first, key)?;
-            let given = run_with(store, context, second, value, body);
+            let given = run_with(store, context, is_asked, second, value, body);
             unbind(store, count, first, hidden);
             given
         }
@@ -186,6 +190,7 @@ fn run(
 fn run_with(
     store: &mut Store,
     context: &Context<'_, '_>,
+    is_asked: bool,
     slot: Option<usize>,
     value: Value,
     body: &[Node],
@@ -194,12 +199,15 @@ fn run_with(
     requires slot { IsKnownSlot (length (names_in context.now)) slot }
     requires value { IsWellFormed (length (setting_in context.now).sources) (tree_of value) }
     requires fits { AllFitIn context.now (parts_view body.now) }
-    ensures ended { EndsIn context.now (body_means (names_in context.now) (setting_in context.now) (slot ∷ []) (parts_view body.now) (tree_of value ∷ []) (store_at context.now store.old)) store.new result }
+    ensures ended { EndsAsked is_asked
+        (body_means (names_in context.now) (setting_in context.now) (slot ∷ [])
+            (parts_view body.now) (tree_of value ∷ []) (store_at context.now store.old))
+        (store_at context.now store.new) result }
     ensures stays { Stays store.old store.new }
 {
     let count = store.count();
     let hidden = bind(store, slot, value)?;
-    let given = items(store, context, body);
+    let given = items(store, context, is_asked, body);
     unbind(store, count, slot, hidden);
     given
 }

@@ -15,9 +15,9 @@ use Rattle.vrl_resolve.proofs.RunsWellFormed.{left_is, start_is}
 use Rattle.vrl_resolve.proofs.WellFormedValues.{null_is}
 use Rattle.vrl_resolve.proofs.runner.run.Goals as goal
 
-pub walk-end-requires-clause-ready : goal.walk-end-requires-clause-ready
+pub items-end-requires-clause-ready : goal.items-end-requires-clause-ready
 unfolding program_of
-walk-end-requires-clause-ready c =
+items-end-requires-clause-ready c =
     let names = c.args.program.now.names in
     let started = c.in_ok-store.ensures.started names (ap length (sym c.as_slice.ensures)) c.args.program.now.ready.distinct in
     let below = subst (λ sources. IsTrue (regexes_below (length sources) (tree_of c.args.event))) (sym c.requires.searches) c.requires.event in record {
@@ -39,4 +39,4 @@ returns-clause-below c =
     let meant : Ended = items_mean names setting null (parts_view c.deref.result.now) (store_in names c.in_ok-store.store) in
     let well = c.meanings_stay_well_formed.ensures.items names setting (length names) null (parts_view c.deref.result.now) (store_in names c.in_ok-store.store) (null_is count) fits formed in
     subst (λ sources. IfOk c.left.result (IsWellFormedRan (length sources))) c.requires.searches
-    (left_is count c.args.is_asked (λ m. EndsAsked c.args.is_asked m (store_in names c.walk-end.new.store) c.walk-end.result) c.left.result meant c.left.ensures.ran c.left.ensures.told c.walk-end.ensures.ended well)
+    (left_is count c.args.is_asked (λ m. EndsAsked c.args.is_asked m (store_in names c.items-end.new.store) c.items-end.result) c.left.result meant c.left.ensures.ran c.left.ensures.told c.items-end.ensures.ended well)

@@ -15,26 +15,26 @@ use Rattle.vrl_value.specs.Look.{item_at}
 use Rattle.vrl_value.specs.Tag.{tag_of}
 use Rattle.vrl_resolve.proofs.BodyNames.{bound_ready, bound_then, count_within, front_again, known_slot, may_be_given_back, one_name_ends, stays_again, two_names_end}
 use Rattle.vrl_resolve.proofs.Gives.{gives_ends}
-use Rattle.vrl_resolve.proofs.LinkedSizes.{arms_fewer, else_size, first_size, linked_size, message_size, pairs_fewer, parts_fewer}
-use Rattle.vrl_resolve.proofs.NodeForms.{ended_as, of_arm, of_boxed, of_call, of_iteration}
+use Rattle.vrl_resolve.proofs.LinkedSizes.{arms_fewer, else_size, first_size, last_fewer, linked_size, message_size, pairs_fewer, parts_fewer}
+use Rattle.vrl_resolve.proofs.NodeForms.{asked_as, ended_as, of_arm, of_boxed, of_call, of_iteration, told_as}
 use Rattle.vrl_resolve.proofs.Partway.{none_left, one_gone}
 use Rattle.vrl_resolve.proofs.Turns.{args_ready, collection_formed, field_values, fields_begin, fields_end, fields_stop, fields_turn, item_values, items_begin, items_end, items_stop, items_turn, iterate_ends, arrays_taken, none_given, is_container, objects_taken, other_is_refused, refused_ends, taken_ends}
 use Rattle.vrl_resolve.proofs.WalkArms.{arm_fits, arm_passed, arm_taken, arms_end}
 use Rattle.vrl_resolve.proofs.WalkCalls.{call_ends, call_stops, first_fit, given_are_of, given_formed, left_formed}
-use Rattle.vrl_resolve.proofs.Walks.{after_error, after_stop, array_ends, array_stops, asks_both, asked_stops, assigned_ends, assigned_stops, beside_ends, block_ends, block_store, both_end, first_stops, items_next, known_base, names_after, next_pair, next_part, pairs_end, pairs_next, parts_end, parts_next, parts_stop, ready_after, second_stops, stays_here, stays_then}
+use Rattle.vrl_resolve.proofs.Walks.{after_error, after_stop, array_ends, array_stops, asks_both, assigned_ends, assigned_stops, before_end, before_next, before_start, before_stop, beside_ends, block_store, both_end, copy_told, ends_then, first_stops, items_before, known_base, last_fits, last_part, names_after, next_pair, next_part, pairs_end, pairs_next, parts_end, parts_next, parts_stop, ready_after, second_stops, stays_here, stays_then, told_anyhow, told_asked}
 use Rattle.vrl_resolve.specs.Calls as called
 use Rattle.vrl_resolve.specs.Calls.{acts, items_in, iterated}
 use Rattle.vrl_resolve.specs.Fits.{AreKnownSlots}
 use Rattle.vrl_resolve.specs.Iterating.{body_in, made_in, made_items, takes_arrays, Binds, IsFieldHeld}
-use Rattle.vrl_resolve.specs.Linked.{abort_with, arms_view, array, assign, binary, block, both, call_of, conditional, else_block, else_view, iteration_of, linked_of, literal, merge, message, message_view, negation, object, pairs_view, parts_of_list, parts_view, query, read, return_of}
+use Rattle.vrl_resolve.specs.Linked.{abort_with, arms_view, array, assign, binary, block, both, call_of, conditional, else_block, else_view, iteration_of, linked_of, literal, merge, message, message_view, negation, object, pairs_view, Parts, parts_of_list, parts_view, query, read, return_of}
 use Rattle.vrl_resolve.specs.LinkedMeaning.{all_mean, arms_mean, callee_in, else_means, form_in, items_mean, means, no_body, pairs_mean, target_of}
 use Rattle.vrl_resolve.specs.Meaning.{assigned, both_assigned, combined}
-use Rattle.vrl_resolve.specs.Walking.{AllFitIn, ElseFitsIn, FitsIn, MessageFitsIn, PairsFitIn, Stays, meant, names_in, setting_in, store_at}
+use Rattle.vrl_resolve.specs.Walking.{AllFitIn, ElseFitsIn, EndsAsked, FitsIn, MessageFitsIn, PairsFitIn, Stays, meant, names_in, setting_in, store_at}
 use Rattle.vrl_resolve.specs.declared.node.Arm.{out-Arm}
 use Rattle.vrl_resolve.specs.declared.node.Call.{out-Call}
 use Rattle.vrl_resolve.specs.declared.node.Form.{the_lemmas}
 use Rattle.vrl_resolve.specs.declared.node.Iteration.{out-Iteration}
-use Rattle.vrl_syntax.specs.Stores.{Store}
+use Rattle.vrl_syntax.specs.Stores.{Store, store_kept}
 use Rattle.vrl_value.specs.Tree.{array as items, no_items, no_members, null, object as members, put, string}
 use Rattle.vrl_value.specs.View.{items_of, items_of_trees, items_view, members_of, members_view, tree_of}
 use Rattle.vrl_value.specs.declared.value.Value.{the_lemmas as value_lemmas}
@@ -156,7 +156,8 @@ block-returns-clause-ended t c =
     let m = items_mean (names_in x) (setting_in x) null (parts_view c.args.body.now) (store_at x before) in
     let left = c.leave.ensures.left (names_in x) (names_after (names_in x) before middle c.requires.ready.names c.items-value.ensures.stays) in
     let store = block_store x before middle c.leave.new.self c.count-count.result c.requires.ready c.items-value.ensures.stays c.count-count.ensures left in
-    subst (λ s. Ends (block_left (store_at x before) m) s c.items-value.result) store (block_ends (store_at x before) m (store_at x middle) c.items-value.result c.items-value.ensures.ended)
+    subst (λ s. EndsAsked c.args.is_asked (block_left (store_at x before) m) s c.items-value.result) store
+    (ends_then c.args.is_asked (store_kept (store_at x before)) m (store_at x middle) c.items-value.result c.items-value.ensures.ended)
 
 pub call-answer-value-requires : goal.call-answer-value-requires
 call-answer-value-requires t c =
@@ -177,7 +178,7 @@ call-returns-then-call-clause-ended t c =
 pub coalescing-eval-requires : goal.coalescing-eval-requires
 coalescing-eval-requires t c =
     let x = c.args.context.now in
-    let told = rw c.in-None.is at (c.in_ok-value.ensures.ends (meant x (linked_of c.args.left.now) c.args.store.now) (store_at x c.eval-value.new.store) c.eval-value.ensures.ended) in (
+    let told = rw c.in-None.is at (c.in_ok-value.ensures.ends (meant x (linked_of c.args.left.now) c.args.store.now) (store_at x c.eval-value.new.store) (told_asked (meant x (linked_of c.args.left.now) c.args.store.now) (store_at x c.eval-value.new.store) c.eval-value.result c.eval-value.ensures.ended)) in (
       omega (arith, c.decreases),
       (
         ready_after x c.args.store.now c.eval-value.new.store (linked_of c.args.left.now) (error told.0) c.meanings_stay_well_formed.ensures c.requires.left told.1 c.requires.ready c.eval-value.ensures.stays,
@@ -192,13 +193,13 @@ coalescing-eval-value-requires t c =
 pub coalescing-returns-in-None-clause-ended : goal.coalescing-returns-in-None-clause-ended
 coalescing-returns-in-None-clause-ended t c =
     let x = c.args.context.now in
-    let told = rw c.in-None.is at (c.in_ok-value.ensures.ends (meant x (linked_of c.args.left.now) c.args.store.now) (store_at x c.eval-value.new.store) c.eval-value.ensures.ended) in
-    after_error (meant x (linked_of c.args.left.now) c.args.store.now) (λ text after. means (names_in x) (setting_in x) (linked_of c.args.right.now) after) told.0 (store_at x c.eval-value.new.store) (store_at x c.eval.new.store) c.eval.result told.1 c.eval.ensures.ended
+    let told = rw c.in-None.is at (c.in_ok-value.ensures.ends (meant x (linked_of c.args.left.now) c.args.store.now) (store_at x c.eval-value.new.store) (told_asked (meant x (linked_of c.args.left.now) c.args.store.now) (store_at x c.eval-value.new.store) c.eval-value.result c.eval-value.ensures.ended)) in
+    after_error (meant x (linked_of c.args.left.now) c.args.store.now) (λ text after. means (names_in x) (setting_in x) (linked_of c.args.right.now) after) told.0 (store_at x c.eval-value.new.store) (store_at x c.eval.new.store) c.eval.result told.1 (told_asked (means (names_in x) (setting_in x) (linked_of c.args.right.now) (store_at x c.eval-value.new.store)) (store_at x c.eval.new.store) c.eval.result c.eval.ensures.ended)
 
 pub coalescing-returns-in-Some-clause-ended : goal.coalescing-returns-in-Some-clause-ended
 coalescing-returns-in-Some-clause-ended t c =
     let x = c.args.context.now in
-    let told = rw c.in-Some.is at (c.in_ok-value.ensures.ends (meant x (linked_of c.args.left.now) c.args.store.now) (store_at x c.eval-value.new.store) c.eval-value.ensures.ended) in
+    let told = rw c.in-Some.is at (c.in_ok-value.ensures.ends (meant x (linked_of c.args.left.now) c.args.store.now) (store_at x c.eval-value.new.store) (told_asked (meant x (linked_of c.args.left.now) c.args.store.now) (store_at x c.eval-value.new.store) c.eval-value.result c.eval-value.ensures.ended)) in
     ap (λ e. on_error e (λ text after. means (names_in x) (setting_in x) (linked_of c.args.right.now) after)) told
 
 pub coalescing-returns-in_err-value-clause-ended : goal.coalescing-returns-in_err-value-clause-ended
@@ -206,7 +207,7 @@ coalescing-returns-in_err-value-clause-ended t c =
     let x = c.args.context.now in
     let left = meant x (linked_of c.args.left.now) c.args.store.now in
     let next : List ℕ → Store → Ended = λ text after. means (names_in x) (setting_in x) (linked_of c.args.right.now) after in
-    let given : Stops (on_error left next) (store_at x c.eval-value.new.store) c.in_err-value.field-0.0 = c.in_err-value.ensures.ends left (store_at x c.eval-value.new.store) c.eval-value.ensures.ended next in
+    let given : Stops (on_error left next) (store_at x c.eval-value.new.store) c.in_err-value.field-0.0 = c.in_err-value.ensures.ends left (store_at x c.eval-value.new.store) (told_asked (meant x (linked_of c.args.left.now) c.args.store.now) (store_at x c.eval-value.new.store) c.eval-value.result c.eval-value.ensures.ended) next in
     search rules
 
 pub conditional-block-requires : goal.conditional-block-requires
@@ -261,8 +262,10 @@ conditional-returns-in-None-clause-ended t c =
     let x = c.args.context.now in
     let otherwise : Store → Ended = λ after. else_means (names_in x) (setting_in x) (else_view c.args.otherwise.now) after in
     let is : tree_of values.Null ≡ null = search (rules, value_lemmas) in
-    arms_end x c.args.store.now l.store c.args.arms.now l.arm-index otherwise _ c.loop-arm-test.false l.invariant.so_far
-    ∙ ap (λ o. else_means (names_in x) (setting_in x) (else_view o) (store_at x l.store)) c.in-None.is ∙ ap (λ v. ends (value v) (store_at x l.store)) (sym is)
+    let whole = arms_mean (names_in x) (setting_in x) (arms_view c.args.arms.now) otherwise (store_at x c.args.store.now) in
+    told_anyhow c.args.is_asked whole (store_at x l.store) (Ok values.Null)
+    (arms_end x c.args.store.now l.store c.args.arms.now l.arm-index otherwise _ c.loop-arm-test.false l.invariant.so_far
+    ∙ ap (λ o. else_means (names_in x) (setting_in x) (else_view o) (store_at x l.store)) c.in-None.is ∙ ap (λ v. ends (value v) (store_at x l.store)) (sym is))
 
 pub conditional-returns-then-branch-clause-ended : goal.conditional-returns-then-branch-clause-ended
 conditional-returns-then-branch-clause-ended t c =
@@ -272,7 +275,7 @@ conditional-returns-then-branch-clause-ended t c =
     let is = of_arm c.arm-item.result c.deref.result.now (search rules) in
     let told = c.in_ok-holds.ensures.ended in
     let otherwise : Store → Ended = λ after. else_means (names_in x) (setting_in x) (else_view c.args.otherwise.now) after in
-    arm_taken x c.args.store.now l.store c.holds.new.store c.args.arms.now l.arm-index c.arm-item.result (linked_of a.predicate) (parts_view c.deref.result.now) otherwise (arms_mean (names_in x) (setting_in x) (arms_view c.args.arms.now) otherwise (store_at x c.args.store.now)) c.in_ok-holds.field-0 told.0 (store_at x c.block.new.store) c.block.result
+    arm_taken x c.args.store.now l.store c.holds.new.store c.args.arms.now l.arm-index c.arm-item.result (linked_of a.predicate) (parts_view c.deref.result.now) otherwise (arms_mean (names_in x) (setting_in x) (arms_view c.args.arms.now) otherwise (store_at x c.args.store.now)) c.in_ok-holds.field-0 told.0 (store_at x c.block.new.store) c.args.is_asked c.block.result
     c.loop-arm-test.true c.arm-item.is is l.invariant.so_far told.1.0 told.1.1 c.if-branch.true c.block.ensures.ended
 
 pub conjunction-eval-requires : goal.conjunction-eval-requires
@@ -301,6 +304,13 @@ disjunction-eval-requires-then-is_falsy t c = (
   ),
 )
 
+pub disjunction-returns-then-is_falsy-clause-ended : goal.disjunction-returns-then-is_falsy-clause-ended
+disjunction-returns-then-is_falsy-clause-ended t c =
+    let x = c.args.context.now in
+    let right = means (names_in x) (setting_in x) (linked_of c.args.right.now) (store_at x c.eval.new.store) in
+    let told = told_asked right (store_at x c.eval-then-is_falsy.new.store) c.eval-then-is_falsy.result c.eval-then-is_falsy.ensures.ended in
+    search rules
+
 pub eval-abort-requires : goal.eval-abort-requires
 eval-abort-requires t c =
     let is : linked_of c.args.node.now ≡ abort_with (message_view c.in-Abort.message) = search (rules, the_lemmas) in
@@ -315,7 +325,7 @@ eval-array-requires t c =
 
 pub eval-assign-requires : goal.eval-assign-requires
 eval-assign-requires t c =
-    let is = of_boxed (linked_of c.args.node.now) (λ n. assign c.in-Assign.is_asked c.in-Assign.target (linked_of n)) c.deref-in-Assign.result.now c.in-Assign.part.value (search rules) (search (rules, the_lemmas)) in
+    let is = of_boxed (linked_of c.args.node.now) (λ n. assign c.in-Assign.target (linked_of n)) c.deref-in-Assign.result.now c.in-Assign.part.value (search rules) (search (rules, the_lemmas)) in
     let fits = subst (FitsIn c.args.context.now) is c.requires.fits in
     (omega (arith, c.decreases, ap linked_size is), (c.requires.ready, (fits.0, fits.1)))
 
@@ -336,7 +346,7 @@ eval-block-requires t c =
 
 pub eval-both-requires : goal.eval-both-requires
 eval-both-requires t c =
-    let is = of_boxed (linked_of c.args.node.now) (λ n. both c.in-Both.is_asked c.in-Both.ok c.in-Both.err c.in-Both.tag (linked_of n)) c.deref-in-Both.result.now c.in-Both.part.value (search rules) (search (rules, the_lemmas)) in
+    let is = of_boxed (linked_of c.args.node.now) (λ n. both c.in-Both.ok c.in-Both.err c.in-Both.tag (linked_of n)) c.deref-in-Both.result.now c.in-Both.part.value (search rules) (search (rules, the_lemmas)) in
     let fits = subst (FitsIn c.args.context.now) is c.requires.fits in
     (omega (arith, c.decreases, ap linked_size is), (c.requires.ready, (fits.0, (fits.1.0, fits.1.1))))
 
@@ -360,7 +370,7 @@ eval-give_back-requires t c =
 
 pub eval-merge-requires : goal.eval-merge-requires
 eval-merge-requires t c =
-    let is = of_boxed (linked_of c.args.node.now) (λ n. merge c.in-Merge.is_asked c.in-Merge.target (linked_of n)) c.deref-in-Merge.result.now c.in-Merge.part.value (search rules) (search (rules, the_lemmas)) in
+    let is = of_boxed (linked_of c.args.node.now) (λ n. merge c.in-Merge.target (linked_of n)) c.deref-in-Merge.result.now c.in-Merge.part.value (search rules) (search (rules, the_lemmas)) in
     let fits = subst (FitsIn c.args.context.now) is c.requires.fits in
     (omega (arith, c.decreases, ap linked_size is), (c.requires.ready, (fits.0, fits.1)))
 
@@ -390,17 +400,17 @@ eval-read-requires t c =
 pub eval-returns-in-Abort-clause-ended : goal.eval-returns-in-Abort-clause-ended
 eval-returns-in-Abort-clause-ended t c =
     let is : linked_of c.args.node.now ≡ abort_with (message_view c.in-Abort.message) = search (rules, the_lemmas) in
-    ended_as c.args.context.now c.args.store.now c.abort.new.store c.abort.result is c.abort.ensures.ended
+    told_as c.args.context.now c.args.store.now c.abort.new.store c.args.is_asked c.abort.result is c.abort.ensures.ended
 
 pub eval-returns-in-Array-clause-ended : goal.eval-returns-in-Array-clause-ended
 eval-returns-in-Array-clause-ended t c =
     let is = of_boxed (linked_of c.args.node.now) (λ n. array (parts_view n)) c.deref.result.now c.in-Array.parts.items (search rules) (search (rules, the_lemmas)) in
-    ended_as c.args.context.now c.args.store.now c.array.new.store c.array.result is c.array.ensures.ended
+    told_as c.args.context.now c.args.store.now c.array.new.store c.args.is_asked c.array.result is c.array.ensures.ended
 
 pub eval-returns-in-Assign-clause-ended : goal.eval-returns-in-Assign-clause-ended
 eval-returns-in-Assign-clause-ended t c =
-    let is = of_boxed (linked_of c.args.node.now) (λ n. assign c.in-Assign.is_asked c.in-Assign.target (linked_of n)) c.deref-in-Assign.result.now c.in-Assign.part.value (search rules) (search (rules, the_lemmas)) in
-    ended_as c.args.context.now c.args.store.now c.assign.new.store c.assign.result is c.assign.ensures.ended
+    let is = of_boxed (linked_of c.args.node.now) (λ n. assign c.in-Assign.target (linked_of n)) c.deref-in-Assign.result.now c.in-Assign.part.value (search rules) (search (rules, the_lemmas)) in
+    asked_as c.args.context.now c.args.store.now c.assign.new.store c.args.is_asked c.assign.result is c.assign.ensures.ended
 
 pub eval-returns-in-Binary-clause-ended : goal.eval-returns-in-Binary-clause-ended
 eval-returns-in-Binary-clause-ended t c =
@@ -408,64 +418,66 @@ eval-returns-in-Binary-clause-ended t c =
     let here1 : c.deref-in-Binary-2.result.now ≡ c.in-Binary.right.value = search rules in
     let at_box : linked_of c.args.node.now ≡ binary c.in-Binary.op (linked_of c.in-Binary.left.value) (linked_of c.in-Binary.right.value) = search (rules, the_lemmas) in
     let is : linked_of c.args.node.now ≡ binary c.in-Binary.op (linked_of c.deref-in-Binary.result.now) (linked_of c.deref-in-Binary-2.result.now) = at_box ∙ ap₂ (λ n m. binary c.in-Binary.op (linked_of n) (linked_of m)) (sym here0) (sym here1) in
-    ended_as c.args.context.now c.args.store.now c.binary.new.store c.binary.result is c.binary.ensures.ended
+    told_as c.args.context.now c.args.store.now c.binary.new.store c.args.is_asked c.binary.result is c.binary.ensures.ended
 
 pub eval-returns-in-Block-clause-ended : goal.eval-returns-in-Block-clause-ended
 eval-returns-in-Block-clause-ended t c =
     let is = of_boxed (linked_of c.args.node.now) (λ n. block (parts_view n)) c.deref-in-Block.result.now c.in-Block.items.items (search rules) (search (rules, the_lemmas)) in
-    ended_as c.args.context.now c.args.store.now c.block.new.store c.block.result is c.block.ensures.ended
+    asked_as c.args.context.now c.args.store.now c.block.new.store c.args.is_asked c.block.result is c.block.ensures.ended
 
 pub eval-returns-in-Both-clause-ended : goal.eval-returns-in-Both-clause-ended
 eval-returns-in-Both-clause-ended t c =
-    let is = of_boxed (linked_of c.args.node.now) (λ n. both c.in-Both.is_asked c.in-Both.ok c.in-Both.err c.in-Both.tag (linked_of n)) c.deref-in-Both.result.now c.in-Both.part.value (search rules) (search (rules, the_lemmas)) in
-    ended_as c.args.context.now c.args.store.now c.both.new.store c.both.result is c.both.ensures.ended
+    let is = of_boxed (linked_of c.args.node.now) (λ n. both c.in-Both.ok c.in-Both.err c.in-Both.tag (linked_of n)) c.deref-in-Both.result.now c.in-Both.part.value (search rules) (search (rules, the_lemmas)) in
+    asked_as c.args.context.now c.args.store.now c.both.new.store c.args.is_asked c.both.result is c.both.ensures.ended
 
 pub eval-returns-in-Call-clause-ended : goal.eval-returns-in-Call-clause-ended
 eval-returns-in-Call-clause-ended t c =
     let is = of_boxed (linked_of c.args.node.now) (λ n. call_of n) c.deref-in-Call.result.now c.in-Call.called.value (search rules) (search (rules, the_lemmas)) in
-    ended_as c.args.context.now c.args.store.now c.call.new.store c.call.result is c.call.ensures.ended
+    told_as c.args.context.now c.args.store.now c.call.new.store c.args.is_asked c.call.result is c.call.ensures.ended
 
 pub eval-returns-in-If-clause-ended : goal.eval-returns-in-If-clause-ended
 eval-returns-in-If-clause-ended t c =
     let is = of_boxed (linked_of c.args.node.now) (λ n. conditional (arms_view n) (else_view c.in-If.otherwise)) c.deref-in-If.result.now c.in-If.arms.items (search rules) (search (rules, the_lemmas)) in
-    ended_as c.args.context.now c.args.store.now c.conditional.new.store c.conditional.result is c.conditional.ensures.ended
+    asked_as c.args.context.now c.args.store.now c.conditional.new.store c.args.is_asked c.conditional.result is c.conditional.ensures.ended
 
 pub eval-returns-in-Merge-clause-ended : goal.eval-returns-in-Merge-clause-ended
 eval-returns-in-Merge-clause-ended t c =
-    let is = of_boxed (linked_of c.args.node.now) (λ n. merge c.in-Merge.is_asked c.in-Merge.target (linked_of n)) c.deref-in-Merge.result.now c.in-Merge.part.value (search rules) (search (rules, the_lemmas)) in
-    ended_as c.args.context.now c.args.store.now c.merge.new.store c.merge.result is c.merge.ensures.ended
+    let is = of_boxed (linked_of c.args.node.now) (λ n. merge c.in-Merge.target (linked_of n)) c.deref-in-Merge.result.now c.in-Merge.part.value (search rules) (search (rules, the_lemmas)) in
+    asked_as c.args.context.now c.args.store.now c.merge.new.store c.args.is_asked c.merge.result is c.merge.ensures.ended
 
 pub eval-returns-in-Not-clause-ended : goal.eval-returns-in-Not-clause-ended
 eval-returns-in-Not-clause-ended t c =
     let is = of_boxed (linked_of c.args.node.now) (λ n. negation (linked_of n)) c.deref-in-Not.result.now c.in-Not.part.value (search rules) (search (rules, the_lemmas)) in
-    ended_as c.args.context.now c.args.store.now c.negation.new.store c.negation.result is c.negation.ensures.ended
+    told_as c.args.context.now c.args.store.now c.negation.new.store c.args.is_asked c.negation.result is c.negation.ensures.ended
 
 pub eval-returns-in-Object-clause-ended : goal.eval-returns-in-Object-clause-ended
 eval-returns-in-Object-clause-ended t c =
     let is = of_boxed (linked_of c.args.node.now) (λ n. object (pairs_view n)) c.deref-in-Object.result.now c.in-Object.pairs.items (search rules) (search (rules, the_lemmas)) in
-    ended_as c.args.context.now c.args.store.now c.object.new.store c.object.result is c.object.ensures.ended
+    told_as c.args.context.now c.args.store.now c.object.new.store c.args.is_asked c.object.result is c.object.ensures.ended
 
 pub eval-returns-in-Query-clause-ended : goal.eval-returns-in-Query-clause-ended
 eval-returns-in-Query-clause-ended t c =
     let is = of_boxed (linked_of c.args.node.now) (λ n. query (linked_of n) c.in-Query.path) c.deref-in-Query.result.now c.in-Query.part.value (search rules) (search (rules, the_lemmas)) in
-    ended_as c.args.context.now c.args.store.now c.query.new.store c.query.result is c.query.ensures.ended
+    told_as c.args.context.now c.args.store.now c.query.new.store c.args.is_asked c.query.result is c.query.ensures.ended
 
 pub eval-returns-in-Return-clause-ended : goal.eval-returns-in-Return-clause-ended
 eval-returns-in-Return-clause-ended t c =
     let is = of_boxed (linked_of c.args.node.now) (λ n. return_of (linked_of n)) c.deref-in-Return.result.now c.in-Return.part.value (search rules) (search (rules, the_lemmas)) in
-    ended_as c.args.context.now c.args.store.now c.give_back.new.store c.give_back.result is c.give_back.ensures.ended
+    told_as c.args.context.now c.args.store.now c.give_back.new.store c.args.is_asked c.give_back.result is c.give_back.ensures.ended
 
-pub eval-returns-in_ok-copy-in-Literal-clause-ended : goal.eval-returns-in_ok-copy-in-Literal-clause-ended
-eval-returns-in_ok-copy-in-Literal-clause-ended t c =
+pub eval-returns-in_ok-asked_copy-in-Literal-clause-ended : goal.eval-returns-in_ok-asked_copy-in-Literal-clause-ended
+eval-returns-in_ok-asked_copy-in-Literal-clause-ended t c =
     let x = c.args.context.now in
     let is : linked_of c.args.node.now ≡ literal (tree_of c.in-Literal.value) = search (rules, the_lemmas) in
-    ap (λ n. meant x n c.args.store.now) is ∙ ap (λ v. ends (value v) (store_at x c.args.store.now)) (sym c.in_ok-copy-in-Literal.ensures.equal)
+    copy_told c.args.is_asked (meant x (linked_of c.args.node.now) c.args.store.now) (tree_of c.in-Literal.value) c.in_ok-asked_copy-in-Literal.field-0 (store_at x c.args.store.now)
+    (ap (λ n. meant x n c.args.store.now) is) c.in_ok-asked_copy-in-Literal.ensures.copy
 
-pub eval-returns-in_ok-copy-in-Read-clause-ended : goal.eval-returns-in_ok-copy-in-Read-clause-ended
-eval-returns-in_ok-copy-in-Read-clause-ended t c =
+pub eval-returns-in_ok-asked_copy-in-Read-clause-ended : goal.eval-returns-in_ok-asked_copy-in-Read-clause-ended
+eval-returns-in_ok-asked_copy-in-Read-clause-ended t c =
     let x = c.args.context.now in
     let is : linked_of c.args.node.now ≡ read c.in-Read.place = search (rules, the_lemmas) in
-    ap (λ n. meant x n c.args.store.now) is ∙ ap (λ v. ends (value v) (store_at x c.args.store.now)) (sym (c.in_ok-copy-in-Read.ensures.equal ∙ c.read.ensures (names_in x) c.requires.ready.names))
+    copy_told c.args.is_asked (meant x (linked_of c.args.node.now) c.args.store.now) (tree_of c.read.result.now) c.in_ok-asked_copy-in-Read.field-0 (store_at x c.args.store.now)
+    (ap (λ n. meant x n c.args.store.now) is ∙ ap (λ v. ends (value v) (store_at x c.args.store.now)) (sym (c.read.ensures (names_in x) c.requires.ready.names))) c.in_ok-asked_copy-in-Read.ensures.copy
 
 pub eval-iteration-requires : goal.eval-iteration-requires
 eval-iteration-requires t c =
@@ -476,7 +488,7 @@ eval-iteration-requires t c =
 pub eval-returns-in-Iteration-clause-ended : goal.eval-returns-in-Iteration-clause-ended
 eval-returns-in-Iteration-clause-ended t c =
     let is = of_boxed (linked_of c.args.node.now) (λ n. iteration_of n) c.deref-in-Iteration.result.now c.in-Iteration.called.value (search rules) (search (rules, the_lemmas)) in
-    ended_as c.args.context.now c.args.store.now c.iteration.new.store c.iteration.result is c.iteration.ensures.ended
+    told_as c.args.context.now c.args.store.now c.iteration.new.store c.args.is_asked c.iteration.result is c.iteration.ensures.ended
 
 pub give_back-eval-requires : goal.give_back-eval-requires
 give_back-eval-requires t c =
@@ -489,18 +501,78 @@ holds-eval-requires t c =
 pub items-eval-requires : goal.items-eval-requires
 items-eval-requires t c =
     let l = c.loop-item in
-    let next = next_part c.args.items.now l.item-index c.item-item.result c.loop-item-test.true c.item-item.is in
+    let others = c.in-Some.others.now in
+    let split : c.args.items.now ≡ others ++ c.in-Some.last.now ∷ [] = search rules in
+    let next = next_part others l.item-index c.item-item.result c.loop-item-test.true c.item-item.is in
     let fits = subst (λ ns. AllFitIn c.args.context.now (parts_of_list ns)) next l.invariant.fits in
-    let size = parts_fewer c.args.items.now l.item-index c.item-item.result c.loop-item-test.true c.item-item.is in
-    (omega (arith, c.decreases, l.invariant.fewer, size), (l.invariant.so_far.ready, fits.0))
+    let size = parts_fewer others l.item-index c.item-item.result c.loop-item-test.true c.item-item.is in
+    let whole = last_fewer c.args.items.now others c.in-Some.last.now split in
+    (omega (arith, c.decreases, l.invariant.fewer, size, whole), (l.invariant.so_far.ready, fits.0))
+
+pub items-eval-requires-2 : goal.items-eval-requires-2
+items-eval-requires-2 t c =
+    let x = c.args.context.now in
+    let others = c.in-Some.others.now in
+    let last = c.in-Some.last.now in
+    let split : c.args.items.now ≡ others ++ last ∷ [] = search rules in
+    let fits = last_fits x (map linked_of others) (linked_of last) (subst (AllFitIn x) (last_part c.args.items.now others last split) c.requires.fits) in
+    (omega (arith, c.decreases, last_fewer c.args.items.now others last split), (c.loop-item.invariant.so_far.ready, fits.1))
+
+pub items-loop-item-init : goal.items-loop-item-init
+items-loop-item-init t c =
+    let x = c.args.context.now in
+    let others = c.in-Some.others.now in
+    let last = c.in-Some.last.now in
+    let split : c.args.items.now ≡ others ++ last ∷ [] = search rules in
+    let fits = last_fits x (map linked_of others) (linked_of last) (subst (AllFitIn x) (last_part c.args.items.now others last split) c.requires.fits) in
+    record { so_far = before_start x c.args.store.now (map linked_of others) c.requires.ready; fits = fits.0; fewer = omega arith }
 
 pub items-loop-item-preserved : goal.items-loop-item-preserved
 items-loop-item-preserved t c =
     let l = c.loop-item in
-    let next = items_next c.meanings_stay_well_formed.ensures c.args.context.now c.args.store.now l.store c.eval.new.store c.args.items.now l.item-index c.item-item.result (tree_of l.last) (tree_of c.in_ok-last.last) (items_mean (names_in c.args.context.now) (setting_in c.args.context.now) null (parts_view c.args.items.now) (store_at c.args.context.now c.args.store.now)) c.loop-item-test.true c.item-item.is
-    l.invariant.fits l.invariant.so_far c.in_ok-last.ensures.ended c.in_ok-last.ensures.stays in
-    let size = parts_fewer c.args.items.now l.item-index c.item-item.result c.loop-item-test.true c.item-item.is in
+    let x = c.args.context.now in
+    let others = c.in-Some.others.now in
+    let told = c.in_ok-eval.ensures.ended in
+    let next = before_next c.meanings_stay_well_formed.ensures x c.args.store.now l.store c.eval.new.store others l.item-index c.item-item.result told.0
+    (λ last v. items_before x (map linked_of others) (store_at x c.args.store.now) last null) c.loop-item-test.true c.item-item.is
+    l.invariant.fits l.invariant.so_far told.1 c.in_ok-eval.ensures.stays in
+    let size = parts_fewer others l.item-index c.item-item.result c.loop-item-test.true c.item-item.is in
     record { so_far = next.0; fits = next.1; fewer = omega (arith, l.invariant.fewer, size) }
+
+pub items-returns-clause-ended : goal.items-returns-clause-ended
+items-returns-clause-ended t c =
+    let l = c.loop-item in
+    let x = c.args.context.now in
+    let others = c.in-Some.others.now in
+    let last = c.in-Some.last.now in
+    let split : c.args.items.now ≡ others ++ last ∷ [] = search rules in
+    let before : Parts → Ended = λ ns. items_mean (names_in x) (setting_in x) null ns (store_at x c.args.store.now) in
+    let whole : before (parts_view c.args.items.now) ≡ meant x (linked_of last) l.store = ap before (last_part c.args.items.now others last split)
+    ∙ before_end x c.args.store.now l.store others l.item-index (λ n v. items_before x (map linked_of others) (store_at x c.args.store.now) n null) c.loop-item-test.false l.invariant.so_far (linked_of last) null in
+    subst (λ e. EndsAsked c.args.is_asked e (store_at x c.eval-2.new.store) c.eval-2.result) (sym whole) c.eval-2.ensures.ended
+
+pub items-returns-in_err-eval-clause-ended : goal.items-returns-in_err-eval-clause-ended
+items-returns-in_err-eval-clause-ended t c =
+    let l = c.loop-item in
+    let x = c.args.context.now in
+    let others = c.in-Some.others.now in
+    let last = c.in-Some.last.now in
+    let split : c.args.items.now ≡ others ++ last ∷ [] = search rules in
+    let stop = c.in_err-eval.field-0.0 in
+    let told : Stops (items_mean (names_in x) (setting_in x) null (parts_view c.args.items.now) (store_at x c.args.store.now)) (store_at x c.eval.new.store) stop =
+    subst (λ ns. Stops (items_mean (names_in x) (setting_in x) null ns (store_at x c.args.store.now)) (store_at x c.eval.new.store) stop) (sym (last_part c.args.items.now others last split))
+    (before_stop x c.args.store.now l.store others l.item-index c.item-item.result (λ n v. items_before x (map linked_of others) (store_at x c.args.store.now) n null) (store_at x c.eval.new.store) stop
+    c.loop-item-test.true c.item-item.is l.invariant.so_far c.in_err-eval.ensures.ended (linked_of last) null) in
+    search rules
+
+pub items-returns-in_default-clause-ended : goal.items-returns-in_default-clause-ended
+items-returns-in_default-clause-ended t c =
+    let x = c.args.context.now in
+    let here = store_at x c.args.store.now in
+    let none = none_left c.args.items.now (length c.args.items.now) refl c.in_default.ensures.cases in
+    let is : tree_of values.Null ≡ null = search (rules, value_lemmas) in
+    let before : Parts → Ended = λ ns. items_mean (names_in x) (setting_in x) null ns here in
+    told_anyhow c.args.is_asked (before (parts_view c.args.items.now)) here (Ok values.Null) (ap (λ ns. before (parts_view ns)) none ∙ ap (λ v. ends (value v) here) (sym is))
 
 pub negation-eval-requires : goal.negation-eval-requires
 negation-eval-requires t c =
@@ -572,8 +644,8 @@ assignments::assign-returns-in_err-write_to-clause-ended t c =
     let x = c.args.context.now in
     let after = c.eval.new.store in
     let are = names_after (names_in x) c.args.store.now after c.requires.ready.names c.in_ok-value.ensures.stays in
-    let told : Stops (meant x (assign c.args.is_asked c.args.target.now (linked_of c.args.part.now)) c.args.store.now) (store_at x c.write_to.new.store) c.in_err-write_to.field-0.0 =
-    assigned_stops c.args.is_asked (target_of (names_in x) c.args.target.now) (meant x (linked_of c.args.part.now) c.args.store.now) (tree_of c.in_ok-value.value) (store_at x after) (store_at x c.write_to.new.store) c.in_err-write_to.field-0.0 c.in_ok-value.ensures.ended (c.in_err-write_to.ensures.written (names_in x) are) in
+    let told : Stops (meant x (assign c.args.target.now (linked_of c.args.part.now)) c.args.store.now) (store_at x c.write_to.new.store) c.in_err-write_to.field-0.0 =
+    assigned_stops (target_of (names_in x) c.args.target.now) (meant x (linked_of c.args.part.now) c.args.store.now) (tree_of c.in_ok-value.value) (store_at x after) (store_at x c.write_to.new.store) c.in_err-write_to.field-0.0 c.in_ok-value.ensures.ended (c.in_err-write_to.ensures.written (names_in x) are) in
     search rules
 
 pub assignments::assign-returns-clause-ended : goal.assignments::assign-returns-clause-ended
@@ -581,7 +653,7 @@ assignments::assign-returns-clause-ended t c =
     let x = c.args.context.now in
     let after = c.eval.new.store in
     let are = names_after (names_in x) c.args.store.now after c.requires.ready.names c.in_ok-value.ensures.stays in
-    assigned_ends c.args.is_asked (target_of (names_in x) c.args.target.now) (meant x (linked_of c.args.part.now) c.args.store.now) (tree_of c.in_ok-value.value) (tree_of c.in_ok-copy.copy) (store_at x after) (store_at x c.write_to.new.store) c.in_ok-value.ensures.ended c.in_ok-copy.ensures (c.in_ok-write_to.ensures.written (names_in x) are)
+    assigned_ends c.args.is_asked (target_of (names_in x) c.args.target.now) (meant x (linked_of c.args.part.now) c.args.store.now) (tree_of c.in_ok-value.value) c.in_ok-copy.copy (store_at x after) (store_at x c.write_to.new.store) c.in_ok-value.ensures.ended c.in_ok-copy.ensures.copy (c.in_ok-write_to.ensures.written (names_in x) are)
 
 pub assignments::both-outcome-requires : goal.assignments::both-outcome-requires
 assignments::both-outcome-requires t c =
@@ -593,8 +665,8 @@ assignments::both-returns-in_err-value-clause-ended t c =
     let T = target_of (names_in x) c.args.ok.now in
     let U = target_of (names_in x) c.args.err.now in
     let given = meant x (linked_of c.args.part.now) c.args.store.now in
-    let told : Stops (meant x (both c.args.is_asked c.args.ok.now c.args.err.now c.args.tag (linked_of c.args.part.now)) c.args.store.now) (store_at x c.outcome.new.store) c.in_err-value.field-0.0 =
-    asked_stops c.args.is_asked (both_assigned T U c.args.tag given.outcome given.store) (store_at x c.outcome.new.store) c.in_err-value.field-0.0 (c.in_err-value.ensures.ended T U) in
+    let told : Stops (meant x (both c.args.ok.now c.args.err.now c.args.tag (linked_of c.args.part.now)) c.args.store.now) (store_at x c.outcome.new.store) c.in_err-value.field-0.0 =
+    c.in_err-value.ensures.ended T U in
     search rules
 
 pub assignments::both-returns-in_err-write_to-2-clause-ended : goal.assignments::both-returns-in_err-write_to-2-clause-ended
@@ -605,8 +677,8 @@ assignments::both-returns-in_err-write_to-2-clause-ended t c =
     let given = meant x (linked_of c.args.part.now) c.args.store.now in
     let are = names_after (names_in x) c.args.store.now c.outcome.new.store c.requires.ready.names c.in_ok-value.ensures.stays in
     let are_then = names_after (names_in x) c.outcome.new.store c.write_to.new.store are c.in_ok-write_to.ensures.stays in
-    let told : Stops (meant x (both c.args.is_asked c.args.ok.now c.args.err.now c.args.tag (linked_of c.args.part.now)) c.args.store.now) (store_at x c.write_to-2.new.store) c.in_err-write_to-2.field-0.0 =
-    second_stops c.args.is_asked T U (both_assigned T U c.args.tag given.outcome given.store) (tree_of c.in_ok-value.value) (tree_of c.in_ok-value.error) (store_at x c.outcome.new.store) (store_at x c.write_to.new.store) (store_at x c.write_to-2.new.store) c.in_err-write_to-2.field-0.0 (c.in_ok-value.ensures.ended T U) (c.in_ok-write_to.ensures.written (names_in x) are) (c.in_err-write_to-2.ensures.written (names_in x) are_then) in
+    let told : Stops (meant x (both c.args.ok.now c.args.err.now c.args.tag (linked_of c.args.part.now)) c.args.store.now) (store_at x c.write_to-2.new.store) c.in_err-write_to-2.field-0.0 =
+    second_stops T U (both_assigned T U c.args.tag given.outcome given.store) (tree_of c.in_ok-value.value) (tree_of c.in_ok-value.error) (store_at x c.outcome.new.store) (store_at x c.write_to.new.store) (store_at x c.write_to-2.new.store) c.in_err-write_to-2.field-0.0 (c.in_ok-value.ensures.ended T U) (c.in_ok-write_to.ensures.written (names_in x) are) (c.in_err-write_to-2.ensures.written (names_in x) are_then) in
     search rules
 
 pub assignments::both-returns-in_err-write_to-clause-ended : goal.assignments::both-returns-in_err-write_to-clause-ended
@@ -616,8 +688,8 @@ assignments::both-returns-in_err-write_to-clause-ended t c =
     let U = target_of (names_in x) c.args.err.now in
     let given = meant x (linked_of c.args.part.now) c.args.store.now in
     let are = names_after (names_in x) c.args.store.now c.outcome.new.store c.requires.ready.names c.in_ok-value.ensures.stays in
-    let told : Stops (meant x (both c.args.is_asked c.args.ok.now c.args.err.now c.args.tag (linked_of c.args.part.now)) c.args.store.now) (store_at x c.write_to.new.store) c.in_err-write_to.field-0.0 =
-    first_stops c.args.is_asked T U (both_assigned T U c.args.tag given.outcome given.store) (tree_of c.in_ok-value.value) (tree_of c.in_ok-value.error) (store_at x c.outcome.new.store) (store_at x c.write_to.new.store) c.in_err-write_to.field-0.0 (c.in_ok-value.ensures.ended T U) (c.in_err-write_to.ensures.written (names_in x) are) in
+    let told : Stops (meant x (both c.args.ok.now c.args.err.now c.args.tag (linked_of c.args.part.now)) c.args.store.now) (store_at x c.write_to.new.store) c.in_err-write_to.field-0.0 =
+    first_stops T U (both_assigned T U c.args.tag given.outcome given.store) (tree_of c.in_ok-value.value) (tree_of c.in_ok-value.error) (store_at x c.outcome.new.store) (store_at x c.write_to.new.store) c.in_err-write_to.field-0.0 (c.in_ok-value.ensures.ended T U) (c.in_err-write_to.ensures.written (names_in x) are) in
     search rules
 
 pub assignments::both-returns-clause-ended : goal.assignments::both-returns-clause-ended
@@ -628,7 +700,7 @@ assignments::both-returns-clause-ended t c =
     let given = meant x (linked_of c.args.part.now) c.args.store.now in
     let are = names_after (names_in x) c.args.store.now c.outcome.new.store c.requires.ready.names c.in_ok-value.ensures.stays in
     let are_then = names_after (names_in x) c.outcome.new.store c.write_to.new.store are c.in_ok-write_to.ensures.stays in
-    both_end c.args.is_asked T U (both_assigned T U c.args.tag given.outcome given.store) (tree_of c.in_ok-value.value) (tree_of c.in_ok-value.error) (tree_of c.in_ok-copy.copy) (store_at x c.outcome.new.store) (store_at x c.write_to.new.store) (store_at x c.write_to-2.new.store) (c.in_ok-value.ensures.ended T U) c.in_ok-copy.ensures (c.in_ok-write_to.ensures.written (names_in x) are) (c.in_ok-write_to-2.ensures.written (names_in x) are_then)
+    both_end c.args.is_asked T U (both_assigned T U c.args.tag given.outcome given.store) (tree_of c.in_ok-value.value) (tree_of c.in_ok-value.error) c.in_ok-copy.copy (store_at x c.outcome.new.store) (store_at x c.write_to.new.store) (store_at x c.write_to-2.new.store) (c.in_ok-value.ensures.ended T U) c.in_ok-copy.ensures.copy (c.in_ok-write_to.ensures.written (names_in x) are) (c.in_ok-write_to-2.ensures.written (names_in x) are_then)
 
 pub assignments::merge-beside-requires : goal.assignments::merge-beside-requires
 assignments::merge-beside-requires t c =
@@ -642,7 +714,7 @@ assignments::merge-returns-clause-ended t c =
     let current = c.in_ok-current.ensures (names_in x) c.requires.ready.names in
     let made = subst (λ v. on_value given (λ w end. ends (applied ops.Merge v w) end) ≡ ends (value (tree_of c.in_ok-value.value)) (store_at x c.beside.new.store)) current c.in_ok-value.ensures.ended in
     let are = names_after (names_in x) c.args.store.now c.beside.new.store c.requires.ready.names c.in_ok-value.ensures.stays in
-    assigned_ends c.args.is_asked T (combined ops.Merge (ends (value (target_value T (store_at x c.args.store.now))) (store_at x c.args.store.now)) (λ end. means (names_in x) (setting_in x) (linked_of c.args.part.now) end)) (tree_of c.in_ok-value.value) (tree_of c.in_ok-copy.copy) (store_at x c.beside.new.store) (store_at x c.write_to.new.store) made c.in_ok-copy.ensures (c.in_ok-write_to.ensures.written (names_in x) are)
+    assigned_ends c.args.is_asked T (combined ops.Merge (ends (value (target_value T (store_at x c.args.store.now))) (store_at x c.args.store.now)) (λ end. means (names_in x) (setting_in x) (linked_of c.args.part.now) end)) (tree_of c.in_ok-value.value) c.in_ok-copy.copy (store_at x c.beside.new.store) (store_at x c.write_to.new.store) made c.in_ok-copy.ensures.copy (c.in_ok-write_to.ensures.written (names_in x) are)
 
 pub assignments::merge-returns-in_err-value-clause-ended : goal.assignments::merge-returns-in_err-value-clause-ended
 assignments::merge-returns-in_err-value-clause-ended t c =
@@ -651,8 +723,8 @@ assignments::merge-returns-in_err-value-clause-ended t c =
     let given = meant x (linked_of c.args.part.now) c.args.store.now in
     let current = c.in_ok-current.ensures (names_in x) c.requires.ready.names in
     let made = subst (λ v. Stops (on_value given (λ w end. ends (applied ops.Merge v w) end)) (store_at x c.beside.new.store) c.in_err-value.field-0.0) current c.in_err-value.ensures.ended in
-    let told : Stops (meant x (merge c.args.is_asked c.args.target.now (linked_of c.args.part.now)) c.args.store.now) (store_at x c.beside.new.store) c.in_err-value.field-0.0 =
-    asked_stops c.args.is_asked (assigned T (combined ops.Merge (ends (value (target_value T (store_at x c.args.store.now))) (store_at x c.args.store.now)) (λ end. means (names_in x) (setting_in x) (linked_of c.args.part.now) end))) (store_at x c.beside.new.store) c.in_err-value.field-0.0 (after_stop (combined ops.Merge (ends (value (target_value T (store_at x c.args.store.now))) (store_at x c.args.store.now)) (λ end. means (names_in x) (setting_in x) (linked_of c.args.part.now) end)) (λ v after. writes_to T v after (λ end. ends (value v) end)) (store_at x c.beside.new.store) c.in_err-value.field-0.0 made) in
+    let told : Stops (meant x (merge c.args.target.now (linked_of c.args.part.now)) c.args.store.now) (store_at x c.beside.new.store) c.in_err-value.field-0.0 =
+    after_stop (combined ops.Merge (ends (value (target_value T (store_at x c.args.store.now))) (store_at x c.args.store.now)) (λ end. means (names_in x) (setting_in x) (linked_of c.args.part.now) end)) (λ v after. writes_to T v after (λ end. ends (value v) end)) (store_at x c.beside.new.store) c.in_err-value.field-0.0 made in
     search rules
 
 pub assignments::merge-returns-in_err-write_to-clause-ended : goal.assignments::merge-returns-in_err-write_to-clause-ended
@@ -663,8 +735,8 @@ assignments::merge-returns-in_err-write_to-clause-ended t c =
     let current = c.in_ok-current.ensures (names_in x) c.requires.ready.names in
     let made = subst (λ v. on_value given (λ w end. ends (applied ops.Merge v w) end) ≡ ends (value (tree_of c.in_ok-value.value)) (store_at x c.beside.new.store)) current c.in_ok-value.ensures.ended in
     let are = names_after (names_in x) c.args.store.now c.beside.new.store c.requires.ready.names c.in_ok-value.ensures.stays in
-    let told : Stops (meant x (merge c.args.is_asked c.args.target.now (linked_of c.args.part.now)) c.args.store.now) (store_at x c.write_to.new.store) c.in_err-write_to.field-0.0 =
-    assigned_stops c.args.is_asked T (combined ops.Merge (ends (value (target_value T (store_at x c.args.store.now))) (store_at x c.args.store.now)) (λ end. means (names_in x) (setting_in x) (linked_of c.args.part.now) end)) (tree_of c.in_ok-value.value) (store_at x c.beside.new.store) (store_at x c.write_to.new.store) c.in_err-write_to.field-0.0 made (c.in_err-write_to.ensures.written (names_in x) are) in
+    let told : Stops (meant x (merge c.args.target.now (linked_of c.args.part.now)) c.args.store.now) (store_at x c.write_to.new.store) c.in_err-write_to.field-0.0 =
+    assigned_stops T (combined ops.Merge (ends (value (target_value T (store_at x c.args.store.now))) (store_at x c.args.store.now)) (λ end. means (names_in x) (setting_in x) (linked_of c.args.part.now) end)) (tree_of c.in_ok-value.value) (store_at x c.beside.new.store) (store_at x c.write_to.new.store) c.in_err-write_to.field-0.0 made (c.in_err-write_to.ensures.written (names_in x) are) in
     search rules
 
 pub assignments::outcome-eval-given-requires : goal.assignments::outcome-eval-given-requires
@@ -672,7 +744,11 @@ assignments::outcome-eval-given-requires t c =
     (omega (arith, c.decreases), (c.requires.ready, c.requires.fits))
 
 pub assignments::outcome-returns-clause-ended : goal.assignments::outcome-returns-clause-ended
-assignments::outcome-returns-clause-ended t c = c.both_values.ensures.gives (meant c.args.context.now (linked_of c.args.part.now) c.args.store.now) (store_at c.args.context.now c.eval-given.new.store) c.eval-given.ensures.ended
+assignments::outcome-returns-clause-ended t c =
+    let x = c.args.context.now in
+    let m = meant x (linked_of c.args.part.now) c.args.store.now in
+    let after = store_at x c.eval-given.new.store in
+    c.both_values.ensures.gives m after (told_asked m after c.eval-given.result c.eval-given.ensures.ended)
 
 pub closures::iterate-over-requires : goal.closures::iterate-over-requires
 closures::iterate-over-requires t c =
@@ -815,8 +891,8 @@ closures::over_fields-loop-name-preserved t c =
     let part = tree_of c.in-Some.part in
     let binds = subst (λ name. Binds f (string name) part c.in_ok-bindings.bindings) c.new.ensures c.in_ok-bindings.ensures.binds in
     let kept = subst (λ name. IsFieldHeld f name part c.in_ok-bindings.held) c.new.ensures c.in_ok-bindings.ensures.held in
-    fields_turn c.meanings_stay_well_formed.ensures x f (parts_view c.args.body.now) c.args.store.now l.store c.run.new.store (members_view l.name-iterator) (members_view left) k part (tree_of c.in_ok-given.given) l.made c.put_field.new.made _
-    c.in_ok-bindings.bindings c.in_ok-bindings.held c.requires.fits l.invariant (ap members_view c.in-Some.ensures.steps) binds c.in_ok-given.ensures.ended c.in_ok-given.ensures.stays kept c.in_ok-put_field.ensures
+    fields_turn c.meanings_stay_well_formed.ensures x f (parts_view c.args.body.now) c.args.store.now l.store c.run.new.store (members_view l.name-iterator) (members_view left) k part c.in_ok-given.given c.is_body_asked.result l.made c.put_field.new.made _
+    c.in_ok-bindings.bindings c.in_ok-bindings.held c.requires.fits l.invariant (ap members_view c.in-Some.ensures.steps) binds c.is_body_asked.ensures c.in_ok-given.ensures.ended c.in_ok-given.ensures.stays kept c.in_ok-put_field.ensures
 
 pub closures::over_fields-returns-clause-stays : goal.closures::over_fields-returns-clause-stays
 closures::over_fields-returns-clause-stays t c = c.loop-name.invariant.so_far.stays
@@ -904,8 +980,8 @@ closures::over_items-loop-item-preserved t c =
     let steps = c.in-Some.ensures.steps in
     let longer = ap length steps.0 in
     record {
-      so_far = items_turn c.meanings_stay_well_formed.ensures x c.args.function ns c.args.store.now l.store c.run.new.store l.place (l.place + 1) _ (items_view left) (tree_of c.in-Some.item) (tree_of c.in_ok-given.given) (map tree_of l.made.items)
-          (map tree_of c.push_item.new.made.items) _ c.in_ok-bindings.bindings c.in_ok-bindings.held c.requires.fits l.invariant.so_far (ap items_view steps.0) (omega arith) c.in_ok-bindings.ensures.binds c.in_ok-given.ensures.ended c.in_ok-given.ensures.stays
+      so_far = items_turn c.meanings_stay_well_formed.ensures x c.args.function ns c.args.store.now l.store c.run.new.store l.place (l.place + 1) _ (items_view left) (tree_of c.in-Some.item) c.in_ok-given.given c.is_body_asked.result (map tree_of l.made.items)
+          (map tree_of c.push_item.new.made.items) _ c.in_ok-bindings.bindings c.in_ok-bindings.held c.requires.fits l.invariant.so_far (ap items_view steps.0) (omega arith) c.in_ok-bindings.ensures.binds c.is_body_asked.ensures c.in_ok-given.ensures.ended c.in_ok-given.ensures.stays
           c.in_ok-bindings.ensures.held c.in_ok-push_item.ensures;
       as_many = one_gone (into_iter_items l.item-iterator) left c.in-Some.item _ _ steps.0 steps.1 l.invariant.as_many;
       small = omega (arith, l.invariant.small, longer);
@@ -980,7 +1056,7 @@ closures::run-returns-in_ok-hidden-in-Two-clause-ended t c =
     let bound = c.bind.new.store in
     let middle = c.run_with-given.new.store in
     let stays = bound_then before bound middle c.in_ok-hidden-in-Two.ensures.front c.in_ok-hidden-in-Two.ensures.as_many c.run_with-given.ensures.stays in
-    rw c.in-Two.is (two_names_end x c.in-Two.first c.in-Two.second (tree_of c.in-Two.key) (tree_of c.in-Two.value) (parts_view c.args.body.now) c.in_ok-hidden-in-Two.hidden before bound middle c.unbind.new.store c.count-count.result c.run_with-given.result
+    rw c.in-Two.is (two_names_end x c.in-Two.first c.in-Two.second (tree_of c.in-Two.key) (tree_of c.in-Two.value) (parts_view c.args.body.now) c.in_ok-hidden-in-Two.hidden before bound middle c.unbind.new.store c.count-count.result c.args.is_asked c.run_with-given.result
     c.requires.ready stays c.count-count.ensures c.in_ok-hidden-in-Two.ensures.hidden (c.in_ok-hidden-in-Two.ensures.bound (names_in x) c.requires.ready.names) c.run_with-given.ensures.ended
     (c.unbind.ensures.left (names_in x) (names_after (names_in x) before middle c.requires.ready.names stays)))
 
@@ -1031,7 +1107,7 @@ closures::run_with-returns-clause-ended t c =
     let bound = c.bind.new.store in
     let middle = c.items-given.new.store in
     let stays = bound_then before bound middle c.in_ok-hidden.ensures.front c.in_ok-hidden.ensures.as_many c.items-given.ensures.stays in
-    one_name_ends x c.args.slot (tree_of c.args.value) (parts_view c.args.body.now) c.in_ok-hidden.hidden before bound middle c.unbind.new.store c.count-count.result c.items-given.result
+    one_name_ends x c.args.slot (tree_of c.args.value) (parts_view c.args.body.now) c.in_ok-hidden.hidden before bound middle c.unbind.new.store c.count-count.result c.args.is_asked c.items-given.result
     c.requires.ready stays c.count-count.ensures c.in_ok-hidden.ensures.hidden (c.in_ok-hidden.ensures.bound (names_in x) c.requires.ready.names) c.items-given.ensures.ended
     (c.unbind.ensures.left (names_in x) (names_after (names_in x) before middle c.requires.ready.names stays))
 

@@ -1,16 +1,16 @@
 use Rattle.std.proofs.Common.{◌≡◌, ◌≤◌, ◌<◌, ◌+◌, ◌*◌, ◌^◌, [], ◌++◌, None, drop, length, map, List}
 use Rattle.std.specs.Vec.Iter.{into_iter_items, into_iter_len}
-use Rattle.vrl_value.specs.Tree.{array as array_tree, no_members, null, object as object_tree}
+use Rattle.vrl_value.specs.Tree.{Tree, array as array_tree, no_members, null, object as object_tree}
 use Rattle.vrl_value.specs.View.{items_of, items_view, members_of, members_view, tree_of}
 use Rattle.vrl_store.specs.Outcomes.{Ended}
 use Rattle.vrl_resolve.specs.Calls.{iterated}
 use Rattle.vrl_resolve.specs.Iterating.{body_in, made_in}
 use Rattle.vrl_resolve.specs.Linked.{Linked, arms_view, call_of, else_view, iteration_of, linked_of, message_view, pairs_view, parts_of_list, parts_view}
-use Rattle.vrl_resolve.specs.LinkedMeaning.{all_mean, arms_mean, else_means, form_in, items_mean, pairs_mean}
+use Rattle.vrl_resolve.specs.LinkedMeaning.{all_mean, arms_mean, else_means, form_in, pairs_mean}
 use Rattle.vrl_resolve.specs.Walking.{names_in, setting_in, store_at, AllFitIn, ArmsFitIn, PairsFitIn}
 use Rattle.vrl_resolve.proofs.LinkedSizes.{arms_size, else_size, linked_size, message_size, pairs_size, parts_size}
 use Rattle.vrl_resolve.proofs.Turns.{IsOverFields, IsOverItems}
-use Rattle.vrl_resolve.proofs.Walks.{IsPartway}
+use Rattle.vrl_resolve.proofs.Walks.{items_before, IsPartway}
 use Rattle.vrl_resolve.proofs.walk.+walk.Given as goal
 
 -- first by what is left of the script, then by who calls whom for the same part
@@ -115,14 +115,14 @@ invariant-values-loop-node l = record {
   fewer : parts_size (parts_view (drop l.node-index l.nodes)) ≤ parts_size (parts_view l.nodes);
 }
 
--- what is left means, behind the last value so far, what all means
+-- what is left means, before a last item, what all means
 abbrev pub invariant-items-loop-item : goal.invariant-items-loop-item
 invariant-items-loop-item l = record {
-  so_far : IsPartway l.context l.initial.store l.store
-      (items_mean (names_in l.context) (setting_in l.context) (tree_of l.last) (parts_view (drop l.item-index l.items)) (store_at l.context l.store))
-      (items_mean (names_in l.context) (setting_in l.context) null (parts_view l.items) (store_at l.context l.initial.store));
-  fits : AllFitIn l.context (parts_view (drop l.item-index l.items));
-  fewer : parts_size (parts_view (drop l.item-index l.items)) ≤ parts_size (parts_view l.items);
+  so_far : IsPartway {A = Linked → Tree → Ended} l.context l.initial.store l.store
+      (items_before l.context (map linked_of (drop l.item-index l.others)) (store_at l.context l.store))
+      (λ last v. items_before l.context (map linked_of l.others) (store_at l.context l.initial.store) last null);
+  fits : AllFitIn l.context (parts_view (drop l.item-index l.others));
+  fewer : parts_size (parts_view (drop l.item-index l.others)) ≤ parts_size (parts_view l.others);
 }
 
 -- what is left means, behind the fields so far, what all means

@@ -3,7 +3,7 @@ use Rattle.std.specs.Vec.Iter.{into_iter_items, into_iter_len}
 use Rattle.vrl_syntax.specs.View.{args_of, args_view, arms_of, arms_view, call_of, closure_in, closure_of, else_of, expr_of, exprs_of, exprs_view, message_of, pairs_of, pairs_view}
 use Rattle.vrl_syntax.proofs.PartSizes.{args_size, arms_size, closure_size, else_size, expr_size, exprs_size, form_size, message_size, pairs_size}
 use Rattle.vrl_resolve.specs.Linked.{arm_of, linked_of}
-use Rattle.vrl_resolve.proofs.Partway.{IsArgsPartway, IsArmsPartway, IsArrayPartway, IsItemsPartway, IsObjectPartway, pair_in}
+use Rattle.vrl_resolve.proofs.Partway.{IsArgsPartway, IsArmsPartway, IsItemsPartway, IsObjectPartway, pair_in}
 use Rattle.vrl_resolve.proofs.link.Linker.+link.Given as goal
 
 -- first by what is left of the script, then by who calls whom for the same part
@@ -17,7 +17,7 @@ abbrev pub decreases-arms : goal.decreases-arms
 decreases-arms l = 5 * arms_size (arms_of l.arms) + 2
 
 abbrev pub decreases-array : goal.decreases-array
-decreases-array l = 5 * exprs_size (exprs_of l.parts) + 1
+decreases-array l = 5 * exprs_size (exprs_of l.parts) + 2
 
 abbrev pub decreases-assign : goal.decreases-assign
 decreases-assign l = 5 * expr_size (expr_of l.part.value) + 2
@@ -82,24 +82,15 @@ invariant-args-loop-arg l = record {
 
 abbrev pub invariant-arms-loop-arm : goal.invariant-arms-loop-arm
 invariant-arms-loop-arm l = record {
-  partway : IsArmsPartway l.fn.self l.self l.is_asked (arms_of l.fn.arms) (arms_view (into_iter_items l.arm-iterator)) (map arm_of l.linked.items);
+  partway : IsArmsPartway l.fn.self l.self (arms_of l.fn.arms) (arms_view (into_iter_items l.arm-iterator)) (map arm_of l.linked.items);
   as_many : into_iter_len l.arm-iterator ≡ length (into_iter_items l.arm-iterator);
-}
-
-abbrev pub invariant-array-loop-part : goal.invariant-array-loop-part
-invariant-array-loop-part l = record {
-  partway : IsArrayPartway l.fn.self l.self (exprs_of l.fn.parts) (exprs_view (into_iter_items l.part-iterator)) (map linked_of l.nodes.items);
-  as_many : into_iter_len l.part-iterator ≡ length (into_iter_items l.part-iterator);
 }
 
 abbrev pub invariant-items-loop-item : goal.invariant-items-loop-item
 invariant-items-loop-item l = record {
-  partway : IsItemsPartway l.fn.self l.self l.is_asked (exprs_of l.fn.items) (exprs_view (into_iter_items l.left)) (map linked_of l.nodes.items);
-  as_many : into_iter_len l.left ≡ length (into_iter_items l.left);
+  partway : IsItemsPartway l.fn.self l.self (exprs_of l.fn.items) (exprs_view (into_iter_items l.item-iterator)) (map linked_of l.nodes.items);
+  as_many : into_iter_len l.item-iterator ≡ length (into_iter_items l.item-iterator);
 }
-
-abbrev pub decreases-items-loop-item : goal.decreases-items-loop-item
-decreases-items-loop-item l = into_iter_len l.left
 
 abbrev pub invariant-object-loop-name : goal.invariant-object-loop-name
 invariant-object-loop-name l = record {

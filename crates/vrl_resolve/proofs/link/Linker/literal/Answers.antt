@@ -11,4 +11,4 @@ use Rattle.vrl_resolve.proofs.link.Linker.literal.Goals as goal
 pub returns : goal.returns
 returns c =
     let is : linked_of c.of.result ≡ linked.literal (tree_of c.args.value) = search (rules, the_lemmas) in
-    links_itself c.args.self.now (λ names asked. subst (IsLinkedForm names c.args.self.now.tags.left.now asked (literal (tree_of c.args.value))) (sym is) (a_literal c.depth-depth.ensures.ordered))
+    links_itself c.args.self.now (λ names. subst (IsLinkedForm names c.args.self.now.tags.left.now (literal (tree_of c.args.value))) (sym is) (a_literal c.depth-depth.ensures.ordered))
