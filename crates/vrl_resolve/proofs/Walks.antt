@@ -154,9 +154,11 @@ before_next law x before now after all i n v whole below here fits so_far is sta
     let both : FitsIn x (linked_of n) × AllFitIn x (parts_of_list rest) = subst (λ ns. AllFitIn x (parts_of_list ns)) next fits in
     let step : (last : Linked) (w : Tree) → items_before x (map linked_of (drop i all)) (store_at x now) last w ≡ items_before x rest (store_at x after) last w =
     λ last w. ap (λ ns. items_before x ns (store_at x now) last w) next
-    ∙ (ap (λ e. on_value e (λ u end. items_before x rest end last u)) is ∙ before_unused x rest (store_at x after) last v w) in
-    (partway_next {A = Linked → Tree → Ended} x before now after _ _ whole so_far (λ j last w. step last w j)
-    (ready_after x now after (linked_of n) (value v) law both.0 is so_far.ready stays) stays, both.1)
+    ∙ (ap (λ e. on_value e (λ u end. items_before x rest end last u)) is ∙ before_unused x rest (store_at x after) last v w) in (
+      partway_next {A = Linked → Tree → Ended} x before now after _ _ whole so_far (λ j last w. step last w j)
+          (ready_after x now after (linked_of n) (value v) law both.0 is so_far.ready stays) stays,
+      both.1,
+    )
 
 pub before_stop : (x : Context) (before now : CodeStore) (all : List Node) (i : ℕ) (n : Node) (whole : Linked → Tree → Ended) (store : Store) (stop : Stop)
     → i < length all → n ≡ get_or all i n

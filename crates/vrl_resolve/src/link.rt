@@ -224,11 +224,7 @@ impl Linker<'_> {
     }
 
     #[cycle(link)]
-    fn conditional(
-        &mut self,
-        arms: Arms,
-        otherwise: Option<Exprs>,
-    ) -> Result<Node, Memory>
+    fn conditional(&mut self, arms: Arms, otherwise: Option<Exprs>) -> Result<Node, Memory>
         ensures { IfOk result (λ node. LinksForm self.old self.new
             (conditional (arms_of arms) (else_of (option_map exprs_of otherwise))) (linked_of node)) }
     {
@@ -255,10 +251,7 @@ impl Linker<'_> {
 
     // The items behind a last `else`.
     #[cycle(link)]
-    fn otherwise(
-        &mut self,
-        otherwise: Option<Exprs>,
-    ) -> Result<Option<Vec<Node>>, Memory>
+    fn otherwise(&mut self, otherwise: Option<Exprs>) -> Result<Option<Vec<Node>>, Memory>
         ensures { IfOk result (λ linked. Links self.old self.new (in_else (else_of (option_map exprs_of otherwise)))
             (λ names tags. IsElseLinked names tags (else_of (option_map exprs_of otherwise))
             (linked_else (option_map (λ nodes. map linked_of nodes.items) linked)))) }
@@ -311,12 +304,7 @@ impl Linker<'_> {
     }
 
     #[cycle(link)]
-    fn both(
-        &mut self,
-        ok: Target,
-        err: Target,
-        part: Box<Expr>,
-    ) -> Result<Node, Memory>
+    fn both(&mut self, ok: Target, err: Target, part: Box<Expr>) -> Result<Node, Memory>
         ensures { IfOk result (λ node. LinksForm self.old self.new
             (both ok err (expr_of part.value)) (linked_of node)) }
     {
@@ -324,12 +312,7 @@ impl Linker<'_> {
         let part = self.boxed(part)?;
         let ok = self.target(ok)?;
         let err = self.target(err)?;
-        Ok(Node::of(Form::Both {
-            ok,
-            err,
-            tag,
-            part,
-        }))
+        Ok(Node::of(Form::Both { ok, err, tag, part }))
     }
 
     #[cycle(link)]

@@ -1,6 +1,8 @@
 ghost use Rattle.std.specs.Prelude.{◌≡◌, length, true, IfOk, IsErr, IsTrue};
 ghost use Rattle.vrl_value.specs.Regexes.{regexes_below};
+ghost use Rattle.vrl_value.specs.Tree.{IsOrdered};
 ghost use Rattle.vrl_value.specs.View.{tree_of};
+ghost use Rattle.vrl_store.specs.Kept.{IsShallow};
 ghost use Rattle.vrl_store.specs.Outcomes as meaning;
 ghost use Rattle.vrl_store.specs.StoreView.{event_of, store_in, AreNames};
 ghost use Rattle.vrl_store.specs.Results.{Stops};
@@ -15,6 +17,7 @@ use crate::ran::{Ended, Given, Ran};
 use crate::walk::{Context, items};
 use std::alloc::Global;
 use vrl_builtin::Setting;
+use vrl_path::DEPTH_LIMIT;
 use vrl_pattern::Searches;
 use vrl_store::{Stop, Store};
 use vrl_value::{Memory, Moment, Names, Value};
@@ -29,10 +32,10 @@ impl Program {
     }
 }
 
-/// Runs a program over an event, at a moment, from which it ends with no error that it doesn't handle. What it gives, a value and
-/// variables, is told just where it is asked for, since gathering it takes time and memory. Each regex in the event is one of the
-/// program's, and `searches` are [`Program::searches`]. `Memory`: want of memory; the event is gone then.
-#[tactic(auto, unfolding(crate::specs::Program::program_of))]
+/// Runs a program over an event, at a moment, from which it ends with no error that it doesn't
+/// handle. The value and the variables that it gives are gathered only where they are asked for,
+/// since this takes time and memory. Each regex in the event is one of the program's, and `searches`
+/// are [`Program::searches`]. `Memory`: out of memory; the event is gone then.
 pub fn run(
     alloc: Global,
     program: &Program,
@@ -47,6 +50,32 @@ pub fn run(
     ensures ran { IfOk result (IsRan is_asked (ended_over (program_of program.now) moment (tree_of event))) }
     ensures below { IfOk result (IsWellFormedRan (length (program_of program.now).sources)) }
 {
+    let is_shallow = event.depth() <= DEPTH_LIMIT;
+    run_measured(
+        alloc, program, searches, event, is_shallow, moment, is_asked,
+    )
+}
+
+/// As [`run`], over an event whose members are known to be in order, and which is known to be nested
+/// at most 128 deep where the flag says so. It isn't walked to find this out.
+#[tactic(auto, unfolding(crate::specs::Program::program_of))]
+pub fn run_measured(
+    alloc: Global,
+    program: &Program,
+    searches: &Searches<'_>,
+    event: Value,
+    is_shallow: bool,
+    moment: Moment,
+    is_asked: bool,
+) -> Result<Ran, Memory>
+    requires searches { searches.now ≡ (program_of program.now).sources }
+    requires handled { ¬ IsUnhandled (ended_over (program_of program.now) moment (tree_of event)).outcome }
+    requires event { IsTrue (regexes_below (length (program_of program.now).sources) (tree_of event)) }
+    requires ordered { IsOrdered (tree_of event) }
+    requires shallow { IsTrue is_shallow → IsShallow (tree_of event) }
+    ensures ran { IfOk result (IsRan is_asked (ended_over (program_of program.now) moment (tree_of event))) }
+    ensures below { IfOk result (IsWellFormedRan (length (program_of program.now).sources)) }
+{
     meanings_stay_well_formed();
     let context = Context {
         alloc,
@@ -56,7 +85,7 @@ pub fn run(
         },
         names: &program.names,
     };
-    let mut store = Store::start(alloc, event, program.names.as_slice().len())?;
+    let mut store = Store::start(alloc, event, is_shallow, program.names.as_slice().len())?;
     let end = items(&mut store, &context, is_asked, &program.items);
     left(alloc, &program.names, store, is_asked, end)
 }

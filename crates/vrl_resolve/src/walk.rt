@@ -70,12 +70,7 @@ pub(crate) fn eval(
         Form::Binary(op, left, right) => binary(store, context, *op, left, right),
         Form::Assign(target, part) => assign(store, context, is_asked, target, part),
         Form::Merge(target, part) => merge(store, context, is_asked, target, part),
-        Form::Both {
-            ok,
-            err,
-            tag,
-            part,
-        } => both(store, context, is_asked, ok, err, *tag, part),
+        Form::Both { ok, err, tag, part } => both(store, context, is_asked, ok, err, *tag, part),
         Form::Call(called) => call(store, context, called),
         Form::Iteration(called) => iteration(store, context, called),
         Form::Return(part) => give_back(store, context, part),

@@ -21,10 +21,11 @@ use std::alloc::Global;
 use vrl_batch::{Line, LineOut, Outcome};
 use vrl_json::{
     JsonFault, Scratch, from_line, json_needs_no_sources, lines_are_json, lines_are_ordered,
+    lines_are_shallow,
 };
 use vrl_kind::{Kind, Rest, inhabits, inhabits_is_computed, object_part};
 use vrl_pattern::Searches;
-use vrl_resolve::{Ended, Program, Ran, run};
+use vrl_resolve::{Ended, Program, Ran, run_measured};
 use vrl_value::{Bytes, Memory, Names, Value};
 
 /// Runs a program over the event that a line stands for. `_sources` are those of the program's regex literals, which
@@ -146,8 +147,10 @@ fn run_event(
     ensures { IfOk result (λ out. out ≡ event_result searches.now options.now line.now.number (tree_of event)
         (ended_over (program_of program.now) line.now.moment (tree_of event))) }
 {
-    // Of what the script gives nothing is written.
-    let ran = run(alloc, program, searches, event, line.moment, false)?;
+    lines_are_ordered();
+    lines_are_shallow();
+    // A line nests at most 127 deep, and of what the script gives nothing is written.
+    let ran = run_measured(alloc, program, searches, event, true, line.moment, false)?;
     ran_result(alloc, searches, options, line, &ran, scratch)
 }
 

@@ -169,7 +169,7 @@ fn run(
     requires fits { AllFitIn context.now (parts_view body.now) }
     ensures ended { EndsAsked is_asked
         (body_means (names_in context.now) (setting_in context.now) (bound_variables bindings)
-            (parts_view body.now) (bound_values bindings) (store_at context.now store.old))
+        (parts_view body.now) (bound_values bindings) (store_at context.now store.old))
         (store_at context.now store.new) result }
     ensures stays { Stays store.old store.new }
 {
@@ -201,7 +201,7 @@ fn run_with(
     requires fits { AllFitIn context.now (parts_view body.now) }
     ensures ended { EndsAsked is_asked
         (body_means (names_in context.now) (setting_in context.now) (slot ∷ [])
-            (parts_view body.now) (tree_of value ∷ []) (store_at context.now store.old))
+        (parts_view body.now) (tree_of value ∷ []) (store_at context.now store.old))
         (store_at context.now store.new) result }
     ensures stays { Stays store.old store.new }
 {

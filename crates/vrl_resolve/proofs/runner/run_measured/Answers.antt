@@ -13,16 +13,16 @@ use Rattle.vrl_resolve.specs.Program.{program_of, IsWellFormedRan}
 use Rattle.vrl_resolve.specs.Walking.{EndsAsked}
 use Rattle.vrl_resolve.proofs.RunsWellFormed.{left_is, start_is}
 use Rattle.vrl_resolve.proofs.WellFormedValues.{null_is}
-use Rattle.vrl_resolve.proofs.runner.run.Goals as goal
+use Rattle.vrl_resolve.proofs.runner.run_measured.Goals as goal
 
 pub items-end-requires-clause-ready : goal.items-end-requires-clause-ready
 unfolding program_of
 items-end-requires-clause-ready c =
     let names = c.args.program.now.names in
-    let started = c.in_ok-store.ensures.started names (ap length (sym c.as_slice.ensures)) c.args.program.now.ready.distinct in
+    let started = c.in_ok-store.ensures names (ap length (sym c.as_slice.ensures)) c.args.program.now.ready.distinct in
     let below = subst (λ sources. IsTrue (regexes_below (length sources) (tree_of c.args.event))) (sym c.requires.searches) c.requires.event in record {
       names = started.1;
-      formed = start_is (length c.args.searches.now) (tree_of c.args.event) (store_in names c.in_ok-store.store) started.0 c.in_ok-store.ensures.ordered below;
+      formed = start_is (length c.args.searches.now) (tree_of c.args.event) (store_in names c.in_ok-store.store) started.0 c.requires.ordered below;
     }
 
 pub returns-clause-below : goal.returns-clause-below
@@ -30,9 +30,9 @@ unfolding program_of
 returns-clause-below c =
     let names = c.args.program.now.names in
     let count = length c.args.searches.now in
-    let started = c.in_ok-store.ensures.started names (ap length (sym c.as_slice.ensures)) c.args.program.now.ready.distinct in
+    let started = c.in_ok-store.ensures names (ap length (sym c.as_slice.ensures)) c.args.program.now.ready.distinct in
     let below = subst (λ sources. IsTrue (regexes_below (length sources) (tree_of c.args.event))) (sym c.requires.searches) c.requires.event in
-    let formed = start_is count (tree_of c.args.event) (store_in names c.in_ok-store.store) started.0 c.in_ok-store.ensures.ordered below in
+    let formed = start_is count (tree_of c.args.event) (store_in names c.in_ok-store.store) started.0 c.requires.ordered below in
     let setting : SettingTree = record { moment = c.args.moment; sources = c.args.searches.now } in
     let fits = subst (λ sources. AllFit (length names) (length sources) (parts_view c.deref.result.now)) (sym c.requires.searches)
     (subst (λ ns. AllFit (length names) (length c.args.program.now.patterns) (parts_view ns)) (sym c.deref.ensures.value) c.args.program.now.ready.fits) in
