@@ -1,13 +1,12 @@
 -- What the loops of a linker have linked so far, told by what may still come.
-use Rattle.std.proofs.Common.{◌≡◌, ◌==◌, ℕ, suc, ◌+◌, ◌≤◌, Bool, false, true, ◌&&◌, List, [], ◌∷◌, ◌++◌, length, map, drop, refl, sym, ap, ◌∙◌, subst, drop-drop, arith, rules}
+use Rattle.std.proofs.Common.{◌≡◌, ℕ, ◌+◌, ◌≤◌, List, [], ◌∷◌, ◌++◌, length, map, drop, refl, sym, ap, ◌∙◌, subst, drop-drop, arith, rules}
 use Rattle.std.proofs.lemmas.List.{map-append}
 use Rattle.vrl_value.specs.declared.value.Tag.{Tag}
 use Rattle.vrl_syntax.specs.ErrorAssignments.{in_args, in_arms, in_expr, in_exprs, in_pairs}
 use Rattle.vrl_syntax.specs.Tree.{Expr, Exprs, exprs, no_exprs, Pairs, pair, no_pairs, Arms, arm, no_arms, Args, arg, no_args}
 use Rattle.vrl_diag.specs.declared.diagnostic.Span.{Span}
-use Rattle.vrl_syntax.specs.View.{arm_of, expr_of, exprs_of, exprs_view}
+use Rattle.vrl_syntax.specs.View.{arm_of, expr_of, exprs_of}
 use Rattle.vrl_syntax.specs.declared.tree.Arm.{Arm as CodeArm, out-Arm}
-use Rattle.vrl_syntax.specs.declared.tree.Expr.{Expr as CodeExpr}
 use Rattle.vrl_syntax.specs.declared.tree.Form.{the_lemmas}
 use Rattle.vrl_store.specs.StoreView.{Names}
 use Rattle.vrl_syntax.proofs.PartSizes.{args_size, arms_size, exprs_size, pairs_size}

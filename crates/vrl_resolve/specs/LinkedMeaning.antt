@@ -1,5 +1,5 @@
 -- What a linked expression does: as `Meaning` has it of the expression that it was made of.
-use Rattle.std.specs.Prelude.{ℕ, Bool, true, false, List, [], ◌∷◌, ◌++◌, Option, Some, None, if◌then◌else◌}
+use Rattle.std.specs.Prelude.{ℕ, List, [], ◌∷◌, ◌++◌, Option, Some, None, if◌then◌else◌}
 use Rattle.vrl_value.specs.Tree.{Tree, null, array as items, object as members, Members, no_members, put}
 use Rattle.vrl_value.specs.View.{items_of_trees}
 use Rattle.vrl_syntax.specs.Tree.{no_span}

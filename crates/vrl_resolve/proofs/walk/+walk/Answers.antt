@@ -28,7 +28,7 @@ use Rattle.vrl_resolve.specs.Fits.{AreKnownSlots}
 use Rattle.vrl_resolve.specs.Iterating.{body_in, made_in, made_items, takes_arrays, Binds, IsFieldHeld}
 use Rattle.vrl_resolve.specs.Linked.{abort_with, arms_view, array, assign, binary, block, both, call_of, conditional, else_block, else_view, iteration_of, linked_of, literal, merge, message, message_view, negation, object, pairs_view, Parts, parts_of_list, parts_view, query, read, return_of}
 use Rattle.vrl_resolve.specs.LinkedMeaning.{all_mean, arms_mean, callee_in, else_means, form_in, items_mean, means, no_body, pairs_mean, target_of}
-use Rattle.vrl_resolve.specs.Meaning.{assigned, both_assigned, combined}
+use Rattle.vrl_resolve.specs.Meaning.{both_assigned, combined}
 use Rattle.vrl_resolve.specs.Walking.{AllFitIn, ElseFitsIn, EndsAsked, FitsIn, MessageFitsIn, PairsFitIn, Stays, meant, names_in, setting_in, store_at}
 use Rattle.vrl_resolve.specs.declared.node.Arm.{out-Arm}
 use Rattle.vrl_resolve.specs.declared.node.Call.{out-Call}
