@@ -1,5 +1,5 @@
--- Calls: what a call calls, as its text says, and what comes of it once its arguments have values. What a call does is given the run of its closure's
--- body.
+-- Calls: what a call calls, as its text says, and what comes of it once its arguments have values.
+-- What a call does is given the run of its closure's body.
 use Rattle.std.specs.Prelude.{ℕ, suc, Bool, true, false, ◌&&◌, List, [], ◌∷◌, ◌++◌, map, Option, Some, None, codes, slice_get, unwrap_or, if◌then◌else◌}
 use Rattle.std.specs.Option.{option_map_or}
 use Rattle.std.specs.declared.result.Result.{Result}
@@ -61,10 +61,12 @@ is_written_right p accepts e = if p.literal then is_allowed_literal accepts e el
 abbrev pub are_written_right : (ℕ → Tree → Bool) → ℕ → List ParameterRow → List (Option Expr) → Bool
 are_written_right accepts i [] es = true
 are_written_right accepts i (p ∷ ps) [] = true
-are_written_right accepts i (p ∷ ps) (e ∷ es) = is_written_right p (accepts i) e && are_written_right accepts (suc i) ps es
+are_written_right accepts i (p ∷ ps) (e ∷ es) =
+    is_written_right p (accepts i) e && are_written_right accepts (suc i) ps es
 
 abbrev pub written_function : Fun → List Expr → List (Option ℕ) → Callee
-written_function f es places = if are_written_right (row_of f).accepts 0 (row_of f).parameters (map (written_at es) places) then function f places else nothing_called
+written_function f es places = if are_written_right (row_of f).accepts 0 (row_of f).parameters
+    (map (written_at es) places) then function f places else nothing_called
 
 abbrev pub bound_function : Fun → Args → Result (List (Option ℕ)) BindFault → Callee
 bound_function f gs (Ok places) = written_function f (values_of gs) places
@@ -88,14 +90,16 @@ bound_iteration f (Err fault) = nothing_called
 
 abbrev pub closure_callee : Option CallForm → List (List ℕ) → Args → Callee
 closure_callee None names gs = nothing_called
-closure_callee (Some f) names gs = if is_closure_form (Some f) && has_shape f names then bound_iteration f (binding (collection_parameters f) (keywords_of gs)) else nothing_called
+closure_callee (Some f) names gs = if is_closure_form (Some f) && has_shape f names then bound_iteration f
+    (binding (collection_parameters f) (keywords_of gs)) else nothing_called
 
 -- one with a closure, and one without
 abbrev pub callee_of : List ℕ → Args → Closure → Callee
 callee_of name gs (closure names es span) = closure_callee (form_named name) names gs
 callee_of name gs no_closure =
     if is_del name then bound_path deletion gs (binding path_parameters (keywords_of gs)) else
-    (if is_exists name then bound_path existence gs (binding path_parameters (keywords_of gs)) else named_function (function_named name) gs)
+    (if is_exists name then bound_path existence gs (binding path_parameters (keywords_of gs))
+    else named_function (function_named name) gs)
 
 -- ---- what comes of a call
 
@@ -108,7 +112,8 @@ abbrev pub unfit_tag : ParameterRow → Option Tree → Option Tag
 unfit_tag p None = None
 unfit_tag p (Some v) = if allows p.allowed (tag_of v) then None else Some (tag_of v)
 
--- the first argument, in the order of the parameters from a place on, whose tag isn't allowed: its parameter's name, and its tag
+-- the first argument, in the order of the parameters from a place on, whose tag isn't allowed: its
+-- parameter's name, and its tag
 abbrev pub or_others : List ℕ → Option Tag → Option (List ℕ × Tag) → Option (List ℕ × Tag)
 or_others name None others = others
 or_others name (Some t) others = Some (name, t)
@@ -137,7 +142,8 @@ abbrev pub argument_in : Items → Option ℕ → Option Tree
 argument_in vs None = None
 argument_in vs (Some place) = item_at place vs
 
--- what a function makes of a collection and of the values that the runs gave; a name that is no text is an error of empty text, which no accepted script has
+-- what a function makes of a collection and of the values that the runs gave; a name that is no
+-- text is an error of empty text, which no accepted script has
 abbrev pub renamed_or_else : Option Tree → Outcome
 renamed_or_else None = error []
 renamed_or_else (Some v) = within_limit v
@@ -151,15 +157,18 @@ made_of f v rs = value null
 -- the body is run for each part of the collection, unless that is none
 abbrev pub iterated : CallForm → Body → Tree → Option (List ℕ × Tag) → Store → Ended
 iterated f body v (Some unfit) store = ends (error (argument_text (form_name f) unfit.0 unfit.1)) store
-iterated f body v None store = on_value (runs body (given_by f v) [] store) (λ rs after. ends (made_of f v (list_in rs)) after)
+iterated f body v None store =
+    on_value (runs body (given_by f v) [] store) (λ rs after. ends (made_of f v (list_in rs)) after)
 
--- A call in the store that its arguments left, with the run of its closure's body. A call that calls nothing ends with an error of empty text; no
--- accepted script has one.
+-- A call in the store that its arguments left, with the run of its closure's body. A call that
+-- calls nothing ends with an error of empty text; no accepted script has one.
 abbrev pub acts : SettingTree → Callee → Body → Items → Store → Ended
 acts setting (function f places) body vs store = ends (called setting (row_of f) (map (argument_in vs) places)) store
-acts setting (deletion root path) body vs store = ends (within_limit (read_in root path store)) (removed root path store)
+acts setting (deletion root path) body vs store =
+    ends (within_limit (read_in root path store)) (removed root path store)
 acts setting (existence root path) body vs store = ends (value (boolean (is_there root path store))) store
-acts setting (iteration f) body vs store = iterated f body (unwrap_or (item_at 0 vs) null) (first_unfit 0 (collection_parameters f) (item_at 0 vs ∷ [])) store
+acts setting (iteration f) body vs store =
+    iterated f body (unwrap_or (item_at 0 vs) null) (first_unfit 0 (collection_parameters f) (item_at 0 vs ∷ [])) store
 acts setting nothing_called body vs store = ends (error []) store
 
 -- the items of an array

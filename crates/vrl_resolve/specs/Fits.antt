@@ -73,7 +73,8 @@ abbrev mutual
   Fits count sources (merge t n) = IsTarget count t × Fits count sources n
   Fits count sources (both t u tag n) = IsTarget count t × (IsTarget count u × Fits count sources n)
   Fits count sources (call c bang ns) = IsCallee count ns c × AllFit count sources ns
-  Fits count sources (iterate f bang ns body) = AreKnownSlots count (slots_in f) × (AllFit count sources ns × AllFit count sources body)
+  Fits count sources (iterate f bang ns body) =
+      AreKnownSlots count (slots_in f) × (AllFit count sources ns × AllFit count sources body)
   Fits count sources (return_of n) = Fits count sources n
   Fits count sources (abort_with m) = MessageFits count sources m
 
@@ -87,7 +88,8 @@ abbrev mutual
 
   pub ArmsFit : ℕ → ℕ → Arms → Type 0
   ArmsFit count sources no_arms = ⊤
-  ArmsFit count sources (arm predicate ns as_) = Fits count sources predicate × (AllFit count sources ns × ArmsFit count sources as_)
+  ArmsFit count sources (arm predicate ns as_) =
+      Fits count sources predicate × (AllFit count sources ns × ArmsFit count sources as_)
 
   pub ElseFits : ℕ → ℕ → Else → Type 0
   ElseFits count sources no_else = ⊤

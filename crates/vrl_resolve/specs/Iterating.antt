@@ -1,4 +1,5 @@
--- The loops over a collection: what the run for a part binds, and what is made of the parts that are left, behind what was made so far.
+-- The loops over a collection: what the run for a part binds, and what is made of the parts that
+-- are left, behind what was made so far.
 use Rattle.std.specs.Prelude.{◌≡◌, ℕ, Bool, true, false, List, [], ◌∷◌, ◌++◌, Option, Some, None, option_map, IfSome, IsTrue, ⊤}
 use Rattle.vrl_value.specs.Tree.{Tree, null, array as items, object as members, Items, item, Members, member, put_all}
 use Rattle.vrl_value.specs.View.{items_of_trees, members_of, tree_of}
@@ -54,7 +55,9 @@ bound_slot names (Some number) v store = with_value (Name (name_at names number)
 -- the value that it had, and its number is among those of the variables that were there
 abbrev pub IsHiddenBy : Option ℕ → Option HiddenValue → CodeStore → Type 0
 IsHiddenBy None hidden before = ⊤
-IsHiddenBy (Some number) hidden before = ((names : Names) → AreNames names before → option_map hidden_tree hidden ≡ value_of (Name (name_at names number)) (store_in names before))
+IsHiddenBy (Some number) hidden before =
+    ((names : Names) → AreNames names before
+    → option_map hidden_tree hidden ≡ value_of (Name (name_at names number)) (store_in names before))
     × IfSome hidden (λ v. IsTrue (is_one_of number (present_of before)))
 
 -- a value that is given back is that of a variable that is there
@@ -84,7 +87,8 @@ abbrev pub items_onto : List Tree → Items → Items
 items_onto [] ts = ts
 items_onto (v ∷ vs) ts = item v (items_onto vs ts)
 
--- what is made of the items that are left, whose runs give these values, behind what was made so far
+-- what is made of the items that are left, whose runs give these values, behind what was made so
+-- far
 abbrev pub made_items : Loop → List Tree → Items → List Tree → Outcome
 made_items (loops.ForEach key v) made ts rs = value null
 made_items (loops.Filter key v) made ts rs = within_limit (items (items_onto made (kept_items ts rs)))
@@ -98,7 +102,8 @@ IsItemHeld f t kept = ⊤
 
 -- the value of an item's run is taken
 abbrev pub TakesItem : Loop → List Tree → List Tree → Option Value → Tree → Type 0
-TakesItem f before after kept r = (t : Tree) → IsItemHeld f t kept → (ts : Items) (rs : List Tree) → made_items f after ts rs ≡ made_items f before (item t ts) (r ∷ rs)
+TakesItem f before after kept r = (t : Tree) → IsItemHeld f t kept → (ts : Items) (rs : List Tree)
+    → made_items f after ts rs ≡ made_items f before (item t ts) (r ∷ rs)
 
 -- ---- objects
 
@@ -108,7 +113,8 @@ made_fields (loops.Filter key v) named made ms rs = within_limit (members (put_a
 made_fields (loops.MapValues v) named made ms rs = within_limit (members (put_all (new_members ms rs) made))
 -- a name so far was no text
 made_fields (loops.MapKeys key) false made ms rs = error []
-made_fields (loops.MapKeys key) true made ms rs = renamed_or_else (option_map (λ done. members done) (renamed ms rs made))
+made_fields (loops.MapKeys key) true made ms rs =
+    renamed_or_else (option_map (λ done. members done) (renamed ms rs made))
 
 abbrev pub made_in : Loop → MadeFields → Members → List Tree → Outcome
 made_in f m ms rs = made_fields f m.are_named (members_of m.fields) ms rs
@@ -123,8 +129,10 @@ IsFieldHeld f k t kept = ⊥
 
 -- the value of a field's run is taken
 abbrev pub TakesField : MadeFields → MadeFields → Held → Tree → Type 0
-TakesField before after kept r = (f : Loop) (k : List ℕ) (t : Tree) → IsFieldHeld f k t kept → (ms : Members) (rs : List Tree) → made_in f after ms rs ≡ made_in f before (member k t ms) (r ∷ rs)
+TakesField before after kept r = (f : Loop) (k : List ℕ) (t : Tree) → IsFieldHeld f k t kept
+    → (ms : Members) (rs : List Tree) → made_in f after ms rs ≡ made_in f before (member k t ms) (r ∷ rs)
 
 -- the same of a new name, and of the value that stands at it
 abbrev pub TakesName : MadeFields → MadeFields → Tree → Tree → Type 0
-TakesName before after r t = (key : Option ℕ) (k : List ℕ) (ms : Members) (rs : List Tree) → made_in (loops.MapKeys key) after ms rs ≡ made_in (loops.MapKeys key) before (member k t ms) (r ∷ rs)
+TakesName before after r t = (key : Option ℕ) (k : List ℕ) (ms : Members) (rs : List Tree)
+    → made_in (loops.MapKeys key) after ms rs ≡ made_in (loops.MapKeys key) before (member k t ms) (r ∷ rs)

@@ -1,6 +1,8 @@
--- The runs of a closure for the parts of a collection, which is an array or an object, and what the four functions make of what they give.
+-- The runs of a closure for the parts of a collection, which is an array or an object, and what the
+-- four functions make of what they give.
 --
--- The runs are told first, and what is made of their values behind the last one; the code makes it as it goes.
+-- The runs are told first, and what is made of their values behind the last one; the code makes it
+-- as it goes.
 use Rattle.std.specs.Prelude.{ℕ, suc, pos, List, [], ◌∷◌, ◌++◌, map, Option, Some, None, option_map, if◌then◌else◌}
 use Rattle.vrl_value.specs.Tree.{Tree, string, integer, array as items, object as members, Items, no_items, item, Members, no_members, member, put}
 use Rattle.vrl_value.specs.View.{items_of_trees}
@@ -12,7 +14,8 @@ use Rattle.vrl_store.specs.Outcomes.{value, Ended, ends, on_value}
 
 -- ---- the runs
 
--- The run of a closure's body: it is given values for the closure's names and a store, and says how it ends.
+-- The run of a closure's body: it is given values for the closure's names and a store, and says how
+-- it ends.
 abbrev pub Body : Type 0
 Body = List Tree → Store → Ended
 
@@ -34,8 +37,9 @@ parts_in v = []
 abbrev pub given_by : CallForm → Tree → List (List Tree)
 given_by f v = map (λ p. for_names f p.0 p.1) (parts_in v)
 
--- the body is run with each of these in order; the array of the values that the runs give, behind those of runs before them. What one run leaves in
--- the store the next one finds, and a run that ends without a value ends all
+-- the body is run with each of these in order; the array of the values that the runs give, behind
+-- those of runs before them. What one run leaves in the store the next one finds, and a run that
+-- ends without a value ends all
 abbrev pub runs : Body → List (List Tree) → List Tree → Store → Ended
 runs body [] rs store = ends (value (items (items_of_trees rs))) store
 runs body (vs ∷ vss) rs store = on_value (body vs store) (λ r after. runs body vss (rs ++ r ∷ []) after)
@@ -66,7 +70,8 @@ with_values (items ts) rs = items (items_of_trees rs)
 with_values (members ms) rs = members (new_members ms rs)
 with_values v rs = v
 
--- the parts with these in the place of their names, put behind others; of equal names the last counts. None where one of them is no text
+-- the parts with these in the place of their names, put behind others; of equal names the last
+-- counts. None where one of them is no text
 abbrev pub renamed : Members → List Tree → Members → Option Members
 renamed (member k v ms) (string s ∷ rs) done = renamed ms rs (put s v done)
 renamed (member k v ms) rs done = None

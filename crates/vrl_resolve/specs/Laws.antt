@@ -16,42 +16,58 @@ use Rattle.vrl_resolve.specs.Meaning.{eval, eval_body, eval_items, run_script}
 
 -- a script without items gives null, and leaves the event as it is
 abbrev pub EmptyScriptsGiveNull : Type 0
-EmptyScriptsGiveNull = (setting : SettingTree) (tags : List Tag) (event : Tree) → run_script setting tags no_exprs event ≡ ends (value null) (store_of event)
+EmptyScriptsGiveNull = (setting : SettingTree) (tags : List Tag) (event : Tree)
+    → run_script setting tags no_exprs event ≡ ends (value null) (store_of event)
 
 -- a run of a closure's body ends well-formed where the values that it is given and the store are
 abbrev pub KeepsWellFormed : ℕ → Body → Type 0
-KeepsWellFormed count body = (vs : List Tree) (store : Store) → AreWellFormed count vs → IsWellFormedStore count store → IsWellFormedEnded count (body vs store)
+KeepsWellFormed count body = (vs : List Tree) (store : Store) → AreWellFormed count vs → IsWellFormedStore count store
+    → IsWellFormedEnded count (body vs store)
 
--- how an expression, or a list of items, ends is well-formed where the store in which it is run and its literals are
+-- how an expression, or a list of items, ends is well-formed where the store in which it is run and
+-- its literals are
 pub record EvaluationsStayWellFormed : Type 0 where
   pub expression : (setting : SettingTree) (tags : List Tag) (e : Expr) (store : Store) →
-      IsWellFormedExpr (length setting.sources) e → IsWellFormedStore (length setting.sources) store → IsWellFormedEnded (length setting.sources) (eval setting tags e store)
+      IsWellFormedExpr (length setting.sources) e → IsWellFormedStore (length setting.sources) store
+      → IsWellFormedEnded (length setting.sources) (eval setting tags e store)
   pub items : (setting : SettingTree) (tags : List Tag) (last : Tree) (es : Exprs) (store : Store) →
-      IsWellFormed (length setting.sources) last → AreWellFormedExprs (length setting.sources) es → IsWellFormedStore (length setting.sources) store →
+      IsWellFormed (length setting.sources) last → AreWellFormedExprs (length setting.sources) es
+      → IsWellFormedStore (length setting.sources) store →
       IsWellFormedEnded (length setting.sources) (eval_items setting tags last es store)
   -- the body of a closure, with its names bound to such values
-  pub body : (setting : SettingTree) (tags : List Tag) (c : Closure) → IsWellFormedClosure (length setting.sources) c → KeepsWellFormed (length setting.sources) (eval_body setting tags c)
+  pub body : (setting : SettingTree) (tags : List Tag) (c : Closure) → IsWellFormedClosure (length setting.sources) c
+      → KeepsWellFormed (length setting.sources) (eval_body setting tags c)
 
 -- the same of linked expressions, and of what stands in them
 pub record MeaningsStayWellFormed : Type 0 where
   pub node : (names : Names) (setting : SettingTree) (count : ℕ) (n : Linked) (store : Store) →
-      Fits count (length setting.sources) n → IsWellFormedStore (length setting.sources) store → IsWellFormedEnded (length setting.sources) (means names setting n store)
+      Fits count (length setting.sources) n → IsWellFormedStore (length setting.sources) store
+      → IsWellFormedEnded (length setting.sources) (means names setting n store)
   -- behind values that were run before
   pub parts : (names : Names) (setting : SettingTree) (count : ℕ) (ns : Parts) (vs : List Tree) (store : Store) →
-      AllFit count (length setting.sources) ns → AreWellFormed (length setting.sources) vs → IsWellFormedStore (length setting.sources) store →
+      AllFit count (length setting.sources) ns → AreWellFormed (length setting.sources) vs
+      → IsWellFormedStore (length setting.sources) store →
       IsWellFormedEnded (length setting.sources) (all_mean names setting ns vs store)
   pub pairs : (names : Names) (setting : SettingTree) (count : ℕ) (ps : Pairs) (ms : Members) (store : Store) →
-      PairsFit count (length setting.sources) ps → IsWellFormed (length setting.sources) (object ms) → IsWellFormedStore (length setting.sources) store →
+      PairsFit count (length setting.sources) ps → IsWellFormed (length setting.sources) (object ms)
+      → IsWellFormedStore (length setting.sources) store →
       IsWellFormedEnded (length setting.sources) (pairs_mean names setting ps ms store)
   pub items : (names : Names) (setting : SettingTree) (count : ℕ) (last : Tree) (ns : Parts) (store : Store) →
-      IsWellFormed (length setting.sources) last → AllFit count (length setting.sources) ns → IsWellFormedStore (length setting.sources) store →
+      IsWellFormed (length setting.sources) last → AllFit count (length setting.sources) ns
+      → IsWellFormedStore (length setting.sources) store →
       IsWellFormedEnded (length setting.sources) (items_mean names setting last ns store)
   -- the items of a closure, with its variables bound to such values
-  pub body : (names : Names) (setting : SettingTree) (count : ℕ) (slots : List (Option ℕ)) (ns : Parts) → AllFit count (length setting.sources) ns → KeepsWellFormed (length setting.sources) (body_means names setting slots ns)
+  pub body : (names : Names) (setting : SettingTree) (count : ℕ) (slots : List (Option ℕ)) (ns : Parts)
+      → AllFit count (length setting.sources) ns
+      → KeepsWellFormed (length setting.sources) (body_means names setting slots ns)
   -- where what is otherwise done ends so in each such store
-  pub arms : (names : Names) (setting : SettingTree) (count : ℕ) (as_ : Arms) (otherwise : Store → Ended) (store : Store) →
+  pub arms : (names : Names) (setting : SettingTree) (count : ℕ) (as_ : Arms) (otherwise : Store → Ended)
+      (store : Store) →
       ArmsFit count (length setting.sources) as_ →
-      ((after : Store) → IsWellFormedStore (length setting.sources) after → IsWellFormedEnded (length setting.sources) (otherwise after)) →
-      IsWellFormedStore (length setting.sources) store → IsWellFormedEnded (length setting.sources) (arms_mean names setting as_ otherwise store)
+      ((after : Store) → IsWellFormedStore (length setting.sources) after
+      → IsWellFormedEnded (length setting.sources) (otherwise after)) →
+      IsWellFormedStore (length setting.sources) store
+      → IsWellFormedEnded (length setting.sources) (arms_mean names setting as_ otherwise store)
   pub otherwise : (names : Names) (setting : SettingTree) (count : ℕ) (es : Else) (store : Store) →
-      ElseFits count (length setting.sources) es → IsWellFormedStore (length setting.sources) store → IsWellFormedEnded (length setting.sources) (else_means names setting es store)
+      ElseFits count (length setting.sources) es → IsWellFormedStore (length setting.sources) store
+      → IsWellFormedEnded (length setting.sources) (else_means names setting es store)

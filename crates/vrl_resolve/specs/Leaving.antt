@@ -43,8 +43,8 @@ abbrev pub IsHandled : Result Value Stop → Type 0
 IsHandled (Ok v) = ⊤
 IsHandled (Err s) = IsHandledStop s
 
--- with a value that is asked for, beside which variables and their names are gathered, or for want of memory; what else it
--- ended with takes no memory to leave
+-- with a value that is asked for, beside which variables and their names are gathered, or for want
+-- of memory; what else it ended with takes no memory to leave
 abbrev pub MayWantAt : Bool → Stop → Type 0
 MayWantAt asked (stop.Returned v) = asked ≡ true
 MayWantAt asked stop.Memory = ⊤

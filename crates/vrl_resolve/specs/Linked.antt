@@ -1,5 +1,5 @@
--- A node as plain data: an expression whose variables are numbers, whose calls are looked up and bound, and whose error assignments have the
--- tags of their empty values.
+-- A node as plain data: an expression whose variables are numbers, whose calls are looked up and
+-- bound, and whose error assignments have the tags of their empty values.
 use Rattle.std.specs.Prelude.{ℕ, Bool, List, [], ◌∷◌, map, Option, Some, None, option_map, Vec}
 use Rattle.std.specs.declared.alloc.Global.{Global}
 use Rattle.std.specs.declared.boxed.Box.{Box}
@@ -92,7 +92,8 @@ form_step (Form-F.Object ps) = object (pairs_of_list ps.items)
 form_step (Form-F.Read place) = read place
 form_step (Form-F.Query n path) = query n.value path
 form_step (Form-F.Block ns) = block (parts_of_list ns.items)
-form_step (Form-F.If as_ otherwise) = conditional (arms_of_list as_.items) (else_of (option_map (λ ns. ns.items) otherwise))
+form_step (Form-F.If as_ otherwise) =
+    conditional (arms_of_list as_.items) (else_of (option_map (λ ns. ns.items) otherwise))
 form_step (Form-F.Not n) = negation n.value
 form_step (Form-F.Binary o l r) = binary o l.value r.value
 form_step (Form-F.Assign t n) = assign t n.value

@@ -65,7 +65,8 @@ abbrev pub bound_slots : Names → List (Option ℕ) → List Tree → Store →
 bound_slots names [] vs store = store
 bound_slots names (slot ∷ slots) [] store = store
 bound_slots names (None ∷ slots) (v ∷ vs) store = bound_slots names slots vs store
-bound_slots names (Some number ∷ slots) (v ∷ vs) store = bound_slots names slots vs (with_value (Name (name_at names number)) v store)
+bound_slots names (Some number ∷ slots) (v ∷ vs) store =
+    bound_slots names slots vs (with_value (Name (name_at names number)) v store)
 
 -- ---- the meaning
 
@@ -75,42 +76,58 @@ abbrev mutual
   means names setting (array ns) store = all_mean names setting ns [] store
   means names setting (object ps) store = pairs_mean names setting ps no_members store
   means names setting (read place) store = ends (value (read_in (root_of names place.base) place.path store)) store
-  means names setting (query n path) store = on_value (means names setting n store) (λ v after. ends (value (part_of v path)) after)
+  means names setting (query n path) store =
+      on_value (means names setting n store) (λ v after. ends (value (part_of v path)) after)
   means names setting (block ns) store = block_left store (items_mean names setting null ns store)
-  means names setting (conditional as_ otherwise) store = arms_mean names setting as_ (λ after. else_means names setting otherwise after) store
+  means names setting (conditional as_ otherwise) store =
+      arms_mean names setting as_ (λ after. else_means names setting otherwise after) store
   means names setting (negation n) store = on_value (means names setting n store) (λ v after. ends (negated v) after)
-  means names setting (binary o l r) store = combined o (means names setting l store) (λ after. means names setting r after)
+  means names setting (binary o l r) store =
+      combined o (means names setting l store) (λ after. means names setting r after)
   means names setting (assign t n) store = assigned (target_of names t) (means names setting n store)
   means names setting (merge t n) store =
       assigned (target_of names t)
-      (combined op.Merge (ends (value (target_value (target_of names t) store)) store) (λ after. means names setting n after))
+      (combined op.Merge (ends (value (target_value (target_of names t) store)) store)
+      (λ after. means names setting n after))
   means names setting (both t u tag n) store =
       let given = means names setting n store in
       both_assigned (target_of names t) (target_of names u) tag given.outcome given.store
-  means names setting (call c bang ns) store = banged_if bang (on_value (all_mean names setting ns [] store) (λ vs after. acts setting (callee_in names c) no_body (items_in vs) after))
+  means names setting (call c bang ns) store = banged_if bang
+      (on_value (all_mean names setting ns [] store)
+      (λ vs after. acts setting (callee_in names c) no_body (items_in vs) after))
   means names setting (iterate f bang ns body) store =
-      banged_if bang (on_value (all_mean names setting ns [] store) (λ vs after. acts setting (iteration (form_in f)) (λ us now. body_left (hidden_slots names (slots_in f)) now (items_mean names setting null body (bound_slots names (slots_in f) us now))) (items_in vs) after))
+      banged_if bang
+      (on_value (all_mean names setting ns [] store)
+      (λ vs after. acts setting (iteration (form_in f))
+      (λ us now. body_left (hidden_slots names (slots_in f)) now
+      (items_mean names setting null body (bound_slots names (slots_in f) us now))) (items_in vs) after))
   means names setting (return_of n) store = on_value (means names setting n store) (λ v after. ends (returned v) after)
   means names setting (abort_with no_message) store = ends (aborted None) store
-  means names setting (abort_with (message n)) store = on_value (means names setting n store) (λ v after. ends (aborted_with v) after)
+  means names setting (abort_with (message n)) store =
+      on_value (means names setting n store) (λ v after. ends (aborted_with v) after)
 
   -- the array of the values of parts in order, behind those before them
   pub all_mean : Names → SettingTree → Parts → List Tree → Store → Ended
   all_mean names setting no_parts vs store = ends (value (items (items_of_trees vs))) store
-  all_mean names setting (parts n ns) vs store = on_value (means names setting n store) (λ v after. all_mean names setting ns (vs ++ v ∷ []) after)
+  all_mean names setting (parts n ns) vs store =
+      on_value (means names setting n store) (λ v after. all_mean names setting ns (vs ++ v ∷ []) after)
 
   pub pairs_mean : Names → SettingTree → Pairs → Members → Store → Ended
   pairs_mean names setting no_pairs ms store = ends (value (members ms)) store
-  pairs_mean names setting (pair key n ps) ms store = on_value (means names setting n store) (λ v after. pairs_mean names setting ps (put key v ms) after)
+  pairs_mean names setting (pair key n ps) ms store =
+      on_value (means names setting n store) (λ v after. pairs_mean names setting ps (put key v ms) after)
 
   pub items_mean : Names → SettingTree → Tree → Parts → Store → Ended
   items_mean names setting last no_parts store = ends (value last) store
-  items_mean names setting last (parts n ns) store = on_value (means names setting n store) (λ v after. items_mean names setting v ns after)
+  items_mean names setting last (parts n ns) store =
+      on_value (means names setting n store) (λ v after. items_mean names setting v ns after)
 
   pub arms_mean : Names → SettingTree → Arms → (Store → Ended) → Store → Ended
   arms_mean names setting no_arms otherwise store = otherwise store
   arms_mean names setting (arm predicate ns as_) otherwise store =
-      on_value (means names setting predicate store) (λ v after. (if is_true v then block_left after (items_mean names setting null ns after) else arms_mean names setting as_ otherwise after))
+      on_value (means names setting predicate store)
+      (λ v after. (if is_true v then block_left after (items_mean names setting null ns after)
+      else arms_mean names setting as_ otherwise after))
 
   pub else_means : Names → SettingTree → Else → Store → Ended
   else_means names setting no_else store = ends (value null) store
@@ -118,4 +135,5 @@ abbrev mutual
 
 -- the items of a closure, with its variables bound to values
 abbrev pub body_means : Names → SettingTree → List (Option ℕ) → Parts → Body
-body_means names setting slots ns vs store = body_left (hidden_slots names slots) store (items_mean names setting null ns (bound_slots names slots vs store))
+body_means names setting slots ns vs store =
+    body_left (hidden_slots names slots) store (items_mean names setting null ns (bound_slots names slots vs store))

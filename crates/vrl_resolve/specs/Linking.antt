@@ -1,4 +1,5 @@
--- What linking makes of the parts of a script, told of the names that the variables have in the end.
+-- What linking makes of the parts of a script, told of the names that the variables have in the
+-- end.
 --
 -- Each part has its own tags of empty values in front of those left.
 use Rattle.std.specs.Prelude.{◌≡◌, ℕ, Bool, true, false, List, [], ◌∷◌, ◌++◌, length, drop, map, Option, Some, None, bytes_eq, codes, if◌then◌else◌, ⊤}
@@ -116,10 +117,12 @@ mutual
     an_error_assignment : {tags : List Tag} {t u : Target} {e : Expr} {ok err : Option Place} {n : Linked}
         → IsTargetOf names t ok → IsTargetOf names u err → IsLinked names (other_tags tags) e n
         → IsLinkedForm names tags (both t u e) (linked.both ok err (first_tag tags) n)
-    a_call : {tags : List Tag} {name : List ℕ} {span : Span} {bang : Bool} {gs : Args} {c : Closure} {d : Callee} {ns : Parts}
+    a_call : {tags : List Tag} {name : List ℕ} {span : Span} {bang : Bool} {gs : Args} {c : Closure} {d : Callee}
+        {ns : Parts}
         → IsCalleeOf names name gs c d → AreArgsLinked names tags gs ns
         → IsLinkedForm names tags (call name span bang gs c) (linked.call d bang ns)
-    an_iteration : {tags : List Tag} {name : List ℕ} {span : Span} {bang : Bool} {gs : Args} {xs : List (List ℕ)} {es : Exprs} {at : Span} {f : Loop} {ns body : Parts}
+    an_iteration : {tags : List Tag} {name : List ℕ} {span : Span} {bang : Bool} {gs : Args} {xs : List (List ℕ)}
+        {es : Exprs} {at : Span} {f : Loop} {ns body : Parts}
         → callee_of name gs (closure xs es at) ≡ called.iteration (form_in f) → AreSlotsOf names xs (slots_in f)
         → AreArgsLinked names tags gs ns → AreLinked names (behind_args gs tags) es body
         → IsLinkedForm names tags (call name span bang gs (closure xs es at)) (linked.iterate f bang ns body)
@@ -146,8 +149,10 @@ mutual
 
   pub data AreArmsLinked (names : Names) : List Tag → Arms → linked.Arms → Type 0 where
     no_arm : {tags : List Tag} → AreArmsLinked names tags no_arms linked.no_arms
-    one_arm : {tags : List Tag} {predicate : Expr} {es : Exprs} {gs : Arms} {n : Linked} {ns : Parts} {as_ : linked.Arms}
-        → IsLinked names tags predicate n → AreLinked names (behind predicate tags) es ns → AreArmsLinked names (behind_all es (behind predicate tags)) gs as_
+    one_arm : {tags : List Tag} {predicate : Expr} {es : Exprs} {gs : Arms} {n : Linked} {ns : Parts}
+        {as_ : linked.Arms}
+        → IsLinked names tags predicate n → AreLinked names (behind predicate tags) es ns
+        → AreArmsLinked names (behind_all es (behind predicate tags)) gs as_
         → AreArmsLinked names tags (arm predicate es gs) (linked.arm n ns as_)
 
   pub data IsElseLinked (names : Names) : List Tag → Else → linked.Else → Type 0 where
@@ -158,7 +163,8 @@ mutual
 
   pub data AreArgsLinked (names : Names) : List Tag → Args → Parts → Type 0 where
     no_argument : {tags : List Tag} → AreArgsLinked names tags no_args linked.no_parts
-    one_argument : {tags : List Tag} {name : Option (List ℕ)} {span : Span} {e : Expr} {gs : Args} {n : Linked} {ns : Parts}
+    one_argument : {tags : List Tag} {name : Option (List ℕ)} {span : Span} {e : Expr} {gs : Args} {n : Linked}
+        {ns : Parts}
         → IsLinked names tags e n → AreArgsLinked names (behind e tags) gs ns
         → AreArgsLinked names tags (arg name span e gs) (linked.parts n ns)
 
@@ -172,7 +178,8 @@ names_in l = map string_bytes l.names.keys
 abbrev pub IsBeginning : Names → Names → Type 0
 IsBeginning names known = (more : Names) × (known ≡ names ++ more)
 
--- it knows more names, and has so many tags less; and so it is of the names in the end, and of the tags that it had
+-- it knows more names, and has so many tags less; and so it is of the names in the end, and of the
+-- tags that it had
 pub record Links (before after : Linker) (count : ℕ) (So : Names → List Tag → Type 0) : Type 0 where
   pub grows : IsBeginning (names_in before) (names_in after)
   pub behind : after.tags.left.now ≡ drop count before.tags.left.now
@@ -197,7 +204,8 @@ IsCalleeIn names f d = ⊥
 -- the form that runs it; none where nothing does
 abbrev pub IsRunBy : Option CallForm → List (List ℕ) → Args → Option CallForm → Type 0
 IsRunBy named xs gs None = closure_callee named xs gs ≡ called.nothing_called
-IsRunBy named xs gs (Some f) = (closure_callee named xs gs ≡ called.iteration f) × ((is_closure_form (Some f) ≡ true) × (has_shape f xs ≡ true))
+IsRunBy named xs gs (Some f) =
+    (closure_callee named xs gs ≡ called.iteration f) × ((is_closure_form (Some f) ≡ true) × (has_shape f xs ≡ true))
 
 -- the function of that form, with the variables of the closure's names
 pub record IsLoopOf (names : Names) (f : CallForm) (xs : List (List ℕ)) (function : Loop) : Type 0 where
@@ -207,7 +215,8 @@ pub record IsLoopOf (names : Names) (f : CallForm) (xs : List (List ℕ)) (funct
 -- what runs a closure with such names, in a call of a name with such arguments
 abbrev pub IsLoopBy : Names → List ℕ → List (List ℕ) → Args → Option Loop → Type 0
 IsLoopBy names name xs gs None = closure_callee (form_named name) xs gs ≡ called.nothing_called
-IsLoopBy names name xs gs (Some f) = (closure_callee (form_named name) xs gs ≡ called.iteration (form_in f)) × AreSlotsOf names xs (slots_in f)
+IsLoopBy names name xs gs (Some f) =
+    (closure_callee (form_named name) xs gs ≡ called.iteration (form_in f)) × AreSlotsOf names xs (slots_in f)
 
 -- what a call in memory runs its closure by
 abbrev pub IsLoopIn : Names → Form → Option Loop → Type 0
@@ -237,7 +246,8 @@ path_called make None = called.nothing_called
 path_called make (Some p) = make p.0 p.1
 
 -- what `del` and `exists` call
-pub record IsPathCallee (names : Names) (make : Root → List Step → called.Callee) (gs : Args) (d : Callee) : Type 0 where
+pub record IsPathCallee (names : Names) (make : Root → List Step → called.Callee) (gs : Args)
+    (d : Callee) : Type 0 where
   pub known : IsKnownCallee (length names) d
   pub same : callee_in names d ≡ path_called make (path_argument gs)
 

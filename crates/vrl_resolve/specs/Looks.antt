@@ -1,4 +1,5 @@
--- The arguments of a call, of which the first were run, and those behind are looked at where they stand.
+-- The arguments of a call, of which the first were run, and those behind are looked at where they
+-- stand.
 use Rattle.std.specs.Prelude.{◌≡◌, ℕ, List, [], ◌∷◌, ◌++◌, map, length, drop, ⊤}
 use Rattle.vrl_value.specs.Tree.{Tree, Items}
 use Rattle.vrl_value.specs.View.{items_of_trees, tree_of}
@@ -20,7 +21,8 @@ AreReadable count (n ∷ ns) = IsReadable count n × AreReadable count ns
 
 -- the values of all arguments
 abbrev pub argument_values : Names → Store → List Value → List Node → Items
-argument_values names store run args = items_of_trees (map tree_of run ++ plain_values names (map linked_of (drop (length run) args)) store)
+argument_values names store run args =
+    items_of_trees (map tree_of run ++ plain_values names (map linked_of (drop (length run) args)) store)
 
 -- a value that an expression gave: that of a literal is the literal
 abbrev pub IsOf : Linked → Tree → Type 0

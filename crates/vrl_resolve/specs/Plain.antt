@@ -1,4 +1,5 @@
--- Literals and paths, whose values stand somewhere already: a call that runs nothing behind them looks at them where they stand.
+-- Literals and paths, whose values stand somewhere already: a call that runs nothing behind them
+-- looks at them where they stand.
 use Rattle.std.specs.Prelude.{Bool, true, false, List, [], ◌∷◌, Option, Some, None, unwrap_or, IsTrue, ⊤}
 use Rattle.vrl_value.specs.Tree.{Tree, null}
 use Rattle.vrl_syntax.specs.Stores.{Store}

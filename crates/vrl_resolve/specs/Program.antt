@@ -26,19 +26,30 @@ pub record ProgramTree : Type 0 where
 abbrev pub ended_over : ProgramTree → ℤ → Tree → Ended
 ended_over program moment event = program.ended moment event
 
--- that of a script, with the tags of the empty values of its error assignments, an outer one before those in it
+-- that of a script, with the tags of the empty values of its error assignments, an outer one before
+-- those in it
 abbrev pub script_program : Exprs → List Tag → List (List ℕ) → ProgramTree
-script_program items tags sources = record { sources = sources; ended = λ moment event. run_script (record { moment = moment; sources = sources }) tags items event }
+script_program items tags sources = record {
+  sources = sources;
+  ended = λ moment event. run_script
+      (record { moment = moment; sources = sources }) tags items event;
+}
 
 -- a program in memory
 unfoldable pub program_of : Program → ProgramTree
-program_of p = record { sources = p.patterns; ended = λ moment event. items_mean p.names (record { moment = moment; sources = p.patterns }) null (parts_view p.items.items) (store_of event) }
+program_of p = record {
+  sources = p.patterns;
+  ended = λ moment event. items_mean p.names
+      (record { moment = moment; sources = p.patterns }) null (parts_view p.items.items) (store_of event);
+}
 
 -- ---- what a run leaves
 
--- what was given of a run that ended with this value, in this store; it is there just where it is asked for
+-- what was given of a run that ended with this value, in this store; it is there just where it is
+-- asked for
 abbrev pub IsGiven : Bool → Tree → Store → Option Given → Type 0
-IsGiven asked v store (Some given) = (asked ≡ true) × (tree_of given.value ≡ v) × (map_of (members_of given.variables) ≡ store.variables)
+IsGiven asked v store (Some given) =
+    (asked ≡ true) × (tree_of given.value ≡ v) × (map_of (members_of given.variables) ≡ store.variables)
 IsGiven asked v store None = asked ≡ false
 
 abbrev pub IsEnd : Bool → End → Store → CodeEnded → Type 0
@@ -55,7 +66,8 @@ pub record IsRan (asked : Bool) (meant : Ended) (ran : Ran) : Type 0 where
 
 -- the value that a run gave, and the variables, seen as an object
 abbrev pub IsWellFormedEnd : ℕ → CodeEnded → Type 0
-IsWellFormedEnd count (code.Value (Some given)) = IsWellFormed count (tree_of given.value) × IsWellFormed count (object (members_of given.variables))
+IsWellFormedEnd count (code.Value (Some given)) =
+    IsWellFormed count (tree_of given.value) × IsWellFormed count (object (members_of given.variables))
 IsWellFormedEnd count other = ⊤
 
 -- what a run left has its members in order, and each regex in it is one of the first so many

@@ -60,10 +60,12 @@ mutual
 
   members-prop : (ms : Members) → IsProp (MembersAreOrdered ms)
   members-prop no_members = Unit-prop
-  members-prop (member k t ms) = λ x y i. (before-prop k ms x.0 y.0 i, ordered-prop t x.1 y.1 i, members-prop ms x.2 y.2 i)
+  members-prop (member k t ms) =
+      λ x y i. (before-prop k ms x.0 y.0 i, ordered-prop t x.1 y.1 i, members-prop ms x.2 y.2 i)
 
 formed-prop : (sources : ℕ) (v : Tree) → IsProp (IsWellFormed sources v)
-formed-prop sources v x y = λ i. record { ordered = ordered-prop v x.ordered y.ordered i; below = true-prop _ x.below y.below i }
+formed-prop sources v x y =
+    λ i. record { ordered = ordered-prop v x.ordered y.ordered i; below = true-prop _ x.below y.below i }
 
 all-prop : {P : Step → Type 0} → ((s : Step) → IsProp (P s)) → (path : List Step) → IsProp (All P path)
 all-prop one path x y = λ i k d below. one _ (x k d below) (y k d below) i
@@ -99,17 +101,21 @@ allowed_if-prop : (wants : Bool) (accepts : Tree → Bool) (n : Option Linked) �
 allowed_if-prop true accepts n = allowed-prop accepts n
 allowed_if-prop false accepts n = Unit-prop
 
-given-prop : (p : ParameterRow) (accepts : Tree → Bool) (ns : Parts) (place : Option ℕ) → IsProp (IsGiven p accepts ns place)
+given-prop : (p : ParameterRow) (accepts : Tree → Bool) (ns : Parts) (place : Option ℕ)
+    → IsProp (IsGiven p accepts ns place)
 given-prop p accepts ns None = there-prop p.required
 given-prop p accepts ns (Some place) = ×_prop (true-prop _) (allowed_if-prop p.literal accepts (part_at place ns))
 
-all_given-prop : (i : ℕ) (ps : List ParameterRow) (accepts : ℕ → Tree → Bool) (ns : Parts) (places : List (Option ℕ)) → IsProp (AreGiven i ps accepts ns places)
+all_given-prop : (i : ℕ) (ps : List ParameterRow) (accepts : ℕ → Tree → Bool) (ns : Parts) (places : List (Option ℕ))
+    → IsProp (AreGiven i ps accepts ns places)
 all_given-prop i [] accepts ns places = Unit-prop
 all_given-prop i (p ∷ ps) accepts ns [] = none-prop
-all_given-prop i (p ∷ ps) accepts ns (place ∷ places) = ×_prop (given-prop p (accepts i) ns place) (all_given-prop _ ps accepts ns places)
+all_given-prop i (p ∷ ps) accepts ns (place ∷ places) =
+    ×_prop (given-prop p (accepts i) ns place) (all_given-prop _ ps accepts ns places)
 
 callee-prop : (count : ℕ) (ns : Parts) (c : Callee) → IsProp (IsCallee count ns c)
-callee-prop count ns (callee.Function f places) = all_given-prop 0 (row_of f).parameters (row_of f).accepts ns places.items
+callee-prop count ns (callee.Function f places) =
+    all_given-prop 0 (row_of f).parameters (row_of f).accepts ns places.items
 callee-prop count ns (callee.Deletion place) = ×_prop (known-prop count place.base) (all-prop plain-prop place.path)
 callee-prop count ns (callee.Existence place) = known-prop count place.base
 callee-prop count ns callee.Nothing = Unit-prop
@@ -130,14 +136,17 @@ mutual
   fits-prop count sources (read place) = known-prop count place.base
   fits-prop count sources (query n path) = fits-prop count sources n
   fits-prop count sources (block ns) = all_fit-prop count sources ns
-  fits-prop count sources (conditional as_ otherwise) = ×_prop (arms-prop count sources as_) (else-prop count sources otherwise)
+  fits-prop count sources (conditional as_ otherwise) =
+      ×_prop (arms-prop count sources as_) (else-prop count sources otherwise)
   fits-prop count sources (negation n) = fits-prop count sources n
   fits-prop count sources (binary o l r) = ×_prop (fits-prop count sources l) (fits-prop count sources r)
   fits-prop count sources (assign t n) = ×_prop (target-prop count t) (fits-prop count sources n)
   fits-prop count sources (merge t n) = ×_prop (target-prop count t) (fits-prop count sources n)
-  fits-prop count sources (both t u tag n) = ×_prop (target-prop count t) (×_prop (target-prop count u) (fits-prop count sources n))
+  fits-prop count sources (both t u tag n) =
+      ×_prop (target-prop count t) (×_prop (target-prop count u) (fits-prop count sources n))
   fits-prop count sources (call c bang ns) = ×_prop (callee-prop count ns c) (all_fit-prop count sources ns)
-  fits-prop count sources (iterate f bang ns body) = ×_prop (slots-prop count (slots_in f)) (×_prop (all_fit-prop count sources ns) (all_fit-prop count sources body))
+  fits-prop count sources (iterate f bang ns body) =
+      ×_prop (slots-prop count (slots_in f)) (×_prop (all_fit-prop count sources ns) (all_fit-prop count sources body))
   fits-prop count sources (return_of n) = fits-prop count sources n
   fits-prop count sources (abort_with m) = message-prop count sources m
 
@@ -151,7 +160,8 @@ mutual
 
   arms-prop : (count sources : ℕ) (as_ : Arms) → IsProp (ArmsFit count sources as_)
   arms-prop count sources no_arms = Unit-prop
-  arms-prop count sources (arm predicate ns as_) = ×_prop (fits-prop count sources predicate) (×_prop (all_fit-prop count sources ns) (arms-prop count sources as_))
+  arms-prop count sources (arm predicate ns as_) =
+      ×_prop (fits-prop count sources predicate) (×_prop (all_fit-prop count sources ns) (arms-prop count sources as_))
 
   else-prop : (count sources : ℕ) (e : Else) → IsProp (ElseFits count sources e)
   else-prop count sources no_else = Unit-prop
@@ -162,4 +172,8 @@ mutual
   message-prop count sources (message n) = fits-prop count sources n
 
 pub ready-prop : (names : Names) (items : Parts) (sources : ℕ) → IsProp (IsReady names items sources)
-ready-prop names ns sources x y = λ i. record { distinct = distinct-prop names x.distinct y.distinct i; fits = all_fit-prop (length names) sources ns x.fits y.fits i }
+ready-prop names ns sources x y = λ i. record {
+  distinct = distinct-prop names x.distinct y.distinct i;
+  fits = all_fit-prop
+      (length names) sources ns x.fits y.fits i;
+}

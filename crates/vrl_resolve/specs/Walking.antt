@@ -1,4 +1,5 @@
--- What a run of a part asks of the store that it starts in, and what it promises of how it ends and of the store that it leaves.
+-- What a run of a part asks of the store that it starts in, and what it promises of how it ends and
+-- of the store that it leaves.
 use Rattle.std.specs.Prelude.{◌≡◌, Bool, true, false, List, [], ◌++◌, length, map, Vec}
 use Rattle.std.specs.declared.alloc.Global.{Global}
 use Rattle.std.specs.declared.result.Result.{Result}
@@ -64,7 +65,8 @@ MessageFitsIn x m = MessageFits (length (names_in x)) (length (setting_in x).sou
 
 -- ---- what is promised
 
--- what a run keeps of a store: the variables that were there first, and how many variables there may be
+-- what a run keeps of a store: the variables that were there first, and how many variables there
+-- may be
 pub record Stays (before after : CodeStore) : Type 0 where
   pub front : IsFront (present_of before) (present_of after)
   pub as_many : count_of after ≡ count_of before
@@ -89,8 +91,12 @@ EndsIn x ended after result = Ends ended (store_at x after) result
 
 -- the parts were run, whatever stands behind them: the values so far, or why they have none
 abbrev pub AllEnd : Context → List Linked → CodeStore → CodeStore → Result (Vec Value Global) Stop → Type 0
-AllEnd x ns before after (Ok vs) = (more : List Linked) → all_mean (names_in x) (setting_in x) (parts_of_list (ns ++ more)) [] (store_at x before) ≡ all_mean (names_in x) (setting_in x) (parts_of_list more) (map tree_of vs.items) (store_at x after)
-AllEnd x ns before after (Err stop) = (more : List Linked) → Stops (all_mean (names_in x) (setting_in x) (parts_of_list (ns ++ more)) [] (store_at x before)) (store_at x after) stop
+AllEnd x ns before after (Ok vs) = (more : List Linked)
+    → all_mean (names_in x) (setting_in x) (parts_of_list (ns ++ more)) [] (store_at x before) ≡ all_mean (names_in x)
+    (setting_in x) (parts_of_list more) (map tree_of vs.items) (store_at x after)
+AllEnd x ns before after (Err stop) = (more : List Linked)
+    → Stops (all_mean (names_in x) (setting_in x) (parts_of_list (ns ++ more)) [] (store_at x before))
+    (store_at x after) stop
 
 -- it ended with a value, of which this is told whether it is true
 abbrev pub EndsTrue : Ended → Store → Result Bool Stop → Type 0
@@ -104,5 +110,7 @@ WritesTo target v before after (Err stop) = (next : Store → Ended) → Stops (
 
 -- what an error assignment writes to its two targets
 abbrev pub GivesBoth : Tag → Ended → Store → Result (Value × Value) Stop → Type 0
-GivesBoth tag given store (Ok vs) = (ok err : Target) → both_assigned ok err tag given.outcome given.store ≡ written_both ok err (tree_of vs.0) (tree_of vs.1) store
-GivesBoth tag given store (Err stop) = (ok err : Target) → Stops (both_assigned ok err tag given.outcome given.store) store stop
+GivesBoth tag given store (Ok vs) = (ok err : Target)
+    → both_assigned ok err tag given.outcome given.store ≡ written_both ok err (tree_of vs.0) (tree_of vs.1) store
+GivesBoth tag given store (Err stop) =
+    (ok err : Target) → Stops (both_assigned ok err tag given.outcome given.store) store stop

@@ -42,7 +42,8 @@ fn is_value(name: &Option<Chars>) -> bool
     }
 }
 
-/// The form that runs a closure with such names, of a call of a name with such arguments. `None`: nothing runs it. `Memory`: want of memory.
+/// The form that runs a closure with such names, of a call of a name with such arguments. `None`:
+/// nothing runs it. `Memory`: want of memory.
 pub(crate) fn iteration_form(
     alloc: Global,
     name: &str,
@@ -57,7 +58,8 @@ pub(crate) fn iteration_form(
     }
 }
 
-// The form, where it runs a closure with such names, and takes such arguments. `Memory`: want of memory.
+// The form, where it runs a closure with such names, and takes such arguments. `Memory`: want of
+// memory.
 fn shaped_form(
     alloc: Global,
     form: CallForm,
@@ -82,7 +84,9 @@ fn shaped_form(
 // Whether a form takes arguments that were bound so. `Memory`: to bind them wanted memory.
 fn takes(form: CallForm, args: &Args, bound: Result<Bound, BindFault>) -> Result<bool, Memory>
     requires bound { IsBound (binding (collection_parameters form) (keywords_of (args_of args.now))) bound }
-    ensures takes { IfOk result (λ takes. bound_iteration form (binding (collection_parameters form) (keywords_of (args_of args.now))) ≡ (if takes then iteration form else nothing_called)) }
+    ensures takes { IfOk result
+        (λ takes. bound_iteration form (binding (collection_parameters form) (keywords_of (args_of args.now))) ≡
+        (if takes then iteration form else nothing_called)) }
     ensures want { IsErr result → bound ≡ Err BindFault.Memory }
 {
     match bound {
@@ -94,7 +98,8 @@ fn takes(form: CallForm, args: &Args, bound: Result<Bound, BindFault>) -> Result
     }
 }
 
-/// What a name that is neither `del` nor `exists` calls, with such arguments. `Memory`: want of memory.
+/// What a name that is neither `del` nor `exists` calls, with such arguments. `Memory`: want of
+/// memory.
 pub(crate) fn function_callee(alloc: Global, name: &str, args: &Args) -> Result<Callee, Memory>
     ensures { IfOk result (IsFunctionCallee (function_named name.now) (args_of args.now)) }
 {
@@ -105,8 +110,8 @@ pub(crate) fn function_callee(alloc: Global, name: &str, args: &Args) -> Result<
     }
 }
 
-// A function whose arguments were bound so; nothing where they aren't, or where it doesn't take them as they are written. `Memory`: to bind
-// them wanted memory.
+// A function whose arguments were bound so; nothing where they aren't, or where it doesn't take
+// them as they are written. `Memory`: to bind them wanted memory.
 fn bound_function(
     function: Fun,
     args: &Args,
@@ -125,7 +130,8 @@ fn bound_function(
     }
 }
 
-// The function with arguments at these places, where they are written as it wants them; else nothing.
+// The function with arguments at these places, where they are written as it wants them; else
+// nothing.
 fn written_function(function: Fun, args: &Args, places: Vec<Option<usize>>) -> Callee
     ensures { IsWrittenCallee function (args_of args.now) places.items result }
 {
@@ -136,9 +142,11 @@ fn written_function(function: Fun, args: &Args, places: Vec<Option<usize>>) -> C
     }
 }
 
-// Whether each parameter that wants a literal, and has an argument, has one that the function allows.
+// Whether each parameter that wants a literal, and has an argument, has one that the function
+// allows.
 fn are_written_right(function: Fun, args: &[Arg], places: &[Option<usize>]) -> bool
-    ensures { result ≡ are_right (row_of function).accepts 0 (row_of function).parameters (map (written_at (values_of (args_view args.now))) places.now) }
+    ensures { result ≡ are_right (row_of function).accepts 0 (row_of function).parameters
+        (map (written_at (values_of (args_view args.now))) places.now) }
 {
     let mut place = 0;
     let mut left = parameters(function);
@@ -157,7 +165,8 @@ fn are_written_right(function: Fun, args: &[Arg], places: &[Option<usize>]) -> b
     true
 }
 
-// Whether the argument of the parameter at a place is a literal that the function allows, where the parameter wants one and has an argument.
+// Whether the argument of the parameter at a place is a literal that the function allows, where the
+// parameter wants one and has an argument.
 fn is_written_right(
     function: Fun,
     parameter: &Parameter,
@@ -165,7 +174,8 @@ fn is_written_right(
     args: &[Arg],
     argument: Option<usize>,
 ) -> bool
-    ensures { result ≡ is_right (parameter_row parameter.now) ((row_of function).accepts place) (written_at (values_of (args_view args.now)) argument) }
+    ensures { result ≡ is_right (parameter_row parameter.now) ((row_of function).accepts place)
+        (written_at (values_of (args_view args.now)) argument) }
 {
     if !parameter.literal {
         return true;

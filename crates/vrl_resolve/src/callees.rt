@@ -12,9 +12,11 @@ use vrl_syntax::{Args, Call as SyntaxCall, CallForm};
 use vrl_value::{Chars, Memory, Names};
 
 impl Linker<'_> {
-    // The function that runs the closure of a call, with the variables of its names. `None`: nothing runs one. `Memory`: want of memory.
+    // The function that runs the closure of a call, with the variables of its names. `None`:
+    // nothing runs one. `Memory`: want of memory.
     pub(crate) fn function(&mut self, call: &SyntaxCall) -> Result<Option<Loop>, Memory>
-        ensures { IfOk result (λ function. Numbers self.old self.new (λ names. IsLoopIn names (call_of call.now) function)) }
+        ensures { IfOk result
+            (λ function. Numbers self.old self.new (λ names. IsLoopIn names (call_of call.now) function)) }
     {
         match &call.closure {
             Some(closure) => self.function_of(call.name.as_str(), &closure.names, &call.args),
@@ -22,14 +24,17 @@ impl Linker<'_> {
         }
     }
 
-    // The same of a closure with these names, in a call of this name with these arguments. `Memory`: want of memory.
+    // The same of a closure with these names, in a call of this name with these arguments.
+    // `Memory`: want of memory.
     fn function_of(
         &mut self,
         name: &str,
         names: &Names,
         args: &Args,
     ) -> Result<Option<Loop>, Memory>
-        ensures { IfOk result (λ function. Numbers self.old self.new (λ variables. IsLoopBy variables name.now names.now (args_of args.now) function)) }
+        ensures { IfOk result
+            (λ function. Numbers self.old self.new
+            (λ variables. IsLoopBy variables name.now names.now (args_of args.now) function)) }
     {
         let form = iteration_form(self.alloc, name, names, args)?;
         match form {
@@ -45,7 +50,8 @@ impl Linker<'_> {
     fn numbered(&mut self, form: CallForm, names: &Names) -> Result<Loop, Memory>
         requires closure { is_closure_form (Some form) ≡ true }
         requires shape { has_shape form names.now ≡ true }
-        ensures { IfOk result (λ function. Numbers self.old self.new (λ variables. IsLoopOf variables form names.now function)) }
+        ensures { IfOk result
+            (λ function. Numbers self.old self.new (λ variables. IsLoopOf variables form names.now function)) }
     {
         let names = names.as_slice();
         match form {
@@ -73,7 +79,9 @@ impl Linker<'_> {
     // The variables of two names. `Memory`: want of memory.
     fn two_slots(&mut self, names: &[Chars]) -> Result<(Option<usize>, Option<usize>), Memory>
         requires { length names.now ≡ 2 }
-        ensures { IfOk result (λ slots. Numbers self.old self.new (λ variables. AreSlotsOf variables names.now (slots.0 ∷ slots.1 ∷ []))) }
+        ensures { IfOk result
+            (λ slots. Numbers self.old self.new
+            (λ variables. AreSlotsOf variables names.now (slots.0 ∷ slots.1 ∷ []))) }
     {
         let first = self.slot(names[0].as_str())?;
         let second = self.slot(names[1].as_str())?;
@@ -83,7 +91,8 @@ impl Linker<'_> {
     // The variable of one name. `Memory`: want of memory.
     fn one_slot(&mut self, names: &[Chars]) -> Result<Option<usize>, Memory>
         requires { length names.now ≡ 1 }
-        ensures { IfOk result (λ slot. Numbers self.old self.new (λ variables. AreSlotsOf variables names.now (slot ∷ []))) }
+        ensures { IfOk result
+            (λ slot. Numbers self.old self.new (λ variables. AreSlotsOf variables names.now (slot ∷ []))) }
     {
         self.slot(names[0].as_str())
     }
@@ -101,8 +110,10 @@ impl Linker<'_> {
 
     // What a call calls that runs no closure. `Memory`: want of memory.
     pub(crate) fn callee(&mut self, call: &SyntaxCall) -> Result<Callee, Memory>
-        requires { (names : VariableNames) → IsBeginning (names_in self.old) names → IsLoopIn names (call_of call.now) None }
-        ensures { IfOk result (λ callee. Numbers self.old self.new (λ names. IsCalleeIn names (call_of call.now) callee)) }
+        requires { (names : VariableNames) → IsBeginning (names_in self.old) names
+            → IsLoopIn names (call_of call.now) None }
+        ensures { IfOk result
+            (λ callee. Numbers self.old self.new (λ names. IsCalleeIn names (call_of call.now) callee)) }
     {
         if call.closure.is_some() {
             return Ok(Callee::Nothing);
@@ -117,7 +128,9 @@ impl Linker<'_> {
 
     // What `del` deletes. `Memory`: want of memory.
     fn deletion(&mut self, args: &Args) -> Result<Callee, Memory>
-        ensures { IfOk result (λ callee. Numbers self.old self.new (λ names. IsPathCallee names called.deletion (args_of args.now) callee)) }
+        ensures { IfOk result
+            (λ callee. Numbers self.old self.new
+            (λ names. IsPathCallee names called.deletion (args_of args.now) callee)) }
     {
         match path_of(args) {
             Some((root, path)) => {
@@ -130,7 +143,9 @@ impl Linker<'_> {
 
     // What `exists` looks at. `Memory`: want of memory.
     fn existence(&mut self, args: &Args) -> Result<Callee, Memory>
-        ensures { IfOk result (λ callee. Numbers self.old self.new (λ names. IsPathCallee names called.existence (args_of args.now) callee)) }
+        ensures { IfOk result
+            (λ callee. Numbers self.old self.new
+            (λ names. IsPathCallee names called.existence (args_of args.now) callee)) }
     {
         match path_of(args) {
             Some((root, path)) => {

@@ -26,8 +26,8 @@ use vrl_store::{Stop, Store};
 use vrl_table::{Fun, apply, parameters};
 use vrl_value::{Chars, Memory, Tag, Value};
 
-/// How many of a call's arguments are run before it: those up to the last one that is neither a literal nor a path. Those behind only
-/// look, and are looked at where they stand.
+/// How many of a call's arguments are run before it: those up to the last one that is neither a
+/// literal nor a path. Those behind only look, and are looked at where they stand.
 pub(crate) fn run_before(args: &[Node]) -> usize
     ensures within { result ≤ length args.now }
     ensures plain { AllPlain (map linked_of (drop result args.now)) }
@@ -49,7 +49,9 @@ fn is_plain(node: &Node) -> bool
 /// The value of a literal or of a path, where it stands. `None`: the node is something else.
 pub(crate) fn peek<'a>(store: &'a Store, node: &'a Node) -> Option<&'a Value>
     requires readable { IsReadable (count_of store.now) (linked_of node.now) }
-    ensures { (names : Names) → AreNames names store.now → option_map (λ value. tree_of value.now) result ≡ plain_value names (linked_of node.now) (store_in names store.now) }
+    ensures { (names : Names) → AreNames names store.now
+        → option_map (λ value. tree_of value.now) result ≡ plain_value names (linked_of node.now)
+        (store_in names store.now) }
 {
     match &node.form {
         Form::Literal(value) => Some(value),
@@ -58,7 +60,8 @@ pub(crate) fn peek<'a>(store: &'a Store, node: &'a Node) -> Option<&'a Value>
     }
 }
 
-// The value of the argument at a place: one of those that were run, or else one that is looked at where it stands.
+// The value of the argument at a place: one of those that were run, or else one that is looked at
+// where it stands.
 fn argument<'a>(
     store: &'a Store,
     run: &'a [Value],
@@ -67,7 +70,9 @@ fn argument<'a>(
 ) -> Option<&'a Value>
     requires plain { AllPlain (map linked_of (drop (length run.now) args.now)) }
     requires readable { AreReadable (count_of store.now) (map linked_of args.now) }
-    ensures { (names : Names) → AreNames names store.now → option_map (λ value. tree_of value.now) result ≡ item_at place (argument_values names (store_in names store.now) run.now args.now) }
+    ensures { (names : Names) → AreNames names store.now
+        → option_map (λ value. tree_of value.now) result ≡ item_at place
+        (argument_values names (store_in names store.now) run.now args.now) }
 {
     match run.get(place) {
         Some(value) => Some(value),
@@ -88,7 +93,10 @@ fn arguments<'a>(
 ) -> Result<Arguments<'a>, Memory>
     requires plain { AllPlain (map linked_of (drop (length run.now) args.now)) }
     requires readable { AreReadable (count_of store.now) (map linked_of args.now) }
-    ensures { IfOk result (λ arguments. (names : Names) → AreNames names store.now → arguments_of arguments ≡ map (argument_in (argument_values names (store_in names store.now) run.now args.now)) places.now) }
+    ensures { IfOk result
+        (λ arguments. (names : Names) → AreNames names store.now
+        → arguments_of arguments ≡ map
+        (argument_in (argument_values names (store_in names store.now) run.now args.now)) places.now) }
 {
     let mut arguments = Vec::with_capacity(alloc, places.len())?;
     for place in places {
@@ -111,12 +119,17 @@ pub(crate) fn act(
 ) -> Result<Value, Stop>
     requires names { AreNames context.now.names.now store.old }
     requires callee { IsCallee (length context.now.names.now) (parts_view args.now) callee.now }
-    requires fits { AllFit (length context.now.names.now) (length context.now.setting.patterns.now) (parts_view args.now) }
+    requires fits { AllFit (length context.now.names.now) (length context.now.setting.patterns.now)
+        (parts_view args.now) }
     requires plain { AllPlain (map linked_of (drop (length run.items) args.now)) }
     requires of_args { AreOf (map linked_of args.now) (map tree_of run.items) }
     requires run { AreWellFormed (length context.now.setting.patterns.now) (map tree_of run.items) }
-    requires formed { IsWellFormedStore (length context.now.setting.patterns.now) (store_in context.now.names.now store.old) }
-    ensures ends { let before = store_in context.now.names.now store.old in Ends (acts (setting_of context.now.setting) (callee_in context.now.names.now callee.now) no_body (argument_values context.now.names.now before run.items args.now) before) (store_in context.now.names.now store.new) result }
+    requires formed { IsWellFormedStore (length context.now.setting.patterns.now)
+        (store_in context.now.names.now store.old) }
+    ensures ends { let before = store_in context.now.names.now store.old in Ends
+        (acts (setting_of context.now.setting) (callee_in context.now.names.now callee.now) no_body
+        (argument_values context.now.names.now before run.items args.now) before)
+        (store_in context.now.names.now store.new) result }
     ensures front { IsFront (present_of store.old) (present_of store.new) }
     ensures as_many { count_of store.new ≡ count_of store.old }
 {
@@ -140,28 +153,36 @@ fn call_function(
     args: &[Node],
 ) -> Result<Value, Stop>
     requires names { AreNames context.now.names.now store.now }
-    requires given { AreGiven 0 (row_of function).parameters (row_of function).accepts (parts_view args.now) places.now }
-    requires fits { AllFit (length context.now.names.now) (length context.now.setting.patterns.now) (parts_view args.now) }
+    requires given { AreGiven 0 (row_of function).parameters (row_of function).accepts
+        (parts_view args.now) places.now }
+    requires fits { AllFit (length context.now.names.now) (length context.now.setting.patterns.now)
+        (parts_view args.now) }
     requires plain { AllPlain (map linked_of (drop (length run.now) args.now)) }
     requires of_args { AreOf (map linked_of args.now) (map tree_of run.now) }
     requires run { AreWellFormed (length context.now.setting.patterns.now) (map tree_of run.now) }
-    requires formed { IsWellFormedStore (length context.now.setting.patterns.now) (store_in context.now.names.now store.now) }
-    ensures { Gives (called (setting_of context.now.setting) (row_of function) (map (argument_in (argument_values context.now.names.now (store_in context.now.names.now store.now) run.now args.now)) places.now)) result }
+    requires formed { IsWellFormedStore (length context.now.setting.patterns.now)
+        (store_in context.now.names.now store.now) }
+    ensures { Gives
+        (called (setting_of context.now.setting) (row_of function)
+        (map (argument_in
+        (argument_values context.now.names.now
+        (store_in context.now.names.now store.now) run.now args.now)) places.now)) result }
 {
     meanings_stay_well_formed();
     let arguments = arguments(store, context.alloc, run, args, places)?;
     answer(context, function, &arguments)
 }
 
-// What a function answers to its arguments. `Error`: one has a tag that its parameter doesn't allow, or the function fails; `Deep`: its
-// value is nested too deeply.
+// What a function answers to its arguments. `Error`: one has a tag that its parameter doesn't
+// allow, or the function fails; `Deep`: its value is nested too deeply.
 fn answer(
     context: &Context<'_, '_>,
     function: Fun,
     arguments: &Arguments<'_>,
 ) -> Result<Value, Stop>
     // But for their tags they are arguments that the function takes.
-    requires arguments { first_unfit 0 (row_of function).parameters (arguments_of arguments.now) ≡ None → AreArguments (row_of function) (arguments_of arguments.now) }
+    requires arguments { first_unfit 0 (row_of function).parameters (arguments_of arguments.now) ≡ None
+        → AreArguments (row_of function) (arguments_of arguments.now) }
     requires regexes { IsTrue (arguments_below (length context.now.setting.patterns.now) (arguments_of arguments.now)) }
     ensures { Gives (called (setting_of context.now.setting) (row_of function) (arguments_of arguments.now)) result }
 {
@@ -175,10 +196,11 @@ fn answer(
     )
 }
 
-// What a call ends with that came to this, whose value may be nested too deeply. `Memory`: it came to that, or out of memory for the text of an
-// error.
+// What a call ends with that came to this, whose value may be nested too deeply. `Memory`: it came
+// to that, or out of memory for the text of an error.
 fn answered(alloc: Global, applied: Applied) -> Result<Value, Stop>
-    ensures gives { (uses : Bool) (answer : Answer) → Applies uses answer applied → Gives (answer_outcome answer) result }
+    ensures gives { (uses : Bool) (answer : Answer) → Applies uses answer applied
+        → Gives (answer_outcome answer) result }
     ensures value { (value : Value) → applied ≡ Applied.Value value → result ≢ Err Stop.Memory }
 {
     match applied {
@@ -200,12 +222,14 @@ fn unfit_tag(parameter: &Parameter, argument: Option<&Value>) -> Option<Tag>
     }
 }
 
-// The first argument, in the order of the parameters, whose tag its parameter doesn't allow: the parameter's name, and the tag.
+// The first argument, in the order of the parameters, whose tag its parameter doesn't allow: the
+// parameter's name, and the tag.
 fn first_unfit(
     parameters: &'static [Parameter],
     arguments: &Arguments<'_>,
 ) -> Option<(&'static str, Tag)>
-    ensures { option_map (λ unfit. (unfit.0.now, unfit.1)) result ≡ first_unfit 0 (map parameter_row parameters.now) (arguments_of arguments.now) }
+    ensures { option_map (λ unfit. (unfit.0.now, unfit.1)) result ≡ first_unfit 0 (map parameter_row parameters.now)
+        (arguments_of arguments.now) }
 {
     let mut place = 0;
     let mut left = parameters;
@@ -219,7 +243,8 @@ fn first_unfit(
     None
 }
 
-/// The text of the error that an argument has a tag which its parameter doesn't allow. `Memory`: want of memory.
+/// The text of the error that an argument has a tag which its parameter doesn't allow. `Memory`:
+/// want of memory.
 pub(crate) fn argument_text(
     alloc: Global,
     name: &str,

@@ -115,14 +115,17 @@ pub(crate) fn values_in(items: Items) -> Vec<Value>
 
 // ---- variables that are bound
 
-/// Binds a variable, where there is one, to a value: what it had is given. `Memory`: want of memory.
+/// Binds a variable, where there is one, to a value: what it had is given. `Memory`: want of
+/// memory.
 pub(crate) fn bind(
     store: &mut Store,
     slot: Option<usize>,
     value: Value,
 ) -> Result<Option<HiddenValue>, Memory>
     requires { IsKnownSlot (count_of store.old) slot }
-    ensures bound { OnOk result ((names : Names) → AreNames names store.old → store_in names store.new ≡ bound_slot names slot (tree_of value) (store_in names store.old)) }
+    ensures bound { OnOk result
+        ((names : Names) → AreNames names store.old
+        → store_in names store.new ≡ bound_slot names slot (tree_of value) (store_in names store.old)) }
     ensures hidden { IfOk result (λ hidden. IsHiddenBy slot hidden store.old) }
     ensures front { IsFront (present_of store.old) (present_of store.new) }
     ensures as_many { count_of store.new ≡ count_of store.old }
@@ -133,7 +136,8 @@ pub(crate) fn bind(
     }
 }
 
-/// Ends a body before which so many variables were there: those that came in it go, and the variable that it bound has its value back.
+/// Ends a body before which so many variables were there: those that came in it go, and the
+/// variable that it bound has its value back.
 pub(crate) fn unbind(
     store: &mut Store,
     count: usize,
@@ -142,7 +146,9 @@ pub(crate) fn unbind(
 )
     requires within { count ≤ length (present_of store.old) }
     requires there { MayBeGivenBack slot hidden (take count (present_of store.old)) }
-    ensures left { (names : Names) → AreNames names store.old → store_in names store.new ≡ given_back names slot (option_map hidden_tree hidden) (left_with names (take count (present_of store.old)) (store_in names store.old)) }
+    ensures left { (names : Names) → AreNames names store.old
+        → store_in names store.new ≡ given_back names slot (option_map hidden_tree hidden)
+        (left_with names (take count (present_of store.old)) (store_in names store.old)) }
     ensures present { present_of store.new ≡ take count (present_of store.old) }
     ensures as_many { count_of store.new ≡ count_of store.old }
 {
@@ -166,7 +172,8 @@ fn place_value(place: usize) -> Value
     Value::Int(place as i64)
 }
 
-/// What the run for the item at a place binds, and the item, where it may be left out. `Memory`: want of memory.
+/// What the run for the item at a place binds, and the item, where it may be left out. `Memory`:
+/// want of memory.
 pub(crate) fn item_bindings(
     alloc: Global,
     function: Loop,
@@ -200,7 +207,8 @@ pub(crate) fn push_item(
     held: Option<Value>,
     given: Value,
 ) -> Result<(), Memory>
-    ensures { OnOk result (TakesItem function (map tree_of made.old.items) (map tree_of made.new.items) held (tree_of given)) }
+    ensures { OnOk result
+        (TakesItem function (map tree_of made.old.items) (map tree_of made.new.items) held (tree_of given)) }
 {
     match function {
         Loop::ForEach(_, _) => Ok(()),
@@ -215,7 +223,10 @@ pub(crate) fn push_item(
 
 // Puts an item behind others, where it is kept. `Memory`: want of memory.
 fn push_kept(made: &mut Vec<Value>, held: Option<Value>, is_kept: bool) -> Result<(), Memory>
-    ensures { OnOk result ((t : Tree) → option_map tree_of held ≡ Some t → map tree_of made.new.items ≡ (if is_kept then map tree_of made.old.items ++ t ∷ [] else map tree_of made.old.items)) }
+    ensures { OnOk result
+        ((t : Tree) → option_map tree_of held ≡ Some t
+        → map tree_of made.new.items ≡
+        (if is_kept then map tree_of made.old.items ++ t ∷ [] else map tree_of made.old.items)) }
 {
     if let Some(item) = held {
         if is_kept {
@@ -298,7 +309,9 @@ pub(crate) fn put_field(made: &mut MadeFields, held: Held, given: Value) -> Resu
 
 // Puts a field among others, where it is kept. `Memory`: want of memory.
 fn put_kept(fields: &mut Fields, name: Chars, part: Value, is_kept: bool) -> Result<(), Memory>
-    ensures { OnOk result (members_of fields.new ≡ (if is_kept then put name (tree_of part) (members_of fields.old) else members_of fields.old)) }
+    ensures { OnOk result
+        (members_of fields.new ≡
+        (if is_kept then put name (tree_of part) (members_of fields.old) else members_of fields.old)) }
 {
     if is_kept {
         fields.insert(name, part)?;
@@ -319,7 +332,8 @@ fn put_renamed(made: &mut MadeFields, name: Value, part: Value) -> Result<(), Me
     }
 }
 
-/// What is made of the fields of an object in the end. `Deep`: it is nested too deeply; `Error`: a new name is no text.
+/// What is made of the fields of an object in the end. `Deep`: it is nested too deeply; `Error`: a
+/// new name is no text.
 pub(crate) fn finish_fields(alloc: Global, function: Loop, made: MadeFields) -> Result<Value, Stop>
     ensures { Gives (made_in function made no_members []) result }
 {

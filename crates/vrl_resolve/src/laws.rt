@@ -4,13 +4,15 @@ use vrl_kind::any_holds_all;
 use vrl_table::functions_keep_law;
 use vrl_value::{regexes_stay_below, trees_stay_in_order};
 
-/// A script without items gives null, and leaves the event as it is. This takes no time: it is a law about the definitions.
+/// A script without items gives null, and leaves the event as it is. This takes no time: it is a
+/// law about the definitions.
 pub fn empty_scripts_give_null()
     ensures { EmptyScriptsGiveNull }
 {}
 
-/// Whatever an expression or the body of a closure does, values stay well-formed: in order, and each regex in them one of the script's. Its
-/// literals are so, and what stands in the store. This takes no time: it is a law about the definitions.
+/// Whatever an expression or the body of a closure does, values stay well-formed: in order, and
+/// each regex in them one of the script's. Its literals are so, and what stands in the store. This
+/// takes no time: it is a law about the definitions.
 pub fn evaluations_stay_well_formed()
     ensures { EvaluationsStayWellFormed }
 {

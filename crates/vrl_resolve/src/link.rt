@@ -20,7 +20,8 @@ use vrl_syntax::{
 };
 use vrl_value::{Chars, Memory, Names, Tag, Value};
 
-/// What makes nodes of expressions: the names of variables, each with a number, and the tags of the error assignments that are to come.
+/// What makes nodes of expressions: the names of variables, each with a number, and the tags of the
+/// error assignments that are to come.
 #[derive(Drop)]
 pub(crate) struct Linker<'a> {
     pub(crate) alloc: Global,
@@ -74,7 +75,8 @@ impl Linker<'_> {
 
     // The number of the variable of a name. `Memory`: want of memory.
     pub(crate) fn number(&mut self, name: &str) -> Result<usize, Memory>
-        ensures { IfOk result (λ number. Numbers self.old self.new (λ names. IsBaseOf names (Name name.now) (base.Variable number))) }
+        ensures { IfOk result
+            (λ number. Numbers self.old self.new (λ names. IsBaseOf names (Name name.now) (base.Variable number))) }
     {
         if let Some(number) = self.names.get_index_of(name) {
             return Ok(number);
@@ -351,7 +353,8 @@ impl Linker<'_> {
     // A call that runs a closure by this function.
     #[cycle(link)]
     fn iteration(&mut self, call: SyntaxCall, function: Loop) -> Result<Node, Memory>
-        requires { (names : VariableNames) → IsBeginning (names_in self.old) names → IsLoopIn names (call_of call) (Some function) }
+        requires { (names : VariableNames) → IsBeginning (names_in self.old) names
+            → IsLoopIn names (call_of call) (Some function) }
         ensures { IfOk result (λ node. LinksForm self.old self.new (call_of call) (linked_of node)) }
     {
         let SyntaxCall {
@@ -375,8 +378,10 @@ impl Linker<'_> {
     // The items of a closure.
     #[cycle(link)]
     fn body(&mut self, closure: Option<Closure>) -> Result<Vec<Node>, Memory>
-        ensures { IfOk result (λ nodes. Links self.old self.new (in_closure (closure_in (option_map closure_of closure)))
-            (λ names tags. IsBodyLinked names tags (closure_in (option_map closure_of closure)) (parts_view nodes.items))) }
+        ensures { IfOk result
+            (λ nodes. Links self.old self.new (in_closure (closure_in (option_map closure_of closure)))
+            (λ names tags. IsBodyLinked names tags (closure_in (option_map closure_of closure))
+            (parts_view nodes.items))) }
     {
         match closure {
             Some(closure) => {
@@ -394,7 +399,8 @@ impl Linker<'_> {
     // A call that runs no closure.
     #[cycle(link)]
     fn plain_call(&mut self, call: SyntaxCall) -> Result<Node, Memory>
-        requires { (names : VariableNames) → IsBeginning (names_in self.old) names → IsLoopIn names (call_of call) None }
+        requires { (names : VariableNames) → IsBeginning (names_in self.old) names
+            → IsLoopIn names (call_of call) None }
         ensures { IfOk result (λ node. LinksForm self.old self.new (call_of call) (linked_of node)) }
     {
         let callee = self.callee(&call)?;
@@ -413,7 +419,8 @@ impl Linker<'_> {
 
     // Passes over the tags of the error assignments in a closure that nothing runs.
     fn pass_over(&mut self, closure: &Option<Closure>)
-        ensures { Links self.old self.new (in_closure (closure_in (option_map closure_of closure.now))) (λ names tags. ⊤) }
+        ensures { Links self.old self.new (in_closure (closure_in (option_map closure_of closure.now)))
+            (λ names tags. ⊤) }
     {
         self.tags.pass_over(closure);
     }

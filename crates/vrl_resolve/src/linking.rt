@@ -12,9 +12,10 @@ use vrl_syntax::{Empties, Script};
 use vrl_value::Memory;
 
 impl Program {
-    /// Makes a script ready to be run: its variables are numbered, its functions looked up and their arguments bound. What it writes and deletes
-    /// keeps the limits, `patterns` are its regexes, and `empties` has the tag of the empty value of each error assignment. `Memory`: want of
-    /// memory.
+    /// Makes a script ready to be run: its variables are numbered, its functions looked up and
+    /// their arguments bound. What it writes and deletes keeps the limits, `patterns` are its
+    /// regexes, and `empties` has the tag of the empty value of each error assignment. `Memory`:
+    /// want of memory.
     pub fn link(
         alloc: Global,
         script: Script,
@@ -24,7 +25,8 @@ impl Program {
         requires limits { KeepsLimits (exprs_of script.items) }
         requires regexes { IsNumbered (script_of script) }
         requires patterns { patterns ≡ script.patterns }
-        ensures { IfOk result (λ program. program_of program ≡ script_program (exprs_of script.items) empties.now patterns) }
+        ensures { IfOk result
+            (λ program. program_of program ≡ script_program (exprs_of script.items) empties.now patterns) }
     {
         let mut linker = Linker::new(alloc, empties.as_slice());
         let Script { items, patterns: _ } = script;

@@ -20,7 +20,8 @@ pub(crate) enum Callee {
     Nothing,
 }
 
-/// A function that runs a closure for each part of a collection, with the variables of the closure's names; none of `_`.
+/// A function that runs a closure for each part of a collection, with the variables of the
+/// closure's names; none of `_`.
 #[derive(Clone, Copy)]
 pub(crate) enum Loop {
     /// `for_each`, with the variables of the key and of the value.
@@ -33,8 +34,8 @@ pub(crate) enum Loop {
     MapKeys(Option<usize>),
 }
 
-/// An expression that is ready to be run: variables are numbers, calls are looked up and bound, error assignments have the tags of their
-/// empty values, and parentheses are gone.
+/// An expression that is ready to be run: variables are numbers, calls are looked up and bound,
+/// error assignments have the tags of their empty values, and parentheses are gone.
 #[cycle(node)]
 pub(crate) struct Node {
     pub(crate) form: Form,

@@ -13,5 +13,6 @@ pub struct Program {
     // The variables, in the order of their numbers.
     pub(crate) names: Names,
     pub(crate) patterns: Patterns,
-    ghost ready: { IsReady names (parts_view items.items) (length patterns) } by { ready-prop names (parts_view items.items) (length patterns) },
+    ghost ready: { IsReady names (parts_view items.items) (length patterns) } by { ready-prop names
+        (parts_view items.items) (length patterns) },
 }

@@ -23,7 +23,8 @@ use vrl_store::{Stop, Store};
 use vrl_value::{Memory, Moment, Names, Value};
 
 impl Program {
-    /// What searches for its regexes write to. A thread keeps it from run to run. This takes no memory.
+    /// What searches for its regexes write to. A thread keeps it from run to run. This takes no
+    /// memory.
     #[tactic(auto, unfolding(crate::specs::Program::program_of))]
     pub fn searches(&self) -> Searches<'_>
         ensures { result ≡ (program_of self.now).sources }
@@ -34,8 +35,8 @@ impl Program {
 
 /// Runs a program over an event, at a moment, from which it ends with no error that it doesn't
 /// handle. The value and the variables that it gives are gathered only where they are asked for,
-/// since this takes time and memory. Each regex in the event is one of the program's, and `searches`
-/// are [`Program::searches`]. `Memory`: out of memory; the event is gone then.
+/// since this takes time and memory. Each regex in the event is one of the program's, and
+/// `searches` are [`Program::searches`]. `Memory`: out of memory; the event is gone then.
 pub fn run(
     alloc: Global,
     program: &Program,
@@ -56,8 +57,8 @@ pub fn run(
     )
 }
 
-/// As [`run`], over an event whose members are known to be in order, and which is known to be nested
-/// at most 128 deep where the flag says so. It isn't walked to find this out.
+/// As [`run`], over an event whose members are known to be in order, and which is known to be
+/// nested at most 128 deep where the flag says so. It isn't walked to find this out.
 #[tactic(auto, unfolding(crate::specs::Program::program_of))]
 pub fn run_measured(
     alloc: Global,
@@ -90,7 +91,8 @@ pub fn run_measured(
     left(alloc, &program.names, store, is_asked, end)
 }
 
-// What a run leaves that ended so. `Memory`: want of memory, at a value that is asked for or where it ended with that.
+// What a run leaves that ended so. `Memory`: want of memory, at a value that is asked for or where
+// it ended with that.
 fn left(
     alloc: Global,
     names: &Names,
@@ -112,7 +114,8 @@ fn left(
     }
 }
 
-// What a run leaves that ended with a value. `Memory`: want of memory, where the value is asked for.
+// What a run leaves that ended with a value. `Memory`: want of memory, where the value is asked
+// for.
 fn valued(
     alloc: Global,
     names: &Names,
@@ -134,8 +137,8 @@ fn valued(
     })
 }
 
-// What a run leaves that ended without a value, or by a `return`. `Memory`: want of memory, at a `return` whose value is asked for or where
-// it ended with that.
+// What a run leaves that ended without a value, or by a `return`. `Memory`: want of memory, at a
+// `return` whose value is asked for or where it ended with that.
 fn stopped(
     alloc: Global,
     names: &Names,
@@ -145,7 +148,8 @@ fn stopped(
 ) -> Result<Ran, Memory>
     requires names { AreNames names.now store }
     requires handled { IsHandledStop stop }
-    ensures ran { IfOk result (λ ran. (meant : meaning.Ended) → Stops meant (store_in names.now store) stop → IsRan is_asked meant ran) }
+    ensures ran { IfOk result
+        (λ ran. (meant : meaning.Ended) → Stops meant (store_in names.now store) stop → IsRan is_asked meant ran) }
     ensures told { IfOk result AreTold }
     ensures want { IsErr result → MayWantAt is_asked stop }
 {

@@ -25,7 +25,9 @@ pub(crate) fn write_to(
     value: Value,
 ) -> Result<(), Stop>
     requires target { IsTarget (count_of store.old) target.now }
-    ensures written { (names : Names) → AreNames names store.old → WritesTo (target_of names target.now) (tree_of value) (store_in names store.old) (store_in names store.new) result }
+    ensures written { (names : Names) → AreNames names store.old
+        → WritesTo (target_of names target.now) (tree_of value) (store_in names store.old)
+        (store_in names store.new) result }
     ensures stays { Stays store.old store.new }
 {
     if let Some(place) = target {
@@ -34,7 +36,8 @@ pub(crate) fn write_to(
     Ok(())
 }
 
-/// The value again, where it is asked for; else null. `Memory`: want of memory, where it is asked for.
+/// The value again, where it is asked for; else null. `Memory`: want of memory, where it is asked
+/// for.
 pub(crate) fn asked_copy(alloc: Global, is_asked: bool, value: &Value) -> Result<Value, Memory>
     ensures copy { IfOk result (λ copy. is_asked ≡ true → tree_of copy ≡ tree_of value.now) }
     ensures want { IsErr result → is_asked ≡ true }
@@ -52,7 +55,9 @@ pub(crate) fn at_target(
     target: &Option<Place>,
 ) -> Result<Value, Memory>
     requires target { IsTarget (count_of store.now) target.now }
-    ensures { IfOk result (λ value. (names : Names) → AreNames names store.now → tree_of value ≡ spec.target_value (target_of names target.now) (store_in names store.now)) }
+    ensures { IfOk result
+        (λ value. (names : Names) → AreNames names store.now
+        → tree_of value ≡ spec.target_value (target_of names target.now) (store_in names store.now)) }
 {
     match target {
         Some(place) => store.read(place).copy(context.alloc),
@@ -70,7 +75,8 @@ pub(crate) fn part_of(alloc: Global, value: &Value, path: &Path) -> Result<Value
     }
 }
 
-/// The value that a part ended with and null; at an error the empty value and the text. `Memory`: the part ended with that.
+/// The value that a part ended with and null; at an error the empty value and the text. `Memory`:
+/// the part ended with that.
 pub(crate) fn both_values(
     alloc: Global,
     tag: Tag,

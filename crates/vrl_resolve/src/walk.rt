@@ -43,8 +43,8 @@ pub(crate) struct Context<'a, 'r> {
     pub(crate) names: &'a Names,
 }
 
-/// Runs an expression: its value, or why it ends without one. A value that isn't asked for may be another one, and isn't
-/// copied. What was written before stays.
+/// Runs an expression: its value, or why it ends without one. A value that isn't asked for may be
+/// another one, and isn't copied. What was written before stays.
 #[cycle(walk)]
 pub(crate) fn eval(
     store: &mut Store,
@@ -100,7 +100,8 @@ fn values(store: &mut Store, context: &Context<'_, '_>, nodes: &[Node]) -> Resul
 fn array(store: &mut Store, context: &Context<'_, '_>, parts: &[Node]) -> Result<Value, Stop>
     requires ready { IsReadyStore context.now store.old }
     requires fits { AllFitIn context.now (parts_view parts.now) }
-    ensures ended { EndsIn context.now (meant context.now (linked.array (parts_view parts.now)) store.old) store.new result }
+    ensures ended { EndsIn context.now
+        (meant context.now (linked.array (parts_view parts.now)) store.old) store.new result }
     ensures stays { Stays store.old store.new }
 {
     let values = values(store, context, parts)?;
@@ -115,7 +116,8 @@ fn object(
 ) -> Result<Value, Stop>
     requires ready { IsReadyStore context.now store.old }
     requires fits { PairsFitIn context.now (pairs_view pairs.now) }
-    ensures ended { EndsIn context.now (meant context.now (linked.object (pairs_view pairs.now)) store.old) store.new result }
+    ensures ended { EndsIn context.now
+        (meant context.now (linked.object (pairs_view pairs.now)) store.old) store.new result }
     ensures stays { Stays store.old store.new }
 {
     meanings_stay_well_formed();
@@ -136,7 +138,8 @@ fn query(
 ) -> Result<Value, Stop>
     requires ready { IsReadyStore context.now store.old }
     requires fits { FitsIn context.now (linked_of part.now) }
-    ensures ended { EndsIn context.now (meant context.now (linked.query (linked_of part.now) path.now) store.old) store.new result }
+    ensures ended { EndsIn context.now
+        (meant context.now (linked.query (linked_of part.now) path.now) store.old) store.new result }
     ensures stays { Stays store.old store.new }
 {
     if let Some(value) = peek(store, part) {
@@ -146,7 +149,8 @@ fn query(
     Ok(part_of(context.alloc, &value, path)?)
 }
 
-/// Runs items in order: the value of the last, null where there is none. No other one's value is asked for.
+/// Runs items in order: the value of the last, null where there is none. No other one's value is
+/// asked for.
 #[cycle(walk)]
 pub(crate) fn items(
     store: &mut Store,
@@ -157,7 +161,8 @@ pub(crate) fn items(
     requires ready { IsReadyStore context.now store.old }
     requires fits { AllFitIn context.now (parts_view items.now) }
     ensures ended { EndsAsked is_asked
-        (items_mean (names_in context.now) (setting_in context.now) null (parts_view items.now) (store_at context.now store.old))
+        (items_mean (names_in context.now) (setting_in context.now) null (parts_view items.now)
+        (store_at context.now store.old))
         (store_at context.now store.new) result }
     ensures stays { Stays store.old store.new }
 {
@@ -224,7 +229,8 @@ fn conditional(
 fn holds(store: &mut Store, context: &Context<'_, '_>, node: &Node) -> Result<bool, Stop>
     requires ready { IsReadyStore context.now store.old }
     requires fits { FitsIn context.now (linked_of node.now) }
-    ensures ended { EndsTrue (meant context.now (linked_of node.now) store.old) (store_at context.now store.new) result }
+    ensures ended { EndsTrue (meant context.now (linked_of node.now) store.old)
+        (store_at context.now store.new) result }
     ensures stays { Stays store.old store.new }
 {
     if let Some(value) = peek(store, node) {
@@ -238,7 +244,8 @@ fn holds(store: &mut Store, context: &Context<'_, '_>, node: &Node) -> Result<bo
 fn negation(store: &mut Store, context: &Context<'_, '_>, part: &Node) -> Result<Value, Stop>
     requires ready { IsReadyStore context.now store.old }
     requires fits { FitsIn context.now (linked_of part.now) }
-    ensures ended { EndsIn context.now (meant context.now (linked.negation (linked_of part.now)) store.old) store.new result }
+    ensures ended { EndsIn context.now
+        (meant context.now (linked.negation (linked_of part.now)) store.old) store.new result }
     ensures stays { Stays store.old store.new }
 {
     if let Some(value) = peek(store, part) {
@@ -259,7 +266,8 @@ fn binary(
     requires ready { IsReadyStore context.now store.old }
     requires left { FitsIn context.now (linked_of left.now) }
     requires right { FitsIn context.now (linked_of right.now) }
-    ensures ended { EndsIn context.now (meant context.now (linked.binary op (linked_of left.now) (linked_of right.now)) store.old) store.new result }
+    ensures ended { EndsIn context.now
+        (meant context.now (linked.binary op (linked_of left.now) (linked_of right.now)) store.old) store.new result }
     ensures stays { Stays store.old store.new }
 {
     meanings_stay_well_formed();
@@ -288,7 +296,9 @@ fn look(
     requires ready { IsReadyStore context.now store.now }
     requires left { FitsIn context.now (linked_of left.now) }
     requires right { FitsIn context.now (linked_of right.now) }
-    ensures { IfSome result (EndsIn context.now (both_sides op (meant context.now (linked_of left.now) store.now) (λ after. means (names_in context.now) (setting_in context.now) (linked_of right.now) after)) store.now) }
+    ensures { IfSome result (EndsIn context.now
+        (both_sides op (meant context.now (linked_of left.now) store.now)
+        (λ after. means (names_in context.now) (setting_in context.now) (linked_of right.now) after)) store.now) }
 {
     match (peek(store, left), peek(store, right)) {
         (Some(left), Some(right)) => Some(apply_to_borrowed(context.alloc, op, left, right)),
@@ -307,7 +317,9 @@ fn beside(
 ) -> Result<Value, Stop>
     requires ready { IsReadyStore context.now store.old }
     requires fits { FitsIn context.now (linked_of right.now) }
-    ensures ended { EndsIn context.now (on_value (meant context.now (linked_of right.now) store.old) (λ v after. ends (applied op (tree_of left) v) after)) store.new result }
+    ensures ended { EndsIn context.now
+        (on_value (meant context.now (linked_of right.now) store.old)
+        (λ v after. ends (applied op (tree_of left) v) after)) store.new result }
     ensures stays { Stays store.old store.new }
 {
     if let Some(value) = peek(store, right) {
@@ -338,7 +350,9 @@ fn coalescing(
     requires ready { IsReadyStore context.now store.old }
     requires left { FitsIn context.now (linked_of left.now) }
     requires right { FitsIn context.now (linked_of right.now) }
-    ensures ended { EndsIn context.now (meant context.now (linked.binary ops.Coalesce (linked_of left.now) (linked_of right.now)) store.old) store.new result }
+    ensures ended { EndsIn context.now
+        (meant context.now
+        (linked.binary ops.Coalesce (linked_of left.now) (linked_of right.now)) store.old) store.new result }
     ensures stays { Stays store.old store.new }
 {
     meanings_stay_well_formed();
@@ -360,7 +374,9 @@ fn disjunction(
     requires ready { IsReadyStore context.now store.old }
     requires left { FitsIn context.now (linked_of left.now) }
     requires right { FitsIn context.now (linked_of right.now) }
-    ensures ended { EndsIn context.now (meant context.now (linked.binary ops.Or (linked_of left.now) (linked_of right.now)) store.old) store.new result }
+    ensures ended { EndsIn context.now
+        (meant context.now
+        (linked.binary ops.Or (linked_of left.now) (linked_of right.now)) store.old) store.new result }
     ensures stays { Stays store.old store.new }
 {
     meanings_stay_well_formed();
@@ -382,7 +398,9 @@ fn conjunction(
     requires ready { IsReadyStore context.now store.old }
     requires left { FitsIn context.now (linked_of left.now) }
     requires right { FitsIn context.now (linked_of right.now) }
-    ensures ended { EndsIn context.now (meant context.now (linked.binary ops.And (linked_of left.now) (linked_of right.now)) store.old) store.new result }
+    ensures ended { EndsIn context.now
+        (meant context.now
+        (linked.binary ops.And (linked_of left.now) (linked_of right.now)) store.old) store.new result }
     ensures stays { Stays store.old store.new }
 {
     meanings_stay_well_formed();
@@ -418,7 +436,11 @@ fn answer(
     requires ready { IsReadyStore context.now store.old }
     requires callee { IsCallee (length (names_in context.now)) (parts_view args.now) callee.now }
     requires fits { AllFitIn context.now (parts_view args.now) }
-    ensures ended { EndsIn context.now (on_value (all_mean (names_in context.now) (setting_in context.now) (parts_view args.now) [] (store_at context.now store.old)) (λ vs after. acts (setting_in context.now) (callee_in (names_in context.now) callee.now) no_body (items_in vs) after)) store.new result }
+    ensures ended { EndsIn context.now
+        (on_value (all_mean (names_in context.now) (setting_in context.now) (parts_view args.now) []
+        (store_at context.now store.old))
+        (λ vs after. acts (setting_in context.now) (callee_in (names_in context.now) callee.now) no_body
+        (items_in vs) after)) store.new result }
     ensures stays { Stays store.old store.new }
 {
     meanings_stay_well_formed();
@@ -431,7 +453,8 @@ fn answer(
 fn give_back(store: &mut Store, context: &Context<'_, '_>, part: &Node) -> Result<Value, Stop>
     requires ready { IsReadyStore context.now store.old }
     requires fits { FitsIn context.now (linked_of part.now) }
-    ensures ended { EndsIn context.now (meant context.now (linked.return_of (linked_of part.now)) store.old) store.new result }
+    ensures ended { EndsIn context.now
+        (meant context.now (linked.return_of (linked_of part.now)) store.old) store.new result }
     ensures stays { Stays store.old store.new }
 {
     let value = eval(store, context, true, part)?;
@@ -446,7 +469,8 @@ fn abort(
 ) -> Result<Value, Stop>
     requires ready { IsReadyStore context.now store.old }
     requires fits { MessageFitsIn context.now (message_view message.now) }
-    ensures ended { EndsIn context.now (meant context.now (linked.abort_with (message_view message.now)) store.old) store.new result }
+    ensures ended { EndsIn context.now
+        (meant context.now (linked.abort_with (message_view message.now)) store.old) store.new result }
     ensures stays { Stays store.old store.new }
 {
     match message {

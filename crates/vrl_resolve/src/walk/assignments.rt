@@ -33,7 +33,8 @@ pub(super) fn assign(
     Ok(copy)
 }
 
-// Writes the value at a target, null where it takes nothing, with the fields of another one over it.
+// Writes the value at a target, null where it takes nothing, with the fields of another one over
+// it.
 #[cycle(walk)]
 pub(super) fn merge(
     store: &mut Store,
@@ -56,7 +57,8 @@ pub(super) fn merge(
     Ok(copy)
 }
 
-// The values that an error assignment writes: the value and null, or at an error the empty value and the text.
+// The values that an error assignment writes: the value and null, or at an error the empty value
+// and the text.
 #[cycle(walk)]
 fn outcome(
     store: &mut Store,
@@ -66,7 +68,8 @@ fn outcome(
 ) -> Result<(Value, Value), Stop>
     requires ready { IsReadyStore context.now store.old }
     requires fits { FitsIn context.now (linked_of part.now) }
-    ensures ended { GivesBoth tag (meant context.now (linked_of part.now) store.old) (store_at context.now store.new) result }
+    ensures ended { GivesBoth tag (meant context.now (linked_of part.now) store.old)
+        (store_at context.now store.new) result }
     ensures stays { Stays store.old store.new }
 {
     let given = eval(store, context, true, part);

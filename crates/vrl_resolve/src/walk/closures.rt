@@ -1,4 +1,5 @@
-//! Calls that run a closure: the parts of a collection, bound one by one, and what is made of what the runs give.
+//! Calls that run a closure: the parts of a collection, bound one by one, and what is made of what
+//! the runs give.
 ghost use Rattle.std.specs.Prelude.{◌≡◌, ◌∷◌, [], length, true};
 ghost use Rattle.vrl_value.specs.Tree.{array as array_tree, object as object_tree};
 ghost use Rattle.vrl_value.specs.View.{items_of, members_of, tree_of};
@@ -60,7 +61,11 @@ fn iterate(
     requires slots { AreKnownSlots (length (names_in context.now)) (slots_in function) }
     requires args { AllFitIn context.now (parts_view args.now) }
     requires body { AllFitIn context.now (parts_view body.now) }
-    ensures ended { EndsIn context.now (on_value (all_mean (names_in context.now) (setting_in context.now) (parts_view args.now) [] (store_at context.now store.old)) (λ vs after. acts (setting_in context.now) (called.iteration (form_in function)) (body_in context.now function (parts_view body.now)) (items_in vs) after)) store.new result }
+    ensures ended { EndsIn context.now
+        (on_value (all_mean (names_in context.now) (setting_in context.now) (parts_view args.now) []
+        (store_at context.now store.old))
+        (λ vs after. acts (setting_in context.now) (called.iteration (form_in function))
+        (body_in context.now function (parts_view body.now)) (items_in vs) after)) store.new result }
     ensures stays { Stays store.old store.new }
 {
     meanings_stay_well_formed();
@@ -84,7 +89,10 @@ fn over(
     requires slots { AreKnownSlots (length (names_in context.now)) (slots_in function) }
     requires fits { AllFitIn context.now (parts_view body.now) }
     requires formed { IsWellFormed (length (setting_in context.now).sources) (tree_of collection) }
-    ensures ended { EndsIn context.now (iterated (form_in function) (body_in context.now function (parts_view body.now)) (tree_of collection) (first_unfit 0 (collection_parameters (form_in function)) (Some (tree_of collection) ∷ [])) (store_at context.now store.old)) store.new result }
+    ensures ended { EndsIn context.now
+        (iterated (form_in function) (body_in context.now function (parts_view body.now)) (tree_of collection)
+        (first_unfit 0 (collection_parameters (form_in function)) (Some (tree_of collection) ∷ []))
+        (store_at context.now store.old)) store.new result }
     ensures stays { Stays store.old store.new }
 {
     match collection {
@@ -112,7 +120,9 @@ fn over_items(
     requires fits { AllFitIn context.now (parts_view body.now) }
     requires takes { takes_arrays function ≡ true }
     requires formed { IsWellFormed (length (setting_in context.now).sources) (array_tree (items_of items)) }
-    ensures ended { EndsIn context.now (iterated (form_in function) (body_in context.now function (parts_view body.now)) (array_tree (items_of items)) None (store_at context.now store.old)) store.new result }
+    ensures ended { EndsIn context.now
+        (iterated (form_in function) (body_in context.now function (parts_view body.now))
+        (array_tree (items_of items)) None (store_at context.now store.old)) store.new result }
     ensures stays { Stays store.old store.new }
 {
     meanings_stay_well_formed();
@@ -140,7 +150,9 @@ fn over_fields(
     requires slots { AreKnownSlots (length (names_in context.now)) (slots_in function) }
     requires fits { AllFitIn context.now (parts_view body.now) }
     requires formed { IsWellFormed (length (setting_in context.now).sources) (object_tree (members_of fields)) }
-    ensures ended { EndsIn context.now (iterated (form_in function) (body_in context.now function (parts_view body.now)) (object_tree (members_of fields)) None (store_at context.now store.old)) store.new result }
+    ensures ended { EndsIn context.now
+        (iterated (form_in function) (body_in context.now function (parts_view body.now))
+        (object_tree (members_of fields)) None (store_at context.now store.old)) store.new result }
     ensures stays { Stays store.old store.new }
 {
     meanings_stay_well_formed();
@@ -153,8 +165,8 @@ fn over_fields(
     finish_fields(context.alloc, function, made)
 }
 
-// Items with variables bound to values. Behind them, by whatever end, only those that were there before are there, and those that were bound
-// have the values that they had.
+// Items with variables bound to values. Behind them, by whatever end, only those that were there
+// before are there, and those that were bound have the values that they had.
 #[cycle(walk)]
 fn run(
     store: &mut Store,
