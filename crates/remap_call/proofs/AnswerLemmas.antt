@@ -1,5 +1,5 @@
 -- How what is done of a request is what is done of all that is asked.
-use Rattle.std.proofs.Common.{◌≡◌, ℕ, List, [], ◌∷◌, ◌++◌, ◌⊎◌, inl, inr, refl, sym, subst}
+use Rattle.std.proofs.Common.{◌≡◌, ℕ, List, [], ◌∷◌, ◌++◌, ◌⊎◌, inl, inr, sym, subst}
 use Rattle.vrl_run.specs.Answered.{IsAnswered, IsAsked, IsAtMostFront, IsCutOff, IsWhole}
 use Rattle.vrl_run.specs.Devices.{Devices}
 use Rattle.vrl_run.specs.Request.{IsSame, MayCome, Request, ScriptRun, map_lines}
@@ -11,7 +11,7 @@ module _ (asks : Request → Type 0) (one : Request) (asked : asks one) (before 
   only : (request : Request) → IsSame one request → asks request
   only request is = subst asks (sym is) asked
 
-  is_asked : IsAsked (IsSame one) before → IsAsked asks before
+  abbrev is_asked : IsAsked (IsSame one) before → IsAsked asks before
   is_asked of = record { request = of.request; asked = only of.request of.asked; input = of.input; moments = of.moments; told = of.told }
 
   is_whole : (status : Status) → IsWhole (IsSame one) status before after → IsWhole asks status before after

@@ -1,5 +1,5 @@
 -- What a call comes to, by what it did.
-use Rattle.std.proofs.Common.{◌≡◌, ◌⊎◌, inl, inr, ℕ, ℤ, List, Option, Some, None, IfSome, IsTrue, Bool, false, refl, sym, ap, subst, ◌∙◌}
+use Rattle.std.proofs.Common.{◌≡◌, ◌⊎◌, ⊎_elim, inl, inr, ℕ, ℤ, List, Option, Some, None, IfSome, IsTrue, false, refl, sym, ap, subst, ◌∙◌}
 use Rattle.vrl_io.specs.declared.fault.LoadFault.{LoadFault}
 use Rattle.vrl_io.specs.declared.fault.LoadFault.TheVariants as fault
 use Rattle.vrl_run.specs.Answer.{answer_to}
@@ -8,7 +8,7 @@ use Rattle.vrl_run.specs.Devices.{Devices}
 use Rattle.vrl_run.specs.Request.{IsSame, MayCome, ReadsLines as Reads, Request, ScriptRun, bad_kind, bad_script, bad_words, map_lines, map_made, tell_kinds}
 use Rattle.vrl_run.specs.Status.{IsAnswer, IsFinished, IsInterrupted, TellsRefusal, meaning_of}
 use Rattle.vrl_run.specs.declared.status.Status.{Status}
-use Rattle.vrl_run.specs.declared.status.Status.TheVariants.{Done, Refused, Usage, ReadFault, Memory, KindRefused, Marked, TooMuch}
+use Rattle.vrl_run.specs.declared.status.Status.TheVariants.{Done, Refused, Usage, ReadFault, WriteFault, Memory, KindRefused, Marked, TooMuch}
 use Rattle.remap_words.specs.Words.{Invocation, check, generate, lines}
 use Rattle.remap_call.specs.Call.{IsCall}
 use Rattle.remap_call.specs.Laws.{Laws}
@@ -169,3 +169,18 @@ refused_unasked {invocation = invocation} {status = status} {Unasked = Unasked} 
   of : Unasked ⊎ ((run : ScriptRun) × Asks invocation call.texts (map_lines run)) → Unasked
   of (inl unasked) = unasked
   of (inr asked) = absurd (run_not_refused status (call.comes (map_lines asked.0) asked.1) refuses)
+
+-- ---- where nothing fails
+
+-- the answer comes, unless the input is too long or there is no memory
+pub complete_of : {Read Output Report : Type 0} (s : Status) → (s ≡ ReadFault → Read) → (s ≡ WriteFault → Output ⊎ Report)
+    → ¬ Read → ¬ Output → ¬ Report → IsAnswer s ⊎ (s ≡ Memory) ⊎ (s ≡ TooMuch)
+complete_of Done read write unread unwritten unreported = inl tt
+complete_of Refused read write unread unwritten unreported = inl tt
+complete_of Usage read write unread unwritten unreported = inl tt
+complete_of KindRefused read write unread unwritten unreported = inl tt
+complete_of Marked read write unread unwritten unreported = inl tt
+complete_of ReadFault read write unread unwritten unreported = absurd (unread (read refl))
+complete_of WriteFault read write unread unwritten unreported = absurd (⊎_elim unwritten unreported (write refl))
+complete_of Memory read write unread unwritten unreported = inr (inl refl)
+complete_of TooMuch read write unread unwritten unreported = inr (inr refl)

@@ -103,11 +103,11 @@ fn is_script(bytes: &[u8]) -> bool
 
 // The bytes of the kind file, if one is named. `Failed`: it could not be loaded. `Memory`: out of memory.
 fn load_kind<F: Store>(files: &mut F, name: Option<&str>) -> Result<Option<Bytes>, LoadFault>
-    ensures file { IfOk result (λ file. IsFileOf (option_map (λ name. name.now) name) file
-        × IfSome (option_map (λ name. name.now) name) (λ name. IsLoaded (F.held files.old) name file)) }
+    ensures file { IfOk result (λ file. IsFileOf (option_map (λ name. name.now) name.entry) file
+        × IfSome (option_map (λ name. name.now) name.entry) (λ name. IsLoaded (F.held files.old) name file)) }
     ensures none_failed { OnOk result (F.failures files.new ≡ F.failures files.old) }
     ensures fault { IfErr result (λ fault. (named : List ℕ)
-        × (option_map (λ name. name.now) name ≡ Some named)
+        × (option_map (λ name. name.now) name.entry ≡ Some named)
         × (F.failures files.new ≡ failures_after fault named (F.failures files.old))) }
 {
     let Some(name) = name else {

@@ -11,11 +11,11 @@ script_of-requires-clause-sources c = sources_as c.requires.accepted
 pub script_of-requires-clause-handled : goal.script_of-requires-clause-handled
 script_of-requires-clause-handled c = handles_as c.accepted_scripts_are_sound.ensures c.requires.text c.requires.accepted
 
-pub script_of-requires-in-Generate-clause-sources : goal.script_of-requires-in-Generate-clause-sources
-script_of-requires-in-Generate-clause-sources c = sources_as c.requires.accepted
+pub script_of-script-requires-clause-sources : goal.script_of-script-requires-clause-sources
+script_of-script-requires-clause-sources c = sources_as c.requires.accepted
 
-pub script_of-requires-in-Generate-clause-handled : goal.script_of-requires-in-Generate-clause-handled
-script_of-requires-in-Generate-clause-handled c = handles_as c.accepted_scripts_are_sound.ensures c.requires.text c.requires.accepted
+pub script_of-script-requires-clause-handled : goal.script_of-script-requires-clause-handled
+script_of-script-requires-clause-handled c = handles_as c.accepted_scripts_are_sound.ensures c.requires.text c.requires.accepted
 
 pub returns-in-Lines-clause-asks : goal.returns-in-Lines-clause-asks
 returns-in-Lines-clause-asks c file declared =

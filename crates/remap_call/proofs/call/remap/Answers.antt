@@ -1,9 +1,9 @@
-use Rattle.std.proofs.Common.{◌≡◌, ⊎_elim, inr, absurd, refl, rules}
+use Rattle.std.proofs.Common.{inr, refl, rules}
 use Rattle.vrl_io.specs.declared.fault.LoadFault.TheVariants as LoadFault
 use Rattle.remap_words.specs.View.{texts}
 use Rattle.remap_words.specs.Words.{words_mean}
 use Rattle.remap_call.specs.Loading.{IsUnready}
-use Rattle.remap_call.proofs.Calls.{failed_call, ready_call, refused_unasked, wanting_call}
+use Rattle.remap_call.proofs.Calls.{complete_of, failed_call, ready_call, refused_unasked, wanting_call}
 use Rattle.remap_call.proofs.call.remap.Goals as goal
 
 pub returns-in-Err-Failed-clause-call : goal.returns-in-Err-Failed-clause-call
@@ -24,3 +24,7 @@ returns-clause-unread g c refused = refused_unasked (returns-clause-call g c) re
 
 pub returns-clause-read_fault : goal.returns-clause-read_fault
 returns-clause-read_fault g c fault = inr (c.answer.ensures.causes.read fault)
+
+pub returns-clause-complete : goal.returns-clause-complete
+returns-clause-complete g c loaded unread unwritten unreported =
+    complete_of c.answer.result c.answer.ensures.causes.read c.answer.ensures.causes.write unread unwritten unreported
