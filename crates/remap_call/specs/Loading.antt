@@ -13,7 +13,8 @@ IsFileOf (Some name) (Some bytes) = ⊤
 IsFileOf name file = ⊥
 
 -- What is asked is known: all that is to be loaded was.
-pub record IsReady (held : Held) (invocation : Option Invocation) (failures failures_after : List (List ℕ)) (request : Request) : Type 0 where
+pub record IsReady (held : Held) (invocation : Option Invocation) (failures failures_after : List (List ℕ))
+    (request : Request) : Type 0 where
   pub texts : Texts
   pub are_texts : AreTexts held invocation texts
   pub loaded : IfSome invocation (λ i. ¬ IsUnloaded i texts)
@@ -26,7 +27,8 @@ HasCause failures failures_after Failed = ¬ (failures_after ≡ failures)
 HasCause failures failures_after Memory = failures_after ≡ failures
 
 -- What is asked isn't known, for this reason.
-pub record IsUnready (held : Held) (invocation : Option Invocation) (failures failures_after : List (List ℕ)) (fault : LoadFault) : Type 0 where
+pub record IsUnready (held : Held) (invocation : Option Invocation) (failures failures_after : List (List ℕ))
+    (fault : LoadFault) : Type 0 where
   pub texts : Texts
   pub are_texts : AreTexts held invocation texts
   pub loads : HasLoadedBy invocation texts failures failures_after

@@ -38,7 +38,8 @@ Held = Option (List ℕ → Option (List ℕ))
 abbrev pub load_limit : ℕ
 load_limit = 65537
 
--- The bytes of a name. Where the store tells what it holds, they are what it holds under the name, and no more of it than the limit; a name that holds nothing has none.
+-- The bytes of a name. Where the store tells what it holds, they are what it holds under the name,
+-- and no more of it than the limit; a name that holds nothing has none.
 abbrev pub IsLoaded : Held → List ℕ → Option (List ℕ) → Type 0
 IsLoaded held name bytes = IfSome held (λ h. option_map (take load_limit) (h name) ≡ bytes)
 
@@ -56,11 +57,13 @@ abbrev pub AreTexts : Held → Option Invocation → Texts → Type 0
 AreTexts held None texts = ⊤
 AreTexts held (Some invocation) texts = AreTextsOf held invocation texts
 
--- Which name was added to the failures: none; that of the script; or that of the kind file, which is loaded once the script is known to be a text.
+-- Which name was added to the failures: none; that of the script; or that of the kind file, which
+-- is loaded once the script is known to be a text.
 pub data HasLoaded (invocation : Invocation) (texts : Texts) (failures after : List (List ℕ)) : Type 0 where
   none_failed : after ≡ failures → HasLoaded invocation texts failures after
   script_failed : after ≡ failures ++ invocation.script ∷ [] → HasLoaded invocation texts failures after
-  kind_failed : (name text : List ℕ) → invocation.kind ≡ Some name → texts.script ≡ Some text → ¬ IsNoScript text → after ≡ failures ++ name ∷ [] → HasLoaded invocation texts failures after
+  kind_failed : (name text : List ℕ) → invocation.kind ≡ Some name → texts.script ≡ Some text → ¬ IsNoScript text
+      → after ≡ failures ++ name ∷ [] → HasLoaded invocation texts failures after
 
 -- words that are refused load nothing
 abbrev pub HasLoadedBy : Option Invocation → Texts → List (List ℕ) → List (List ℕ) → Type 0
@@ -98,8 +101,10 @@ pub record IsTextOf (script : Script) (text : List ℕ) : Type 0 where
   pub tokens : List Spanned
   pub is_script : IsScript text tokens script
 
--- the bytes are those of this script, which is accepted over events of the kind; it is judged so, and these are its diagnostics, all of them warnings
-pub record IsAccepted (declared : KindTree) (text : List ℕ) (script : Script) (judgement : Judgement) (warnings : List Diagnostic) : Type 0 where
+-- the bytes are those of this script, which is accepted over events of the kind; it is judged so,
+-- and these are its diagnostics, all of them warnings
+pub record IsAccepted (declared : KindTree) (text : List ℕ) (script : Script) (judgement : Judgement)
+    (warnings : List Diagnostic) : Type 0 where
   pub is_text : ¬ IsNoScript text
   pub accepted : IsAcceptedText declared text script judgement
   pub ordered : AreOrdered judgement.codes warnings
@@ -107,17 +112,22 @@ pub record IsAccepted (declared : KindTree) (text : List ℕ) (script : Script) 
 -- the bytes are those of a script that is refused, with these diagnostics
 pub data IsRefused (name file : Option (List ℕ)) (text : List ℕ) (diagnostics : List Diagnostic) : Type 0 where
   no_text : IsNoScript text → diagnostics ≡ no_script_text → IsRefused name file text diagnostics
-  has_error : ¬ IsNoScript text → (declared : KindTree) → IsDeclaredKind name file declared → IsRefusedText declared text diagnostics → IsRefused name file text diagnostics
+  has_error : ¬ IsNoScript text → (declared : KindTree) → IsDeclaredKind name file declared
+      → IsRefusedText declared text diagnostics → IsRefused name file text diagnostics
 
--- the program of a text handles each of its errors over each line that stands for an event of the kind, at every moment: it ends with a value, by an `abort`, by a call
--- with a `!` or by the limit of depth. The value, the variables and the event at each path are of the kinds that were judged
+-- the program of a text handles each of its errors over each line that stands for an event of the
+-- kind, at every moment: it ends with a value, by an `abort`, by a call with a `!` or by the limit
+-- of depth. The value, the variables and the event at each path are of the kinds that were judged
 abbrev pub RunsSoundly : KindTree → List ℕ → ProgramTree → Type 0
-RunsSoundly declared text program = (s : Script) → IsTextOf s text → (judgement : Judgement) → JudgesScript (language_rules s.patterns) declared s.items judgement
-    → (line : List ℕ) (event : Tree) → reading_of line ≡ whole event → Inhabits event declared → (moment : ℤ) → IsSoundlyEnded (ends_of judgement) (ended_over program moment event)
+RunsSoundly declared text program = (s : Script) → IsTextOf s text → (judgement : Judgement)
+    → JudgesScript (language_rules s.patterns) declared s.items judgement
+    → (line : List ℕ) (event : Tree) → reading_of line ≡ whole event → Inhabits event declared → (moment : ℤ)
+    → IsSoundlyEnded (ends_of judgement) (ended_over program moment event)
 
 -- so runs every script that is accepted
 abbrev pub AcceptedScriptsRunSoundly : Type 0
-AcceptedScriptsRunSoundly = (declared : KindTree) (text : List ℕ) (script : Script) (judgement : Judgement) (warnings : List Diagnostic) → IsAccepted declared text script judgement warnings
+AcceptedScriptsRunSoundly = (declared : KindTree) (text : List ℕ) (script : Script) (judgement : Judgement)
+    (warnings : List Diagnostic) → IsAccepted declared text script judgement warnings
     → RunsSoundly declared text (program_for script judgement)
 
 -- ---- the request
@@ -135,8 +145,10 @@ pub record IsRun (invocation : Invocation) (file : Option (List ℕ)) (text : Li
   pub program_is : run.program ≡ program_for script judgement
   pub options_are : run.options ≡ options_of invocation
 
--- the script of this text is accepted, and may end with these kinds: that of its value, at its end or at a return, and what is known there
-pub record IsKnown (invocation : Invocation) (file : Option (List ℕ)) (text : List ℕ) (warnings : List Diagnostic) (K : KindTree) (known : Known) : Type 0 where
+-- the script of this text is accepted, and may end with these kinds: that of its value, at its end
+-- or at a return, and what is known there
+pub record IsKnown (invocation : Invocation) (file : Option (List ℕ)) (text : List ℕ) (warnings : List Diagnostic)
+    (K : KindTree) (known : Known) : Type 0 where
   pub declared : KindTree
   pub is_declared : IsDeclaredKind invocation.kind file declared
   pub script : Script
@@ -147,28 +159,34 @@ pub record IsKnown (invocation : Invocation) (file : Option (List ℕ)) (text : 
   pub joined : IsJoined judgement.ok judgement.ret roots
   pub known_is : known ≡ known_as roots
 
--- What a call asks whose script has these bytes: whether the script is a text comes first, then whether the kind file has a kind, and then the script's diagnostics.
+-- What a call asks whose script has these bytes: whether the script is a text comes first, then
+-- whether the kind file has a kind, and then the script's diagnostics.
 abbrev pub AsksByScript : Invocation → Option (List ℕ) → List ℕ → Request → Type 0
 AsksByScript i file text bad_words = ⊥
 AsksByScript i file text (bad_kind fault) = ¬ IsNoScript text × IsKindRefused i.kind file fault
 AsksByScript i file text (bad_script told diagnostics) = (told ≡ text) × IsRefused i.kind file text diagnostics
 AsksByScript i file text (map_lines run) = (i.mode ≡ lines) × IsRun i file text run
 AsksByScript i file text (map_made run count seed) = (i.mode ≡ generate count seed) × IsRun i file text run
-AsksByScript i file text (tell_kinds told warnings K known) = (i.mode ≡ check) × (told ≡ text) × IsKnown i file text warnings K known
+AsksByScript i file text (tell_kinds told warnings K known) =
+    (i.mode ≡ check) × (told ≡ text) × IsKnown i file text warnings K known
 
--- what a call asks whose words mean this, or are refused, by its texts; without a script it asks nothing
+-- what a call asks whose words mean this, or are refused, by its texts; without a script it asks
+-- nothing
 abbrev pub Asks : Option Invocation → Texts → Request → Type 0
 Asks None texts request = request ≡ bad_words
 Asks (Some i) texts request = IsSomeAnd texts.script (λ text. AsksByScript i texts.kind_file text request)
 
 -- it asks to run a script, over lines that are read or made
 abbrev pub AsksToRun : Option Invocation → Texts → ScriptRun → Type 0
-AsksToRun invocation texts run = Asks invocation texts (map_lines run) ⊎ ((count : ℕ) × (seed : ℕ) × Asks invocation texts (map_made run count seed))
+AsksToRun invocation texts run =
+    Asks invocation texts (map_lines run) ⊎ ((count : ℕ) × (seed : ℕ) × Asks invocation texts (map_made run count seed))
 
--- a name has no bytes that is to be loaded: that of the script, or that of the kind file where the script is a text
+-- a name has no bytes that is to be loaded: that of the script, or that of the kind file where the
+-- script is a text
 pub data IsUnloaded (invocation : Invocation) (texts : Texts) : Type 0 where
   no_script : texts.script ≡ None → IsUnloaded invocation texts
-  no_kind_file : (name text : List ℕ) → invocation.kind ≡ Some name → texts.script ≡ Some text → ¬ IsNoScript text → texts.kind_file ≡ None → IsUnloaded invocation texts
+  no_kind_file : (name text : List ℕ) → invocation.kind ≡ Some name → texts.script ≡ Some text → ¬ IsNoScript text
+      → texts.kind_file ≡ None → IsUnloaded invocation texts
 
 -- lines are read
 abbrev pub ReadsLines : Option Invocation → Type 0

@@ -22,8 +22,8 @@ use vrl_run::{Options, Request, Script};
 use vrl_token::script_text;
 use vrl_value::{Bytes, Memory};
 
-// What is asked with the bytes of a script, and with those of the kind file, which aren't needed where the script is
-// no text. `Memory`: out of memory.
+// What is asked with the bytes of a script, and with those of the kind file, which aren't needed
+// where the script is no text. `Memory`: out of memory.
 pub(crate) fn asked(
     alloc: Global,
     invocation: &Invocation,
@@ -80,7 +80,8 @@ fn declared_kind(alloc: Global, file: &Option<Bytes>) -> Result<Kind, KindFault>
     }
 }
 
-// The kind of the events where no kind file says it: an object whose fields are any of JSON. `Memory`: out of memory.
+// The kind of the events where no kind file says it: an object whose fields are any of JSON.
+// `Memory`: out of memory.
 fn event_kind(alloc: Global) -> Result<Kind, Memory>
     ensures { IfOk result (λ kind. kind ≡ event_kind) }
 {
@@ -109,8 +110,8 @@ fn wants_memory(fault: &KindFault) -> bool
     matches!(fault, KindFault::Memory)
 }
 
-// What is asked with a script that is accepted: that it runs over the lines of the input or over made lines, or what
-// kinds it may end with. `Memory`: out of memory, for the kinds.
+// What is asked with a script that is accepted: that it runs over the lines of the input or over
+// made lines, or what kinds it may end with. `Memory`: out of memory, for the kinds.
 fn accepted_asked(
     alloc: Global,
     invocation: &Invocation,

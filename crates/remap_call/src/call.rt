@@ -22,10 +22,12 @@ use vrl_json::{json_needs_no_sources, lines_are_json, lines_are_ordered};
 use vrl_kindfile::files_have_one_answer;
 use vrl_run::{Status, answer};
 
-/// All that the program does: reads the words, which are those behind the program's name, loads the script and the kind file
-/// that they name, and runs the script over the lines of the input, or does what the words ask in place of that. Events, a summary or kinds go to `output`; diagnostics, and reports
-/// on lines, go to `report`. Lines are run batch by batch, each by at most as many workers as the words say, which pass the gate
-/// before each line; the results of a batch are written, in the order of its lines, before more is read.
+/// All that the program does: reads the words, which are those behind the program's name, loads the
+/// script and the kind file that they name, and runs the script over the lines of the input, or
+/// does what the words ask in place of that. Events, a summary or kinds go to `output`;
+/// diagnostics, and reports on lines, go to `report`. Lines are run batch by batch, each by at most
+/// as many workers as the words say, which pass the gate before each line; the results of a batch
+/// are written, in the order of its lines, before more is read.
 pub fn remap<R: Threads + Sync, F: Store, S: Source, O: Sink, E: Sink, C: Clock, G: Gate + Sync>(
     rt: &R,
     alloc: Global,
@@ -37,20 +39,25 @@ pub fn remap<R: Threads + Sync, F: Store, S: Source, O: Sink, E: Sink, C: Clock,
     clock: &mut C,
     gate: &G,
 ) -> Status
-    // What the call comes to, all of it told of the same bytes as those of its script and its kind file: what is written, asked, loaded and taken, and how the script runs.
-    ensures call { IsCall (F.held files.old) (words_mean (texts words.now)) (F.failures files.old) (F.failures files.new) result
+    // What the call comes to, all of it told of the same bytes as those of its script and its kind
+    // file: what is written, asked, loaded and taken, and how the script runs.
+    ensures call { IsCall (F.held files.old) (words_mean (texts words.now)) (F.failures files.old)
+        (F.failures files.new) result
         (devices (S.left input.old) (S.taken input.old) (S.ended input.old) (S.faults input.old) (C.ahead clock.old)
         (O.written output.old) (O.faults output.old) (E.written report.old) (E.faults report.old))
         (devices (S.left input.new) (S.taken input.new) (S.ended input.new) (S.faults input.new) (C.ahead clock.new)
         (O.written output.new) (O.faults output.new) (E.written report.new) (E.faults report.new))
         ((input.new ≡ input.old) × (clock.new ≡ clock.old)) }
-    // Every other text whose script is accepted would run so, too, over events of every kind that may be declared.
+    // Every other text whose script is accepted would run so, too, over events of every kind that
+    // may be declared.
     ensures sound { AcceptedScriptsRunSoundly }
 
-    // Where it is told that the words, the kind file or the script are refused, neither the input nor the clock was asked.
+    // Where it is told that the words, the kind file or the script are refused, neither the input
+    // nor the clock was asked.
     ensures unread { TellsRefusal result → (input.new ≡ input.old) × (clock.new ≡ clock.old) }
 
-    // ReadFault comes only where the script or the kind file could not be loaded or the input failed, WriteFault where the output or the report did.
+    // ReadFault comes only where the script or the kind file could not be loaded or the input
+    // failed, WriteFault where the output or the report did.
     ensures read_fault { result ≡ Status.ReadFault
         → ¬ (F.failures files.new ≡ F.failures files.old) ⊎ HasRisen (S.faults input.old) (S.faults input.new) }
     ensures write_fault { result ≡ Status.WriteFault
@@ -109,7 +116,8 @@ fn laws()
     json_needs_no_sources();
 }
 
-// Each script that is accepted handles each of its errors, over each event of the kind that is declared. This takes no time.
+// Each script that is accepted handles each of its errors, over each event of the kind that is
+// declared. This takes no time.
 fn accepted_run_soundly()
     ensures { AcceptedScriptsRunSoundly }
 {

@@ -25,8 +25,8 @@ pub(crate) struct Asked {
     pub(crate) jobs: u32,
 }
 
-// Reads the words, loads the script and the kind file that they name, and says what is asked. `Failed`: one of these
-// could not be loaded. `Memory`: out of memory.
+// Reads the words, loads the script and the kind file that they name, and says what is asked.
+// `Failed`: one of these could not be loaded. `Memory`: out of memory.
 pub(crate) fn ask<F: Store>(
     alloc: Global,
     words: &[String],
@@ -101,7 +101,8 @@ fn is_script(bytes: &[u8]) -> bool
     script_text(bytes).is_ok()
 }
 
-// The bytes of the kind file, if one is named. `Failed`: it could not be loaded. `Memory`: out of memory.
+// The bytes of the kind file, if one is named. `Failed`: it could not be loaded. `Memory`: out of
+// memory.
 fn load_kind<F: Store>(files: &mut F, name: Option<&str>) -> Result<Option<Bytes>, LoadFault>
     ensures file { IfOk result (λ file. IsFileOf (option_map (λ name. name.now) name.entry) file
         × IfSome (option_map (λ name. name.now) name.entry) (λ name. IsLoaded (F.held files.old) name file)) }

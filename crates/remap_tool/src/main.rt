@@ -1,6 +1,7 @@
 //! `remap SCRIPT < events.jsonl`: runs a script over lines of JSON.
 //!
-//! `main` hands the words and the real devices to `remap` of `remap_call`, and ends with the number of its status.
+//! `main` hands the words and the real devices to `remap` of `remap_call`, and ends with the number
+//! of its status.
 #![tactic(auto)]
 
 use remap_call::remap;

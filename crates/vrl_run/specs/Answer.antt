@@ -61,7 +61,8 @@ name_of (Name x) = x
 abbrev pub root_line : RootKind → List ℕ
 root_line root = kind_line (name_of root.root) root.kind
 
--- the kind of the value that a script ends with, and that of each root which is known there; where it ends with none, nothing is
+-- the kind of the value that a script ends with, and that of each root which is known there; where
+-- it ends with none, nothing is
 abbrev pub kind_lines : KindTree → Known → List ℕ
 kind_lines K Dead = codes "result never" ++ (10 ∷ (codes ". never" ++ 10 ∷ []))
 kind_lines K (Alive roots) = kind_line (codes "result") K ++ flat_map root_line roots
@@ -69,7 +70,8 @@ kind_lines K (Alive roots) = kind_line (codes "result") K ++ flat_map root_line 
 -- ---- the answer of a call
 
 abbrev pub usage_line : List ℕ
-usage_line = codes "usage: remap SCRIPT [--kind FILE] [--jobs N] [--drop-on-error] [--keep-on-abort] [--check] [--generate COUNT:SEED]" ++ 10 ∷ []
+usage_line = codes "usage: remap SCRIPT [--kind FILE] [--jobs N] [--drop-on-error] [--keep-on-abort] [--check]
+    [--generate COUNT:SEED]" ++ 10 ∷ []
 
 -- a refusal writes no event
 abbrev pub refusal : Status → List ℕ → Answer
@@ -88,16 +90,19 @@ warnings_of run = diagnostic_lines run.text run.warnings
 
 -- in place of the results their sum is told
 abbrev pub summed : List ℕ → List LineOut → Answer
-summed warnings results = record { status = status_if (is_marked results); output = summary_of results; report = warnings }
+summed warnings results =
+    record { status = status_if (is_marked results); output = summary_of results; report = warnings }
 
--- the answer to a request over this input, of which the lines that aren't blank are run at these moments, the first at the first
+-- the answer to a request over this input, of which the lines that aren't blank are run at these
+-- moments, the first at the first
 abbrev pub answer_to : Request → List ℕ → (ℕ → ℤ) → Answer
 answer_to bad_words input moments = refusal Usage usage_line
 answer_to (bad_kind fault) input moments = refusal KindRefused (text_of fault ++ 10 ∷ [])
 answer_to (bad_script text diagnostics) input moments = refusal Refused (diagnostic_lines text diagnostics)
 answer_to (map_lines run) input moments = mapped (warnings_of run) (line_results run moments input)
 answer_to (map_made run count seed) input moments = summed (warnings_of run) (made_results run count seed)
-answer_to (tell_kinds text warnings K known) input moments = record { status = Done; output = kind_lines K known; report = diagnostic_lines text warnings }
+answer_to (tell_kinds text warnings K known) input moments =
+    record { status = Done; output = kind_lines K known; report = diagnostic_lines text warnings }
 
 -- the same once so many lines were run
 abbrev pub answer_so_far : ℕ → Request → List ℕ → (ℕ → ℤ) → Answer

@@ -12,8 +12,8 @@ use Rattle.vrl_run.specs.Status.{IsAnswer, IsInterrupted, meaning_of}
 use Rattle.vrl_run.specs.declared.status.Status.{Status}
 use Rattle.vrl_run.specs.declared.status.Status.TheVariants.{ReadFault, TooMuch}
 
--- A call asks one of these requests, of an input with these bytes, at these moments, as far as the input and the clock
--- tell them.
+-- A call asks one of these requests, of an input with these bytes, at these moments, as far as the
+-- input and the clock tell them.
 pub record IsAsked (asks : Request → Type 0) (before : Devices) : Type 0 where
   pub request : Request
   pub asked : asks request
@@ -21,14 +21,15 @@ pub record IsAsked (asks : Request → Type 0) (before : Devices) : Type 0 where
   pub moments : ℕ → ℤ
   pub told : AreTold input moments before
 
--- The sinks hold the whole of the answer, and the status is its own. Where lines are read, they were to their end.
+-- The sinks hold the whole of the answer, and the status is its own. Where lines are read, they
+-- were to their end.
 pub record IsWhole (asks : Request → Type 0) (status : Status) (before after : Devices) : Type 0 where
   pub asked : IsAsked asks before
   pub holds : HoldsAnswer (answer_to asked.request asked.input asked.moments) status before after
   pub read : ReadsLines asked.request → IsReadToEnd asked.input asked.moments before after
 
--- The sinks hold a front of the answer. Where lines are read, it is that of the first of them, so many, which were run
--- at moments in the range.
+-- The sinks hold a front of the answer. Where lines are read, it is that of the first of them, so
+-- many, which were run at moments in the range.
 pub record IsFront (asks : Request → Type 0) (before after : Devices) : Type 0 where
   pub asked : IsAsked asks before
   pub ran : ℕ
@@ -40,9 +41,9 @@ pub record IsFront (asks : Request → Type 0) (before after : Devices) : Type 0
 abbrev pub whole_results : ScriptRun → (ℕ → ℤ) → List ℕ → List LineOut
 whole_results run moments input = map (result_of run) (lines_by moments (lines_in_whole (event_lines (ended_of input))))
 
--- A run over the lines of the input is cut off: of its bytes these were taken, and so many behind them. The sinks
--- hold the warnings and the results of the whole batches, and the clock told a moment for each line that has ended
--- and isn't blank.
+-- A run over the lines of the input is cut off: of its bytes these were taken, and so many behind
+-- them. The sinks hold the warnings and the results of the whole batches, and the clock told a
+-- moment for each line that has ended and isn't blank.
 pub record IsCutOff (asks : Request → Type 0) (more : ℕ) (before after : Devices) : Type 0 where
   pub run : ScriptRun
   pub asked : asks (map_lines run)
@@ -73,16 +74,18 @@ pub record LeavesDevices (asks : Request → Type 0) (status : Status) (before a
   -- and for no line of it the clock tells more than one moment
   pub clock : IsAskedAtMost before after
 
--- What is done of a call that asks one of these requests. `Unasked` says that neither the input nor the clock was
--- asked.
-pub record IsAnswered (asks : Request → Type 0) (status : Status) (before after : Devices) (Unasked : Type 0) : Type 0 where
+-- What is done of a call that asks one of these requests. `Unasked` says that neither the input nor
+-- the clock was asked.
+pub record IsAnswered (asks : Request → Type 0) (status : Status) (before after : Devices)
+    (Unasked : Type 0) : Type 0 where
   pub leaves : LeavesDevices asks status before after
   pub causes : HasCauses status before after
-  -- where the input fails, or has too many bytes, of which one was taken, the batches before that are written whole,
-  -- and no part of another
+  -- where the input fails, or has too many bytes, of which one was taken, the batches before that
+  -- are written whole, and no part of another
   pub read_cut : status ≡ ReadFault → IsCutOff asks 0 before after
   pub limit_cut : status ≡ TooMuch → IsCutOff asks 1 before after
-  -- the status is one that may come of what was asked, or a device failed or memory was wanted before that was known
+  -- the status is one that may come of what was asked, or a device failed or memory was wanted
+  -- before that was known
   pub came : IsInterrupted status ⊎ ((request : Request) × asks request × MayCome request status)
   -- the input and the clock are asked for a run over lines alone
   pub first : Unasked ⊎ ((run : ScriptRun) × asks (map_lines run))

@@ -1,5 +1,5 @@
--- What the devices of a call tell, before it and after it, by its status and by the bytes that are written. Nothing of
--- this speaks of a script.
+-- What the devices of a call tell, before it and after it, by its status and by the bytes that are
+-- written. Nothing of this speaks of a script.
 use Rattle.std.specs.Prelude.{◌≡◌, ℕ, ◌+◌, ◌<◌, ◌≤◌, Bool, true, false, List, ◌++◌, length, ℤ, Option, option_map, IfSome, IsTrue, ◌⊎◌}
 use Rattle.vrl_io.specs.Faults.{HasRisen}
 use Rattle.vrl_value.specs.Moment.{IsInRange}
@@ -16,8 +16,9 @@ pub record Answer : Type 0 where
   pub output : List ℕ
   pub report : List ℕ
 
--- What the devices of a call tell at a time: of the input what is left, how much was taken, whether it has ended, and how often it failed; of the clock the
--- moments to come; and of the sinks what they hold, and how often they failed.
+-- What the devices of a call tell at a time: of the input what is left, how much was taken, whether
+-- it has ended, and how often it failed; of the clock the moments to come; and of the sinks what
+-- they hold, and how often they failed.
 pub record Devices : Type 0 where
   pub left : Option (List ℕ)
   pub taken : ℕ
@@ -29,7 +30,8 @@ pub record Devices : Type 0 where
   pub report : Option (List ℕ)
   pub report_faults : ℕ
 
-abbrev pub devices : Option (List ℕ) → ℕ → Bool → ℕ → Option (ℕ → ℤ) → Option (List ℕ) → ℕ → Option (List ℕ) → ℕ → Devices
+abbrev pub devices : Option (List ℕ) → ℕ → Bool → ℕ → Option (ℕ → ℤ) → Option (List ℕ) → ℕ → Option (List ℕ) → ℕ
+    → Devices
 devices left taken ended read_faults ahead output output_faults report report_faults = record {
   left = left;
   taken = taken;
@@ -47,14 +49,16 @@ pub record AreTold (input : List ℕ) (moments : ℕ → ℤ) (before : Devices)
   pub is_left : IfSome before.left (λ bytes. bytes ≡ input)
   pub are_ahead : IfSome before.ahead (λ told. (i : ℕ) → told i ≡ moments i)
 
--- Of the input these bytes were taken, and the clock told at most one moment for each line of them that isn't blank.
+-- Of the input these bytes were taken, and the clock told at most one moment for each line of them
+-- that isn't blank.
 pub record IsAskedAtMost (before after : Devices) : Type 0 where
   pub taken : List ℕ
   pub is_left : before.left ≡ option_map (λ rest. taken ++ rest) after.left
   pub counted : after.taken ≡ before.taken + length taken
   pub clock : MovesAtMost before.ahead (length (event_lines taken)) after.ahead
 
--- Just the bytes of the input were taken, and it has said that it is at its end; the clock told a moment for each line that isn't blank, in the range of moments.
+-- Just the bytes of the input were taken, and it has said that it is at its end; the clock told a
+-- moment for each line that isn't blank, in the range of moments.
 pub record IsReadToEnd (input : List ℕ) (moments : ℕ → ℤ) (before after : Devices) : Type 0 where
   pub taken : after.taken ≡ before.taken + length input
   pub ended : IsTrue after.ended
@@ -84,12 +88,15 @@ IsNothing before after = (after.output ≡ before.output) × (after.report ≡ b
 abbrev pub IsWithinLimit : (too_long : Bool) → (before after : Devices) → Type 0
 IsWithinLimit false before after = after.taken ≤ before.taken + input_limit
 -- or one more was, and more than the limit stood there
-IsWithinLimit true before after = (after.taken ≡ before.taken + (input_limit + 1)) × IfSome before.left (λ bytes. input_limit < length bytes)
+IsWithinLimit true before after =
+    (after.taken ≡ before.taken + (input_limit + 1)) × IfSome before.left (λ bytes. input_limit < length bytes)
 
--- A fault of reading is told only where the input failed, and one of writing only where a sink failed; and a fault of
--- the input or of a sink is told.
+-- A fault of reading is told only where the input failed, and one of writing only where a sink
+-- failed; and a fault of the input or of a sink is told.
 pub record HasCauses (status : Status) (before after : Devices) : Type 0 where
   pub read : status ≡ ReadFault → HasRisen before.read_faults after.read_faults
-  pub write : status ≡ WriteFault → HasRisen before.output_faults after.output_faults ⊎ HasRisen before.report_faults after.report_faults
+  pub write : status ≡ WriteFault → HasRisen before.output_faults after.output_faults
+      ⊎ HasRisen before.report_faults after.report_faults
   pub read_told : (status ≡ ReadFault) ⊎ (after.read_faults ≡ before.read_faults)
-  pub write_told : (status ≡ WriteFault) ⊎ ((after.output_faults ≡ before.output_faults) × (after.report_faults ≡ before.report_faults))
+  pub write_told : (status ≡ WriteFault)
+      ⊎ ((after.output_faults ≡ before.output_faults) × (after.report_faults ≡ before.report_faults))

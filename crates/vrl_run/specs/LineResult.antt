@@ -33,8 +33,9 @@ abbrev pub kept_if : Bool → Tree → List Tree
 kept_if true t = t ∷ []
 kept_if false t = []
 
--- After a value, that of a `return` too, the event that the run left. Else the event as it was read, or nothing: an `abort` drops it, and an
--- error of a call with a `!` and the limit of depth keep it, unless the options say otherwise.
+-- After a value, that of a `return` too, the event that the run left. Else the event as it was
+-- read, or nothing: an `abort` drops it, and an error of a call with a `!` and the limit of depth
+-- keep it, unless the options say otherwise.
 abbrev pub kept_events : Options → Tree → End → Tree → List Tree
 kept_events options read (ended v) left = events_of left
 kept_events options read (ended_aborted message) left = kept_if options.keep_on_abort read
@@ -75,7 +76,13 @@ reason_text NotDeclared = codes "not of the declared kind"
 -- ---- the result
 
 abbrev pub refused_line : Reason → ℕ → LineOut
-refused_line reason number = record { output = []; report = report_line number (codes "refused: " ++ reason_text reason); kept = 0; outcome = outcome.Refused }
+refused_line reason number = record {
+  output = [];
+  report = report_line number
+      (codes "refused: " ++ reason_text reason);
+  kept = 0;
+  outcome = outcome.Refused;
+}
 
 abbrev pub outcome_of : End → Outcome
 outcome_of (ended v) = outcome.Fine
@@ -84,7 +91,8 @@ outcome_of (ended_banged text) = outcome.Errored
 outcome_of ended_deep = outcome.Errored
 outcome_of (unhandled text) = outcome.Fine
 
--- what comes of an event as it was read, by how the script ends over it, and by the event that it leaves
+-- what comes of an event as it was read, by how the script ends over it, and by the event that it
+-- leaves
 abbrev pub end_result : List (List ℕ) → Options → ℕ → Tree → End → Tree → LineOut
 end_result sources options number read end left = let kept = kept_events options read end left in record {
   output = flat_map (event_line sources) kept;
@@ -94,12 +102,15 @@ end_result sources options number read end left = let kept = kept_events options
 }
 
 abbrev pub event_result : List (List ℕ) → Options → ℕ → Tree → Ended → LineOut
-event_result sources options number read meant = end_result sources options number read (end_of meant.outcome) meant.store.event
+event_result sources options number read meant =
+    end_result sources options number read (end_of meant.outcome) meant.store.event
 
--- the result of a line that stands for this event: the program runs over one of the declared kind, and any other is refused
+-- the result of a line that stands for this event: the program runs over one of the declared kind,
+-- and any other is refused
 abbrev pub result_of_event : ProgramTree → KindTree → Options → Line → Tree → LineOut
 result_of_event program declared options line event =
-    if inhabits_tree event declared then event_result program.sources options line.number event (ended_over program line.moment event) else refused_line NotDeclared line.number
+    if inhabits_tree event declared then event_result program.sources options line.number event
+    (ended_over program line.moment event) else refused_line NotDeclared line.number
 
 -- the result of a line that is short enough
 abbrev pub result_of_reading : ProgramTree → KindTree → Options → Line → Reading → LineOut
@@ -107,11 +118,14 @@ result_of_reading program declared options line not_json = refused_line NotJson 
 result_of_reading program declared options line not_whole = refused_line NotWhole line.number
 result_of_reading program declared options line (whole event) = result_of_event program declared options line event
 
--- the result of a line, by the first of these that holds: it is too long; it is no JSON text; a number in it isn't whole; it is not of the
--- declared kind; the program ends over it
+-- the result of a line, by the first of these that holds: it is too long; it is no JSON text; a
+-- number in it isn't whole; it is not of the declared kind; the program ends over it
 abbrev pub result_of_line : ProgramTree → KindTree → Options → Line → LineOut
-result_of_line program declared options line = if line.long then refused_line TooLong line.number else result_of_reading program declared options line (reading_of line.bytes)
+result_of_line program declared options line = if line.long then refused_line TooLong line.number
+    else result_of_reading program declared options line (reading_of line.bytes)
 
--- over no event of the declared kind, at no moment, the program ends with an error that it doesn't handle
+-- over no event of the declared kind, at no moment, the program ends with an error that it doesn't
+-- handle
 abbrev pub HandlesErrors : KindTree → ProgramTree → Type 0
-HandlesErrors declared program = (moment : ℤ) (event : Tree) → Inhabits event declared → IsWellFormed (length program.sources) event → ¬ IsUnhandled (ended_over program moment event).outcome
+HandlesErrors declared program = (moment : ℤ) (event : Tree) → Inhabits event declared
+    → IsWellFormed (length program.sources) event → ¬ IsUnhandled (ended_over program moment event).outcome

@@ -13,7 +13,8 @@ use Rattle.vrl_run.specs.Request.{ScriptRun}
 use Rattle.vrl_run.specs.declared.status.Status.{Status}
 use Rattle.vrl_run.specs.declared.status.Status.TheVariants.{Memory, ReadFault, TooMuch, WriteFault}
 
--- what a run and its sinks tell at a time: what was read, what they hold, and whether a line was refused
+-- what a run and its sinks tell at a time: what was read, what they hold, and whether a line was
+-- refused
 pub record Run : Type 0 where
   pub stream : Stream
   pub output : Option (List ℕ)
@@ -48,7 +49,8 @@ pub record IsStill (before after : Run) : Type 0 where
   pub output : after.output ≡ before.output
   pub report : after.report ≡ before.report
 
--- one batch more was read, and a front of its results was written; of its reports nothing before all of its output
+-- one batch more was read, and a front of its results was written; of its reports nothing before
+-- all of its output
 pub record WritesFront (script : ScriptRun) (before after : Run) : Type 0 where
   pub batch : List Line
   pub read : ReadsBatch before.stream after.stream batch
@@ -58,10 +60,13 @@ pub record WritesFront (script : ScriptRun) (before after : Run) : Type 0 where
   pub order : Appends before.output after.output (outputs (map (result_of script) batch)) ⊎
       (after.report ≡ before.report)
 
--- the run stops with this status: the input failed or has too many bytes, a sink failed, or memory was wanted
+-- the run stops with this status: the input failed or has too many bytes, a sink failed, or memory
+-- was wanted
 abbrev pub StopsMapping : ScriptRun → (before after : Run) → Status → Type 0
-StopsMapping script before after ReadFault = StopsReading 0 before.stream after.stream × (after.stream.reader.taken ≤ input_limit) × IsStill before after
-StopsMapping script before after TooMuch = StopsReading 1 before.stream after.stream × (after.stream.reader.taken ≡ input_limit + 1) × IsStill before after
+StopsMapping script before after ReadFault =
+    StopsReading 0 before.stream after.stream × (after.stream.reader.taken ≤ input_limit) × IsStill before after
+StopsMapping script before after TooMuch =
+    StopsReading 1 before.stream after.stream × (after.stream.reader.taken ≡ input_limit + 1) × IsStill before after
 StopsMapping script before after Memory = (after.stream.reader.taken ≤ input_limit) × IsStill before after
 StopsMapping script before after WriteFault = WritesFront script before after
 StopsMapping script before after status = ⊥

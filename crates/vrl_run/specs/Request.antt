@@ -37,7 +37,8 @@ pub data Request : Type 0 where
   map_lines : ScriptRun → Request
   -- it runs over so many lines, which are made from this seed
   map_made : ScriptRun → ℕ → ℕ → Request
-  -- the kinds are told that a script may end with: its text, its warnings, the kind of its value, and what is known at its end
+  -- the kinds are told that a script may end with: its text, its warnings, the kind of its value,
+  -- and what is known at its end
   tell_kinds : List ℕ → List Diagnostic → KindTree → Known → Request
 
 -- this request, and no other
@@ -84,7 +85,8 @@ abbrev pub ReadsLines : Request → Type 0
 ReadsLines (map_lines run) = ⊤
 ReadsLines request = ⊥
 
--- The statuses that may come of a request: its own, or that a device failed or memory was wanted. Where lines are read there may be too many bytes.
+-- The statuses that may come of a request: its own, or that a device failed or memory was wanted.
+-- Where lines are read there may be too many bytes.
 abbrev pub MayCome : Request → Status → Type 0
 MayCome bad_words status = (status ≡ Usage) ⊎ IsInterrupted status
 MayCome (bad_kind fault) status = (status ≡ KindRefused) ⊎ IsInterrupted status

@@ -19,7 +19,8 @@ pub record IsTold (request : Request) (told : Told) : Type 0 where
   pub answers : IsAnswer told.status
 
 -- the answer was written whole, or a sink failed, or nothing was for want of memory
-pub record IsWritten (answer : Answer) (status : Status) (output output_after report report_after : Option (List ℕ)) : Type 0 where
+pub record IsWritten (answer : Answer) (status : Status)
+    (output output_after report report_after : Option (List ℕ)) : Type 0 where
   pub whole : IsAnswer status → Appends output output_after answer.output × Appends report report_after answer.report
   pub front : AppendsFront output output_after answer.output × AppendsFront report report_after answer.report
   -- of the report nothing is written before all of the output

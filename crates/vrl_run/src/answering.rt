@@ -26,9 +26,13 @@ use vrl_value::{Bytes, Memory};
 const USAGE_LINE: &str =
     "usage: remap SCRIPT [--kind FILE] [--jobs N] [--drop-on-error] [--keep-on-abort] [--check] [--generate COUNT:SEED]\n";
 
-/// Answers a request, with at most so many workers, 1 to 32, that pass the gate before each line. Words, a kind file and a script that are refused are reported. A script that runs over the lines of the input is run over each, at a moment of
-/// the clock, batch by batch: its events go to `output`, and its warnings and the reports on lines to `report`. Of one that runs over made lines, the summary goes to `output`, and the
-/// warnings to `report`, as do the kinds that a script may end with and its warnings. But for the lines of the input neither the input nor the clock is asked.
+/// Answers a request, with at most so many workers, 1 to 32, that pass the gate before each line.
+/// Words, a kind file and a script that are refused are reported. A script that runs over the lines
+/// of the input is run over each, at a moment of the clock, batch by batch: its events go to
+/// `output`, and its warnings and the reports on lines to `report`. Of one that runs over made
+/// lines, the summary goes to `output`, and the warnings to `report`, as do the kinds that a script
+/// may end with and its warnings. But for the lines of the input neither the input nor the clock is
+/// asked.
 pub fn answer<R: Threads + Sync, S: Source, O: Sink, E: Sink, C: Clock, G: Gate + Sync>(
     rt: &R,
     alloc: Global,

@@ -23,8 +23,8 @@ pub(crate) struct Kept {
     pub(crate) count: u64,
 }
 
-// The events that are kept after a run over the event of a line; the regexes are those of `sources`. `Memory`: out of
-// memory, for events that are kept.
+// The events that are kept after a run over the event of a line; the regexes are those of
+// `sources`. `Memory`: out of memory, for events that are kept.
 pub(crate) fn kept_events(
     alloc: Global,
     sources: &[Chars],
@@ -64,7 +64,8 @@ fn nothing(alloc: Global) -> Kept
     }
 }
 
-// The event that a run left; of an array its elements. `Memory`: out of memory, for what has an element.
+// The event that a run left; of an array its elements. `Memory`: out of memory, for what has an
+// element.
 fn kept_left(alloc: Global, sources: &[Chars], event: &Value) -> Result<Kept, Memory>
     requires { IsTrue (regexes_below (length sources.now) (tree_of event.now)) }
     ensures kept { IfOk result (AreLinesOf sources.now (events_of (tree_of event.now))) }
@@ -104,8 +105,8 @@ fn kept_items(alloc: Global, sources: &[Chars], events: &[Value]) -> Result<Kept
     })
 }
 
-// The event as it was read, if it is kept: the bytes of the line are read again. `Memory`: out of memory, for an
-// event that is kept.
+// The event as it was read, if it is kept: the bytes of the line are read again. `Memory`: out of
+// memory, for an event that is kept.
 fn kept_as_read(
     alloc: Global,
     sources: &[Chars],

@@ -20,7 +20,8 @@ pub(crate) fn kind_lines(alloc: Global, kind: &Kind, known: &Known) -> Result<Ve
 
 // The kind of the value, and then that of each root. `Memory`: want of memory.
 fn alive_lines(alloc: Global, kind: &Kind, roots: &[RootKind]) -> Result<Vec<u8>, Memory>
-    ensures { IfOk result (λ lines. lines.items ≡ spec.kind_line (codes "result") kind.now ++ flat_map spec.root_line roots.now) }
+    ensures { IfOk result
+        (λ lines. lines.items ≡ spec.kind_line (codes "result") kind.now ++ flat_map spec.root_line roots.now) }
 {
     let mut lines = kind_line(alloc, "result", kind)?;
     for root in roots {

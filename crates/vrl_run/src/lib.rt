@@ -1,10 +1,12 @@
-//! The result of a line: the script's run over the event that the line stands for, the events that are kept, and what is reported;
-//! and the answer to a request, over all lines of an input.
+//! The result of a line: the script's run over the event that the line stands for, the events that
+//! are kept, and what is reported; and the answer to a request, over all lines of an input.
 //!
-//! Files: `result.rt` has `run_line`, `kept.rt` the events that are kept, `report.rt` what is reported of a line, `reason.rt` why one is refused and
-//! `options.rt` what may be asked; `request.rt` has a request and `answering.rt` `answer`, over `mapping.rt`, a run over the lines of an input batch by batch, `made.rt`,
-//! one over made lines, `work.rt`, what is done with each line, `joining.rt`, results that are joined, `kinds.rt`, the kinds that are told, and `writing.rt`; `script.rt` has
-//! an accepted script, and `status.rt` how a call ends.
+//! Files: `result.rt` has `run_line`, `kept.rt` the events that are kept, `report.rt` what is
+//! reported of a line, `reason.rt` why one is refused and `options.rt` what may be asked;
+//! `request.rt` has a request and `answering.rt` `answer`, over `mapping.rt`, a run over the lines
+//! of an input batch by batch, `made.rt`, one over made lines, `work.rt`, what is done with each
+//! line, `joining.rt`, results that are joined, `kinds.rt`, the kinds that are told, and
+//! `writing.rt`; `script.rt` has an accepted script, and `status.rt` how a call ends.
 #![tactic(auto)]
 
 mod answering;

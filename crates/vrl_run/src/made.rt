@@ -20,7 +20,8 @@ pub(crate) struct Told {
     pub(crate) marked: bool,
 }
 
-// Runs a script over so many lines, which are made from a seed, batch by batch, and tells of their results. `Memory`: want of memory.
+// Runs a script over so many lines, which are made from a seed, batch by batch, and tells of their
+// results. `Memory`: want of memory.
 pub(crate) fn run_made<R: Threads + Sync, G: Gate + Sync>(
     rt: &R,
     alloc: Global,
@@ -33,7 +34,8 @@ pub(crate) fn run_made<R: Threads + Sync, G: Gate + Sync>(
     requires ready { IsReadyScript script.now }
     requires jobs { (1 ≤ jobs) × (jobs ≤ 32) }
     requires count { count ≤ 1000000 }
-    ensures summary { IfOk result (λ told. told.summary.items ≡ summary_of (made_results (run_of script.now) count seed)) }
+    ensures summary { IfOk result
+        (λ told. told.summary.items ≡ summary_of (made_results (run_of script.now) count seed)) }
     ensures marked { IfOk result (λ told. told.marked ≡ is_marked (made_results (run_of script.now) count seed)) }
 {
     let work = script.work();

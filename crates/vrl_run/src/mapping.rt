@@ -23,7 +23,8 @@ use vrl_batch::{
 use vrl_io::{Clock, Sink, Source};
 use vrl_value::Memory;
 
-/// Runs a script over the lines of the input, batch by batch: the results of each are written before more is read.
+/// Runs a script over the lines of the input, batch by batch: the results of each are written
+/// before more is read.
 pub(crate) fn map_lines<R: Threads + Sync, S: Source, O: Sink, E: Sink, C: Clock, G: Gate + Sync>(
     rt: &R,
     alloc: Global,
@@ -97,11 +98,15 @@ fn map_batches<R: Threads + Sync, S: Source, O: Sink, E: Sink, C: Clock, G: Gate
     requires jobs { (1 ≤ jobs) × (jobs ≤ 32) }
     requires fresh { lines.old ≡ record { bytes = record { held = []; next = 1; taken = 0 }; fault = None } }
     ensures ends { OnOk result (EndsMapping (run_of script.now)
-        (run_at (stream lines.old.bytes (S.left input.old) (S.taken input.old) (S.ended input.old) (C.ahead clock.old)) (O.written output.old) (E.written report.old) marked.old)
-        (run_at (stream lines.new.bytes (S.left input.new) (S.taken input.new) (S.ended input.new) (C.ahead clock.new)) (O.written output.new) (E.written report.new) marked.new)) }
+        (run_at (stream lines.old.bytes (S.left input.old) (S.taken input.old) (S.ended input.old) (C.ahead clock.old))
+        (O.written output.old) (E.written report.old) marked.old)
+        (run_at (stream lines.new.bytes (S.left input.new) (S.taken input.new) (S.ended input.new) (C.ahead clock.new))
+        (O.written output.new) (E.written report.new) marked.new)) }
     ensures stops { IfErr result (HasStopped (run_of script.now)
-        (run_at (stream lines.old.bytes (S.left input.old) (S.taken input.old) (S.ended input.old) (C.ahead clock.old)) (O.written output.old) (E.written report.old) marked.old)
-        (run_at (stream lines.new.bytes (S.left input.new) (S.taken input.new) (S.ended input.new) (C.ahead clock.new)) (O.written output.new) (E.written report.new) marked.new)) }
+        (run_at (stream lines.old.bytes (S.left input.old) (S.taken input.old) (S.ended input.old) (C.ahead clock.old))
+        (O.written output.old) (E.written report.old) marked.old)
+        (run_at (stream lines.new.bytes (S.left input.new) (S.taken input.new) (S.ended input.new) (C.ahead clock.new))
+        (O.written output.new) (E.written report.new) marked.new)) }
 
     // Why it stops.
     ensures read_fault { result ≡ Err Status.ReadFault → HasRisen (S.faults input.old) (S.faults input.new) }
@@ -144,12 +149,16 @@ fn map_next<R: Threads + Sync, S: Source, O: Sink, E: Sink, C: Clock, G: Gate + 
     requires jobs { (1 ≤ jobs) × (jobs ≤ 32) }
     requires fault { lines.old.fault ≡ None }
     ensures batch { IfOk result (λ more. (batch : List Line) × MapsBatch (run_of script.now)
-        (run_at (stream lines.old.bytes (S.left input.old) (S.taken input.old) (S.ended input.old) (C.ahead clock.old)) (O.written output.old) (E.written report.old) marked.old)
-        (run_at (stream lines.new.bytes (S.left input.new) (S.taken input.new) (S.ended input.new) (C.ahead clock.new)) (O.written output.new) (E.written report.new) marked.new)
+        (run_at (stream lines.old.bytes (S.left input.old) (S.taken input.old) (S.ended input.old) (C.ahead clock.old))
+        (O.written output.old) (E.written report.old) marked.old)
+        (run_at (stream lines.new.bytes (S.left input.new) (S.taken input.new) (S.ended input.new) (C.ahead clock.new))
+        (O.written output.new) (E.written report.new) marked.new)
         batch × TellsMore more batch) }
     ensures stops { IfErr result (StopsMapping (run_of script.now)
-        (run_at (stream lines.old.bytes (S.left input.old) (S.taken input.old) (S.ended input.old) (C.ahead clock.old)) (O.written output.old) (E.written report.old) marked.old)
-        (run_at (stream lines.new.bytes (S.left input.new) (S.taken input.new) (S.ended input.new) (C.ahead clock.new)) (O.written output.new) (E.written report.new) marked.new)) }
+        (run_at (stream lines.old.bytes (S.left input.old) (S.taken input.old) (S.ended input.old) (C.ahead clock.old))
+        (O.written output.old) (E.written report.old) marked.old)
+        (run_at (stream lines.new.bytes (S.left input.new) (S.taken input.new) (S.ended input.new) (C.ahead clock.new))
+        (O.written output.new) (E.written report.new) marked.new)) }
     ensures fault { OnOk result (lines.new.fault ≡ None) }
     ensures asks { AsksAtMost
         (stream lines.old.bytes (S.left input.old) (S.taken input.old) (S.ended input.old) (C.ahead clock.old))
@@ -211,7 +220,8 @@ fn write_results<O: Sink, E: Sink>(
     ensures order { Appends (O.written output.old) (O.written output.new) (outputs results.now)
         ⊎ (E.written report.new ≡ E.written report.old) }
     ensures none { results.now ≡ [] → IsOk result }
-    ensures memory { result ≡ Err Status.Memory → (O.written output.new ≡ O.written output.old) × (E.written report.new ≡ E.written report.old) }
+    ensures memory { result ≡ Err Status.Memory → (O.written output.new ≡ O.written output.old)
+        × (E.written report.new ≡ E.written report.old) }
     ensures either { IfErr result (λ status. (status ≡ Status.WriteFault) ⊎ (status ≡ Status.Memory)) }
     ensures cause { result ≡ Err Status.WriteFault
         → HasRisen (O.faults output.old) (O.faults output.new) ⊎ HasRisen (E.faults report.old) (E.faults report.new) }

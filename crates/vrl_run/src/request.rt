@@ -18,7 +18,7 @@ pub enum Request {
     Run(Script),
     /// The script runs over so many lines, at most 1,000,000, which are made from a seed.
     Generate(Script, u64, u64),
-    /// The kinds are told that the script of these bytes, with these warnings, may end with: that of its value, and
-    /// what is known then.
+    /// The kinds are told that the script of these bytes, with these warnings, may end with: that
+    /// of its value, and what is known then.
     Check(Bytes, Diagnostics, Kind, Known),
 }

@@ -28,11 +28,12 @@ use vrl_pattern::Searches;
 use vrl_resolve::{Ended, Program, Ran, run_measured};
 use vrl_value::{Bytes, Memory, Names, Value};
 
-/// Runs a program over the event that a line stands for. `_sources` are those of the program's regex literals, which
-/// `searches` tell too, and over no event of the declared kind does the program end with an error that it doesn't
-/// handle, as `vrl_compile` promises of each that it accepts. A line that is too long, is no JSON text or has a
-/// number that isn't whole, or whose value is not of the declared kind, is refused. `searches` are those of the
-/// program, and `scratch` is what reading needs; keep both from line to line. `Memory`: out of memory.
+/// Runs a program over the event that a line stands for. `_sources` are those of the program's
+/// regex literals, which `searches` tell too, and over no event of the declared kind does the
+/// program end with an error that it doesn't handle, as `vrl_compile` promises of each that it
+/// accepts. A line that is too long, is no JSON text or has a number that isn't whole, or whose
+/// value is not of the declared kind, is refused. `searches` are those of the program, and
+/// `scratch` is what reading needs; keep both from line to line. `Memory`: out of memory.
 pub fn run_line(
     alloc: Global,
     program: &Program,
@@ -65,7 +66,8 @@ pub fn run_line(
     run_event(alloc, program, searches, options, line, event, scratch)
 }
 
-// Whether the event of a line is of the declared kind. An object isn't walked where the kind takes each of JSON.
+// Whether the event of a line is of the declared kind. An object isn't walked where the kind takes
+// each of JSON.
 fn is_declared(event: &Value, declared: &Kind) -> bool
     requires json { IsTrue (is_json (tree_of event.now)) }
     ensures { IsTrue result ↔ Inhabits (tree_of event.now) declared.now }
@@ -78,7 +80,8 @@ fn is_declared(event: &Value, declared: &Kind) -> bool
     inhabits(event, declared)
 }
 
-// Whether the kind takes each object of JSON: no field is known by itself, and each may hold what JSON can.
+// Whether the kind takes each object of JSON: no field is known by itself, and each may hold what
+// JSON can.
 fn takes_json_objects(declared: &Kind) -> bool
     ensures { result ≡ takes_json_objects declared.now }
 {
@@ -98,7 +101,8 @@ fn is_json(rest: &Rest) -> bool
     matches!(rest, Rest::Json)
 }
 
-// Why a line is refused from which no value was read. `Memory`: that was for want of memory, and the line isn't refused.
+// Why a line is refused from which no value was read. `Memory`: that was for want of memory, and
+// the line isn't refused.
 fn reason_of(fault: JsonFault) -> Result<Reason, Memory>
     ensures { IsReasonOf fault result }
 {
@@ -154,7 +158,8 @@ fn run_event(
     ran_result(alloc, searches, options, line, &ran, scratch)
 }
 
-// What comes of a run over the event of a line. `Memory`: out of memory, for events that are kept, or for a report.
+// What comes of a run over the event of a line. `Memory`: out of memory, for events that are kept,
+// or for a report.
 fn ran_result(
     alloc: Global,
     searches: &Searches<'_>,

@@ -12,7 +12,8 @@ use vrl_pattern::Searches;
 use vrl_resolve::Program;
 use vrl_value::{Memory, Names};
 
-// What is done with each line: a script is run over it. Of all that is known of the script, just this is lent to the workers.
+// What is done with each line: a script is run over it. Of all that is known of the script, just
+// this is lent to the workers.
 #[derive(Drop)]
 pub(crate) struct LineWork<'a> {
     pub(crate) program: &'a Program,

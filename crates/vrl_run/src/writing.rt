@@ -27,7 +27,8 @@ pub(crate) fn write_told<O: Sink, E: Sink>(
 ) -> Status
     requires { IfOk told.now (λ told. IsAnswer told.status) }
     ensures written { (request : Request) → IfOk told.now (IsTold request) → (input : List ℕ) (moments : ℕ → ℤ)
-        → IsWritten (answer_to request input moments) result (O.written output.old) (O.written output.new) (E.written report.old) (E.written report.new) }
+        → IsWritten (answer_to request input moments) result (O.written output.old) (O.written output.new)
+        (E.written report.old) (E.written report.new) }
     ensures cause { result ≡ Status.WriteFault
         → HasRisen (O.faults output.old) (O.faults output.new)
         ⊎ HasRisen (E.faults report.old) (E.faults report.new) }
