@@ -70,8 +70,9 @@ kind_lines K (Alive roots) = kind_line (codes "result") K ++ flat_map root_line 
 -- ---- the answer of a call
 
 abbrev pub usage_line : List ℕ
-usage_line = codes "usage: remap SCRIPT [--kind FILE] [--jobs N] [--drop-on-error] [--keep-on-abort] [--check]
-    [--generate COUNT:SEED]" ++ 10 ∷ []
+usage_line =
+    codes "usage: remap SCRIPT [--kind FILE] [--jobs N] [--drop-on-error] [--keep-on-abort] [--check] [--generate COUNT:SEED]"
+    ++ 10 ∷ []
 
 -- a refusal writes no event
 abbrev pub refusal : Status → List ℕ → Answer
