@@ -1,12 +1,13 @@
 -- What is asked with the bytes of a script and of a kind file.
-use Rattle.std.proofs.Common.{◌≡◌, ◌≢◌, ℕ, List, Option, Some, None, Result, Ok, Err, refl, sym, ap, subst}
-use Rattle.std.specs.Prelude.{IfErr, IfOk}
+use Rattle.std.proofs.Common.{◌≡◌, ◌≢◌, ◌≤◌, ℕ, List, Option, Some, None, Result, Ok, Err, arith, inl, inr, length, refl, sym, ap, subst}
+use Rattle.std.specs.Prelude.{IfErr, IfOk, IsUtf8}
 use Rattle.vrl_value.specs.declared.memory.Memory.{Memory}
 use Rattle.vrl_diag.specs.declared.diagnostic.Diagnostic.{Diagnostic}
 use Rattle.vrl_kind.specs.KindTree.{KindTree}
 use Rattle.vrl_kindfile.specs.Files.{IsDeclared, IsRefused as IsFileRefused}
 use Rattle.vrl_kindfile.specs.declared.fault.KindFault.{KindFault}
 use Rattle.vrl_kindfile.specs.declared.fault.KindFault.TheVariants as fault
+use Rattle.vrl_token.specs.Placing.{script_limit}
 use Rattle.vrl_token.specs.Reading.{IsNoScript}
 use Rattle.vrl_check.specs.Answer.{IsEnding}
 use Rattle.vrl_check.specs.declared.judged.Ending.{Ending}
@@ -19,6 +20,13 @@ use Rattle.remap_words.specs.Words.{Invocation, check}
 use Rattle.remap_call.specs.Loading.{IsFileOf}
 use Rattle.remap_call.specs.Request.{AsksByScript, IsDeclaredKind, IsKindRefused, event_kind, has_error, no_script_request, no_text}
 use Rattle.remap_call.proofs.Accepting.{known_as_told}
+
+-- ---- the text
+
+-- what keeps the limit and is UTF-8 is the text of a script
+pub read_is_text : (text : List ℕ) → (length text ≤ script_limit) × IsUtf8 text → ¬ IsNoScript text
+read_is_text text fits (inl large) = let within = fits.0 in omega (arith, large, within)
+read_is_text text fits (inr other) = other fits.1
 
 -- ---- the declared kind
 

@@ -3,7 +3,7 @@ use Rattle.vrl_token.specs.Reading.{IsNoScript}
 use Rattle.vrl_compile.specs.Answer.{IsAnswer, IsRefused}
 use Rattle.remap_words.specs.View.{invocation_of}
 use Rattle.remap_call.proofs.Accepting.{declared_is_present}
-use Rattle.remap_call.proofs.Requests.{accepted_asked, kind_asked, no_text_asked, refused_asked}
+use Rattle.remap_call.proofs.Requests.{accepted_asked, kind_asked, no_text_asked, read_is_text, refused_asked}
 use Rattle.remap_call.proofs.asking.asked.Goals as goal
 
 pub returns-in-Err : goal.returns-in-Err
@@ -43,6 +43,7 @@ pub returns-clause-asks : goal.returns-clause-asks
 returns-clause-asks c =
     let i = invocation_of c.args.invocation.now in
     let declared = c.in-Ok-declared_kind.declared in
-    let is_text : ¬ IsNoScript c.args.script = search (rules, c.in-Ok.ensures, c.in-Ok.is, c.as_slice.ensures) in
+    let same = c.in-Ok.ensures.text ∙ c.as_slice.ensures in
+    let is_text = subst (λ text. ¬ IsNoScript text) same (read_is_text c.in-Ok.text.now c.in-Ok.ensures.ok) in
     let of_kind = c.in-Ok-declared_kind.ensures.kind i.kind (c.requires.file is_text) in
     accepted_asked i c.args.file c.args.script declared c.accepted_asked.result is_text of_kind c.accepted_asked.ensures.asks
