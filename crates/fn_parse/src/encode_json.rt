@@ -56,7 +56,7 @@ impl OneTag for EncodeJson {
         arguments: &Arguments<'_>,
         setting: &Setting<'_, '_>,
     ) -> Applied {
-        let sources = setting.patterns.sources();
+        let sources = setting.searches.sources();
         Applied::text(json_text(alloc, arguments.value(0), sources))
     }
 

@@ -185,7 +185,7 @@ impl OneTag for EncodeKeyValue {
         arguments: &Arguments<'_>,
         setting: &Setting<'_, '_>,
     ) -> Applied {
-        Applied::text(given_text(alloc, arguments, setting.patterns.sources()))
+        Applied::text(given_text(alloc, arguments, setting.searches.sources()))
     }
 
     ghost one_tag = { λ _. encode_key_value-law };

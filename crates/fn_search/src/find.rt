@@ -50,18 +50,18 @@ fn text_place(part: &str, text: &str) -> Option<usize>
 // memory to search for a regex.
 fn first_place(
     alloc: Global,
-    patterns: &Searches<'_>,
+    searches: &Searches<'_>,
     text: &str,
     pattern: &Value,
 ) -> Result<Option<usize>, Memory>
-    requires { IsTrue (regexes_below (length patterns.now) (tree_of pattern.now)) }
-    ensures place { IfOk result (λ place. place ≡ first_place patterns.now text.now (tree_of pattern.now)) }
+    requires { IsTrue (regexes_below (length searches.now) (tree_of pattern.now)) }
+    ensures place { IfOk result (λ place. place ≡ first_place searches.now text.now (tree_of pattern.now)) }
     ensures within { IfOk result (λ place. IfSome place (λ n. n ≤ length text.now)) }
     ensures memory { IsErr result → IsTrue (is_regex (tree_of pattern.now)) }
 {
     match pattern {
         Value::Text(part) => Ok(text_place(part.as_str(), text)),
-        Value::Pattern(number) => match patterns.find(alloc, *number, text)? {
+        Value::Pattern(number) => match searches.find(alloc, *number, text)? {
             Some(place) => Ok(Some(place.start)),
             None => Ok(None),
         },
@@ -100,19 +100,19 @@ fn number_of(place: Option<usize>, start: usize) -> Value
 // regex.
 fn place_behind(
     alloc: Global,
-    patterns: &Searches<'_>,
+    searches: &Searches<'_>,
     left: &str,
     pattern: &Value,
     start: usize,
 ) -> Result<Value, Memory>
-    requires regexes { IsTrue (regexes_below (length patterns.now) (tree_of pattern.now)) }
+    requires regexes { IsTrue (regexes_below (length searches.now) (tree_of pattern.now)) }
     requires small { start + length left.now < 2 ^ 63 }
     ensures value { (text : List ℕ) → start ≤ length text → left.now ≡ drop start text
         → IfOk result
-        (λ value. tree_of value ≡ number_or_null (place_from patterns.now text (tree_of pattern.now) (pos start))) }
+        (λ value. tree_of value ≡ number_or_null (place_from searches.now text (tree_of pattern.now) (pos start))) }
     ensures memory { IsErr result → IsTrue (is_regex (tree_of pattern.now)) }
 {
-    let place = first_place(alloc, patterns, left, pattern)?;
+    let place = first_place(alloc, searches, left, pattern)?;
     Ok(number_of(place, start))
 }
 
@@ -120,19 +120,19 @@ fn place_behind(
 // to search for a regex.
 fn place_from(
     alloc: Global,
-    patterns: &Searches<'_>,
+    searches: &Searches<'_>,
     text: &str,
     pattern: &Value,
     from: i64,
 ) -> Result<Value, Memory>
-    requires { IsTrue (regexes_below (length patterns.now) (tree_of pattern.now)) }
+    requires { IsTrue (regexes_below (length searches.now) (tree_of pattern.now)) }
     ensures value { IfOk result
-        (λ value. tree_of value ≡ number_or_null (place_from patterns.now text.now (tree_of pattern.now) from)) }
+        (λ value. tree_of value ≡ number_or_null (place_from searches.now text.now (tree_of pattern.now) from)) }
     ensures memory { IsErr result → IsTrue (is_regex (tree_of pattern.now)) }
 {
     let _length = length_of(text);
     match left_from(text, from) {
-        Some((start, left)) => place_behind(alloc, patterns, left, pattern, start),
+        Some((start, left)) => place_behind(alloc, searches, left, pattern, start),
         None => Ok(Value::Null),
     }
 }
@@ -174,7 +174,7 @@ impl Builtin for Find {
         setting: &Setting<'_, '_>,
     ) -> Applied {
         let (text, from) = (arguments.text(0, ""), arguments.integer(2, 0));
-        match place_from(alloc, setting.patterns, text, arguments.value(1), from) {
+        match place_from(alloc, setting.searches, text, arguments.value(1), from) {
             Ok(place) => Applied::Value(place),
             Err(_memory) => Applied::Memory,
         }

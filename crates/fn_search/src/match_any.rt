@@ -33,16 +33,16 @@ static PARAMETERS: [Parameter; 2] = [
 // memory.
 fn some_matches(
     alloc: Global,
-    patterns: &Searches<'_>,
+    searches: &Searches<'_>,
     text: &str,
     items: &[Value],
 ) -> Result<bool, Memory>
-    requires { IsTrue (items_regexes_below (length patterns.now) (items_view items.now)) }
-    ensures { IfOk result (λ found. found ≡ some_matches patterns.now text.now (items_view items.now)) }
+    requires { IsTrue (items_regexes_below (length searches.now) (items_view items.now)) }
+    ensures { IfOk result (λ found. found ≡ some_matches searches.now text.now (items_view items.now)) }
 {
     let mut left = items;
     while let Some((first, others)) = left.split_first() {
-        if is_match(alloc, patterns, text, first)? {
+        if is_match(alloc, searches, text, first)? {
             return Ok(true);
         }
         left = others;
@@ -51,14 +51,14 @@ fn some_matches(
 }
 
 // What the function answers to this text and these parts.
-fn answer(alloc: Global, patterns: &Searches<'_>, text: &str, items: &[Value]) -> Applied
-    requires { IsTrue (items_regexes_below (length patterns.now) (items_view items.now)) }
+fn answer(alloc: Global, searches: &Searches<'_>, text: &str, items: &[Value]) -> Applied
+    requires { IsTrue (items_regexes_below (length searches.now) (items_view items.now)) }
     ensures { Applies (is_none (first_other regexes (items_view items.now)))
-        (named (codes "match_any") (match_any_answer patterns.now text.now (items_view items.now))) result }
+        (named (codes "match_any") (match_any_answer searches.now text.now (items_view items.now))) result }
 {
     match first_other(items, &Tags::REGEX) {
         Some((place, tag)) => fail_at_element("match_any", place, tag),
-        None => Applied::boolean(some_matches(alloc, patterns, text, items)),
+        None => Applied::boolean(some_matches(alloc, searches, text, items)),
     }
 }
 
@@ -90,7 +90,7 @@ impl OneTag for MatchAny {
         setting: &Setting<'_, '_>,
     ) -> Applied {
         let text = arguments.text(0, "");
-        answer(alloc, setting.patterns, text, arguments.items(1))
+        answer(alloc, setting.searches, text, arguments.items(1))
     }
 
     ghost one_tag = { λ _. match_any-law };

@@ -45,7 +45,7 @@ impl OneTag for Match {
         setting: &Setting<'_, '_>,
     ) -> Applied {
         let text = arguments.text(0, "");
-        Applied::boolean(is_match(alloc, setting.patterns, text, arguments.value(1)))
+        Applied::boolean(is_match(alloc, setting.searches, text, arguments.value(1)))
     }
 
     ghost one_tag = { λ _. match-law };

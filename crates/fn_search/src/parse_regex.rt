@@ -124,19 +124,19 @@ fn objects(
 // The objects of the first so many matches of a regex. `Memory`: want of memory.
 fn objects_of(
     alloc: Global,
-    patterns: &Searches<'_>,
+    searches: &Searches<'_>,
     number: u32,
     numbered: bool,
     text: &str,
     most: u64,
 ) -> Result<Vec<Value>, Memory>
-    requires { number < length patterns.now }
+    requires { number < length searches.now }
     ensures { IfOk result
-        (λ objects. map tree_of objects.items ≡ map (match_object (source_at number patterns.now) numbered text.now)
-        (take most (all_matches (source_at number patterns.now) text.now))) }
+        (λ objects. map tree_of objects.items ≡ map (match_object (source_at number searches.now) numbered text.now)
+        (take most (all_matches (source_at number searches.now) text.now))) }
 {
-    let names = patterns.names(alloc, number)?;
-    let matches = patterns.groups(alloc, number, text, most)?;
+    let names = searches.names(alloc, number)?;
+    let matches = searches.groups(alloc, number, text, most)?;
     objects(alloc, names.as_slice(), numbered, text, matches.as_slice())
 }
 
@@ -160,16 +160,16 @@ fn answer_of_first(objects: Result<Vec<Value>, Memory>) -> Applied
 // What is answered of the first match.
 fn parsed(
     alloc: Global,
-    patterns: &Searches<'_>,
+    searches: &Searches<'_>,
     pattern: Option<u32>,
     numbered: bool,
     text: &str,
 ) -> Applied
-    requires { IfSome pattern (λ n. n < length patterns.now) }
-    ensures { Applies true (named (codes "parse_regex") (parsed patterns.now pattern numbered text.now)) result }
+    requires { IfSome pattern (λ n. n < length searches.now) }
+    ensures { Applies true (named (codes "parse_regex") (parsed searches.now pattern numbered text.now)) result }
 {
     match pattern {
-        Some(number) => { answer_of_first(objects_of(alloc, patterns, number, numbered, text, 1)) }
+        Some(number) => { answer_of_first(objects_of(alloc, searches, number, numbered, text, 1)) }
         None => fail("parse_regex", "no match"),
     }
 }
@@ -177,18 +177,18 @@ fn parsed(
 // What is answered of all matches. `Memory`: want of memory.
 fn all_parsed(
     alloc: Global,
-    patterns: &Searches<'_>,
+    searches: &Searches<'_>,
     pattern: Option<u32>,
     numbered: bool,
     text: &str,
 ) -> Result<Value, Memory>
-    requires { IfSome pattern (λ n. n < length patterns.now) }
-    ensures { IfOk result (λ value. tree_of value ≡ all_parsed patterns.now pattern numbered text.now) }
+    requires { IfSome pattern (λ n. n < length searches.now) }
+    ensures { IfOk result (λ value. tree_of value ≡ all_parsed searches.now pattern numbered text.now) }
 {
     let _length = length_of(text);
     match pattern {
         Some(number) => {
-            let objects = objects_of(alloc, patterns, number, numbered, text, u64::MAX)?;
+            let objects = objects_of(alloc, searches, number, numbered, text, u64::MAX)?;
             Ok(Value::List(Items::new(objects)))
         }
         None => Ok(Value::List(Items::new(Vec::new(alloc)))),
@@ -233,7 +233,7 @@ impl Builtin for ParseRegex {
     ) -> Applied {
         let (text, numbered) = (arguments.text(0, ""), arguments.boolean(2, false));
         let pattern = arguments.optional_regex(1);
-        parsed(alloc, setting.patterns, pattern, numbered, text)
+        parsed(alloc, setting.searches, pattern, numbered, text)
     }
 
     ghost law = { λ _. parse_regex-law };
@@ -278,7 +278,7 @@ impl Builtin for ParseRegexAll {
     ) -> Applied {
         let (text, numbered) = (arguments.text(0, ""), arguments.boolean(2, false));
         let pattern = arguments.optional_regex(1);
-        Applied::value(all_parsed(alloc, setting.patterns, pattern, numbered, text))
+        Applied::value(all_parsed(alloc, setting.searches, pattern, numbered, text))
     }
 
     ghost law = { λ _. parse_regex_all-law };

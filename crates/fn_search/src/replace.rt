@@ -53,18 +53,18 @@ fn cuts_of(text: &str, count: Option<u64>) -> usize
 // memory.
 fn replace_by(
     alloc: Global,
-    patterns: &Searches<'_>,
+    searches: &Searches<'_>,
     text: &str,
     pattern: &Value,
     with: &str,
     count: Option<u64>,
 ) -> Result<Chars, Memory>
-    requires { IsTrue (regexes_below (length patterns.now) (tree_of pattern.now)) }
-    ensures { IfOk result (λ changed. changed ≡ replace_by patterns.now text.now (tree_of pattern.now) with.now count) }
+    requires { IsTrue (regexes_below (length searches.now) (tree_of pattern.now)) }
+    ensures { IfOk result (λ changed. changed ≡ replace_by searches.now text.now (tree_of pattern.now) with.now count) }
 {
     match pattern {
         Value::Text(part) => swapped(alloc, part.as_str(), with, cuts_of(text, count), text),
-        Value::Pattern(number) => patterns.replace(alloc, *number, text, with, count),
+        Value::Pattern(number) => searches.replace(alloc, *number, text, with, count),
         _ => Chars::copy_of(alloc, text),
     }
 }
@@ -98,7 +98,7 @@ impl OneTag for Replace {
         let count = count_of(arguments.integer(3, -1));
         Applied::text(replace_by(
             alloc,
-            setting.patterns,
+            setting.searches,
             text,
             arguments.value(1),
             with,

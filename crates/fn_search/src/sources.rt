@@ -10,15 +10,15 @@ use vrl_value::{Memory, Value};
 /// Whether the value is a regex that matches somewhere in the text. `Memory`: want of memory.
 pub(crate) fn is_match(
     alloc: Global,
-    patterns: &Searches<'_>,
+    searches: &Searches<'_>,
     text: &str,
     value: &Value,
 ) -> Result<bool, Memory>
-    requires { IsTrue (regexes_below (length patterns.now) (tree_of value.now)) }
-    ensures { IfOk result (λ found. found ≡ is_match patterns.now text.now (tree_of value.now)) }
+    requires { IsTrue (regexes_below (length searches.now) (tree_of value.now)) }
+    ensures { IfOk result (λ found. found ≡ is_match searches.now text.now (tree_of value.now)) }
 {
     match value {
-        Value::Pattern(number) => Ok(patterns.find(alloc, *number, text)?.is_some()),
+        Value::Pattern(number) => Ok(searches.find(alloc, *number, text)?.is_some()),
         _ => Ok(false),
     }
 }

@@ -45,20 +45,20 @@ fn most_parts(limit: Option<i64>, text: &str) -> usize
 // memory.
 fn split_by(
     alloc: Global,
-    patterns: &Searches<'_>,
+    searches: &Searches<'_>,
     text: &str,
     pattern: &Value,
     most: usize,
 ) -> Result<Items, Memory>
-    requires regexes { IsTrue (regexes_below (length patterns.now) (tree_of pattern.now)) }
+    requires regexes { IsTrue (regexes_below (length searches.now) (tree_of pattern.now)) }
     requires some { 1 ≤ most }
     ensures { IfOk result
         (λ parts. items_of parts ≡ items_of_trees
-        (map string (split_by patterns.now text.now (tree_of pattern.now) most))) }
+        (map string (split_by searches.now text.now (tree_of pattern.now) most))) }
 {
     match pattern {
         Value::Text(part) => Ok(Items::new(parts_between(alloc, part.as_str(), most - 1, text)?)),
-        Value::Pattern(number) => patterns.split(alloc, *number, text, most as u64),
+        Value::Pattern(number) => searches.split(alloc, *number, text, most as u64),
         _ => Ok(Items::new(Vec::new(alloc))),
     }
 }
@@ -66,19 +66,19 @@ fn split_by(
 // The same as a value. `Memory`: want of memory.
 fn parts(
     alloc: Global,
-    patterns: &Searches<'_>,
+    searches: &Searches<'_>,
     text: &str,
     pattern: &Value,
     limit: Option<i64>,
 ) -> Result<Value, Memory>
-    requires { IsTrue (regexes_below (length patterns.now) (tree_of pattern.now)) }
+    requires { IsTrue (regexes_below (length searches.now) (tree_of pattern.now)) }
     ensures { IfOk result
         (λ value. tree_of value ≡ array
         (items_of_trees
-        (map string (split_by patterns.now text.now (tree_of pattern.now) (most_parts limit text.now))))) }
+        (map string (split_by searches.now text.now (tree_of pattern.now) (most_parts limit text.now))))) }
 {
     let most = most_parts(limit, text);
-    Ok(Value::List(split_by(alloc, patterns, text, pattern, most)?))
+    Ok(Value::List(split_by(alloc, searches, text, pattern, most)?))
 }
 
 impl Builtin for Split {
@@ -116,7 +116,7 @@ impl Builtin for Split {
         setting: &Setting<'_, '_>,
     ) -> Applied {
         let (text, limit) = (arguments.text(0, ""), arguments.optional_integer(2));
-        Applied::value(parts(alloc, setting.patterns, text, arguments.value(1), limit))
+        Applied::value(parts(alloc, setting.searches, text, arguments.value(1), limit))
     }
 
     ghost law = { λ _. split-law };

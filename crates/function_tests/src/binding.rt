@@ -1,5 +1,5 @@
-// How the arguments of a call are bound to the parameters of a function, or of a form that runs a closure. What is expected is worked out from the
-// parameters in the manual.
+// How the arguments of a call are bound to the parameters of a function, or of a form that runs a
+// closure. What is expected is worked out from the parameters in the manual.
 use std::alloc::Global;
 use std::process::Abort;
 use vrl_binding::{BindFault, Bound, bind_to, collection_parameters, collections};
@@ -45,7 +45,8 @@ fn is_place(place: Option<usize>, wanted: char) -> bool {
     }
 }
 
-// Whether these are the places of a text: for each parameter that of its argument, a digit, or `-` where it has none.
+// Whether these are the places of a text: for each parameter that of its argument, a digit, or `-`
+// where it has none.
 fn are_places(places: &[Option<usize>], wanted: &str) -> bool {
     let mut left = places;
     for digit in wanted.chars() {
@@ -83,7 +84,8 @@ fn is_wanted(bound: Result<Bound, BindFault>, wanted: &str) -> Result<bool, Memo
     }
 }
 
-// Whether this comes of binding to the parameters of a function, and to those of its entry in the table; or to those of a form.
+// Whether this comes of binding to the parameters of a function, and to those of its entry in the
+// table; or to those of a form.
 fn is_bound_to(alloc: Global, name: &str, arguments: &Args, wanted: &str) -> Result<bool, Memory> {
     if let Some(function) = lookup(name) {
         let is_given = is_wanted(bind_to(alloc, parameters(function), arguments), wanted)?;
@@ -104,7 +106,8 @@ fn is_bound(alloc: Global, name: &str, keywords: &str, wanted: &str) -> Result<b
     is_bound_to(alloc, name, &arguments, wanted)
 }
 
-// Rows of a function's name, the keywords of the arguments, and what comes of binding them: places, or `number`, or `unknown ` or `missing ` and a place.
+// Rows of a function's name, the keywords of the arguments, and what comes of binding them: places,
+// or `number`, or `unknown ` or `missing ` and a place.
 fn expect_bound(rt: &impl Abort, alloc: Global, rows: &[(&str, &str, &str)]) -> Result<(), Memory> {
     for (name, keywords, wanted) in rows {
         let is_so = is_bound(alloc, name, keywords, wanted)?;

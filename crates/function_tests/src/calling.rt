@@ -1,4 +1,5 @@
-// What every test here uses: values of texts, calls of a function by its name, and the tags that a kind allows.
+// What every test here uses: values of texts, calls of a function by its name, and the tags that a
+// kind allows.
 ghost use Rattle.std.specs.Prelude.{◌≡◌, length, map, option_map, IfOk, IsTrue};
 ghost use Rattle.vrl_builtin.specs.Conditions.{arguments_below, below_if, literals_below, AreGiven};
 ghost use Rattle.vrl_builtin.specs.View.{arguments_of, given_tree, givens_of};
@@ -140,7 +141,7 @@ fn answers(alloc: Global, function: Fun, arguments: &str, wanted: &str) -> Resul
     let searches = Searches::new(&patterns);
     let setting = Setting {
         moment: Moment::epoch(),
-        patterns: &searches,
+        searches: &searches,
     };
     is_answer(alloc, apply(alloc, function, &arguments, &setting), wanted)
 }
@@ -196,7 +197,8 @@ fn is_judged(
     Ok(told.as_str() == kind && may_fail(function, &given) == fails)
 }
 
-// Rows of a function's name, what is known of its arguments, the kind of its result, and whether it may fail.
+// Rows of a function's name, what is known of its arguments, the kind of its result, and whether it
+// may fail.
 pub(crate) fn expect_judged(
     rt: &impl Abort,
     alloc: Global,

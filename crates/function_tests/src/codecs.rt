@@ -1,4 +1,5 @@
-// The functions of codes and digests. The expected answers are those of RFC 4648, RFC 3986, RFC 1321, RFC 3174 and FIPS 180-4.
+// The functions of codes and digests. The expected answers are those of RFC 4648, RFC 3986, RFC
+// 1321, RFC 3174 and FIPS 180-4.
 use crate::calling::{expect_answers, expect_judged};
 use vrl_value::Memory;
 

@@ -1,4 +1,5 @@
-// Whether a call may be made: a function's contract asks it of its callers, and the rows here are only known when they run.
+// Whether a call may be made: a function's contract asks it of its callers, and the rows here are
+// only known when they run.
 ghost use Rattle.std.specs.Prelude.{map, option_map, IsTrue, ℕ, Bool};
 ghost use Rattle.vrl_builtin.specs.Conditions.{AreArgumentsFrom, AreGivenFrom, IsArgument, IsGiven};
 ghost use Rattle.vrl_builtin.specs.View.{arguments_of, givens_of, parameter_row};
@@ -11,7 +12,8 @@ use vrl_value::Value;
 
 // Whether the parameter, one that wants no literal, takes this argument, or none.
 fn is_argument(parameter: &Parameter, argument: Option<&Value>) -> bool
-    ensures { IsTrue result → (accepts : Tree → Bool) → IsArgument (parameter_row parameter.now) accepts (option_map (λ value. tree_of value.now) argument.entry) }
+    ensures { IsTrue result → (accepts : Tree → Bool)
+        → IsArgument (parameter_row parameter.now) accepts (option_map (λ value. tree_of value.now) argument.entry) }
 {
     if parameter.literal {
         return false;
@@ -24,7 +26,8 @@ fn is_argument(parameter: &Parameter, argument: Option<&Value>) -> bool
 
 // Whether each parameter takes its argument, and wants no literal.
 pub(crate) fn are_arguments(parameters: &[Parameter], arguments: &Arguments<'_>) -> bool
-    ensures { IsTrue result → (accepts : ℕ → Tree → Bool) → AreArgumentsFrom 0 (map parameter_row parameters.now) accepts (arguments_of arguments.now) }
+    ensures { IsTrue result → (accepts : ℕ → Tree → Bool)
+        → AreArgumentsFrom 0 (map parameter_row parameters.now) accepts (arguments_of arguments.now) }
 {
     let mut place = 0;
     let mut left = parameters;
@@ -40,7 +43,8 @@ pub(crate) fn are_arguments(parameters: &[Parameter], arguments: &Arguments<'_>)
 
 // Whether the parameter, one that wants no literal, may be given an argument of this kind, or none.
 fn is_given(parameter: &Parameter, kind: Option<&Kind>) -> bool
-    ensures { IsTrue result → (accepts : Tree → Bool) (literal : _) → IsGiven (parameter_row parameter.now) accepts (option_map (λ kind. kind.now) kind.entry) literal }
+    ensures { IsTrue result → (accepts : Tree → Bool) (literal : _)
+        → IsGiven (parameter_row parameter.now) accepts (option_map (λ kind. kind.now) kind.entry) literal }
 {
     if parameter.literal {
         return false;
@@ -53,7 +57,8 @@ fn is_given(parameter: &Parameter, kind: Option<&Kind>) -> bool
 
 // Whether each required parameter is given an argument, and none wants a literal.
 pub(crate) fn are_given(parameters: &[Parameter], given: &Givens) -> bool
-    ensures { IsTrue result → (accepts : ℕ → Tree → Bool) → AreGivenFrom 0 (map parameter_row parameters.now) accepts (givens_of given.now) }
+    ensures { IsTrue result → (accepts : ℕ → Tree → Bool)
+        → AreGivenFrom 0 (map parameter_row parameters.now) accepts (givens_of given.now) }
 {
     let mut place = 0;
     let mut left = parameters;

@@ -1,5 +1,5 @@
-//! The tests of the language's functions: how a call's arguments are bound to the parameters of one; and each with arguments in text, what it answers, and
-//! what is known before it is called.
+//! The tests of the language's functions: how a call's arguments are bound to the parameters of
+//! one; and each with arguments in text, what it answers, and what is known before it is called.
 #![tactic(auto)]
 
 #[cfg(test)]

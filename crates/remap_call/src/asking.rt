@@ -18,7 +18,7 @@ use vrl_compile::{Accepted, Compiled, accepted_scripts_are_sound, compile};
 use vrl_diag::{Diagnostic, Diagnostics};
 use vrl_kind::{Kind, Rest, equal_tags_are_one_kind, kind_is_canonical};
 use vrl_kindfile::{KindFault, read_kind_file};
-use vrl_run::{Options, Request, Script};
+use vrl_run::{Options, ReadyScript, Request};
 use vrl_token::script_text;
 use vrl_value::{Bytes, Memory};
 
@@ -139,7 +139,12 @@ fn accepted_asked(
 }
 
 // The script that is run.
-fn script_of(invocation: &Invocation, text: Bytes, declared: Kind, accepted: Accepted) -> Script
+fn script_of(
+    invocation: &Invocation,
+    text: Bytes,
+    declared: Kind,
+    accepted: Accepted,
+) -> ReadyScript
     requires sources { accepted.sources ≡ (program_of accepted.program).sources }
     requires handled { HandlesErrors declared (program_of accepted.program) }
     ensures run { run_of result ≡ record {
@@ -156,7 +161,7 @@ fn script_of(invocation: &Invocation, text: Bytes, declared: Kind, accepted: Acc
         judged,
         sources,
     } = accepted;
-    Script {
+    ReadyScript {
         text,
         program,
         sources,

@@ -12,7 +12,7 @@ use Rattle.clap.specs.declared.builder.value_parser.Reading.TheVariants.{AsWritt
 use Rattle.clap.specs.declared.error.kind.ErrorKind.TheVariants.{MissingRequiredArgument}
 use Rattle.clap.specs.declared.parser.matches.ValueSource.TheVariants.{DefaultValue}
 use Rattle.remap_words.specs.Command.{flag_text}
-use Rattle.remap_words.specs.Words.{Given}
+use Rattle.remap_words.specs.Words.{Settings}
 use Rattle.remap_words.proofs.Table.{built_flag, built_option, built_script, shape, table}
 use Rattle.remap_words.proofs.Rows.{Shows, at_row-new, flag_row, has_flag, row_added, row_at, row_elsewhere, value_row}
 use Rattle.remap_words.proofs.Held.{IsFault, Stands, fault_first}
@@ -110,7 +110,7 @@ flag_read id rows given at = ap (option_and_then row_text) at ∙ go given
     go false = refl
 
 -- the rows at the end, as the getters read them
-pub record AreRead (rows : List Row) (g : Given) : Type 0 where
+pub record AreRead (rows : List Row) (g : Settings) : Type 0 where
   pub script : first_of (codes "script") rows ≡ g.script
   pub kind : first_of (codes "kind") rows ≡ g.kind
   pub jobs : first_of (codes "jobs") rows ≡ g.jobs
@@ -126,7 +126,7 @@ behind id rows drops keeps checks =
     elsewhere id (codes "check") (with_flag (codes "keep-on-abort") (with_flag (codes "drop-on-error") rows)) checks
     ∙ elsewhere id (codes "keep-on-abort") (with_flag (codes "drop-on-error") rows) keeps ∙ elsewhere id (codes "drop-on-error") rows drops
 
-pub flags_read : (rows : List Row) (g : Given) → Shows rows g → AreRead (with_flags rows) g
+pub flags_read : (rows : List Row) (g : Settings) → Shows rows g → AreRead (with_flags rows) g
 flags_read rows g s =
     let dropped = with_flag (codes "drop-on-error") rows in
     let kept = with_flag (codes "keep-on-abort") dropped in
@@ -215,7 +215,7 @@ end_fault h = or_else (settle_fault table false h)
     (or_else (defaults_fault (settled table h).rows table) (check_fault shape (finished table h) false))
 
 -- where the faults are none the rows show what is given, with a name, and else nothing is given, or no name
-abbrev pub Agrees : Kinds → List Row → Option Given → Type 0
+abbrev pub Agrees : Kinds → List Row → Option Settings → Type 0
 Agrees [] rows None = ⊥
 Agrees [] rows (Some g) = (is_some g.script ≡ true) × AreRead rows g
 Agrees (k ∷ ks) rows None = ⊤
@@ -225,7 +225,7 @@ pub fault_agrees : (kinds : Kinds) (rows : List Row) → IsFault kinds → Agree
 fault_agrees [] rows fault = absurd fault
 fault_agrees (k ∷ ks) rows fault = tt
 
-end_is : (h : Held) (g : Given) → Stands h (Some g) → end_fault h ≡ cond (is_some g.script) [] (MissingRequiredArgument ∷ [])
+end_is : (h : Held) (g : Settings) → Stands h (Some g) → end_fault h ≡ cond (is_some g.script) [] (MissingRequiredArgument ∷ [])
 end_is h g stands =
     let rows = (settled table h).rows in
     ap (λ ks. or_else ks (or_else (defaults_fault rows table) (check_fault shape (finished table h) false))) stands.0
@@ -233,7 +233,7 @@ end_is h g stands =
     ∙ ap (λ rs. cond (is_given (codes "script") rs) [] (MissingRequiredArgument ∷ [])) (finished_is h)
     ∙ ap (λ b. cond b [] (MissingRequiredArgument ∷ [])) (named (with_flags rows) g.script (behind (codes "script") rows refl refl refl ∙ stands.1.script))
 
-pub end_agrees : (h : Held) (m : Option Given) → Stands h m → Agrees (end_fault h) (finished table h) m
+pub end_agrees : (h : Held) (m : Option Settings) → Stands h m → Agrees (end_fault h) (finished table h) m
 end_agrees h None stands = fault_agrees (end_fault h) (finished table h) (fault_first (settle_fault table false h) _ stands)
 end_agrees h (Some g) stands =
     subst (λ ks. Agrees ks (finished table h) (Some g)) (sym (end_is h g stands)) (go g.script refl)

@@ -14,7 +14,7 @@ use Rattle.clap.specs.declared.parser.matches.ArgMatches.{ArgMatches}
 use Rattle.clap.proofs.WalkLemmas.{first_value-rows, one_text-rows}
 use Rattle.remap_words.specs.Command.{AreMatchesOf, remap_app}
 use Rattle.remap_words.specs.Uses.{has_short}
-use Rattle.remap_words.specs.Words.{Given, given_of, invocation_given, nothing_given, words_mean}
+use Rattle.remap_words.specs.Words.{Settings, given_of, invocation_given, nothing_given, words_mean}
 use Rattle.remap_words.proofs.Table.{built_app, built_is, free_is, shape, table}
 use Rattle.remap_words.proofs.Rows.{Shows}
 use Rattle.remap_words.proofs.Turns.{place}
@@ -55,7 +55,7 @@ words_agree words free =
     (subst (λ rs. Agrees (tail (place false idle 1 nothing_held) words) rs (given_of words)) (sym (rows_are words))
     ((both_agree words).0 1 nothing_held (Some nothing_given) (refl, nothing_shown) refl free))
 
-matched : (m : ArgMatches) (given : Option Given) → Agrees [] (rows_of (found_of m)) given → IsSomeAnd given (λ g. AreMatchesOf g m)
+matched : (m : ArgMatches) (given : Option Settings) → Agrees [] (rows_of (found_of m)) given → IsSomeAnd given (λ g. AreMatchesOf g m)
 matched m None agrees = absurd agrees
 matched m (Some g) agrees =
     let f = found_of m in
@@ -80,7 +80,7 @@ matches_tell words a (Ok m) is free has fails =
     matched m (given_of words) (subst (λ rs. Agrees [] rs (given_of words)) rows
     (subst (λ ks. Agrees ks (matches_of remap_app words) (given_of words)) none (words_agree words free)))
 
-meant : (k : ErrorKind) (kinds : Kinds) (rows : List Row) (given : Option Given) → IsAmong k kinds → Agrees kinds rows given
+meant : (k : ErrorKind) (kinds : Kinds) (rows : List Row) (given : Option Settings) → IsAmong k kinds → Agrees kinds rows given
     → option_and_then invocation_given given ≡ None
 meant k [] rows given among agrees = absurd among
 meant k (x ∷ xs) rows None among agrees = refl

@@ -14,7 +14,7 @@ use Rattle.remap_words.specs.Command.{AreMatchesOf, IsAnswer, fault_by}
 use Rattle.remap_words.specs.Uses.{Use, begins_with_hyphen, behind_equals, check, drop_on_error, flag, generate, has_short, is_equals, is_short, jobs, keep_on_abort, kind, option_spelt, option_with_value, refused, script, uses_from, uses_of, whole, word_of}
 use Rattle.remap_words.specs.View.{IsInBounds, IsModeInBounds, invocation_of}
 use Rattle.remap_words.specs.Words as words
-use Rattle.remap_words.specs.Words.{Given, Invocation, Mode, given_of, invocation_given, jobs_of, kind_file_of, mode_of, name_of, nothing_given, with_uses, words_mean}
+use Rattle.remap_words.specs.Words.{Settings, Invocation, Mode, given_of, invocation_given, jobs_of, kind_file_of, mode_of, name_of, nothing_given, with_uses, words_mean}
 use Rattle.remap_words.specs.declared.invocation.Invocation.{Invocation as Read}
 use Rattle.remap_words.specs.declared.invocation.WordsFault.{WordsFault}
 use Rattle.remap_words.specs.declared.invocation.WordsFault.TheVariants.{Memory, Refused}
@@ -117,8 +117,8 @@ is_memory _ = false
 memory≢refused : ◌≡◌ {A = Result Read WordsFault} (Err Memory) (Err Refused) → ⊥
 memory≢refused same = true≢false (ap is_memory same)
 
-read_given : (given : Option Given) (m : ArgMatches) (answer : Result Read WordsFault) → IsSomeAnd given (λ g. AreMatchesOf g m)
-    → ((g : Given) → AreMatchesOf g m → IsAnswer (invocation_given g) answer) → IsAnswer (option_and_then invocation_given given) answer
+read_given : (given : Option Settings) (m : ArgMatches) (answer : Result Read WordsFault) → IsSomeAnd given (λ g. AreMatchesOf g m)
+    → ((g : Settings) → AreMatchesOf g m → IsAnswer (invocation_given g) answer) → IsAnswer (option_and_then invocation_given given) answer
 read_given None m answer told answers = absurd told
 read_given (Some g) m answer told answers = answers g told
 
@@ -135,14 +135,14 @@ answer_refused None answer is none = refl
 
 pub words_read : (words : List Text) (parsed : Result ArgMatches Error) (answer : Result Read WordsFault)
     → IfOk parsed (λ m. IsSomeAnd (given_of words) (λ g. AreMatchesOf g m))
-    → IfOk parsed (λ m. (g : Given) → AreMatchesOf g m → IsAnswer (invocation_given g) answer) → IfErr parsed (λ e. answer ≡ Err (fault_by (clap.kind_of e)))
+    → IfOk parsed (λ m. (g : Settings) → AreMatchesOf g m → IsAnswer (invocation_given g) answer) → IfErr parsed (λ e. answer ≡ Err (fault_by (clap.kind_of e)))
     → IfOk answer (λ i. words_mean words ≡ Some (invocation_of i))
 words_read words (Ok m) answer told answers fails = answer_read (words_mean words) answer (read_given (given_of words) m answer told answers)
 words_read words (Err e) answer told answers fails = subst (λ r. IfOk r (λ i. words_mean words ≡ Some (invocation_of i))) (sym fails) tt
 
 pub words_refused : (words : List Text) (parsed : Result ArgMatches Error) (answer : Result Read WordsFault)
     → IfOk parsed (λ m. IsSomeAnd (given_of words) (λ g. AreMatchesOf g m)) → IfErr parsed (λ e. (clap.kind_of e ≡ OutOfMemory) ⊎ (words_mean words ≡ None))
-    → IfOk parsed (λ m. (g : Given) → AreMatchesOf g m → IsAnswer (invocation_given g) answer) → IfErr parsed (λ e. answer ≡ Err (fault_by (clap.kind_of e)))
+    → IfOk parsed (λ m. (g : Settings) → AreMatchesOf g m → IsAnswer (invocation_given g) answer) → IfErr parsed (λ e. answer ≡ Err (fault_by (clap.kind_of e)))
     → answer ≡ Err Refused → words_mean words ≡ None
 words_refused words (Ok m) answer told refuses answers fails none = answer_refused (words_mean words) answer (read_given (given_of words) m answer told answers) none
 words_refused words (Err e) answer told refuses answers fails none = elim refuses [
@@ -197,7 +197,7 @@ jobs_bounds None n is =
     (omega (arith, same), omega (arith, same))
 jobs_bounds (Some text) n is = number_bounds 2 1 32 text n is
 
-given_in_bounds : (g : Given) (i : Invocation) → invocation_given g ≡ Some i → IsInBounds i
+given_in_bounds : (g : Settings) (i : Invocation) → invocation_given g ≡ Some i → IsInBounds i
 given_in_bounds g i is = go (option_and_then name_of g.script) (kind_file_of g.kind) (jobs_of g.jobs) (mode_of g.check g.generate)
     (jobs_bounds g.jobs) (mode_bounds g.check g.generate) is
   where
@@ -223,6 +223,6 @@ given_in_bounds g i is = go (option_and_then name_of g.script) (kind_file_of g.k
 pub means_in_bounds : (words : List Text) (i : Invocation) → words_mean words ≡ Some i → IsInBounds i
 means_in_bounds words i is = go (given_of words) is
   where
-    go : (o : Option Given) → option_and_then invocation_given o ≡ Some i → IsInBounds i
+    go : (o : Option Settings) → option_and_then invocation_given o ≡ Some i → IsInBounds i
     go None e = absurd (some≢none i (sym e))
     go (Some g) e = given_in_bounds g i e

@@ -8,7 +8,7 @@ use Rattle.std.proofs.lemmas.Bool.{eqb-true}
 use Rattle.clap.specs.Faults.{walk_fault}
 use Rattle.clap.specs.Walk.{Held, Text, Waiting, after_step, arg_by_long, finished, idle, option, plain_word}
 use Rattle.remap_words.specs.Uses.{begins_with_hyphen, behind_equals, check, drop_on_error, flag, generate, has_short, is_equals, is_short, jobs, keep_on_abort, kind, option_spelt, option_with_value, refused, script, uses_from, uses_of, whole, word_of}
-use Rattle.remap_words.specs.Words.{Given, with_use}
+use Rattle.remap_words.specs.Words.{Settings, with_use}
 use Rattle.remap_words.proofs.Table.{by_long, generate_by_id, jobs_by_id, kind_by_id, picked, rule_named, table}
 use Rattle.remap_words.proofs.Rows.{At, check_use, drop_on_error_use, generate_use, jobs_use, keep_on_abort_use, kind_use}
 use Rattle.remap_words.proofs.Held.{Stands, fault_first}
@@ -49,7 +49,7 @@ plain_is b bs other = record {
 
 -- ---- words that are all names
 
-pub trailing_agrees : (words : List Text) (waiting : Waiting) (position : ℕ) (h : Held) (m : Option Given) → Stands h m → At position m
+pub trailing_agrees : (words : List Text) (waiting : Waiting) (position : ℕ) (h : Held) (m : Option Settings) → Stands h m → At position m
     → Ends (place true waiting position h) words (given_after m (Some (map script words)))
 unfolding walk_fault
 trailing_agrees [] waiting position h None stands at = end_agrees h None stands
@@ -87,7 +87,7 @@ long_is x xs =
 -- ---- the steps of the induction
 
 abbrev Idle : List Text → Type 0
-Idle words = (position : ℕ) (h : Held) (m : Option Given) → Stands h m → At position m → has_short words ≡ false
+Idle words = (position : ℕ) (h : Held) (m : Option Settings) → Stands h m → At position m → has_short words ≡ false
     → Ends (place false idle position h) words (given_after m (uses_of None words))
 
 abbrev Both : List Text → Type 0
@@ -100,7 +100,7 @@ both_end = (
   λ free name given position rows skip g is shows at. fault_agrees _ _ (fault_first _ _ (missing_fault name rows skip is.by)),
 )
   where
-    go : (h : Held) (m : Option Given) → Stands h m → Agrees (end_fault h) (finished table h) (given_after m (Some []))
+    go : (h : Held) (m : Option Settings) → Stands h m → Agrees (end_fault h) (finished table h) (given_after m (Some []))
     go h None stands = end_agrees h None stands
     go h (Some g) stands = end_agrees h (Some g) stands
 
@@ -145,10 +145,10 @@ jobs_setting = record { by = jobs_by_id; same = refl; of = jobs_use }
 generate_setting : IsSetting (codes "generate") generate
 generate_setting = record { by = generate_by_id; same = refl; of = generate_use }
 
-long_agrees : (position : ℕ) (h : Held) (word : Text) (rest : List Text) (m : Option Given) (name : Text) (value : Option Text) → Stands h m → At position m
+long_agrees : (position : ℕ) (h : Held) (word : Text) (rest : List Text) (m : Option Settings) (name : Text) (value : Option Text) → Stands h m → At position m
     → Both rest → has_short rest ≡ false → LongAgrees position h word rest m value (rule_named name) (option_spelt (45 ∷ 45 ∷ name) value)
 long_agrees position h word rest m name value stands at both free =
-    let idly = λ (p : ℕ) (n : Held) (more : Option Given) (s : Stands n more) (t : At p more). both.0 p n more s t free in
+    let idly = λ (p : ℕ) (n : Held) (more : Option Settings) (s : Stands n more) (t : At p more). both.0 p n more s t free in
     picked (LongAgrees position h word rest m value) name (option_with_value kind value) (option_with_value jobs value) (option_with_value generate value)
     (flag drop_on_error value) (flag keep_on_abort value) (flag check value) refused
     (setting_agrees (codes "kind") kind position h word rest m value kind_setting stands at idly (both.1 free))

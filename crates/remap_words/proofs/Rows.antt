@@ -12,7 +12,7 @@ use Rattle.clap.specs.declared.error.kind.ErrorKind.TheVariants.{ArgumentConflic
 use Rattle.clap.specs.declared.parser.matches.ValueSource.TheVariants.{CommandLine}
 use Rattle.remap_words.specs.Uses as one
 use Rattle.remap_words.specs.Uses.{Use}
-use Rattle.remap_words.specs.Words.{Given, unless, with_use}
+use Rattle.remap_words.specs.Words.{Settings, unless, with_use}
 use Rattle.remap_words.proofs.Table.{built_flag, built_option, built_script}
 
 -- the row of an argument that was given once
@@ -31,7 +31,7 @@ row_at id rows = find (λ r. bytes_eq r.id id) rows
 abbrev pub flag_row : Text → Bool → Option Row
 flag_row id given = cond given (Some (value_row id (codes "true"))) None
 
-pub record Shows (rows : List Row) (g : Given) : Type 0 where
+pub record Shows (rows : List Row) (g : Settings) : Type 0 where
   pub script : row_at (codes "script") rows ≡ option_map (value_row (codes "script")) g.script
   pub kind : row_at (codes "kind") rows ≡ option_map (value_row (codes "kind")) g.kind
   pub jobs : row_at (codes "jobs") rows ≡ option_map (value_row (codes "jobs")) g.jobs
@@ -95,19 +95,19 @@ has_flag id rows given at = has_row-row id rows ∙ ap (λ o. is_some o) at ∙ 
 
 -- ---- one use
 
-abbrev pub Made : Kinds → List Row → Option Given → Type 0
+abbrev pub Made : Kinds → List Row → Option Settings → Type 0
 Made [] rows None = ⊥
 Made [] rows (Some g) = Shows rows g
 Made (k ∷ ks) rows m = m ≡ None
 
-abbrev pub At : ℕ → Option Given → Type 0
+abbrev pub At : ℕ → Option Settings → Type 0
 At position None = ⊤
 At position (Some g) = position ≡ cond (is_some g.script) 2 1
 
 -- a use of the argument with these values is this use
 pub record IsUse (a : Rule) (values : List Text) (u : Use) : Type 0 where
-  pub made : (rows : List Row) (g : Given) → Shows rows g → Made (use_fault false a values rows) (used a values rows) (with_use u g)
-  pub place : (position : ℕ) (g : Given) → At position (Some g) → At position (with_use u g)
+  pub made : (rows : List Row) (g : Settings) → Shows rows g → Made (use_fault false a values rows) (used a values rows) (with_use u g)
+  pub place : (position : ℕ) (g : Settings) → At position (Some g) → At position (with_use u g)
 
 abbrev faults : Bool → Kinds
 faults b = cond b (ArgumentConflict ∷ []) []
@@ -134,7 +134,7 @@ script_faults value rows = go (has_row (codes "script") rows)
     go false = refl
 
 -- what is given a second time is refused by both
-made_once : (id value : Text) (rows : List Row) (kinds : Kinds) (after : List Row) (twice : Bool) (g : Given) → kinds ≡ faults (has_row id rows)
+made_once : (id value : Text) (rows : List Row) (kinds : Kinds) (after : List Row) (twice : Bool) (g : Settings) → kinds ≡ faults (has_row id rows)
     → after ≡ with_values id AsWritten CommandLine (value ∷ []) (without id rows) → has_row id rows ≡ twice
     → (has_row id rows ≡ false → Shows (rows ++ value_row id value ∷ []) g) → Made kinds after (unless twice g)
 made_once id value rows kinds after twice g kinds_are after_is has shows =
@@ -144,13 +144,13 @@ made_once id value rows kinds after twice g kinds_are after_is has shows =
     go true e = refl
     go false e = subst (λ rs. Shows rs g) (sym (after_is ∙ row_new id value rows e)) (shows e)
 
-at_unless : (position : ℕ) (twice : Bool) (g : Given) → At position (Some g) → At position (unless twice g)
+at_unless : (position : ℕ) (twice : Bool) (g : Settings) → At position (Some g) → At position (unless twice g)
 at_unless position true g at = tt
 at_unless position false g at = at
 
 -- ---- what each use changes
 
-script_shown : (value : Text) (rows : List Row) (g : Given) → Shows rows g → has_row (codes "script") rows ≡ false
+script_shown : (value : Text) (rows : List Row) (g : Settings) → Shows rows g → has_row (codes "script") rows ≡ false
     → Shows (rows ++ value_row (codes "script") value ∷ []) (record g { script = Some value })
 script_shown value rows g s none = record {
   script = row_added (codes "script") _ rows refl none;
@@ -162,7 +162,7 @@ script_shown value rows g s none = record {
   check = row_elsewhere (codes "check") _ rows refl ∙ s.check;
 }
 
-kind_shown : (value : Text) (rows : List Row) (g : Given) → Shows rows g → has_row (codes "kind") rows ≡ false
+kind_shown : (value : Text) (rows : List Row) (g : Settings) → Shows rows g → has_row (codes "kind") rows ≡ false
     → Shows (rows ++ value_row (codes "kind") value ∷ []) (record g { kind = Some value })
 kind_shown value rows g s none = record {
   script = row_elsewhere (codes "script") _ rows refl ∙ s.script;
@@ -174,7 +174,7 @@ kind_shown value rows g s none = record {
   check = row_elsewhere (codes "check") _ rows refl ∙ s.check;
 }
 
-jobs_shown : (value : Text) (rows : List Row) (g : Given) → Shows rows g → has_row (codes "jobs") rows ≡ false
+jobs_shown : (value : Text) (rows : List Row) (g : Settings) → Shows rows g → has_row (codes "jobs") rows ≡ false
     → Shows (rows ++ value_row (codes "jobs") value ∷ []) (record g { jobs = Some value })
 jobs_shown value rows g s none = record {
   script = row_elsewhere (codes "script") _ rows refl ∙ s.script;
@@ -186,7 +186,7 @@ jobs_shown value rows g s none = record {
   check = row_elsewhere (codes "check") _ rows refl ∙ s.check;
 }
 
-generate_shown : (value : Text) (rows : List Row) (g : Given) → Shows rows g → has_row (codes "generate") rows ≡ false
+generate_shown : (value : Text) (rows : List Row) (g : Settings) → Shows rows g → has_row (codes "generate") rows ≡ false
     → Shows (rows ++ value_row (codes "generate") value ∷ []) (record g { generate = Some value })
 generate_shown value rows g s none = record {
   script = row_elsewhere (codes "script") _ rows refl ∙ s.script;
@@ -198,7 +198,7 @@ generate_shown value rows g s none = record {
   check = row_elsewhere (codes "check") _ rows refl ∙ s.check;
 }
 
-drop_on_error_shown : (rows : List Row) (g : Given) → Shows rows g → has_row (codes "drop-on-error") rows ≡ false
+drop_on_error_shown : (rows : List Row) (g : Settings) → Shows rows g → has_row (codes "drop-on-error") rows ≡ false
     → Shows (rows ++ value_row (codes "drop-on-error") (codes "true") ∷ []) (record g { drop_on_error = true })
 drop_on_error_shown rows g s none = record {
   script = row_elsewhere (codes "script") _ rows refl ∙ s.script;
@@ -210,7 +210,7 @@ drop_on_error_shown rows g s none = record {
   check = row_elsewhere (codes "check") _ rows refl ∙ s.check;
 }
 
-keep_on_abort_shown : (rows : List Row) (g : Given) → Shows rows g → has_row (codes "keep-on-abort") rows ≡ false
+keep_on_abort_shown : (rows : List Row) (g : Settings) → Shows rows g → has_row (codes "keep-on-abort") rows ≡ false
     → Shows (rows ++ value_row (codes "keep-on-abort") (codes "true") ∷ []) (record g { keep_on_abort = true })
 keep_on_abort_shown rows g s none = record {
   script = row_elsewhere (codes "script") _ rows refl ∙ s.script;
@@ -222,7 +222,7 @@ keep_on_abort_shown rows g s none = record {
   check = row_elsewhere (codes "check") _ rows refl ∙ s.check;
 }
 
-check_shown : (rows : List Row) (g : Given) → Shows rows g → has_row (codes "check") rows ≡ false
+check_shown : (rows : List Row) (g : Settings) → Shows rows g → has_row (codes "check") rows ≡ false
     → Shows (rows ++ value_row (codes "check") (codes "true") ∷ []) (record g { check = true })
 check_shown rows g s none = record {
   script = row_elsewhere (codes "script") _ rows refl ∙ s.script;
@@ -234,7 +234,7 @@ check_shown rows g s none = record {
   check = row_added (codes "check") _ rows refl none;
 }
 
-pub script_made : (value : Text) (rows : List Row) (g : Given) → Shows rows g
+pub script_made : (value : Text) (rows : List Row) (g : Settings) → Shows rows g
     → Made (use_fault false built_script (value ∷ []) rows) (used built_script (value ∷ []) rows) (with_use (one.script value) g)
 script_made value rows g s = made_once (codes "script") value rows _ _ (is_some g.script) (record g { script = Some value })
     (script_faults value rows) refl (has_value (codes "script") rows g.script s.script) (script_shown value rows g s)

@@ -8,7 +8,7 @@ use Rattle.clap.specs.Faults.{positional_fault, react_fault, settle_fault, stray
 use Rattle.clap.specs.Kinds.{Kinds, or_else}
 use Rattle.clap.specs.Walk.{Held, Row, Rule, Text, Waiting, Walk, arg_by_id, finished, idle, is_pending, option, plain_word, after_step, positional_held, pushed, reacted, settled, to_positional, walked}
 use Rattle.remap_words.specs.Uses.{Use, Word, flag, option_with_value, script, uses_from, uses_of}
-use Rattle.remap_words.specs.Words.{Given, unless, with_use, with_uses}
+use Rattle.remap_words.specs.Words.{Settings, unless, with_use, with_uses}
 use Rattle.remap_words.proofs.Table.{alone, at_any, at_first, at_second, built_flag, built_option, built_script, script_by_id, shape, table}
 use Rattle.remap_words.proofs.Rows.{At, IsUse, Shows, script_made}
 use Rattle.remap_words.proofs.Held.{IsFault, Stands, Turns, fault_first, none_behind, pending_fault, pending_stands, react_turns}
@@ -23,7 +23,7 @@ abbrev pub end_rows : Walk → List Text → List Row
 end_rows w words = finished table (fold (walked table []) w words).held
 
 -- the walk over the words from here on ends with this
-abbrev pub Ends : Walk → List Text → Option Given → Type 0
+abbrev pub Ends : Walk → List Text → Option Settings → Type 0
 Ends w words m = Agrees (tail w words) (end_rows w words) m
 
 or_else_assoc : (a b c : Kinds) → or_else (or_else a b) c ≡ or_else a (or_else b c)
@@ -31,7 +31,7 @@ or_else_assoc [] b c = refl
 or_else_assoc (k ∷ ks) b c = refl
 
 -- a word that does this, before the others
-pub turned : (w next : Walk) (word : Text) (rest : List Text) (turn : Kinds) (m : Option Given) → turn_fault shape [] w word ≡ turn → walked table [] w word ≡ next
+pub turned : (w next : Walk) (word : Text) (rest : List Text) (turn : Kinds) (m : Option Settings) → turn_fault shape [] w word ≡ turn → walked table [] w word ≡ next
     → Agrees (or_else turn (tail next rest)) (end_rows next rest) m → Ends w (word ∷ rest) m
 unfolding walk_fault
 turned w next word rest turn m faults walks agrees =
@@ -41,14 +41,14 @@ turned w next word rest turn m faults walks agrees =
     (subst (λ ks. Agrees (or_else ks (tail next rest)) (end_rows next rest) m) (sym faults) agrees))
 
 -- what the words behind give, with what is given before them
-abbrev pub given_after : Option Given → Option (List Use) → Option Given
+abbrev pub given_after : Option Settings → Option (List Use) → Option Settings
 given_after m uses = option_and_then (λ us. option_and_then (with_uses us) m) uses
 
 pub none_after : (uses : Option (List Use)) → given_after None uses ≡ None
 none_after None = refl
 none_after (Some us) = refl
 
-pub one_more : (m : Option Given) (u : Use) (uses : Option (List Use))
+pub one_more : (m : Option Settings) (u : Use) (uses : Option (List Use))
     → given_after m (option_map (λ others. u ∷ others) uses) ≡ given_after (option_and_then (with_use u) m) uses
 one_more m u None = refl
 one_more None u (Some us) = refl
@@ -58,7 +58,7 @@ pub refused_first : (kinds others : Kinds) (rows : List Row) → IsFault kinds �
 refused_first kinds others rows fault = fault_agrees (or_else kinds others) rows (fault_first kinds others fault)
 
 -- after a turn
-pub passed : (kinds others : Kinds) (rows : List Row) (h : Held) (position : ℕ) (m : Option Given) (uses : Option (List Use)) → Turns kinds h position m
+pub passed : (kinds others : Kinds) (rows : List Row) (h : Held) (position : ℕ) (m : Option Settings) (uses : Option (List Use)) → Turns kinds h position m
     → (Stands h m → At position m → Agrees others rows (given_after m uses)) → Agrees (or_else kinds others) rows (given_after m uses)
 passed [] others rows h position m uses turns next = next turns.0 turns.1
 passed (k ∷ ks) others rows h position m uses turns next =
@@ -66,7 +66,7 @@ passed (k ∷ ks) others rows h position m uses turns next =
 
 -- the walk from here on, with no option that waits, ends with what the uses give behind what is given so far
 abbrev pub Follows : Bool → List Text → Option (List Use) → Type 0
-Follows is_trailing rest uses = (position : ℕ) (h : Held) (m : Option Given) → Stands h m → At position m
+Follows is_trailing rest uses = (position : ℕ) (h : Held) (m : Option Settings) → Stands h m → At position m
     → Ends (place is_trailing idle position h) rest (given_after m uses)
 
 -- ---- a name
@@ -106,11 +106,11 @@ second_fault : (position : ℕ) (h : Held) → position ≡ 2 → IsFault (name_
 second_fault position h second =
     subst IsFault (sym (ap (λ p. name_fault p h) second ∙ ap (λ o. option_map_or (λ a. positional_fault table false a h) o (stray_fault shape)) at_second)) tt
 
-at_two : (g : Given) (twice : Bool) (word : Text) → At 2 (unless twice (record g { script = Some word }))
+at_two : (g : Settings) (twice : Bool) (word : Text) → At 2 (unless twice (record g { script = Some word }))
 at_two g true word = tt
 at_two g false word = refl
 
-pub name_agrees : (is_trailing : Bool) (waiting : Waiting) (position : ℕ) (h : Held) (word : Text) (rest : List Text) (m : Option Given) (uses : Option (List Use))
+pub name_agrees : (is_trailing : Bool) (waiting : Waiting) (position : ℕ) (h : Held) (word : Text) (rest : List Text) (m : Option Settings) (uses : Option (List Use))
     → Stands h m → At position m → Follows is_trailing rest uses
     → Agrees (or_else (name_fault position h) (tail (name_walk is_trailing waiting position h word) rest)) (end_rows (name_walk is_trailing waiting position h word) rest)
     (given_after (option_and_then (with_use (script word)) m) uses)
@@ -148,16 +148,16 @@ waiting_held name rows skip = record { rows = rows; pending = Some (name, []); s
 
 -- the walk from an option on that waits for its value
 abbrev pub Waits : List Text → Type 0
-Waits rest = (name : Text) (given : Text → Use) (position : ℕ) (rows : List Row) (skip : ℕ) (g : Given) → IsSetting name given → Shows rows g → At position (Some g)
+Waits rest = (name : Text) (given : Text → Use) (position : ℕ) (rows : List Row) (skip : ℕ) (g : Settings) → IsSetting name given → Shows rows g → At position (Some g)
     → Ends (place false (option name) position (waiting_held name rows skip)) rest (given_after (Some g) (uses_of (Some given) rest))
 
 -- a long option at its rule, and the word that it is
-abbrev pub LongAgrees : ℕ → Held → Text → List Text → Option Given → Option Text → Option Rule → Word → Type 0
+abbrev pub LongAgrees : ℕ → Held → Text → List Text → Option Settings → Option Text → Option Rule → Word → Type 0
 LongAgrees position h word rest m value found what =
     Agrees (or_else (long_turn idle position h word found value) (tail (long_walk idle position h word found value) rest))
     (end_rows (long_walk idle position h word found value) rest) (given_after m (uses_from what rest (λ waits. uses_of waits rest)))
 
-react_agrees : (a : Rule) (values : List Text) (u : Use) (position : ℕ) (h : Held) (rest : List Text) (m : Option Given) → IsUse a values u → Stands h m → At position m
+react_agrees : (a : Rule) (values : List Text) (u : Use) (position : ℕ) (h : Held) (rest : List Text) (m : Option Settings) → IsUse a values u → Stands h m → At position m
     → Follows false rest (uses_of None rest)
     → Agrees (or_else (or_else (react_fault table false a values h) []) (tail (place false idle position (reacted table a values h)) rest))
     (end_rows (place false idle position (reacted table a values h)) rest) (given_after m (option_map (λ others. u ∷ others) (uses_of None rest)))
@@ -171,7 +171,7 @@ react_agrees a values u position h rest m of stands at follows =
     (passed (react_fault table false a values h) _ _ next position more (uses_of None rest) (react_turns a values u h position m of stands at)
     (λ s t. follows position next more s t)))
 
-pub setting_agrees : (name : Text) (given : Text → Use) (position : ℕ) (h : Held) (word : Text) (rest : List Text) (m : Option Given) (value : Option Text)
+pub setting_agrees : (name : Text) (given : Text → Use) (position : ℕ) (h : Held) (word : Text) (rest : List Text) (m : Option Settings) (value : Option Text)
     → IsSetting name given → Stands h m → At position m → Follows false rest (uses_of None rest) → Waits rest
     → LongAgrees position h word rest m value (Some (built_option name)) (option_with_value given value)
 setting_agrees name given position h word rest m (Some v) is stands at follows waits =
@@ -184,7 +184,7 @@ setting_agrees name given position h word rest (Some g) None is stands at follow
     (end_rows (place false (option name) position (waiting_held name (settled table h).rows h.skip)) rest) (given_after (Some g) (uses_of (Some given) rest))) (sym stands.0)
     (waits name given position (settled table h).rows h.skip g is stands.1 at)
 
-pub flag_agrees : (name : Text) (u : Use) (position : ℕ) (h : Held) (word : Text) (rest : List Text) (m : Option Given) (value : Option Text)
+pub flag_agrees : (name : Text) (u : Use) (position : ℕ) (h : Held) (word : Text) (rest : List Text) (m : Option Settings) (value : Option Text)
     → IsUse (built_flag name) [] u → Stands h m → At position m → Follows false rest (uses_of None rest)
     → LongAgrees position h word rest m value (Some (built_flag name)) (flag u value)
 flag_agrees name u position h word rest m (Some v) of stands at follows = tt
@@ -204,7 +204,7 @@ pub missing_fault : (name : Text) (rows : List Row) (skip : ℕ) → arg_by_id t
     → IsFault (settle_fault table false (waiting_held name rows skip))
 missing_fault name rows skip by = subst IsFault (sym (pending_fault (built_option name) name [] (waiting_held name rows skip) by refl)) tt
 
-pub value_agrees : (name : Text) (given : Text → Use) (position : ℕ) (rows : List Row) (skip : ℕ) (g : Given) (word : Text) (rest : List Text) (uses : Option (List Use))
+pub value_agrees : (name : Text) (given : Text → Use) (position : ℕ) (rows : List Row) (skip : ℕ) (g : Settings) (word : Text) (rest : List Text) (uses : Option (List Use))
     → IsSetting name given → Shows rows g → At position (Some g) → Follows false rest uses
     → Ends (after_step table word (place false (option name) position (waiting_held name rows skip)) (plain_word table (option name) word (waiting_held name rows skip)).0
     (plain_word table (option name) word (waiting_held name rows skip)).1) rest (given_after (Some g) (option_map (λ others. given word ∷ others) uses))

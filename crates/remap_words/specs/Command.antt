@@ -6,7 +6,7 @@ use Rattle.clap.specs.declared.parser.matches.ArgMatches.{ArgMatches}
 use Rattle.clap.specs.declared.error.kind.ErrorKind.{ErrorKind}
 use Rattle.clap.specs.declared.error.kind.ErrorKind.TheVariants.{OutOfMemory}
 use Rattle.remap_words.specs.View.{invocation_of}
-use Rattle.remap_words.specs.Words.{Given, Invocation}
+use Rattle.remap_words.specs.Words.{Settings, Invocation}
 use Rattle.remap_words.specs.declared.invocation.Invocation.{Invocation as Read}
 use Rattle.remap_words.specs.declared.invocation.WordsFault.{WordsFault}
 use Rattle.remap_words.specs.declared.invocation.WordsFault.TheVariants.{Memory, Refused}
@@ -58,7 +58,7 @@ IsAnswer None (Ok read) = ⊥
 IsAnswer None (Err fault) = fault ≡ Refused
 
 -- the matches tell what is given
-pub record AreMatchesOf (g : Given) (m : ArgMatches) : Type 0 where
+pub record AreMatchesOf (g : Settings) (m : ArgMatches) : Type 0 where
   pub script : first_value (found_of m) (codes "script") ≡ g.script
   pub kind : first_value (found_of m) (codes "kind") ≡ g.kind
   pub jobs : first_value (found_of m) (codes "jobs") ≡ g.jobs

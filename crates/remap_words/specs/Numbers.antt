@@ -3,7 +3,8 @@ use Rattle.std.specs.Prelude.{ℕ, List, Option, Some, None, ◌&&◌, if◌then
 use Rattle.std.specs.Str.{all_ascii_digits}
 use Rattle.std.specs.Str.Parse.{digits_value}
 
--- the number that the text writes, where the text is one to `most` decimal digits, and the number is from `low` to `high`
+-- the number that the text writes, where the text is one to `most` decimal digits, and the number
+-- is from `low` to `high`
 abbrev pub number_in : ℕ → ℕ → ℕ → List ℕ → Option ℕ
 number_in most low high text =
     if nat_lt 0 (length text) && (nat_le (length text) most

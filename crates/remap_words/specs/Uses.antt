@@ -1,4 +1,5 @@
--- What each word of the command line is: a name, an option, an option's value, or the end of the options.
+-- What each word of the command line is: a name, an option, an option's value, or the end of the
+-- options.
 use Rattle.std.specs.Prelude.{ℕ, Bool, false, List, [], ◌∷◌, Option, Some, None, ◌==◌, ◌&&◌, ◌||◌, if◌then◌else◌}
 use Rattle.std.specs.Prelude.{not, codes, map, option_map}
 use Rattle.std.specs.List.{after_first, before_first, list_any}
@@ -65,7 +66,8 @@ word_of word =
     then option_spelt (before_first is_equals word) (behind_equals word)
     else whole (script word)
 
--- the uses of a word and of those behind it, which are read by `next`, where the first of them may be a value
+-- the uses of a word and of those behind it, which are read by `next`, where the first of them may
+-- be a value
 abbrev pub uses_from : Word → List (List ℕ) → (Option (List ℕ → Use) → Option (List Use))
     → Option (List Use)
 uses_from last rest next = Some (map script rest)
@@ -73,7 +75,8 @@ uses_from (whole given) rest next = option_map (λ others. given ∷ others) (ne
 uses_from (waiting given) rest next = next (Some given)
 uses_from refused rest next = None
 
--- the uses of the words in order, or none where the words are refused; where an option waits, the first word is its value
+-- the uses of the words in order, or none where the words are refused; where an option waits, the
+-- first word is its value
 abbrev pub uses_of : Option (List ℕ → Use) → List (List ℕ) → Option (List Use)
 uses_of None [] = Some []
 uses_of None (word ∷ rest) = uses_from (word_of word) rest (λ waits. uses_of waits rest)

@@ -1,5 +1,6 @@
--- What the words of the command line mean, those behind the program's name: `SCRIPT [--kind FILE] [--jobs N]
--- [--drop-on-error] [--keep-on-abort] [--check] [--generate COUNT:SEED]`, with the options in any order.
+-- What the words of the command line mean, those behind the program's name: `SCRIPT [--kind FILE]
+-- [--jobs N] [--drop-on-error] [--keep-on-abort] [--check] [--generate COUNT:SEED]`, with the
+-- options in any order.
 use Rattle.std.specs.Prelude.{ℕ, Bool, true, false, List, [], ◌∷◌, Option, Some, None, ◌==◌, if◌then◌else◌, is_some}
 use Rattle.std.specs.Prelude.{option_and_then, option_map}
 use Rattle.std.specs.List.{after_first, before_first}
@@ -27,8 +28,8 @@ pub record Invocation : Type 0 where
 
 -- ---- each use at most once
 
--- the uses by what they give
-pub record Given : Type 0 where
+-- what the uses give
+pub record Settings : Type 0 where
   pub script : Option (List ℕ)
   pub kind : Option (List ℕ)
   pub jobs : Option (List ℕ)
@@ -37,7 +38,7 @@ pub record Given : Type 0 where
   pub keep_on_abort : Bool
   pub check : Bool
 
-abbrev pub nothing_given : Given
+abbrev pub nothing_given : Settings
 nothing_given = record {
   script = None;
   kind = None;
@@ -48,11 +49,11 @@ nothing_given = record {
   check = false;
 }
 
-abbrev pub unless : Bool → Given → Option Given
+abbrev pub unless : Bool → Settings → Option Settings
 unless twice given = if twice then None else Some given
 
 -- one use more, which is refused the second time
-abbrev pub with_use : Use → Given → Option Given
+abbrev pub with_use : Use → Settings → Option Settings
 with_use (one.script name) g = unless (is_some g.script) (record g { script = Some name })
 with_use (one.kind name) g = unless (is_some g.kind) (record g { kind = Some name })
 with_use (one.jobs text) g = unless (is_some g.jobs) (record g { jobs = Some text })
@@ -61,12 +62,12 @@ with_use one.drop_on_error g = unless g.drop_on_error (record g { drop_on_error 
 with_use one.keep_on_abort g = unless g.keep_on_abort (record g { keep_on_abort = true })
 with_use one.check g = unless g.check (record g { check = true })
 
-abbrev pub with_uses : List Use → Given → Option Given
+abbrev pub with_uses : List Use → Settings → Option Settings
 with_uses [] g = Some g
 with_uses (first ∷ others) g = option_and_then (with_uses others) (with_use first g)
 
 -- what is given by the words, or none where they are refused
-abbrev pub given_of : List (List ℕ) → Option Given
+abbrev pub given_of : List (List ℕ) → Option Settings
 given_of words = option_and_then (λ uses. with_uses uses nothing_given) (uses_of None words)
 
 -- ---- what the values say
@@ -102,7 +103,7 @@ mode_of true None = Some check
 mode_of false (Some text) = generate_of text
 mode_of true (Some text) = None
 
-abbrev pub invocation_given : Given → Option Invocation
+abbrev pub invocation_given : Settings → Option Invocation
 invocation_given g = option_and_then (λ script. option_and_then (λ kind. option_and_then (λ jobs.
     option_map (λ mode. record {
       script = script;

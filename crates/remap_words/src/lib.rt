@@ -1,7 +1,9 @@
-//! The words of the command line: which script is asked for, with which options, or that the words are refused.
+//! The words of the command line: which script is asked for, with which options, or that the words
+//! are refused.
 //!
-//! The rule is told in `specs/Words.antt`, about the list of words alone. Files: `invocation.rt` has what is read, `read.rt` the call that reads, `command.rt`
-//! the command as `clap` is told of it, and `value.rt` what the values of options say.
+//! The rule is told in `specs/Words.antt`, about the list of words alone. Files: `invocation.rt`
+//! has what is read, `read.rt` the call that reads, `command.rt` the command as `clap` is told of
+//! it, and `value.rt` what the values of options say.
 #![tactic(auto)]
 
 mod command;

@@ -4,7 +4,7 @@ ghost use Rattle.remap_words.specs.Command.{AreMatchesOf, IsAnswer, fault_by};
 ghost use Rattle.remap_words.specs.Uses.{has_short};
 ghost use Rattle.remap_words.specs.Uses as uses;
 ghost use Rattle.remap_words.specs.View.{IsInBounds, invocation_of, texts};
-ghost use Rattle.remap_words.specs.Words.{Given, Invocation as Asked, invocation_given, words_mean};
+ghost use Rattle.remap_words.specs.Words.{Settings, Invocation as Asked, invocation_given, words_mean};
 
 use crate::command::matches_of;
 use crate::invocation::{Invocation, WordsFault};
@@ -13,8 +13,9 @@ use clap::error::ErrorKind;
 use clap::{ArgMatches, Error};
 use std::alloc::Global;
 
-/// Reads the words behind the program's name. The answer is `Refused` only where they mean nothing, and wherever they mean nothing it is `Refused` unless
-/// memory runs out. A word with one hyphen, which is no option, is refused before memory is asked for.
+/// Reads the words behind the program's name. The answer is `Refused` only where they mean nothing,
+/// and wherever they mean nothing it is `Refused` unless memory runs out. A word with one hyphen,
+/// which is no option, is refused before memory is asked for.
 pub fn read_words<'a>(alloc: Global, words: &'a [String]) -> Result<Invocation<'a>, WordsFault>
     ensures read { IfOk result (λ i. words_mean (texts words.now) ≡ Some (invocation_of i)) }
     ensures bounds { IfOk result (λ i. IsInBounds (invocation_of i)) }
@@ -29,7 +30,7 @@ pub fn read_words<'a>(alloc: Global, words: &'a [String]) -> Result<Invocation<'
 
 /// What is answered where `clap` answers so. Only its want of memory is ours.
 fn answer<'a>(parsed: Result<ArgMatches<'a>, Error>) -> Result<Invocation<'a>, WordsFault>
-    ensures ok { IfOk parsed.entry (λ m. (g : Given) → AreMatchesOf g m → IsAnswer (invocation_given g) result) }
+    ensures ok { IfOk parsed.entry (λ m. (g : Settings) → AreMatchesOf g m → IsAnswer (invocation_given g) result) }
     ensures err { IfErr parsed.entry (λ e. result ≡ Err (fault_by (kind_of e))) }
 {
     match parsed {
@@ -67,7 +68,7 @@ fn is_short(word: &str) -> bool
 
 /// What is read of the matches, unless the values are refused.
 fn invocation<'a>(matches: &ArgMatches<'a>) -> Option<Invocation<'a>>
-    ensures { (g : Given) → AreMatchesOf g matches.now
+    ensures { (g : Settings) → AreMatchesOf g matches.now
         → option_map invocation_of result ≡ invocation_given g }
 {
     let script = name(matches.get_str("script")?)?;

@@ -15,7 +15,8 @@ pub(crate) fn name(text: &str) -> Option<&str>
 
 /// The name of the kind file, where there is one; it is not empty.
 pub(crate) fn kind(text: Option<&str>) -> Option<Option<&str>>
-    ensures { option_map (option_map (λ name. name.now)) result ≡ kind_file_of (option_map (λ text. text.now) text.entry) }
+    ensures { option_map (option_map (λ name. name.now)) result ≡ kind_file_of
+        (option_map (λ text. text.now) text.entry) }
 {
     match text {
         Some(text) => Some(Some(name(text)?)),

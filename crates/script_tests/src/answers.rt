@@ -13,11 +13,11 @@ use vrl_compile::Accepted;
 use vrl_diag::{Diagnostic, Diagnostics, Span};
 use vrl_io::{MemoryClock, MemorySink, MemorySource};
 use vrl_kind::Kind;
-use vrl_run::{Options, Request, Script, Status, answer};
+use vrl_run::{Options, ReadyScript, Request, Status, answer};
 use vrl_value::{Bytes, Memory};
 
-// The size of the input's pieces, where it comes in pieces, and the number of the call that fails, of the input, the output and the
-// report.
+// The size of the input's pieces, where it comes in pieces, and the number of the call that fails,
+// of the input, the output and the report.
 #[derive(Clone, Copy)]
 struct Faults {
     pieces: Option<usize>,
@@ -33,7 +33,8 @@ const NONE: Faults = Faults {
     report: None,
 };
 
-// A script (`None`: the words are refused), what fails, and what comes of it over `INPUT`: the status, the output and the report.
+// A script (`None`: the words are refused), what fails, and what comes of it over `INPUT`: the
+// status, the output and the report.
 type Row = (
     Option<&'static str>,
     Faults,
@@ -132,7 +133,7 @@ fn is_run<R: Threads + Sync>(
         judged: _judged,
         sources,
     } = script;
-    let request = Request::Run(Script {
+    let request = Request::Run(ReadyScript {
         text,
         program,
         sources,
@@ -181,7 +182,8 @@ const FAULTS: [Row; 13] = [
     (Some(".x = 1"), Faults { pieces: Some(1), ..NONE }, Status::Marked, OUTPUT, REPORT),
     (Some(".x = 1"), Faults { pieces: Some(7), ..NONE }, Status::Marked, OUTPUT, REPORT),
     (Some(".x = 1"), Faults { pieces: Some(100), ..NONE }, Status::Marked, OUTPUT, REPORT),
-    // A take fails: in pieces of 7 bytes the input of 19 bytes takes three calls, and one that tells its end.
+    // A take fails: in pieces of 7 bytes the input of 19 bytes takes three calls, and one that
+    // tells its end.
     (Some(".x = 1"), Faults { pieces: Some(7), input: Some(0), ..NONE }, Status::ReadFault, "", ""),
     (Some(".x = 1"), Faults { pieces: Some(7), input: Some(1), ..NONE }, Status::ReadFault, "", ""),
     (Some(".x = 1"), Faults { pieces: Some(7), input: Some(2), ..NONE }, Status::ReadFault, "", ""),

@@ -1,4 +1,5 @@
-// Calls of functions, `del` and `exists`: what is wrong with them, the kind of what they give, and what is known then.
+// Calls of functions, `del` and `exists`: what is wrong with them, the kind of what they give, and
+// what is known then.
 use crate::judgement::{Asked, expect};
 use vrl_value::Memory;
 

@@ -55,8 +55,8 @@ enum Device {
     Report,
 }
 
-// How a call is made: the number of workers, the size of the input's pieces, how many bytes a sink takes at most, and the device of which
-// the call with this number fails.
+// How a call is made: the number of workers, the size of the input's pieces, how many bytes a sink
+// takes at most, and the device of which the call with this number fails.
 #[derive(Clone, Copy)]
 struct Way {
     jobs: &'static str,
@@ -146,7 +146,8 @@ fn told_as(device: Device) -> Status {
 // More than the devices have calls.
 const MOST_CALLS: u64 = 100;
 
-// What runs, with how many workers, which device fails at each of its calls in turn, and how many calls it has.
+// What runs, with how many workers, which device fails at each of its calls in turn, and how many
+// calls it has.
 type Row = (Run, &'static str, Device, u64);
 
 // Whether each of these faults is told so, and the answer is whole where no call has that number.
@@ -173,7 +174,8 @@ fn holds<R: Threads + Sync>(rt: &R, alloc: Global, row: &Row) -> Result<bool, Me
     Ok(false)
 }
 
-// Inputs of 20 and 117 bytes in pieces of 16, with a call that tells the end; outputs of 14 and 146 bytes and reports of 61 and 35 in pieces of 7.
+// Inputs of 20 and 117 bytes in pieces of 16, with a call that tells the end; outputs of 14 and 146
+// bytes and reports of 61 and 35 in pieces of 7.
 #[rattlefmt::skip]
 const FAULTS: [Row; 18] = [
     (REFUSED, "1", Device::Store, 1),
@@ -212,7 +214,8 @@ const WHOLE: [(Run, &str); 8] = [
     (MESSAGES, "1"), (MESSAGES, "2"), (MESSAGES, "8"), (MESSAGES, "32"),
 ];
 
-// Whether the answer is whole where the input comes byte by byte, and each sink takes one at a call.
+// Whether the answer is whole where the input comes byte by byte, and each sink takes one at a
+// call.
 fn is_whole_in_pieces<R: Threads + Sync>(
     rt: &R,
     alloc: Global,

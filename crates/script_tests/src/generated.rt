@@ -5,7 +5,8 @@ use vrl_batch::{Line, LineOut, Outcome};
 use vrl_generate::{Generator, Summary};
 use vrl_value::{Bytes, Memory};
 
-// A seed, and the first, the second and the thousandth of its lines, as `trials/generate.py` works them out.
+// A seed, and the first, the second and the thousandth of its lines, as `trials/generate.py` works
+// them out.
 type Row = (u64, &'static str, &'static str, &'static str);
 
 const LINES: [Row; 3] = [
@@ -85,7 +86,8 @@ const RESULTS: [Made; 5] = [
     (Outcome::Errored, "", 0),
 ];
 
-// What is told of these results. The digest is that of the texts one after another, by Python's `hashlib`.
+// What is told of these results. The digest is that of the texts one after another, by Python's
+// `hashlib`.
 const SUMMARY: &str =
     "lines 5\nwritten 3\nerrors 2\naborted 1\nrefused 1\nbytes 24\nsha256 b0574d4f6453b68b991cdaf2ccf7cc5befe86de529131e52d4c9736d9d2f77b0\n";
 

@@ -5,7 +5,8 @@ ghost use Rattle.vrl_syntax.specs.View.{exprs_of, script_of as script_view};
 ghost use Rattle.vrl_check.specs.Answer.{IsJudged};
 ghost use Rattle.vrl_judge.specs.Rules.{Judgement};
 
-// Scripts without calls: what is wrong with them, the kind of what they give, and what is known then.
+// Scripts without calls: what is wrong with them, the kind of what they give, and what is known
+// then.
 use crate::running::event_kind;
 use std::alloc::Global;
 use std::process::Abort;

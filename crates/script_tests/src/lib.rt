@@ -1,6 +1,7 @@
-//! The tests of scripts: as texts, with their diagnostics, tokens, trees and regexes; what is compiled of them; runs, and what they leave; how requests are
-//! answered; and the program's call: its words, and the whole of it over devices that come in pieces and fail. They stand in one crate, since each crate
-//! of tests is compiled with all that it links.
+//! The tests of scripts: as texts, with their diagnostics, tokens, trees and regexes; what is
+//! compiled of them; runs, and what they leave; how requests are answered; and the program's call:
+//! its words, and the whole of it over devices that come in pieces and fail. They stand in one
+//! crate, since each crate of tests is compiled with all that it links.
 #![tactic(auto)]
 
 #[cfg(test)]

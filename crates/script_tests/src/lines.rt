@@ -14,8 +14,9 @@ use vrl_run::{Options, run_line};
 use vrl_tests::shareable;
 use vrl_value::{Bytes, Memory, Moment, Names};
 
-// A script, the options (`drop` an event over which it fails, `keep` one over which it aborts), a line's number and text (`long` is a line
-// that is too long), the events that are kept as lines, what is reported, and how the line went.
+// A script, the options (`drop` an event over which it fails, `keep` one over which it aborts), a
+// line's number and text (`long` is a line that is too long), the events that are kept as lines,
+// what is reported, and how the line went.
 type Row = (
     &'static str,
     &'static str,

@@ -98,7 +98,8 @@ fn call<R: Threads + Sync, G: Gate + Sync>(
     })
 }
 
-// The words, how many lines, the take that fails, the status, and how many events are written, each `{"x":1}` and a newline.
+// The words, how many lines, the take that fails, the status, and how many events are written, each
+// `{"x":1}` and a newline.
 type Row = (&'static [&'static str], usize, Option<u64>, Status, usize);
 
 #[rattlefmt::skip]

@@ -13,11 +13,11 @@ use vrl_json::{
     JsonFault, Scratch, from_line, json_needs_no_sources, lines_are_json, lines_are_ordered,
 };
 use vrl_kind::{Kind, Rest, equal_tags_are_one_kind, inhabits, kind_is_canonical};
-use vrl_resolve::{Ended, Given, Program, Ran, run};
+use vrl_resolve::{Ended, Produced, Program, Ran, run};
 use vrl_value::{Chars, Fields, Memory, Moment, Value};
 
-// A script, an event, how the run ends, the event and the variables that it leaves. An end is `= ` and a value, `abort`, `abort ` and a
-// message, `bang ` and a text, or `deep`.
+// A script, an event, how the run ends, the event and the variables that it leaves. An end is `= `
+// and a value, `abort`, `abort ` and a message, `bang ` and a text, or `deep`.
 pub(crate) type Row = (
     &'static str,
     &'static str,
@@ -55,8 +55,10 @@ pub(crate) fn accepted(
     declared: &Kind,
 ) -> Result<Option<Accepted>, Memory>
     requires { allows_absent declared.now ≡ false }
-    ensures sources { IfOk result (λ found. IfSome found (λ script. script.sources ≡ (program_of script.program).sources)) }
-    ensures handled { IfOk result (λ found. IfSome found (λ script. HandlesErrors declared.now (program_of script.program))) }
+    ensures sources { IfOk result
+        (λ found. IfSome found (λ script. script.sources ≡ (program_of script.program).sources)) }
+    ensures handled { IfOk result
+        (λ found. IfSome found (λ script. HandlesErrors declared.now (program_of script.program))) }
 {
     if text.len() > SCRIPT_LIMIT {
         return Ok(None);
@@ -104,7 +106,8 @@ fn ran_over(
     }
 }
 
-// What a script leaves of an event, and what it leaves where its value isn't asked for. `None`: it isn't accepted, or there is no such event.
+// What a script leaves of an event, and what it leaves where its value isn't asked for. `None`: it
+// isn't accepted, or there is no such event.
 fn ran(alloc: Global, text: &str, event: &str) -> Result<Option<(Ran, Ran)>, Memory> {
     let declared = event_kind(alloc)?;
     match accepted(alloc, text, &declared)? {
@@ -136,11 +139,16 @@ fn are_variables(alloc: Global, fields: Fields, wanted: &str) -> Result<bool, Me
     Ok(variables.same(&json_of(alloc, wanted)?))
 }
 
-fn is_given(alloc: Global, given: Given, end: &str, variables: &str) -> Result<bool, Memory> {
-    let Given {
+fn is_produced(
+    alloc: Global,
+    produced: Produced,
+    end: &str,
+    variables: &str,
+) -> Result<bool, Memory> {
+    let Produced {
         value,
         variables: fields,
-    } = given;
+    } = produced;
     Ok(is_value(alloc, &value, end)? && are_variables(alloc, fields, variables)?)
 }
 
@@ -153,7 +161,7 @@ fn is_end(
     is_asked: bool,
 ) -> Result<bool, Memory> {
     match ended {
-        Ended::Value(Some(given)) => is_given(alloc, given, end, variables),
+        Ended::Value(Some(produced)) => is_produced(alloc, produced, end, variables),
         Ended::Value(None) => Ok(!is_asked && end.starts_with("= ")),
         Ended::Aborted(message) => Ok(is_aborted(&message, end) && variables == "{}"),
         Ended::Banged(text) => {

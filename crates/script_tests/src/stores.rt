@@ -7,7 +7,7 @@ use crate::running::json_of;
 use std::alloc::Global;
 use std::process::Abort;
 use vrl_path::{Path, SetFault, Step};
-use vrl_store::{Base, Place, Store};
+use vrl_store::{Base, Store, TargetPath};
 use vrl_tests::nested_arrays;
 use vrl_value::{Chars, Memory, Value};
 
@@ -19,8 +19,8 @@ enum Root {
     Y,
 }
 
-// What is done: a value is written, or arrays nested as deep as this, or one is taken, or a block ends before which so many variables were
-// there.
+// What is done: a value is written, or arrays nested as deep as this, or one is taken, or a block
+// ends before which so many variables were there.
 #[derive(Clone, Copy)]
 enum Act {
     Write(&'static str),
@@ -29,8 +29,9 @@ enum Act {
     Leave(usize),
 }
 
-// What is done, at which root, and at which field of it, where it is at one; what it gives, where `deep` is a write that isn't done; what is
-// read then of the event and of the two variables; and how many variables are there.
+// What is done, at which root, and at which field of it, where it is at one; what it gives, where
+// `deep` is a write that isn't done; what is read then of the event and of the two variables; and
+// how many variables are there.
 type Row = (
     Act,
     Root,
@@ -168,10 +169,10 @@ const STEPS: [Row; 14] = [
 ];
 
 // A root, or a field of it.
-fn place_of(alloc: Global, root: Root, field: &str) -> Result<Place, Memory>
-    ensures base { IfOk result (λ place. IsKnown 2 place.base) }
-    ensures writable { IfOk result (λ place. IsWritable place.path) }
-    ensures plain { IfOk result (λ place. IsPlain place.path) }
+fn target_path(alloc: Global, root: Root, field: &str) -> Result<TargetPath, Memory>
+    ensures base { IfOk result (λ target. IsKnown 2 target.base) }
+    ensures writable { IfOk result (λ target. IsWritable target.path) }
+    ensures plain { IfOk result (λ target. IsPlain target.path) }
 {
     let base = match root {
         Root::Event => Base::Event,
@@ -182,19 +183,24 @@ fn place_of(alloc: Global, root: Root, field: &str) -> Result<Place, Memory>
     if !field.is_empty() {
         steps.push(Step::Field(Chars::copy_of(alloc, field)?))?;
     }
-    Ok(Place {
+    Ok(TargetPath {
         base,
         path: Path::new(steps),
     })
 }
 
 // Writes a value, and gives null, or `deep` where it isn't written.
-fn write(alloc: Global, store: &mut Store, place: &Place, value: Value) -> Result<Value, Memory>
-    requires base { IsKnown (count_of store.old) place.now.base }
-    requires writable { IsWritable place.now.path }
+fn write(
+    alloc: Global,
+    store: &mut Store,
+    target: &TargetPath,
+    value: Value,
+) -> Result<Value, Memory>
+    requires base { IsKnown (count_of store.old) target.now.base }
+    requires writable { IsWritable target.now.path }
     ensures { count_of store.new ≡ count_of store.old }
 {
-    match store.write(alloc, place, value) {
+    match store.write(alloc, target, value) {
         Ok(()) => Ok(Value::Null),
         Err(SetFault::TooDeep) => Ok(Value::Text(Chars::copy_of(alloc, "deep")?)),
         Err(SetFault::Memory) => Err(Memory),
@@ -212,11 +218,11 @@ fn done(
     requires { count_of store.old ≡ 2 }
     ensures { count_of store.new ≡ 2 }
 {
-    let place = place_of(alloc, root, field)?;
+    let target = target_path(alloc, root, field)?;
     match act {
-        Act::Write(text) => write(alloc, store, &place, json_of(alloc, text)?),
-        Act::WriteDeep(depth) => write(alloc, store, &place, nested_arrays(alloc, depth)?),
-        Act::Take => store.take(alloc, &place),
+        Act::Write(text) => write(alloc, store, &target, json_of(alloc, text)?),
+        Act::WriteDeep(depth) => write(alloc, store, &target, nested_arrays(alloc, depth)?),
+        Act::Take => store.take(alloc, &target),
         Act::Leave(count) => {
             if count <= store.count() {
                 store.leave(count);
@@ -230,8 +236,8 @@ fn done(
 fn stands(alloc: Global, store: &Store, root: Root, wanted: &str) -> Result<bool, Memory>
     requires { count_of store.now ≡ 2 }
 {
-    let place = place_of(alloc, root, "")?;
-    Ok(store.read(&place).same(&json_of(alloc, wanted)?))
+    let target = target_path(alloc, root, "")?;
+    Ok(store.read(&target).same(&json_of(alloc, wanted)?))
 }
 
 // Does the step of a row. Whether all is as it says.

@@ -33,7 +33,7 @@ abbrev pub arguments_of : Arguments → List (Option Tree)
 arguments_of a = map argument_tree a.arguments.items
 
 abbrev pub setting_of : Setting → SettingTree
-setting_of s = record { moment = s.moment; sources = s.patterns.now }
+setting_of s = record { moment = s.moment; sources = s.searches.now }
 
 -- the words of an error, and its text
 abbrev pub reason_words : Reason → List ℕ

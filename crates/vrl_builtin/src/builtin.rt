@@ -87,7 +87,7 @@ pub trait Builtin {
     /// the call uses memory.
     fn apply(&self, alloc: Global, arguments: &Arguments<'_>, setting: &Setting<'_, '_>) -> Applied
         requires arguments { AreArguments (row self.now) (arguments_of arguments.now) }
-        requires regexes { IsTrue (arguments_below (length setting.now.patterns.now) (arguments_of arguments.now)) }
+        requires regexes { IsTrue (arguments_below (length setting.now.searches.now) (arguments_of arguments.now)) }
         ensures { Applies (uses_memory self.now (arguments_of arguments.now))
             ((row self.now).means (arguments_of arguments.now) (setting_of setting.now)) result };
 

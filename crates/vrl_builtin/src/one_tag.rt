@@ -49,7 +49,7 @@ pub trait OneTag {
     /// call uses memory.
     fn apply(&self, alloc: Global, arguments: &Arguments<'_>, setting: &Setting<'_, '_>) -> Applied
         requires arguments { AreArguments (whole_row (one_tag_row self.now)) (arguments_of arguments.now) }
-        requires regexes { IsTrue (arguments_below (length setting.now.patterns.now) (arguments_of arguments.now)) }
+        requires regexes { IsTrue (arguments_below (length setting.now.searches.now) (arguments_of arguments.now)) }
         ensures { Applies (uses_memory self.now (arguments_of arguments.now))
             (named (one_tag_row self.now).name
             ((one_tag_row self.now).means (arguments_of arguments.now) (setting_of setting.now))) result };

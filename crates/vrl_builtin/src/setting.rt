@@ -7,5 +7,5 @@ pub struct Setting<'a, 'r> {
     /// The moment of the line that the script runs over.
     pub moment: Moment,
     /// The regexes of the script, and what their searches write to.
-    pub patterns: &'a Searches<'r>,
+    pub searches: &'a Searches<'r>,
 }

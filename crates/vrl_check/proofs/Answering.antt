@@ -19,17 +19,17 @@ use Rattle.vrl_judge.specs.declared.checker.Checker.{Checker}
 use Rattle.vrl_judge.specs.declared.ends.Returned.{Returned}
 use Rattle.vrl_check.specs.declared.judged.Ending.{Ending}
 use Rattle.vrl_check.specs.declared.judged.Judged.{Judged}
-use Rattle.vrl_judge.specs.declared.outcome.Outcome.{Outcome}
+use Rattle.vrl_judge.specs.declared.finding.Finding.{Finding}
 use Rattle.vrl_state.proofs.Limits.{either_root}
 use Rattle.vrl_judge.proofs.Joining.{way_known}
 use Rattle.vrl_check.specs.OpenRules.{language_rules}
 
 -- the ends of a script as they are answered: without an error a dead state stands for it
-pub record AreAnswered (after : State) (outcome : Outcome) (judged : Judged) : Type 0 where
-  pub kind : judged.kind ≡ outcome.kind
+pub record AreAnswered (after : State) (finding : Finding) (judged : Judged) : Type 0 where
+  pub kind : judged.kind ≡ finding.kind
   pub ok : judged.ok ≡ after
-  pub fail : judged.fail ≡ unwrap_or outcome.ends.fail (outside None)
-  pub ret : judged.ret ≡ outcome.ends.ret
+  pub fail : judged.fail ≡ unwrap_or finding.ends.fail (outside None)
+  pub ret : judged.ret ≡ finding.ends.ret
 
 fail_outside : (branch : Option State) → IsWay [] branch → unwrap_or branch (outside None) ≡ outside (known_on branch)
 fail_outside None is = refl
@@ -67,13 +67,13 @@ told_as [] = refl
 told_as (None ∷ loops) = ap (λ ls. Dead ∷ ls) (told_as loops)
 told_as (Some loop ∷ loops) = ap (λ ls. known_as loop.known ∷ ls) (told_as loops)
 
-pub script_judged : (start : KindTree) (es : Exprs) (before after : Checker) (outcome : Outcome) (judged : Judged) → IsStart start before.state → before.diagnostics.items ≡ [] → before.empties.items ≡ [] → before.loops.items ≡ [] → IsScriptAs es before after outcome
-    → AreAnswered after.state outcome judged → judged.empties ≡ after.empties.items → judged.loops ≡ map known_as (branches_known after.loops.items) → All HaveRootKinds judged.loops → AreOrdered after.diagnostics.items judged.diagnostics
+pub script_judged : (start : KindTree) (es : Exprs) (before after : Checker) (finding : Finding) (judged : Judged) → IsStart start before.state → before.diagnostics.items ≡ [] → before.empties.items ≡ [] → before.loops.items ≡ [] → IsScriptAs es before after finding
+    → AreAnswered after.state finding judged → judged.empties ≡ after.empties.items → judged.loops ≡ map known_as (branches_known after.loops.items) → All HaveRootKinds judged.loops → AreOrdered after.diagnostics.items judged.diagnostics
     → (j : Judgement) × JudgesScript (language_rules before.patterns.now) start es j × IsJudged j judged
-script_judged start es before after outcome judged starts no_codes no_tags no_loops is answered empties loops roots ordered =
+script_judged start es before after finding judged starts no_codes no_tags no_loops is answered empties loops roots ordered =
     let j = settle is.1 in
     let has = is.4 in
-    let are : AreEnds [] outcome.ends = subst (λ scopes. AreEnds scopes outcome.ends) starts.scopes has.ends.are in
+    let are : AreEnds [] finding.ends = subst (λ scopes. AreEnds scopes finding.ends) starts.scopes has.ends.are in
     let none : after.state.scopes ≡ [] = has.gathered.scopes ∙ starts.scopes in
     let kind = answered.kind ∙ has.kind in (
       j,
@@ -82,7 +82,7 @@ script_judged start es before after outcome judged starts no_codes no_tags no_lo
         kind = kind;
         root = subst IsRootKind (sym kind) has.root;
         ok = answered.ok ∙ state_outside after.state j.ok has.gathered.ok none;
-        fail = answered.fail ∙ fail_outside outcome.ends.fail are.fail ∙ ap outside has.ends.fail;
+        fail = answered.fail ∙ fail_outside finding.ends.fail are.fail ∙ ap outside has.ends.fail;
         ret = answered.ret ∙ are.ret.alive ∙ ap₂ (returning []) has.ends.returned has.ends.ret;
         returned = ap return_kind answered.ret ∙ has.ends.returned;
         returned_root = subst IsRootKind has.ends.returned are.ret.kind;

@@ -17,7 +17,7 @@ use Rattle.vrl_judge.specs.declared.calls.Argument.{Argument as CodeArgument}
 use Rattle.vrl_check.specs.declared.calls.Arguments.{Arguments}
 use Rattle.vrl_judge.specs.declared.checker.Checker.{Checker}
 use Rattle.vrl_judge.specs.declared.ends.Ends.{Ends}
-use Rattle.vrl_judge.specs.declared.outcome.Outcome.{Outcome}
+use Rattle.vrl_judge.specs.declared.finding.Finding.{Finding}
 use Rattle.vrl_check.proofs.Capable.{first_argument_can, other_arguments_can}
 use Rattle.vrl_judge.proofs.Parts.{behind_with, fails_as}
 use Rattle.vrl_check.proofs.Partway.{can_at, part_common}
@@ -82,14 +82,14 @@ argument_fewer before now whole left rest name span e parts ends is so_far =
     let fewer : args_size (arg name span e rest) ≤ args_size whole = subst (λ l. args_size l ≤ args_size whole) is so_far.fewer in
     omega (arith, fewer)
 
-pub argument_common : (before now after : Checker) (whole left : Args) (e : Expr) (parts : List CodeArgument) (ends : Ends) (part : Outcome) → IsArgumentsPartway before now whole left parts ends → IsJudgedAs e now after part → HaveCommonScopes ends part.ends
+pub argument_common : (before now after : Checker) (whole left : Args) (e : Expr) (parts : List CodeArgument) (ends : Ends) (part : Finding) → IsArgumentsPartway before now whole left parts ends → IsJudgedAs e now after part → HaveCommonScopes ends part.ends
 argument_common before now after whole left e parts ends part so_far judged = part_common before now after ends part so_far.j judged.0 so_far.has_ends so_far.gathered judged.2
 
 -- what the walk keeps of an argument that was judged last
-abbrev pub kept_of : Outcome → Checker → CodeArgument
+abbrev pub kept_of : Finding → Checker → CodeArgument
 kept_of part after = record { kind = part.kind; fallible = is_some part.ends.fail; known = is_some after.state.known && not part.ends.poisoned }
 
-argument_told : (now after : Checker) (part : Outcome) (span : Span) (e : Expr) (p : Judgement) → HasJudged now after part p → kept_of part after ≡ part_of (record { span = span; value = e; judged = p })
+argument_told : (now after : Checker) (part : Finding) (span : Span) (e : Expr) (p : Judgement) → HasJudged now after part p → kept_of part after ≡ part_of (record { span = span; value = e; judged = p })
 argument_told now after part span e p has =
     let kind = has.kind in
     let fallible = fails_as now.state.scopes part.ends p has.ends in
@@ -102,7 +102,7 @@ one_more_root [] g roots root = (root, tt)
 one_more_root (h ∷ js) g roots root = (roots.0, one_more_root js g roots.1 root)
 
 -- one more argument
-pub arguments_next : (before now after : Checker) (whole left rest : Args) (name : Option (List ℕ)) (span : Span) (e : Expr) (parts more_parts : List CodeArgument) (argument : CodeArgument) (ends next : Ends) (part : Outcome) → left ≡ arg name span e rest → more_parts ≡ parts ++ (argument ∷ [])
+pub arguments_next : (before now after : Checker) (whole left rest : Args) (name : Option (List ℕ)) (span : Span) (e : Expr) (parts more_parts : List CodeArgument) (argument : CodeArgument) (ends next : Ends) (part : Finding) → left ≡ arg name span e rest → more_parts ≡ parts ++ (argument ∷ [])
     → IsArgumentsPartway before now whole left parts ends → IsJudgedAs e now after part
     → argument ≡ kept_of part after
     → AreJoinedEnds ends part.ends next → (AreEnds before.state.scopes ends → AreEnds before.state.scopes part.ends → AreEnds before.state.scopes next)
@@ -155,6 +155,6 @@ arguments_are gs before now arguments are = subst (λ s. AreEnds s arguments.end
 pub arguments_told : (gs : Args) (before now : Checker) (arguments : Arguments) → AreArgumentsAs gs before now arguments → IsTold gs arguments.parts.items
 arguments_told gs before now arguments are = (are.0, are.3.told)
 
-pub call_given : (span : Span) (f : Form) (gs : Args) (before now after : Checker) (arguments : Arguments) (outcome : Outcome) → AreArgumentsAs gs before now arguments → IsCalledAs span f gs arguments now after outcome → IsGivenAs span f before after outcome
-call_given span f gs before now after arguments outcome are called known alive =
+pub call_given : (span : Span) (f : Form) (gs : Args) (before now after : Checker) (arguments : Arguments) (finding : Finding) → AreArgumentsAs gs before now arguments → IsCalledAs span f gs arguments now after finding → IsGivenAs span f before after finding
+call_given span f gs before now after arguments finding are called known alive =
     called before known are.0 are.1 alive (subst (λ s. JudgesArguments (language_rules before.patterns.now) before.inside (gives never_kind s) gs are.0 are.1) alive are.2) are.3

@@ -25,7 +25,7 @@ use Rattle.vrl_judge.specs.Seen.{seen}
 use Rattle.vrl_judge.specs.declared.branches.Ways.{Ways}
 use Rattle.vrl_judge.specs.declared.checker.Checker.{Checker}
 use Rattle.vrl_judge.specs.declared.ends.Ends.{Ends}
-use Rattle.vrl_judge.specs.declared.outcome.Outcome.{Outcome}
+use Rattle.vrl_judge.specs.declared.finding.Finding.{Finding}
 use Rattle.vrl_check.proofs.Capable.{none_of_both}
 use Rattle.vrl_judge.proofs.Parts.{no_loops}
 use Rattle.vrl_state.proofs.Limits.{either_root}
@@ -101,7 +101,7 @@ ways_here before now ways w has = ways_in ways before.state.scopes now.state.sco
 
 -- ---- one arm
 
-beside_predicate : (p : Expr) (ways middle : Ways) (b c : Checker) (part : Outcome) (ds es : List Diagnostic) (ts us : List Tag) (ls ms : List (Option Loop)) → IsRootKind ways.kind
+beside_predicate : (p : Expr) (ways middle : Ways) (b c : Checker) (part : Finding) (ds es : List Diagnostic) (ts us : List Tag) (ls ms : List (Option Loop)) → IsRootKind ways.kind
     → IsPredicateBeside (span_of p) part ways b c middle
     → IsBeside (seen_ways ways ds ts ls) (record (predicate_of p (seen part b es us ms)) { kind = never_kind; ok = None }) (seen_ways middle (ds ++ (es ++ of_predicate (span_of p) (seen part b [] [] []))) (ts ++ us) (ls ++ ms))
 beside_predicate p ways middle b c part ds es ts us ls ms root is =
@@ -120,7 +120,7 @@ beside_predicate p ways middle b c part ds es ts us ls ms root is =
       loops = refl;
     }
 
-beside_block : (middle all : Ways) (e f : Checker) (mark : State) (block : Outcome) (ds es : List Diagnostic) (ts us : List Tag) (ls ms : List (Option Loop)) → IsBlockBeside mark block middle e f all
+beside_block : (middle all : Ways) (e f : Checker) (mark : State) (block : Finding) (ds es : List Diagnostic) (ts us : List Tag) (ls ms : List (Option Loop)) → IsBlockBeside mark block middle e f all
     → IsBeside (seen_ways middle ds ts ls) (seen block e es us ms) (seen_ways all (ds ++ es) (ts ++ us) (ls ++ ms))
 beside_block middle all e f mark block ds es ts us ls ms is = record {
   kind = is.kind;
@@ -135,7 +135,7 @@ beside_block middle all e f mark block ds es ts us ls ms is = record {
 }
 
 -- the state that was marked, and the one behind the predicate
-gathers_arm : (before a b c e : Checker) (s mark : State) (part block : Outcome) (old new : Ends) (ds es ps qs : List Diagnostic) (ts us vs : List Tag) (ls ms ns : List (Option Loop)) → Gathers before a ds ts ls → Gathers a b es us ms → IsReported ps b c old new → s ≡ c.state → Gathers (record c { state = s }) e qs vs ns → mark ≡ c.state
+gathers_arm : (before a b c e : Checker) (s mark : State) (part block : Finding) (old new : Ends) (ds es ps qs : List Diagnostic) (ts us vs : List Tag) (ls ms ns : List (Option Loop)) → Gathers before a ds ts ls → Gathers a b es us ms → IsReported ps b c old new → s ≡ c.state → Gathers (record c { state = s }) e qs vs ns → mark ≡ c.state
     → Gathers before (record e { state = mark }) ((ds ++ (es ++ ps)) ++ qs) ((ts ++ us) ++ vs) ((ls ++ ms) ++ ns)
 gathers_arm before a b c e s mark part block old new ds es ps qs ts us vs ls ms ns first second reported same third marked =
     let here = gathers_both before a c ds (es ++ ps) ts us ls ms first (gathers_reported a b c es ps us ms old new second reported) in
@@ -143,7 +143,7 @@ gathers_arm before a b c e s mark part block old new ds es ps qs ts us vs ls ms 
     let there = gathers_both before c e (ds ++ (es ++ ps)) qs (ts ++ us) vs (ls ++ ms) ns here back in
     record { scopes = ap (λ x. x.scopes) marked ∙ here.scopes; diagnostics = there.diagnostics; empties = there.empties; loops = there.loops; patterns = there.patterns; inside = there.inside }
 
-arm_told : (t : ArmTree) (before a b c e f : Checker) (s mark : State) (ways middle all : Ways) (part block : Outcome) (ds : List Diagnostic) (ts : List Tag) (ls : List (Option Loop)) → AreTold before a ways ds ts ls → IsToldExpr t.0 a b part
+arm_told : (t : ArmTree) (before a b c e f : Checker) (s mark : State) (ways middle all : Ways) (part block : Finding) (ds : List Diagnostic) (ts : List Tag) (ls : List (Option Loop)) → AreTold before a ways ds ts ls → IsToldExpr t.0 a b part
     → IsPredicateBeside (span_of t.0) part ways b c middle → s ≡ c.state → mark ≡ c.state → IsToldBlock t.1 (record c { state = s }) e block → IsBlockBeside mark block middle e f all
     → IsArmAs t (seen_ways ways ds ts ls) before a f all
 arm_told t before a b c e f s mark ways middle all part block ds ts ls w x predicate same marked y behind =
@@ -169,7 +169,7 @@ arm_told t before a b c e f s mark ways middle all part block ds ts ls w x predi
       });
     }
 
-pub arm_judged : (t : ArmTree) (span : Span) (a b c e f : Checker) (s mark : State) (ways middle all : Ways) (part block : Outcome) → IsJudgedAs t.0 a b part → span ≡ span_of t.0
+pub arm_judged : (t : ArmTree) (span : Span) (a b c e f : Checker) (s mark : State) (ways middle all : Ways) (part block : Finding) → IsJudgedAs t.0 a b part → span ≡ span_of t.0
     → IsPredicateBeside span part ways b c middle → s ≡ c.state → mark ≡ c.state → IsBlockAs t.1 (record c { state = s }) e block → IsBlockBeside mark block middle e f all
     → IsArmBehind t ways a f all
 arm_judged t span a b c e f s mark ways middle all part block first spans predicate same marked second behind = λ before w has.
@@ -178,7 +178,7 @@ arm_judged t span a b c e f s mark ways middle all part block first spans predic
     (subst (λ s. IsPredicateBeside s part ways b c middle) spans predicate) same marked (told_block t.1 (record c { state = s }) e block second) behind)
 
 -- where the ways with the predicate stand behind the block
-pub middle_here : (p : Expr) (es : Exprs) (span : Span) (a b c e : Checker) (s : State) (ways middle : Ways) (part block : Outcome) → IsPredicateBeside span part ways b c middle → s ≡ c.state → IsBlockAs es (record c { state = s }) e block
+pub middle_here : (p : Expr) (es : Exprs) (span : Span) (a b c e : Checker) (s : State) (ways middle : Ways) (part block : Finding) → IsPredicateBeside span part ways b c middle → s ≡ c.state → IsBlockAs es (record c { state = s }) e block
     → AreWays e.state.scopes middle
 middle_here p es span a b c e s ways middle part block predicate same second =
     ways_in middle b.state.scopes e.state.scopes (sym (second.2.gathered.scopes ∙ ap (λ x. x.scopes) (same ∙ predicate.reported.state))) predicate.are
@@ -280,29 +280,29 @@ next_can whole rest otherwise t left start now ways is so_far =
 -- ---- the last way
 
 -- what a last `else`, or a missing one, gives
-record IsLast (w : Judgement) (otherwise : Else) (now after : Checker) (last : Outcome) : Type 0 where
+record IsLast (w : Judgement) (otherwise : Else) (now after : Checker) (last : Finding) : Type 0 where
   pub k : Judgement
   pub judged : HasJudged now after last k
   pub judges : (all : Judgement) → IsBeside w k all → JudgesArms (language_rules now.patterns.now) now.inside now.state.known w no_arms otherwise all
 
-is_last : (w : Judgement) (otherwise : Else) (now after : Checker) (last : Outcome) → IsElseAs otherwise now after last → IsLast w otherwise now after last
+is_last : (w : Judgement) (otherwise : Else) (now after : Checker) (last : Finding) → IsElseAs otherwise now after last → IsLast w otherwise now after last
 is_last w (else_block es) now after last is = record { k = is.0; judged = is.2; judges = λ all beside. an_else is.1 beside }
 is_last w no_else now after last is = record { k = settle (gives is.0 now.state.known); judged = is.2; judges = λ all beside. a_missing_else is.1 beside }
 
 -- where it stands, for a call behind it
-pub last_ends : (otherwise : Else) (now after : Checker) (last : Outcome) → IsElseAs otherwise now after last → AreEnds after.state.scopes last.ends
+pub last_ends : (otherwise : Else) (now after : Checker) (last : Finding) → IsElseAs otherwise now after last → AreEnds after.state.scopes last.ends
 last_ends otherwise now after last is =
     let l = is_last (nothing []) otherwise now after last is in
     subst (λ scopes. AreEnds scopes last.ends) (sym l.judged.gathered.scopes) l.judged.ends.are
 
 -- where the ways before it stand
-pub ways_behind : (otherwise : Else) (start now after : Checker) (ways : Ways) (w : Judgement) (last : Outcome) → HasWays start now ways w → IsElseAs otherwise now after last → AreWays after.state.scopes ways
+pub ways_behind : (otherwise : Else) (start now after : Checker) (ways : Ways) (w : Judgement) (last : Finding) → HasWays start now ways w → IsElseAs otherwise now after last → AreWays after.state.scopes ways
 ways_behind otherwise start now after ways w last has is =
     ways_in ways now.state.scopes after.state.scopes (sym (is_last w otherwise now after last is).judged.gathered.scopes) (ways_here start now ways w has)
 
-beside_last : (ways : Ways) (last outcome : Outcome) (after end : Checker) (ds es : List Diagnostic) (ts us : List Tag) (ls ms : List (Option Loop)) → IsLastBeside ways last after end outcome
-    → IsBeside (seen_ways ways ds ts ls) (seen last after es us ms) (seen outcome end (ds ++ es) (ts ++ us) (ls ++ ms))
-beside_last ways last outcome after end ds es ts us ls ms is = record {
+beside_last : (ways : Ways) (last finding : Finding) (after end : Checker) (ds es : List Diagnostic) (ts us : List Tag) (ls ms : List (Option Loop)) → IsLastBeside ways last after end finding
+    → IsBeside (seen_ways ways ds ts ls) (seen last after es us ms) (seen finding end (ds ++ es) (ts ++ us) (ls ++ ms))
+beside_last ways last finding after end ds es ts us ls ms is = record {
   kind = is.kind;
   ok = is.known;
   fail = is.ends.fail;
@@ -314,29 +314,29 @@ beside_last ways last outcome after end ds es ts us ls ms is = record {
   loops = refl;
 }
 
-last_told : (otherwise : Else) (start now after end : Checker) (ways : Ways) (last outcome : Outcome) (ds : List Diagnostic) (ts : List Tag) (ls : List (Option Loop)) → AreTold start now ways ds ts ls → IsLast (seen_ways ways ds ts ls) otherwise now after last
-    → IsLastBeside ways last after end outcome → (j : Judgement) × JudgesArms (language_rules now.patterns.now) now.inside now.state.known (seen_ways ways ds ts ls) no_arms otherwise j × HasJudged start end outcome j
-last_told otherwise start now after end ways last outcome ds ts ls w is behind =
+last_told : (otherwise : Else) (start now after end : Checker) (ways : Ways) (last finding : Finding) (ds : List Diagnostic) (ts : List Tag) (ls : List (Option Loop)) → AreTold start now ways ds ts ls → IsLast (seen_ways ways ds ts ls) otherwise now after last
+    → IsLastBeside ways last after end finding → (j : Judgement) × JudgesArms (language_rules now.patterns.now) now.inside now.state.known (seen_ways ways ds ts ls) no_arms otherwise j × HasJudged start end finding j
+last_told otherwise start now after end ways last finding ds ts ls w is behind =
     let es = is.k.codes in
     let us = is.k.empties in
     let ms = is.k.loops in
-    let all = seen outcome end (ds ++ es) (ts ++ us) (ls ++ ms) in
+    let all = seen finding end (ds ++ es) (ts ++ us) (ls ++ ms) in
     let x : IsTold now after last es us ms = told_of now after last is.k is.judged in (
       all,
-      is.judges all (subst (λ k. IsBeside (seen_ways ways ds ts ls) k all) (sym (as_seen now after last is.k is.judged)) (beside_last ways last outcome after end ds es ts us ls ms behind)),
-      told start end outcome (ds ++ es) (ts ++ us) (ls ++ ms) (record {
-        root = either_root ways.kind last.kind outcome.kind w.root x.root behind.kind;
-        are = subst (λ scopes. AreEnds scopes outcome.ends) (x.gathers.scopes ∙ w.gathers.scopes) behind.are;
+      is.judges all (subst (λ k. IsBeside (seen_ways ways ds ts ls) k all) (sym (as_seen now after last is.k is.judged)) (beside_last ways last finding after end ds es ts us ls ms behind)),
+      told start end finding (ds ++ es) (ts ++ us) (ls ++ ms) (record {
+        root = either_root ways.kind last.kind finding.kind w.root x.root behind.kind;
+        are = subst (λ scopes. AreEnds scopes finding.ends) (x.gathers.scopes ∙ w.gathers.scopes) behind.are;
         gathers = gathers_moved start after end (ds ++ es) (ts ++ us) (ls ++ ms) (gathers_both start now after ds es ts us ls ms w.gathers x.gathers) behind.moved;
       }),
     )
 
-pub conditional_judged : (whole : Arms) (otherwise : Else) (start now after end : Checker) (ways : Ways) (last outcome : Outcome) → AreJudged whole otherwise no_arms start now ways → IsElseAs otherwise now after last → IsLastBeside ways last after end outcome
-    → IsAnywhereAs (conditional whole otherwise) start end outcome
-conditional_judged whole otherwise start now after end ways last outcome so_far is behind = λ span known alive.
+pub conditional_judged : (whole : Arms) (otherwise : Else) (start now after end : Checker) (ways : Ways) (last finding : Finding) → AreJudged whole otherwise no_arms start now ways → IsElseAs otherwise now after last → IsLastBeside ways last after end finding
+    → IsAnywhereAs (conditional whole otherwise) start end finding
+conditional_judged whole otherwise start now after end ways last finding so_far is behind = λ span known alive.
     let same = as_seen_ways start now ways so_far.w so_far.told in
     let v = seen_ways ways so_far.w.codes so_far.w.empties so_far.w.loops in
-    let ended = last_told otherwise start now after end ways last outcome so_far.w.codes so_far.w.empties so_far.w.loops (ways_told_of start now ways so_far.w so_far.told) (is_last v otherwise now after last is) behind in (
+    let ended = last_told otherwise start now after end ways last finding so_far.w.codes so_far.w.empties so_far.w.loops (ways_told_of start now ways so_far.w so_far.told) (is_last v otherwise now after last is) behind in (
       ended.0,
       a_conditional (subst (λ s. JudgesArms (language_rules start.patterns.now) start.inside s (nothing []) whole otherwise ended.0) alive
           (so_far.judges ended.0 (arms_here start now now.state.known so_far.w no_arms otherwise ended.0 so_far.told.patterns so_far.told.inside

@@ -143,22 +143,22 @@ allowed_from r place (p ∷ ps) (q ∷ places) js all (given ∷ givens) same wi
 
 -- ---- what is bound
 
-abbrev pub outcome : Bool → Option ℕ → Option ℕ → List (Option ℕ) → Result (List (Option ℕ)) BindFault
-outcome wrong unknown missing places = if wrong then Err fault.Number else bound_or_unknown unknown (bound_or_missing missing places)
+abbrev pub finding : Bool → Option ℕ → Option ℕ → List (Option ℕ) → Result (List (Option ℕ)) BindFault
+finding wrong unknown missing places = if wrong then Err fault.Number else bound_or_unknown unknown (bound_or_missing missing places)
 
-places_found : (wrong : Bool) (unknown missing : Option ℕ) (places found : List (Option ℕ)) → outcome wrong unknown missing places ≡ Ok found → (missing ≡ None) × (found ≡ places)
+places_found : (wrong : Bool) (unknown missing : Option ℕ) (places found : List (Option ℕ)) → finding wrong unknown missing places ≡ Ok found → (missing ≡ None) × (found ≡ places)
 places_found true unknown missing places found is = absurd cc
 places_found false (Some u) missing places found is = absurd cc
 places_found false None (Some m) places found is = absurd cc
 places_found false None None places found is = (refl, cc)
 
-pub unknown_found : (wrong : Bool) (unknown missing : Option ℕ) (places : List (Option ℕ)) (i : ℕ) → outcome wrong unknown missing places ≡ Err (fault.Unknown i) → unknown ≡ Some i
+pub unknown_found : (wrong : Bool) (unknown missing : Option ℕ) (places : List (Option ℕ)) (i : ℕ) → finding wrong unknown missing places ≡ Err (fault.Unknown i) → unknown ≡ Some i
 unknown_found true unknown missing places i is = absurd cc
 unknown_found false (Some u) missing places i is = cc
 unknown_found false None (Some m) places i is = absurd cc
 unknown_found false None None places i is = absurd cc
 
-pub no_memory_found : (wrong : Bool) (unknown missing : Option ℕ) (places : List (Option ℕ)) → outcome wrong unknown missing places ≡ Err fault.Memory → ⊥
+pub no_memory_found : (wrong : Bool) (unknown missing : Option ℕ) (places : List (Option ℕ)) → finding wrong unknown missing places ≡ Err fault.Memory → ⊥
 no_memory_found true unknown missing places is = cc
 no_memory_found false (Some u) missing places is = cc
 no_memory_found false None (Some m) places is = cc

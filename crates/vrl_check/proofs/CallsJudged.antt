@@ -26,7 +26,7 @@ use Rattle.vrl_check.specs.declared.calls.Arguments.{Arguments}
 use Rattle.vrl_check.specs.declared.calls.Callee.{Callee}
 use Rattle.vrl_judge.specs.declared.checker.Checker.{Checker}
 use Rattle.vrl_judge.specs.declared.ends.Ends.{Ends}
-use Rattle.vrl_judge.specs.declared.outcome.Outcome.{Outcome}
+use Rattle.vrl_judge.specs.declared.finding.Finding.{Finding}
 use Rattle.vrl_check.proofs.Passed.{loops_passed, nulls_allowed}
 use Rattle.vrl_judge.proofs.Parts.{added, loops_added, are_ends_of, ends_of, ends_or_fail, gathered_moved, gathered_of, reported_ends, reported_gathered}
 use Rattle.vrl_judge.proofs.RootKinds.{any_root, scalar_root}
@@ -66,18 +66,18 @@ unknown_name name unknown none =
     let paths = or_parts (is_del name) (is_exists name) unknown.paths in
     or_from (is_del name) (is_exists name || takes_closure name) paths.0 (or_from (is_exists name) (takes_closure name) paths.1 none)
 
-pub nothing_judged : (name : List ℕ) (s span : Span) (bang : Bool) (gs : Args) (c : Closure) (before now after : Checker) (known : RootMap) (js : List Argument) (j : Judgement) (arguments : Arguments) (outcome : Outcome)
-    → IsUnknown name → takes_closure name ≡ false → JudgesArguments (language_rules before.patterns.now) before.inside (gives never_kind (Some known)) gs js j → IsPassed before now gs c arguments js j → outcome.kind ≡ any_kind → IsReported (at 105 s) now after arguments.ends outcome.ends
-    → (k : Judgement) × Gives (language_rules before.patterns.now) before.inside known span (call name s bang gs c) k × HasJudged before after outcome k
-nothing_judged name s span bang gs c before now after known js j arguments outcome unknown none judged passed any reported =
+pub nothing_judged : (name : List ℕ) (s span : Span) (bang : Bool) (gs : Args) (c : Closure) (before now after : Checker) (known : RootMap) (js : List Argument) (j : Judgement) (arguments : Arguments) (finding : Finding)
+    → IsUnknown name → takes_closure name ≡ false → JudgesArguments (language_rules before.patterns.now) before.inside (gives never_kind (Some known)) gs js j → IsPassed before now gs c arguments js j → finding.kind ≡ any_kind → IsReported (at 105 s) now after arguments.ends finding.ends
+    → (k : Judgement) × Gives (language_rules before.patterns.now) before.inside known span (call name s bang gs c) k × HasJudged before after finding k
+nothing_judged name s span bang gs c before now after known js j arguments finding unknown none judged passed any reported =
     let whole : Judgement = passing_closure c (nulls (in_closure c)) (record j { kind = any_kind }) in (
       with_codes (at 105 s) whole,
       a_call_of_nothing unknown.functions (unknown_name name unknown none) judged (nulls_allowed before.patterns.now (in_closure c)),
       record {
         kind = any;
         root = any_root;
-        ends = reported_ends before.state.scopes (at 105 s) now after arguments.ends outcome.ends whole reported (ends_of before.state.scopes arguments.ends (passing_closure c (nulls (in_closure c)) j) whole passed.ends refl refl refl refl);
-        gathered = reported_gathered (at 105 s) before now after arguments.ends outcome.ends whole reported (gathered_of before now (passing_closure c (nulls (in_closure c)) j) whole passed.gathered refl refl refl refl);
+        ends = reported_ends before.state.scopes (at 105 s) now after arguments.ends finding.ends whole reported (ends_of before.state.scopes arguments.ends (passing_closure c (nulls (in_closure c)) j) whole passed.ends refl refl refl refl);
+        gathered = reported_gathered (at 105 s) before now after arguments.ends finding.ends whole reported (gathered_of before now (passing_closure c (nulls (in_closure c)) j) whole passed.gathered refl refl refl refl);
       },
     )
 
@@ -124,29 +124,29 @@ answered_of poisoned poisoned' sources sources' function js js' K fails same_poi
     (subst (λ s. IsAnsweredUnless poisoned s (row_of function) js' K fails) same_sources
     (subst (λ gs. IsAnsweredUnless poisoned sources (row_of function) gs K fails) same is))
 
-pub function_judged : (function : Fun) (name : List ℕ) (s span : Span) (bang : Bool) (gs : Args) (c : Closure) (arguments : Arguments) (places : List (Option ℕ)) (now after : Checker) (outcome : Outcome) → (row_of function).name ≡ name
-    → places ≡ places_in (binding (row_of function).parameters (keywords_of gs)) → ((js : List Argument) → AreTold gs arguments.parts.items js → IsAnsweredAs function (bound places js) arguments.ends now outcome) → after ≡ now
-    → IsBoundCallAs (callee.Function function) span (call name s bang gs c) bang gs c arguments now after outcome
-function_judged function name s span bang gs c arguments places now after outcome is places_are answers same = λ before known js j alive judged ready.
+pub function_judged : (function : Fun) (name : List ℕ) (s span : Span) (bang : Bool) (gs : Args) (c : Closure) (arguments : Arguments) (places : List (Option ℕ)) (now after : Checker) (finding : Finding) → (row_of function).name ≡ name
+    → places ≡ places_in (binding (row_of function).parameters (keywords_of gs)) → ((js : List Argument) → AreTold gs arguments.parts.items js → IsAnsweredAs function (bound places js) arguments.ends now finding) → after ≡ now
+    → IsBoundCallAs (callee.Function function) span (call name s bang gs c) bang gs c arguments now after finding
+function_judged function name s span bang gs c arguments places now after finding is places_are answers same = λ before known js j alive judged ready.
     let answer = answers js ready.told in
     let whole = with_call_codes (callee.Function function) span gs c js j in
     let scopes = before.state.scopes in
-    let fail = known_on outcome.ends.fail in
-    let are : AreEnds scopes outcome.ends = subst (λ x. AreEnds x outcome.ends) ready.gathered.scopes answer.are in
-    let given = answered_of arguments.ends.poisoned whole.poisoned now.patterns.now before.patterns.now function (bound places js) (bound (places_in (binding (row_of function).parameters (keywords_of gs))) js) outcome.kind answer.fails
+    let fail = known_on finding.ends.fail in
+    let are : AreEnds scopes finding.ends = subst (λ x. AreEnds x finding.ends) ready.gathered.scopes answer.are in
+    let given = answered_of arguments.ends.poisoned whole.poisoned now.patterns.now before.patterns.now function (bound places js) (bound (places_in (binding (row_of function).parameters (keywords_of gs))) js) finding.kind answer.fails
     ready.ends.poisoned (ap (λ ps. ps.now) ready.gathered.patterns)
     (ap (λ qs. bound qs js) places_are) answer.answered
     in
     let joined : IsJoined whole.fail (if_state answer.fails whole.ok) fail =
     join_of (known_on arguments.ends.fail) whole.fail (if_state answer.fails now.state.known) (if_state answer.fails whole.ok) fail ready.ends.fail (ap (if_state answer.fails) ready.gathered.ok) answer.or_fail.fail
     in (
-      record whole { kind = outcome.kind; fail = fail },
-      a_call function outcome.kind answer.fails fail is judged (nulls_allowed before.patterns.now (in_closure c)) refl given joined,
+      record whole { kind = finding.kind; fail = fail },
+      a_call function finding.kind answer.fails fail is judged (nulls_allowed before.patterns.now (in_closure c)) refl given joined,
       record {
         kind = refl;
         root = answer.root;
-        ends = ends_of scopes outcome.ends (record whole { fail = fail }) (record whole { kind = outcome.kind; fail = fail }) (ends_or_fail scopes arguments.ends outcome.ends whole ready.ends answer.or_fail.others are) refl refl refl refl;
-        gathered = subst (λ x. HasGathered before x (record whole { kind = outcome.kind; fail = fail })) (sym same) (gathered_of before now whole (record whole { kind = outcome.kind; fail = fail }) ready.gathered refl refl refl refl);
+        ends = ends_of scopes finding.ends (record whole { fail = fail }) (record whole { kind = finding.kind; fail = fail }) (ends_or_fail scopes arguments.ends finding.ends whole ready.ends answer.or_fail.others are) refl refl refl refl;
+        gathered = subst (λ x. HasGathered before x (record whole { kind = finding.kind; fail = fail })) (sym same) (gathered_of before now whole (record whole { kind = finding.kind; fail = fail }) ready.gathered refl refl refl refl);
       },
     )
 
@@ -170,9 +170,9 @@ deleted_root false [] roots = any_root
 deleted_root false (g ∷ []) roots = roots.0
 deleted_root false (g ∷ h ∷ js) roots = any_root
 
-pub deletion_judged : (name : List ℕ) (s span : Span) (bang : Bool) (gs : Args) (c : Closure) (arguments : Arguments) (now after : Checker) (outcome : Outcome) → is_del name ≡ true
-    → ((js : List Argument) → AreTold gs arguments.parts.items js → IsDeletedAs js arguments.ends now after outcome) → IsBoundCallAs callee.Deletion span (call name s bang gs c) bang gs c arguments now after outcome
-deletion_judged name s span bang gs c arguments now after outcome is deletes = λ before known js j alive judged ready.
+pub deletion_judged : (name : List ℕ) (s span : Span) (bang : Bool) (gs : Args) (c : Closure) (arguments : Arguments) (now after : Checker) (finding : Finding) → is_del name ≡ true
+    → ((js : List Argument) → AreTold gs arguments.parts.items js → IsDeletedAs js arguments.ends now after finding) → IsBoundCallAs callee.Deletion span (call name s bang gs c) bang gs c arguments now after finding
+deletion_judged name s span bang gs c arguments now after finding is deletes = λ before known js j alive judged ready.
     let deleted = deletes js ready.told in
     let whole = with_call_codes callee.Deletion span gs c js j in
     let taken : IsDeletedAt (deleted_path whole.poisoned js) whole.ok after.state.known =
@@ -191,16 +191,16 @@ deletion_judged name s span bang gs c arguments now after outcome is deletes = �
 
 -- ---- `exists`
 
-pub existence_judged : (name : List ℕ) (s span : Span) (bang : Bool) (gs : Args) (c : Closure) (arguments : Arguments) (now : Checker) (outcome : Outcome) → is_exists name ≡ true → IsScalar tag.Bool outcome.kind → outcome.ends ≡ arguments.ends
-    → IsBoundCallAs callee.Existence span (call name s bang gs c) bang gs c arguments now now outcome
-existence_judged name s span bang gs c arguments now outcome is scalar same = λ before known js j alive judged ready.
+pub existence_judged : (name : List ℕ) (s span : Span) (bang : Bool) (gs : Args) (c : Closure) (arguments : Arguments) (now : Checker) (finding : Finding) → is_exists name ≡ true → IsScalar tag.Bool finding.kind → finding.ends ≡ arguments.ends
+    → IsBoundCallAs callee.Existence span (call name s bang gs c) bang gs c arguments now now finding
+existence_judged name s span bang gs c arguments now finding is scalar same = λ before known js j alive judged ready.
     let whole = with_call_codes callee.Existence span gs c js j in
-    let last : Judgement = record whole { kind = outcome.kind } in (
+    let last : Judgement = record whole { kind = finding.kind } in (
       last,
-      an_existence outcome.kind is judged (nulls_allowed before.patterns.now (in_closure c)) refl scalar,
+      an_existence finding.kind is judged (nulls_allowed before.patterns.now (in_closure c)) refl scalar,
       record {
         kind = refl;
-        root = scalar_root tag.Bool outcome.kind scalar refl;
+        root = scalar_root tag.Bool finding.kind scalar refl;
         ends = subst (λ e. HasEnds before.state.scopes e last) (sym same) (ends_of before.state.scopes arguments.ends whole last ready.ends refl refl refl refl);
         gathered = gathered_of before now whole last ready.gathered refl refl refl refl;
       },

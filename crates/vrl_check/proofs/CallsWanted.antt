@@ -28,7 +28,7 @@ use Rattle.vrl_check.specs.Calling.{call_args, call_bang, call_closure, call_nam
 use Rattle.vrl_check.specs.Iterating.{closure_at, closure_items, closure_names, closure_span}
 use Rattle.vrl_check.specs.Judgement.{bound, of_arguments, own_codes}
 use Rattle.vrl_check.specs.Walking.{FormCanBeJudged, ItemsCanBeJudged}
-use Rattle.vrl_check.proofs.CallsAllowed.{no_memory_found, outcome, unknown_found, unknown_told}
+use Rattle.vrl_check.proofs.CallsAllowed.{no_memory_found, finding, unknown_found, unknown_told}
 use Rattle.vrl_check.proofs.CallsFound.{call_seen}
 use Rattle.vrl_check.proofs.Capable.{closure_can, none_of_both}
 use Rattle.vrl_binding.specs.declared.binding.BindFault.TheVariants as fault
@@ -79,7 +79,7 @@ wanted_told f c span right is = ap (λ b. when (not b) (at 1010 span)) is ∙ ap
 abbrev wanted_codes : CallForm → Span → Closure → Keywords → List Argument → List Diagnostic
 wanted_codes f span c ks js = own_codes (λ i p e. false) (collection_parameters f) span (of_wanted_closure f span c) js (binding (collection_parameters f) ks)
 
-places_right : (wrong : Bool) (unknown missing : Option ℕ) (places found : List (Option ℕ)) → outcome wrong unknown missing places ≡ Ok found → (wrong ≡ false) × (missing ≡ None)
+places_right : (wrong : Bool) (unknown missing : Option ℕ) (places found : List (Option ℕ)) → finding wrong unknown missing places ≡ Ok found → (wrong ≡ false) × (missing ≡ None)
 places_right true unknown missing places found is = absurd cc
 places_right false (Some u) missing places found is = absurd cc
 places_right false None (Some m) places found is = absurd cc

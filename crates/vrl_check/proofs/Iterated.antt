@@ -21,7 +21,7 @@ use Rattle.vrl_judge.specs.Judging.{known_on, way, AreEnds, HasEnds, HasGathered
 use Rattle.vrl_judge.specs.Rules.{at, banged, gives, has_others, if_state, when, with_codes, Argument, Judgement, Loop}
 use Rattle.vrl_judge.specs.declared.checker.Checker.{Checker}
 use Rattle.vrl_judge.specs.declared.ends.Ends.{Ends}
-use Rattle.vrl_judge.specs.declared.outcome.Outcome.{Outcome}
+use Rattle.vrl_judge.specs.declared.finding.Finding.{Finding}
 use Rattle.vrl_judge.proofs.Gathering.{part_then}
 use Rattle.vrl_judge.proofs.Joining.{join_of, known_way}
 use Rattle.vrl_judge.proofs.Parts.{behind_with, ends_of, ends_or_fail, gathered_of, reported_ends, reported_gathered, reported_judged}
@@ -88,25 +88,25 @@ runs_at f c Ks runs before now C names loop k known patterns here judges =
     subst (λ s. JudgesRuns (language_rules before.patterns.now) (body_of f (closure_names c) (closure_items c) names.key names.value) s loop k) here
     (subst (λ b. JudgesRuns (language_rules before.patterns.now) b now.state.known loop k) same (subst (λ ps. JudgesRuns (language_rules ps.now) (body_in c Ks runs) now.state.known loop k) patterns judges))
 
-pub iterated_judged : (f : CallForm) (c : CodeClosure) (Ks : List KindTree) (runs : Bool) (before now mid after : Checker) (arguments : Arguments) (taken : Collection) (run : Run) (outcome : Outcome) (gs : Args) (g : Argument) (j : Judgement)
-    → HasArguments before now gs arguments (g ∷ []) j → IsCollection f g.judged.kind now arguments taken → AreNameKinds f taken.kind Ks runs → AreRuns f (body_in c Ks runs) now mid run → IsMadeOf f (closure_span c) taken run mid after outcome
-    → IsIterated f (closure_names c) (closure_items c) (closure_span c) g j before after outcome
-iterated_judged f c Ks runs before now mid after arguments taken run outcome gs g j has collection names are made =
+pub iterated_judged : (f : CallForm) (c : CodeClosure) (Ks : List KindTree) (runs : Bool) (before now mid after : Checker) (arguments : Arguments) (taken : Collection) (run : Run) (finding : Finding) (gs : Args) (g : Argument) (j : Judgement)
+    → HasArguments before now gs arguments (g ∷ []) j → IsCollection f g.judged.kind now arguments taken → AreNameKinds f taken.kind Ks runs → AreRuns f (body_in c Ks runs) now mid run → IsMadeOf f (closure_span c) taken run mid after finding
+    → IsIterated f (closure_names c) (closure_items c) (closure_span c) g j before after finding
+iterated_judged f c Ks runs before now mid after arguments taken run finding gs g j has collection names are made =
     let scopes = before.state.scopes in
     let loop = are.loop in
     let k = are.k in
     let p = run_through loop k in
     let same : mid.state.scopes ≡ scopes = are.judged.gathered.scopes ∙ has.gathered.scopes in
     let ends = subst (λ e. HasEnds scopes e j) (sym collection.ends) has.ends in
-    let all = part_then before now mid taken.ends made.both run.outcome j p ends has.gathered are.judged made.joined (subst (λ s. AreEnds s made.both) same made.stand) in
+    let all = part_then before now mid taken.ends made.both run.finding j p ends has.gathered are.judged made.joined (subst (λ s. AreEnds s made.both) same made.stand) in
     let whole = behind_with made.both j p in
     let fail = known_on made.failing.fail in
-    let last : Judgement = record whole { kind = outcome.kind; fail = fail } in
+    let last : Judgement = record whole { kind = finding.kind; fail = fail } in
     let others : known_on taken.fail ≡ if_state (has_others (collections f) g.judged.kind) j.ok =
     ap known_on collection.fail ∙ known_way now.state.scopes (if_state (has_others (collections f) g.judged.kind) now.state.known) ∙ ap (if_state (has_others (collections f) g.judged.kind)) has.gathered.ok
     in
     let failing = ends_or_fail scopes made.both made.failing whole all.ends made.or_fail.others (subst (λ s. AreEnds s made.failing) same made.are) in
-    let made_judged : HasJudged before mid (record { kind = outcome.kind; ends = made.failing }) last = record {
+    let made_judged : HasJudged before mid (record { kind = finding.kind; ends = made.failing }) last = record {
       kind = refl;
       root = made.root (cut_present (collections f) g.judged.kind taken.kind collection.kind);
       ends = ends_of scopes made.failing (record whole { fail = fail }) last failing refl refl refl refl;
@@ -119,29 +119,29 @@ iterated_judged f c Ks runs before now mid after arguments taken run outcome gs 
       loop = loop;
       k = k;
       whole = whole;
-      K = outcome.kind;
+      K = finding.kind;
       fail = fail;
       collection = collection.kind;
       key_kind = names.key_kind;
       value_kind = names.value_kind;
       runs = runs_at f c Ks runs before now taken.kind names loop k j.ok has.gathered.patterns has.gathered.ok are.runs;
       in_order = all.in_order;
-      kind = subst (λ K. IsCutOf (call_at f taken.kind K) outcome.kind) are.judged.kind made.kind;
+      kind = subst (λ K. IsCutOf (call_at f taken.kind K) finding.kind) are.judged.kind made.kind;
       fails = join_of (known_on made.both.fail) (known_on made.both.fail) (known_on taken.fail) (if_state (has_others (collections f) g.judged.kind) j.ok) fail refl others made.or_fail.fail;
-      judged = subst (λ b. HasJudged before after outcome (with_codes (when b (at 1015 (closure_span c))) last)) are.wrong
-          (reported_judged (when run.wrong (at 1015 (closure_span c))) before mid after (record { kind = outcome.kind; ends = made.failing }) outcome last made.reported refl made_judged);
+      judged = subst (λ b. HasJudged before after finding (with_codes (when b (at 1015 (closure_span c))) last)) are.wrong
+          (reported_judged (when run.wrong (at 1015 (closure_span c))) before mid after (record { kind = finding.kind; ends = made.failing }) finding last made.reported refl made_judged);
     }
 
 -- ---- the whole call
 
-pub closure_call_judged : (f : CallForm) (name : List ℕ) (s span : Span) (bang : Bool) (gs : Args) (names : List (List ℕ)) (es : Exprs) (t : Span) (before now bound after last : Checker) (known : RootMap) (arguments next : Arguments) (made outcome : Outcome) (js : List Argument) (j : Judgement)
+pub closure_call_judged : (f : CallForm) (name : List ℕ) (s span : Span) (bang : Bool) (gs : Args) (names : List (List ℕ)) (es : Exprs) (t : Span) (before now bound after last : Checker) (known : RootMap) (arguments next : Arguments) (made finding : Finding) (js : List Argument) (j : Judgement)
     → form_named name ≡ Some f → is_closure_form (Some f) ≡ true → JudgesArguments (language_rules before.patterns.now) before.inside (gives never_kind (Some known)) gs js j → HasArguments before now gs arguments js j
     → IsReported (of_closure_call f span gs (closure names es t) js) now bound arguments.ends next.ends → next.parts ≡ arguments.parts → of_closure_call f span gs (closure names es t) js ≡ []
     → ((g : Argument) × (js ≡ g ∷ []))
     → ((g : Argument) → HasArguments before bound gs next (g ∷ []) j → IsIterated f names es t g j before after made)
-    → ((k : Judgement) → HasJudged before after made k → HasJudged before last outcome (banged span bang k))
-    → (k : Judgement) × Gives (language_rules before.patterns.now) before.inside known span (call name s bang gs (closure names es t)) k × HasJudged before last outcome k
-closure_call_judged f name s span bang gs names es t before now bound after last known arguments next made outcome js j named four judged has reported same none one iterates bangs =
+    → ((k : Judgement) → HasJudged before after made k → HasJudged before last finding (banged span bang k))
+    → (k : Judgement) × Gives (language_rules before.patterns.now) before.inside known span (call name s bang gs (closure names es t)) k × HasJudged before last finding k
+closure_call_judged f name s span bang gs names es t before now bound after last known arguments next made finding js j named four judged has reported same none one iterates bangs =
     let g = one.0 in
     let here = subst (λ gs'. HasArguments before bound gs next gs' j) one.1 (uncoded before now bound gs arguments next js j (of_closure_call f span gs (closure names es t) js) has reported same none) in
     let it = iterates g here in
@@ -152,20 +152,20 @@ closure_call_judged f name s span bang gs names es t before now bound after last
       bangs k it.judged,
     )
 
-pub wrong_call_judged : (f : CallForm) (name : List ℕ) (s span : Span) (bang : Bool) (gs : Args) (c : Closure) (before now bound last : Checker) (known : RootMap) (arguments next : Arguments) (outcome : Outcome) (js : List Argument) (j : Judgement)
+pub wrong_call_judged : (f : CallForm) (name : List ℕ) (s span : Span) (bang : Bool) (gs : Args) (c : Closure) (before now bound last : Checker) (known : RootMap) (arguments next : Arguments) (finding : Finding) (js : List Argument) (j : Judgement)
     → form_named name ≡ Some f → is_closure_form (Some f) ≡ true → JudgesArguments (language_rules before.patterns.now) before.inside (gives never_kind (Some known)) gs js j → HasArguments before now gs arguments js j
     → IsReported (of_closure_call f span gs c js) now bound arguments.ends next.ends
     → ((first : Diagnostic) × (others : List Diagnostic) × (of_closure_call f span gs c js ≡ first ∷ others))
-    → ((k : Judgement) → HasEnds before.state.scopes next.ends k → HasGathered before bound k → HasJudged before last outcome (banged span bang (passing_closure c (nulls (in_closure c)) (record k { kind = any_kind }))))
-    → (k : Judgement) × Gives (language_rules before.patterns.now) before.inside known span (call name s bang gs c) k × HasJudged before last outcome k
-wrong_call_judged f name s span bang gs c before now bound last known arguments next outcome js j named four judged has reported some passes =
+    → ((k : Judgement) → HasEnds before.state.scopes next.ends k → HasGathered before bound k → HasJudged before last finding (banged span bang (passing_closure c (nulls (in_closure c)) (record k { kind = any_kind }))))
+    → (k : Judgement) × Gives (language_rules before.patterns.now) before.inside known span (call name s bang gs c) k × HasJudged before last finding k
+wrong_call_judged f name s span bang gs c before now bound last known arguments next finding js j named four judged has reported some passes =
     let ds = of_closure_call f span gs c js in
     let ends = reported_ends before.state.scopes ds now bound arguments.ends next.ends j reported has.ends in
     let gathered = reported_gathered ds before now bound arguments.ends next.ends j reported has.gathered in
-    let all : HasJudged before last outcome (banged span bang (with_codes ds (passing_closure c (nulls (in_closure c)) (record j { kind = any_kind })))) = passes (with_codes ds j) ends gathered in (
+    let all : HasJudged before last finding (banged span bang (with_codes ds (passing_closure c (nulls (in_closure c)) (record j { kind = any_kind })))) = passes (with_codes ds j) ends gathered in (
       banged span bang (with_codes (some.0 ∷ some.1) (passing_closure c (nulls (in_closure c)) (record j { kind = any_kind }))),
       a_wrong_closure_call f some.0 some.1 named four judged (nulls_allowed before.patterns.now (in_closure c)) some.2,
-      subst (λ es. HasJudged before last outcome (banged span bang (with_codes es (passing_closure c (nulls (in_closure c)) (record j { kind = any_kind }))))) some.2 all,
+      subst (λ es. HasJudged before last finding (banged span bang (with_codes es (passing_closure c (nulls (in_closure c)) (record j { kind = any_kind }))))) some.2 all,
     )
 
 -- a call whose closure is passed by

@@ -14,7 +14,7 @@ use Rattle.vrl_judge.specs.Judging.{AreEnds, AreJoinedEnds, HasEnds, HasGathered
 use Rattle.vrl_check.specs.Walking.{ExprCanBeJudged, ElseCanBeJudged, FormCanBeJudged, IsAnywhereAs, IsItemAs, IsJudgedAs, IsScriptAs, IsSequenceAs, ItemsCanBeJudged, PairsCanBeJudged}
 use Rattle.vrl_judge.specs.declared.checker.Checker.{Checker}
 use Rattle.vrl_judge.specs.declared.ends.Ends.{Ends}
-use Rattle.vrl_judge.specs.declared.outcome.Outcome.{Outcome}
+use Rattle.vrl_judge.specs.declared.finding.Finding.{Finding}
 use Rattle.vrl_check.proofs.Capable.{first_can, rest_can, values_can, values_size}
 use Rattle.vrl_judge.proofs.Containers.{kinds_in, names_in}
 use Rattle.vrl_judge.proofs.Parts.{behind_with}
@@ -28,7 +28,7 @@ use Rattle.vrl_check.specs.OpenRules.{language_rules}
 
 -- ---- one part behind others
 
-pub part_common : (before now after : Checker) (ends : Ends) (part : Outcome) (j p : Judgement) → HasEnds before.state.scopes ends j → HasGathered before now j → HasJudged now after part p → HaveCommonScopes ends part.ends
+pub part_common : (before now after : Checker) (ends : Ends) (part : Finding) (j p : Judgement) → HasEnds before.state.scopes ends j → HasGathered before now j → HasJudged now after part p → HaveCommonScopes ends part.ends
 part_common before now after ends part j p has_ends gathered has = common before.state.scopes ends part.ends has_ends.are (part_are before now after part j p gathered has)
 
 -- what can be judged at one place can be at another
@@ -58,7 +58,7 @@ partway_first : (before : Checker) (K : KindTree) (whole : Exprs) → ItemsCanBe
 partway_first before K whole can = record { leads = λ more k all. all; has_ends = value_ends before K; gathered = value_gathered before K; can = can; fewer = omega arith }
 
 -- one more part
-partway_next : (before now after : Checker) (K : KindTree) (whole rest : Exprs) (e : Expr) (ends next : Ends) (part : Outcome) (Ks : List KindTree) (j p : Judgement)
+partway_next : (before now after : Checker) (K : KindTree) (whole rest : Exprs) (e : Expr) (ends next : Ends) (part : Finding) (Ks : List KindTree) (j p : Judgement)
     → IsPartway before now K whole (exprs e rest) ends Ks j → Judges (language_rules now.patterns.now) now.inside now.state.known e p → HasJudged now after part p → AreJoinedEnds ends part.ends next → AreEnds before.state.scopes next
     → IsPartway before after K whole rest next (Ks ++ (part.kind ∷ [])) (behind_with next j p)
 partway_next before now after K whole rest e ends next part Ks j p so_far judges has joined are =
@@ -110,10 +110,10 @@ array_can_next before now whole left rest e ends Ks is so_far = can_at before no
 pub array_fewer : (before now : Checker) (whole left rest : Exprs) (e : Expr) (ends : Ends) (Ks : List KindTree) → left ≡ exprs e rest → IsArrayPartway before now whole left ends Ks → expr_size e ≤ exprs_size whole
 array_fewer before now whole left rest e ends Ks is so_far = let fewer : exprs_size (exprs e rest) ≤ exprs_size whole = subst (λ l. exprs_size l ≤ exprs_size whole) is so_far.so_far.fewer in omega (arith, fewer)
 
-pub array_common : (before now after : Checker) (whole left : Exprs) (e : Expr) (ends : Ends) (part : Outcome) (Ks : List KindTree) → IsArrayPartway before now whole left ends Ks → IsJudgedAs e now after part → HaveCommonScopes ends part.ends
+pub array_common : (before now after : Checker) (whole left : Exprs) (e : Expr) (ends : Ends) (part : Finding) (Ks : List KindTree) → IsArrayPartway before now whole left ends Ks → IsJudgedAs e now after part → HaveCommonScopes ends part.ends
 array_common before now after whole left e ends part Ks so_far judged = part_common before now after ends part so_far.j judged.0 so_far.so_far.has_ends so_far.so_far.gathered judged.2
 
-pub array_next : (before now after : Checker) (whole left rest : Exprs) (e : Expr) (ends next : Ends) (part : Outcome) (Ks Ls : List KindTree) → left ≡ exprs e rest → Ls ≡ Ks ++ (part.kind ∷ [])
+pub array_next : (before now after : Checker) (whole left rest : Exprs) (e : Expr) (ends next : Ends) (part : Finding) (Ks Ls : List KindTree) → left ≡ exprs e rest → Ls ≡ Ks ++ (part.kind ∷ [])
     → IsArrayPartway before now whole left ends Ks → IsJudgedAs e now after part → AreJoinedEnds ends part.ends next → (AreEnds before.state.scopes ends → AreEnds before.state.scopes part.ends → AreEnds before.state.scopes next)
     → IsArrayPartway before after whole rest next Ls
 array_next before now after whole left rest e ends next part Ks Ls is more so_far judged joined are =
@@ -149,10 +149,10 @@ pub object_fewer : (before now : Checker) (whole left rest : Pairs) (n : List �
 object_fewer before now whole left rest n e ends es is so_far =
     subst (λ k. expr_size e ≤ k) (values_size whole) (array_fewer before now (pair_values whole) (pair_values left) (pair_values rest) e ends (kinds_in es) (ap pair_values is) so_far.values)
 
-pub object_common : (before now after : Checker) (whole left : Pairs) (e : Expr) (ends : Ends) (part : Outcome) (es : List (List ℕ × KindTree)) → IsObjectPartway before now whole left ends es → IsJudgedAs e now after part → HaveCommonScopes ends part.ends
+pub object_common : (before now after : Checker) (whole left : Pairs) (e : Expr) (ends : Ends) (part : Finding) (es : List (List ℕ × KindTree)) → IsObjectPartway before now whole left ends es → IsJudgedAs e now after part → HaveCommonScopes ends part.ends
 object_common before now after whole left e ends part es so_far judged = array_common before now after (pair_values whole) (pair_values left) e ends part (kinds_in es) so_far.values judged
 
-pub object_next : (before now after : Checker) (whole left rest : Pairs) (n : List ℕ) (e : Expr) (ends next : Ends) (part : Outcome) (es fs : List (List ℕ × KindTree)) → left ≡ pair n e rest → fs ≡ es ++ ((n, part.kind) ∷ [])
+pub object_next : (before now after : Checker) (whole left rest : Pairs) (n : List ℕ) (e : Expr) (ends next : Ends) (part : Finding) (es fs : List (List ℕ × KindTree)) → left ≡ pair n e rest → fs ≡ es ++ ((n, part.kind) ∷ [])
     → IsObjectPartway before now whole left ends es → IsJudgedAs e now after part → AreJoinedEnds ends part.ends next → (AreEnds before.state.scopes ends → AreEnds before.state.scopes part.ends → AreEnds before.state.scopes next)
     → IsObjectPartway before after whole rest next fs
 object_next before now after whole left rest n e ends next part es fs is more so_far judged joined are = record {
@@ -178,7 +178,7 @@ object_given before now whole left ends es K is so_far cut span known alive =
 
 -- ---- items of a block
 
-pub record IsSequencePartway (before now : Checker) (whole left : Exprs) (last : Outcome) : Type 0 where
+pub record IsSequencePartway (before now : Checker) (whole left : Exprs) (last : Finding) : Type 0 where
   pub N : KindTree
   pub Ks : List KindTree
   pub j : Judgement
@@ -187,7 +187,7 @@ pub record IsSequencePartway (before now : Checker) (whole left : Exprs) (last :
   pub kind : last.kind ≡ j.kind
   pub root : IsRootKind j.kind
 
-pub sequence_first : (before : Checker) (whole left : Exprs) (last : Outcome) (N : KindTree) → left ≡ whole → last.kind ≡ N → last.ends ≡ no_ends → IsScalar tag.Null N → ItemsCanBeJudged before.patterns.now whole → IsSequencePartway before before whole left last
+pub sequence_first : (before : Checker) (whole left : Exprs) (last : Finding) (N : KindTree) → left ≡ whole → last.kind ≡ N → last.ends ≡ no_ends → IsScalar tag.Null N → ItemsCanBeJudged before.patterns.now whole → IsSequencePartway before before whole left last
 sequence_first before whole left last N all is none null can = record {
   N = N;
   Ks = [];
@@ -199,16 +199,16 @@ sequence_first before whole left last N all is none null can = record {
   root = scalar_root tag.Null N null refl;
 }
 
-pub sequence_can_next : (before now : Checker) (whole left rest : Exprs) (e : Expr) (last : Outcome) → left ≡ exprs e rest → IsSequencePartway before now whole left last → ExprCanBeJudged now.patterns.now e
+pub sequence_can_next : (before now : Checker) (whole left rest : Exprs) (e : Expr) (last : Finding) → left ≡ exprs e rest → IsSequencePartway before now whole left last → ExprCanBeJudged now.patterns.now e
 sequence_can_next before now whole left rest e last is so_far = can_at before now e so_far.so_far.gathered.patterns (first_can e rest (subst (ItemsCanBeJudged before.patterns.now) is so_far.so_far.can))
 
-pub sequence_fewer : (before now : Checker) (whole left rest : Exprs) (e : Expr) (last : Outcome) → left ≡ exprs e rest → IsSequencePartway before now whole left last → expr_size e ≤ exprs_size whole
+pub sequence_fewer : (before now : Checker) (whole left rest : Exprs) (e : Expr) (last : Finding) → left ≡ exprs e rest → IsSequencePartway before now whole left last → expr_size e ≤ exprs_size whole
 sequence_fewer before now whole left rest e last is so_far = let fewer : exprs_size (exprs e rest) ≤ exprs_size whole = subst (λ l. exprs_size l ≤ exprs_size whole) is so_far.so_far.fewer in omega (arith, fewer)
 
-pub sequence_common : (before now after : Checker) (whole left : Exprs) (e : Expr) (last part : Outcome) → IsSequencePartway before now whole left last → IsJudgedAs e now after part → HaveCommonScopes last.ends part.ends
+pub sequence_common : (before now after : Checker) (whole left : Exprs) (e : Expr) (last part : Finding) → IsSequencePartway before now whole left last → IsJudgedAs e now after part → HaveCommonScopes last.ends part.ends
 sequence_common before now after whole left e last part so_far judged = part_common before now after last.ends part so_far.j judged.0 so_far.so_far.has_ends so_far.so_far.gathered judged.2
 
-pub sequence_next : (before now after : Checker) (whole left rest : Exprs) (e : Expr) (last next part : Outcome) → left ≡ exprs e rest
+pub sequence_next : (before now after : Checker) (whole left rest : Exprs) (e : Expr) (last next part : Finding) → left ≡ exprs e rest
     → IsSequencePartway before now whole left last → IsJudgedAs e now after part → next.kind ≡ part.kind → AreJoinedEnds last.ends part.ends next.ends → (AreEnds before.state.scopes last.ends → AreEnds before.state.scopes part.ends → AreEnds before.state.scopes next.ends)
     → IsSequencePartway before after whole rest next
 sequence_next before now after whole left rest e last next part is so_far judged same joined are =
@@ -224,7 +224,7 @@ sequence_next before now after whole left rest e last next part is so_far judged
       root = judged.2.root;
     }
 
-pub sequence_end : (before now : Checker) (whole left : Exprs) (last : Outcome) → left ≡ no_exprs → IsSequencePartway before now whole left last → IsSequenceAs whole before now last
+pub sequence_end : (before now : Checker) (whole left : Exprs) (last : Finding) → left ≡ no_exprs → IsSequencePartway before now whole left last → IsSequenceAs whole before now last
 sequence_end before now whole left last is so_far known alive =
     let here = subst (λ l. IsPartway before now so_far.N whole l last.ends so_far.Ks so_far.j) is so_far.so_far in
     let all = subst (λ k. JudgesAll (language_rules before.patterns.now) before.inside (gives so_far.N k) whole so_far.Ks so_far.j) alive (partway_end before now so_far.N whole last.ends so_far.Ks so_far.j here) in
@@ -232,7 +232,7 @@ sequence_end before now whole left last is so_far known alive =
 
 -- ---- items of a script
 
-pub record IsScriptPartway (before now : Checker) (whole left : Exprs) (last : Outcome) : Type 0 where
+pub record IsScriptPartway (before now : Checker) (whole left : Exprs) (last : Finding) : Type 0 where
   pub N : KindTree
   pub j : Judgement
   pub null : IsScalar tag.Null N
@@ -241,7 +241,7 @@ pub record IsScriptPartway (before now : Checker) (whole left : Exprs) (last : O
   pub can : ItemsCanBeJudged before.patterns.now left
   pub outside : before.inside ≡ false
 
-pub script_first : (before : Checker) (whole left : Exprs) (last : Outcome) (N : KindTree) → left ≡ whole → last.kind ≡ N → last.ends ≡ no_ends → IsScalar tag.Null N → ItemsCanBeJudged before.patterns.now whole → before.inside ≡ false → IsScriptPartway before before whole left last
+pub script_first : (before : Checker) (whole left : Exprs) (last : Finding) (N : KindTree) → left ≡ whole → last.kind ≡ N → last.ends ≡ no_ends → IsScalar tag.Null N → ItemsCanBeJudged before.patterns.now whole → before.inside ≡ false → IsScriptPartway before before whole left last
 script_first before whole left last N all is none null can outside =
     let first : IsScriptPartway before before whole whole last = record {
       N = N;
@@ -259,14 +259,14 @@ script_first before whole left last N all is none null can outside =
     } in
     subst (λ l. IsScriptPartway before before whole l last) (sym all) first
 
-pub script_can_next : (before now : Checker) (whole left rest : Exprs) (e : Expr) (last : Outcome) → left ≡ exprs e rest → IsScriptPartway before now whole left last → ExprCanBeJudged now.patterns.now e
+pub script_can_next : (before now : Checker) (whole left rest : Exprs) (e : Expr) (last : Finding) → left ≡ exprs e rest → IsScriptPartway before now whole left last → ExprCanBeJudged now.patterns.now e
 script_can_next before now whole left rest e last is so_far = can_at before now e so_far.has.gathered.patterns (first_can e rest (subst (ItemsCanBeJudged before.patterns.now) is so_far.can))
 
-pub script_common : (before now after : Checker) (whole left : Exprs) (e : Expr) (last part : Outcome) → IsScriptPartway before now whole left last → IsItemAs e now after part → HaveCommonScopes last.ends part.ends
+pub script_common : (before now after : Checker) (whole left : Exprs) (e : Expr) (last part : Finding) → IsScriptPartway before now whole left last → IsItemAs e now after part → HaveCommonScopes last.ends part.ends
 script_common before now after whole left e last part so_far item =
     part_common before now after last.ends part so_far.j (with_codes (of_item (span_of e) item.0) item.0) so_far.has.ends so_far.has.gathered item.2
 
-pub script_next : (before now after : Checker) (whole left rest : Exprs) (e : Expr) (last next part : Outcome) → left ≡ exprs e rest
+pub script_next : (before now after : Checker) (whole left rest : Exprs) (e : Expr) (last next part : Finding) → left ≡ exprs e rest
     → IsScriptPartway before now whole left last → IsItemAs e now after part → next.kind ≡ part.kind → AreJoinedEnds last.ends part.ends next.ends → (AreEnds before.state.scopes last.ends → AreEnds before.state.scopes part.ends → AreEnds before.state.scopes next.ends)
     → IsScriptPartway before after whole rest next
 script_next before now after whole left rest e last next part is so_far item same joined are =
@@ -286,7 +286,7 @@ script_next before now after whole left rest e last next part is so_far item sam
       outside = so_far.outside;
     }
 
-pub script_end : (before now : Checker) (whole left : Exprs) (last outcome : Outcome) → left ≡ no_exprs → IsScriptPartway before now whole left last → IsSettledAs last now outcome → IsScriptAs whole before now outcome
-script_end before now whole left last outcome is so_far settles =
+pub script_end : (before now : Checker) (whole left : Exprs) (last finding : Finding) → left ≡ no_exprs → IsScriptPartway before now whole left last → IsSettledAs last now finding → IsScriptAs whole before now finding
+script_end before now whole left last finding is so_far settles =
     let has = settles before so_far.j so_far.has in
     (so_far.N, so_far.j, so_far.null, so_far.leads so_far.j (subst (λ l. JudgesItems (language_rules before.patterns.now) so_far.j l so_far.j) (sym is) no_more_items), has)

@@ -7,7 +7,7 @@ use Rattle.vrl_state.specs.States.{State}
 use Rattle.vrl_judge.specs.Judging.{branches_known, known_on, loops_known, no_ends, AreEnds, HasJudged}
 use Rattle.vrl_judge.specs.Returns.{return_kind, return_state}
 use Rattle.vrl_judge.specs.declared.checker.Checker.{Checker}
-use Rattle.vrl_judge.specs.declared.outcome.Outcome.{Outcome}
+use Rattle.vrl_judge.specs.declared.finding.Finding.{Finding}
 use Rattle.vrl_judge.proofs.Joining.{no_ends_are}
 use Rattle.vrl_judge.proofs.RootKinds.{never_root}
 use Rattle.vrl_check.specs.Judgement.{AreUnjudged, unreached_parts}
@@ -32,10 +32,10 @@ none_known (suc n) = ap (λ xs. None ∷ xs) (none_known n)
 pub loops_passed : (before after : List (Option State)) (n : ℕ) → after ≡ before ++ passed_states n → branches_known after ≡ branches_known before ++ loops_known (unjudged n)
 loops_passed before after n is = ap branches_known is ∙ map-append known_on before (passed_states n) ∙ ap (λ xs. branches_known before ++ xs) (none_known n)
 
-pub part_passed : (m n : ℕ) (before after : Checker) (outcome : Outcome) → after.state ≡ before.state → after.diagnostics ≡ before.diagnostics → after.patterns ≡ before.patterns → after.inside ≡ before.inside
-    → after.empties.items ≡ before.empties.items ++ nulls m → after.loops.items ≡ before.loops.items ++ passed_states n → outcome.kind ≡ never_kind → outcome.ends ≡ no_ends
-    → HasJudged before after outcome (record (unreached_parts (nulls m) n) { ok = before.state.known })
-part_passed m n before after outcome state diagnostics patterns inside empties loops kind ends = record {
+pub part_passed : (m n : ℕ) (before after : Checker) (finding : Finding) → after.state ≡ before.state → after.diagnostics ≡ before.diagnostics → after.patterns ≡ before.patterns → after.inside ≡ before.inside
+    → after.empties.items ≡ before.empties.items ++ nulls m → after.loops.items ≡ before.loops.items ++ passed_states n → finding.kind ≡ never_kind → finding.ends ≡ no_ends
+    → HasJudged before after finding (record (unreached_parts (nulls m) n) { ok = before.state.known })
+part_passed m n before after finding state diagnostics patterns inside empties loops kind ends = record {
   kind = kind;
   root = never_root;
   ends = record {

@@ -10,7 +10,7 @@ use Rattle.vrl_judge.specs.Judging.{AreEnds}
 use Rattle.vrl_check.specs.Walking.{IsBlockAs, IsJudgedAs}
 use Rattle.vrl_judge.specs.Seen.{seen}
 use Rattle.vrl_judge.specs.declared.checker.Checker.{Checker}
-use Rattle.vrl_judge.specs.declared.outcome.Outcome.{Outcome}
+use Rattle.vrl_judge.specs.declared.finding.Finding.{Finding}
 use Rattle.vrl_judge.proofs.Told.{as_seen, IsTold, told_of, are_behind}
 use Rattle.vrl_check.specs.OpenRules.{language_rules}
 
@@ -25,14 +25,14 @@ pub block_at : (a c : Checker) (known : Option RootMap) (es : Exprs) (j : Judgem
 block_at a c known es j same inside here is =
     subst (λ s. JudgesBlock (language_rules a.patterns.now) a.inside s es j) here (subst (λ b. JudgesBlock (language_rules a.patterns.now) b c.state.known es j) inside (subst (λ ps. JudgesBlock (language_rules ps.now) c.inside c.state.known es j) same is))
 
-pub record IsToldExpr (e : Expr) (before after : Checker) (part : Outcome) : Type 0 where
+pub record IsToldExpr (e : Expr) (before after : Checker) (part : Finding) : Type 0 where
   pub codes : List Diagnostic
   pub tags : List Tag
   pub loops : List (Option Loop)
   pub judges : Judges (language_rules before.patterns.now) before.inside before.state.known e (seen part after codes tags loops)
   pub ended : IsTold before after part codes tags loops
 
-pub told_expr : (e : Expr) (before after : Checker) (part : Outcome) → IsJudgedAs e before after part → IsToldExpr e before after part
+pub told_expr : (e : Expr) (before after : Checker) (part : Finding) → IsJudgedAs e before after part → IsToldExpr e before after part
 told_expr e before after part is = record {
   codes = is.0.codes;
   tags = is.0.empties;
@@ -41,14 +41,14 @@ told_expr e before after part is = record {
   ended = told_of before after part is.0 is.2;
 }
 
-pub record IsToldBlock (es : Exprs) (before after : Checker) (part : Outcome) : Type 0 where
+pub record IsToldBlock (es : Exprs) (before after : Checker) (part : Finding) : Type 0 where
   pub codes : List Diagnostic
   pub tags : List Tag
   pub loops : List (Option Loop)
   pub judges : JudgesBlock (language_rules before.patterns.now) before.inside before.state.known es (seen part after codes tags loops)
   pub ended : IsTold before after part codes tags loops
 
-pub told_block : (es : Exprs) (before after : Checker) (part : Outcome) → IsBlockAs es before after part → IsToldBlock es before after part
+pub told_block : (es : Exprs) (before after : Checker) (part : Finding) → IsBlockAs es before after part → IsToldBlock es before after part
 told_block es before after part is = record {
   codes = is.0.codes;
   tags = is.0.empties;
@@ -58,11 +58,11 @@ told_block es before after part is = record {
 }
 
 -- where its parts stand, for a call behind it
-pub expr_ends : (e : Expr) (before after : Checker) (part : Outcome) → IsJudgedAs e before after part → AreEnds after.state.scopes part.ends
+pub expr_ends : (e : Expr) (before after : Checker) (part : Finding) → IsJudgedAs e before after part → AreEnds after.state.scopes part.ends
 expr_ends e before after part is = are_behind before after part is.0.codes is.0.empties is.0.loops (told_of before after part is.0 is.2)
 
-pub expr_root : (e : Expr) (before after : Checker) (part : Outcome) → IsJudgedAs e before after part → IsRootKind part.kind
+pub expr_root : (e : Expr) (before after : Checker) (part : Finding) → IsJudgedAs e before after part → IsRootKind part.kind
 expr_root e before after part is = subst IsRootKind (sym is.2.kind) is.2.root
 
-pub block_ends : (es : Exprs) (before after : Checker) (part : Outcome) → IsBlockAs es before after part → AreEnds after.state.scopes part.ends
+pub block_ends : (es : Exprs) (before after : Checker) (part : Finding) → IsBlockAs es before after part → AreEnds after.state.scopes part.ends
 block_ends es before after part is = are_behind before after part is.0.codes is.0.empties is.0.loops (told_of before after part is.0 is.2)

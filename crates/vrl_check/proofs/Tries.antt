@@ -13,7 +13,7 @@ use Rattle.vrl_judge.specs.Judging.{branches_known, known_on, loops_known, AreEn
 use Rattle.vrl_judge.specs.Rules.{if_state, Judgement, Loop}
 use Rattle.vrl_judge.specs.declared.checker.Checker.{Checker}
 use Rattle.vrl_judge.specs.declared.closures.Held.{Held}
-use Rattle.vrl_judge.specs.declared.outcome.Outcome.{Outcome}
+use Rattle.vrl_judge.specs.declared.finding.Finding.{Finding}
 use Rattle.vrl_judge.proofs.Parts.{ends_in, ends_of}
 use Rattle.vrl_check.specs.Determined.{ThirdTriesAreStable}
 use Rattle.vrl_check.specs.Iterating.{AreRuns, AreTries, BodyCanBeJudged, AreTriesBehind, IsBodyAs, IsLastTry, IsLetGo, IsStable, IsTaken, IsTriedAs, IsTriedFrom, IsUnstable, StandAlike}
@@ -29,11 +29,11 @@ use Rattle.vrl_check.specs.declared.iteration.Tried.TheVariants as tried
 -- ---- places that are alike
 
 -- what was judged behind one of them was judged behind the other
-pub judged_alike : (before middle after : Checker) (outcome : Outcome) (j : Judgement) → StandAlike before middle → HasJudged middle after outcome j → HasJudged before after outcome j
-judged_alike before middle after outcome j alike has = record {
+pub judged_alike : (before middle after : Checker) (finding : Finding) (j : Judgement) → StandAlike before middle → HasJudged middle after finding j → HasJudged before after finding j
+judged_alike before middle after finding j alike has = record {
   kind = has.kind;
   root = has.root;
-  ends = ends_in middle.state.scopes before.state.scopes outcome.ends j alike.scopes has.ends;
+  ends = ends_in middle.state.scopes before.state.scopes finding.ends j alike.scopes has.ends;
   gathered = record {
     ok = has.gathered.ok;
     scopes = has.gathered.scopes ∙ alike.scopes;
@@ -61,7 +61,7 @@ tries_alike f b try known before middle after run alike are = record {
   last = are.last;
   k = are.k;
   tries = subst (λ ps. JudgesTries (language_rules ps.now) b try known are.last are.k) alike.patterns are.tries;
-  judged = judged_alike before middle after run.outcome (record are.k { ok = are.last }) alike are.judged;
+  judged = judged_alike before middle after run.finding (record are.k { ok = are.last }) alike are.judged;
   wrong = are.wrong;
 }
 
@@ -72,17 +72,17 @@ body_at before now c Ks same can = subst (λ ps. BodyCanBeJudged ps.now c Ks) (s
 -- ---- the body once
 
 -- where no way leads to it
-pub body_passed : (b : ClosureBody) (before after : Checker) (outcome : Outcome) → before.state.known ≡ None → HasJudged before after outcome (record (unreached_parts (nulls (in_exprs b.items)) (closures_in_exprs b.items)) { ok = before.state.known }) → IsBodyAs b before after outcome
-body_passed b before after outcome dead has =
+pub body_passed : (b : ClosureBody) (before after : Checker) (finding : Finding) → before.state.known ≡ None → HasJudged before after finding (record (unreached_parts (nulls (in_exprs b.items)) (closures_in_exprs b.items)) { ok = before.state.known }) → IsBodyAs b before after finding
+body_passed b before after finding dead has =
     let j = unreached_parts (nulls (in_exprs b.items)) (closures_in_exprs b.items) in
-    (j, subst (λ k. JudgesBody (language_rules before.patterns.now) b k j) (sym dead) (unreached_body (nulls_allowed before.patterns.now (in_exprs b.items))), subst (λ k. HasJudged before after outcome (record j { ok = k })) dead has)
+    (j, subst (λ k. JudgesBody (language_rules before.patterns.now) b k j) (sym dead) (unreached_body (nulls_allowed before.patterns.now (in_exprs b.items))), subst (λ k. HasJudged before after finding (record j { ok = k })) dead has)
 
 -- the walk stands outside again, or in the closure around
-outside_again : (before within after last : Checker) (outcome : Outcome) (j : Judgement) → within ≡ record before { inside = true } → last ≡ record after { inside = before.inside } → HasJudged within after outcome j → HasJudged before last outcome j
-outside_again before within after last outcome j inside back has = record {
+outside_again : (before within after last : Checker) (finding : Finding) (j : Judgement) → within ≡ record before { inside = true } → last ≡ record after { inside = before.inside } → HasJudged within after finding j → HasJudged before last finding j
+outside_again before within after last finding j inside back has = record {
   kind = has.kind;
   root = has.root;
-  ends = ends_in within.state.scopes before.state.scopes outcome.ends j (ap (λ c. c.state.scopes) inside) has.ends;
+  ends = ends_in within.state.scopes before.state.scopes finding.ends j (ap (λ c. c.state.scopes) inside) has.ends;
   gathered = record {
     ok = ap (λ c. c.state.known) back ∙ has.gathered.ok;
     scopes = ap (λ c. c.state.scopes) back ∙ has.gathered.scopes ∙ ap (λ c. c.state.scopes) inside;
@@ -95,10 +95,10 @@ outside_again before within after last outcome j inside back has = record {
 }
 
 -- where one does: its names are bound in it, and the walk knows that it stands in a closure
-pub body_reached : (b : ClosureBody) (before within entered now after last : Checker) (part outcome : Outcome) → (before.state.known ≡ None → ⊥) → within ≡ record before { inside = true } → IsBodyEntered b.names b.kinds within entered → IsBlockAs b.items entered now part
-    → IsBodyEndAs part now after outcome → last ≡ record after { inside = before.inside } → IsBodyAs b before last outcome
-body_reached b before within entered now after last part outcome alive inside enters block ends_body back = by before.state.known refl where
-  by : (known : Option RootMap) → before.state.known ≡ known → IsBodyAs b before last outcome
+pub body_reached : (b : ClosureBody) (before within entered now after last : Checker) (part finding : Finding) → (before.state.known ≡ None → ⊥) → within ≡ record before { inside = true } → IsBodyEntered b.names b.kinds within entered → IsBlockAs b.items entered now part
+    → IsBodyEndAs part now after finding → last ≡ record after { inside = before.inside } → IsBodyAs b before last finding
+body_reached b before within entered now after last part finding alive inside enters block ends_body back = by before.state.known refl where
+  by : (known : Option RootMap) → before.state.known ≡ known → IsBodyAs b before last finding
   by None dead = absurd (alive dead)
   by (Some known) here =
       let there : within.state.known ≡ Some known = ap (λ c. c.state.known) inside ∙ here in
@@ -109,14 +109,14 @@ body_reached b before within entered now after last part outcome alive inside en
       let judged : JudgesBlock (language_rules before.patterns.now) true (Some (with_names b.names b.kinds known)) b.items j =
       subst (λ k. JudgesBlock (language_rules before.patterns.now) true k b.items j) names (subst (λ i. JudgesBlock (language_rules before.patterns.now) i entered.state.known b.items j) closed (subst (λ ps. JudgesBlock (language_rules ps.now) entered.inside entered.state.known b.items j) patterns block.1))
       in
-      let has : HasJudged within after outcome (left_body b known j) = ends_body b within entered known j there enters block.2 in (
+      let has : HasJudged within after finding (left_body b known j) = ends_body b within entered known j there enters block.2 in (
         left_body b known j,
         subst (λ k. JudgesBody (language_rules before.patterns.now) b k (left_body b known j)) (sym here) (reached_body judged),
-        outside_again before within after last outcome (left_body b known j) inside back has,
+        outside_again before within after last finding (left_body b known j) inside back has,
       )
 
 -- the block of an open body
-pub in_body : (b : ClosureBody) (within entered now : Checker) (part : Outcome) → IsBodyEntered b.names b.kinds within entered → IsBlockAs b.items entered now part → IsInBlock now part
+pub in_body : (b : ClosureBody) (within entered now : Checker) (part : Finding) → IsBodyEntered b.names b.kinds within entered → IsBlockAs b.items entered now part → IsInBlock now part
 in_body b within entered now part enters block = record {
   scope = enters.scope;
   scopes = within.state.scopes;
@@ -130,7 +130,7 @@ taken_back : {A : Type 0} (before now codes : List A) (n : ℕ) → n ≡ length
 taken_back before now codes n is behind = ap (take n) behind ∙ take_at before codes n (sym is)
 
 -- what is known at the start is known again
-stable_judged : (before gone now after : Checker) (start : State) (part : Outcome) (j : Judgement) → start ≡ before.state → StandAlike before gone → after ≡ record now { state = start } → HasJudged gone now part j → HasJudged before after part (record j { ok = before.state.known })
+stable_judged : (before gone now after : Checker) (start : State) (part : Finding) (j : Judgement) → start ≡ before.state → StandAlike before gone → after ≡ record now { state = start } → HasJudged gone now part j → HasJudged before after part (record j { ok = before.state.known })
 stable_judged before gone now after start part j kept alike back has =
     let here = judged_alike before gone now part j alike has in
     record {
@@ -148,7 +148,7 @@ stable_judged before gone now after start part j kept alike back has =
       };
     }
 
-stable_tried : (f : CallForm) (b : ClosureBody) (before gone now after : Checker) (start : State) (part : Outcome) (run : Run) → start ≡ before.state → gone.state.known ≡ if_state b.runs before.state.known → IsMoved before gone → IsBodyAs b gone now part
+stable_tried : (f : CallForm) (b : ClosureBody) (before gone now after : Checker) (start : State) (part : Finding) (run : Run) → start ≡ before.state → gone.state.known ≡ if_state b.runs before.state.known → IsMoved before gone → IsBodyAs b gone now part
     → IsTaken f start part now after run → IsStable f b before after run
 stable_tried f b before gone now after start part run kept known moved body taken =
     let j = body.0 in
@@ -158,11 +158,11 @@ stable_tried f b before gone now after start part run kept known moved body take
       j = j;
       judges = subst (λ k. JudgesBody (language_rules before.patterns.now) b k j) known (subst (λ ps. JudgesBody (language_rules ps.now) b gone.state.known j) moved.patterns body.1);
       stable = subst (λ k. IsKnownWithin k before.state.known) has.gathered.ok (subst (λ s. IsKnownWithin now.state.known s.known) kept taken.within);
-      judged = subst (λ o. HasJudged before after o (record j { ok = before.state.known })) (sym taken.outcome) (stable_judged before gone now after start part j kept alike taken.back has);
+      judged = subst (λ o. HasJudged before after o (record j { ok = before.state.known })) (sym taken.finding) (stable_judged before gone now after start part j kept alike taken.back has);
       wrong = taken.wrong gone j has;
     }
 
-unstable_tried : (f : CallForm) (b : ClosureBody) (before gone now after : Checker) (start : State) (held : Held) (part : Outcome) (behind : State) → start ≡ before.state → gone.state.known ≡ if_state b.runs before.state.known → IsMoved before gone
+unstable_tried : (f : CallForm) (b : ClosureBody) (before gone now after : Checker) (start : State) (held : Held) (part : Finding) (behind : State) → start ≡ before.state → gone.state.known ≡ if_state b.runs before.state.known → IsMoved before gone
     → held ≡ held_of before → IsBodyAs b gone now part → IsLetGo held start now after behind → IsUnstable b before after behind
 unstable_tried f b before gone now after start held part behind kept known moved held_is body gone_back =
     let j = body.0 in
@@ -187,7 +187,7 @@ unstable_tried f b before gone now after start held part behind kept known moved
       behind_scopes = ap (λ s. s.scopes) gone_back.left ∙ has.gathered.scopes;
     }
 
-pub tried_judged : (f : CallForm) (b : ClosureBody) (before gone now after : Checker) (start : State) (held : Held) (part : Outcome) (t : Tried) → start ≡ before.state → gone.state.known ≡ if_state b.runs before.state.known → IsMoved before gone
+pub tried_judged : (f : CallForm) (b : ClosureBody) (before gone now after : Checker) (start : State) (held : Held) (part : Finding) (t : Tried) → start ≡ before.state → gone.state.known ≡ if_state b.runs before.state.known → IsMoved before gone
     → held ≡ held_of before → IsBodyAs b gone now part → IsTriedFrom f held start part now after t → IsTriedAs f b before after t
 tried_judged f b before gone now after start held part (tried.Stable run) kept known moved held_is body from = stable_tried f b before gone now after start part run kept known moved body from
 tried_judged f b before gone now after start held part (tried.Unstable behind) kept known moved held_is body from = unstable_tried f b before gone now after start held part behind kept known moved held_is body from
@@ -288,7 +288,7 @@ all_runs f b place before kept now after run state diagnostics empties patterns 
       judged = record {
         kind = has.kind;
         root = has.root;
-        ends = ends_of before.state.scopes run.outcome.ends (record k { ok = are.last }) (run_through loop k) (ends_in kept.state.scopes before.state.scopes run.outcome.ends (record k { ok = are.last }) (ap (λ s. s.scopes) state) has.ends) refl refl refl refl;
+        ends = ends_of before.state.scopes run.finding.ends (record k { ok = are.last }) (run_through loop k) (ends_in kept.state.scopes before.state.scopes run.finding.ends (record k { ok = are.last }) (ap (λ s. s.scopes) state) has.ends) refl refl refl refl;
         gathered = record {
           ok = ap (λ c. c.state.known) others ∙ has.gathered.ok;
           scopes = ap (λ c. c.state.scopes) others ∙ has.gathered.scopes ∙ ap (λ s. s.scopes) state;

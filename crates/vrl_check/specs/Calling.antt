@@ -28,7 +28,7 @@ use Rattle.vrl_check.specs.declared.calls.Arguments.{Arguments}
 use Rattle.vrl_check.specs.declared.calls.Callee.{Callee}
 use Rattle.vrl_judge.specs.declared.checker.Checker.{Checker}
 use Rattle.vrl_judge.specs.declared.ends.Ends.{Ends}
-use Rattle.vrl_judge.specs.declared.outcome.Outcome.{Outcome}
+use Rattle.vrl_judge.specs.declared.finding.Finding.{Finding}
 use Rattle.vrl_judge.specs.Calling.{part_of}
 use Rattle.vrl_check.specs.declared.calls.Callee.TheVariants as callee
 use Rattle.vrl_check.specs.OpenRules.{language_rules}
@@ -116,28 +116,28 @@ AreArgumentsAs gs before after arguments = (js : List Argument) × (j : Judgemen
 
 -- ---- the call, behind them
 
-abbrev pub IsCalledAs : Span → Form → Args → Arguments → Checker → Checker → Outcome → Type 0
-IsCalledAs span f gs arguments now after outcome =
+abbrev pub IsCalledAs : Span → Form → Args → Arguments → Checker → Checker → Finding → Type 0
+IsCalledAs span f gs arguments now after finding =
     (before : Checker) (known : RootMap) (js : List Argument) (j : Judgement)
     → before.state.known ≡ Some known
     → JudgesArguments (language_rules before.patterns.now) before.inside (gives never_kind (Some known)) gs js j
     → HasArguments before now gs arguments js j
     → (k : Judgement) × Gives (language_rules before.patterns.now) before.inside known span f k
-    × HasJudged before after outcome k
+    × HasJudged before after finding k
 
 -- behind its closure, which isn't judged
 abbrev pub IsPassed : Checker → Checker → Args → Closure → Arguments → List Argument → Judgement → Type 0
 IsPassed before now gs c arguments js j =
     HasArguments before now gs arguments js (passing_closure c (nulls (in_closure c)) j)
 
-abbrev pub IsPassedCallAs : Span → Form → Args → Closure → Arguments → Checker → Checker → Outcome → Type 0
-IsPassedCallAs span f gs c arguments now after outcome =
+abbrev pub IsPassedCallAs : Span → Form → Args → Closure → Arguments → Checker → Checker → Finding → Type 0
+IsPassedCallAs span f gs c arguments now after finding =
     (before : Checker) (known : RootMap) (js : List Argument) (j : Judgement)
     → before.state.known ≡ Some known
     → JudgesArguments (language_rules before.patterns.now) before.inside (gives never_kind (Some known)) gs js j
     → IsPassed before now gs c arguments js j
     → (k : Judgement) × Gives (language_rules before.patterns.now) before.inside known span f k
-    × HasJudged before after outcome k
+    × HasJudged before after finding k
 
 -- ---- its codes
 
@@ -157,15 +157,15 @@ with_call_codes f span gs c js j =
     with_codes (callee_codes f span gs c js) (passing_closure c (nulls (in_closure c)) j)
 
 -- what the call gives then, but for its `!`
-abbrev pub IsBoundCallAs : Callee → Span → Form → Bool → Args → Closure → Arguments → Checker → Checker → Outcome
+abbrev pub IsBoundCallAs : Callee → Span → Form → Bool → Args → Closure → Arguments → Checker → Checker → Finding
     → Type 0
-IsBoundCallAs named span f bang gs c arguments now after outcome =
+IsBoundCallAs named span f bang gs c arguments now after finding =
     (before : Checker) (known : RootMap) (js : List Argument) (j : Judgement)
     → before.state.known ≡ Some known
     → JudgesArguments (language_rules before.patterns.now) before.inside (gives never_kind (Some known)) gs js j
     → HasArguments before now gs arguments js (with_call_codes named span gs c js j)
     → (k : Judgement) × Gives (language_rules before.patterns.now) before.inside known span f (banged span bang k)
-    × HasJudged before after outcome k
+    × HasJudged before after finding k
 
 -- arguments that are bound so were judged in some way, and where no error code stands on the call,
 -- none of its own does
@@ -188,19 +188,19 @@ pub record MayBeAsked (r : Row) (gs : Args) (parts : List CodeArgument) (places 
 
 -- a function is asked about arguments without code
 pub record IsAnsweredAs (function : Fun) (js : List (Option Argument)) (ends : Ends) (before : Checker)
-    (outcome : Outcome) : Type 0 where
+    (finding : Finding) : Type 0 where
   pub fails : Bool
-  pub answered : IsAnsweredUnless ends.poisoned before.patterns.now (row_of function) js outcome.kind fails
-  pub root : IsRootKind outcome.kind
-  pub or_fail : IsOrFail ends (if_state fails before.state.known) outcome.ends
-  pub are : AreEnds before.state.scopes outcome.ends
+  pub answered : IsAnsweredUnless ends.poisoned before.patterns.now (row_of function) js finding.kind fails
+  pub root : IsRootKind finding.kind
+  pub or_fail : IsOrFail ends (if_state fails before.state.known) finding.ends
+  pub are : AreEnds before.state.scopes finding.ends
 
 -- what stands at a path is taken out
-pub record IsDeletedAs (js : List Argument) (ends : Ends) (before after : Checker) (outcome : Outcome) : Type 0 where
+pub record IsDeletedAs (js : List Argument) (ends : Ends) (before after : Checker) (finding : Finding) : Type 0 where
   pub moved : IsMoved before after
   pub known : IsDeletedAt (deleted_path ends.poisoned js) before.state.known after.state.known
-  pub kind : outcome.kind ≡ deleted_kind ends.poisoned js
-  pub same : outcome.ends ≡ ends
+  pub kind : finding.kind ≡ deleted_kind ends.poisoned js
+  pub same : finding.ends ≡ ends
 
 -- a literal stands at this place alone
 abbrev pub alone_at : ℕ → Tree → ℕ → Option Tree

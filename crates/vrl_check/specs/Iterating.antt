@@ -20,7 +20,7 @@ use Rattle.vrl_judge.specs.Rules.{at, has_others, if_state, scalars_at, when, wi
 use Rattle.vrl_judge.specs.declared.checker.Checker.{Checker}
 use Rattle.vrl_judge.specs.declared.closures.Held.{Held}
 use Rattle.vrl_judge.specs.declared.ends.Ends.{Ends}
-use Rattle.vrl_judge.specs.declared.outcome.Outcome.{Outcome}
+use Rattle.vrl_judge.specs.declared.finding.Finding.{Finding}
 use Rattle.vrl_check.specs.Calling.{HasArguments}
 use Rattle.vrl_check.specs.Judgement.{body_of, run_through, IsCutDown, JudgesBody, JudgesRuns, JudgesTries}
 use Rattle.vrl_check.specs.OpenRules.{language_rules}
@@ -59,9 +59,9 @@ pub record BodyCanBeJudged (sources : List (List ℕ)) (c : CodeClosure) (Ks : L
 -- ---- its runs
 
 -- the body once
-abbrev pub IsBodyAs : ClosureBody → Checker → Checker → Outcome → Type 0
-IsBodyAs b before after outcome = (j : Judgement)
-    × JudgesBody (language_rules before.patterns.now) b before.state.known j × HasJudged before after outcome j
+abbrev pub IsBodyAs : ClosureBody → Checker → Checker → Finding → Type 0
+IsBodyAs b before after finding = (j : Judgement)
+    × JudgesBody (language_rules before.patterns.now) b before.state.known j × HasJudged before after finding j
 
 -- as much was gathered at both places, in the same scopes; another state may be known
 pub record StandAlike (before after : Checker) : Type 0 where
@@ -77,7 +77,7 @@ pub record IsStable (f : CallForm) (b : ClosureBody) (before after : Checker) (r
   pub j : Judgement
   pub judges : JudgesBody (language_rules before.patterns.now) b (if_state b.runs before.state.known) j
   pub stable : IsKnownWithin j.ok before.state.known
-  pub judged : HasJudged before after run.outcome (record j { ok = before.state.known })
+  pub judged : HasJudged before after run.finding (record j { ok = before.state.known })
   pub wrong : run.wrong ≡ is_wrong_body f j
 
 -- it isn't: all that was gathered is let go, and what is known behind the body is told
@@ -95,10 +95,10 @@ IsTriedAs f b before after (tried.Stable run) = IsStable f b before after run
 IsTriedAs f b before after (tried.Unstable behind) = IsUnstable b before after behind
 
 -- what is made of a try whose body was judged last, from a state that was kept
-pub record IsTaken (f : CallForm) (start : State) (part : Outcome) (now after : Checker) (run : Run) : Type 0 where
+pub record IsTaken (f : CallForm) (start : State) (part : Finding) (now after : Checker) (run : Run) : Type 0 where
   pub within : IsKnownWithin now.state.known start.known
   pub back : after ≡ record now { state = start }
-  pub outcome : run.outcome ≡ part
+  pub finding : run.finding ≡ part
   pub wrong : (before : Checker) (j : Judgement) → HasJudged before now part j → run.wrong ≡ is_wrong_body f j
 
 pub record IsLetGo (held : Held) (start : State) (now after : Checker) (behind : State) : Type 0 where
@@ -106,7 +106,7 @@ pub record IsLetGo (held : Held) (start : State) (now after : Checker) (behind :
   pub back : IsTakenBack held (record now { state = start }) after
   pub left : behind ≡ now.state
 
-abbrev pub IsTriedFrom : CallForm → Held → State → Outcome → Checker → Checker → Tried → Type 0
+abbrev pub IsTriedFrom : CallForm → Held → State → Finding → Checker → Checker → Tried → Type 0
 IsTriedFrom f held start part now after (tried.Stable run) = IsTaken f start part now after run
 IsTriedFrom f held start part now after (tried.Unstable behind) = IsLetGo held start now after behind
 
@@ -116,7 +116,7 @@ pub record AreTries (f : CallForm) (b : ClosureBody) (try : Try) (known : Option
   pub last : Option RootMap
   pub k : Judgement
   pub tries : JudgesTries (language_rules before.patterns.now) b try known last k
-  pub judged : HasJudged before after run.outcome (record k { ok = last })
+  pub judged : HasJudged before after run.finding (record k { ok = last })
   pub wrong : run.wrong ≡ is_wrong_body f k
 
 -- the same behind a first try that isn't stable, behind whose body this is known, and behind a
@@ -137,7 +137,7 @@ pub record AreRuns (f : CallForm) (b : ClosureBody) (before after : Checker) (ru
   pub loop : Loop
   pub k : Judgement
   pub runs : JudgesRuns (language_rules before.patterns.now) b before.state.known loop k
-  pub judged : HasJudged before after run.outcome (run_through loop k)
+  pub judged : HasJudged before after run.finding (run_through loop k)
   pub wrong : run.wrong ≡ is_wrong_body f k
 
 -- ---- the call
@@ -162,20 +162,20 @@ pub record IsCollection (f : CallForm) (K : KindTree) (now : Checker) (arguments
 
 -- what a call makes of it behind the runs of its closure, but for its `!`
 pub record IsMadeOf (f : CallForm) (block : Span) (taken : Collection) (run : Run) (before after : Checker)
-    (outcome : Outcome) : Type 0 where
-  pub kind : IsCutOf (call_at f taken.kind run.outcome.kind) outcome.kind
-  pub root : IsPresent taken.kind → IsRootKind outcome.kind
+    (finding : Finding) : Type 0 where
+  pub kind : IsCutOf (call_at f taken.kind run.finding.kind) finding.kind
+  pub root : IsPresent taken.kind → IsRootKind finding.kind
   pub both : Ends
-  pub joined : AreJoinedEnds taken.ends run.outcome.ends both
+  pub joined : AreJoinedEnds taken.ends run.finding.ends both
   pub stand : AreEnds before.state.scopes both
   pub failing : Ends
   pub or_fail : IsOrFail both (known_on taken.fail) failing
   pub are : AreEnds before.state.scopes failing
-  pub reported : IsReported (when run.wrong (at 1015 block)) before after failing outcome.ends
+  pub reported : IsReported (when run.wrong (at 1015 block)) before after failing finding.ends
 
 -- the call, whose argument was judged to be g, as `a_closure_call` asks for it
 pub record IsIterated (f : CallForm) (names : List (List ℕ)) (es : Exprs) (block : Span) (g : Argument) (j : Judgement)
-    (before after : Checker) (outcome : Outcome) : Type 0 where
+    (before after : Checker) (finding : Finding) : Type 0 where
   pub C : KindTree
   pub key : KindTree
   pub value : KindTree
@@ -191,9 +191,9 @@ pub record IsIterated (f : CallForm) (names : List (List ℕ)) (es : Exprs) (blo
   pub in_order : IsThen j (run_through loop k) whole
   pub kind : IsCutOf (call_at f C k.kind) K
   pub fails : IsJoined whole.fail (if_state (has_others (collections f) g.judged.kind) j.ok) fail
-  pub judged : HasJudged before after outcome (with_codes (of_body f block k) (record whole { kind = K; fail = fail }))
+  pub judged : HasJudged before after finding (with_codes (of_body f block k) (record whole { kind = K; fail = fail }))
 
-abbrev pub IsIteratedAs : CallForm → CodeClosure → Arguments → Checker → Checker → Outcome → Type 0
-IsIteratedAs f c arguments now after outcome = (before : Checker) (gs : Args) (g : Argument) (j : Judgement)
+abbrev pub IsIteratedAs : CallForm → CodeClosure → Arguments → Checker → Checker → Finding → Type 0
+IsIteratedAs f c arguments now after finding = (before : Checker) (gs : Args) (g : Argument) (j : Judgement)
     → HasArguments before now gs arguments (g ∷ []) j
-    → IsIterated f (closure_names c) (closure_items c) (closure_span c) g j before after outcome
+    → IsIterated f (closure_names c) (closure_items c) (closure_span c) g j before after finding

@@ -16,7 +16,7 @@ use Rattle.vrl_check.specs.Judgement.{Judges, Gives, JudgesAll, JudgesBlock, Jud
 use Rattle.vrl_judge.specs.declared.branches.Ways.{Ways}
 use Rattle.vrl_judge.specs.declared.checker.Checker.{Checker}
 use Rattle.vrl_judge.specs.declared.operators.Operands.{Operands}
-use Rattle.vrl_judge.specs.declared.outcome.Outcome.{Outcome}
+use Rattle.vrl_judge.specs.declared.finding.Finding.{Finding}
 use Rattle.vrl_judge.specs.Judging.{branches_known, known_on, loops_known, HasEnds, HasJudged, HasOperands, IsWay}
 use Rattle.vrl_value.specs.declared.value.Tag.TheVariants as tag
 use Rattle.vrl_check.specs.OpenRules.{language_rules}
@@ -63,40 +63,40 @@ abbrev pub passed_states : ℕ → List (Option State)
 passed_states n = replicate n None
 
 -- an expression, a form where a way leads to it, items of a block, items before their block ends
-abbrev pub IsJudgedAs : Expr → Checker → Checker → Outcome → Type 0
-IsJudgedAs e before after outcome = (j : Judgement)
+abbrev pub IsJudgedAs : Expr → Checker → Checker → Finding → Type 0
+IsJudgedAs e before after finding = (j : Judgement)
     × Judges (language_rules before.patterns.now) before.inside before.state.known e j
-    × HasJudged before after outcome j
+    × HasJudged before after finding j
 
-abbrev pub IsGivenAs : Span → Form → Checker → Checker → Outcome → Type 0
-IsGivenAs span f before after outcome = (known : RootMap) → before.state.known ≡ Some known → (j : Judgement)
-    × Gives (language_rules before.patterns.now) before.inside known span f j × HasJudged before after outcome j
+abbrev pub IsGivenAs : Span → Form → Checker → Checker → Finding → Type 0
+IsGivenAs span f before after finding = (known : RootMap) → before.state.known ≡ Some known → (j : Judgement)
+    × Gives (language_rules before.patterns.now) before.inside known span f j × HasJudged before after finding j
 
 -- the same wherever it stands
-abbrev pub IsAnywhereAs : Form → Checker → Checker → Outcome → Type 0
-IsAnywhereAs f before after outcome = (span : Span) → IsGivenAs span f before after outcome
+abbrev pub IsAnywhereAs : Form → Checker → Checker → Finding → Type 0
+IsAnywhereAs f before after finding = (span : Span) → IsGivenAs span f before after finding
 
-abbrev pub IsBlockAs : Exprs → Checker → Checker → Outcome → Type 0
-IsBlockAs es before after outcome = (j : Judgement)
+abbrev pub IsBlockAs : Exprs → Checker → Checker → Finding → Type 0
+IsBlockAs es before after finding = (j : Judgement)
     × JudgesBlock (language_rules before.patterns.now) before.inside before.state.known es j
-    × HasJudged before after outcome j
+    × HasJudged before after finding j
 
-abbrev pub IsSequenceAs : Exprs → Checker → Checker → Outcome → Type 0
-IsSequenceAs es before after outcome = (known : RootMap) → before.state.known ≡ Some known
+abbrev pub IsSequenceAs : Exprs → Checker → Checker → Finding → Type 0
+IsSequenceAs es before after finding = (known : RootMap) → before.state.known ≡ Some known
     → (N : KindTree) × (Ks : List KindTree) × (j : Judgement) × IsScalar tag.Null N
     × JudgesAll (language_rules before.patterns.now) before.inside (gives N (Some known)) es Ks j
-    × HasJudged before after outcome j
+    × HasJudged before after finding j
 
 -- items of a script, and one of them
-abbrev pub IsScriptAs : Exprs → Checker → Checker → Outcome → Type 0
-IsScriptAs es before after outcome = (N : KindTree) × (j : Judgement) × IsScalar tag.Null N
+abbrev pub IsScriptAs : Exprs → Checker → Checker → Finding → Type 0
+IsScriptAs es before after finding = (N : KindTree) × (j : Judgement) × IsScalar tag.Null N
     × JudgesItems (language_rules before.patterns.now) (gives N before.state.known) es j
-    × HasJudged before after outcome (settle j)
+    × HasJudged before after finding (settle j)
 
-abbrev pub IsItemAs : Expr → Checker → Checker → Outcome → Type 0
-IsItemAs e before after outcome = (j : Judgement)
+abbrev pub IsItemAs : Expr → Checker → Checker → Finding → Type 0
+IsItemAs e before after finding = (j : Judgement)
     × Judges (language_rules before.patterns.now) before.inside before.state.known e j
-    × HasJudged before after outcome (with_codes (of_item (span_of e) j) j)
+    × HasJudged before after finding (with_codes (of_item (span_of e) j) j)
 
 -- ---- steps of the walk
 
@@ -107,7 +107,7 @@ AreBoth l r before after parts = (j : Judgement) × (k : Judgement) × (whole : 
     × HasOperands before after parts j k whole
 
 -- the right one, behind the left one
-abbrev pub IsBesideAs : Expr → Outcome → Checker → Checker → Operands → Type 0
+abbrev pub IsBesideAs : Expr → Finding → Checker → Checker → Operands → Type 0
 IsBesideAs r left now after parts = (before : Checker) (j : Judgement) → HasJudged before now left j
     → (k : Judgement) × (whole : Judgement)
     × Judges (language_rules before.patterns.now) before.inside now.state.known r k × IsThen j k whole
@@ -144,7 +144,7 @@ abbrev pub IsArmBehind : ArmTree → Ways → Checker → Checker → Ways → T
 IsArmBehind a ways now after all =
     (before : Checker) (w : Judgement) → HasWays before now ways w → IsArmAs a w before now after all
 
-abbrev pub IsElseAs : Else → Checker → Checker → Outcome → Type 0
-IsElseAs (else_block es) before after outcome = IsBlockAs es before after outcome
-IsElseAs no_else before after outcome =
-    (N : KindTree) × IsScalar tag.Null N × HasJudged before after outcome (settle (gives N before.state.known))
+abbrev pub IsElseAs : Else → Checker → Checker → Finding → Type 0
+IsElseAs (else_block es) before after finding = IsBlockAs es before after finding
+IsElseAs no_else before after finding =
+    (N : KindTree) × IsScalar tag.Null N × HasJudged before after finding (settle (gives N before.state.known))

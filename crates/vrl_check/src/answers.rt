@@ -21,7 +21,7 @@ use crate::calls::{Arguments, Callee, argument_at};
 use std::alloc::Global;
 use vrl_binding::Bound;
 use vrl_builtin::{Given, Givens, Parameter, cut_down};
-use vrl_judge::{Argument, Checker, Outcome, SharedKind, cut, either_of, part_has_others, scalar};
+use vrl_judge::{Argument, Checker, Finding, SharedKind, cut, either_of, part_has_others, scalar};
 use vrl_kind::kind_is_canonical;
 use vrl_pattern::Patterns;
 use vrl_syntax::{Arg, Args, Call, Expr};
@@ -43,15 +43,15 @@ pub(crate) fn answer_call(
     call: &Call,
     bound: &Bound,
     arguments: Arguments,
-) -> Result<Outcome, Memory>
+) -> Result<Finding, Memory>
     requires name { IsNamed (call_name call.now) callee }
     requires form { FormCanBeJudged checker.old.patterns.now (call_of call.now) }
     requires codes { HasCodes callee (call_args call.now) (call_closure call.now) arguments bound.now }
     requires ends { AreEnds checker.old.state.scopes arguments.ends }
     ensures { IfOk result
-        (λ outcome. (span : SpecSpan)
+        (λ finding. (span : SpecSpan)
         → IsBoundCallAs callee span (call_of call.now) (call_bang call.now) (call_args call.now)
-        (call_closure call.now) arguments checker.old checker.new outcome) }
+        (call_closure call.now) arguments checker.old checker.new finding) }
 {
     match callee {
         Callee::Function(function) => answered(checker, function, &call.args, bound, arguments),
@@ -69,20 +69,20 @@ fn answered(
     args: &Args,
     bound: &Bound,
     arguments: Arguments,
-) -> Result<Outcome, Memory>
+) -> Result<Finding, Memory>
     requires asked { arguments.ends.poisoned ≡ false
         → MayBeAsked (row_of function) (args_of args.now) arguments.parts.items bound.now }
     requires regexes { args_regexes_below (length checker.old.patterns.now) (args_of args.now) ≡ true }
     requires ends { AreEnds checker.old.state.scopes arguments.ends }
     ensures answered { IfOk result
-        (λ outcome. (js : List JudgedArgument) → AreTold (args_of args.now) arguments.parts.items js
-        → IsAnsweredAs function (bound_at bound.now js) arguments.ends checker.old outcome) }
+        (λ finding. (js : List JudgedArgument) → AreTold (args_of args.now) arguments.parts.items js
+        → IsAnsweredAs function (bound_at bound.now js) arguments.ends checker.old finding) }
     ensures checker { checker.new ≡ checker.old }
 {
     let Arguments { parts, mut ends } = arguments;
     if ends.poisoned {
         let kind = SharedKind::any(checker.alloc)?;
-        return Ok(Outcome { kind, ends });
+        return Ok(Finding { kind, ends });
     }
     let Answer { kind, fails } = ask(
         checker.alloc,
@@ -93,23 +93,23 @@ fn answered(
         checker.patterns,
     )?;
     checker.fail_if(&mut ends, fails)?;
-    Ok(Outcome { kind, ends })
+    Ok(Finding { kind, ends })
 }
 
 // `del`, behind its argument: what stands at the path is taken out.
-fn deleted(checker: &mut Checker<'_>, args: &Args, arguments: Arguments) -> Result<Outcome, Memory>
+fn deleted(checker: &mut Checker<'_>, args: &Args, arguments: Arguments) -> Result<Finding, Memory>
     requires { args_faults true (args_of args.now) ≡ [] }
-    ensures { IfOk result (λ outcome. (js : List JudgedArgument) → AreTold (args_of args.now) arguments.parts.items js
-        → IsDeletedAs js arguments.ends checker.old checker.new outcome) }
+    ensures { IfOk result (λ finding. (js : List JudgedArgument) → AreTold (args_of args.now) arguments.parts.items js
+        → IsDeletedAs js arguments.ends checker.old checker.new finding) }
 {
     let Arguments { parts, ends } = arguments;
     if ends.poisoned {
         let kind = SharedKind::any(checker.alloc)?;
-        return Ok(Outcome { kind, ends });
+        return Ok(Finding { kind, ends });
     }
     take_out_at(checker, args.as_slice())?;
     let kind = only_kind(checker.alloc, parts)?;
-    Ok(Outcome { kind, ends })
+    Ok(Finding { kind, ends })
 }
 
 // Takes out what stands at the one argument, if it is a path. `Memory`: want of memory.
@@ -133,13 +133,13 @@ fn take_out_at(checker: &mut Checker<'_>, args: &[Arg]) -> Result<(), Memory>
 }
 
 // `exists`, behind its argument.
-fn existing(checker: &Checker<'_>, arguments: Arguments) -> Result<Outcome, Memory>
-    ensures kind { IfOk result (λ outcome. IsScalar tags.Bool outcome.kind) }
-    ensures ends { IfOk result (λ outcome. outcome.ends ≡ arguments.ends) }
+fn existing(checker: &Checker<'_>, arguments: Arguments) -> Result<Finding, Memory>
+    ensures kind { IfOk result (λ finding. IsScalar tags.Bool finding.kind) }
+    ensures ends { IfOk result (λ finding. finding.ends ≡ arguments.ends) }
 {
     let ends = arguments.ends;
     let kind = scalar(checker.alloc, Tag::Bool)?;
-    Ok(Outcome { kind, ends })
+    Ok(Finding { kind, ends })
 }
 
 // The kind of the one argument; any where there is another number. `Memory`: want of memory.

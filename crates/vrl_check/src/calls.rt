@@ -28,7 +28,7 @@ use std::alloc::Global;
 use vrl_binding::{BindFault, Bound, bind_to, collection_parameters};
 use vrl_builtin::{Given, Givens, Parameter, Tags};
 use vrl_diag::{Span, code};
-use vrl_judge::{Argument, Checker, Ends, Outcome, SharedKind, is_disjoint};
+use vrl_judge::{Argument, Checker, Ends, Finding, SharedKind, is_disjoint};
 use vrl_syntax::{Arg, Args, Call, CallForm, Closure, Expr, has_shape};
 use vrl_table::{Fun, lookup, parameters, wrong_literal};
 use vrl_value::{Memory, Value};
@@ -155,13 +155,13 @@ pub(crate) fn called(
     span: Span,
     call: &Call,
     arguments: Arguments,
-) -> Result<Outcome, Memory>
+) -> Result<Finding, Memory>
     requires form { FormCanBeJudged checker.old.patterns.now (call_of call.now) }
     requires name { takes_closure (call_name call.now) ≡ false }
     requires told { IsTold (call_args call.now) arguments.parts.items }
     requires ends { AreEnds checker.old.state.scopes arguments.ends }
     ensures { IfOk result
-        (λ outcome. IsCalledAs span (call_of call.now) (call_args call.now) arguments checker.old checker.new outcome) }
+        (λ finding. IsCalledAs span (call_of call.now) (call_args call.now) arguments checker.old checker.new finding) }
 {
     pass_closure(checker, &call.closure)?;
     match Callee::of(call.name.as_str()) {
@@ -207,18 +207,18 @@ pub(crate) fn passed_call(
     span: Span,
     call: &Call,
     arguments: Arguments,
-) -> Result<Outcome, Memory>
+) -> Result<Finding, Memory>
     ensures { IfOk result
-        (λ outcome. (before : SpecChecker) (j : Judgement) → HasEnds before.state.scopes arguments.ends j
+        (λ finding. (before : SpecChecker) (j : Judgement) → HasEnds before.state.scopes arguments.ends j
         → HasGathered before checker.old j
-        → HasJudged before checker.new outcome (banged_as span (call_bang call.now)
+        → HasJudged before checker.new finding (banged_as span (call_bang call.now)
         (passing_closure (call_closure call.now) (nulls (in_closure (call_closure call.now)))
         (record j { kind = any_kind })))) }
 {
     pass_closure(checker, &call.closure)?;
     let kind = SharedKind::any(checker.alloc)?;
     let ends = arguments.ends;
-    checker.banged(span, call.bang, Outcome { kind, ends })
+    checker.banged(span, call.bang, Finding { kind, ends })
 }
 
 // Whether a closure isn't one for the function, or there is none.
@@ -237,15 +237,15 @@ fn call_of_nothing(
     checker: &mut Checker<'_>,
     name: Span,
     arguments: Arguments,
-) -> Result<Outcome, Memory>
-    ensures kind { IfOk result (λ outcome. outcome.kind ≡ any_kind) }
+) -> Result<Finding, Memory>
+    ensures kind { IfOk result (λ finding. finding.kind ≡ any_kind) }
     ensures reported { IfOk result
-        (λ outcome. IsReported (at 105 name) checker.old checker.new arguments.ends outcome.ends) }
+        (λ finding. IsReported (at 105 name) checker.old checker.new arguments.ends finding.ends) }
 {
     let mut ends = arguments.ends;
     checker.report(&mut ends, true, code::UNDEFINED_FUNCTION, name)?;
     let kind = SharedKind::any(checker.alloc)?;
-    Ok(Outcome { kind, ends })
+    Ok(Finding { kind, ends })
 }
 
 // The same of what there is.
@@ -255,19 +255,19 @@ fn call_of(
     callee: Callee,
     call: &Call,
     arguments: Arguments,
-) -> Result<Outcome, Memory>
+) -> Result<Finding, Memory>
     requires name { IsNamed (call_name call.now) callee }
     requires form { FormCanBeJudged checker.old.patterns.now (call_of call.now) }
     requires told { IsTold (call_args call.now) arguments.parts.items }
     requires ends { AreEnds checker.old.state.scopes arguments.ends }
     ensures { IfOk result
-        (λ outcome. IsPassedCallAs span (call_of call.now) (call_args call.now)
-        (call_closure call.now) arguments checker.old checker.new outcome) }
+        (λ finding. IsPassedCallAs span (call_of call.now) (call_args call.now)
+        (call_closure call.now) arguments checker.old checker.new finding) }
 {
     let mut arguments = arguments;
     let bound = bound(checker, span, callee, call, &mut arguments)?;
-    let outcome = answer_call(checker, callee, call, &bound, arguments)?;
-    checker.banged(span, call.bang, outcome)
+    let finding = answer_call(checker, callee, call, &bound, arguments)?;
+    checker.banged(span, call.bang, finding)
 }
 
 // The places of a call's arguments, none where they aren't bound, with the call's own codes: one

@@ -14,7 +14,7 @@ use vrl_binding::collections;
 use vrl_builtin::{Tags, cut_down};
 use vrl_diag::{Span, code};
 use vrl_judge::{
-    Checker, Ends, Held, Outcome, SharedKind, call_kind, has_others, is_possible, key_kind,
+    Checker, Ends, Finding, Held, SharedKind, call_kind, has_others, is_possible, key_kind,
     value_kind,
 };
 use vrl_kind::{Kind, kind_is_canonical};
@@ -43,7 +43,7 @@ pub(crate) struct NameKinds {
 // What the body of a closure was judged to be.
 #[derive(Drop)]
 pub(crate) struct Run {
-    pub(crate) outcome: Outcome,
+    pub(crate) finding: Finding,
     // Its kind isn't the one that the function asks for: 1015.
     pub(crate) wrong: bool,
 }
@@ -186,7 +186,7 @@ pub(crate) fn end_try(
     form: CallForm,
     held: Held,
     start: Branch,
-    part: Outcome,
+    part: Finding,
 ) -> Tried
     requires { start.scopes ≡ checker.old.state.scopes }
     ensures { IsTriedFrom form held start part checker.old checker.new result }
@@ -196,7 +196,7 @@ pub(crate) fn end_try(
     let behind = checker.state.back(start.into_mark());
     if stable {
         return Tried::Stable(Run {
-            outcome: part,
+            finding: part,
             wrong,
         });
     }
@@ -224,21 +224,21 @@ pub(crate) fn made_of(
     block: Span,
     collection: Collection,
     run: Run,
-) -> Result<Outcome, Memory>
+) -> Result<Finding, Memory>
     requires ends { AreEnds checker.old.state.scopes collection.ends }
     requires fail { IsWay checker.old.state.scopes collection.fail }
-    requires run { AreEnds checker.old.state.scopes run.outcome.ends }
-    ensures { IfOk result (λ outcome. IsMadeOf form block collection run checker.old checker.new outcome) }
+    requires run { AreEnds checker.old.state.scopes run.finding.ends }
+    ensures { IfOk result (λ finding. IsMadeOf form block collection run checker.old checker.new finding) }
 {
     let Collection {
         kind,
         fail,
         mut ends,
     } = collection;
-    let Run { outcome, wrong } = run;
-    let kind = call_kind(checker.alloc, form, &kind, outcome.kind.as_kind())?;
-    let _body = ends.absorb(checker.alloc, outcome)?;
+    let Run { finding, wrong } = run;
+    let kind = call_kind(checker.alloc, form, &kind, finding.kind.as_kind())?;
+    let _body = ends.absorb(checker.alloc, finding)?;
     ends.add_fail(fail)?;
     checker.report(&mut ends, wrong, code::WRONG_CLOSURE_RESULT, block)?;
-    Ok(Outcome { kind, ends })
+    Ok(Finding { kind, ends })
 }

@@ -7,31 +7,31 @@ ghost use Rattle.vrl_syntax.specs.ErrorAssignments.{in_closure, in_expr, in_expr
 ghost use Rattle.vrl_syntax.specs.View.{closure_in, closure_of, expr_of, exprs_of};
 
 use crate::{empties, loops};
-use vrl_judge::{Checker, Outcome};
+use vrl_judge::{Checker, Finding};
 use vrl_syntax::{Closure, Expr, Exprs};
 use vrl_value::Memory;
 
 // What isn't judged gives nothing but its empty values and its closures, and the state stays.
 // `Memory`: want of memory.
-pub(crate) fn pass(checker: &mut Checker<'_>, expr: &Expr) -> Result<Outcome, Memory>
-    ensures { IfOk result (λ outcome. HasJudged checker.old checker.new outcome
+pub(crate) fn pass(checker: &mut Checker<'_>, expr: &Expr) -> Result<Finding, Memory>
+    ensures { IfOk result (λ finding. HasJudged checker.old checker.new finding
         (record (unreached_parts (nulls (in_expr (expr_of expr.now))) (closures_in_expr (expr_of expr.now)))
         { ok = checker.old.state.known })) }
 {
     empties::add_expr(expr, &mut checker.empties)?;
     loops::add_expr(expr, &mut checker.loops)?;
-    Outcome::nothing(checker.alloc)
+    Finding::nothing(checker.alloc)
 }
 
 // The same of items. `Memory`: want of memory.
-pub(crate) fn pass_items(checker: &mut Checker<'_>, items: &Exprs) -> Result<Outcome, Memory>
-    ensures { IfOk result (λ outcome. HasJudged checker.old checker.new outcome
+pub(crate) fn pass_items(checker: &mut Checker<'_>, items: &Exprs) -> Result<Finding, Memory>
+    ensures { IfOk result (λ finding. HasJudged checker.old checker.new finding
         (record (unreached_parts (nulls (in_exprs (exprs_of items.now))) (closures_in_exprs (exprs_of items.now)))
         { ok = checker.old.state.known })) }
 {
     empties::add_exprs(items, &mut checker.empties)?;
     loops::add_exprs(items, &mut checker.loops)?;
-    Outcome::nothing(checker.alloc)
+    Finding::nothing(checker.alloc)
 }
 
 // The same of a closure that isn't judged. `Memory`: want of memory.

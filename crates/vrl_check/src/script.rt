@@ -15,7 +15,7 @@ use crate::judged::{Ending, Judged};
 use crate::walk::expr;
 use std::alloc::Global;
 use vrl_diag::{Diagnostics, code};
-use vrl_judge::{Checker, Outcome, SharedKind, either, ordered, scalar};
+use vrl_judge::{Checker, Finding, SharedKind, either, ordered, scalar};
 use vrl_kind::Kind;
 use vrl_pattern::Patterns;
 use vrl_state::{Branch, Known, Knowns, State};
@@ -50,11 +50,11 @@ pub fn check(
         loops: Vec::new(alloc),
         inside: false,
     };
-    let outcome = script_items(&mut checker, &script.items)?;
+    let finding = script_items(&mut checker, &script.items)?;
     let loops = listed(alloc, &checker.loops)?;
     let diagnostics = ordered(checker.diagnostics)?;
     let ok = branch_of(alloc, checker.state)?;
-    let (kind, ends) = outcome.into_parts();
+    let (kind, ends) = finding.into_parts();
     let (fail, ret, _) = ends.into_parts();
     let fail = or_dead(alloc, fail)?;
     let kind = kind.into_kind(alloc)?;
@@ -70,12 +70,12 @@ pub fn check(
 }
 
 // Judges the items of a script. `Memory`: want of memory.
-fn script_items(checker: &mut Checker<'_>, items: &Exprs) -> Result<Outcome, Memory>
+fn script_items(checker: &mut Checker<'_>, items: &Exprs) -> Result<Finding, Memory>
     requires items { ItemsCanBeJudged checker.old.patterns.now (exprs_of items.now) }
     requires outside { checker.old.inside ≡ false }
-    ensures { IfOk result (λ outcome. IsScriptAs (exprs_of items.now) checker.old checker.new outcome) }
+    ensures { IfOk result (λ finding. IsScriptAs (exprs_of items.now) checker.old checker.new finding) }
 {
-    let mut last = Outcome::value(scalar(checker.alloc, Tag::Null)?);
+    let mut last = Finding::value(scalar(checker.alloc, Tag::Null)?);
     for item in items.as_slice() {
         let part = script_item(checker, item)?;
         last.go_on(checker.alloc, part)?;
@@ -84,9 +84,9 @@ fn script_items(checker: &mut Checker<'_>, items: &Exprs) -> Result<Outcome, Mem
 }
 
 // An item of the script itself that may fail is 100.
-fn script_item(checker: &mut Checker<'_>, item: &Expr) -> Result<Outcome, Memory>
+fn script_item(checker: &mut Checker<'_>, item: &Expr) -> Result<Finding, Memory>
     requires { ExprCanBeJudged checker.old.patterns.now (expr_of item.now) }
-    ensures { IfOk result (λ outcome. IsItemAs (expr_of item.now) checker.old checker.new outcome) }
+    ensures { IfOk result (λ finding. IsItemAs (expr_of item.now) checker.old checker.new finding) }
 {
     let part = expr(checker, item)?;
     let fallible = part.is_fallible();

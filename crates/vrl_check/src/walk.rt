@@ -21,7 +21,7 @@ use closures::closure_call;
 use operators::{binary, negation};
 use vrl_diag::Span;
 use vrl_judge::{
-    Checker, Ends, Outcome, add_field, array_kind, cut_kind_of, object_kind, read_root, scalar,
+    Checker, Ends, Finding, add_field, array_kind, cut_kind_of, object_kind, read_root, scalar,
 };
 use vrl_path::Path;
 use vrl_syntax::{Args, Call, Expr, Exprs, Form, Pairs, Root};
@@ -29,22 +29,22 @@ use vrl_value::{Memory, Tag, Value};
 
 // Judges an expression. `Memory`: want of memory.
 #[cycle(judge)]
-pub(crate) fn expr(checker: &mut Checker<'_>, expr: &Expr) -> Result<Outcome, Memory>
+pub(crate) fn expr(checker: &mut Checker<'_>, expr: &Expr) -> Result<Finding, Memory>
     requires { ExprCanBeJudged checker.old.patterns.now (expr_of expr.now) }
-    ensures { IfOk result (λ outcome. IsJudgedAs (expr_of expr.now) checker.old checker.new outcome) }
+    ensures { IfOk result (λ finding. IsJudgedAs (expr_of expr.now) checker.old checker.new finding) }
 {
     if checker.state.is_dead() {
         return pass(checker, expr);
     }
-    let outcome = form(checker, expr.span, &expr.form)?;
-    checker.settled(outcome)
+    let finding = form(checker, expr.span, &expr.form)?;
+    checker.settled(finding)
 }
 
 // Judges a form where a way leads to it. `Memory`: want of memory.
 #[cycle(judge)]
-fn form(checker: &mut Checker<'_>, span: Span, form: &Form) -> Result<Outcome, Memory>
+fn form(checker: &mut Checker<'_>, span: Span, form: &Form) -> Result<Finding, Memory>
     requires { FormCanBeJudged checker.old.patterns.now (form_of form.now) }
-    ensures { IfOk result (λ outcome. IsGivenAs span (form_of form.now) checker.old checker.new outcome) }
+    ensures { IfOk result (λ finding. IsGivenAs span (form_of form.now) checker.old checker.new finding) }
 {
     match form {
         Form::Literal(value) => literal(checker, value),
@@ -67,16 +67,16 @@ fn form(checker: &mut Checker<'_>, span: Span, form: &Form) -> Result<Outcome, M
     }
 }
 
-fn literal(checker: &mut Checker<'_>, value: &Value) -> Result<Outcome, Memory>
-    ensures { IfOk result (λ outcome. IsAnywhereAs (literal_form (tree_of value.now)) checker.old checker.new outcome) }
+fn literal(checker: &mut Checker<'_>, value: &Value) -> Result<Finding, Memory>
+    ensures { IfOk result (λ finding. IsAnywhereAs (literal_form (tree_of value.now)) checker.old checker.new finding) }
 {
-    Ok(Outcome::value(cut_kind_of(checker.alloc, value)?))
+    Ok(Finding::value(cut_kind_of(checker.alloc, value)?))
 }
 
 #[cycle(judge)]
-fn array(checker: &mut Checker<'_>, exprs: &Exprs) -> Result<Outcome, Memory>
+fn array(checker: &mut Checker<'_>, exprs: &Exprs) -> Result<Finding, Memory>
     requires { ItemsCanBeJudged checker.old.patterns.now (exprs_of exprs.now) }
-    ensures { IfOk result (λ outcome. IsAnywhereAs (array_form (exprs_of exprs.now)) checker.old checker.new outcome) }
+    ensures { IfOk result (λ finding. IsAnywhereAs (array_form (exprs_of exprs.now)) checker.old checker.new finding) }
 {
     let mut kinds = Vec::new(checker.alloc);
     let mut ends = Ends::none();
@@ -86,13 +86,13 @@ fn array(checker: &mut Checker<'_>, exprs: &Exprs) -> Result<Outcome, Memory>
         kinds.push(inner)?;
     }
     let kind = array_kind(checker.alloc, kinds)?;
-    Ok(Outcome { kind, ends })
+    Ok(Finding { kind, ends })
 }
 
 #[cycle(judge)]
-fn object(checker: &mut Checker<'_>, pairs: &Pairs) -> Result<Outcome, Memory>
+fn object(checker: &mut Checker<'_>, pairs: &Pairs) -> Result<Finding, Memory>
     requires { PairsCanBeJudged checker.old.patterns.now (pairs_of pairs.now) }
-    ensures { IfOk result (λ outcome. IsAnywhereAs (object_form (pairs_of pairs.now)) checker.old checker.new outcome) }
+    ensures { IfOk result (λ finding. IsAnywhereAs (object_form (pairs_of pairs.now)) checker.old checker.new finding) }
 {
     let mut fields = Vec::new(checker.alloc);
     let mut ends = Ends::none();
@@ -102,27 +102,27 @@ fn object(checker: &mut Checker<'_>, pairs: &Pairs) -> Result<Outcome, Memory>
         add_field(&mut fields, checker.alloc, name, inner)?;
     }
     let kind = object_kind(checker.alloc, fields)?;
-    Ok(Outcome { kind, ends })
+    Ok(Finding { kind, ends })
 }
 
 // A variable that isn't known is 701.
-fn read(checker: &mut Checker<'_>, span: Span, root: &Root, path: &Path) -> Result<Outcome, Memory>
+fn read(checker: &mut Checker<'_>, span: Span, root: &Root, path: &Path) -> Result<Finding, Memory>
     ensures given { IfOk result
-        (λ outcome. IsGivenAs span (read_form root.now path.now) checker.old checker.new outcome) }
-    ensures judged { IfOk result (λ outcome. (j : Judgement) × HasJudged checker.old checker.new outcome j) }
+        (λ finding. IsGivenAs span (read_form root.now path.now) checker.old checker.new finding) }
+    ensures judged { IfOk result (λ finding. (j : Judgement) × HasJudged checker.old checker.new finding j) }
 {
     let found = checker.state.shared(root)?;
     match found {
-        Some(kind) => Ok(Outcome::value(read_root(checker.alloc, kind, path)?)),
+        Some(kind) => Ok(Finding::value(read_root(checker.alloc, kind, path)?)),
         None => checker.unknown(span),
     }
 }
 
 #[cycle(judge)]
-fn query(checker: &mut Checker<'_>, inner: &Expr, path: &Path) -> Result<Outcome, Memory>
+fn query(checker: &mut Checker<'_>, inner: &Expr, path: &Path) -> Result<Finding, Memory>
     requires { ExprCanBeJudged checker.old.patterns.now (expr_of inner.now) }
     ensures { IfOk result
-        (λ outcome. IsAnywhereAs (query_form (expr_of inner.now) path.now) checker.old checker.new outcome) }
+        (λ finding. IsAnywhereAs (query_form (expr_of inner.now) path.now) checker.old checker.new finding) }
 {
     let part = expr(checker, inner)?;
     checker.read_off(part, path)
@@ -130,9 +130,9 @@ fn query(checker: &mut Checker<'_>, inner: &Expr, path: &Path) -> Result<Outcome
 
 // Judges the items of a block or a branch, whose names end with it. `Memory`: want of memory.
 #[cycle(judge)]
-fn block(checker: &mut Checker<'_>, items: &Exprs) -> Result<Outcome, Memory>
+fn block(checker: &mut Checker<'_>, items: &Exprs) -> Result<Finding, Memory>
     requires { ItemsCanBeJudged checker.old.patterns.now (exprs_of items.now) }
-    ensures { IfOk result (λ outcome. IsBlockAs (exprs_of items.now) checker.old checker.new outcome) }
+    ensures { IfOk result (λ finding. IsBlockAs (exprs_of items.now) checker.old checker.new finding) }
 {
     if checker.state.is_dead() {
         return pass_items(checker, items);
@@ -144,11 +144,11 @@ fn block(checker: &mut Checker<'_>, items: &Exprs) -> Result<Outcome, Memory>
 
 // Judges items in order; no item gives null. `Memory`: want of memory.
 #[cycle(judge)]
-fn sequence(checker: &mut Checker<'_>, items: &Exprs) -> Result<Outcome, Memory>
+fn sequence(checker: &mut Checker<'_>, items: &Exprs) -> Result<Finding, Memory>
     requires { ItemsCanBeJudged checker.old.patterns.now (exprs_of items.now) }
-    ensures { IfOk result (λ outcome. IsSequenceAs (exprs_of items.now) checker.old checker.new outcome) }
+    ensures { IfOk result (λ finding. IsSequenceAs (exprs_of items.now) checker.old checker.new finding) }
 {
-    let mut last = Outcome::value(scalar(checker.alloc, Tag::Null)?);
+    let mut last = Finding::value(scalar(checker.alloc, Tag::Null)?);
     for item in items.as_slice() {
         let part = expr(checker, item)?;
         last.go_on(checker.alloc, part)?;
@@ -158,9 +158,9 @@ fn sequence(checker: &mut Checker<'_>, items: &Exprs) -> Result<Outcome, Memory>
 
 // Judges a call. `Memory`: want of memory.
 #[cycle(judge)]
-fn call(checker: &mut Checker<'_>, span: Span, call: &Call) -> Result<Outcome, Memory>
+fn call(checker: &mut Checker<'_>, span: Span, call: &Call) -> Result<Finding, Memory>
     requires { FormCanBeJudged checker.old.patterns.now (call_of call.now) }
-    ensures { IfOk result (λ outcome. IsGivenAs span (call_of call.now) checker.old checker.new outcome) }
+    ensures { IfOk result (λ finding. IsGivenAs span (call_of call.now) checker.old checker.new finding) }
 {
     let arguments = arguments(checker, &call.args)?;
     match closure_form(call.name.as_str()) {
@@ -187,28 +187,28 @@ fn arguments(checker: &mut Checker<'_>, args: &Args) -> Result<Arguments, Memory
 
 // A return in a closure is 1004.
 #[cycle(judge)]
-fn return_with(checker: &mut Checker<'_>, span: Span, value: &Expr) -> Result<Outcome, Memory>
+fn return_with(checker: &mut Checker<'_>, span: Span, value: &Expr) -> Result<Finding, Memory>
     requires { ExprCanBeJudged checker.old.patterns.now (expr_of value.now) }
     ensures { IfOk result
-        (λ outcome. IsGivenAs span (return_form (expr_of value.now)) checker.old checker.new outcome) }
+        (λ finding. IsGivenAs span (return_form (expr_of value.now)) checker.old checker.new finding) }
 {
     let part = expr(checker, value)?;
     checker.returned(part, span)
 }
 
-fn abort(checker: &mut Checker<'_>) -> Result<Outcome, Memory>
-    ensures { IfOk result (λ outcome. IsAnywhereAs (abort_form no_message) checker.old checker.new outcome) }
+fn abort(checker: &mut Checker<'_>) -> Result<Finding, Memory>
+    ensures { IfOk result (λ finding. IsAnywhereAs (abort_form no_message) checker.old checker.new finding) }
 {
     checker.state.kill();
-    Outcome::nothing(checker.alloc)
+    Finding::nothing(checker.alloc)
 }
 
 // A message that may fail, or isn't exactly a text, is 1011.
 #[cycle(judge)]
-fn abort_with(checker: &mut Checker<'_>, message: &Expr) -> Result<Outcome, Memory>
+fn abort_with(checker: &mut Checker<'_>, message: &Expr) -> Result<Finding, Memory>
     requires { ExprCanBeJudged checker.old.patterns.now (expr_of message.now) }
     ensures { IfOk result
-        (λ outcome. IsAnywhereAs (abort_form (message_form (expr_of message.now))) checker.old checker.new outcome) }
+        (λ finding. IsAnywhereAs (abort_form (message_form (expr_of message.now))) checker.old checker.new finding) }
 {
     let part = expr(checker, message)?;
     checker.aborted(part, message.span)

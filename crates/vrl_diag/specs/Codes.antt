@@ -1,5 +1,5 @@
--- The codes of diagnostics. Those below 1000 are those of the error reference of the Vector Remap Language; the others are this
--- compiler's own.
+-- The codes of diagnostics. Those below 1000 are those of the error reference of the Vector Remap
+-- Language; the others are this compiler's own.
 use Rattle.std.specs.Prelude.{ℕ, List, [], ◌∷◌, Option, find, codes, ◌==◌}
 use Rattle.std.specs.Option.{option_map_or}
 

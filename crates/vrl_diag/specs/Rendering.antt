@@ -30,7 +30,12 @@ severity_word Error = codes "error"
 -- the line that tells a diagnostic of the text, without its newline
 abbrev pub diagnostic_line : List ℕ → Diagnostic → List ℕ
 diagnostic_line text d = let before = take d.span.start text in
-    severity_word (severity_of d.code) ++ (codes "[E" ++ (decimal d.code ++ (codes "] " ++ (decimal (line_number before) ++ (codes ":" ++ (decimal (column_number before) ++ (codes " " ++ title_of d.code)))))))
+    severity_word (severity_of d.code) ++
+    (codes "[E" ++
+    (decimal d.code ++
+    (codes "] " ++
+    (decimal (line_number before) ++
+    (codes ":" ++ (decimal (column_number before) ++ (codes " " ++ title_of d.code)))))))
 
 -- the lines that tell the diagnostics
 abbrev pub diagnostic_lines : List ℕ → List Diagnostic → List ℕ

@@ -1,5 +1,6 @@
-//! The codes of diagnostics, by name. Those below 1000 are those of the error reference of the Vector Remap Language
-//! (vector.dev/docs/reference/vrl/errors); the others are this compiler's own.
+//! The codes of diagnostics, by name. Those below 1000 are those of the error reference of the
+//! Vector Remap Language (vector.dev/docs/reference/vrl/errors); the others are this compiler's
+//! own.
 
 /// unhandled error
 pub const UNHANDLED_ERROR: u16 = 100;

@@ -6,8 +6,8 @@ use crate::titles::severity;
 use std::fmt;
 use std::marker::Model;
 
-/// A part of a script: from `start` up to and without `end`, both in bytes of its UTF-8 from the start of the
-/// script.
+/// A part of a script: from `start` up to and without `end`, both in bytes of its UTF-8 from the
+/// start of the script.
 #[derive(Clone, Copy, Debug, PartialEq, Eq)]
 pub struct Span {
     /// Where its first byte stands; the script's first byte stands at 0.
@@ -42,9 +42,9 @@ impl fmt::Display for Severity {
 /// Something that is wrong with a script, and where.
 #[derive(Clone, Copy, Debug, PartialEq, Eq)]
 pub struct Diagnostic {
-    /// Which rule is broken, as 103 for an assignment that can fail. A number below 1000 is that of the error
-    /// reference of the Vector Remap Language (vector.dev/docs/reference/vrl/errors), and the others are this
-    /// compiler's own; [`title`](crate::title) has the text of each.
+    /// Which rule is broken, as 103 for an assignment that can fail. A number below 1000 is that of
+    /// the error reference of the Vector Remap Language (vector.dev/docs/reference/vrl/errors), and
+    /// the others are this compiler's own; [`title`](crate::title) has the text of each.
     pub code: u16,
     /// The part of the script that it is about.
     pub span: Span,

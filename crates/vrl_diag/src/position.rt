@@ -24,8 +24,8 @@ impl Position {
         }
     }
 
-    /// The position that has `offset` bytes of the text before it, or all of them where they are fewer. It is
-    /// counted on from this one, unless it stands before it.
+    /// The position that has `offset` bytes of the text before it, or all of them where they are
+    /// fewer. It is counted on from this one, unless it stands before it.
     pub fn moved_to(self, text: &[u8], offset: usize) -> Position
         requires { IsIn text.now self }
         ensures place { IsEnd (take offset text.now) result }

@@ -8,10 +8,12 @@ use crate::titles::{severity, title};
 use std::alloc::Global;
 use vrl_value::{Chars, Memory};
 
-/// The line that tells a diagnostic of a script, without a newline: `error[E103] 2:1 unhandled fallible assignment`
-/// or `warning[E651] 1:6 unnecessary error coalescing`. Line and column are those of its start, from 1, and columns
-/// are counted in characters. A start behind the end of the text counts as its end. It takes the time of a walk over the
-/// text up to that start: to tell many diagnostics, call [`render_all`].
+/// The line that tells a diagnostic of a script, without a newline:
+/// `error[E103] 2:1 unhandled fallible assignment` or
+/// `warning[E651] 1:6 unnecessary error coalescing`. Line and column are those of its start, from
+/// 1, and columns are counted in characters. A start behind the end of the text counts as its end.
+/// It takes the time of a walk over the text up to that start: to tell many diagnostics, call
+/// [`render_all`].
 ///
 /// # Errors
 ///
@@ -24,9 +26,9 @@ pub fn render(alloc: Global, one: &Diagnostic, text: &str) -> Result<Chars, Memo
     Ok(Chars::new(line))
 }
 
-/// The lines that tell the diagnostics of a script, as [`render`] does, each with its newline. The script is given as
-/// its bytes, since one that is no UTF-8 has diagnostics too. In the order of their starts they take the time of one
-/// walk over the text.
+/// The lines that tell the diagnostics of a script, as [`render`] does, each with its newline. The
+/// script is given as its bytes, since one that is no UTF-8 has diagnostics too. In the order of
+/// their starts they take the time of one walk over the text.
 ///
 /// # Errors
 ///

@@ -161,8 +161,8 @@ static ROWS: [Row; 36] = [
     },
 ];
 
-/// Whether a diagnostic with this code refuses the script: 651 is a warning, and each other number an error. It
-/// takes no memory.
+/// Whether a diagnostic with this code refuses the script: 651 is a warning, and each other number
+/// an error. It takes no memory.
 pub fn severity(code: u16) -> Severity
     ensures table { result ≡ severity_of code }
     ensures warning { (result ≡ Severity.Warning) ↔ (code ≡ 651) }

@@ -7,7 +7,8 @@ use Rattle.vrl_io.specs.declared.fault.LoadFault.TheVariants.{Failed, Memory}
 abbrev pub last_count : ℕ
 last_count = 18446744073709551615
 
--- the count rose between the two moments, or stands at its last value, where it can't be seen to rise
+-- the count rose between the two moments, or stands at its last value, where it can't be seen to
+-- rise
 abbrev pub HasRisen : ℕ → ℕ → Type 0
 HasRisen old new = (old < new) ⊎ (last_count ≤ new)
 

@@ -3,15 +3,16 @@ use Rattle.std.specs.Prelude.{ℕ, min, max, List, ◌++◌, Option, Some, None}
 use Rattle.vrl_io.specs.Calls.{CallNumbers, after_call}
 use Rattle.vrl_io.specs.Faults.{raised}
 
--- the bytes that were written, how many a call takes at most, where it doesn't take its whole piece, and what
--- has happened so far
+-- the bytes that were written, how many a call takes at most, where it doesn't take its whole
+-- piece, and what has happened so far
 pub record BytesWritten : Type 0 where
   pub written : List ℕ
   pub most : Option ℕ
   pub calls : CallNumbers
   pub faults : ℕ
 
--- how many bytes a call takes of a piece of this size: all, or no more than so many, of which 0 counts as 1
+-- how many bytes a call takes of a piece of this size: all, or no more than so many, of which 0
+-- counts as 1
 abbrev pub count_taken : Option ℕ → ℕ → ℕ
 count_taken None size = size
 count_taken (Some most) size = min (max most 1) size

@@ -12,7 +12,8 @@ pub record BytesLeft : Type 0 where
   pub faults : ℕ
   pub ended : Bool
 
--- how much the next piece may have: its size, of which 0 counts as 1, where there is one, within the buffer
+-- how much the next piece may have: its size, of which 0 counts as 1, where there is one, within
+-- the buffer
 abbrev pub piece_size : List ℕ → ℕ → ℕ
 piece_size [] room = room
 piece_size (piece ∷ pieces) room = min (max piece 1) room
@@ -38,7 +39,13 @@ after_failure source = record source { calls = after_call source.calls; faults =
 -- any other uses up the bytes that it gives, and a piece size; one that gives none is the end
 abbrev pub after_piece : BytesLeft → ℕ → BytesLeft
 after_piece source count =
-    record source { left = drop count source.left; pieces = drop 1 source.pieces; calls = after_call source.calls; taken = source.taken + count; ended = count == 0 }
+    record source {
+      left = drop count source.left;
+      pieces = drop 1 source.pieces;
+      calls = after_call source.calls;
+      taken = source.taken + count;
+      ended = count == 0;
+    }
 
 -- the source after a take into this much room
 abbrev pub after_take : BytesLeft → ℕ → BytesLeft

@@ -12,9 +12,9 @@ use std::marker::Model;
 use std::rt::Files;
 use vrl_value::{Bytes, Chars};
 
-/// The files of a runtime, by their paths as the system reads them. A load fails where the file can't be
-/// opened or read. It does not tell what they hold. A contract sees the list of
-/// the names whose load failed.
+/// The files of a runtime, by their paths as the system reads them. A load fails where the file
+/// can't be opened or read. It does not tell what they hold. A contract sees the list of the names
+/// whose load failed.
 #[derive(Drop)]
 pub struct FileStore<R> {
     rt: R,

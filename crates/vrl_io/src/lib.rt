@@ -1,12 +1,13 @@
 //! The devices of a run: where bytes come from and go, where scripts are kept, and the clock.
 //!
-//! Each is a trait whose ghost members are what a contract may say of a device. What a device holds or has
-//! left is optional: one that does not tell it has `None` there. For each trait there is an object in
-//! memory, which tells all, and an adapter over what std has, which tells none of its content.
+//! Each is a trait whose ghost members are what a contract may say of a device. What a device holds
+//! or has left is optional: one that does not tell it has `None` there. For each trait there is an
+//! object in memory, which tells all, and an adapter over what std has, which tells none of its
+//! content.
 //!
-//! Files: `source.rt`, `sink.rt`, `store.rt` and `clock.rt` have the traits, `calls.rt` and `failures.rt`
-//! what they count; the files that begin with `memory_` have the devices in memory, and `std_source.rt`,
-//! `std_sink.rt`, `file_store.rt` and `system_clock.rt` the adapters.
+//! Files: `source.rt`, `sink.rt`, `store.rt` and `clock.rt` have the traits, `calls.rt` and
+//! `failures.rt` what they count; the files that begin with `memory_` have the devices in memory,
+//! and `std_source.rt`, `std_sink.rt`, `file_store.rt` and `system_clock.rt` the adapters.
 #![tactic(auto)]
 
 mod calls;

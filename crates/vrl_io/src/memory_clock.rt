@@ -5,8 +5,8 @@ use std::marker::Model;
 use std::vec::IntoIter;
 use vrl_value::Moment;
 
-/// Tells chosen moments in order, and after the last of them 1970-01-01T00:00:00Z. A contract sees the
-/// list of those to come.
+/// Tells chosen moments in order, and after the last of them 1970-01-01T00:00:00Z. A contract sees
+/// the list of those to come.
 #[derive(Drop)]
 pub struct MemoryClock {
     moments: IntoIter<Moment>,

@@ -9,7 +9,8 @@ use crate::sink::Sink;
 use std::alloc::Global;
 use std::marker::Model;
 
-/// Bytes that are written to memory, whole pieces or a few bytes at a call, with chosen calls that fail.
+/// Bytes that are written to memory, whole pieces or a few bytes at a call, with chosen calls that
+/// fail.
 #[derive(Drop)]
 pub struct MemorySink {
     bytes: Vec<u8>,
@@ -28,8 +29,8 @@ impl Model for MemorySink {
 }
 
 impl MemorySink {
-    /// A sink with nothing in it. The calls with the numbers in `failing`, from 0, fail, and so does one
-    /// for whose piece there is no memory.
+    /// A sink with nothing in it. The calls with the numbers in `failing`, from 0, fail, and so
+    /// does one for whose piece there is no memory.
     pub fn new(alloc: Global, failing: Vec<u64>) -> MemorySink
         ensures { result ≡ record { written = []; most = None; calls = first_call failing.items; faults = 0 } }
     {
@@ -41,8 +42,8 @@ impl MemorySink {
         }
     }
 
-    /// A sink as `new` makes it, a call of which takes no more than `most` bytes from the front of its
-    /// piece, 0 counting as 1.
+    /// A sink as `new` makes it, a call of which takes no more than `most` bytes from the front of
+    /// its piece, 0 counting as 1.
     pub fn narrow(alloc: Global, failing: Vec<u64>, most: usize) -> MemorySink
         ensures { result ≡ record { written = []; most = Some most; calls = first_call failing.items; faults = 0 } }
     {

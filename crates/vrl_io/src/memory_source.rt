@@ -41,8 +41,9 @@ impl Model for MemorySource {
 }
 
 impl MemorySource {
-    /// The bytes, which are given in pieces of these sizes, 0 counting as 1, and after the last size in
-    /// pieces as large as the buffer. The calls with the numbers in `failing`, from 0, fail.
+    /// The bytes, which are given in pieces of these sizes, 0 counting as 1, and after the last
+    /// size in pieces as large as the buffer. The calls with the numbers in `failing`, from 0,
+    /// fail.
     pub fn new(bytes: Vec<u8>, pieces: Vec<usize>, failing: Vec<u64>) -> MemorySource
         ensures { result ≡ record {
           left = bytes.items;

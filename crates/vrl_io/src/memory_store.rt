@@ -30,8 +30,8 @@ impl Model for MemoryStore {
 }
 
 impl MemoryStore {
-    /// A store that holds these bytes under these names; of equal names the first counts. The loads with
-    /// the numbers in `failing`, from 0, fail, and so does one of a name that is not held.
+    /// A store that holds these bytes under these names; of equal names the first counts. The loads
+    /// with the numbers in `failing`, from 0, fail, and so does one of a name that is not held.
     pub fn new(alloc: Global, held: Vec<(Chars, Bytes)>, failing: Vec<u64>) -> MemoryStore
         ensures { result ≡ record {
           entries = held.items;

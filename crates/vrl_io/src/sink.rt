@@ -11,9 +11,9 @@ pub trait Sink {
     /// How often it has failed. The count never falls, and stands still at its last value.
     ghost faults: { Self → ℕ };
 
-    /// Writes bytes from the front of the piece, and answers how many: at least one, unless the piece is
-    /// empty. An empty piece is answered 0 and nothing changes. `Failed`: what was written stays as it was,
-    /// and the count of faults has risen.
+    /// Writes bytes from the front of the piece, and answers how many: at least one, unless the
+    /// piece is empty. An empty piece is answered 0 and nothing changes. `Failed`: what was written
+    /// stays as it was, and the count of faults has risen.
     fn give(&mut self, bytes: &[u8]) -> Result<usize, Failed>
         ensures within { IfOk result (λ n. n ≤ length bytes.now) }
         ensures some { 0 < length bytes.now → IfOk result (λ n. 0 < n) }
@@ -21,7 +21,8 @@ pub trait Sink {
             ≡ option_map (λ before. before ++ take n bytes.now) (written self.old)) }
         ensures no_call { bytes.now ≡ [] → (result ≡ Ok 0) × (self.new ≡ self.old) }
 
-        // A failure leaves what was written as it was, and has raised the count. Nothing else raises it.
+        // A failure leaves what was written as it was, and has raised the count. Nothing else
+        // raises it.
         ensures unchanged { OnErr result (written self.new ≡ written self.old) }
         ensures cause { OnErr result (HasRisen (faults self.old) (faults self.new)) }
         ensures count { faults self.old ≤ faults self.new }

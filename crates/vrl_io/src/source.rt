@@ -17,9 +17,9 @@ pub trait Source {
     /// How often it has failed. The count never falls, and stands still at its last value.
     ghost faults: { Self → ℕ };
 
-    /// Writes the next bytes to the front of the buffer, and answers how many. 0 for a buffer that is not
-    /// empty is the end. For an empty buffer, and after the end, it answers 0 and nothing changes. `Failed`:
-    /// no byte was taken, and the count of faults has risen.
+    /// Writes the next bytes to the front of the buffer, and answers how many. 0 for a buffer that
+    /// is not empty is the end. For an empty buffer, and after the end, it answers 0 and nothing
+    /// changes. `Failed`: no byte was taken, and the count of faults has risen.
     fn take(&mut self, buffer: &mut [u8]) -> Result<usize, Failed>
         ensures within { IfOk result (λ n. n ≤ length buffer.new) }
         // The bytes come from the front of those left.
@@ -36,7 +36,8 @@ pub trait Source {
         ensures no_call { (buffer.old ≡ []) ⊎ IsTrue (ended self.old)
             → (result ≡ Ok 0) × (self.new ≡ self.old) }
 
-        // A failure leaves what is left as it was, and has raised the count. Nothing else raises it.
+        // A failure leaves what is left as it was, and has raised the count. Nothing else raises
+        // it.
         ensures unchanged { OnErr result ((left self.new ≡ left self.old)
             × (taken self.new ≡ taken self.old) × (ended self.new ≡ ended self.old)) }
         ensures cause { OnErr result (HasRisen (faults self.old) (faults self.new)) }

@@ -12,8 +12,8 @@ const MOST_TRIES: u32 = 64;
 
 /// A writer, as standard output or standard error. It does not tell what was written.
 ///
-/// Nothing is kept back: each give flushes the writer. A give fails where the writer takes no byte or
-/// fails to flush, where it fails, and where it is interrupted by signals 64 times in a row.
+/// Nothing is kept back: each give flushes the writer. A give fails where the writer takes no byte
+/// or fails to flush, where it fails, and where it is interrupted by signals 64 times in a row.
 #[derive(Drop)]
 pub struct StdSink<W> {
     writer: W,
@@ -37,8 +37,8 @@ impl<W> StdSink<W> {
     }
 }
 
-// Writes once and flushes, and writes again where a signal interrupted it. `None`: the writer took nothing
-// or failed.
+// Writes once and flushes, and writes again where a signal interrupted it. `None`: the writer took
+// nothing or failed.
 fn write_once<W: Write>(writer: &mut W, bytes: &[u8]) -> Option<usize>
     ensures some { IfSome result (λ n. 0 < n) }
     ensures within { IfSome result (λ n. n ≤ length bytes.now) }

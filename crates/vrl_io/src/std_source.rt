@@ -13,8 +13,8 @@ const MOST_TRIES: u32 = 64;
 
 /// The bytes of a reader, as of standard input or of a file. It does not tell which are left.
 ///
-/// A take that could bring the count of bytes past the last `u64` fails, and so does one at which the
-/// reader fails, or is interrupted by signals 64 times in a row.
+/// A take that could bring the count of bytes past the last `u64` fails, and so does one at which
+/// the reader fails, or is interrupted by signals 64 times in a row.
 #[derive(Drop)]
 pub struct StdSource<R> {
     reader: R,

@@ -12,8 +12,9 @@ pub trait Store {
     /// The names whose load failed, in order.
     ghost failures: { Self → List (List ℕ) };
 
-    /// The first `limit` bytes of what the name, a text in UTF-8, holds; all of them where there are fewer.
-    /// `Failed`: the store failed, and the name was added to its failures. `Memory`: want of memory.
+    /// The first `limit` bytes of what the name, a text in UTF-8, holds; all of them where there
+    /// are fewer. `Failed`: the store failed, and the name was added to its failures. `Memory`:
+    /// want of memory.
     fn load(&mut self, name: &str, limit: usize) -> Result<Bytes, LoadFault>
         ensures bytes { IfOk result (λ bytes. IfSome (held self.old)
             (λ held. option_map (take limit) (held name.now) ≡ Some bytes)) }

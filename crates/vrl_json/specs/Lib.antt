@@ -1,5 +1,5 @@
 pub mod Faults
 pub mod Line
-pub mod Marked
+pub mod Drafts
 pub mod Tokens
 pub mod Held

@@ -9,7 +9,7 @@ ghost use Rattle.vrl_value.specs.Tree.{Tree, IsOrdered, is_json, items_are_json,
 ghost use Rattle.vrl_value.specs.View.{tree_of, items_of, members_of};
 ghost use Rattle.vrl_json.specs.Faults.{takes_memory};
 ghost use Rattle.vrl_json.specs.Line.{not_json, not_whole, whole, reading_of, reading_of_json};
-ghost use Rattle.vrl_json.specs.Marked.{marked, marked_items, marked_members, marked_tree, TellsMarks};
+ghost use Rattle.vrl_json.specs.Drafts.{draft, draft_items, draft_members, draft_tree, TellsStandIns};
 
 use crate::fault::JsonFault;
 use crate::number::number_in;
@@ -76,32 +76,32 @@ fn read_text(alloc: Global, text: &str, scratch: &mut Scratch) -> Result<Value, 
     let Ok(mut reader) = Reader::new(text, scratch) else {
         return Err(JsonFault::Memory);
     };
-    let mut has_marks = false;
-    let value = read_value(alloc, &mut reader, NESTING_LIMIT, &mut has_marks)?;
+    let mut has_stand_ins = false;
+    let value = read_value(alloc, &mut reader, NESTING_LIMIT, &mut has_stand_ins)?;
     if reader.next().is_some() {
         return Err(JsonFault::NotJson);
     }
-    if is_whole(&value, has_marks) {
+    if is_whole(&value, has_stand_ins) {
         Ok(value)
     } else {
         Err(JsonFault::NotWhole)
     }
 }
 
-// The next value of the reader, with a mark for each number that is not whole; `has_marks` becomes
-// true where one is made. Arrays and objects may nest `depth` deep.
+// The next value of the reader, with a stand-in for each number that is not whole; `has_stand_ins`
+// becomes true where one is made. Arrays and objects may nest `depth` deep.
 #[cycle(read)]
 #[inline(always)]
 fn read_value(
     alloc: Global,
     reader: &mut Reader<'_>,
     depth: usize,
-    has_marks: &mut bool,
+    has_stand_ins: &mut bool,
 ) -> Result<Value, JsonFault>
     ensures ok { IfOk result (λ found. (d : json.Data)
         × (converted of_json (value depth reader.old) ≡ Some (d, reader.new))
-        × (tree_of found ≡ marked_tree d)
-        × TellsMarks has_marks.old has_marks.new (is_json (marked_tree d))) }
+        × (tree_of found ≡ draft_tree d)
+        × TellsStandIns has_stand_ins.old has_stand_ins.new (is_json (draft_tree d))) }
     ensures shorter { OnOk result (length reader.new < length reader.old) }
     ensures not_json { result ≡ Err JsonFault.NotJson → converted of_json (value depth reader.old) ≡ None }
     ensures not_whole { result ≡ Err JsonFault.NotWhole → ⊥ }
@@ -113,7 +113,7 @@ fn read_value(
     match token {
         Token::String(text) => Ok(Value::Text(Chars::copy_of(alloc, text)?)),
         Token::Number(text) => match number_in(text) {
-            Some(number) => Ok(marked(number, has_marks)),
+            Some(number) => Ok(draft(number, has_stand_ins)),
             None => Err(JsonFault::NotJson),
         },
         Token::Bool(truth) => Ok(Value::Bool(truth)),
@@ -123,27 +123,28 @@ fn read_value(
             if depth == 0 {
                 return Err(JsonFault::NotJson);
             }
-            Ok(Value::List(read_items(alloc, reader, depth - 1, has_marks)?))
+            Ok(Value::List(read_items(alloc, reader, depth - 1, has_stand_ins)?))
         }
         Token::BeginObject => {
             if depth == 0 {
                 return Err(JsonFault::NotJson);
             }
-            Ok(Value::Object(read_fields(alloc, reader, depth - 1, has_marks)?))
+            Ok(Value::Object(read_fields(alloc, reader, depth - 1, has_stand_ins)?))
         }
     }
 }
 
-// The value of a number that was read. A regex, which no line has, marks one that is not whole,
-// until it is known whether a later equal name replaces it; `has_marks` becomes true then.
-fn marked(number: Option<i64>, has_marks: &mut bool) -> Value
-    ensures value { tree_of result ≡ marked number }
-    ensures told { TellsMarks has_marks.old has_marks.new (is_json (marked number)) }
+// The value of a number that was read. A regex, which no line has, stands in for one that is not
+// whole, until it is known whether a later equal name replaces it; `has_stand_ins` becomes true
+// then.
+fn draft(number: Option<i64>, has_stand_ins: &mut bool) -> Value
+    ensures value { tree_of result ≡ draft number }
+    ensures told { TellsStandIns has_stand_ins.old has_stand_ins.new (is_json (draft number)) }
 {
     match number {
         Some(number) => Value::Int(number),
         None => {
-            *has_marks = true;
+            *has_stand_ins = true;
             Value::Pattern(0)
         }
     }
@@ -156,12 +157,12 @@ fn read_items(
     alloc: Global,
     reader: &mut Reader<'_>,
     depth: usize,
-    has_marks: &mut bool,
+    has_stand_ins: &mut bool,
 ) -> Result<Items, JsonFault>
     ensures ok { IfOk result (λ found. (ds : json.Items)
         × (converted of_items (items (value depth) (length reader.old) reader.old) ≡ Some (ds, reader.new))
-        × (items_of found ≡ marked_items ds)
-        × TellsMarks has_marks.old has_marks.new (items_are_json (marked_items ds))) }
+        × (items_of found ≡ draft_items ds)
+        × TellsStandIns has_stand_ins.old has_stand_ins.new (items_are_json (draft_items ds))) }
     ensures shorter { OnOk result (length reader.new < length reader.old) }
     ensures not_json { result ≡ Err JsonFault.NotJson
         → converted of_items (items (value depth) (length reader.old) reader.old) ≡ None }
@@ -169,7 +170,7 @@ fn read_items(
 {
     let mut found = Vec::new(alloc);
     'items: while !reader.take_end_array() {
-        let value = read_value(alloc, reader, depth, has_marks)?;
+        let value = read_value(alloc, reader, depth, has_stand_ins)?;
         push(&mut found, value)?;
     }
     Ok(Items::new(found))
@@ -188,13 +189,13 @@ fn read_fields(
     alloc: Global,
     reader: &mut Reader<'_>,
     depth: usize,
-    has_marks: &mut bool,
+    has_stand_ins: &mut bool,
 ) -> Result<Fields, JsonFault>
     ensures ok { IfOk result (λ found. (ms : json.Members)
         × (converted (λ ms. of_members ms json.no_members) (members (value depth) (length reader.old) reader.old)
         ≡ Some (ms, reader.new))
-        × (members_of found ≡ marked_members ms)
-        × TellsMarks has_marks.old has_marks.new (members_are_json (marked_members ms))) }
+        × (members_of found ≡ draft_members ms)
+        × TellsStandIns has_stand_ins.old has_stand_ins.new (members_are_json (draft_members ms))) }
     ensures shorter { OnOk result (length reader.new < length reader.old) }
     ensures not_json { result ≡ Err JsonFault.NotJson
         → converted (λ ms. of_members ms json.no_members) (members (value depth) (length reader.old) reader.old)
@@ -204,56 +205,57 @@ fn read_fields(
     let mut found = Fields::new(BTreeMap::new(alloc));
     'members: while let Some(name) = reader.next_key()? {
         let name = Chars::copy_of(alloc, name)?;
-        let value = read_value(alloc, reader, depth, has_marks)?;
+        let value = read_value(alloc, reader, depth, has_stand_ins)?;
         found.insert(name, value)?;
     }
     Ok(found)
 }
 
-// ---- whether a value has no mark
+// ---- whether a value has no stand-in
 
-// Whether all numbers of a value that was read are whole. It is walked only where a mark was made:
-// it isn't known then whether one is left in it, since a later equal name may have replaced it.
-fn is_whole(value: &Value, has_marks: bool) -> bool
-    requires { has_marks ≡ false → IsTrue (is_json (tree_of value.now)) }
+// Whether all numbers of a value that was read are whole. It is walked only where a stand-in was
+// made: it isn't known then whether one is left in it, since a later equal name may have replaced
+// it.
+fn is_whole(value: &Value, has_stand_ins: bool) -> bool
+    requires { has_stand_ins ≡ false → IsTrue (is_json (tree_of value.now)) }
     ensures { result ≡ is_json (tree_of value.now) }
 {
-    if !has_marks {
+    if !has_stand_ins {
         return true;
     }
-    is_unmarked(value)
+    is_all_whole(value)
 }
 
-#[cycle(unmarked)]
-fn is_unmarked(value: &Value) -> bool
+#[cycle(whole_parts)]
+fn is_all_whole(value: &Value) -> bool
     ensures { result ≡ is_json (tree_of value.now) }
 {
     match value {
         Value::Text(_) | Value::Int(_) | Value::Bool(_) | Value::Null => true,
         Value::Time(_) | Value::Pattern(_) => false,
-        Value::List(items) => items_are_unmarked(items),
-        Value::Object(fields) => fields_are_unmarked(fields),
+        Value::List(items) => items_are_whole(items),
+        Value::Object(fields) => fields_are_whole(fields),
     }
 }
 
-#[cycle(unmarked)]
-fn items_are_unmarked(items: &Items) -> bool
+#[cycle(whole_parts)]
+fn items_are_whole(items: &Items) -> bool
     ensures { result ≡ items_are_json (items_of items.now) }
 {
     for item in items.as_slice() {
-        if !is_unmarked(item) {
+        if !is_all_whole(item) {
             return false;
         }
     }
     true
 }
 
-#[cycle(unmarked)]
-fn fields_are_unmarked(fields: &Fields) -> bool
+#[cycle(whole_parts)]
+fn fields_are_whole(fields: &Fields) -> bool
     ensures { result ≡ members_are_json (members_of fields.now) }
 {
     for (_name, value) in fields.as_map().iter() {
-        if !is_unmarked(value) {
+        if !is_all_whole(value) {
             return false;
         }
     }

@@ -18,7 +18,7 @@ use Rattle.vrl_judge.specs.Judging.{known_on, AreBothWritten, AreEnds, HasEnds, 
 use Rattle.vrl_judge.specs.Seen.{seen}
 use Rattle.vrl_judge.specs.declared.checker.Checker.{Checker}
 use Rattle.vrl_judge.specs.declared.ends.Ends.{Ends}
-use Rattle.vrl_judge.specs.declared.outcome.Outcome.{Outcome}
+use Rattle.vrl_judge.specs.declared.finding.Finding.{Finding}
 use Rattle.vrl_judge.proofs.Parts.{gathered_moved, reported_judged, reported_more}
 use Rattle.vrl_judge.proofs.RootKinds.{value_root}
 use Rattle.vrl_judge.proofs.Joining.{branch_alive}
@@ -30,7 +30,7 @@ not_absent (kind_tree s l o) is = is
 
 -- ---- one target
 
-pub moved_judged : (before now after : Checker) (part : Outcome) (j : Judgement) → HasJudged before now part j → IsMoved now after → HasJudged before after part (record j { ok = after.state.known })
+pub moved_judged : (before now after : Checker) (part : Finding) (j : Judgement) → HasJudged before now part j → IsMoved now after → HasJudged before after part (record j { ok = after.state.known })
 moved_judged before now after part j has moved = record {
   kind = has.kind;
   root = has.root;
@@ -45,7 +45,7 @@ written_at target K L a a' b same before is = subst (λ M. IsTargetWritten targe
 pub codes_of : Span → Target → Bool → Bool → List Diagnostic
 codes_of span target fallible no_event = when fallible (at 103 span) ++ (when (is_nowhere target) (at 640 span) ++ when no_event (at 1006 span))
 
-pub codes_are : (span : Span) (target : Target) (before now : Checker) (part : Outcome) (j : Judgement) (fallible no_event : Bool) → HasJudged before now part j → fallible ≡ is_some part.ends.fail
+pub codes_are : (span : Span) (target : Target) (before now : Checker) (part : Finding) (j : Judgement) (fallible no_event : Bool) → HasJudged before now part j → fallible ≡ is_some part.ends.fail
     → no_event ≡ ((is_some now.state.known && not part.ends.poisoned) && is_no_event target part.kind) → codes_of span target fallible no_event ≡ of_assignment span target j
 unfolding codes_of
 codes_are span target before now part j fallible no_event has is event =
@@ -53,7 +53,7 @@ codes_are span target before now part j fallible no_event has is event =
     ∙ ap (λ b. codes_of span target (is_some (known_on part.ends.fail)) b) event
     ∙ ap (λ k. of_assignment span target k) (sym (as_seen before now part j has))
 
-pub assigned_told : (span : Span) (target : Target) (now told after : Checker) (part : Outcome) (ends : Ends) (fallible no_event : Bool) → fallible ≡ is_some part.ends.fail
+pub assigned_told : (span : Span) (target : Target) (now told after : Checker) (part : Finding) (ends : Ends) (fallible no_event : Bool) → fallible ≡ is_some part.ends.fail
     → no_event ≡ ((is_some now.state.known && not part.ends.poisoned) && is_no_event target part.kind)
     → IsReported (when fallible (at 103 span) ++ (when (is_nowhere target) (at 640 span) ++ when no_event (at 1006 span))) now told part.ends ends
     → IsTargetWritten target part.kind told.state.known after.state.known → IsMoved told after
@@ -69,7 +69,7 @@ assigned_told span target now told after part ends fallible no_event is event re
     )
 
 -- behind its three codes
-pub assigned_judged : (span : Span) (target : Target) (now b c told after : Checker) (part : Outcome) (first second ends : Ends) (fallible nowhere no_event : Bool) → fallible ≡ is_some part.ends.fail → nowhere ≡ is_nowhere target
+pub assigned_judged : (span : Span) (target : Target) (now b c told after : Checker) (part : Finding) (first second ends : Ends) (fallible nowhere no_event : Bool) → fallible ≡ is_some part.ends.fail → nowhere ≡ is_nowhere target
     → no_event ≡ ((is_some now.state.known && not part.ends.poisoned) && is_no_event target part.kind)
     → IsReported (when fallible (at 103 span)) now b part.ends first → IsReported (when nowhere (at 640 span)) b c first second → IsReported (when no_event (at 1006 span)) c told second ends
     → IsTargetWritten target part.kind told.state.known after.state.known → IsMoved told after
@@ -83,7 +83,7 @@ assigned_judged span target now b c told after part first second ends fallible n
 -- ---- behind the expression of an error assignment
 
 -- the walk's steps: the tag is put, the codes are told, both targets are written
-pub are_assigned : (span : Span) (ok err : Target) (place : ℕ) (part : Outcome) (a b c d : Checker) (ends : Ends) (t : Tag) (E K : KindTree) → t ≡ empty_tag part.kind → AreEnds a.state.scopes part.ends
+pub are_assigned : (span : Span) (ok err : Target) (place : ℕ) (part : Finding) (a b c d : Checker) (ends : Ends) (t : Tag) (E K : KindTree) → t ≡ empty_tag part.kind → AreEnds a.state.scopes part.ends
     → b.state ≡ a.state → b.diagnostics ≡ a.diagnostics → b.patterns ≡ a.patterns → b.loops ≡ a.loops → b.inside ≡ a.inside → b.empties.items ≡ slice_set a.empties.items place t
     → IsCutOf (found_at (empty_value (empty_tag part.kind))) E → IsEither part.kind E K
     → ((j : Judgement) → b.state.known ≡ j.ok → HasEnds b.state.scopes part.ends j → IsReported (of_error_assignment span ok err j K) b c part.ends ends)
@@ -114,7 +114,7 @@ pub empty_present : (v : Tree) (E : KindTree) → IsCutOf (found_at v) E → all
 empty_present v E cut = not_absent E (value_root v E cut).present
 
 -- the way of the error behind the codes
-pub fail_behind : (span : Span) (ok err : Target) (part : Outcome) (a b c : Checker) (ends : Ends) (K : KindTree) → AreEnds a.state.scopes part.ends → b.state ≡ a.state
+pub fail_behind : (span : Span) (ok err : Target) (part : Finding) (a b c : Checker) (ends : Ends) (K : KindTree) → AreEnds a.state.scopes part.ends → b.state ≡ a.state
     → ((j : Judgement) → b.state.known ≡ j.ok → HasEnds b.state.scopes part.ends j → IsReported (of_error_assignment span ok err j K) b c part.ends ends) → IsWay c.state.scopes ends.fail
 fail_behind span ok err part a b c ends K are state codes =
     let reported : IsReported (of_error_assignment span ok err (seen part a [] [] []) K) b c part.ends ends =

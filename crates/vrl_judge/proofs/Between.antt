@@ -19,7 +19,7 @@ use Rattle.vrl_judge.specs.declared.branches.Ways.{Ways}
 use Rattle.vrl_judge.specs.declared.checker.Checker.{Checker}
 use Rattle.vrl_judge.specs.declared.ends.Ends.{Ends}
 use Rattle.vrl_judge.specs.declared.ends.Returned.{Returned}
-use Rattle.vrl_judge.specs.declared.outcome.Outcome.{Outcome}
+use Rattle.vrl_judge.specs.declared.finding.Finding.{Finding}
 use Rattle.vrl_judge.proofs.Parts.{are_ends_of, known_if}
 use Rattle.vrl_judge.proofs.Joining.{branch_alive, common, join_turned, kept_return, kept_way, kind_of_return, known_way, no_return, state_of_return}
 use Rattle.vrl_value.specs.declared.value.Tag.TheVariants as tag
@@ -80,7 +80,7 @@ moved_twice a b c first second = record {
   inside = second.inside ∙ first.inside;
 }
 
-pub are_conjoined : (left : LeftSide) (right : Outcome) (a b c d : Checker) (refused : Option State) (both ends : Ends) (K : KindTree) (wanted holds : Bool) → b ≡ a → refused ≡ way a.state.scopes (if_state wanted a.state.known) → wanted ≡ may_be_no_truth right.kind
+pub are_conjoined : (left : LeftSide) (right : Finding) (a b c d : Checker) (refused : Option State) (both ends : Ends) (K : KindTree) (wanted holds : Bool) → b ≡ a → refused ≡ way a.state.scopes (if_state wanted a.state.known) → wanted ≡ may_be_no_truth right.kind
     → c.state.known ≡ if_state holds b.state.known → holds ≡ may_be_truth right.kind → IsMoved b c → AreBothSides left right.ends c d both
     → IsJoined (known_on both.fail) (known_on refused) (known_on ends.fail) → ends ≡ record both { fail = ends.fail } → ((scopes : List Scope) → AreEnds scopes both → IsWay scopes refused → AreEnds scopes ends) → IsScalar tag.Bool K
     → IsConjoined left right a d (record { kind = K; ends = ends })
@@ -107,10 +107,10 @@ or_else_cut L R rest K less is = record {
 
 -- ---- codes of a part
 
-pub alive_fail : (scopes : List Scope) (part : Outcome) (now : Checker) (fallible : Bool) → AreEnds scopes part.ends → is_some part.ends.fail ≡ fallible → is_fallible (seen part now [] [] []) ≡ fallible
+pub alive_fail : (scopes : List Scope) (part : Finding) (now : Checker) (fallible : Bool) → AreEnds scopes part.ends → is_some part.ends.fail ≡ fallible → is_fallible (seen part now [] [] []) ≡ fallible
 alive_fail scopes part now fallible are is = sym (branch_alive scopes part.ends.fail are.fail) ∙ is
 
-pub sure_predicate : (scopes : List Scope) (span : Span) (part : Outcome) (now : Checker) (other : Bool) → AreEnds scopes part.ends → is_some part.ends.fail ≡ false → other ≡ is_other tag.Bool (seen part now [] [] []) → when other (at 102 span) ≡ of_predicate span (seen part now [] [] [])
+pub sure_predicate : (scopes : List Scope) (span : Span) (part : Finding) (now : Checker) (other : Bool) → AreEnds scopes part.ends → is_some part.ends.fail ≡ false → other ≡ is_other tag.Bool (seen part now [] [] []) → when other (at 102 span) ≡ of_predicate span (seen part now [] [] [])
 sure_predicate scopes span part now other are is same =
     ap (λ b. when b (at 102 span)) same ∙ sym (ap (λ b. if b then at 1005 span else when (is_other tag.Bool (seen part now [] [] [])) (at 102 span)) (alive_fail scopes part now false are is))
 
@@ -120,7 +120,7 @@ reported_are scopes ds a b old new reported are = are_ends_of scopes old new (sy
 
 -- ---- ways
 
-pub predicate_beside : (span : Span) (part : Outcome) (ways : Ways) (a b : Checker) (predicate ends : Ends) → AreWays a.state.scopes ways → AreEnds a.state.scopes part.ends → IsReported (of_predicate span (seen part a [] [] [])) a b part.ends predicate
+pub predicate_beside : (span : Span) (part : Finding) (ways : Ways) (a b : Checker) (predicate ends : Ends) → AreWays a.state.scopes ways → AreEnds a.state.scopes part.ends → IsReported (of_predicate span (seen part a [] [] [])) a b part.ends predicate
     → AreJoinedEnds ways.ends predicate ends → ((scopes : List Scope) → AreEnds scopes ways.ends → AreEnds scopes predicate → AreEnds scopes ends)
     → IsPredicateBeside span part ways a b (record ways { ends = ends })
 predicate_beside span part ways a b predicate ends here are reported joined stand = record {
@@ -132,7 +132,7 @@ predicate_beside span part ways a b predicate ends here are reported joined stan
   are = record { ok = here.ok; ends = stand a.state.scopes here.ends (reported_are a.state.scopes (of_predicate span (seen part a [] [] [])) a b part.ends predicate reported are) };
 }
 
-pub block_beside : (mark : State) (block : Outcome) (ways all : Ways) (a b : Checker) (left : Option State) → AreWays a.state.scopes ways → AreEnds a.state.scopes block.ends → b ≡ record a { state = mark } → left ≡ way a.state.scopes a.state.known
+pub block_beside : (mark : State) (block : Finding) (ways all : Ways) (a b : Checker) (left : Option State) → AreWays a.state.scopes ways → AreEnds a.state.scopes block.ends → b ≡ record a { state = mark } → left ≡ way a.state.scopes a.state.known
     → IsEither ways.kind block.kind all.kind → IsJoined (known_on ways.ok) (known_on left) (known_on all.ok) → ((scopes : List Scope) → IsWay scopes ways.ok → IsWay scopes left → IsWay scopes all.ok)
     → AreJoinedEnds ways.ends block.ends all.ends → ((scopes : List Scope) → AreEnds scopes ways.ends → AreEnds scopes block.ends → AreEnds scopes all.ends)
     → IsBlockBeside mark block ways a b all
@@ -144,9 +144,9 @@ block_beside mark block ways all a b left here are back left_is kind ok stands e
   are = record { ok = stands a.state.scopes here.ok (kept_way a.state.scopes a.state.known left left_is); ends = stand a.state.scopes here.ends are };
 }
 
-pub last_beside : (ways : Ways) (last outcome : Outcome) (a b : Checker) → AreWays a.state.scopes ways → AreEnds a.state.scopes last.ends → IsEither ways.kind last.kind outcome.kind → AreJoinedEnds ways.ends last.ends outcome.ends
-    → ((scopes : List Scope) → AreEnds scopes ways.ends → AreEnds scopes last.ends → AreEnds scopes outcome.ends) → IsJoined a.state.known (known_on ways.ok) b.state.known → IsMoved a b → IsLastBeside ways last a b outcome
-last_beside ways last outcome a b here are kind ends stand known moved = record {
+pub last_beside : (ways : Ways) (last finding : Finding) (a b : Checker) → AreWays a.state.scopes ways → AreEnds a.state.scopes last.ends → IsEither ways.kind last.kind finding.kind → AreJoinedEnds ways.ends last.ends finding.ends
+    → ((scopes : List Scope) → AreEnds scopes ways.ends → AreEnds scopes last.ends → AreEnds scopes finding.ends) → IsJoined a.state.known (known_on ways.ok) b.state.known → IsMoved a b → IsLastBeside ways last a b finding
+last_beside ways last finding a b here are kind ends stand known moved = record {
   moved = moved;
   kind = kind;
   known = join_turned a.state.known (known_on ways.ok) b.state.known known;
@@ -160,7 +160,7 @@ last_beside ways last outcome a b here are kind ends stand known moved = record 
 abbrev returning_so : Option Returned → Bool → Ends → Ends
 returning_so ret poisons ends = record ends { ret = ret; poisoned = ends.poisoned || poisons }
 
-pub is_returned : (span : Span) (part : Outcome) (a b c d : Checker) (here : Option Returned) (all ends : Ends) (K : KindTree) → AreEnds a.state.scopes part.ends → IsRootKind part.kind → b ≡ a → here ≡ returning a.state.scopes part.kind a.state.known
+pub is_returned : (span : Span) (part : Finding) (a b c d : Checker) (here : Option Returned) (all ends : Ends) (K : KindTree) → AreEnds a.state.scopes part.ends → IsRootKind part.kind → b ≡ a → here ≡ returning a.state.scopes part.kind a.state.known
     → AreJoinedReturns part.ends.ret here all.ret → all ≡ record part.ends { ret = all.ret } → ((scopes : List Scope) → AreEnds scopes part.ends → IsReturnIn scopes here → AreEnds scopes all)
     → IsReported (when a.inside (at 1004 span)) b c all ends → d.state.known ≡ if_state a.inside c.state.known → IsMoved c d → K ≡ never_kind
     → IsReturned span part a d (record { kind = K; ends = ends })
@@ -184,7 +184,7 @@ is_returned span part a b c d here all ends K are root still here_is joined othe
       are = reported_are a.state.scopes ds b c all ends told (stand a.state.scopes are (subst (IsReturnIn a.state.scopes) (sym here_is) (kept_return a.state.scopes part.kind a.state.known root)));
     }
 
-pub is_aborted : (part : Outcome) (span : Span) (a b : Checker) (s : State) (ends : Ends) (K : KindTree) (wrong : Bool) → wrong ≡ is_message_wrong (seen part a [] [] []) → IsReported (when wrong (at 1011 span)) a b part.ends ends → s ≡ record b.state { known = None } → K ≡ never_kind
+pub is_aborted : (part : Finding) (span : Span) (a b : Checker) (s : State) (ends : Ends) (K : KindTree) (wrong : Bool) → wrong ≡ is_message_wrong (seen part a [] [] []) → IsReported (when wrong (at 1011 span)) a b part.ends ends → s ≡ record b.state { known = None } → K ≡ never_kind
     → IsAborted (of_message span (seen part a [] [] [])) part a (record b { state = s }) (record { kind = K; ends = ends })
 is_aborted part span a b s ends K wrong is told dead kind =
     let reported : IsReported (of_message span (seen part a [] [] [])) a b part.ends ends = subst (λ w. IsReported (when w (at 1011 span)) a b part.ends ends) is told in

@@ -9,7 +9,7 @@ use Rattle.vrl_judge.specs.Closures.{IsBodyEndAs, IsBodyEntered}
 use Rattle.vrl_judge.specs.Judging.{branches_known, loops_known, AreEnds, AreLeftEnds, HasJudged}
 use Rattle.vrl_judge.specs.declared.checker.Checker.{Checker}
 use Rattle.vrl_judge.specs.declared.ends.Ends.{Ends}
-use Rattle.vrl_judge.specs.declared.outcome.Outcome.{Outcome}
+use Rattle.vrl_judge.specs.declared.finding.Finding.{Finding}
 use Rattle.vrl_judge.proofs.Parts.{ends_in, ends_left, left_by}
 
 -- ---- it begins
@@ -58,7 +58,7 @@ body_entered names Ks a opened bound enters many all are =
 
 -- ---- it ends
 
-pub body_ended : (now after : Checker) (part : Outcome) (ends : Ends) → IsLeft now.state after.state → after.diagnostics ≡ now.diagnostics → after.empties ≡ now.empties → after.loops ≡ now.loops → after.patterns ≡ now.patterns → after.inside ≡ now.inside
+pub body_ended : (now after : Checker) (part : Finding) (ends : Ends) → IsLeft now.state after.state → after.diagnostics ≡ now.diagnostics → after.empties ≡ now.empties → after.loops ≡ now.loops → after.patterns ≡ now.patterns → after.inside ≡ now.inside
     → ((scope : Scope) (scopes : List Scope) → AreEnds (scope ∷ scopes) part.ends → AreLeftEnds scope scopes part.ends ends) → IsBodyEndAs part now after (record { kind = part.kind; ends = ends })
 body_ended now after part ends leaves same_codes same_empties same_loops same_patterns same_inside left_so b before entered known j here enters has =
     let lists : leaves.scope ∷ after.state.scopes ≡ enters.scope ∷ before.state.scopes = sym leaves.scopes ∙ has.gathered.scopes ∙ enters.scopes in

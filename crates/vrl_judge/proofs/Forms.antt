@@ -16,7 +16,7 @@ use Rattle.vrl_judge.specs.Judging.{branches_known, loops_known, AreEnds, AreJoi
 use Rattle.vrl_judge.specs.declared.checker.Checker.{Checker}
 use Rattle.vrl_judge.specs.declared.ends.Ends.{Ends}
 use Rattle.vrl_judge.specs.declared.operators.Operands.{Operands}
-use Rattle.vrl_judge.specs.declared.outcome.Outcome.{Outcome}
+use Rattle.vrl_judge.specs.declared.finding.Finding.{Finding}
 use Rattle.vrl_judge.specs.declared.tables.Table.{Table}
 use Rattle.vrl_judge.proofs.Parts.{are_ends_of, behind_with, ends_in, ends_of, ends_or_fail, gathered_moved, gathered_of, kept_all, left_ends, reported_ends, reported_gathered, reported_more, settled_judged}
 use Rattle.vrl_judge.proofs.Gathering.{part_are, part_then, value_ends, value_gathered, with_kind_of}
@@ -26,9 +26,9 @@ use Rattle.vrl_value.specs.declared.value.Tag.TheVariants as tag
 
 -- ---- an expression
 
-pub expr_settled : (now : Checker) (part outcome : Outcome) (alive : Bool) → alive ≡ is_some now.state.known
-    → outcome.kind ≡ settled_kind part.ends.poisoned alive part.kind → outcome.ends ≡ settled_ends part.ends → IsSettledAs part now outcome
-expr_settled now part outcome alive reached_here kind ends before j has = settled_judged before now part outcome alive j has reached_here kind ends
+pub expr_settled : (now : Checker) (part finding : Finding) (alive : Bool) → alive ≡ is_some now.state.known
+    → finding.kind ≡ settled_kind part.ends.poisoned alive part.kind → finding.ends ≡ settled_ends part.ends → IsSettledAs part now finding
+expr_settled now part finding alive reached_here kind ends before j has = settled_judged before now part finding alive j has reached_here kind ends
 
 -- ---- values
 
@@ -42,14 +42,14 @@ told_judged ds start before after old new j K told has_ends gathered root = reco
   gathered = reported_gathered ds start before after old new (record j { kind = K }) told (gathered_of start before j (record j { kind = K }) gathered refl refl refl refl);
 }
 
-pub unknown_judged : (span : Span) (before after : Checker) (part : Outcome) (K : KindTree) (new : Ends) → K ≡ any_kind → part.kind ≡ K → part.ends ≡ no_ends → IsReported (when true (at 701 span)) before after part.ends new
+pub unknown_judged : (span : Span) (before after : Checker) (part : Finding) (K : KindTree) (new : Ends) → K ≡ any_kind → part.kind ≡ K → part.ends ≡ no_ends → IsReported (when true (at 701 span)) before after part.ends new
     → HasJudged before after (record { kind = part.kind; ends = new }) (with_codes (at 701 span) (gives any_kind before.state.known))
 unknown_judged span before after part K new any is none told =
     let has_ends = subst (λ e. HasEnds before.state.scopes e (gives any_kind before.state.known)) (sym none) (value_ends before any_kind) in
     subst (λ M. HasJudged before after (record { kind = M; ends = new }) (with_codes (at 701 span) (gives any_kind before.state.known))) (sym (is ∙ any))
     (told_judged (at 701 span) before before after part.ends new (gives any_kind before.state.known) any_kind told has_ends (value_gathered before any_kind) any_root)
 
-pub read_off : (path : List Step) (part : Outcome) (now : Checker) (K : KindTree) → IsReadAt part.kind path K → IsReadOffAs path part now (record { kind = K; ends = part.ends })
+pub read_off : (path : List Step) (part : Finding) (now : Checker) (K : KindTree) → IsReadAt part.kind path K → IsReadOffAs path part now (record { kind = K; ends = part.ends })
 read_off path part now K at_path before j has =
     let there = subst (λ M. IsReadAt M path K) has.kind at_path in
     (K, there, with_kind_of before now part.ends j K has.ends has.gathered (read_root j.kind path K there has.root.present))
@@ -57,9 +57,9 @@ read_off path part now K at_path before j has =
 -- ---- blocks
 
 -- the end of an open block
-pub block_ended : (now after : Checker) (part outcome : Outcome) (ends : Ends) → IsLeft now.state after.state → after.diagnostics ≡ now.diagnostics → after.empties ≡ now.empties → after.loops ≡ now.loops → after.patterns ≡ now.patterns → after.inside ≡ now.inside
-    → ((scope : Scope) (scopes : List Scope) → AreEnds (scope ∷ scopes) part.ends → AreLeftEnds scope scopes part.ends ends) → IsSettledAs (record { kind = part.kind; ends = ends }) after outcome → IsBlockEndAs part now after outcome
-block_ended now after part outcome ends leaves same_codes same_empties same_loops same_patterns same_inside left_so settles before entered known j here enters entered_codes entered_empties entered_loops entered_patterns entered_inside has =
+pub block_ended : (now after : Checker) (part finding : Finding) (ends : Ends) → IsLeft now.state after.state → after.diagnostics ≡ now.diagnostics → after.empties ≡ now.empties → after.loops ≡ now.loops → after.patterns ≡ now.patterns → after.inside ≡ now.inside
+    → ((scope : Scope) (scopes : List Scope) → AreEnds (scope ∷ scopes) part.ends → AreLeftEnds scope scopes part.ends ends) → IsSettledAs (record { kind = part.kind; ends = ends }) after finding → IsBlockEndAs part now after finding
+block_ended now after part finding ends leaves same_codes same_empties same_loops same_patterns same_inside left_so settles before entered known j here enters entered_codes entered_empties entered_loops entered_patterns entered_inside has =
     let lists : leaves.scope ∷ after.state.scopes ≡ enters.scope ∷ before.state.scopes = sym leaves.scopes ∙ has.gathered.scopes ∙ enters.scopes in
     let one : leaves.scope ≡ enters.scope = cc in
     let rest : after.state.scopes ≡ before.state.scopes = cc in
@@ -84,21 +84,21 @@ block_ended now after part outcome ends leaves same_codes same_empties same_loop
 -- ---- operators
 
 -- the code's test of a part is that of its judgement
-pub other_is : (t : Tag) (before now : Checker) (part : Outcome) (j : Judgement) → HasJudged before now part j → (is_some now.state.known && not part.ends.poisoned && not (is_alone (root_tags part.kind) t)) ≡ is_other t j
+pub other_is : (t : Tag) (before now : Checker) (part : Finding) (j : Judgement) → HasJudged before now part j → (is_some now.state.known && not part.ends.poisoned && not (is_alone (root_tags part.kind) t)) ≡ is_other t j
 other_is t before now part j has =
     ap (λ k. is_some k && not part.ends.poisoned && not (is_alone (root_tags part.kind) t)) has.gathered.ok
     ∙ ap₂ (λ p K. is_some j.ok && not p && not (is_alone (root_tags K) t)) has.ends.poisoned has.kind
 
-pub other_of : (t : Tag) (before now : Checker) (part : Outcome) (j : Judgement) (other : Bool) → HasJudged before now part j → other ≡ (is_some now.state.known && not part.ends.poisoned && not (is_alone (root_tags part.kind) t)) → other ≡ is_other t j
+pub other_of : (t : Tag) (before now : Checker) (part : Finding) (j : Judgement) (other : Bool) → HasJudged before now part j → other ≡ (is_some now.state.known && not part.ends.poisoned && not (is_alone (root_tags part.kind) t)) → other ≡ is_other t j
 other_of t before now part j other has is = is ∙ other_is t before now part j has
 
-pub negated : (span : Span) (now after : Checker) (part : Outcome) (other : Bool) (new : Ends) (K : KindTree) → other ≡ (is_some now.state.known && not part.ends.poisoned && not (is_alone (root_tags part.kind) tag.Bool))
+pub negated : (span : Span) (now after : Checker) (part : Finding) (other : Bool) (new : Ends) (K : KindTree) → other ≡ (is_some now.state.known && not part.ends.poisoned && not (is_alone (root_tags part.kind) tag.Bool))
     → IsReported (when other (at 660 span)) now after part.ends new → IsScalar tag.Bool K → IsNegatedAs span part now after (record { kind = K; ends = new })
 negated span now after part other new K is told scalar before j has =
     let there = subst (λ b. IsReported (when b (at 660 span)) now after part.ends new) (other_of tag.Bool before now part j other has is) told in
     (K, scalar, told_judged (when (is_other tag.Bool j) (at 660 span)) before now after part.ends new j K there has.ends has.gathered (scalar_root tag.Bool K scalar refl))
 
-pub paired : (first second : Outcome) (other also : Bool) (after : Checker) (ends : Ends) → also ≡ (is_some after.state.known && not second.ends.poisoned && not (is_alone (root_tags second.kind) tag.Object))
+pub paired : (first second : Finding) (other also : Bool) (after : Checker) (ends : Ends) → also ≡ (is_some after.state.known && not second.ends.poisoned && not (is_alone (root_tags second.kind) tag.Object))
     → AreJoinedEnds first.ends second.ends ends → ((scopes : List Scope) → AreEnds scopes first.ends → AreEnds scopes second.ends → AreEnds scopes ends)
     → ArePairedAs first other second after (record { left = first.kind; right = second.kind; left_no_object = other; right_no_object = also; ends = ends })
 paired first second other also after ends is joined are before now j k has other_is_so has_second =

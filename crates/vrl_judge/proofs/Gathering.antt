@@ -6,14 +6,14 @@ use Rattle.vrl_judge.specs.Rules.{Judgement, IsThen, gives}
 use Rattle.vrl_judge.specs.Judging.{AreEnds, AreJoinedEnds, HasEnds, HasGathered, HasJudged, no_ends}
 use Rattle.vrl_judge.specs.declared.checker.Checker.{Checker}
 use Rattle.vrl_judge.specs.declared.ends.Ends.{Ends}
-use Rattle.vrl_judge.specs.declared.outcome.Outcome.{Outcome}
+use Rattle.vrl_judge.specs.declared.finding.Finding.{Finding}
 use Rattle.vrl_judge.proofs.Parts.{behind_with, ends_behind, ends_in, ends_of, gathered_behind, gathered_none, gathered_of, is_then}
 use Rattle.vrl_judge.proofs.Joining.{no_ends_are}
 
 -- ---- one part behind others
 
 -- the ends of a part stand in the scopes of the whole
-pub part_are : (before now after : Checker) (part : Outcome) (j p : Judgement) → HasGathered before now j → HasJudged now after part p → AreEnds before.state.scopes part.ends
+pub part_are : (before now after : Checker) (part : Finding) (j p : Judgement) → HasGathered before now j → HasJudged now after part p → AreEnds before.state.scopes part.ends
 part_are before now after part j p gathered has = subst (λ s. AreEnds s part.ends) gathered.scopes has.ends.are
 
 -- what both are in order
@@ -22,7 +22,7 @@ pub record IsAllThen (before after : Checker) (next : Ends) (j p : Judgement) : 
   pub ends : HasEnds before.state.scopes next (behind_with next j p)
   pub gathered : HasGathered before after (behind_with next j p)
 
-pub part_then : (before now after : Checker) (ends next : Ends) (part : Outcome) (j p : Judgement) → HasEnds before.state.scopes ends j → HasGathered before now j → HasJudged now after part p → AreJoinedEnds ends part.ends next → AreEnds before.state.scopes next
+pub part_then : (before now after : Checker) (ends next : Ends) (part : Finding) (j p : Judgement) → HasEnds before.state.scopes ends j → HasGathered before now j → HasJudged now after part p → AreJoinedEnds ends part.ends next → AreEnds before.state.scopes next
     → IsAllThen before after next j p
 part_then before now after ends next part j p has_ends gathered has joined are =
     let ordered = is_then before.state.scopes ends part.ends next j p has_ends (ends_in now.state.scopes before.state.scopes part.ends p gathered.scopes has.ends) joined in

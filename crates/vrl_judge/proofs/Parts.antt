@@ -16,7 +16,7 @@ use Rattle.vrl_judge.specs.Judging.{branches_known, known_on, loop_known, loops_
 use Rattle.vrl_judge.specs.declared.checker.Checker.{Checker}
 use Rattle.vrl_judge.specs.declared.ends.Ends.{Ends}
 use Rattle.vrl_judge.specs.declared.ends.Returned.{Returned}
-use Rattle.vrl_judge.specs.declared.outcome.Outcome.{Outcome}
+use Rattle.vrl_judge.specs.declared.finding.Finding.{Finding}
 use Rattle.vrl_judge.proofs.RootKinds.{either_of, settled_root}
 use Rattle.vrl_judge.proofs.Joining.{branch_alive, join_of, kept_return, kept_way, known_way, settled_are, state_of_return}
 use Rattle.std.specs.FinMap as map
@@ -224,8 +224,8 @@ reported_more ds es before middle after old next new first second = record {
 
 -- ---- what was judged
 
--- the same outcome with codes that stand on it
-pub reported_judged : (ds : List Diagnostic) (start before after : Checker) (part all : Outcome) (j : Judgement) → IsReported ds before after part.ends all.ends → all.kind ≡ part.kind → HasJudged start before part j → HasJudged start after all (with_codes ds j)
+-- the same finding with codes that stand on it
+pub reported_judged : (ds : List Diagnostic) (start before after : Checker) (part all : Finding) (j : Judgement) → IsReported ds before after part.ends all.ends → all.kind ≡ part.kind → HasJudged start before part j → HasJudged start after all (with_codes ds j)
 reported_judged ds start before after part all j told same has = record {
   kind = same ∙ has.kind;
   root = has.root;
@@ -246,8 +246,8 @@ settled_ends_have scopes ends j has = record {
   poisoned = has.poisoned;
 }
 
--- an outcome is settled
-pub settled_judged : (before after : Checker) (part settled : Outcome) (alive : Bool) (j : Judgement) → HasJudged before after part j → alive ≡ is_some after.state.known → settled.kind ≡ settled_kind part.ends.poisoned alive part.kind → settled.ends ≡ settled_ends part.ends
+-- an finding is settled
+pub settled_judged : (before after : Checker) (part settled : Finding) (alive : Bool) (j : Judgement) → HasJudged before after part j → alive ≡ is_some after.state.known → settled.kind ≡ settled_kind part.ends.poisoned alive part.kind → settled.ends ≡ settled_ends part.ends
     → HasJudged before after settled (settle j)
 settled_judged before after part settled alive j has reached kind ends = record {
   kind = kind ∙ ap (λ p. settled_kind p alive part.kind) has.ends.poisoned ∙ ap₂ (λ a K. settled_kind j.poisoned a K) (reached ∙ ap is_some has.gathered.ok) has.kind;

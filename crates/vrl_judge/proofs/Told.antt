@@ -8,7 +8,7 @@ use Rattle.vrl_judge.specs.Judging.{branches_known, loops_known, no_ends, AreEnd
 use Rattle.vrl_judge.specs.Seen.{seen}
 use Rattle.vrl_judge.specs.declared.checker.Checker.{Checker}
 use Rattle.vrl_judge.specs.declared.ends.Ends.{Ends}
-use Rattle.vrl_judge.specs.declared.outcome.Outcome.{Outcome}
+use Rattle.vrl_judge.specs.declared.finding.Finding.{Finding}
 use Rattle.vrl_kind.specs.KindTree.{KindTree}
 use Rattle.vrl_judge.proofs.Parts.{added, loops_added, no_loops}
 use Rattle.vrl_judge.proofs.Joining.{no_ends_are}
@@ -16,7 +16,7 @@ use Rattle.vrl_judge.proofs.Joining.{no_ends_are}
 -- ---- one part
 
 -- the judgement that is told of a part is what was seen of it
-pub as_seen : (before after : Checker) (part : Outcome) (j : Judgement) → HasJudged before after part j → j ≡ seen part after j.codes j.empties j.loops
+pub as_seen : (before after : Checker) (part : Finding) (j : Judgement) → HasJudged before after part j → j ≡ seen part after j.codes j.empties j.loops
 as_seen before after part j has = λ i. record {
   kind = sym has.kind i;
   ok = sym has.gathered.ok i;
@@ -45,22 +45,22 @@ pub has_gathered : (before after : Checker) (j : Judgement) → Gathers before a
 has_gathered before after j is ok = record { ok = ok; scopes = is.scopes; diagnostics = is.diagnostics; empties = is.empties; loops = is.loops; patterns = is.patterns; inside = is.inside }
 
 -- a part with its kind and its ends
-pub record IsTold (before after : Checker) (part : Outcome) (ds : List Diagnostic) (ts : List Tag) (ls : List (Option Loop)) : Type 0 where
+pub record IsTold (before after : Checker) (part : Finding) (ds : List Diagnostic) (ts : List Tag) (ls : List (Option Loop)) : Type 0 where
   pub root : IsRootKind part.kind
   pub are : AreEnds before.state.scopes part.ends
   pub gathers : Gathers before after ds ts ls
 
-pub told_of : (before after : Checker) (part : Outcome) (j : Judgement) → HasJudged before after part j → IsTold before after part j.codes j.empties j.loops
+pub told_of : (before after : Checker) (part : Finding) (j : Judgement) → HasJudged before after part j → IsTold before after part j.codes j.empties j.loops
 told_of before after part j has = record {
   root = subst IsRootKind (sym has.kind) has.root;
   are = has.ends.are;
   gathers = gathered before after j has.gathered;
 }
 
-pub seen_ends : (scopes : List Scope) (part : Outcome) (after : Checker) (ds : List Diagnostic) (ts : List Tag) (ls : List (Option Loop)) → AreEnds scopes part.ends → HasEnds scopes part.ends (seen part after ds ts ls)
+pub seen_ends : (scopes : List Scope) (part : Finding) (after : Checker) (ds : List Diagnostic) (ts : List Tag) (ls : List (Option Loop)) → AreEnds scopes part.ends → HasEnds scopes part.ends (seen part after ds ts ls)
 seen_ends scopes part after ds ts ls are = record { are = are; fail = refl; ret = refl; returned = refl; poisoned = refl }
 
-pub told : (before after : Checker) (part : Outcome) (ds : List Diagnostic) (ts : List Tag) (ls : List (Option Loop)) → IsTold before after part ds ts ls → HasJudged before after part (seen part after ds ts ls)
+pub told : (before after : Checker) (part : Finding) (ds : List Diagnostic) (ts : List Tag) (ls : List (Option Loop)) → IsTold before after part ds ts ls → HasJudged before after part (seen part after ds ts ls)
 told before after part ds ts ls is = record {
   kind = refl;
   root = is.root;
@@ -69,7 +69,7 @@ told before after part ds ts ls is = record {
 }
 
 -- its ends where the part was judged stand where it ended too
-pub are_behind : (before after : Checker) (part : Outcome) (ds : List Diagnostic) (ts : List Tag) (ls : List (Option Loop)) → IsTold before after part ds ts ls → AreEnds after.state.scopes part.ends
+pub are_behind : (before after : Checker) (part : Finding) (ds : List Diagnostic) (ts : List Tag) (ls : List (Option Loop)) → IsTold before after part ds ts ls → AreEnds after.state.scopes part.ends
 are_behind before after part ds ts ls is = subst (λ scopes. AreEnds scopes part.ends) (sym is.gathers.scopes) is.are
 
 -- a value, and nothing else

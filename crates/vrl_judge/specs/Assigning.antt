@@ -13,25 +13,25 @@ use Rattle.vrl_judge.specs.Rules.{empty_tag, of_error_assignment}
 use Rattle.vrl_judge.specs.Judging.{known_on, AreBothWritten}
 use Rattle.vrl_judge.specs.Seen.{seen}
 use Rattle.vrl_judge.specs.declared.checker.Checker.{Checker}
-use Rattle.vrl_judge.specs.declared.outcome.Outcome.{Outcome}
+use Rattle.vrl_judge.specs.declared.finding.Finding.{Finding}
 
 -- the tag of the empty value is put at its place, codes are told, and both targets written; no
 -- error is left
-pub record AreAssigned (span : Span) (ok err : Target) (place : ℕ) (part : Outcome) (before after : Checker)
-    (outcome : Outcome) : Type 0 where
+pub record AreAssigned (span : Span) (ok err : Target) (place : ℕ) (part : Finding) (before after : Checker)
+    (finding : Finding) : Type 0 where
   pub E : KindTree
   pub empty : IsCutOf (found_at (empty_value (empty_tag part.kind))) E
-  pub kind : IsEither part.kind E outcome.kind
+  pub kind : IsEither part.kind E finding.kind
   pub written : AreBothWritten ok err part.kind E before.state.known (known_on part.ends.fail) after.state.known
   pub scopes : after.state.scopes ≡ before.state.scopes
   pub diagnostics : after.diagnostics.items ≡ before.diagnostics.items ++ of_error_assignment span ok err
-      (seen part before [] [] []) outcome.kind
+      (seen part before [] [] []) finding.kind
   pub loops : after.loops ≡ before.loops
   pub patterns : after.patterns ≡ before.patterns
   pub inside : after.inside ≡ before.inside
   pub empties : after.empties.items ≡ slice_set before.empties.items place (empty_tag part.kind)
-  pub ends : outcome.ends ≡ record part.ends {
+  pub ends : finding.ends ≡ record part.ends {
     fail = None;
     poisoned = part.ends.poisoned || list_any is_error
-        (of_error_assignment span ok err (seen part before [] [] []) outcome.kind);
+        (of_error_assignment span ok err (seen part before [] [] []) finding.kind);
   }

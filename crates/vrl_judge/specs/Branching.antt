@@ -15,7 +15,7 @@ use Rattle.vrl_judge.specs.declared.branches.LeftSide.{LeftSide}
 use Rattle.vrl_judge.specs.declared.branches.Ways.{Ways}
 use Rattle.vrl_judge.specs.declared.checker.Checker.{Checker}
 use Rattle.vrl_judge.specs.declared.ends.Ends.{Ends}
-use Rattle.vrl_judge.specs.declared.outcome.Outcome.{Outcome}
+use Rattle.vrl_judge.specs.declared.finding.Finding.{Finding}
 use Rattle.vrl_value.specs.declared.value.Tag.TheVariants as tag
 
 -- ---- operators that may leave their right side out
@@ -45,14 +45,14 @@ pub record IsOrFail (old : Ends) (known : Option RootMap) (new : Ends) : Type 0 
   pub others : new ≡ record old { fail = new.fail }
 
 -- both sides of a `&&`
-pub record IsConjoined (left : LeftSide) (right : Outcome) (before after : Checker) (outcome : Outcome) : Type 0 where
+pub record IsConjoined (left : LeftSide) (right : Finding) (before after : Checker) (finding : Finding) : Type 0 where
   pub moved : IsMoved before after
-  pub kind : IsScalar tag.Bool outcome.kind
+  pub kind : IsScalar tag.Bool finding.kind
   pub known : IsJoined (known_on left.beside) (if_state (may_be_truth right.kind) before.state.known) after.state.known
   pub both : Ends
   pub ends : AreJoinedEnds left.part.ends right.ends both
-  pub or_fail : IsOrFail both (if_state (may_be_no_truth right.kind) before.state.known) outcome.ends
-  pub are : AreEnds before.state.scopes outcome.ends
+  pub or_fail : IsOrFail both (if_state (may_be_no_truth right.kind) before.state.known) finding.ends
+  pub are : AreEnds before.state.scopes finding.ends
 
 -- ---- the ways of an `if`
 
@@ -65,7 +65,7 @@ pub record AreWays (scopes : List Scope) (ways : Ways) : Type 0 where
   pub ends : AreEnds scopes ways.ends
 
 -- a predicate, with its own codes, beside the ways before it
-pub record IsPredicateBeside (span : Span) (part : Outcome) (ways : Ways) (before after : Checker)
+pub record IsPredicateBeside (span : Span) (part : Finding) (ways : Ways) (before after : Checker)
     (all : Ways) : Type 0 where
   pub predicate : Ends
   pub reported : IsReported (of_predicate span (seen part before [] [] [])) before after part.ends predicate
@@ -75,7 +75,7 @@ pub record IsPredicateBeside (span : Span) (part : Outcome) (ways : Ways) (befor
   pub are : AreWays before.state.scopes all
 
 -- a block beside the ways before it, and back to the state that was marked before the block
-pub record IsBlockBeside (mark : State) (block : Outcome) (ways : Ways) (before after : Checker)
+pub record IsBlockBeside (mark : State) (block : Finding) (ways : Ways) (before after : Checker)
     (all : Ways) : Type 0 where
   pub back : after ≡ record before { state = mark }
   pub kind : IsEither ways.kind block.kind all.kind
@@ -84,35 +84,35 @@ pub record IsBlockBeside (mark : State) (block : Outcome) (ways : Ways) (before 
   pub are : AreWays before.state.scopes all
 
 -- the last way beside the others
-pub record IsLastBeside (ways : Ways) (last : Outcome) (before after : Checker) (outcome : Outcome) : Type 0 where
+pub record IsLastBeside (ways : Ways) (last : Finding) (before after : Checker) (finding : Finding) : Type 0 where
   pub moved : IsMoved before after
-  pub kind : IsEither ways.kind last.kind outcome.kind
+  pub kind : IsEither ways.kind last.kind finding.kind
   pub known : IsJoined (known_on ways.ok) before.state.known after.state.known
-  pub ends : AreJoinedEnds ways.ends last.ends outcome.ends
-  pub are : AreEnds before.state.scopes outcome.ends
+  pub ends : AreJoinedEnds ways.ends last.ends finding.ends
+  pub are : AreEnds before.state.scopes finding.ends
 
 -- ---- ends of the script
 
 -- It returns with the part's value, and no way leads on. In a closure it is 1004, and goes on
 -- behind the part
-pub record IsReturned (span : Span) (part : Outcome) (before after : Checker) (outcome : Outcome) : Type 0 where
+pub record IsReturned (span : Span) (part : Finding) (before after : Checker) (finding : Finding) : Type 0 where
   pub scopes : after.state.scopes ≡ before.state.scopes
   pub known : after.state.known ≡ if_state before.inside before.state.known
-  pub kind : outcome.kind ≡ never_kind
-  pub ret : IsJoined (return_state part.ends.ret) before.state.known (return_state outcome.ends.ret)
+  pub kind : finding.kind ≡ never_kind
+  pub ret : IsJoined (return_state part.ends.ret) before.state.known (return_state finding.ends.ret)
   pub returned : IsEither (return_kind part.ends.ret) (settled_kind false (is_alive before.state.known) part.kind)
-      (return_kind outcome.ends.ret)
+      (return_kind finding.ends.ret)
   pub diagnostics : after.diagnostics.items ≡ before.diagnostics.items ++ when before.inside (at 1004 span)
   pub empties : after.empties ≡ before.empties
   pub loops : after.loops ≡ before.loops
   pub patterns : after.patterns ≡ before.patterns
   pub inside : after.inside ≡ before.inside
-  pub ends : outcome.ends ≡ record part.ends
-      { ret = outcome.ends.ret; poisoned = part.ends.poisoned || list_any is_error (when before.inside (at 1004 span)) }
-  pub are : AreEnds before.state.scopes outcome.ends
+  pub ends : finding.ends ≡ record part.ends
+      { ret = finding.ends.ret; poisoned = part.ends.poisoned || list_any is_error (when before.inside (at 1004 span)) }
+  pub are : AreEnds before.state.scopes finding.ends
 
 -- behind the part and these codes no way leads on
-pub record IsAborted (ds : List Diagnostic) (part : Outcome) (before after : Checker) (outcome : Outcome) : Type 0 where
+pub record IsAborted (ds : List Diagnostic) (part : Finding) (before after : Checker) (finding : Finding) : Type 0 where
   pub scopes : after.state.scopes ≡ before.state.scopes
   pub known : after.state.known ≡ None
   pub diagnostics : after.diagnostics.items ≡ before.diagnostics.items ++ ds
@@ -120,5 +120,5 @@ pub record IsAborted (ds : List Diagnostic) (part : Outcome) (before after : Che
   pub loops : after.loops ≡ before.loops
   pub patterns : after.patterns ≡ before.patterns
   pub inside : after.inside ≡ before.inside
-  pub kind : outcome.kind ≡ never_kind
-  pub ends : outcome.ends ≡ record part.ends { poisoned = part.ends.poisoned || list_any is_error ds }
+  pub kind : finding.kind ≡ never_kind
+  pub ends : finding.ends ≡ record part.ends { poisoned = part.ends.poisoned || list_any is_error ds }

@@ -5,7 +5,7 @@ use Rattle.vrl_judge.specs.Rules.{Argument, Judgement, banged, is_fallible, is_k
 use Rattle.vrl_judge.specs.Judging.{HasJudged}
 use Rattle.vrl_judge.specs.declared.calls.Argument.{Argument as CodeArgument}
 use Rattle.vrl_judge.specs.declared.checker.Checker.{Checker}
-use Rattle.vrl_judge.specs.declared.outcome.Outcome.{Outcome}
+use Rattle.vrl_judge.specs.declared.finding.Finding.{Finding}
 
 -- ---- arguments that were judged
 
@@ -16,6 +16,6 @@ part_of g = record { kind = g.judged.kind; fallible = is_fallible g.judged; know
 -- ---- what is called
 
 -- a `!` leaves no error
-abbrev pub IsBangedAs : Span → Bool → Outcome → Checker → Checker → Outcome → Type 0
-IsBangedAs span bang part now after outcome = (before : Checker) (j : Judgement) → HasJudged before now part j
-    → HasJudged before after outcome (banged span bang j)
+abbrev pub IsBangedAs : Span → Bool → Finding → Checker → Checker → Finding → Type 0
+IsBangedAs span bang part now after finding = (before : Checker) (j : Judgement) → HasJudged before now part j
+    → HasJudged before after finding (banged span bang j)

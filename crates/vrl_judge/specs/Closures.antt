@@ -32,7 +32,7 @@ use Rattle.vrl_judge.specs.Rules.{Judgement, Loop, at, is_other, scalars_at, som
 use Rattle.vrl_judge.specs.Judging.{HasJudged}
 use Rattle.vrl_judge.specs.declared.checker.Checker.{Checker}
 use Rattle.vrl_judge.specs.declared.closures.Held.{Held}
-use Rattle.vrl_judge.specs.declared.outcome.Outcome.{Outcome}
+use Rattle.vrl_judge.specs.declared.finding.Finding.{Finding}
 
 -- ---- the body
 
@@ -145,10 +145,10 @@ pub record IsBodyEntered (names : List (List ℕ)) (Ks : List KindTree) (before 
   pub others : after ≡ record before { state = after.state }
 
 -- it ends, behind its items
-abbrev pub IsBodyEndAs : Outcome → Checker → Checker → Outcome → Type 0
-IsBodyEndAs part now after outcome = (b : ClosureBody) (before entered : Checker) (known : RootMap) (j : Judgement)
+abbrev pub IsBodyEndAs : Finding → Checker → Checker → Finding → Type 0
+IsBodyEndAs part now after finding = (b : ClosureBody) (before entered : Checker) (known : RootMap) (j : Judgement)
     → before.state.known ≡ Some known → IsBodyEntered b.names b.kinds before entered → HasJudged entered now part j
-    → HasJudged before after outcome (left_body b known j)
+    → HasJudged before after finding (left_body b known j)
 
 -- how much was gathered
 abbrev pub held_of : Checker → Held

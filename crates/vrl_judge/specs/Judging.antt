@@ -16,7 +16,7 @@ use Rattle.vrl_judge.specs.declared.checker.Checker.{Checker}
 use Rattle.vrl_judge.specs.declared.ends.Ends.{Ends}
 use Rattle.vrl_judge.specs.declared.ends.Returned.{Returned}
 use Rattle.vrl_judge.specs.declared.operators.Operands.{Operands}
-use Rattle.vrl_judge.specs.declared.outcome.Outcome.{Outcome}
+use Rattle.vrl_judge.specs.declared.finding.Finding.{Finding}
 use Rattle.vrl_judge.specs.declared.tables.Table.{Table}
 use Rattle.vrl_value.specs.declared.value.Tag.TheVariants as tag
 use Rattle.vrl_judge.specs.declared.tables.Table.TheVariants as table
@@ -113,10 +113,10 @@ pub record HasGathered (before after : Checker) (j : Judgement) : Type 0 where
   pub patterns : after.patterns ≡ before.patterns
   pub inside : after.inside ≡ before.inside
 
-pub record HasJudged (before after : Checker) (outcome : Outcome) (j : Judgement) : Type 0 where
-  pub kind : outcome.kind ≡ j.kind
+pub record HasJudged (before after : Checker) (finding : Finding) (j : Judgement) : Type 0 where
+  pub kind : finding.kind ≡ j.kind
   pub root : IsRootKind j.kind
-  pub ends : HasEnds before.state.scopes outcome.ends j
+  pub ends : HasEnds before.state.scopes finding.ends j
   pub gathered : HasGathered before after j
 
 -- ---- what is made of it
@@ -147,35 +147,35 @@ pub record IsReported (ds : List Diagnostic) (before after : Checker) (old new :
   pub ends : new ≡ record old { poisoned = old.poisoned || list_any is_error ds }
 
 -- what is settled
-abbrev pub IsSettledAs : Outcome → Checker → Outcome → Type 0
-IsSettledAs part now outcome =
-    (before : Checker) (j : Judgement) → HasJudged before now part j → HasJudged before now outcome (settle j)
+abbrev pub IsSettledAs : Finding → Checker → Finding → Type 0
+IsSettledAs part now finding =
+    (before : Checker) (j : Judgement) → HasJudged before now part j → HasJudged before now finding (settle j)
 
 -- what is read at a path of a part
-abbrev pub IsReadOffAs : List Step → Outcome → Checker → Outcome → Type 0
-IsReadOffAs path part now outcome = (before : Checker) (j : Judgement) → HasJudged before now part j
-    → (K : KindTree) × IsReadAt j.kind path K × HasJudged before now outcome (record j { kind = K })
+abbrev pub IsReadOffAs : List Step → Finding → Checker → Finding → Type 0
+IsReadOffAs path part now finding = (before : Checker) (j : Judgement) → HasJudged before now part j
+    → (K : KindTree) × IsReadAt j.kind path K × HasJudged before now finding (record j { kind = K })
 
 -- a negation, behind its operand
-abbrev pub IsNegatedAs : Span → Outcome → Checker → Checker → Outcome → Type 0
-IsNegatedAs span part now after outcome = (before : Checker) (j : Judgement) → HasJudged before now part j
+abbrev pub IsNegatedAs : Span → Finding → Checker → Checker → Finding → Type 0
+IsNegatedAs span part now after finding = (before : Checker) (j : Judgement) → HasJudged before now part j
     → (K : KindTree) × IsScalar tag.Bool K
-    × HasJudged before after outcome (with_codes (when (is_other tag.Bool j) (at 660 span)) (record j { kind = K }))
+    × HasJudged before after finding (with_codes (when (is_other tag.Bool j) (at 660 span)) (record j { kind = K }))
 
 -- a block is open, and its items were judged in it
-pub record IsInBlock (now : Checker) (part : Outcome) : Type 0 where
+pub record IsInBlock (now : Checker) (part : Finding) : Type 0 where
   pub scope : Scope
   pub scopes : List Scope
   pub opened : now.state.scopes ≡ scope ∷ scopes
   pub ends : AreEnds (scope ∷ scopes) part.ends
 
 -- the block ends, behind its items
-abbrev pub IsBlockEndAs : Outcome → Checker → Checker → Outcome → Type 0
-IsBlockEndAs part now after outcome = (before entered : Checker) (known : RootMap) (j : Judgement)
+abbrev pub IsBlockEndAs : Finding → Checker → Checker → Finding → Type 0
+IsBlockEndAs part now after finding = (before entered : Checker) (known : RootMap) (j : Judgement)
     → before.state.known ≡ Some known → IsEntered before.state entered.state → entered.diagnostics ≡ before.diagnostics
     → entered.empties ≡ before.empties → entered.loops ≡ before.loops
     → entered.patterns ≡ before.patterns → entered.inside ≡ before.inside
-    → HasJudged entered now part j → HasJudged before after outcome (settle (left_behind known j))
+    → HasJudged entered now part j → HasJudged before after finding (settle (left_behind known j))
 
 -- two operands
 pub record HasOperands (before after : Checker) (parts : Operands) (j k whole : Judgement) : Type 0 where
@@ -187,41 +187,41 @@ pub record HasOperands (before after : Checker) (parts : Operands) (j k whole : 
   pub gathered : HasGathered before after whole
 
 -- both, where the left one is known not to be exactly an object, or is
-abbrev pub ArePairedAs : Outcome → Bool → Outcome → Checker → Operands → Type 0
+abbrev pub ArePairedAs : Finding → Bool → Finding → Checker → Operands → Type 0
 ArePairedAs left other right after parts = (before now : Checker) (j k : Judgement) → HasJudged before now left j
     → other ≡ is_other tag.Object j → HasJudged now after right k
     → (whole : Judgement) × IsThen j k whole × HasOperands before after parts j k whole
 
 -- their equality, which compares a comparison or doesn't
-abbrev pub IsEquatedAs : Span → Bool → Operands → Checker → Checker → Outcome → Type 0
-IsEquatedAs span chained parts now after outcome =
+abbrev pub IsEquatedAs : Span → Bool → Operands → Checker → Checker → Finding → Type 0
+IsEquatedAs span chained parts now after finding =
     (before : Checker) (j k whole : Judgement) → HasOperands before now parts j k whole
     → (K : KindTree) × IsScalar tag.Bool K
-    × HasJudged before after outcome (with_codes (when chained (at 650 span)) (record whole { kind = K }))
+    × HasJudged before after finding (with_codes (when chained (at 650 span)) (record whole { kind = K }))
 
 -- what an operator of a table makes of them
-abbrev pub IsCombinedAs : Span → Table → Bool → Operands → Checker → Checker → Outcome → Type 0
-IsCombinedAs span operator chained parts now after outcome =
+abbrev pub IsCombinedAs : Span → Table → Bool → Operands → Checker → Checker → Finding → Type 0
+IsCombinedAs span operator chained parts now after finding =
     (before : Checker) (j k whole : Judgement) → HasOperands before now parts j k whole
     → (K : KindTree) × (fail : Option RootMap)
     × IsCutOf (scalars_at (table_tags (table_rule operator) j.kind k.kind)) K
     × IsJoined whole.fail
     (if_state (some_pair (λ a b. not (is_some (table_rule operator a b))) j.kind k.kind) whole.ok) fail
-    × HasJudged before after outcome
+    × HasJudged before after finding
     (of_pairs (table_rule operator) j k (with_codes (when chained (at 650 span)) whole) K fail)
 
 -- their merge
-abbrev pub IsMergedAs : Span → Span → Operands → Checker → Checker → Outcome → Type 0
-IsMergedAs left_span right_span parts now after outcome =
+abbrev pub IsMergedAs : Span → Span → Operands → Checker → Checker → Finding → Type 0
+IsMergedAs left_span right_span parts now after finding =
     (before : Checker) (j k whole : Judgement) → HasOperands before now parts j k whole
     → (K : KindTree) × IsMerged j.kind k.kind K
-    × HasJudged before after outcome (with_codes (no_objects left_span right_span j k) (record whole { kind = K }))
+    × HasJudged before after finding (with_codes (no_objects left_span right_span j k) (record whole { kind = K }))
 
 -- an assignment, behind its expression
-abbrev pub IsAssignedAs : Span → Target → Outcome → Checker → Checker → Outcome → Type 0
-IsAssignedAs span target part now after outcome = (before : Checker) (j : Judgement) → HasJudged before now part j
+abbrev pub IsAssignedAs : Span → Target → Finding → Checker → Checker → Finding → Type 0
+IsAssignedAs span target part now after finding = (before : Checker) (j : Judgement) → HasJudged before now part j
     → (ok : Option RootMap) × IsTargetWritten target j.kind j.ok ok
-    × HasJudged before after outcome (with_codes (of_assignment span target j) (record j { ok = ok }))
+    × HasJudged before after finding (with_codes (of_assignment span target j) (record j { ok = ok }))
 
 -- one target is written, and then the other
 pub record AreWritten (t u : Target) (K L : KindTree) (before after : Option RootMap) : Type 0 where

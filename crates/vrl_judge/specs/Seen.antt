@@ -7,17 +7,17 @@ use Rattle.vrl_judge.specs.Returns.{return_kind, return_state}
 use Rattle.vrl_judge.specs.Rules.{Judgement, Loop}
 use Rattle.vrl_judge.specs.Judging.{known_on}
 use Rattle.vrl_judge.specs.declared.checker.Checker.{Checker}
-use Rattle.vrl_judge.specs.declared.outcome.Outcome.{Outcome}
+use Rattle.vrl_judge.specs.declared.finding.Finding.{Finding}
 
 -- the part that was judged last
-abbrev pub seen : Outcome → Checker → List Diagnostic → List Tag → List (Option Loop) → Judgement
-seen outcome after codes tags loops = record {
-  kind = outcome.kind;
+abbrev pub seen : Finding → Checker → List Diagnostic → List Tag → List (Option Loop) → Judgement
+seen finding after codes tags loops = record {
+  kind = finding.kind;
   ok = after.state.known;
-  fail = known_on outcome.ends.fail;
-  ret = return_state outcome.ends.ret;
-  returned = return_kind outcome.ends.ret;
-  poisoned = outcome.ends.poisoned;
+  fail = known_on finding.ends.fail;
+  ret = return_state finding.ends.ret;
+  returned = return_kind finding.ends.ret;
+  poisoned = finding.ends.poisoned;
   codes = codes;
   empties = tags;
   loops = loops;

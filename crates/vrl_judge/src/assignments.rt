@@ -10,8 +10,8 @@ ghost use Rattle.vrl_syntax.specs.Limits.{target_faults};
 
 use crate::checker::Checker;
 use crate::ends::Ends;
+use crate::finding::Finding;
 use crate::kinds::{cut_kind_of, either, empty_tag, may_be_event, scalar};
-use crate::outcome::Outcome;
 use crate::shared_kind::SharedKind;
 use std::alloc::Global;
 use vrl_diag::{Span, code};
@@ -40,11 +40,11 @@ impl Checker<'_> {
         &mut self,
         span: Span,
         target: &Target,
-        part: Outcome,
-    ) -> Result<Outcome, Memory>
+        part: Finding,
+    ) -> Result<Finding, Memory>
         requires target { target_faults target.now ≡ [] }
         requires present { allows_absent part.kind ≡ false }
-        ensures { IfOk result (λ outcome. IsAssignedAs span target.now part self.old self.new outcome) }
+        ensures { IfOk result (λ finding. IsAssignedAs span target.now part self.old self.new finding) }
     {
         let mut part = part;
         let fallible = part.is_fallible();
@@ -72,7 +72,7 @@ impl Checker<'_> {
     }
 
     // Whether the event gets a value that can't stand there.
-    fn puts_no_event(&self, target: &Target, part: &Outcome) -> bool
+    fn puts_no_event(&self, target: &Target, part: &Finding) -> bool
         ensures { result ≡
             (is_some self.now.state.known && not part.now.ends.poisoned && is_no_event_at target.now part.now.kind) }
     {
@@ -88,8 +88,8 @@ impl Checker<'_> {
         ok: &Target,
         err: &Target,
         place: usize,
-        part: Outcome,
-    ) -> Result<Outcome, Memory>
+        part: Finding,
+    ) -> Result<Finding, Memory>
         requires ok { target_faults ok.now ≡ [] }
         requires err { target_faults err.now ≡ [] }
         requires kind { IsRootKind part.kind }

@@ -10,8 +10,8 @@ ghost use Rattle.vrl_value.specs.declared.value.Tag.TheVariants as tags;
 
 use crate::checker::Checker;
 use crate::ends::{Ends, add_way};
+use crate::finding::Finding;
 use crate::kinds::{either, is_exactly, may_be_no_truth, may_be_truth, scalar, widen};
-use crate::outcome::Outcome;
 use crate::shared_kind::SharedKind;
 use std::alloc::Global;
 use vrl_diag::{Span, code};
@@ -22,7 +22,7 @@ use vrl_value::{Memory, Tag};
 /// The left side of a `&&`, a `||` or a `??`, behind which the right one is judged.
 pub struct LeftSide {
     /// What it was judged to be.
-    pub part: Outcome,
+    pub part: Finding,
     /// What is known where the right side is left out. `None`: the whole doesn't end with a value
     /// there.
     pub beside: Option<Mark>,
@@ -84,7 +84,7 @@ impl Checker<'_> {
     /// The left side of a `&&`. It ends with an error where it is neither a boolean nor null; the
     /// right side is judged where it may be a boolean, and left out where it may be a boolean or
     /// null. `Memory`: want of memory.
-    pub fn left_of_and(&mut self, part: Outcome) -> Result<LeftSide, Memory>
+    pub fn left_of_and(&mut self, part: Finding) -> Result<LeftSide, Memory>
         requires { AreEnds self.old.state.scopes part.ends }
         ensures side { IfOk result (IsLeftSide (if_state (root_tags part.kind tags.Bool) self.old.state.known)
             (if_state (may_be_true part.kind) self.old.state.known) self.old self.new) }
@@ -102,7 +102,7 @@ impl Checker<'_> {
 
     /// A `&&`, behind both sides: the right one ends with an error where it is neither a boolean
     /// nor null. `Memory`: want of memory.
-    pub fn conjoined(&mut self, left: LeftSide, right: Outcome) -> Result<Outcome, Memory>
+    pub fn conjoined(&mut self, left: LeftSide, right: Finding) -> Result<Finding, Memory>
         requires left { StandsIn self.old.state.scopes left }
         requires right { AreEnds self.old.state.scopes right.ends }
         ensures { IfOk result (IsConjoined left right self.old self.new) }
@@ -118,7 +118,7 @@ impl Checker<'_> {
 
     /// The left side of a `||`: the right one is judged where it may be null or a boolean, and left
     /// out where it isn't exactly null. `Memory`: want of memory.
-    pub fn left_of_or(&mut self, part: Outcome) -> Result<LeftSide, Memory>
+    pub fn left_of_or(&mut self, part: Finding) -> Result<LeftSide, Memory>
         requires { AreEnds self.old.state.scopes part.ends }
         ensures side { IfOk result (IsLeftSide (if_state (may_be_true part.kind) self.old.state.known)
             (if_state (not (is_alone (root_tags part.kind) tags.Null)) self.old.state.known) self.old self.new) }
@@ -131,11 +131,11 @@ impl Checker<'_> {
 
     /// A `||`, behind both sides: either value, but for a null on the left. `Memory`: want of
     /// memory.
-    pub fn disjoined(&mut self, left: LeftSide, right: Outcome) -> Result<Outcome, Memory>
+    pub fn disjoined(&mut self, left: LeftSide, right: Finding) -> Result<Finding, Memory>
         requires left { StandsIn self.old.state.scopes left }
         requires right { AreEnds self.old.state.scopes right.ends }
-        ensures kind { IfOk result (λ outcome. IsCutOf (or_else_at left.part.kind right.kind) outcome.kind) }
-        ensures sides { IfOk result (λ outcome. AreBothSides left right.ends self.old self.new outcome.ends) }
+        ensures kind { IfOk result (λ finding. IsCutOf (or_else_at left.part.kind right.kind) finding.kind) }
+        ensures sides { IfOk result (λ finding. AreBothSides left right.ends self.old self.new finding.ends) }
     {
         let (kind, ends) = right.into_parts();
         let mut both = self.both_sides(left, ends)?;
@@ -145,7 +145,7 @@ impl Checker<'_> {
 
     /// The left side of a `??`: the right one is judged where it ended with an error, of which none
     /// is left. Where it ends with a value, the whole does. `Memory`: want of memory.
-    pub fn left_of_coalescing(&mut self, part: Outcome) -> Result<LeftSide, Memory>
+    pub fn left_of_coalescing(&mut self, part: Finding) -> Result<LeftSide, Memory>
         requires { AreEnds self.old.state.scopes part.ends }
         ensures side { IfOk result (IsLeftSide (known_on part.ends.fail) self.old.state.known self.old self.new) }
         ensures part { IfOk result (λ side. side.part ≡ record part { ends = record part.ends { fail = None } }) }
@@ -158,11 +158,11 @@ impl Checker<'_> {
     }
 
     /// A `??`, behind both sides: either value. `Memory`: want of memory.
-    pub fn coalesced(&mut self, left: LeftSide, right: Outcome) -> Result<Outcome, Memory>
+    pub fn coalesced(&mut self, left: LeftSide, right: Finding) -> Result<Finding, Memory>
         requires left { StandsIn self.old.state.scopes left }
         requires right { AreEnds self.old.state.scopes right.ends }
-        ensures kind { IfOk result (λ outcome. IsEither left.part.kind right.kind outcome.kind) }
-        ensures sides { IfOk result (λ outcome. AreBothSides left right.ends self.old self.new outcome.ends) }
+        ensures kind { IfOk result (λ finding. IsEither left.part.kind right.kind finding.kind) }
+        ensures sides { IfOk result (λ finding. AreBothSides left right.ends self.old self.new finding.ends) }
     {
         let (kind, ends) = right.into_parts();
         let mut both = self.both_sides(left, ends)?;
@@ -172,7 +172,7 @@ impl Checker<'_> {
 
     // The left side with the ends of both; what is known is that behind the right side or where it
     // is left out.
-    fn both_sides(&mut self, left: LeftSide, right: Ends) -> Result<Outcome, Memory>
+    fn both_sides(&mut self, left: LeftSide, right: Ends) -> Result<Finding, Memory>
         requires left { StandsIn self.old.state.scopes left }
         requires right { AreEnds self.old.state.scopes right }
         ensures kind { IfOk result (λ both. both.kind ≡ left.part.kind) }
@@ -189,7 +189,7 @@ impl Checker<'_> {
     pub fn add_predicate(
         &mut self,
         ways: &mut Ways,
-        part: Outcome,
+        part: Finding,
         span: Span,
     ) -> Result<(), Memory>
         requires ways { AreWays self.old.state.scopes ways.old }
@@ -202,7 +202,7 @@ impl Checker<'_> {
     }
 
     // A predicate that may fail is 1005, and one that isn't exactly a boolean 102.
-    fn predicate(&mut self, part: Outcome, span: Span) -> Result<Ends, Memory>
+    fn predicate(&mut self, part: Finding, span: Span) -> Result<Ends, Memory>
         requires { AreEnds self.old.state.scopes part.ends }
         ensures { IfOk result
             (IsReported (of_predicate span (seen part self.old [] [] [])) self.old self.new part.ends) }
@@ -219,7 +219,7 @@ impl Checker<'_> {
 
     /// Adds the block behind a predicate to the ways before it, and goes back to the state behind
     /// the predicate. `Memory`: want of memory.
-    pub fn add_block(&mut self, ways: &mut Ways, mark: Mark, block: Outcome) -> Result<(), Memory>
+    pub fn add_block(&mut self, ways: &mut Ways, mark: Mark, block: Finding) -> Result<(), Memory>
         requires ways { AreWays self.old.state.scopes ways.old }
         requires block { AreEnds self.old.state.scopes block.ends }
         ensures { OnOk result (IsBlockBeside mark block ways.old self.old self.new ways.new) }
@@ -233,14 +233,14 @@ impl Checker<'_> {
 
     /// The last way beside the others, and what is known behind any of them. `Memory`: want of
     /// memory.
-    pub fn add_last(&mut self, ways: Ways, last: Outcome) -> Result<Outcome, Memory>
+    pub fn add_last(&mut self, ways: Ways, last: Finding) -> Result<Finding, Memory>
         requires ways { AreWays self.old.state.scopes ways }
         requires last { AreEnds self.old.state.scopes last.ends }
         ensures { IfOk result (IsLastBeside ways last self.old self.new) }
     {
         let (kind, ok, ends) = ways.into_parts();
         self.join(ok)?;
-        let mut all = Outcome { kind, ends };
+        let mut all = Finding { kind, ends };
         let kind = all.ends.absorb(self.alloc, last)?;
         widen(&mut all.kind, self.alloc, &kind)?;
         Ok(all)
@@ -248,7 +248,7 @@ impl Checker<'_> {
 
     /// A return, behind its expression: no way leads on. In the body of a closure it is 1004, and
     /// goes on behind the expression. `Memory`: want of memory.
-    pub fn returned(&mut self, part: Outcome, span: Span) -> Result<Outcome, Memory>
+    pub fn returned(&mut self, part: Finding, span: Span) -> Result<Finding, Memory>
         requires ends { AreEnds self.old.state.scopes part.ends }
         requires kind { IsRootKind part.kind }
         ensures { IfOk result (IsReturned span part self.old self.new) }
@@ -260,12 +260,12 @@ impl Checker<'_> {
         self.report(&mut ends, inside, code::RETURN_IN_CLOSURE, span)?;
         self.go_on_if(inside);
         let kind = SharedKind::never(self.alloc)?;
-        Ok(Outcome { kind, ends })
+        Ok(Finding { kind, ends })
     }
 
     /// An abort, behind its message: one that may fail, or isn't exactly a text, is 1011. `Memory`:
     /// want of memory.
-    pub fn aborted(&mut self, part: Outcome, span: Span) -> Result<Outcome, Memory>
+    pub fn aborted(&mut self, part: Finding, span: Span) -> Result<Finding, Memory>
         requires { AreEnds self.old.state.scopes part.ends }
         ensures { IfOk result (IsAborted (of_message span (seen part self.old [] [] [])) part self.old self.new) }
     {
@@ -278,7 +278,7 @@ impl Checker<'_> {
     }
 
     // Whether it may fail, or isn't exactly a text.
-    fn is_no_message(&self, part: &Outcome) -> bool
+    fn is_no_message(&self, part: &Finding) -> bool
         requires { AreEnds self.now.state.scopes part.now.ends }
         ensures { result ≡ is_message_wrong (seen part.now self.now [] [] []) }
     {
@@ -288,7 +288,7 @@ impl Checker<'_> {
 
 impl LeftSide {
     // What it was judged to be, and what is known where the right side is left out.
-    fn into_parts(self) -> (Outcome, Option<Mark>)
+    fn into_parts(self) -> (Finding, Option<Mark>)
         ensures part { result.0 ≡ self.part }
         ensures beside { result.1 ≡ self.beside }
     {

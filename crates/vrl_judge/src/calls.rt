@@ -13,7 +13,7 @@ ghost use Rattle.vrl_value.specs.declared.value.Tag.TheVariants as tags;
 
 use crate::checker::Checker;
 use crate::ends::Ends;
-use crate::outcome::Outcome;
+use crate::finding::Finding;
 use crate::shared_kind::SharedKind;
 use vrl_builtin::{Parameter, Tags};
 use vrl_diag::{Span, code};
@@ -35,7 +35,7 @@ pub struct Argument {
 
 impl Checker<'_> {
     /// An argument that was judged last, behind others with these ends. `Memory`: want of memory.
-    pub fn argument(&self, ends: &mut Ends, part: Outcome) -> Result<Argument, Memory>
+    pub fn argument(&self, ends: &mut Ends, part: Finding) -> Result<Argument, Memory>
         requires { HaveCommonScopes ends.old part.ends }
         ensures argument { IfOk result (λ argument. argument ≡ record {
           kind = part.kind;
@@ -74,8 +74,8 @@ impl Checker<'_> {
 
     /// A call, behind all but its `!`, which leaves no error; of a call that can't end with one it
     /// is 620. `Memory`: want of memory.
-    pub fn banged(&mut self, span: Span, bang: bool, call: Outcome) -> Result<Outcome, Memory>
-        ensures { IfOk result (λ outcome. IsBangedAs span bang call self.old self.new outcome) }
+    pub fn banged(&mut self, span: Span, bang: bool, call: Finding) -> Result<Finding, Memory>
+        ensures { IfOk result (λ finding. IsBangedAs span bang call self.old self.new finding) }
     {
         let mut call = call;
         if !bang {

@@ -8,8 +8,8 @@ ghost use Rattle.vrl_place.specs.Sets.{is_alone};
 ghost use Rattle.vrl_state.specs.States.{IsJoined};
 
 use crate::ends::{Ends, Returned};
+use crate::finding::Finding;
 use crate::kinds::is_exactly;
-use crate::outcome::Outcome;
 use crate::shared_kind::SharedKind;
 use std::alloc::Global;
 use vrl_diag::{Diagnostic, Span};
@@ -45,14 +45,14 @@ impl Checker<'_> {
     }
 
     // Whether the part that was judged last can end with a value and has no error of its own.
-    pub(crate) fn is_known(&self, part: &Outcome) -> bool
+    pub(crate) fn is_known(&self, part: &Finding) -> bool
         ensures { result ≡ (is_some self.now.state.known && not part.now.ends.poisoned) }
     {
         self.is_alive() && !part.ends.poisoned
     }
 
     /// Whether the part that was judged last has a kind that isn't exactly this tag.
-    pub fn is_other(&self, tag: Tag, part: &Outcome) -> bool
+    pub fn is_other(&self, tag: Tag, part: &Finding) -> bool
         ensures { result ≡
             (is_some self.now.state.known && not part.now.ends.poisoned && not
             (is_alone (root_tags part.now.kind) tag)) }
@@ -82,14 +82,14 @@ impl Checker<'_> {
     /// What was judged, with a code if it stands. `Memory`: want of memory.
     pub fn reported(
         &mut self,
-        part: Outcome,
+        part: Finding,
         stands: bool,
         code: u16,
         span: Span,
-    ) -> Result<Outcome, Memory>
-        ensures same { IfOk result (λ outcome. outcome ≡ record part { ends = outcome.ends }) }
+    ) -> Result<Finding, Memory>
+        ensures same { IfOk result (λ finding. finding ≡ record part { ends = finding.ends }) }
         ensures reported { IfOk result
-            (λ outcome. IsReported (when stands (at code span)) self.old self.new part.ends outcome.ends) }
+            (λ finding. IsReported (when stands (at code span)) self.old self.new part.ends finding.ends) }
     {
         let mut part = part;
         self.report(&mut part.ends, stands, code, span)?;

@@ -15,8 +15,8 @@ ghost use Rattle.vrl_state.specs.States.{IsCutOf, IsPresent, IsRootKind, RootMap
 ghost use Rattle.vrl_syntax.specs.Written.{exprs_write};
 
 use crate::checker::Checker;
+use crate::finding::Finding;
 use crate::kinds::{cut, either, has_alone};
-use crate::outcome::Outcome;
 use crate::shared_kind::SharedKind;
 use crate::tables::kind_where;
 use crate::values::add_field;
@@ -244,9 +244,9 @@ impl Checker<'_> {
 
     /// Ends the body of a closure, behind its items: its names end, and those that it hid have the
     /// kinds again that they had. `Memory`: want of memory.
-    pub fn end_body(&mut self, part: Outcome) -> Result<Outcome, Memory>
+    pub fn end_body(&mut self, part: Finding) -> Result<Finding, Memory>
         requires { IsInBlock self.old part }
-        ensures { IfOk result (λ outcome. IsBodyEndAs part self.old self.new outcome) }
+        ensures { IfOk result (λ finding. IsBodyEndAs part self.old self.new finding) }
     {
         let mut part = part;
         self.state.leave()?;
@@ -282,7 +282,7 @@ impl Checker<'_> {
 
     /// Whether the body of a closure, which was judged last, gives what is wrong for the function:
     /// a filter's isn't exactly a boolean, or one that gives keys isn't exactly a text.
-    pub fn is_wrong_body(&self, form: CallForm, part: &Outcome) -> bool
+    pub fn is_wrong_body(&self, form: CallForm, part: &Finding) -> bool
         ensures { (before : SpecChecker) (j : Judgement) → HasJudged before self.now part.now j
             → result ≡ is_wrong_value form j }
     {

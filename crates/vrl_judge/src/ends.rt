@@ -2,8 +2,8 @@ ghost use Rattle.std.specs.Prelude.{is_some, not, ◌||◌, ◌∷◌, ◌≡◌
 ghost use Rattle.vrl_judge.specs.Judging.{known_on, no_ends, settled_ends, AreEnds, AreJoinedEnds, AreJoinedReturns, AreLeftEnds, HaveCommonScopes, IsLeftReturn, IsLeftWay, IsReturnIn, IsWay};
 ghost use Rattle.vrl_state.specs.States.{IsEither, IsJoined, Scope};
 
+use crate::finding::Finding;
 use crate::kinds::either;
-use crate::outcome::Outcome;
 use crate::shared_kind::SharedKind;
 use std::alloc::Global;
 use vrl_kind::Kind;
@@ -96,7 +96,7 @@ impl Ends {
 
     /// Adds the ends of a part beside or behind these, and gives the kind of its value. `Memory`:
     /// want of memory.
-    pub fn absorb(&mut self, alloc: Global, part: Outcome) -> Result<SharedKind, Memory>
+    pub fn absorb(&mut self, alloc: Global, part: Finding) -> Result<SharedKind, Memory>
         requires { HaveCommonScopes self.old part.ends }
         ensures kind { IfOk result (λ kind. kind ≡ part.kind) }
         ensures joined { OnOk result (AreJoinedEnds self.old part.ends self.new) }
@@ -110,7 +110,7 @@ impl Ends {
 
     /// The same of a part that a container is made of, whose kind becomes one of its parts.
     /// `Memory`: want of memory.
-    pub fn absorb_inner(&mut self, alloc: Global, part: Outcome) -> Result<Kind, Memory>
+    pub fn absorb_inner(&mut self, alloc: Global, part: Finding) -> Result<Kind, Memory>
         requires { HaveCommonScopes self.old part.ends }
         ensures kind { IfOk result (λ kind. kind ≡ part.kind) }
         ensures joined { OnOk result (AreJoinedEnds self.old part.ends self.new) }

@@ -3,15 +3,15 @@ ghost use Rattle.vrl_judge.specs.Judging.{AreEnds, AreJoinedEnds, HaveCommonScop
 ghost use Rattle.vrl_state.specs.States.{Scope};
 
 use crate::checker::Checker;
-use crate::outcome::Outcome;
+use crate::finding::Finding;
 use std::alloc::Global;
 use vrl_value::Memory;
 
 impl Checker<'_> {
     /// Ends the innermost block, behind its items. `Memory`: want of memory.
-    pub fn end_block(&mut self, part: Outcome) -> Result<Outcome, Memory>
+    pub fn end_block(&mut self, part: Finding) -> Result<Finding, Memory>
         requires { IsInBlock self.old part }
-        ensures { IfOk result (λ outcome. IsBlockEndAs part self.old self.new outcome) }
+        ensures { IfOk result (λ finding. IsBlockEndAs part self.old self.new finding) }
     {
         let mut part = part;
         self.state.leave()?;
@@ -20,10 +20,10 @@ impl Checker<'_> {
     }
 }
 
-impl Outcome {
+impl Finding {
     /// Goes on with a part behind what was judged: the whole ends with a value where the part does,
     /// and otherwise where either of them does. `Memory`: want of memory.
-    pub fn go_on(&mut self, alloc: Global, part: Outcome) -> Result<(), Memory>
+    pub fn go_on(&mut self, alloc: Global, part: Finding) -> Result<(), Memory>
         requires { HaveCommonScopes self.old.ends part.ends }
         ensures kind { OnOk result (self.new.kind ≡ part.kind) }
         ensures joined { OnOk result (AreJoinedEnds self.old.ends part.ends self.new.ends) }

@@ -8,7 +8,7 @@
 //! the checker's state and to the ends of the parts, with codes that are told of what was seen of a
 //! part.
 //!
-//! Files: `checker.rt` has the state that the walk changes, `outcome.rt` and `ends.rt` what a part
+//! Files: `checker.rt` has the state that the walk changes, `finding.rt` and `ends.rt` what a part
 //! gave, and `shared_kind.rt` its kind. `values.rt`, `operators.rt`, `branches.rt`,
 //! `assignments.rt`, `items.rt` and `calls.rt` make of parts that were judged what their form
 //! gives, and `closures.rt` has the steps at a closure and the kinds of its call; `tables.rt` has
@@ -22,11 +22,11 @@ mod calls;
 mod checker;
 mod closures;
 mod ends;
+mod finding;
 mod items;
 mod kinds;
 mod operators;
 mod ordering;
-mod outcome;
 mod shared_kind;
 mod tables;
 mod values;
@@ -36,10 +36,10 @@ pub use calls::{Argument, has_others, is_disjoint, part_has_others};
 pub use checker::Checker;
 pub use closures::{Held, call_kind, is_possible, key_kind, value_kind};
 pub use ends::{Ends, Returned, either_of};
+pub use finding::Finding;
 pub use kinds::{cut, cut_kind_of, either, read_root, scalar};
 pub use operators::Operands;
 pub use ordering::ordered;
-pub use outcome::Outcome;
 pub use shared_kind::SharedKind;
 pub use tables::{Table, is_chained};
 pub use values::{add_field, array_kind, object_kind};

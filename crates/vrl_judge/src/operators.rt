@@ -4,8 +4,8 @@ ghost use Rattle.vrl_judge.specs.Rules.{IsMerged};
 
 use crate::checker::Checker;
 use crate::ends::{Ends, either_of};
+use crate::finding::Finding;
 use crate::kinds::{cut, is_exactly, scalar};
-use crate::outcome::Outcome;
 use crate::shared_kind::SharedKind;
 use crate::tables::Table;
 use vrl_diag::{Span, code};
@@ -58,8 +58,8 @@ impl Operands {
 impl Checker<'_> {
     /// A negation, behind its operand: one that isn't exactly a boolean is 660. `Memory`: want of
     /// memory.
-    pub fn negated(&mut self, span: Span, part: Outcome) -> Result<Outcome, Memory>
-        ensures { IfOk result (λ outcome. IsNegatedAs span part self.old self.new outcome) }
+    pub fn negated(&mut self, span: Span, part: Finding) -> Result<Finding, Memory>
+        ensures { IfOk result (λ finding. IsNegatedAs span part self.old self.new finding) }
     {
         let mut part = part;
         let other = self.is_other(Tag::Bool, &part);
@@ -71,9 +71,9 @@ impl Checker<'_> {
     /// Both operands, where the right one was judged last. `Memory`: want of memory.
     pub fn paired(
         &self,
-        left: Outcome,
+        left: Finding,
         left_no_object: bool,
-        right: Outcome,
+        right: Finding,
     ) -> Result<Operands, Memory>
         requires { HaveCommonScopes left.ends right.ends }
         ensures { IfOk result (λ parts. ArePairedAs left left_no_object right self.now parts) }
@@ -93,14 +93,14 @@ impl Checker<'_> {
 
     /// An equality, behind its operands: a comparison of a comparison is 650. `Memory`: want of
     /// memory.
-    pub fn equated(&mut self, span: Span, chained: bool, parts: Operands) -> Result<Outcome, Memory>
-        ensures { IfOk result (λ outcome. IsEquatedAs span chained parts self.old self.new outcome) }
+    pub fn equated(&mut self, span: Span, chained: bool, parts: Operands) -> Result<Finding, Memory>
+        ensures { IfOk result (λ finding. IsEquatedAs span chained parts self.old self.new finding) }
     {
         let mut parts = parts;
         self.report(&mut parts.ends, chained, code::CHAINED_COMPARISON, span)?;
         let kind = scalar(self.alloc, Tag::Bool)?;
         let ends = parts.into_ends();
-        Ok(Outcome { kind, ends })
+        Ok(Finding { kind, ends })
     }
 
     /// An operator of a table, behind its operands: a comparison of a comparison is 650. It may end
@@ -113,9 +113,9 @@ impl Checker<'_> {
         table: Table,
         chained: bool,
         parts: Operands,
-    ) -> Result<Outcome, Memory>
+    ) -> Result<Finding, Memory>
         requires { AreEnds self.old.state.scopes parts.ends }
-        ensures { IfOk result (λ outcome. IsCombinedAs span table chained parts self.old self.new outcome) }
+        ensures { IfOk result (λ finding. IsCombinedAs span table chained parts self.old self.new finding) }
     {
         let mut parts = parts;
         self.report(&mut parts.ends, chained, code::CHAINED_COMPARISON, span)?;
@@ -126,7 +126,7 @@ impl Checker<'_> {
         self.go_on_if(either_of(parts.ends.poisoned, takes));
         let kind = table.kind(self.alloc, left, right)?;
         let ends = parts.into_ends();
-        Ok(Outcome { kind, ends })
+        Ok(Finding { kind, ends })
     }
 
     /// A merge, behind its operands: a side that isn't exactly an object is 652. `Memory`: want of
@@ -136,8 +136,8 @@ impl Checker<'_> {
         parts: Operands,
         left_span: Span,
         right_span: Span,
-    ) -> Result<Outcome, Memory>
-        ensures { IfOk result (λ outcome. IsMergedAs left_span right_span parts self.old self.new outcome) }
+    ) -> Result<Finding, Memory>
+        ensures { IfOk result (λ finding. IsMergedAs left_span right_span parts self.old self.new finding) }
     {
         let mut parts = parts;
         self.report(
@@ -154,7 +154,7 @@ impl Checker<'_> {
         )?;
         let kind = self.merged_kind(&parts.left, &parts.right)?;
         let ends = parts.into_ends();
-        Ok(Outcome { kind, ends })
+        Ok(Finding { kind, ends })
     }
 
     // The kind of a merge; any where a side isn't exactly an object, which is poisoned or gives no

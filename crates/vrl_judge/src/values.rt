@@ -5,8 +5,8 @@ ghost use Rattle.vrl_kind.specs.Canonical.{any_kind};
 ghost use Rattle.vrl_state.specs.States.{IsCutOf};
 
 use crate::checker::Checker;
+use crate::finding::Finding;
 use crate::kinds::{cut, read_cut};
-use crate::outcome::Outcome;
 use crate::shared_kind::SharedKind;
 use std::alloc::Global;
 use vrl_diag::{Span, code};
@@ -17,8 +17,8 @@ use vrl_value::{Chars, Memory};
 impl Checker<'_> {
     /// What is judged of a part in the end: of what is poisoned the kind is any and no error is
     /// left, and of what can't end with a value it is never. `Memory`: want of memory.
-    pub fn settled(&self, part: Outcome) -> Result<Outcome, Memory>
-        ensures { IfOk result (λ outcome. IsSettledAs part self.now outcome) }
+    pub fn settled(&self, part: Finding) -> Result<Finding, Memory>
+        ensures { IfOk result (λ finding. IsSettledAs part self.now finding) }
     {
         let mut part = part;
         part.settle(self.alloc, self.is_alive())?;
@@ -26,18 +26,18 @@ impl Checker<'_> {
     }
 
     /// A read of a variable that isn't known, which is 701. `Memory`: want of memory.
-    pub fn unknown(&mut self, span: Span) -> Result<Outcome, Memory>
+    pub fn unknown(&mut self, span: Span) -> Result<Finding, Memory>
         ensures { IfOk result
-            (λ outcome. HasJudged self.old self.new outcome
+            (λ finding. HasJudged self.old self.new finding
             (with_codes (at 701 span) (gives any_kind self.old.state.known))) }
     {
-        let part = Outcome::value(SharedKind::any(self.alloc)?);
+        let part = Finding::value(SharedKind::any(self.alloc)?);
         self.reported(part, true, code::UNDEFINED_VARIABLE, span)
     }
 
     /// What is read at a path of what was judged. `Memory`: want of memory.
-    pub fn read_off(&self, part: Outcome, path: &Path) -> Result<Outcome, Memory>
-        ensures { IfOk result (λ outcome. IsReadOffAs path.now part self.now outcome) }
+    pub fn read_off(&self, part: Finding, path: &Path) -> Result<Finding, Memory>
+        ensures { IfOk result (λ finding. IsReadOffAs path.now part self.now finding) }
     {
         let mut part = part;
         part.kind = read_cut(self.alloc, part.kind.as_kind(), path)?;

@@ -1,4 +1,5 @@
--- The one form in which kinds are kept: two trees of this form that allow the same tags at every path are one tree.
+-- The one form in which kinds are kept: two trees of this form that allow the same tags at every
+-- path are one tree.
 use Rattle.std.specs.Prelude.{Bool, true, false, ◌≡◌, ◌≢◌, ℕ, zero, suc, List, ⊤}
 use Rattle.std.specs.Ordering.{nat_cmp, match_ordering}
 use Rattle.std.specs.Cmp.Lexicographic.{slice_cmp}
@@ -7,14 +8,38 @@ use Rattle.vrl_kind.specs.KindTree.{KindTree, kind, ListTree, no_list, list_part
 use Rattle.vrl_kind.specs.declared.scalars.Scalars.{Scalars}
 
 abbrev pub no_scalars : Scalars
-no_scalars = record { string = false; integer = false; boolean = false; null = false; timestamp = false; regex = false; absent = false }
+no_scalars = record {
+  string = false;
+  integer = false;
+  boolean = false;
+  null = false;
+  timestamp = false;
+  regex = false;
+  absent = false;
+}
 
 -- the scalars of JSON
 abbrev pub json_scalars : Scalars
-json_scalars = record { string = true; integer = true; boolean = true; null = true; timestamp = false; regex = false; absent = false }
+json_scalars = record {
+  string = true;
+  integer = true;
+  boolean = true;
+  null = true;
+  timestamp = false;
+  regex = false;
+  absent = false;
+}
 
 abbrev pub all_scalars : Scalars
-all_scalars = record { string = true; integer = true; boolean = true; null = true; timestamp = true; regex = true; absent = false }
+all_scalars = record {
+  string = true;
+  integer = true;
+  boolean = true;
+  null = true;
+  timestamp = true;
+  regex = true;
+  absent = false;
+}
 
 -- no value
 abbrev pub never_kind : KindTree
@@ -100,8 +125,9 @@ pub record IsExact (K : KindTree) : Type 0 where
   pub not_json : K ≢ json_kind
   pub not_any : K ≢ any_kind
 
--- at each level the last known place, and each known field, says more than the rest does; the fields stand in the order of
--- their names' bytes, each name once; and an exact rest is none of the others
+-- at each level the last known place, and each known field, says more than the rest does; the
+-- fields stand in the order of their names' bytes, each name once; and an exact rest is none of the
+-- others
 abbrev mutual
   pub IsCanonical : KindTree → Type 0
   IsCanonical (kind s l o) = ListIsCanonical l × ObjectIsCanonical o

@@ -59,13 +59,15 @@ pub record IsGapAt (n : List ℕ) (fs : List KindField) (i : ℕ) : Type 0 where
 
 -- the fields gs have K at the name n, and all else as fs have it
 pub record IsPut (n : List ℕ) (K : KindTree) (fs gs : KnownFields) : Type 0 where
-  pub at : (own : KindTree) (m : List ℕ) → field_or gs own m ≡ match_ordering (slice_cmp nat_cmp m n) (field_or fs own m) K (field_or fs own m)
+  pub at : (own : KindTree) (m : List ℕ)
+      → field_or gs own m ≡ match_ordering (slice_cmp nat_cmp m n) (field_or fs own m) K (field_or fs own m)
   pub canonical : FieldsAreCanonical gs
   pub others : (own : KindTree) → K ≢ own → NoFieldIs own fs → NoFieldIs own gs
 
 -- the fields gs know nothing of the name n, and have all else as fs have it
 pub record IsLeftOut (n : List ℕ) (fs gs : KnownFields) : Type 0 where
-  pub at : (own : KindTree) (m : List ℕ) → field_or gs own m ≡ match_ordering (slice_cmp nat_cmp m n) (field_or fs own m) own (field_or fs own m)
+  pub at : (own : KindTree) (m : List ℕ)
+      → field_or gs own m ≡ match_ordering (slice_cmp nat_cmp m n) (field_or fs own m) own (field_or fs own m)
   pub canonical : FieldsAreCanonical gs
   pub others : (own : KindTree) → NoFieldIs own fs → NoFieldIs own gs
 
@@ -78,4 +80,5 @@ pub record AreTaken (n : List ℕ) (fs gs : KnownFields) (K : KindTree) : Type 0
 -- the objects q have K at the field n, and all else as o has it
 pub record IsObjectPut (n : List ℕ) (K : KindTree) (o q : ObjectTree) : Type 0 where
   pub there : has_object q ≡ has_object o
-  pub at : (m : List ℕ) (p : List Step) (t : Tag) → object_at q m p t ≡ match_ordering (slice_cmp nat_cmp m n) (object_at o m p) (tags_at K p) (object_at o m p) t
+  pub at : (m : List ℕ) (p : List Step) (t : Tag)
+      → object_at q m p t ≡ match_ordering (slice_cmp nat_cmp m n) (object_at o m p) (tags_at K p) (object_at o m p) t

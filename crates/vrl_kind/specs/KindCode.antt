@@ -1,4 +1,5 @@
--- The trees of kinds as the proof system stores them: as trees of numbers, from which they are read again.
+-- The trees of kinds as the proof system stores them: as trees of numbers, from which they are read
+-- again.
 use Rattle.std.specs.Prelude.{◌≡◌, Bool, true, false, ℕ, zero, suc, List, [], ◌∷◌, refl}
 use Rattle.std.specs.Coded.{Coded}
 use base.Stored.{Gv, gnil, gnum, gcons}
@@ -39,7 +40,11 @@ name-code [] = refl
 name-code (n ∷ ns) = ap (λ ms. n ∷ ms) (name-code ns)
 
 abbrev scalars_code : Scalars → Gv
-scalars_code s = gcons (flag_code s.string) (gcons (flag_code s.integer) (gcons (flag_code s.boolean) (gcons (flag_code s.null) (gcons (flag_code s.timestamp) (gcons (flag_code s.regex) (flag_code s.absent))))))
+scalars_code s =
+    gcons (flag_code s.string)
+    (gcons (flag_code s.integer)
+    (gcons (flag_code s.boolean)
+    (gcons (flag_code s.null) (gcons (flag_code s.timestamp) (gcons (flag_code s.regex) (flag_code s.absent))))))
 
 abbrev first : Gv → Gv
 first gnil = gnil

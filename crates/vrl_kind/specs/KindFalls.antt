@@ -34,7 +34,8 @@ deep_list p = omega (arith, most_places p.places.kinds.items, deep_rest p.rest)
 pub deep_object : (p : ObjectPart) → deep-ObjectPart p ≤ object_nodes (object_of (Some p)) + 1
 deep_object p = omega (arith, most_fields p.fields.fields.items, deep_rest p.rest)
 
-falls : (s : Scalars) (l : Option ListPart) (o : Option ObjectPart) → deep-Kind record { scalars = s; list = l; object = o } ≤ list_nodes (list_of l) + object_nodes (object_of o) + 1
+falls : (s : Scalars) (l : Option ListPart) (o : Option ObjectPart)
+    → deep-Kind record { scalars = s; list = l; object = o } ≤ list_nodes (list_of l) + object_nodes (object_of o) + 1
 falls s None None = omega arith
 falls s None (Some q) = omega (arith, deep_object q)
 falls s (Some p) None = omega (arith, deep_list p)

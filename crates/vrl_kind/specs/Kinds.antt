@@ -50,7 +50,8 @@ any_at (s ∷ p) = or_absent p (any_at p)
 abbrev pub never_at : List Step → Tags
 never_at p = never
 
--- the tags at each path. Under a step that no part fits there are none; a known part gives its own, and each other step the rest's
+-- the tags at each path. Under a step that no part fits there are none; a known part gives its own,
+-- and each other step the rest's
 abbrev mutual
   pub tags_at : KindTree → List Step → Tags
   tags_at k [] = root_tags k
@@ -74,7 +75,8 @@ abbrev mutual
   -- what is known of a field, or else T
   pub fields_at : KnownFields → List ℕ → List Step → Tags → Tags
   fields_at no_fields n p T = T
-  fields_at (known_field m k fs) n p T = match_ordering (slice_cmp nat_cmp n m) (fields_at fs n p T) (tags_at k p) (fields_at fs n p T)
+  fields_at (known_field m k fs) n p T =
+      match_ordering (slice_cmp nat_cmp n m) (fields_at fs n p T) (tags_at k p) (fields_at fs n p T)
 
   pub rest_at : RestTree → List Step → Tags
   rest_at nothing p = or_absent p (never_at p)
@@ -137,4 +139,5 @@ is_absence (s ∷ p) t = false
 
 -- M allows at each path what some part of K allows there, but it isn't absent itself
 abbrev pub IsParts : KindTree → KindTree → Type 0
-IsParts K M = (p : List Step) (t : Tag) → IsTrue (tags_at M p t) ↔ (((s : Step) × IsTrue (tags_at K (s ∷ p) t)) × IsTrue (not (is_absence p t)))
+IsParts K M = (p : List Step) (t : Tag)
+    → IsTrue (tags_at M p t) ↔ (((s : Step) × IsTrue (tags_at K (s ∷ p) t)) × IsTrue (not (is_absence p t)))

@@ -20,11 +20,12 @@ ItemsInhabit ts ps r = (i : ℕ) → PartInhabits (item_at i ts) (place_or ps (r
 abbrev pub MembersInhabit : Members → KnownFields → RestTree → Type 0
 MembersInhabit ms fs r = (n : List ℕ) → PartInhabits (find n ms) (field_or fs (rest_kind r) n)
 
--- members of which the first has this name are of the kinds of the fields where that one is of the kind that was found, and those
--- behind it are of the kinds of the fields that are left
+-- members of which the first has this name are of the kinds of the fields where that one is of the
+-- kind that was found, and those behind it are of the kinds of the fields that are left
 pub record IsFound (n : List ℕ) (fs : KnownFields) (k : Option KindTree) (gs : KnownFields) : Type 0 where
   pub sorted : FieldsAreSorted gs
-  pub same : (t : Tree) (ms : Members) (r : RestTree) → IsBefore n ms → MembersInhabit (member n t ms) fs r ↔ (Inhabits t (unwrap_or k (rest_kind r)) × MembersInhabit ms gs r)
+  pub same : (t : Tree) (ms : Members) (r : RestTree) → IsBefore n ms
+      → MembersInhabit (member n t ms) fs r ↔ (Inhabits t (unwrap_or k (rest_kind r)) × MembersInhabit ms gs r)
 
 -- no members of which the first has this name are of the kinds of the fields
 abbrev pub IsLacking : List ℕ → KnownFields → Type 0

@@ -13,7 +13,8 @@ abbrev pub with_field : List ℕ → Option KindTree → KnownFields → KnownFi
 with_field n None fs = fs
 with_field n (Some k) fs = known_field n k fs
 
--- one turn of the merge: the fields of this name stood in front, of one list or of both, and no later field has it
+-- one turn of the merge: the fields of this name stood in front, of one list or of both, and no
+-- later field has it
 pub record IsTurn (n : List ℕ) (k l : Option KindTree) (fs gs fs' gs' : KnownFields) : Type 0 where
   pub some : IsTrue (is_some k || is_some l)
   pub left : fs ≡ with_field n k fs'

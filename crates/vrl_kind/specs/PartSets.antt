@@ -36,7 +36,8 @@ parts_at (kind s l o) p t = (all_places_at l p t || all_fields_at o p t) && not 
 
 -- these are the tags that stand behind some step of the kind
 abbrev pub PartsAreTold : Type 0
-PartsAreTold = (K : KindTree) (p : List Step) (t : Tag) → IsTrue (parts_at K p t) ↔ (((s : Step) × IsTrue (tags_at K (s ∷ p) t)) × IsTrue (not (is_absence p t)))
+PartsAreTold = (K : KindTree) (p : List Step) (t : Tag)
+    → IsTrue (parts_at K p t) ↔ (((s : Step) × IsTrue (tags_at K (s ∷ p) t)) × IsTrue (not (is_absence p t)))
 
 -- a kind is that of the parts where it has these tags, and only there
 abbrev pub PartsAreComputed : Type 0
@@ -44,4 +45,5 @@ PartsAreComputed = (K M : KindTree) → IsParts K M ↔ SameSets (tags_at M) (pa
 
 -- a part of a value of the kind is allowed by them
 abbrev pub PartsAreAllowed : Type 0
-PartsAreAllowed = (value part : Tree) (s : Step) (K : KindTree) → Inhabits value K → part_at value s ≡ there part → IsAllowed part (parts_at K)
+PartsAreAllowed = (value part : Tree) (s : Step) (K : KindTree) → Inhabits value K → part_at value s ≡ there part
+    → IsAllowed part (parts_at K)

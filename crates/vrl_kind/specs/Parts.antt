@@ -33,9 +33,11 @@ either_at A B p t = A p t || B p t
 abbrev pub IsCombined : (Sets → Sets → Sets) → KindTree → KindTree → KindTree → Type 0
 IsCombined C K L M = (p : List Step) (t : Tag) → tags_at M p t ≡ C (tags_at K) (tags_at L) p t
 
--- the fields of two objects, combined: at each name, where K, L and M stand for what isn't known, they allow what C makes of both sides
+-- the fields of two objects, combined: at each name, where K, L and M stand for what isn't known,
+-- they allow what C makes of both sides
 pub record AreCombined (C : Sets → Sets → Sets) (K L M : KindTree) (fs gs ds : KnownFields) : Type 0 where
-  pub at : (n : List ℕ) (p : List Step) (t : Tag) → tags_at (field_or ds M n) p t ≡ C (tags_at (field_or fs K n)) (tags_at (field_or gs L n)) p t
+  pub at : (n : List ℕ) (p : List Step) (t : Tag)
+      → tags_at (field_or ds M n) p t ≡ C (tags_at (field_or fs K n)) (tags_at (field_or gs L n)) p t
   pub canonical : FieldsAreCanonical ds
   pub known : NoFieldIs M ds
 
@@ -43,4 +45,5 @@ pub record AreCombined (C : Sets → Sets → Sets) (K L M : KindTree) (fs gs ds
 pub record AddsParts {I : Type 0} (part_at : I → List Step → Tags) (F M : KindTree) : Type 0 where
   pub first : IsWithin F M
   pub each : (i : I) (p : List Step) → tags.IsWithin (part_at i p) (tags_at M p)
-  pub some : (p : List Step) (t : Tag) → IsTrue (tags_at M p t) → IsTrue (tags_at F p t) ⊎ ((i : I) × IsTrue (part_at i p t))
+  pub some : (p : List Step) (t : Tag) → IsTrue (tags_at M p t) → IsTrue (tags_at F p t)
+      ⊎ ((i : I) × IsTrue (part_at i p t))

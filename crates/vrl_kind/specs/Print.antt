@@ -19,11 +19,17 @@ word_if true w ws = w ∷ ws
 word_if false w ws = ws
 
 abbrev pub scalar_words : Scalars → List (List ℕ) → List (List ℕ)
-scalar_words s ws = word_if s.string (word_of tag.Text) (word_if s.integer (word_of tag.Int) (word_if s.boolean (word_of tag.Bool) (word_if s.null (word_of tag.Null) (word_if s.timestamp (word_of tag.Time) (word_if s.regex (word_of tag.Pattern) ws)))))
+scalar_words s ws =
+    word_if s.string (word_of tag.Text)
+    (word_if s.integer (word_of tag.Int)
+    (word_if s.boolean (word_of tag.Bool)
+    (word_if s.null (word_of tag.Null)
+    (word_if s.timestamp (word_of tag.Time) (word_if s.regex (word_of tag.Pattern) ws)))))
 
 -- no tag at all but absent
 abbrev pub is_never : KindTree → Bool
-is_never (kind s no_list no_object) = not s.string && not s.integer && not s.boolean && not s.null && not s.timestamp && not s.regex
+is_never (kind s no_list no_object) =
+    not s.string && not s.integer && not s.boolean && not s.null && not s.timestamp && not s.regex
 is_never (kind s no_list (object_part fs r)) = false
 is_never (kind s (list_part ps r) o) = false
 
@@ -39,20 +45,27 @@ has_rests r l o = false
 
 -- what JSON can hold
 abbrev pub is_json_kind : KindTree → Bool
-is_json_kind (kind s l o) = s.string && s.integer && s.boolean && s.null && not s.timestamp && not s.regex && has_rests json_rest l o
+is_json_kind (kind s l o) =
+    s.string && s.integer && s.boolean && s.null && not s.timestamp && not s.regex && has_rests json_rest l o
 
 -- every value
 abbrev pub is_any_kind : KindTree → Bool
-is_any_kind (kind s l o) = s.string && s.integer && s.boolean && s.null && s.timestamp && s.regex && has_rests any_rest l o
+is_any_kind (kind s l o) =
+    s.string && s.integer && s.boolean && s.null && s.timestamp && s.regex && has_rests any_rest l o
 
 -- the word for the whole kind, where it has one, or else the text of its parts
 abbrev pub named_or : KindTree → List ℕ → List ℕ
-named_or k text = if is_never k then codes "never" else if is_any_kind k then codes "any" else if is_json_kind k then codes "json" else text
+named_or k text =
+    if is_never k then codes "never"
+    else if is_any_kind k then codes "any"
+    else if is_json_kind k then codes "json"
+    else text
 
 abbrev pub absent_mark : KindTree → List ℕ
 absent_mark k = if allows_absent k then codes "?" else []
 
--- a kind without absent. Of an array the places, of an object the fields by their keys, then the rest if there is one
+-- a kind without absent. Of an array the places, of an object the fields by their keys, then the
+-- rest if there is one
 abbrev mutual
   pub printed : KindTree → List ℕ
   printed (kind s l o) = named_or (kind s l o) (separated (codes "|") (scalar_words s (list_words l (object_words o))))

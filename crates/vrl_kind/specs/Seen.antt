@@ -27,7 +27,8 @@ abbrev pub seen_object : Option SeenObject → ObjectTree
 seen_object None = no_object
 seen_object (Some o) = object_part (fields_view o.fields.now) (part_rest o.rest)
 
--- how much a walk has before it: the nodes of a kind in memory; what a rest stands for costs nothing
+-- how much a walk has before it: the nodes of a kind in memory; what a rest stands for costs
+-- nothing
 abbrev pub weight : Seen → ℕ
 weight s = rest_nodes (part_rest s.part)
 

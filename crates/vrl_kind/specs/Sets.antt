@@ -13,6 +13,7 @@ Sets = List Step → Tags
 abbrev pub SameSets : Sets → Sets → Type 0
 SameSets A B = (p : List Step) (t : Tag) → A p t ≡ B p t
 
--- at each path where the value has something, or lacks a part that could be there, that tag is in the sets
+-- at each path where the value has something, or lacks a part that could be there, that tag is in
+-- the sets
 abbrev pub IsAllowed : Tree → Sets → Type 0
 IsAllowed v A = (p : List Step) → IfSome (tag_found (raw_at v p)) (λ t. IsTrue (A p t))

@@ -27,14 +27,19 @@ abbrev mutual
   pub items_inhabit : Items → ListTree → Bool
   items_inhabit ts no_list = false
   items_inhabit no_items (list_part ps r) = may_be_empty ps
-  items_inhabit (item t ts) (list_part no_places r) = inhabits_tree t (rest_kind r) && items_inhabit ts (list_part no_places r)
+  items_inhabit (item t ts) (list_part no_places r) =
+      inhabits_tree t (rest_kind r) && items_inhabit ts (list_part no_places r)
   items_inhabit (item t ts) (list_part (known_place k ps) r) = inhabits_tree t k && items_inhabit ts (list_part ps r)
 
-  -- the same of members. What stood at a name was looked at, so behind it that name's field may be anything
+  -- the same of members. What stood at a name was looked at, so behind it that name's field may be
+  -- anything
   pub members_inhabit : Members → ObjectTree → Bool
   members_inhabit ms no_object = false
-  members_inhabit no_members (object_part fs r) = list_all (λ n. allows_absent (field_or fs (rest_kind r) n)) (names_of fs)
-  members_inhabit (member n t ms) (object_part fs r) = inhabits_tree t (field_or fs (rest_kind r) n) && members_inhabit ms (object_part (known_field n (rest_kind any_rest) fs) r)
+  members_inhabit no_members (object_part fs r) =
+      list_all (λ n. allows_absent (field_or fs (rest_kind r) n)) (names_of fs)
+  members_inhabit (member n t ms) (object_part fs r) =
+      inhabits_tree t (field_or fs (rest_kind r) n)
+      && members_inhabit ms (object_part (known_field n (rest_kind any_rest) fs) r)
 
 -- ---- law
 

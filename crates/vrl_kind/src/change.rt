@@ -41,8 +41,9 @@ impl Kind {
         }
     }
 
-    /// The kind with these arrays in place of its own, those with these kinds at their first places and
-    /// this rest behind; all else stays. It copies all but the kind's own arrays. `Memory`: want of memory.
+    /// The kind with these arrays in place of its own, those with these kinds at their first places
+    /// and this rest behind; all else stays. It copies all but the kind's own arrays. `Memory`:
+    /// want of memory.
     pub fn with_list(&self, alloc: Global, places: Vec<Kind>, rest: Rest) -> Result<Kind, Memory>
         ensures { IfOk result (λ kind. SameTags kind (with_list self.now (places_view places.items) (rest_of rest))) }
     {
@@ -56,9 +57,9 @@ impl Kind {
         })
     }
 
-    /// The kind with these objects in place of its own, those with these kinds at these fields, of equal
-    /// names the last, and this rest at each other field; all else stays. It copies all but the kind's own
-    /// objects. `Memory`: want of memory.
+    /// The kind with these objects in place of its own, those with these kinds at these fields, of
+    /// equal names the last, and this rest at each other field; all else stays. It copies all but
+    /// the kind's own objects. `Memory`: want of memory.
     pub fn with_object(
         &self,
         alloc: Global,
@@ -77,9 +78,9 @@ impl Kind {
         })
     }
 
-    /// Cuts the kind in its place: one of at most `NODE_LIMIT` nodes and `LEVEL_LIMIT` levels stays as it is, and
-    /// each other keeps its outer tags alone, with every value inside. It takes no memory, and walks the kind
-    /// twice.
+    /// Cuts the kind in its place: one of at most `NODE_LIMIT` nodes and `LEVEL_LIMIT` levels stays
+    /// as it is, and each other keeps its outer tags alone, with every value inside. It takes no
+    /// memory, and walks the kind twice.
     pub fn cut(&mut self, alloc: Global)
         ensures { IsCut self.old self.new }
     {

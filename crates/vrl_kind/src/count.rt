@@ -67,8 +67,8 @@ fn rest_nodes(rest: &Rest) -> u64
     }
 }
 
-/// The levels of a kind: the steps down to its deepest node, or `u64::MAX` where there are more. A kind
-/// without parts has none. It takes no memory.
+/// The levels of a kind: the steps down to its deepest node, or `u64::MAX` where there are more. A
+/// kind without parts has none. It takes no memory.
 #[cycle(levels)]
 pub fn levels(kind: &Kind) -> u64
     ensures { result ≡ min (count.levels kind.now) (2 ^ 64 - 1) }

@@ -17,8 +17,9 @@ use std::mem;
 use vrl_value::{Chars, Memory};
 
 impl Kind {
-    /// Takes out what is known of a field by itself; nothing may stand there then. `None`: nothing is known of it
-    /// by itself, and the kind stays as it was. It takes no memory, and finds the field by halves.
+    /// Takes out what is known of a field by itself; nothing may stand there then. `None`: nothing
+    /// is known of it by itself, and the kind stays as it was. It takes no memory, and finds the
+    /// field by halves.
     pub fn take_field(&mut self, name: &Chars) -> Option<Kind>
         ensures { MatchOption result ((self.new ≡ self.old) × (knows_field name.now self.old ≡ false))
             (λ kind. IsTaken name.now self.old self.new kind) }
@@ -29,9 +30,9 @@ impl Kind {
         }
     }
 
-    /// Puts a kind at a field in place of what stands there. `Memory`: want of memory, which a field that is
-    /// known by itself never has; the kind stays as it was. It finds the field by halves, and looks at no
-    /// other.
+    /// Puts a kind at a field in place of what stands there. `Memory`: want of memory, which a
+    /// field that is known by itself never has; the kind stays as it was. It finds the field by
+    /// halves, and looks at no other.
     pub fn put_field(&mut self, alloc: Global, name: &Chars, kind: Kind) -> Result<(), Memory>
         requires { tags_at self.old [] tag.Object ≡ true }
         ensures put { OnOk result (SameSets (tags_at self.new) (put_at name.now (tags_at kind) (tags_at self.old))) }
@@ -103,7 +104,8 @@ fn leave_out(fields: &mut Vec<KindField>, name: &Chars)
 // Takes out what stands at a name, where nothing may stand then. `None`: no field has the name.
 fn take_known(fields: &mut Vec<KindField>, name: &Chars) -> Option<Kind>
     requires { FieldsAreCanonical (fields_view fields.old.items) }
-    ensures { MatchOption result ((fields.new.items ≡ fields.old.items) × (knows_name name.now (fields_view fields.old.items) ≡ false))
+    ensures { MatchOption result
+        ((fields.new.items ≡ fields.old.items) × (knows_name name.now (fields_view fields.old.items) ≡ false))
         (λ kind. AreTaken name.now (fields_view fields.old.items) (fields_view fields.new.items) kind) }
 {
     match field_index(fields.as_slice(), name) {
@@ -132,8 +134,8 @@ fn set_kind(field: &mut KindField, kind: Kind) -> Kind
     mem::replace(&mut field.kind, kind)
 }
 
-/// Where a field stands among others in the order of their names' bytes; `Err`: where it would stand, since none has
-/// the name. It takes no memory, and finds the field by halves.
+/// Where a field stands among others in the order of their names' bytes; `Err`: where it would
+/// stand, since none has the name. It takes no memory, and finds the field by halves.
 pub fn field_index(fields: &[KindField], name: &Chars) -> Result<usize, usize>
     requires { FieldsAreSorted (fields_view fields.now) }
     ensures found { IfOk result (IsFieldAt name.now fields.now) }

@@ -11,7 +11,8 @@ use crate::scalars::Scalars;
 use std::alloc::Global;
 use vrl_value::{Chars, Fields, Memory, Value};
 
-/// The least kind of the value: at each path the tag that stands there, alone. `Memory`: want of memory.
+/// The least kind of the value: at each path the tag that stands there, alone. `Memory`: want of
+/// memory.
 pub fn kind_of(alloc: Global, value: &Value) -> Result<Kind, Memory>
     ensures tags { IfOk result (λ kind. (p : List Step) → tags_at kind p ≡ found_at (tree_of value.now) p) }
     ensures inhabited { IfOk result (λ kind. Inhabits (tree_of value.now) kind) }

@@ -14,9 +14,9 @@ use crate::seen::{Seen, SeenList, SeenObject};
 use std::alloc::Global;
 use vrl_value::{Chars, Memory};
 
-/// The kind of what is of either kind: at each path it allows what either allows there, and nothing else.
-/// It walks both kinds side by side, and a rest once for each part that the other kind knows in its place, so it takes
-/// time linear in both and in what it gives. `Memory`: want of memory.
+/// The kind of what is of either kind: at each path it allows what either allows there, and nothing
+/// else. It walks both kinds side by side, and a rest once for each part that the other kind knows
+/// in its place, so it takes time linear in both and in what it gives. `Memory`: want of memory.
 pub fn join(alloc: Global, a: &Kind, b: &Kind) -> Result<Kind, Memory>
     ensures union { IfOk result (λ kind. IsJoin a.now b.now kind) }
     ensures above { IfOk result (λ kind. IsWithin a.now kind × IsWithin b.now kind) }
@@ -28,9 +28,10 @@ pub fn join(alloc: Global, a: &Kind, b: &Kind) -> Result<Kind, Memory>
     join_seen(alloc, Seen::of(a), Seen::of(b))
 }
 
-/// The join of the kinds of all places and fields, without absent: what an array's or an object's parts may
-/// be. It is `never` where the kind has neither. Each part is joined with what the earlier ones gave, so it
-/// takes at most a walk of the kind for each of its places and fields. `Memory`: want of memory.
+/// The join of the kinds of all places and fields, without absent: what an array's or an object's
+/// parts may be. It is `never` where the kind has neither. Each part is joined with what the
+/// earlier ones gave, so it takes at most a walk of the kind for each of its places and fields.
+/// `Memory`: want of memory.
 pub fn parts(alloc: Global, kind: &Kind) -> Result<Kind, Memory>
     ensures { IfOk result (λ all. IsParts kind.now all) }
 {
@@ -139,7 +140,8 @@ fn join_lists(
 
 #[cycle(join)]
 fn join_places(alloc: Global, a: SeenList<'_>, b: SeenList<'_>) -> Result<ListPart, Memory>
-    ensures union { IfOk result (λ list. IsListJoin (seen_list (Some a.entry)) (seen_list (Some b.entry)) (list_of (Some list))) }
+    ensures union { IfOk result
+        (λ list. IsListJoin (seen_list (Some a.entry)) (seen_list (Some b.entry)) (list_of (Some list))) }
     ensures canonical { IfOk result (λ list. ListIsCanonical (list_of (Some list))) }
 {
     let known = a.places.len().max(b.places.len());
@@ -159,7 +161,8 @@ fn join_objects(
 ) -> Result<Option<ObjectPart>, Memory>
     requires a_canonical { ObjectIsCanonical (seen_object a) }
     requires b_canonical { ObjectIsCanonical (seen_object b) }
-    ensures union { IfOk result (λ object. IsObjectJoin (seen_object a.entry) (seen_object b.entry) (object_of object)) }
+    ensures union { IfOk result
+        (λ object. IsObjectJoin (seen_object a.entry) (seen_object b.entry) (object_of object)) }
     ensures canonical { IfOk result (λ object. ObjectIsCanonical (object_of object)) }
 {
     match (a, b) {
@@ -173,7 +176,8 @@ fn join_objects(
 fn join_fields(alloc: Global, a: SeenObject<'_>, b: SeenObject<'_>) -> Result<ObjectPart, Memory>
     requires a_canonical { ObjectIsCanonical (seen_object (Some a)) }
     requires b_canonical { ObjectIsCanonical (seen_object (Some b)) }
-    ensures union { IfOk result (λ object. IsObjectJoin (seen_object (Some a.entry)) (seen_object (Some b.entry)) (object_of (Some object))) }
+    ensures union { IfOk result
+        (λ object. IsObjectJoin (seen_object (Some a.entry)) (seen_object (Some b.entry)) (object_of (Some object))) }
     ensures canonical { IfOk result (λ object. ObjectIsCanonical (object_of (Some object))) }
 {
     let own = join_seen(alloc, Seen::of_rest(a.rest), Seen::of_rest(b.rest))?;
@@ -192,7 +196,9 @@ fn join_known(
     requires a_canonical { ObjectIsCanonical (seen_object (Some a)) }
     requires b_canonical { ObjectIsCanonical (seen_object (Some b)) }
     requires rests { IsJoin (rest_kind (part_rest a.rest)) (rest_kind (part_rest b.rest)) own.now }
-    ensures { IfOk result (λ known. AreCombined either_at (rest_kind (part_rest a.entry.rest)) (rest_kind (part_rest b.entry.rest)) own.now
+    ensures { IfOk result
+        (λ known. AreCombined either_at
+        (rest_kind (part_rest a.entry.rest)) (rest_kind (part_rest b.entry.rest)) own.now
         (fields_view a.entry.fields.now) (fields_view b.entry.fields.now) (fields_view known.items)) }
 {
     let mut known: Vec<KindField> = Vec::new(alloc);

@@ -13,9 +13,10 @@ use vrl_value::{Chars, Tag};
 
 /// A kind: which sorts of value may stand at each path, and where nothing may be there.
 ///
-/// It is a set of scalars, what it knows of arrays and what it knows of objects. It is always in the one
-/// form that its tags have: the last known place, and each known field, says more than the rest does, the
-/// fields stand in the order of their names' bytes, and an exact rest is none of the others.
+/// It is a set of scalars, what it knows of arrays and what it knows of objects. It is always in
+/// the one form that its tags have: the last known place, and each known field, says more than the
+/// rest does, the fields stand in the order of their names' bytes, and an exact rest is none of the
+/// others.
 #[cycle(kind)]
 pub struct Kind {
     pub(crate) scalars: Scalars,
@@ -110,8 +111,8 @@ pub struct KindField {
     pub kind: Kind,
 }
 
-/// What may stand at the places, or the fields, of which nothing is known by itself. Each of these may be
-/// absent.
+/// What may stand at the places, or the fields, of which nothing is known by itself. Each of these
+/// may be absent.
 #[cycle(kind)]
 #[derive(Drop)]
 pub enum Rest {
@@ -194,8 +195,8 @@ impl Kind {
         }
     }
 
-    /// The kind of the values with this tag: every array at `List`, every object at `Object`, and at
-    /// `Absent` the kind that allows only that nothing is there.
+    /// The kind of the values with this tag: every array at `List`, every object at `Object`, and
+    /// at `Absent` the kind that allows only that nothing is there.
     pub fn of(alloc: Global, tag: Tag) -> Kind
         ensures { (p : List Step) → tags_at result p ≡ only_at tag p }
     {
@@ -280,8 +281,8 @@ pub fn has(kind: &Kind, tag: Tag) -> bool
     }
 }
 
-/// What the kind knows of arrays: the kinds of the first places, and what stands at each place behind.
-/// `None`: it allows no array. It takes no memory.
+/// What the kind knows of arrays: the kinds of the first places, and what stands at each place
+/// behind. `None`: it allows no array. It takes no memory.
 pub fn list_part(kind: &Kind) -> Option<(&Kinds, &Rest)>
     ensures { MatchOption result (list_tree kind.now ≡ no_list)
         (λ part. list_tree kind.now ≡ list_with (places_of part.0.now) (rest_of part.1.now)) }
@@ -292,8 +293,8 @@ pub fn list_part(kind: &Kind) -> Option<(&Kinds, &Rest)>
     }
 }
 
-/// What the kind knows of objects: the kinds of the known fields, and what stands at each other field.
-/// `None`: it allows no object. It takes no memory.
+/// What the kind knows of objects: the kinds of the known fields, and what stands at each other
+/// field. `None`: it allows no object. It takes no memory.
 pub fn object_part(kind: &Kind) -> Option<(&KindFields, &Rest)>
     ensures { MatchOption result (object_tree kind.now ≡ no_object)
         (λ part. object_tree kind.now ≡ object_with (fields_of part.0.now) (rest_of part.1.now)) }

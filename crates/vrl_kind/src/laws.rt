@@ -2,8 +2,8 @@ ghost use Rattle.vrl_kind.specs.Laws.{AnyHoldsAll, CutsAreWider, EqualTagsAreOne
 ghost use Rattle.vrl_kind.specs.PartSets.{PartsAreAllowed, PartsAreComputed, PartsAreTold};
 ghost use Rattle.vrl_kind.specs.TreeTest.{InhabitsIsComputed};
 
-/// Two kinds of the one form that allow the same at every path are one tree. This takes no time: it is a
-/// law about the definitions.
+/// Two kinds of the one form that allow the same at every path are one tree. This takes no time: it
+/// is a law about the definitions.
 pub fn equal_tags_are_one_kind()
     ensures { EqualTagsAreOneKind }
 {}
@@ -13,8 +13,8 @@ pub fn cuts_are_wider()
     ensures { CutsAreWider }
 {}
 
-/// A value of a kind is of each kind that this one is within. This takes no time: it is a law about the
-/// definitions.
+/// A value of a kind is of each kind that this one is within. This takes no time: it is a law about
+/// the definitions.
 pub fn wider_kinds_hold_more()
     ensures { WiderKindsHoldMore }
 {}
@@ -24,26 +24,26 @@ pub fn any_holds_all()
     ensures { AnyHoldsAll }
 {}
 
-/// What the parts of a kind allow, computed from its tree, is what stands behind some step of the kind. This
-/// takes no time: it is a law about the definitions.
+/// What the parts of a kind allow, computed from its tree, is what stands behind some step of the
+/// kind. This takes no time: it is a law about the definitions.
 pub fn parts_are_told()
     ensures { PartsAreTold }
 {}
 
-/// A kind is that of another's parts where it has the tags that are computed from that one's tree. This
-/// takes no time: it is a law about the definitions.
+/// A kind is that of another's parts where it has the tags that are computed from that one's tree.
+/// This takes no time: it is a law about the definitions.
 pub fn parts_are_computed()
     ensures { PartsAreComputed }
 {}
 
-/// A part of a value of a kind is allowed by what the kind's parts allow. This takes no time: it is a law
-/// about the definitions.
+/// A part of a value of a kind is allowed by what the kind's parts allow. This takes no time: it is
+/// a law about the definitions.
 pub fn parts_are_allowed()
     ensures { PartsAreAllowed }
 {}
 
-/// Whether a tree is of a kind is computed by cases on the tree. This takes no time: it is a law about the
-/// definitions.
+/// Whether a tree is of a kind is computed by cases on the tree. This takes no time: it is a law
+/// about the definitions.
 pub fn inhabits_is_computed()
     ensures { InhabitsIsComputed }
 {}

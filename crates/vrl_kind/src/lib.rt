@@ -1,12 +1,15 @@
-//! Kinds: which sorts of value may stand at each path of an event, a variable or an expression's value.
+//! Kinds: which sorts of value may stand at each path of an event, a variable or an expression's
+//! value.
 //!
-//! A contract sees a [`Kind`] as its tree, and says what it means by the one function `tags_at`, from the
-//! tree and a path to a set of tags. Each kind is kept in one form, so that two kinds that allow the same at
-//! every path are one tree.
+//! A contract sees a [`Kind`] as its tree, and says what it means by the one function `tags_at`,
+//! from the tree and a path to a set of tags. Each kind is kept in one form, so that two kinds that
+//! allow the same at every path are one tree.
 //!
-//! Files: `kind.rt` has the types, `scalars.rt` the flags of a node, `seen.rt` what the walks see of a kind or of a rest, `merge.rt` the fields of two
-//! kinds side by side, and each call has a file: `make.rt`, `order.rt`, `joining.rt`, `overlay.rt`, `limits.rt` (cuts), `membership.rt`,
-//! `inference.rt`, `printing.rt`, `count.rt`, `same.rt`, `change.rt` and `fields.rt` (one field changed in its place). `laws.rt` has the laws.
+//! Files: `kind.rt` has the types, `scalars.rt` the flags of a node, `seen.rt` what the walks see
+//! of a kind or of a rest, `merge.rt` the fields of two kinds side by side, and each call has a
+//! file: `make.rt`, `order.rt`, `joining.rt`, `overlay.rt`, `limits.rt` (cuts), `membership.rt`,
+//! `inference.rt`, `printing.rt`, `count.rt`, `same.rt`, `change.rt` and `fields.rt` (one field
+//! changed in its place). `laws.rt` has the laws.
 #![tactic(auto)]
 
 mod change;

@@ -16,7 +16,8 @@ pub const NODE_LIMIT: u64 = 1000;
 /// The most levels of a kind that `cut` leaves as it is.
 pub const LEVEL_LIMIT: u64 = 32;
 
-/// The kind with its outer tags, and with every value inside its arrays and objects. It takes no memory.
+/// The kind with its outer tags, and with every value inside its arrays and objects. It takes no
+/// memory.
 pub fn flatten(alloc: Global, kind: &Kind) -> Kind
     ensures tags { (p : List Step) → tags_at result p ≡ flat_at kind.now p }
     ensures tree { result ≡ flat kind.now }
@@ -29,9 +30,9 @@ pub fn flatten(alloc: Global, kind: &Kind) -> Kind
     }
 }
 
-/// An equal kind, where it has at most `NODE_LIMIT` nodes and `LEVEL_LIMIT` levels; else the kind with its
-/// outer tags alone, and with every value inside. It walks the kind a fixed number of times. `Memory`: want
-/// of memory.
+/// An equal kind, where it has at most `NODE_LIMIT` nodes and `LEVEL_LIMIT` levels; else the kind
+/// with its outer tags alone, and with every value inside. It walks the kind a fixed number of
+/// times. `Memory`: want of memory.
 pub fn cut(alloc: Global, kind: &Kind) -> Result<Kind, Memory>
     ensures cases { IfOk result (λ small. IsCut kind.now small) }
     ensures nodes { IfOk result (λ small. count.nodes small ≤ node_limit) }

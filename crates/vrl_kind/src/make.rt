@@ -17,16 +17,16 @@ use std::collections::BTreeMap;
 use vrl_value::{Chars, Memory, Tag};
 
 impl Kind {
-    /// The kind of the arrays with these kinds at their first places and this rest behind. `Memory`: want
-    /// of memory.
+    /// The kind of the arrays with these kinds at their first places and this rest behind.
+    /// `Memory`: want of memory.
     pub fn list(alloc: Global, places: Vec<Kind>, rest: Rest) -> Result<Kind, Memory>
         ensures { IfOk result (λ kind. SameTags kind (array_kind (places_view places.items) (rest_of rest))) }
     {
         Kind::never().with_list(alloc, places, rest)
     }
 
-    /// The kind of the objects with these kinds at these fields, of equal names the last, and this rest at
-    /// each other field. `Memory`: want of memory.
+    /// The kind of the objects with these kinds at these fields, of equal names the last, and this
+    /// rest at each other field. `Memory`: want of memory.
     pub fn object(alloc: Global, fields: Vec<(Chars, Kind)>, rest: Rest) -> Result<Kind, Memory>
         ensures { IfOk result (λ kind. SameTags kind (object_kind (named_view fields.items) (rest_of rest))) }
     {
@@ -47,8 +47,8 @@ impl Kind {
     }
 }
 
-/// The kind without this tag at its root, and without what stands below it; all else stays. `Memory`: want
-/// of memory.
+/// The kind without this tag at its root, and without what stands below it; all else stays.
+/// `Memory`: want of memory.
 pub fn without(alloc: Global, kind: &Kind, tag: Tag) -> Result<Kind, Memory>
     ensures { IfOk result (λ lower. (p : List Step) → tags_at lower p ≡ without_at kind.now tag p) }
 {
@@ -207,8 +207,8 @@ impl Rest {
 }
 
 impl ListPart {
-    // The arrays with these kinds at their first places, and this own kind of the rest behind, in the one
-    // form: known places at the end that say no more than the rest are left out.
+    // The arrays with these kinds at their first places, and this own kind of the rest behind, in
+    // the one form: known places at the end that say no more than the rest are left out.
     pub(crate) fn of(alloc: Global, mut kinds: Vec<Kind>, own: Kind) -> Result<ListPart, Memory>
         requires absent { allows_absent own ≡ true }
         requires canonical { PlacesAreCanonical (places_view kinds.items) }
@@ -237,7 +237,8 @@ fn kept_len(kinds: &[Kind], own: &Kind) -> usize
 }
 
 impl ObjectPart {
-    // The objects with these kinds at these fields, and this own kind of the rest at each other field.
+    // The objects with these kinds at these fields, and this own kind of the rest at each other
+    // field.
     pub(crate) fn of(alloc: Global, fields: Vec<KindField>, own: Kind) -> Result<ObjectPart, Memory>
         requires absent { allows_absent own ≡ true }
         requires canonical { FieldsAreCanonical (fields_view fields.items) }
@@ -251,8 +252,9 @@ impl ObjectPart {
     }
 }
 
-// The fields, in the order of their names' bytes, that say more than the rest, whose own kind this is: of equal
-// names the last. Fields that come the last name first, as those of a kind that is changed do, want no map.
+// The fields, in the order of their names' bytes, that say more than the rest, whose own kind this
+// is: of equal names the last. Fields that come the last name first, as those of a kind that is
+// changed do, want no map.
 pub(crate) fn known_fields(
     alloc: Global,
     fields: Vec<(Chars, Kind)>,
@@ -282,7 +284,8 @@ fn are_falling(fields: &[(Chars, Kind)]) -> bool
 
 // Whether a name is before the last of the fields', if there is one.
 fn is_before_last(name: &Chars, fields: &[(Chars, Kind)]) -> bool
-    ensures { IsTrue result → FieldsAreSorted (named_view fields.now) → IsBeforeFields name.now (named_view fields.now) }
+    ensures { IsTrue result → FieldsAreSorted (named_view fields.now)
+        → IsBeforeFields name.now (named_view fields.now) }
 {
     match fields.split_last() {
         None => true,
@@ -334,14 +337,16 @@ fn known_by_name(
     Ok(known)
 }
 
-// Puts a kind at a name behind the known fields, where it says more than the rest, whose own kind this is.
+// Puts a kind at a name behind the known fields, where it says more than the rest, whose own kind
+// this is.
 pub(crate) fn push_known(
     fields: &mut Vec<KindField>,
     name: Chars,
     kind: Kind,
     own: &Kind,
 ) -> Result<(), Memory>
-    ensures { OnOk result (IsKnownPushed name kind own.now (fields_view fields.old.items) (fields_view fields.new.items)) }
+    ensures { OnOk result
+        (IsKnownPushed name kind own.now (fields_view fields.old.items) (fields_view fields.new.items)) }
 {
     if !same(&kind, own) {
         fields.push(KindField { name, kind })?;

@@ -14,9 +14,9 @@ use crate::seen::{Part, Seen, SeenList, SeenObject};
 use std::cmp::Ordering;
 use vrl_value::{Fields, Tag, Value};
 
-/// Whether the value is of the kind: at each path where it has something, or lacks a part that could be
-/// there, the kind allows that. It takes no memory, and looks at each part of the value, and at each field
-/// of the kind beside one of the value's objects, at most once.
+/// Whether the value is of the kind: at each path where it has something, or lacks a part that
+/// could be there, the kind allows that. It takes no memory, and looks at each part of the value,
+/// and at each field of the kind beside one of the value's objects, at most once.
 pub fn inhabits(value: &Value, kind: &Kind) -> bool
     ensures { IsTrue result ↔ Inhabits (tree_of value.now) kind.now }
 {
@@ -98,7 +98,8 @@ struct FoundField<'a> {
     behind: &'a [KindField],
 }
 
-// What is known of a name, past the fields that come before it. `None`: one of these may not be absent.
+// What is known of a name, past the fields that come before it. `None`: one of these may not be
+// absent.
 fn found_from<'a>(fields: &'a [KindField], name: &str) -> Option<FoundField<'a>>
     requires { FieldsAreSorted (fields_view fields.now) }
     ensures { MatchOption result (IsLacking name.now (fields_view fields.now))

@@ -5,7 +5,8 @@ ghost use Rattle.vrl_kind.specs.View.{fields_view};
 use crate::kind::{Kind, KindField};
 use std::cmp::Ordering;
 
-/// Two lists of fields, each in the order of the names' bytes, that are taken together name by name.
+/// Two lists of fields, each in the order of the names' bytes, that are taken together name by
+/// name.
 #[derive(Drop)]
 pub(crate) struct Merge<'a> {
     pub(crate) left: &'a [KindField],

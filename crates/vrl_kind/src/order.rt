@@ -24,9 +24,9 @@ pub const TAGS: [Tag; 9] = [
     Tag::Absent,
 ];
 
-/// Whether all that the first kind allows at any path, `Absent` too, is allowed there by the second. It
-/// takes no memory, and walks both kinds side by side, a rest once for each part that the other kind knows in
-/// its place.
+/// Whether all that the first kind allows at any path, `Absent` too, is allowed there by the
+/// second. It takes no memory, and walks both kinds side by side, a rest once for each part that
+/// the other kind knows in its place.
 pub fn within(a: &Kind, b: &Kind) -> bool
     ensures { IsTrue result ↔ IsWithin a.now b.now }
 {

@@ -18,9 +18,9 @@ use crate::seen::{Seen, SeenObject};
 use std::alloc::Global;
 use vrl_value::{Chars, Memory};
 
-/// The kind of an object of the left kind with the fields of one of the right kind put over its own: a field
-/// has the right one's kind, and where that may be absent, the left one's beside it. It walks each kind once.
-/// `Memory`: want of memory.
+/// The kind of an object of the left kind with the fields of one of the right kind put over its
+/// own: a field has the right one's kind, and where that may be absent, the left one's beside it.
+/// It walks each kind once. `Memory`: want of memory.
 pub fn overlaid(alloc: Global, left: &Kind, right: &Kind) -> Result<Kind, Memory>
     requires left { root_tags left.now tag.Object ≡ true }
     requires right { root_tags right.now tag.Object ≡ true }
@@ -62,7 +62,9 @@ fn overlaid_known(
     requires lower_canonical { ObjectIsCanonical (seen_object (Some lower)) }
     requires upper_canonical { ObjectIsCanonical (seen_object (Some upper)) }
     requires own { IsCombined over_at (rest_kind (part_rest lower.rest)) (rest_kind (part_rest upper.rest)) own.now }
-    ensures { IfOk result (λ known. AreCombined over_at (rest_kind (part_rest lower.entry.rest)) (rest_kind (part_rest upper.entry.rest)) own.now
+    ensures { IfOk result
+        (λ known. AreCombined over_at
+        (rest_kind (part_rest lower.entry.rest)) (rest_kind (part_rest upper.entry.rest)) own.now
         (fields_view lower.entry.fields.now) (fields_view upper.entry.fields.now) (fields_view known.items)) }
 {
     let mut known: Vec<KindField> = Vec::new(alloc);

@@ -11,10 +11,11 @@ use json::Writer;
 use std::alloc::Global;
 use vrl_value::{Chars, Memory};
 
-/// The text of a kind, without absent at its root. `never`, `any` and `json` are these words. Else its
-/// parts stand between `|`: the scalars, an array as `[integer, ?string, ..json]` with its places and its
-/// rest, an object as `{"a"?: integer, ..any}` with its fields, as JSON strings (RFC 8259), and its rest. A
-/// `?` says that the part may be absent. It takes the time of the text's bytes. `Memory`: want of memory.
+/// The text of a kind, without absent at its root. `never`, `any` and `json` are these words. Else
+/// its parts stand between `|`: the scalars, an array as `[integer, ?string, ..json]` with its
+/// places and its rest, an object as `{"a"?: integer, ..any}` with its fields, as JSON strings (RFC
+/// 8259), and its rest. A `?` says that the part may be absent. It takes the time of the text's
+/// bytes. `Memory`: want of memory.
 pub fn print(alloc: Global, kind: &Kind) -> Result<Chars, Memory>
     ensures { IfOk result (λ text. text ≡ printed kind.now) }
 {
@@ -54,8 +55,8 @@ fn whole_word(kind: &Kind) -> Option<&'static str>
     None
 }
 
-// Writes the words for these scalars, in the order in which they are printed, and gives what stands before a
-// part behind them.
+// Writes the words for these scalars, in the order in which they are printed, and gives what stands
+// before a part behind them.
 fn push_scalars(text: &mut String, scalars: Scalars) -> Result<&'static str, Memory>
     ensures { IfOk result (λ before. (more : List (List ℕ))
         → string_bytes text.new ++ separated_after before.now (codes "|") more
@@ -69,7 +70,8 @@ fn push_scalars(text: &mut String, scalars: Scalars) -> Result<&'static str, Mem
     push_if(text, before, scalars.regex, "regex")
 }
 
-// Writes a word behind what stands before it, if it is wanted, and gives what stands before a part behind it.
+// Writes a word behind what stands before it, if it is wanted, and gives what stands before a part
+// behind it.
 fn push_if(
     text: &mut String,
     before: &'static str,
@@ -146,7 +148,7 @@ fn push_places(alloc: Global, text: &mut String, kinds: &[Kind]) -> Result<&'sta
 {
     let mut before = "";
     for kind in kinds {
-        push_behind(text, before, mark(kind))?;
+        push_behind(text, before, optional_mark(kind))?;
         push_kind(alloc, text, kind)?;
         before = ", ";
     }
@@ -173,15 +175,15 @@ fn push_fields(
     Ok(before)
 }
 
-// Writes the key of a field behind what stands before it: its name as a JSON string (RFC 8259, section 7), and
-// whether it may be absent.
+// Writes the key of a field behind what stands before it: its name as a JSON string (RFC 8259,
+// section 7), and whether it may be absent.
 fn push_key(alloc: Global, text: &mut String, before: &str, field: &KindField) -> Result<(), Memory>
     ensures { OnOk result (string_bytes text.new
         ≡ string_bytes text.old ++ (before.now ++ (quoted field.now.name ++ (absent_mark field.now.kind ++ codes ": ")))) }
 {
     let name = quote(alloc, field.name.as_str())?;
     push_behind(text, before, name.as_str())?;
-    push_behind(text, mark(&field.kind), ": ")
+    push_behind(text, optional_mark(&field.kind), ": ")
 }
 
 // Writes the rest, if there is one, behind what stands before it.
@@ -202,7 +204,7 @@ fn push_rest(alloc: Global, text: &mut String, before: &str, rest: &Rest) -> Res
 }
 
 // The mark of a kind that allows a part to be absent.
-fn mark(kind: &Kind) -> &'static str
+fn optional_mark(kind: &Kind) -> &'static str
     ensures { result.now ≡ absent_mark kind.now }
 {
     if kind.scalars.absent { "?" } else { "" }

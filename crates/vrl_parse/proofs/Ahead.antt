@@ -13,20 +13,20 @@ use Rattle.vrl_token.specs.declared.token.Token.{Token}
 use Rattle.vrl_token.specs.declared.token.Token.TheVariants as token
 use Rattle.vrl_word.specs.Words.{Word, path_of, target_at}
 use Rattle.vrl_parse.specs.Grammar.{IsScript}
-use Rattle.vrl_parse.specs.Descent.{Piece, sign_word, target_word, name_word, path_word, Said, Says, takes, Lacks, Look, at_end, next, before, expression_end, tightest, Begins, Sees, Operand, a_negation, a_call, an_array, a_group, an_object, a_block, an_if, a_path, a_literal, operand_at, operand_program, Rule, script, item, single, level, chain, operand, parts, pairs, arguments, argument, closing, names, more_names, braces, arms, Meaning, Program, done, refuse, take, look, by_operand, go, program_of, Outcome, took, refused, Runs, ran, refuses, taken, untaken, seen, unseen, chosen, gone, not_gone}
+use Rattle.vrl_parse.specs.Descent.{Piece, sign_word, target_word, name_word, path_word, Said, Says, takes, Lacks, Look, at_end, next, before, expression_end, tightest, Begins, Sees, Operand, a_negation, a_call, an_array, a_group, an_object, a_block, an_if, a_path, a_literal, operand_at, operand_program, Rule, script, item, single, level, chain, operand, parts, pairs, arguments, argument, closing, names, more_names, braces, arms, Meaning, Program, done, refuse, take, look, by_operand, go, program_of, Ending, took, refused, Runs, ran, refuses, taken, untaken, seen, unseen, chosen, gone, not_gone}
 use Rattle.vrl_parse.specs.FirstWords.{Holds}
 use Rattle.vrl_parse.proofs.Beginnings.{path_operand_of}
 use Rattle.vrl_parse.proofs.Descended.{script_is_taken}
-use Rattle.vrl_parse.proofs.OneOutcome.{one_outcome}
+use Rattle.vrl_parse.proofs.OneEnding.{one_ending}
 use Rattle.vrl_parse.proofs.Spelled.{Front}
 
 -- the words before which a run stops
-abbrev pub left : {A : Type 0} → Outcome A → List Word
+abbrev pub left : {A : Type 0} → Ending A → List Word
 left (took x vs) = vs
 left (refused vs) = vs
 
 -- the same end before other words
-abbrev pub moved : {A : Type 0} → Outcome A → List Word → Outcome A
+abbrev pub moved : {A : Type 0} → Ending A → List Word → Ending A
 moved (took x vs) ts = took x ts
 moved (refused vs) ts = refused ts
 
@@ -77,7 +77,7 @@ sees_alike (tightest n) us same far s = s
 
 -- ---- behind a look at two words the first one is taken
 
-shorter : {r : Rule} {p : Program (Meaning r)} {ws : List Word} {o : Outcome (Meaning r)} → Runs r p ws o → length (left o) ≤ length ws
+shorter : {r : Rule} {p : Program (Meaning r)} {ws : List Word} {o : Ending (Meaning r)} → Runs r p ws o → length (left o) ≤ length ws
 shorter ran = omega arith
 shorter refuses = omega arith
 shorter (taken (takes v is) run) = let few = shorter run in omega (arith, few)
@@ -93,7 +93,7 @@ shorter (not_gone inner) = shorter inner
 
 -- a first word that says so is taken
 abbrev Eats : (r : Rule) (k : Piece) → Program (Meaning r) → Type 0
-Eats r k p = (w : Word) (vs : List Word) (o : Outcome (Meaning r)) (v : Said k) → Says k w v → Runs r p (w ∷ vs) o → length (left o) ≤ length vs
+Eats r k p = (w : Word) (vs : List Word) (o : Ending (Meaning r)) (v : Said k) → Says k w v → Runs r p (w ∷ vs) o → length (left o) ≤ length vs
 
 eats_expect : (r : Rule) (k j : Piece) {p : Said j → Span → Program (Meaning r)} → ((w : Word) (v : Said k) → Says k w v → (u : Said j) × Says j w u) → Eats r k (take j p refuse)
 eats_expect r k j step w vs o v is (taken (takes u f) run) = shorter run
@@ -208,7 +208,7 @@ rule_fair arms = λ _ _. ((λ _ _. ((λ _ _ _. tt), λ _. tt)), tt)
 -- ---- a run before other words
 
 -- nothing was taken, so the first word doesn't say so
-untouched : {r : Rule} {p : Program (Meaning r)} {o : Outcome (Meaning r)} (k : Piece) (ws : List Word) → Eats r k p → Runs r p ws o → ws ≡ left o → ¬ Holds k ws
+untouched : {r : Rule} {p : Program (Meaning r)} {o : Ending (Meaning r)} (k : Piece) (ws : List Word) → Eats r k p → Runs r p ws o → ws ≡ left o → ¬ Holds k ws
 untouched k [] eats run same h = h
 untouched {o = o} k (w ∷ ws) eats run same h =
     let few = eats w ws o h.0 h.1 run in
@@ -220,19 +220,19 @@ holds_before : (k : Piece) (t : Token) (ws : List Word) → Sees (before k t) ws
 holds_before k t [] s = s
 holds_before k t (w ∷ ws) s = (s.0, s.1)
 
-seen_passes : (r : Rule) (p q : Program (Meaning r)) {o : Outcome (Meaning r)} (l : Look) (us ws : List Word) → Guards r l p q → Runs r p ws o → ws ≡ us ++ left o → Sees l ws → Passes l us
+seen_passes : (r : Rule) (p q : Program (Meaning r)) {o : Ending (Meaning r)} (l : Look) (us ws : List Word) → Guards r l p q → Runs r p ws o → ws ≡ us ++ left o → Sees l ws → Passes l us
 seen_passes r p q (before k t) [] ws guards run split s = untouched k ws guards.0 run split (holds_before k t ws s)
 seen_passes r p q l us ws guards run split s = tt
 
-unseen_passes : (r : Rule) (p q : Program (Meaning r)) {o : Outcome (Meaning r)} (l : Look) (us ws : List Word) {ts : List Word} → Guards r l p q → Runs r q ws o → ws ≡ us ++ left o → Alike ts (left o) → Sees l (us ++ ts) → Passes l us
+unseen_passes : (r : Rule) (p q : Program (Meaning r)) {o : Ending (Meaning r)} (l : Look) (us ws : List Word) {ts : List Word} → Guards r l p q → Runs r q ws o → ws ≡ us ++ left o → Alike ts (left o) → Sees l (us ++ ts) → Passes l us
 unseen_passes r p q (before k t) [] ws {ts} guards run split same s = untouched k ws guards.1 run split (subst (Holds k) (sym split) (holds_alike k same (holds_before k t ts s)))
 unseen_passes r p q l us ws guards run split same s = tt
 
 -- with the words that it takes it ends so before any words that begin as those before which it stopped
-abbrev EndsBefore : (r : Rule) → Program (Meaning r) → Outcome (Meaning r) → List Word → Type 0
+abbrev EndsBefore : (r : Rule) → Program (Meaning r) → Ending (Meaning r) → List Word → Type 0
 EndsBefore r p o us = (ts : List Word) → Alike (left o) ts → Runs r p (us ++ ts) (moved o ts)
 
-ahead : {r : Rule} {p : Program (Meaning r)} {ws : List Word} {o : Outcome (Meaning r)} → Fair r p → Runs r p ws o → Front ws (left o) (EndsBefore r p o)
+ahead : {r : Rule} {p : Program (Meaning r)} {ws : List Word} {o : Ending (Meaning r)} → Fair r p → Runs r p ws o → Front ws (left o) (EndsBefore r p o)
 ahead fair ran = record { words = []; parts = refl; told = λ ts same. ran }
 ahead fair refuses = record { words = []; parts = refl; told = λ ts same. refuses }
 ahead fair (taken (takes {w} v is) run) =
@@ -273,20 +273,20 @@ ahead fair (not_gone {q = q} inner) =
 
 -- ---- no script begins with what a script took and the next word
 
-no_script_at : (o : Outcome Exprs) (us ts : List Word) (es : Exprs) → Alike (left o) ts → Runs script (program_of script) us (moved o ts) → ¬ IsScript us es
+no_script_at : (o : Ending Exprs) (us ts : List Word) (es : Exprs) → Alike (left o) ts → Runs script (program_of script) us (moved o ts) → ¬ IsScript us es
 no_script_at (took x vs) us ts es same run is =
-    let one = one_outcome run (script_is_taken is) in
+    let one = one_ending run (script_is_taken is) in
     let none : ts ≡ [] = cc in
     no_alike same none
 no_script_at (refused vs) us ts es same run is =
-    let one = one_outcome run (script_is_taken is) in
+    let one = one_ending run (script_is_taken is) in
     cc
 
 -- none is of the words that were taken and of others that begin with the word before which it stopped
 abbrev pub BeginsNone : List Word → List Word → Type 0
 BeginsNone vs us = (ts : List Word) (es : Exprs) → Alike vs ts → ¬ IsScript (us ++ ts) es
 
-pub script_goes_no_further : {ws : List Word} (o : Outcome Exprs) → Runs script (program_of script) ws o → Front ws (left o) (BeginsNone (left o))
+pub script_goes_no_further : {ws : List Word} (o : Ending Exprs) → Runs script (program_of script) ws o → Front ws (left o) (BeginsNone (left o))
 script_goes_no_further o run =
     let front = ahead (rule_fair script) run in
     record { words = front.words; parts = front.parts; told = λ ts es same. no_script_at o (front.words ++ ts) ts es same (front.told ts same) }

@@ -7,8 +7,8 @@ use Rattle.vrl_token.specs.declared.token.Token.{Token}
 use Rattle.vrl_token.specs.declared.token.Token.TheVariants as token
 use Rattle.vrl_word.specs.Words.{Word, path_of, operator_of, name_span, over}
 use Rattle.vrl_parse.specs.Grammar.{Is, AreNames, one_name, more_names as more_than_one_name, IsScript, no_items, separator, last_item, more_items, IsItem, both_targets, single as single_item, IsSingle, assigned, merged, returned, aborted, aborted_with, coalesce, IsLevel, tighter, joined, tightest as tightest_level, IsUnary, negated, primary, IsPrimary, a_literal as literal_operand, a_path as path_operand, without_suffix, with_suffix, with_closure, an_object as object_operand, a_block as block_operand, an_if as if_operand, MayHaveSuffix, a_call as call_operand, an_array as array_operand, a_group as group_operand, IsCall, called, AreArgs, no_arguments, last_argument, more_arguments, IsArg, named, unnamed, IsClosure, a_closure, AreSingles, no_singles, last_single, more_singles, ArePairs, no_parts, last_pair, more_pairs, IsBlock, a_script, AreArms, last_arm, with_else, more_arms}
-use Rattle.vrl_parse.specs.Descent.{sign_word, takes, Lacks, expression_end, tightest, ends_expression, Begins, Sees, operand_of, a_block, operand_at, calling, suffixed, script, item, single, level, chain, operand, parts, pairs, arguments, argument, names, more_names, braces, arms, done, take, go, program_of, Outcome, took, Runs, ran, taken, untaken, seen, unseen, chosen, gone, RuleTakes}
-use Rattle.vrl_parse.proofs.OneOutcome.{one_outcome}
+use Rattle.vrl_parse.specs.Descent.{sign_word, takes, Lacks, expression_end, tightest, ends_expression, Begins, Sees, operand_of, a_block, operand_at, calling, suffixed, script, item, single, level, chain, operand, parts, pairs, arguments, argument, names, more_names, braces, arms, done, take, go, program_of, Ending, took, Runs, ran, taken, untaken, seen, unseen, chosen, gone, RuleTakes}
+use Rattle.vrl_parse.proofs.OneEnding.{one_ending}
 use Rattle.vrl_parse.proofs.Beginnings.{goes_on, path_operand_of, function_operand_of, literal_operand_of, target_path, Stops, weaker, ends_stop, operator_stops, no_suffix, no_going, no_operator, no_tight_operator, no_sign, other_sign, sign_ends, Opens, opens_more, leads_level, opens_single, opens_item, opens_argument, no_expression_end, no_ending, no_end, no_leading, no_path_before, no_single_before, name_is_path}
 
 -- what stands behind a script
@@ -30,7 +30,7 @@ nothing_runs [] c = untaken tt (seen tt ran)
 nothing_runs (w ∷ vs) c = untaken (λ _ is. cc (c.is, is.is)) (unseen (λ x. x) (seen c ran))
 
 -- a script that begins with an item
-item_runs : (ws : List Word) {vs : List Word} {e : Expr} (o : Outcome Exprs) → Opens ws → RuleTakes item ws e vs → Runs script (take (sign_word token.Separator) (λ _ _. go script λ es. done (exprs e es)) (done (exprs e no_exprs))) vs o → Runs script (program_of script) ws o
+item_runs : (ws : List Word) {vs : List Word} {e : Expr} (o : Ending Exprs) → Opens ws → RuleTakes item ws e vs → Runs script (take (sign_word token.Separator) (λ _ _. go script λ es. done (exprs e es)) (done (exprs e no_exprs))) vs o → Runs script (program_of script) ws o
 item_runs ws o opens run rest =
     untaken (no_sign token.Separator ws (no_ending token.Separator ws refl opens))
     (unseen (no_end ws opens) (unseen (no_ending token.CloseBrace ws refl opens) (gone run rest)))
@@ -42,7 +42,7 @@ stopped n e vs s = untaken (no_operator n vs s) ran
 -- behind the last level
 tight_runs : (ws vs rest : List Word) (e x : Expr) → RuleTakes operand ws e vs → RuleTakes (chain 8 e) vs x rest → RuleTakes (level 8) ws x rest
 tight_runs ws vs rest e x run more =
-    let same = one_outcome (untaken (no_tight_operator vs) ran) more in
+    let same = one_ending (untaken (no_tight_operator vs) ran) more in
     subst (λ o. Runs (level 8) (program_of (level 8)) ws o) same (seen refl (gone run ran))
 
 bounded : {n : ℕ} {us : List Word} {e : Expr} → IsLevel n us e → n ≤ 8
@@ -132,13 +132,13 @@ mutual
   primary_runs {us = us} (block_operand h) n vs stops = chosen (block_begins h vs) (gone (block_runs h vs) ran)
   primary_runs (if_operand is h) n vs stops = chosen (ap operand_of is.is) (taken (takes tt is) (gone (arms_run h vs (no_going n vs token.Else refl stops)) ran))
 
-  suffixable_runs : {us : List Word} {e : Expr} → MayHaveSuffix us e → (vs : List Word) (o : Outcome Expr) → ¬ Begins token.Arrow vs → Runs operand (suffixed e) vs o → Runs operand (program_of operand) (us ++ vs) o
+  suffixable_runs : {us : List Word} {e : Expr} → MayHaveSuffix us e → (vs : List Word) (o : Ending Expr) → ¬ Begins token.Arrow vs → Runs operand (suffixed e) vs o → Runs operand (program_of operand) (us ++ vs) o
   suffixable_runs (call_operand h) vs o other more = call_runs h vs o (unseen other more)
   suffixable_runs (array_operand {c = c} {ws = ws} io h ic) vs o other more = rw (append_assoc ws (c ∷ []) vs) (chosen (ap operand_of io.is) (taken (takes tt io) (gone (singles_run h (c ∷ vs) ic) (taken (takes tt ic) more))))
   suffixable_runs (group_operand {c = c} {ws = ws} io h ic) vs o other more = rw (append_assoc ws (c ∷ []) vs)
       (chosen (ap operand_of io.is) (taken (takes tt io) (gone (item_run h (c ∷ vs) (sign_ends token.CloseParenthesis (c ∷ vs) refl ic) (λ b. cc (b.is, ic.is))) (taken (takes tt ic) more))))
 
-  call_runs : {us : List Word} {f : List ℕ × Bool} {start end : Span} {gs : Args} → IsCall us f start gs end → (vs : List Word) (o : Outcome Expr) → Runs operand (calling f start gs end) vs o → Runs operand (program_of operand) (us ++ vs) o
+  call_runs : {us : List Word} {f : List ℕ × Bool} {start end : Span} {gs : Args} → IsCall us f start gs end → (vs : List Word) (o : Ending Expr) → Runs operand (calling f start gs end) vs o → Runs operand (program_of operand) (us ++ vs) o
   call_runs (called {w = w} {c = c} {ws = ws} is io h ic) vs o more = rw (append_assoc ws (c ∷ []) vs)
       (chosen (function_operand_of w.token is) (taken (takes _ is) (taken (takes tt io) (gone (arguments_run h (c ∷ vs) ic) (taken (takes tt ic) more)))))
 

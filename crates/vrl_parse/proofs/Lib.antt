@@ -4,7 +4,7 @@ mod Completions
 mod Descended
 mod LimitCodes
 mod Numbered
-mod OneOutcome
+mod OneEnding
 mod Places
 mod Scripts
 mod Spelled

@@ -8,7 +8,7 @@ use Rattle.vrl_token.specs.declared.token.Token.{Token}
 use Rattle.vrl_token.specs.declared.token.Token.TheVariants as token
 use Rattle.vrl_word.specs.Words.{Word, regex_of, words_from}
 use Rattle.vrl_parse.specs.Grammar.{IsScript}
-use Rattle.vrl_parse.specs.Descent.{script, program_of, Outcome, took, refused, Runs}
+use Rattle.vrl_parse.specs.Descent.{script, program_of, Ending, took, refused, Runs}
 use Rattle.vrl_parse.specs.FirstWords.{place_at}
 use Rattle.vrl_parse.specs.Reading.{BeginsScript, ErrorPlacesAreDetermined, IsErrorPlace, Reads, at_end, at_token, sources_of}
 use Rattle.vrl_parse.proofs.Ahead.{BeginsNone, alike, left, script_goes_no_further}
@@ -101,13 +101,13 @@ placed tokens us (w ∷ vs) front (t ∷ behind) parts first second can none =
     at_token front behind t parts (begun front us first can) (not_begun front t us vs first (subst (λ v. BeginsNone (v ∷ vs) us) (sym word) none)) (ap (λ v. v.span) (sym word))
 
 -- what a script took, whether it then ends there or is refused
-can_end : {ws : List Word} (o : Outcome Exprs) → Runs script (program_of script) ws o → Front ws (left o) (CanEnd IsScript)
+can_end : {ws : List Word} (o : Ending Exprs) → Runs script (program_of script) ws o → Front ws (left o) (CanEnd IsScript)
 can_end (took es vs) run =
     let front = script_is_spelled run in
     record { words = front.words; parts = front.parts; told = λ n. record { more = []; plain = tt; answer = es; told = rw append-nil front.told } }
 can_end (refused vs) run = script_is_completed run
 
-pub error_place : (tokens : TokenList) (o : Outcome Exprs) → Runs script (program_of script) (words_from 0 tokens.tokens) o → IsErrorPlace tokens (place_at (left o) tokens.«end»)
+pub error_place : (tokens : TokenList) (o : Ending Exprs) → Runs script (program_of script) (words_from 0 tokens.tokens) o → IsErrorPlace tokens (place_at (left o) tokens.«end»)
 error_place tokens o run =
     let first = can_end o run in
     let second = script_goes_no_further o run in

@@ -7,7 +7,7 @@ use Rattle.vrl_word.specs.Words.{Word, words_from}
 use Rattle.vrl_parse.specs.Grammar.{IsScript}
 use Rattle.vrl_parse.specs.Reading.{Reads, ScriptsAreDetermined, sources_of}
 use Rattle.vrl_parse.specs.Descent.{script, RuleTakes, RuleRefuses}
-use Rattle.vrl_parse.proofs.OneOutcome.{one_outcome}
+use Rattle.vrl_parse.proofs.OneEnding.{one_ending}
 use Rattle.vrl_parse.proofs.Spelled.{script_is_spelled}
 use Rattle.vrl_parse.proofs.Descended.{script_is_taken}
 
@@ -17,7 +17,7 @@ same_script s t items patterns =
 
 pub scripts_determined : ScriptsAreDetermined
 scripts_determined ts s t one two =
-    let same = one_outcome (script_is_taken one.items) (script_is_taken two.items) in
+    let same = one_ending (script_is_taken one.items) (script_is_taken two.items) in
     let items : s.items ≡ t.items = cc in
     same_script s t items (one.patterns ∙ sym two.patterns)
 
@@ -30,12 +30,12 @@ read_whole ts s run patterns =
 -- some words are left
 pub unread_rest : (ts : List Spanned) (es : Exprs) (w : Word) (ws : List Word) → RuleTakes script (words_from 0 ts) es (w ∷ ws) → (s : Script) → ¬ Reads ts s
 unread_rest ts es w ws run s reads =
-    let same = one_outcome run (script_is_taken reads.items) in
+    let same = one_ending run (script_is_taken reads.items) in
     let rests : w ∷ ws ≡ [] = cc in
     cc
 
 -- the words are refused
 pub unread_refusal : (ts : List Spanned) (vs : List Word) → RuleRefuses script (words_from 0 ts) vs → (s : Script) → ¬ Reads ts s
 unread_refusal ts vs run s reads =
-    let same = one_outcome run (script_is_taken reads.items) in
+    let same = one_ending run (script_is_taken reads.items) in
     cc

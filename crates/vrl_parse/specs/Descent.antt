@@ -236,28 +236,28 @@ program_of arms = go (level 0) λ e. go braces λ b. take (sign_word token.Else)
 
 -- how a program ends: with an answer and the words that are left, or without a script, before the words with
 -- which none goes on
-pub data Outcome (A : Type 0) : Type 0 where
-  took : A → List Word → Outcome A
-  refused : List Word → Outcome A
+pub data Ending (A : Type 0) : Type 0 where
+  took : A → List Word → Ending A
+  refused : List Word → Ending A
 
 -- a program of this rule, begun at these words, ends so
-pub data Runs : (r : Rule) → Program (Meaning r) → List Word → Outcome (Meaning r) → Type 0 where
+pub data Runs : (r : Rule) → Program (Meaning r) → List Word → Ending (Meaning r) → Type 0 where
   ran : {r : Rule} {x : Meaning r} {ws : List Word} → Runs r (done x) ws (took x ws)
   refuses : {r : Rule} {ws : List Word} → Runs r refuse ws (refused ws)
   taken : {r : Rule} {k : Piece} {p : Said k → Span
-      → Program (Meaning r)} {q : Program (Meaning r)} {ws vs : List Word} {v : Said k} {s : Span} {o : Outcome
+      → Program (Meaning r)} {q : Program (Meaning r)} {ws vs : List Word} {v : Said k} {s : Span} {o : Ending
       (Meaning r)} → Takes k ws v s vs → Runs r (p v s) vs o → Runs r (take k p q) ws o
   untaken : {r : Rule} {k : Piece} {p : Said k → Span
-      → Program (Meaning r)} {q : Program (Meaning r)} {ws : List Word} {o : Outcome (Meaning r)} → Lacks k ws
+      → Program (Meaning r)} {q : Program (Meaning r)} {ws : List Word} {o : Ending (Meaning r)} → Lacks k ws
       → Runs r q ws o → Runs r (take k p q) ws o
-  seen : {r : Rule} {l : Look} {p q : Program (Meaning r)} {ws : List Word} {o : Outcome (Meaning r)} → Sees l ws
+  seen : {r : Rule} {l : Look} {p q : Program (Meaning r)} {ws : List Word} {o : Ending (Meaning r)} → Sees l ws
       → Runs r p ws o → Runs r (look l p q) ws o
-  unseen : {r : Rule} {l : Look} {p q : Program (Meaning r)} {ws : List Word} {o : Outcome (Meaning r)} → ¬ Sees l ws
+  unseen : {r : Rule} {l : Look} {p q : Program (Meaning r)} {ws : List Word} {o : Ending (Meaning r)} → ¬ Sees l ws
       → Runs r q ws o → Runs r (look l p q) ws o
-  chosen : {r : Rule} {p : Operand → Program (Meaning r)} {a : Operand} {ws : List Word} {o : Outcome (Meaning r)}
+  chosen : {r : Rule} {p : Operand → Program (Meaning r)} {a : Operand} {ws : List Word} {o : Ending (Meaning r)}
       → operand_at ws ≡ a → Runs r (p a) ws o → Runs r (by_operand p) ws o
   gone : {r q : Rule} {p : Meaning q
-      → Program (Meaning r)} {x : Meaning q} {ws vs : List Word} {o : Outcome (Meaning r)}
+      → Program (Meaning r)} {x : Meaning q} {ws vs : List Word} {o : Ending (Meaning r)}
       → Runs q (program_of q) ws (took x vs) → Runs r (p x) vs o → Runs r (go q p) ws o
   not_gone : {r q : Rule} {p : Meaning q → Program (Meaning r)} {ws vs : List Word}
       → Runs q (program_of q) ws (refused vs) → Runs r (go q p) ws (refused vs)

@@ -15,20 +15,27 @@ ReadsByLookUp = (t : Tree) (p : List Step) → IsPlain p → signed_raw_at t p �
 
 -- among the trees in order a set has one result
 abbrev pub SetsAreOne : Type 0
-SetsAreOne = (v : Tree) (p : List Step) (n w u : Tree) → IsSet v p n w → IsSet v p n u → IsOrdered w → IsOrdered u → w ≡ u
+SetsAreOne =
+    (v : Tree) (p : List Step) (n w u : Tree) → IsSet v p n w → IsSet v p n u → IsOrdered w → IsOrdered u → w ≡ u
 
 -- among the trees in order a removal at a path of one step at least has one result
 abbrev pub RemovalsAreOne : Type 0
-RemovalsAreOne = (v : Tree) (p : List Step) (w u : Tree) → p ≢ [] → IsRemoved v p w → IsRemoved v p u → IsOrdered w → IsOrdered u → w ≡ u
+RemovalsAreOne = (v : Tree) (p : List Step) (w u : Tree) → p ≢ [] → IsRemoved v p w → IsRemoved v p u → IsOrdered w
+    → IsOrdered u → w ≡ u
 
--- how deep the result of a set is; so where v is within a limit, the result is over it exactly where the path and n are together
+-- how deep the result of a set is; so where v is within a limit, the result is over it exactly
+-- where the path and n are together
 abbrev pub SetsDeepen : Type 0
-SetsDeepen = (v : Tree) (p : List Step) (n w : Tree) → IsSet v p n w → IsOrdered v → IsOrdered n → IsOrdered w → IsAsDeep v p n w
+SetsDeepen =
+    (v : Tree) (p : List Step) (n w : Tree) → IsSet v p n w → IsOrdered v → IsOrdered n → IsOrdered w → IsAsDeep v p n w
 
 -- `set_tree` is a set, is as deep as one, and keeps trees in order
 abbrev pub SetTreesAreSets : Type 0
-SetTreesAreSets = (v : Tree) (p : List Step) (n : Tree) → IsSet v p n (set_tree v p n) × IsAsDeep v p n (set_tree v p n) × (IsOrdered v → IsOrdered n → IsOrdered (set_tree v p n))
+SetTreesAreSets = (v : Tree) (p : List Step) (n : Tree) → IsSet v p n (set_tree v p n)
+    × IsAsDeep v p n (set_tree v p n) × (IsOrdered v → IsOrdered n → IsOrdered (set_tree v p n))
 
--- `remove_tree` is a removal where there is something to remove, else it leaves the tree; and it keeps trees in order
+-- `remove_tree` is a removal where there is something to remove, else it leaves the tree; and it
+-- keeps trees in order
 abbrev pub RemovedTreesAreRemovals : Type 0
-RemovedTreesAreRemovals = (v : Tree) (p : List Step) → OnSome (removable_at v p) (IsRemoved v p (remove_tree v p)) × IfNone (removable_at v p) (remove_tree v p ≡ v) × (IsOrdered v → IsOrdered (remove_tree v p))
+RemovedTreesAreRemovals = (v : Tree) (p : List Step) → OnSome (removable_at v p) (IsRemoved v p (remove_tree v p))
+    × IfNone (removable_at v p) (remove_tree v p ≡ v) × (IsOrdered v → IsOrdered (remove_tree v p))

@@ -4,7 +4,8 @@ use Rattle.vrl_value.specs.Parts.{put_item, replace, replace_item, without, with
 use Rattle.vrl_value.specs.Tree.{Tree, array, object, put}
 use Rattle.vrl_path.specs.Write.{members_in, items_in}
 
--- the tree with t as its part at the step; where it is no container that the step fits, an empty one with t
+-- the tree with t as its part at the step; where it is no container that the step fits, an empty
+-- one with t
 abbrev pub with_part : Step → Tree → Tree → Tree
 with_part (field k) t u = object (put k t (members_in (there u)))
 with_part (place i) t u = array (put_item i t (items_in (there u)))

@@ -6,7 +6,8 @@ use Rattle.vrl_value.specs.Tree.{Tree, array, object, Items, find}
 use Rattle.vrl_path.specs.declared.path.Step.{Step}
 use Rattle.vrl_path.specs.declared.path.Step.TheVariants.{Field, Place}
 
--- the place among this many, counted from the start: -1 is the last; none where it is before the first
+-- the place among this many, counted from the start: -1 is the last; none where it is before the
+-- first
 abbrev pub place_of : ℕ → ℤ → Option ℕ
 place_of count (pos i) = Some i
 place_of count (negsuc i) = (if nat_lt i count then Some (count - suc i) else None)

@@ -17,16 +17,24 @@ pub record IsPlainRemoval (v : Tree) (p : List Step) (w : Tree) : Type 0 where
   -- q leads to p: a container that the next step of p fits
   pub above : (a : List Step) (s : Step) (r : List Step) → p ≡ a ++ s ∷ r → Holds s (raw_at w a)
   -- q parts from p before its last step: as it was
-  pub beside : (a : List Step) (s t u : Step) (r b : List Step) → p ≡ a ++ s ∷ u ∷ r → t ≢ s → raw_at w (a ++ t ∷ b) ≡ raw_at v (a ++ t ∷ b)
+  pub beside : (a : List Step) (s t u : Step) (r b : List Step) → p ≡ a ++ s ∷ u ∷ r → t ≢ s
+      → raw_at w (a ++ t ∷ b) ≡ raw_at v (a ++ t ∷ b)
   -- p ends with a field: that is missing, and another step behind the same path finds what it found
-  pub field_gone : (a : List Step) (k : List ℕ) (b : List Step) → p ≡ a ++ field k ∷ [] → raw_at w (a ++ field k ∷ b) ≡ found_behind missing b (λ u. raw_at u b)
-  pub beside_field : (a : List Step) (k : List ℕ) (t : Step) (b : List Step) → p ≡ a ++ field k ∷ [] → t ≢ field k → raw_at w (a ++ t ∷ b) ≡ raw_at v (a ++ t ∷ b)
-  -- p ends with a place: lower places look as they did, and from there on each looks as the next one did
-  pub before_place : (a : List Step) (i j : ℕ) (b : List Step) → p ≡ a ++ place i ∷ [] → j < i → raw_at w (a ++ place j ∷ b) ≡ raw_at v (a ++ place j ∷ b)
-  pub behind_place : (a : List Step) (i j : ℕ) (b : List Step) → p ≡ a ++ place i ∷ [] → i ≤ j → raw_at w (a ++ place j ∷ b) ≡ raw_at v (a ++ place (suc j) ∷ b)
-  pub field_at_place : (a : List Step) (i : ℕ) (l : List ℕ) (b : List Step) → p ≡ a ++ place i ∷ [] → raw_at w (a ++ field l ∷ b) ≡ raw_at v (a ++ field l ∷ b)
+  pub field_gone : (a : List Step) (k : List ℕ) (b : List Step) → p ≡ a ++ field k ∷ []
+      → raw_at w (a ++ field k ∷ b) ≡ found_behind missing b (λ u. raw_at u b)
+  pub beside_field : (a : List Step) (k : List ℕ) (t : Step) (b : List Step) → p ≡ a ++ field k ∷ [] → t ≢ field k
+      → raw_at w (a ++ t ∷ b) ≡ raw_at v (a ++ t ∷ b)
+  -- p ends with a place: lower places look as they did, and from there on each looks as the next
+  -- one did
+  pub before_place : (a : List Step) (i j : ℕ) (b : List Step) → p ≡ a ++ place i ∷ [] → j < i
+      → raw_at w (a ++ place j ∷ b) ≡ raw_at v (a ++ place j ∷ b)
+  pub behind_place : (a : List Step) (i j : ℕ) (b : List Step) → p ≡ a ++ place i ∷ [] → i ≤ j
+      → raw_at w (a ++ place j ∷ b) ≡ raw_at v (a ++ place (suc j) ∷ b)
+  pub field_at_place : (a : List Step) (i : ℕ) (l : List ℕ) (b : List Step) → p ≡ a ++ place i ∷ []
+      → raw_at w (a ++ field l ∷ b) ≡ raw_at v (a ++ field l ∷ b)
 
--- the same at a path; a place counts from the start, and what a negative one means where something is removed is left open
+-- the same at a path; a place counts from the start, and what a negative one means where something
+-- is removed is left open
 abbrev pub removable_at : Tree → List CodeStep → Option Tree
 removable_at v p = plain_removable_at v (plain p)
 

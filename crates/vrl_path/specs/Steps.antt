@@ -1,4 +1,5 @@
--- The paths of the code as plain paths, which have no negative places, and the conditions of the calls that change a value.
+-- The paths of the code as plain paths, which have no negative places, and the conditions of the
+-- calls that change a value.
 use Rattle.std.specs.Prelude.{ℕ, pos, negsuc, List, map, All, ◌≤◌, ⊤}
 use Rattle.vrl_value.specs.Look.{Step, field, place}
 use Rattle.vrl_path.specs.declared.path.Step.{Step as CodeStep}

@@ -1,4 +1,5 @@
--- Setting and removing on trees, step by step. What they give is what look-up tells of a set and of a removal at every path: the laws say so.
+-- Setting and removing on trees, step by step. What they give is what look-up tells of a set and of
+-- a removal at every path: the laws say so.
 use Rattle.std.specs.Prelude.{ℕ, List, [], ◌∷◌, Option, Some, None}
 use Rattle.vrl_value.specs.Look.{Step, Found, there, missing, no_place, item_at, part_at}
 use Rattle.vrl_value.specs.Parts.{put_item, replace, replace_item}
@@ -23,7 +24,8 @@ if_there no_place found other = other
 -- t with n at the plain path
 abbrev pub plain_set_tree : Tree → List Step → Tree → Tree
 plain_set_tree t [] n = n
-plain_set_tree t (s ∷ p) n = if_there (part_at t s) (λ u. replace_part s (plain_set_tree u p n) t) (with_part s (chain p n) t)
+plain_set_tree t (s ∷ p) n =
+    if_there (part_at t s) (λ u. replace_part s (plain_set_tree u p n) t) (with_part s (chain p n) t)
 
 -- the members with n at the path in the one at the key k
 abbrev pub members_if : Option Tree → (Tree → Members) → Members → Members
@@ -39,7 +41,8 @@ items_if None found other = other
 items_if (Some u) found other = found u
 
 abbrev pub set_in_items : ℕ → Items → List Step → Tree → Items
-set_in_items i ts p n = items_if (item_at i ts) (λ u. replace_item i (plain_set_tree u p n) ts) (put_item i (chain p n) ts)
+set_in_items i ts p n =
+    items_if (item_at i ts) (λ u. replace_item i (plain_set_tree u p n) ts) (put_item i (chain p n) ts)
 
 -- the members of an object, and the items of an array
 abbrev pub members_if_object : Tree → Option Members
@@ -72,7 +75,8 @@ abbrev pub removable_in : Option Tree → List Step → Option Tree
 removable_in None p = None
 removable_in (Some u) p = plain_removable_at u p
 
--- t with n at the path, and without what stands there; a place counts from the start, and what a negative one means is left open
+-- t with n at the path, and without what stands there; a place counts from the start, and what a
+-- negative one means is left open
 abbrev pub set_tree : Tree → List CodeStep → Tree → Tree
 set_tree t p n = plain_set_tree t (plain p) n
 

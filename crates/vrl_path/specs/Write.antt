@@ -47,10 +47,13 @@ pub record IsPlainSet (v : Tree) (p : List Step) (n w : Tree) : Type 0 where
   pub behind_place : (a : List Step) (i j : ℕ) (r b : List Step) → p ≡ a ++ place i ∷ r → i < j
       → raw_at w (a ++ place j ∷ b) ≡ raw_at (array (items_in (raw_at v a))) (place j ∷ b)
   -- q parts from p at a step that does not fit the same container
-  pub place_at_field : (a : List Step) (k : List ℕ) (j : ℕ) (r b : List Step) → p ≡ a ++ field k ∷ r → raw_at w (a ++ place j ∷ b) ≡ no_place
-  pub field_at_place : (a : List Step) (i : ℕ) (l : List ℕ) (r b : List Step) → p ≡ a ++ place i ∷ r → raw_at w (a ++ field l ∷ b) ≡ no_place
+  pub place_at_field : (a : List Step) (k : List ℕ) (j : ℕ) (r b : List Step) → p ≡ a ++ field k ∷ r
+      → raw_at w (a ++ place j ∷ b) ≡ no_place
+  pub field_at_place : (a : List Step) (i : ℕ) (l : List ℕ) (r b : List Step) → p ≡ a ++ place i ∷ r
+      → raw_at w (a ++ field l ∷ b) ≡ no_place
 
--- w is v with n set at the path p; a place counts from the start, and what a negative one means where something is written is left open
+-- w is v with n set at the path p; a place counts from the start, and what a negative one means
+-- where something is written is left open
 abbrev pub IsSet : Tree → List CodeStep → Tree → Tree → Type 0
 IsSet v p n w = IsPlainSet v (plain p) n w
 
@@ -65,7 +68,8 @@ pub record IsTooDeep (v : Tree) (p : List CodeStep) (n : Tree) : Type 0 where
   pub ordered : IsOrdered v → IsOrdered n → IsOrdered result
   pub deeper : depth_limit < depth_of result
 
--- how deep v with n set at the path p is: as deep as the path is long and n is deep, or, by what stands beside the path, as v at most
+-- how deep v with n set at the path p is: as deep as the path is long and n is deep, or, by what
+-- stands beside the path, as v at most
 pub record IsAsDeep (v : Tree) (p : List CodeStep) (n w : Tree) : Type 0 where
   pub least : length p + depth_of n ≤ depth_of w
   pub greatest : depth_of w ≤ max (depth_of v) (length p + depth_of n)

@@ -14,8 +14,9 @@ use vrl_value::{Fields, Items, Value, members_are_maps};
 /// The greatest depth of a value that a write may leave.
 pub const DEPTH_LIMIT: u64 = 128;
 
-/// Whether the value with a new one at the end of the steps is within the limit of depth. Where the new one
-/// and the steps settle it, only the new one is looked at; else each part beside the steps, too.
+/// Whether the value with a new one at the end of the steps is within the limit of depth. Where the
+/// new one and the steps settle it, only the new one is looked at; else each part beside the steps,
+/// too.
 pub fn is_within_limit(value: &Value, steps: &[Step], new: &Value) -> bool
     requires { IsWritable steps.now }
     ensures { IsTrue result
@@ -32,7 +33,8 @@ pub fn is_within_limit(value: &Value, steps: &[Step], new: &Value) -> bool
     fits_at(value, steps, DEPTH_LIMIT)
 }
 
-// Whether the value is within a limit of depth with a new one at the end of the steps, which has room there.
+// Whether the value is within a limit of depth with a new one at the end of the steps, which has
+// room there.
 #[cycle(fits)]
 fn fits_at(value: &Value, steps: &[Step], limit: u64) -> bool
     requires writable { IsWritable steps.now }
@@ -76,14 +78,16 @@ fn items_of(value: &Value) -> Option<&Items>
     }
 }
 
-// Whether fields are within a limit of depth with a new value at the end of the steps in the one of a name.
+// Whether fields are within a limit of depth with a new value at the end of the steps in the one of
+// a name.
 #[cycle(fits)]
 fn field_fits(fields: &Fields, name: &str, steps: &[Step], limit: u64) -> bool
     requires writable { IsWritable steps.now }
     requires room { length steps.now ≤ limit }
     requires small { limit ≤ depth_limit }
     ensures { (n : Tree) → length steps.now + depth_of n ≤ limit
-        → (IsTrue result ↔ (members_depth (set_in_fields name.now (members_of fields.now) (plain steps.now) n) ≤ limit)) }
+        → (IsTrue result
+        ↔ (members_depth (set_in_fields name.now (members_of fields.now) (plain steps.now) n) ≤ limit)) }
 {
     match fields.get(name) {
         Some(part) => fits_at(part, steps, limit) && fields_fit(fields, name, limit),
@@ -91,7 +95,8 @@ fn field_fits(fields: &Fields, name: &str, steps: &[Step], limit: u64) -> bool
     }
 }
 
-// Whether items are within a limit of depth with a new value at the end of the steps in the one at a place.
+// Whether items are within a limit of depth with a new value at the end of the steps in the one at
+// a place.
 #[cycle(fits)]
 fn item_fits(items: &Items, place: usize, steps: &[Step], limit: u64) -> bool
     requires writable { IsWritable steps.now }

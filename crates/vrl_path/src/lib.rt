@@ -1,9 +1,10 @@
-//! Paths into values: the steps that lead from a value to a part of it, and what is read, set and removed
-//! there.
+//! Paths into values: the steps that lead from a value to a part of it, and what is read, set and
+//! removed there.
 //!
-//! Files: `path.rt` has steps and paths, `read.rt` what is read, `write.rt` `set` and `put`, `build.rt` new containers for the missing rest of a path,
-//! `depth.rt` whether a set is within the limit, `removal.rt` `remove`, `parts.rt` one step, `fault.rt` why a set is refused, and `laws.rt` the
-//! laws.
+//! Files: `path.rt` has steps and paths, `read.rt` what is read, `write.rt` `set` and `put`,
+//! `build.rt` new containers for the missing rest of a path, `depth.rt` whether a set is within the
+//! limit, `removal.rt` `remove`, `parts.rt` one step, `fault.rt` why a set is refused, and
+//! `laws.rt` the laws.
 #![tactic(auto)]
 
 mod build;

@@ -31,8 +31,8 @@ fn index(count: usize, place: i64) -> Option<usize>
     }
 }
 
-/// Takes out the part of a value at a step that is no negative place. `None`: there is none, and the value
-/// stays as it was.
+/// Takes out the part of a value at a step that is no negative place. `None`: there is none, and
+/// the value stays as it was.
 pub fn take_part(value: &mut Value, step: &Step) -> Option<Value>
     requires { IsPlainStep step.now }
     ensures value { option_map tree_of result ≡ tree_found (part_at (tree_of value.old) (plain_step step.now)) }

@@ -6,8 +6,8 @@ use crate::parts::part;
 use crate::path::Path;
 use vrl_value::Value;
 
-/// The part of a value at a path; a negative place counts from the end of its array. `None`: nothing stands
-/// there. It is one walk down the path and takes no memory.
+/// The part of a value at a path; a negative place counts from the end of its array. `None`:
+/// nothing stands there. It is one walk down the path and takes no memory.
 pub fn get<'a>(value: &'a Value, path: &Path) -> Option<&'a Value>
     ensures { option_map (λ part. tree_of part.now) result ≡ read_at (tree_of value.now) path.now }
 {
@@ -18,8 +18,8 @@ pub fn get<'a>(value: &'a Value, path: &Path) -> Option<&'a Value>
     Some(found)
 }
 
-/// Whether something stands at a path of a value; null is something, and an empty path always leads to the
-/// value itself. It is one walk down the path and takes no memory.
+/// Whether something stands at a path of a value; null is something, and an empty path always leads
+/// to the value itself. It is one walk down the path and takes no memory.
 pub fn exists(value: &Value, path: &Path) -> bool
     ensures { IsTrue result ↔ IsSome (read_at (tree_of value.now) path.now) }
 {

@@ -10,8 +10,8 @@ use crate::parts::take_part;
 use crate::path::{Path, Step};
 use vrl_value::{Fields, Items, Value, items_are_lists, members_are_maps, trees_stay_in_order};
 
-/// Takes out the part of a value at a path; the places behind one that is taken out of an array move down.
-/// `None`: the path is empty, or nothing stands there; the value stays as it was.
+/// Takes out the part of a value at a path; the places behind one that is taken out of an array
+/// move down. `None`: the path is empty, or nothing stands there; the value stays as it was.
 ///
 /// It is one walk down the path, takes no memory, and moves the places behind of one array at most.
 pub fn remove(value: &mut Value, path: &Path) -> Option<Value>

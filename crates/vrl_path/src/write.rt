@@ -17,22 +17,24 @@ use vrl_value::{
     Chars, Fields, Items, Memory, Value, items_are_lists, members_are_maps, trees_stay_in_order,
 };
 
-/// Sets a value at a path: a step into what is no fitting container replaces it by one, and an array is
-/// filled up with nulls. The new value is moved in. `TooDeep`: the result would be deeper than 128; `Memory`:
-/// want of memory, but not where something stands at the path already. At both the value stays as it was, and
-/// the new one is gone.
+/// Sets a value at a path: a step into what is no fitting container replaces it by one, and an
+/// array is filled up with nulls. The new value is moved in. `TooDeep`: the result would be deeper
+/// than 128; `Memory`: want of memory, but not where something stands at the path already. At both
+/// the value stays as it was, and the new one is gone.
 ///
-/// It is one walk down the path with one change at its end. Before that, the new value is walked through for
-/// its depth, and, unless that and the path settle it, so is each part of the value beside the path: where
-/// the value is known to be within the limit, [`put`] spares that walk.
+/// It is one walk down the path with one change at its end. Before that, the new value is walked
+/// through for its depth, and, unless that and the path settle it, so is each part of the value
+/// beside the path: where the value is known to be within the limit, [`put`] spares that walk.
 pub fn set(alloc: Global, value: &mut Value, path: &Path, new: Value) -> Result<(), SetFault>
     requires { IsWritable path.now }
     ensures set { OnOk result (IsSet (tree_of value.old) path.now (tree_of new) (tree_of value.new)) }
     ensures tree { OnOk result (tree_of value.new ≡ set_tree (tree_of value.old) path.now (tree_of new)) }
     ensures within { OnOk result (depth_of (tree_of value.new) ≤ depth_limit) }
     ensures ordered { IsOrdered (tree_of value.old) → IsOrdered (tree_of new) → IsOrdered (tree_of value.new) }
-    ensures deeper { result ≡ Err SetFault.TooDeep → depth_limit < depth_of (set_tree (tree_of value.old) path.now (tree_of new)) }
-    ensures deep { depth_limit < depth_of (set_tree (tree_of value.old) path.now (tree_of new)) → result ≡ Err SetFault.TooDeep }
+    ensures deeper { result ≡ Err SetFault.TooDeep
+        → depth_limit < depth_of (set_tree (tree_of value.old) path.now (tree_of new)) }
+    ensures deep { depth_limit < depth_of (set_tree (tree_of value.old) path.now (tree_of new))
+        → result ≡ Err SetFault.TooDeep }
     ensures too_deep { result ≡ Err SetFault.TooDeep → IsTooDeep (tree_of value.old) path.now (tree_of new) }
     ensures there { IsSome (read_at (tree_of value.old) path.now) → result ≢ Err SetFault.Memory }
     ensures err { OnErr result (tree_of value.new ≡ tree_of value.old) }
@@ -47,9 +49,9 @@ pub fn set(alloc: Global, value: &mut Value, path: &Path, new: Value) -> Result<
     Ok(())
 }
 
-/// Sets a value at a path as [`set`] does, whatever the depth. `Memory`: want of memory, but not where
-/// something stands at the path already; the value stays as it was, and the new one is gone. It is one walk
-/// down the path with one change at its end.
+/// Sets a value at a path as [`set`] does, whatever the depth. `Memory`: want of memory, but not
+/// where something stands at the path already; the value stays as it was, and the new one is gone.
+/// It is one walk down the path with one change at its end.
 pub fn put(alloc: Global, value: &mut Value, path: &Path, new: Value) -> Result<(), Memory>
     requires { IsWritable path.now }
     ensures set { OnOk result (IsSet (tree_of value.old) path.now (tree_of new) (tree_of value.new)) }
@@ -65,8 +67,8 @@ pub fn put(alloc: Global, value: &mut Value, path: &Path, new: Value) -> Result<
     put_at(alloc, value, path.as_slice(), new)
 }
 
-// Sets a value at the end of the steps. `Memory`: want of memory, where nothing stands there; the value stays
-// as it was.
+// Sets a value at the end of the steps. `Memory`: want of memory, where nothing stands there; the
+// value stays as it was.
 #[cycle(put)]
 fn put_at(alloc: Global, value: &mut Value, steps: &[Step], new: Value) -> Result<(), Memory>
     requires { IsWritable steps.now }
@@ -108,7 +110,8 @@ fn put_in_fields(
     new: Value,
 ) -> Result<(), Memory>
     requires { IsWritable steps.now }
-    ensures ok { OnOk result (members_of fields.new ≡ set_in_fields name.now (members_of fields.old) (plain steps.now) (tree_of new)) }
+    ensures ok { OnOk result
+        (members_of fields.new ≡ set_in_fields name.now (members_of fields.old) (plain steps.now) (tree_of new)) }
     ensures there { IsSome (read_in (find name.now (members_of fields.old)) steps.now) → IsOk result }
     ensures err { OnErr result (members_of fields.new ≡ members_of fields.old) }
 {
@@ -131,7 +134,8 @@ fn put_in_items(
     new: Value,
 ) -> Result<(), Memory>
     requires { IsWritable steps.now }
-    ensures ok { OnOk result (items_of items.new ≡ set_in_items place (items_of items.old) (plain steps.now) (tree_of new)) }
+    ensures ok { OnOk result
+        (items_of items.new ≡ set_in_items place (items_of items.old) (plain steps.now) (tree_of new)) }
     ensures there { IsSome (read_in (item_at place (items_of items.old)) steps.now) → IsOk result }
     ensures err { OnErr result (items_of items.new ≡ items_of items.old) }
 {

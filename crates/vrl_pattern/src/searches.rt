@@ -19,8 +19,8 @@ use vrl_value::{Chars, Items, Memory, Names};
 pub struct Searches<'r> {
     patterns: &'r Patterns,
     // The search that was used last. It is dropped before another one is made, so there is at most
-    // one at a time.
-    kept: Cell<Option<Search<'r>>>,
+    // one at a time. It is a large struct, so it lies in a box, which is cheap to move.
+    kept: Cell<Option<Box<Search<'r>>>>,
 }
 
 impl<'r> Model for Searches<'r> {
@@ -70,9 +70,9 @@ impl<'r> Searches<'r> {
 
     // A search of the regex with this number: the one that was kept, where it is of the same
     // source, or else a new one, before which the kept one is dropped. `Memory`: want of memory.
-    fn lend(&self, alloc: Global, number: u32) -> Result<Search<'r>, Memory>
+    fn lend(&self, alloc: Global, number: u32) -> Result<Box<Search<'r>>, Memory>
         requires { number < length self.now }
-        ensures { IfOk result (λ search. search ≡ slice_index_or self.now number []) }
+        ensures { IfOk result (λ search. search.value ≡ slice_index_or self.now number []) }
     {
         let regex = self.patterns.regex(number);
         if let Some(search) = self.kept.take() {
@@ -80,10 +80,10 @@ impl<'r> Searches<'r> {
                 return Ok(search);
             }
         }
-        Search::new(alloc, regex)
+        Ok(Box::new(alloc, Search::new(alloc, regex)?)?)
     }
 
-    fn keep(&self, search: Search<'r>) {
+    fn keep(&self, search: Box<Search<'r>>) {
         self.kept.set(Some(search));
     }
 

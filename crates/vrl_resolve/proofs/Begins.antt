@@ -13,7 +13,7 @@ use Rattle.std.proofs.lemmas.Option.{slice_get-map, slice_get_within, get_or_fro
 use Rattle.std.proofs.lemmas.Slice.Eq.{bytes_eq-Decides}
 use Rattle.vrl_syntax.specs.declared.root.Root.TheVariants.{Name}
 use Rattle.vrl_store.specs.StoreView.{is_among, name_at, AreDistinct, Names}
-use Rattle.vrl_store.specs.declared.place.Base.TheVariants as base
+use Rattle.vrl_store.specs.declared.target_path.Base.TheVariants as base
 use Rattle.vrl_resolve.specs.Linking.{IsBaseOf, IsBeginning}
 
 -- ---- beginnings

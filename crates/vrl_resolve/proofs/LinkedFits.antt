@@ -30,7 +30,7 @@ use Rattle.vrl_table.specs.Table.{function_named, row_of}
 use Rattle.vrl_binding.specs.declared.binding.BindFault.{BindFault}
 use Rattle.vrl_table.specs.declared.function.Fun.{Fun}
 use Rattle.vrl_store.specs.StoreView.{Names}
-use Rattle.vrl_store.specs.declared.place.Place.{Place}
+use Rattle.vrl_store.specs.declared.target_path.TargetPath.{TargetPath}
 use Rattle.vrl_resolve.specs.Calls as called
 use Rattle.vrl_resolve.specs.Calls.{are_written_right, is_written_right, values_of, written_at}
 use Rattle.vrl_resolve.specs.Fits.{part_at, AllFit, AreGiven, AreKnownSlots, ArmsFit, ElseFits, Fits, IsAllowedPart, IsAllowedPartIf, IsCallee, IsGiven, IsTarget, PairsFit}
@@ -103,7 +103,7 @@ writable_path (s ∷ path) plain small =
 limits_kept : (span : Span) (path : List Step) → faults_at span path ≡ [] → (list_any is_negative path ≡ false) × (list_any is_too_large path ≡ false)
 limits_kept span path none = keeps_limits (list_any is_negative path) (nat_lt 128 (length path)) (list_any is_too_large path) _ _ (no_fault (fault_at span path) none)
 
-target_fits : (names : Names) (t : Target) (place : Option Place) → IsTargetOf names t place → target_faults t ≡ [] → IsTarget (length names) place
+target_fits : (names : Names) (t : Target) (place : Option TargetPath) → IsTargetOf names t place → target_faults t ≡ [] → IsTarget (length names) place
 target_fits names target.Nowhere None is none = tt
 target_fits names target.Nowhere (Some place) is none = absurd is
 target_fits names (target.Place span root path) None is none = absurd is

@@ -2,7 +2,7 @@
 use Rattle.std.proofs.Common.{◌≡◌, ℕ, List, [], ◌∷◌, ◌++◌, Option, Some, None, refl, sym, ap, ap₂, ◌∙◌, if◌then◌else◌}
 use Rattle.vrl_value.specs.Tree.{Tree, null, Items, Members, no_members, put}
 use Rattle.vrl_value.specs.declared.value.Tag.{Tag}
-use Rattle.vrl_syntax.specs.ErrorAssignments.{behind, behind_args, first_tag}
+use Rattle.vrl_syntax.specs.ErrorAssignments.{behind_args, first_tag}
 use Rattle.vrl_syntax.specs.Stores.{Store, bound_to, hidden_by, with_value}
 use Rattle.vrl_syntax.specs.Tree.{Expr, Form, Exprs, Pairs, Arms, Else, Args, closure}
 use Rattle.vrl_syntax.specs.declared.root.Op.TheVariants as op
@@ -14,7 +14,7 @@ use Rattle.vrl_store.specs.Operators.{is_true, negated}
 use Rattle.vrl_store.specs.Outcomes.{Outcome, value, error, aborted, returned, banged, deep, Ended, banged_if, block_left, ends, on_value}
 use Rattle.vrl_store.specs.Places.{part_of, read_in, target_value, writes, writes_to}
 use Rattle.vrl_store.specs.StoreView.{name_at, Names}
-use Rattle.vrl_store.specs.declared.place.Place.{Place}
+use Rattle.vrl_store.specs.declared.target_path.TargetPath.{TargetPath}
 use Rattle.vrl_resolve.specs.Calls.{Body, acts, items_in}
 use Rattle.vrl_resolve.specs.Linked as linked
 use Rattle.vrl_resolve.specs.Linked.{Linked, Parts}
@@ -26,27 +26,27 @@ use Rattle.vrl_resolve.specs.declared.node.Callee.TheVariants as callee
 
 -- ---- targets
 
-writes_same : (names : Names) (t : Target) (place : Option Place) → IsTargetOf names t place → (v : Tree) (store : Store) (next : Store → Ended) → writes_to (target_of names place) v store next ≡ writes_to t v store next
+writes_same : (names : Names) (t : Target) (place : Option TargetPath) → IsTargetOf names t place → (v : Tree) (store : Store) (next : Store → Ended) → writes_to (target_of names place) v store next ≡ writes_to t v store next
 writes_same names target.Nowhere None is v store next = refl
 writes_same names target.Nowhere (Some place) is v store next = absurd is
 writes_same names (target.Place span root path) None is v store next = absurd is
 writes_same names (target.Place span root path) (Some place) is v store next = ap₂ (λ r steps. writes r steps v store next) is.begins.same is.steps
 
-value_same : (names : Names) (t : Target) (place : Option Place) → IsTargetOf names t place → (store : Store) → target_value (target_of names place) store ≡ target_value t store
+value_same : (names : Names) (t : Target) (place : Option TargetPath) → IsTargetOf names t place → (store : Store) → target_value (target_of names place) store ≡ target_value t store
 value_same names target.Nowhere None is store = refl
 value_same names target.Nowhere (Some place) is store = absurd is
 value_same names (target.Place span root path) None is store = absurd is
 value_same names (target.Place span root path) (Some place) is store = ap₂ (λ r steps. read_in r steps store) is.begins.same is.steps
 
-assigned_same : (names : Names) (t : Target) (place : Option Place) → IsTargetOf names t place → (m e : Ended) → m ≡ e → assigned (target_of names place) m ≡ assigned t e
+assigned_same : (names : Names) (t : Target) (place : Option TargetPath) → IsTargetOf names t place → (m e : Ended) → m ≡ e → assigned (target_of names place) m ≡ assigned t e
 assigned_same names t place is m e same = λ i. on_value (same i) (λ v after. writes_same names t place is v after (λ end. ends (value v) end) i)
 
-both_written : (names : Names) (t u : Target) (ok err : Option Place) → IsTargetOf names t ok → IsTargetOf names u err → (v w : Tree) (store : Store) → written_both (target_of names ok) (target_of names err) v w store ≡ written_both t u v w store
+both_written : (names : Names) (t u : Target) (ok err : Option TargetPath) → IsTargetOf names t ok → IsTargetOf names u err → (v w : Tree) (store : Store) → written_both (target_of names ok) (target_of names err) v w store ≡ written_both t u v w store
 both_written names t u ok err is to v w store =
     writes_same names t ok is v store (λ after. writes_to (target_of names err) w after (λ end. ends (value v) end))
     ∙ (λ i. writes_to t v store (λ after. writes_same names u err to w after (λ end. ends (value v) end) i))
 
-both_same : (names : Names) (t u : Target) (ok err : Option Place) (tag : Tag) → IsTargetOf names t ok → IsTargetOf names u err → (o : Outcome) (store : Store) → both_assigned (target_of names ok) (target_of names err) tag o store ≡ both_assigned t u tag o store
+both_same : (names : Names) (t u : Target) (ok err : Option TargetPath) (tag : Tag) → IsTargetOf names t ok → IsTargetOf names u err → (o : Outcome) (store : Store) → both_assigned (target_of names ok) (target_of names err) tag o store ≡ both_assigned t u tag o store
 both_same names t u ok err tag is to (value v) store = both_written names t u ok err is to v null store
 both_same names t u ok err tag is to (error text) store = both_written names t u ok err is to _ _ store
 both_same names t u ok err tag is to (aborted m) store = refl

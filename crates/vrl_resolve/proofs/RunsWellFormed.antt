@@ -14,10 +14,10 @@ use Rattle.vrl_store.specs.Outcomes.{Ended, Outcome, value, error, aborted, retu
 use Rattle.vrl_store.specs.WellFormed.{IsWellFormed, IsWellFormedEnded, IsWellFormedOutcome, IsWellFormedStore}
 use Rattle.vrl_resolve.specs.Leaving.{AreTold, AreToldIn}
 use Rattle.vrl_resolve.specs.Meaning.{end_of}
-use Rattle.vrl_resolve.specs.Program.{IsEnd, IsGiven, IsRan, IsWellFormedEnd, IsWellFormedRan}
+use Rattle.vrl_resolve.specs.Program.{IsEnd, IsProduced, IsRan, IsWellFormedEnd, IsWellFormedRan}
 use Rattle.vrl_resolve.specs.declared.ran.Ended.{Ended as CodeEnded}
 use Rattle.vrl_resolve.specs.declared.ran.Ended.TheVariants as code
-use Rattle.vrl_resolve.specs.declared.ran.Given.{Given}
+use Rattle.vrl_resolve.specs.declared.ran.Produced.{Produced}
 use Rattle.vrl_resolve.specs.declared.ran.Ran.{Ran}
 
 pub start_is : (count : ℕ) (event : Tree) (store : Store) → store ≡ store_of event → IsOrdered event → IsTrue (regexes_below count event) → IsWellFormedStore count store
@@ -26,7 +26,7 @@ start_is count event store is ordered below = subst (IsWellFormedStore count) (s
   variables = λ x. subst (λ found. IfSome found (IsWellFormed count)) (sym (finite.get-empty (slice_cmp nat_cmp) x)) tt;
 })
 
-given_is : (count : ℕ) (asked : Bool) (v : Tree) (store : Store) (given : Option Given) → IsGiven asked v store given → AreToldIn (code.Value given) → IsWellFormed count v → IsWellFormedStore count store → IsWellFormedEnd count (code.Value given)
+given_is : (count : ℕ) (asked : Bool) (v : Tree) (store : Store) (given : Option Produced) → IsProduced asked v store given → AreToldIn (code.Value given) → IsWellFormed count v → IsWellFormedStore count store → IsWellFormedEnd count (code.Value given)
 given_is count asked v store (Some given) is told well formed =
     (subst (IsWellFormed count) (sym is.1) well, told count (subst (λ m. (x : List ℕ) → IfSome (finite.get m x) (IsWellFormed count)) (sym is.2) formed.variables))
 given_is count asked v store None is told well formed = tt

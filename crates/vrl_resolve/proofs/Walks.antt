@@ -16,8 +16,8 @@ use Rattle.vrl_store.specs.Places.{writes_to}
 use Rattle.vrl_store.specs.StoreView.{count_of, left_with, AreNames, IsKnown, Names}
 use Rattle.vrl_store.specs.Results.{Ends, Stops}
 use Rattle.vrl_store.specs.WellFormed.{IsWellFormedEnded}
-use Rattle.vrl_store.specs.declared.place.Base.{Base}
-use Rattle.vrl_store.specs.declared.place.Base.TheVariants as base
+use Rattle.vrl_store.specs.declared.target_path.Base.{Base}
+use Rattle.vrl_store.specs.declared.target_path.Base.TheVariants as base
 use Rattle.vrl_store.specs.declared.stop.Stop.{Stop}
 use Rattle.vrl_store.specs.declared.stop.Stop.TheVariants as stops
 use Rattle.vrl_store.specs.declared.store.Store.{Store as CodeStore}

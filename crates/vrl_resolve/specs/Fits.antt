@@ -6,7 +6,7 @@ use Rattle.vrl_builtin.specs.Conditions.{IsThere}
 use Rattle.vrl_builtin.specs.Rows.{ParameterRow}
 use Rattle.vrl_table.specs.Table.{row_of}
 use Rattle.vrl_store.specs.StoreView.{IsKnown}
-use Rattle.vrl_store.specs.declared.place.Place.{Place}
+use Rattle.vrl_store.specs.declared.target_path.TargetPath.{TargetPath}
 use Rattle.vrl_store.specs.WellFormed.{IsWellFormed}
 use Rattle.vrl_resolve.specs.Linked.{Linked, literal, array, object, read, query, block, conditional, negation, binary, assign, merge, both, call, iterate, return_of, abort_with, Parts, no_parts, parts, Pairs, no_pairs, pair, Arms, no_arms, arm, Else, no_else, else_block, Message, no_message, message}
 use Rattle.vrl_resolve.specs.LinkedMeaning.{slots_in}
@@ -14,7 +14,7 @@ use Rattle.vrl_resolve.specs.declared.node.Callee.{Callee}
 use Rattle.vrl_resolve.specs.declared.node.Callee.TheVariants as callee
 
 -- a path that may be written
-abbrev pub IsTarget : ℕ → Option Place → Type 0
+abbrev pub IsTarget : ℕ → Option TargetPath → Type 0
 IsTarget count None = ⊤
 IsTarget count (Some place) = IsKnown count place.base × IsWritable place.path
 

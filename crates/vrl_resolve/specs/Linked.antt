@@ -8,7 +8,7 @@ use Rattle.vrl_value.specs.View.{tree_of}
 use Rattle.vrl_value.specs.declared.value.Tag.{Tag}
 use Rattle.vrl_path.specs.declared.path.Step.{Step}
 use Rattle.vrl_syntax.specs.declared.root.Op.{Op}
-use Rattle.vrl_store.specs.declared.place.Place.{Place}
+use Rattle.vrl_store.specs.declared.target_path.TargetPath.{TargetPath}
 use Rattle.vrl_resolve.specs.declared.node.Callee.{Callee}
 use Rattle.vrl_resolve.specs.declared.node.Node.{Node}
 use Rattle.vrl_resolve.specs.declared.node.Arm.{Arm}
@@ -24,15 +24,15 @@ mutual
     literal : Tree → Linked
     array : Parts → Linked
     object : Pairs → Linked
-    read : Place → Linked
+    read : TargetPath → Linked
     query : Linked → List Step → Linked
     block : Parts → Linked
     conditional : Arms → Else → Linked
     negation : Linked → Linked
     binary : Op → Linked → Linked → Linked
-    assign : Option Place → Linked → Linked
-    merge : Option Place → Linked → Linked
-    both : Option Place → Option Place → Tag → Linked → Linked
+    assign : Option TargetPath → Linked → Linked
+    merge : Option TargetPath → Linked → Linked
+    both : Option TargetPath → Option TargetPath → Tag → Linked → Linked
     call : Callee → Bool → Parts → Linked
     -- a call that runs a closure, with the closure's items behind its arguments
     iterate : Loop → Bool → Parts → Parts → Linked

@@ -15,7 +15,7 @@ use Rattle.vrl_store.specs.Operators.{is_true, negated}
 use Rattle.vrl_store.specs.Outcomes.{Ended, aborted, banged_if, block_left, ends, on_value, returned, value}
 use Rattle.vrl_store.specs.Places.{part_of, read_in, target_value}
 use Rattle.vrl_store.specs.StoreView.{name_at, root_of, Names}
-use Rattle.vrl_store.specs.declared.place.Place.{Place}
+use Rattle.vrl_store.specs.declared.target_path.TargetPath.{TargetPath}
 use Rattle.vrl_resolve.specs.Calls.{acts, deletion, existence, function, items_in, iteration, nothing_called, Body, Callee}
 use Rattle.vrl_resolve.specs.Linked.{Linked, literal, array, object, read, query, block, conditional, negation, binary, assign, merge, both, call, iterate, return_of, abort_with, Parts, no_parts, parts, Pairs, no_pairs, pair, Arms, no_arms, arm, Else, no_else, else_block, no_message, message}
 use Rattle.vrl_resolve.specs.Meaning.{aborted_with, assigned, body_left, both_assigned, combined}
@@ -24,7 +24,7 @@ use Rattle.vrl_resolve.specs.declared.node.Callee.TheVariants as callee
 use Rattle.vrl_resolve.specs.declared.node.Loop.{Loop}
 use Rattle.vrl_resolve.specs.declared.node.Loop.TheVariants as loops
 
-abbrev pub target_of : Names → Option Place → Target
+abbrev pub target_of : Names → Option TargetPath → Target
 target_of names None = target.Nowhere
 target_of names (Some place) = target.Place no_span (root_of names place.base) place.path
 

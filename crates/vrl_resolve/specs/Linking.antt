@@ -19,9 +19,9 @@ use Rattle.vrl_syntax.specs.declared.root.Target.{Target}
 use Rattle.vrl_syntax.specs.declared.root.Target.TheVariants as target
 use Rattle.vrl_table.specs.declared.function.Fun.{Fun}
 use Rattle.vrl_store.specs.StoreView.{root_of, IsKnown, Names}
-use Rattle.vrl_store.specs.declared.place.Base.{Base}
-use Rattle.vrl_store.specs.declared.place.Base.TheVariants as base
-use Rattle.vrl_store.specs.declared.place.Place.{Place}
+use Rattle.vrl_store.specs.declared.target_path.Base.{Base}
+use Rattle.vrl_store.specs.declared.target_path.Base.TheVariants as base
+use Rattle.vrl_store.specs.declared.target_path.TargetPath.{TargetPath}
 use Rattle.vrl_resolve.specs.Calls as called
 use Rattle.vrl_resolve.specs.Calls.{callee_of, closure_callee}
 use Rattle.vrl_resolve.specs.Linked as linked
@@ -39,13 +39,13 @@ pub record IsBaseOf (names : Names) (root : Root) (base : Base) : Type 0 where
   pub known : IsKnown (length names) base
   pub same : root_of names base ≡ root
 
-pub record IsPlaceOf (names : Names) (root : Root) (path : List Step) (place : Place) : Type 0 where
+pub record IsTargetPathOf (names : Names) (root : Root) (path : List Step) (place : TargetPath) : Type 0 where
   pub begins : IsBaseOf names root place.base
   pub steps : place.path ≡ path
 
-abbrev pub IsTargetOf : Names → Target → Option Place → Type 0
+abbrev pub IsTargetOf : Names → Target → Option TargetPath → Type 0
 IsTargetOf names target.Nowhere None = ⊤
-IsTargetOf names (target.Place span root path) (Some place) = IsPlaceOf names root path place
+IsTargetOf names (target.Place span root path) (Some place) = IsTargetPathOf names root path place
 IsTargetOf names t place = ⊥
 
 abbrev pub IsKnownCallee : ℕ → Callee → Type 0
@@ -87,8 +87,8 @@ mutual
     an_object : {tags : List Tag} {ps : Pairs} {qs : linked.Pairs}
         → ArePairsLinked names tags ps qs
         → IsLinkedForm names tags (object ps) (linked.object qs)
-    a_read : {tags : List Tag} {root : Root} {path : List Step} {place : Place}
-        → IsPlaceOf names root path place
+    a_read : {tags : List Tag} {root : Root} {path : List Step} {place : TargetPath}
+        → IsTargetPathOf names root path place
         → IsLinkedForm names tags (read root path) (linked.read place)
     a_query : {tags : List Tag} {e : Expr} {path : List Step} {n : Linked}
         → IsLinked names tags e n
@@ -108,13 +108,13 @@ mutual
     a_binary : {tags : List Tag} {o : Op} {l r : Expr} {m n : Linked}
         → IsLinked names tags l m → IsLinked names (behind l tags) r n
         → IsLinkedForm names tags (binary o l r) (linked.binary o m n)
-    an_assignment : {tags : List Tag} {t : Target} {e : Expr} {place : Option Place} {n : Linked}
+    an_assignment : {tags : List Tag} {t : Target} {e : Expr} {place : Option TargetPath} {n : Linked}
         → IsTargetOf names t place → IsLinked names tags e n
         → IsLinkedForm names tags (assign t e) (linked.assign place n)
-    a_merge : {tags : List Tag} {t : Target} {e : Expr} {place : Option Place} {n : Linked}
+    a_merge : {tags : List Tag} {t : Target} {e : Expr} {place : Option TargetPath} {n : Linked}
         → IsTargetOf names t place → IsLinked names tags e n
         → IsLinkedForm names tags (merge t e) (linked.merge place n)
-    an_error_assignment : {tags : List Tag} {t u : Target} {e : Expr} {ok err : Option Place} {n : Linked}
+    an_error_assignment : {tags : List Tag} {t u : Target} {e : Expr} {ok err : Option TargetPath} {n : Linked}
         → IsTargetOf names t ok → IsTargetOf names u err → IsLinked names (other_tags tags) e n
         → IsLinkedForm names tags (both t u e) (linked.both ok err (first_tag tags) n)
     a_call : {tags : List Tag} {name : List ℕ} {span : Span} {bang : Bool} {gs : Args} {c : Closure} {d : Callee}

@@ -14,7 +14,7 @@ use Rattle.vrl_resolve.specs.Meaning.{End, ended, ended_aborted, ended_banged, e
 use Rattle.vrl_resolve.specs.declared.program.Program.{Program}
 use Rattle.vrl_resolve.specs.declared.ran.Ended.{Ended as CodeEnded}
 use Rattle.vrl_resolve.specs.declared.ran.Ended.TheVariants as code
-use Rattle.vrl_resolve.specs.declared.ran.Given.{Given}
+use Rattle.vrl_resolve.specs.declared.ran.Produced.{Produced}
 use Rattle.vrl_resolve.specs.declared.ran.Ran.{Ran}
 
 pub record ProgramTree : Type 0 where
@@ -45,15 +45,15 @@ program_of p = record {
 
 -- ---- what a run leaves
 
--- what was given of a run that ended with this value, in this store; it is there just where it is
+-- what was produced by a run that ended with this value, in this store; it is there just where it is
 -- asked for
-abbrev pub IsGiven : Bool → Tree → Store → Option Given → Type 0
-IsGiven asked v store (Some given) =
-    (asked ≡ true) × (tree_of given.value ≡ v) × (map_of (members_of given.variables) ≡ store.variables)
-IsGiven asked v store None = asked ≡ false
+abbrev pub IsProduced : Bool → Tree → Store → Option Produced → Type 0
+IsProduced asked v store (Some produced) =
+    (asked ≡ true) × (tree_of produced.value ≡ v) × (map_of (members_of produced.variables) ≡ store.variables)
+IsProduced asked v store None = asked ≡ false
 
 abbrev pub IsEnd : Bool → End → Store → CodeEnded → Type 0
-IsEnd asked (ended v) store (code.Value given) = IsGiven asked v store given
+IsEnd asked (ended v) store (code.Value produced) = IsProduced asked v store produced
 IsEnd asked (ended_aborted m) store (code.Aborted n) = n ≡ m
 IsEnd asked (ended_banged text) store (code.Banged told) = told ≡ text
 IsEnd asked ended_deep store code.Deep = ⊤
@@ -66,8 +66,8 @@ pub record IsRan (asked : Bool) (meant : Ended) (ran : Ran) : Type 0 where
 
 -- the value that a run gave, and the variables, seen as an object
 abbrev pub IsWellFormedEnd : ℕ → CodeEnded → Type 0
-IsWellFormedEnd count (code.Value (Some given)) =
-    IsWellFormed count (tree_of given.value) × IsWellFormed count (object (members_of given.variables))
+IsWellFormedEnd count (code.Value (Some produced)) =
+    IsWellFormed count (tree_of produced.value) × IsWellFormed count (object (members_of produced.variables))
 IsWellFormedEnd count other = ⊤
 
 -- what a run left has its members in order, and each regex in it is one of the first so many

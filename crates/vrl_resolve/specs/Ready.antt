@@ -13,9 +13,9 @@ use Rattle.vrl_builtin.specs.Rows.{ParameterRow}
 use Rattle.vrl_table.specs.Table.{row_of}
 use Rattle.vrl_store.specs.StoreView.{is_among, AreDistinct, IsKnown, Names}
 use Rattle.vrl_store.specs.WellFormed.{IsWellFormed}
-use Rattle.vrl_store.specs.declared.place.Base.{Base}
-use Rattle.vrl_store.specs.declared.place.Base.TheVariants as base
-use Rattle.vrl_store.specs.declared.place.Place.{Place}
+use Rattle.vrl_store.specs.declared.target_path.Base.{Base}
+use Rattle.vrl_store.specs.declared.target_path.Base.TheVariants as base
+use Rattle.vrl_store.specs.declared.target_path.TargetPath.{TargetPath}
 use Rattle.vrl_resolve.specs.Fits.{part_at, AllFit, AreGiven, AreKnownSlots, ArmsFit, ElseFits, Fits, IsAllowedPart, IsAllowedPartIf, IsCallee, IsGiven, IsKnownSlot, IsTarget, MessageFits, PairsFit}
 use Rattle.vrl_resolve.specs.Linked.{Linked, literal, array, object, read, query, block, conditional, negation, binary, assign, merge, both, call, iterate, return_of, abort_with, Parts, no_parts, parts, Pairs, no_pairs, pair, Arms, no_arms, arm, Else, no_else, else_block, Message, no_message, message}
 use Rattle.vrl_resolve.specs.LinkedMeaning.{slots_in}
@@ -84,7 +84,7 @@ known-prop : (count : ℕ) (b : Base) → IsProp (IsKnown count b)
 known-prop count base.Event = Unit-prop
 known-prop count (base.Variable number) = le_prop
 
-target-prop : (count : ℕ) (t : Option Place) → IsProp (IsTarget count t)
+target-prop : (count : ℕ) (t : Option TargetPath) → IsProp (IsTarget count t)
 target-prop count None = Unit-prop
 target-prop count (Some place) = ×_prop (known-prop count place.base) (all-prop writable-prop place.path)
 

@@ -135,7 +135,7 @@ impl Linker<'_> {
         match path_of(args) {
             Some((root, path)) => {
                 let path = path.copy(self.alloc)?;
-                Ok(Callee::Deletion(self.place(root, path)?))
+                Ok(Callee::Deletion(self.target_path(root, path)?))
             }
             None => Ok(Callee::Nothing),
         }
@@ -150,7 +150,7 @@ impl Linker<'_> {
         match path_of(args) {
             Some((root, path)) => {
                 let path = path.copy(self.alloc)?;
-                Ok(Callee::Existence(self.place(root, path)?))
+                Ok(Callee::Existence(self.target_path(root, path)?))
             }
             None => Ok(Callee::Nothing),
         }

@@ -119,12 +119,12 @@ pub(crate) fn act(
 ) -> Result<Value, Stop>
     requires names { AreNames context.now.names.now store.old }
     requires callee { IsCallee (length context.now.names.now) (parts_view args.now) callee.now }
-    requires fits { AllFit (length context.now.names.now) (length context.now.setting.patterns.now)
+    requires fits { AllFit (length context.now.names.now) (length context.now.setting.searches.now)
         (parts_view args.now) }
     requires plain { AllPlain (map linked_of (drop (length run.items) args.now)) }
     requires of_args { AreOf (map linked_of args.now) (map tree_of run.items) }
-    requires run { AreWellFormed (length context.now.setting.patterns.now) (map tree_of run.items) }
-    requires formed { IsWellFormedStore (length context.now.setting.patterns.now)
+    requires run { AreWellFormed (length context.now.setting.searches.now) (map tree_of run.items) }
+    requires formed { IsWellFormedStore (length context.now.setting.searches.now)
         (store_in context.now.names.now store.old) }
     ensures ends { let before = store_in context.now.names.now store.old in Ends
         (acts (setting_of context.now.setting) (callee_in context.now.names.now callee.now) no_body
@@ -155,12 +155,12 @@ fn call_function(
     requires names { AreNames context.now.names.now store.now }
     requires given { AreGiven 0 (row_of function).parameters (row_of function).accepts
         (parts_view args.now) places.now }
-    requires fits { AllFit (length context.now.names.now) (length context.now.setting.patterns.now)
+    requires fits { AllFit (length context.now.names.now) (length context.now.setting.searches.now)
         (parts_view args.now) }
     requires plain { AllPlain (map linked_of (drop (length run.now) args.now)) }
     requires of_args { AreOf (map linked_of args.now) (map tree_of run.now) }
-    requires run { AreWellFormed (length context.now.setting.patterns.now) (map tree_of run.now) }
-    requires formed { IsWellFormedStore (length context.now.setting.patterns.now)
+    requires run { AreWellFormed (length context.now.setting.searches.now) (map tree_of run.now) }
+    requires formed { IsWellFormedStore (length context.now.setting.searches.now)
         (store_in context.now.names.now store.now) }
     ensures { Gives
         (called (setting_of context.now.setting) (row_of function)
@@ -183,7 +183,7 @@ fn answer(
     // But for their tags they are arguments that the function takes.
     requires arguments { first_unfit 0 (row_of function).parameters (arguments_of arguments.now) ≡ None
         → AreArguments (row_of function) (arguments_of arguments.now) }
-    requires regexes { IsTrue (arguments_below (length context.now.setting.patterns.now) (arguments_of arguments.now)) }
+    requires regexes { IsTrue (arguments_below (length context.now.setting.searches.now) (arguments_of arguments.now)) }
     ensures { Gives (called (setting_of context.now.setting) (row_of function) (arguments_of arguments.now)) result }
 {
     if let Some((parameter, tag)) = first_unfit(parameters(function), arguments) {

@@ -30,5 +30,5 @@ mod walk;
 
 pub use laws::{empty_scripts_give_null, evaluations_stay_well_formed};
 pub use program::Program;
-pub use ran::{Ended, Given, Ran};
+pub use ran::{Ended, Produced, Ran};
 pub use runner::{run, run_measured};

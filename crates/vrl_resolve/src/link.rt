@@ -5,15 +5,15 @@ ghost use Rattle.vrl_syntax.specs.View.{arg_of, args_of, arms_of, call_of, closu
 ghost use Rattle.vrl_syntax.specs.declared.root.Root.TheVariants.{Name};
 ghost use Rattle.vrl_value.specs.View.{tree_of};
 ghost use Rattle.vrl_store.specs.StoreView.{AreDistinct, Names as VariableNames};
-ghost use Rattle.vrl_store.specs.declared.place.Base.TheVariants as base;
+ghost use Rattle.vrl_store.specs.declared.target_path.Base.TheVariants as base;
 ghost use Rattle.vrl_resolve.specs.Linked.{arms_view, linked_of, parts_view, else_of as linked_else};
-ghost use Rattle.vrl_resolve.specs.Linking.{names_in, AreArgsLinked, AreArmsLinked, AreLinked, IsBaseOf, IsBeginning, IsBodyLinked, IsElseLinked, IsLinked, IsLoopIn, IsPlaceOf, IsTargetOf, Links, LinksForm, Numbers};
+ghost use Rattle.vrl_resolve.specs.Linking.{names_in, AreArgsLinked, AreArmsLinked, AreLinked, IsBaseOf, IsBeginning, IsBodyLinked, IsElseLinked, IsLinked, IsLoopIn, IsTargetPathOf, IsTargetOf, Links, LinksForm, Numbers};
 
 use crate::node::{Arm, Call, Form, Iteration, Loop, Node};
 use indexmap::IndexSet;
 use std::alloc::Global;
 use vrl_path::Path;
-use vrl_store::{Base, EmptyTags, Place};
+use vrl_store::{Base, EmptyTags, TargetPath};
 use vrl_syntax::{
     Arg, Args, Arm as SyntaxArm, Arms, Call as SyntaxCall, Closure, Expr, Exprs,
     Form as SyntaxForm, Op, Pairs, Root, Target,
@@ -96,19 +96,19 @@ impl Linker<'_> {
     }
 
     // A path from a root. `Memory`: want of memory.
-    pub(crate) fn place(&mut self, root: &Root, path: Path) -> Result<Place, Memory>
-        ensures { IfOk result (λ place. Numbers self.old self.new (λ names. IsPlaceOf names root.now path place)) }
+    pub(crate) fn target_path(&mut self, root: &Root, path: Path) -> Result<TargetPath, Memory>
+        ensures { IfOk result (λ target. Numbers self.old self.new (λ names. IsTargetPathOf names root.now path target)) }
     {
         let base = self.base(root)?;
-        Ok(Place { base, path })
+        Ok(TargetPath { base, path })
     }
 
     // Where a target writes. `Memory`: want of memory.
-    fn target(&mut self, target: Target) -> Result<Option<Place>, Memory>
+    fn target(&mut self, target: Target) -> Result<Option<TargetPath>, Memory>
         ensures { IfOk result (λ place. Numbers self.old self.new (λ names. IsTargetOf names target place)) }
     {
         match target.into_place() {
-            Some((root, path)) => Ok(Some(self.place(&root, path)?)),
+            Some((root, path)) => Ok(Some(self.target_path(&root, path)?)),
             None => Ok(None),
         }
     }
@@ -184,8 +184,8 @@ impl Linker<'_> {
     fn read(&mut self, root: Root, path: Path) -> Result<Node, Memory>
         ensures { IfOk result (λ node. LinksForm self.old self.new (read root path) (linked_of node)) }
     {
-        let place = self.place(&root, path)?;
-        Ok(Node::of(Form::Read(place)))
+        let target = self.target_path(&root, path)?;
+        Ok(Node::of(Form::Read(target)))
     }
 
     #[cycle(link)]

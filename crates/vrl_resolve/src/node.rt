@@ -2,7 +2,7 @@ ghost use Rattle.std.specs.Prelude.{◌≡◌};
 ghost use Rattle.vrl_resolve.specs.Linked.{form_of, linked_of};
 
 use vrl_path::Path;
-use vrl_store::Place;
+use vrl_store::TargetPath;
 use vrl_syntax::Op;
 use vrl_table::Fun;
 use vrl_value::{Chars, Tag, Value};
@@ -13,9 +13,9 @@ pub(crate) enum Callee {
     /// A function, and for each of its parameters the place of its argument, where it has one.
     Function(Fun, Vec<Option<usize>>),
     /// `del` of what stands at a place.
-    Deletion(Place),
+    Deletion(TargetPath),
     /// `exists` of what stands at a place.
-    Existence(Place),
+    Existence(TargetPath),
     /// Nothing: no function has the name, or takes these arguments.
     Nothing,
 }
@@ -69,7 +69,7 @@ pub(crate) enum Form {
     /// An object with these keys and values; of equal keys the last wins.
     Object(Vec<(Chars, Node)>),
     /// What stands at a place.
-    Read(Place),
+    Read(TargetPath),
     /// What stands at a path of a value.
     Query(Box<Node>, Path),
     /// Items, whose variables end with them.
@@ -81,15 +81,15 @@ pub(crate) enum Form {
     /// An operator between two sides.
     Binary(Op, Box<Node>, Box<Node>),
     /// A value is written, where the target takes one.
-    Assign(Option<Place>, Box<Node>),
+    Assign(Option<TargetPath>, Box<Node>),
     /// The fields of a value are put over those at a target.
-    Merge(Option<Place>, Box<Node>),
+    Merge(Option<TargetPath>, Box<Node>),
     /// An error assignment.
     Both {
         /// Where the value is written.
-        ok: Option<Place>,
+        ok: Option<TargetPath>,
         /// Where the text of the error is written.
-        err: Option<Place>,
+        err: Option<TargetPath>,
         /// The tag of the empty value, which is written in place of a value at an error.
         tag: Tag,
         /// Whose value it is.

@@ -4,7 +4,7 @@ use vrl_value::{Chars, Fields, Value};
 #[derive(Drop)]
 pub enum Ended {
     /// With a value. `None`: what it gave wasn't asked for.
-    Value(Option<Given>),
+    Value(Option<Produced>),
     /// By an `abort`, with its message where there is one.
     Aborted(Option<Chars>),
     /// By an error of a call that is written with `!`: its text.
@@ -13,9 +13,9 @@ pub enum Ended {
     Deep,
 }
 
-/// What a script gave that ended with a value.
+/// What a script produced that ended with a value.
 #[derive(Drop)]
-pub struct Given {
+pub struct Produced {
     /// The value of its last item, or of a `return`.
     pub value: Value,
     /// The variables that were there at its end.

@@ -13,7 +13,7 @@ ghost use Rattle.vrl_resolve.specs.Walking.{EndsAsked};
 
 use crate::laws::meanings_stay_well_formed;
 use crate::program::Program;
-use crate::ran::{Ended, Given, Ran};
+use crate::ran::{Ended, Produced, Ran};
 use crate::walk::{Context, items};
 use std::alloc::Global;
 use vrl_builtin::Setting;
@@ -80,10 +80,7 @@ pub fn run_measured(
     meanings_stay_well_formed();
     let context = Context {
         alloc,
-        setting: Setting {
-            moment,
-            patterns: searches,
-        },
+        setting: Setting { moment, searches },
         names: &program.names,
     };
     let mut store = Store::start(alloc, event, is_shallow, program.names.as_slice().len())?;
@@ -132,7 +129,7 @@ fn valued(
     }
     let (event, variables) = store.into_parts(alloc, names)?;
     Ok(Ran {
-        ended: Ended::Value(Some(Given { value, variables })),
+        ended: Ended::Value(Some(Produced { value, variables })),
         event,
     })
 }

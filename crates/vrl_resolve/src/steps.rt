@@ -13,7 +13,7 @@ ghost use Rattle.vrl_resolve.specs.Walking.{GivesBoth, Stays, WritesTo};
 use crate::walk::Context;
 use std::alloc::Global;
 use vrl_path::{Path, get};
-use vrl_store::{Place, Stop, Store};
+use vrl_store::{Stop, Store, TargetPath};
 use vrl_syntax::empty_value;
 use vrl_value::{Chars, Memory, Tag, Value};
 
@@ -21,7 +21,7 @@ use vrl_value::{Chars, Memory, Tag, Value};
 pub(crate) fn write_to(
     store: &mut Store,
     context: &Context<'_, '_>,
-    target: &Option<Place>,
+    target: &Option<TargetPath>,
     value: Value,
 ) -> Result<(), Stop>
     requires target { IsTarget (count_of store.old) target.now }
@@ -52,7 +52,7 @@ pub(crate) fn asked_copy(alloc: Global, is_asked: bool, value: &Value) -> Result
 pub(crate) fn at_target(
     store: &Store,
     context: &Context<'_, '_>,
-    target: &Option<Place>,
+    target: &Option<TargetPath>,
 ) -> Result<Value, Memory>
     requires target { IsTarget (count_of store.now) target.now }
     ensures { IfOk result

@@ -1,4 +1,5 @@
 pub mod AnswerLemmas
+pub mod BatchLemmas
 pub mod Ended
 pub mod EventLines
 pub mod EventLists

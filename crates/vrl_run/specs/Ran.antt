@@ -6,18 +6,18 @@ use Rattle.vrl_value.specs.View.{tree_of}
 use Rattle.vrl_resolve.specs.Meaning.{End, ended, ended_aborted, ended_banged, ended_deep}
 use Rattle.vrl_resolve.specs.declared.ran.Ended.{Ended}
 use Rattle.vrl_resolve.specs.declared.ran.Ended.TheVariants as code
-use Rattle.vrl_resolve.specs.declared.ran.Given.{Given}
+use Rattle.vrl_resolve.specs.declared.ran.Produced.{Produced}
 use Rattle.vrl_run.specs.LineResult.{event_line}
 use Rattle.vrl_run.specs.declared.kept.Kept.{Kept}
 
 -- the value that it gave; null where it told none
-abbrev pub value_in : Option Given → Tree
-value_in (Some given) = tree_of given.value
+abbrev pub value_in : Option Produced → Tree
+value_in (Some produced) = tree_of produced.value
 value_in None = null
 
 -- how it ended
 abbrev pub end_in : Ended → End
-end_in (code.Value given) = ended (value_in given)
+end_in (code.Value produced) = ended (value_in produced)
 end_in (code.Aborted message) = ended_aborted message
 end_in (code.Banged text) = ended_banged text
 end_in code.Deep = ended_deep

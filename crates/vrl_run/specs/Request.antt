@@ -10,7 +10,7 @@ use Rattle.vrl_run.specs.Status.{IsFinished, IsInterrupted}
 use Rattle.vrl_run.specs.declared.options.Options.{Options}
 use Rattle.vrl_run.specs.declared.request.Request.{Request as Asked}
 use Rattle.vrl_run.specs.declared.request.Request.TheVariants as asked
-use Rattle.vrl_run.specs.declared.script.Script.{Script}
+use Rattle.vrl_run.specs.declared.ready_script.ReadyScript.{ReadyScript}
 use Rattle.vrl_run.specs.declared.status.Status.{Status}
 use Rattle.vrl_run.specs.declared.status.Status.TheVariants.{KindRefused, Refused, TooMuch, Usage}
 
@@ -47,7 +47,7 @@ IsSame request other = other ≡ request
 
 -- ---- as the code holds it
 
-abbrev pub run_of : Script → ScriptRun
+abbrev pub run_of : ReadyScript → ScriptRun
 run_of script = record {
   text = script.text;
   program = program_of script.program;
@@ -65,7 +65,7 @@ request_of (asked.Generate script count seed) = map_made (run_of script) count s
 request_of (asked.Check text warnings K known) = tell_kinds text warnings K known
 
 -- a script that is to run handles each of its errors, and its regex literals have these sources
-pub record IsReadyScript (script : Script) : Type 0 where
+pub record IsReadyScript (script : ReadyScript) : Type 0 where
   pub sources : script.sources ≡ (program_of script.program).sources
   pub handled : HandlesErrors script.declared (program_of script.program)
 

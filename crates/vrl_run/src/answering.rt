@@ -8,8 +8,8 @@ ghost use Rattle.vrl_run.specs.Writing.{answer_in, IsTold};
 use crate::kinds::kind_lines;
 use crate::made::run_made;
 use crate::mapping::{map_lines, status_if};
+use crate::ready_script::ReadyScript;
 use crate::request::Request;
-use crate::script::Script;
 use crate::status::Status;
 use crate::writing::{Told, write_told};
 use std::alloc::Global;
@@ -114,7 +114,7 @@ fn refused(alloc: Global, status: Status, report: Vec<u8>) -> Told
 fn summary<R: Threads + Sync, G: Gate + Sync>(
     rt: &R,
     alloc: Global,
-    script: &Script,
+    script: &ReadyScript,
     jobs: u32,
     count: u64,
     seed: u64,

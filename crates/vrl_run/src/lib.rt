@@ -6,7 +6,7 @@
 //! `request.rt` has a request and `answering.rt` `answer`, over `mapping.rt`, a run over the lines
 //! of an input batch by batch, `made.rt`, one over made lines, `work.rt`, what is done with each
 //! line, `joining.rt`, results that are joined, `kinds.rt`, the kinds that are told, and
-//! `writing.rt`; `script.rt` has an accepted script, and `status.rt` how a call ends.
+//! `writing.rt`; `ready_script.rt` has an accepted script, and `status.rt` how a call ends.
 #![tactic(auto)]
 
 mod answering;
@@ -16,19 +16,19 @@ mod kinds;
 mod made;
 mod mapping;
 mod options;
+mod ready_script;
 mod reason;
 mod report;
 mod request;
 mod result;
-mod script;
 mod status;
 mod work;
 mod writing;
 
 pub use answering::answer;
 pub use options::Options;
+pub use ready_script::ReadyScript;
 pub use reason::Reason;
 pub use request::Request;
 pub use result::run_line;
-pub use script::Script;
 pub use status::Status;

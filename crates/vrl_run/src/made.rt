@@ -4,7 +4,7 @@ ghost use Rattle.vrl_generate.specs.Summary.{is_marked, summary_of, IsSummaryOf}
 ghost use Rattle.vrl_run.specs.Answer.{made_results};
 ghost use Rattle.vrl_run.specs.Request.{IsReadyScript, run_of};
 
-use crate::script::Script;
+use crate::ready_script::ReadyScript;
 use std::alloc::Global;
 use std::thread::Threads;
 use vrl_batch::{Gate, LineOut, map_batch};
@@ -25,7 +25,7 @@ pub(crate) struct Told {
 pub(crate) fn run_made<R: Threads + Sync, G: Gate + Sync>(
     rt: &R,
     alloc: Global,
-    script: &Script,
+    script: &ReadyScript,
     jobs: u32,
     count: u64,
     seed: u64,

@@ -12,7 +12,7 @@ ghost use Rattle.vrl_run.specs.Mapping.{run_at, stop_status, EndsMapping, HasSto
 ghost use Rattle.vrl_run.specs.Request.{map_lines as lines_of, run_of, IsReadyScript, IsSame};
 
 use crate::joining::join_results;
-use crate::script::Script;
+use crate::ready_script::ReadyScript;
 use crate::status::Status;
 use std::alloc::Global;
 use std::thread::Threads;
@@ -28,7 +28,7 @@ use vrl_value::Memory;
 pub(crate) fn map_lines<R: Threads + Sync, S: Source, O: Sink, E: Sink, C: Clock, G: Gate + Sync>(
     rt: &R,
     alloc: Global,
-    script: &Script,
+    script: &ReadyScript,
     jobs: u32,
     input: &mut S,
     output: &mut O,
@@ -84,7 +84,7 @@ pub(crate) fn map_lines<R: Threads + Sync, S: Source, O: Sink, E: Sink, C: Clock
 fn map_batches<R: Threads + Sync, S: Source, O: Sink, E: Sink, C: Clock, G: Gate + Sync>(
     rt: &R,
     alloc: Global,
-    script: &Script,
+    script: &ReadyScript,
     jobs: u32,
     lines: &mut Lines,
     marked: &mut bool,
@@ -135,7 +135,7 @@ pub(crate) fn status_if(marked: bool) -> Status
 fn map_next<R: Threads + Sync, S: Source, O: Sink, E: Sink, C: Clock, G: Gate + Sync>(
     rt: &R,
     alloc: Global,
-    script: &Script,
+    script: &ReadyScript,
     jobs: u32,
     lines: &mut Lines,
     marked: &mut bool,

@@ -1,4 +1,4 @@
-use crate::script::Script;
+use crate::ready_script::ReadyScript;
 use vrl_diag::Diagnostics;
 use vrl_kind::Kind;
 use vrl_kindfile::KindFault;
@@ -15,9 +15,9 @@ pub enum Request {
     /// The script of these bytes is refused, with what is wrong with it.
     Refused(Bytes, Diagnostics),
     /// The script runs over the lines of the input.
-    Run(Script),
+    Run(ReadyScript),
     /// The script runs over so many lines, at most 1,000,000, which are made from a seed.
-    Generate(Script, u64, u64),
+    Generate(ReadyScript, u64, u64),
     /// The kinds are told that the script of these bytes, with these warnings, may end with: that
     /// of its value, and what is known then.
     Check(Bytes, Diagnostics, Kind, Known),

@@ -1,5 +1,5 @@
 -- Lists of roots in order, and what is known once such a list is taken over.
-use Rattle.std.proofs.Common.{◌≡◌, ◌<◌, ◌+◌, ◌&&◌, ◌++◌, ℕ, Bool, true, false, is_lt, is_eq, cond, if◌then◌else◌, map as each, All, List, [], ◌∷◌, Option, Some, None, Ordering, Less, Equal, Greater, take, drop, get_or, length, refl, sym, ap, ◌∙◌, subst}
+use Rattle.std.proofs.Common.{◌≡◌, ◌<◌, ◌+◌, ◌&&◌, ◌++◌, ℕ, Bool, true, false, is_lt, is_eq, cond, if◌then◌else◌, map as each, List, [], ◌∷◌, Option, Some, None, Ordering, Less, Equal, Greater, take, drop, get_or, length, refl, sym, ap, ◌∙◌, subst}
 use Rattle.std.proofs.lemmas.Bool.{and_from, true≢false}
 use Rattle.std.proofs.lemmas.Cmp.{nat_list_cmp_total}
 use Rattle.std.proofs.lemmas.List.{take_more, take-append-drop}

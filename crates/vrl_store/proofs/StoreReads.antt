@@ -8,7 +8,7 @@ use Rattle.vrl_syntax.specs.Stores.{Store, value_of, with_value}
 use Rattle.vrl_store.specs.Places.{root_value}
 use Rattle.vrl_store.specs.Kept.{trees_of}
 use Rattle.vrl_store.specs.StoreView.{name_at, root_of, store_in, variables_of, AreNames, Names}
-use Rattle.vrl_store.specs.declared.place.Base.TheVariants as base
+use Rattle.vrl_store.specs.declared.target_path.Base.TheVariants as base
 use Rattle.vrl_store.specs.declared.store.Store.{Store as CodeStore}
 use Rattle.vrl_store.proofs.Variables.{found_at, variable_at, variables_set}
 

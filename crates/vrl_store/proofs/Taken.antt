@@ -12,7 +12,7 @@ use Rattle.vrl_syntax.specs.Stores.{with_value}
 use Rattle.vrl_store.specs.Places.{part_of, read_in, removed, root_without}
 use Rattle.vrl_store.specs.Kept.{IsShallow}
 use Rattle.vrl_store.specs.StoreView.{root_of, store_in, AreNames, Names}
-use Rattle.vrl_store.specs.declared.place.Base.TheVariants as base
+use Rattle.vrl_store.specs.declared.target_path.Base.TheVariants as base
 use Rattle.vrl_store.specs.declared.store.Store.{Store as CodeStore}
 use Rattle.vrl_store.proofs.Removal.{removed_depth}
 use Rattle.vrl_store.proofs.Started.{null_tree}

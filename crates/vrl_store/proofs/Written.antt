@@ -18,7 +18,7 @@ use Rattle.vrl_syntax.specs.Stores.{with_value}
 use Rattle.vrl_store.specs.Places.{is_within, root_with}
 use Rattle.vrl_store.specs.Kept.{is_numbered, trees_of, AreKept, AreShallow, IsShallow}
 use Rattle.vrl_store.specs.StoreView.{root_of, store_in, variables_of, AreNames, IsWritten, Names}
-use Rattle.vrl_store.specs.declared.place.Base.TheVariants as base
+use Rattle.vrl_store.specs.declared.target_path.Base.TheVariants as base
 use Rattle.vrl_store.specs.declared.store.Store.{Store as CodeStore}
 use Rattle.vrl_store.proofs.Kept.{kept_set}
 use Rattle.vrl_store.proofs.StoreReads.{found_map, map_set, root_variable, seen, variable_given}

@@ -18,8 +18,8 @@ use Rattle.vrl_syntax.specs.declared.root.Root.TheVariants.{Event, Name}
 use Rattle.vrl_store.specs.Kept.{trees_of}
 use Rattle.vrl_store.specs.Places.{is_within, root_with}
 use Rattle.vrl_store.specs.declared.hidden_value.HiddenValue.{HiddenValue}
-use Rattle.vrl_store.specs.declared.place.Base.{Base}
-use Rattle.vrl_store.specs.declared.place.Base.TheVariants as base
+use Rattle.vrl_store.specs.declared.target_path.Base.{Base}
+use Rattle.vrl_store.specs.declared.target_path.Base.TheVariants as base
 use Rattle.vrl_store.specs.declared.store.Store.{Store as CodeStore}
 
 abbrev pub Names : Type 0

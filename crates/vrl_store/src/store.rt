@@ -14,7 +14,7 @@ ghost use Rattle.vrl_store.specs.Places as spec;
 
 use crate::hidden_value::HiddenValue;
 use crate::naming::named;
-use crate::place::{Base, Place};
+use crate::target_path::{Base, TargetPath};
 use std::alloc::Global;
 use std::collections::BTreeMap;
 use vrl_path::{
@@ -92,48 +92,53 @@ impl Store {
     }
 
     /// What stands at a place; null where nothing does.
-    pub fn read(&self, place: &Place) -> &Value
-        requires base { IsKnown (count_of self.now) place.now.base }
+    pub fn read(&self, target: &TargetPath) -> &Value
+        requires base { IsKnown (count_of self.now) target.now.base }
         ensures { (names : Names) → AreNames names self.now
-            → tree_of result.now ≡ spec.read_in (root_of names place.now.base) place.now.path
+            → tree_of result.now ≡ spec.read_in (root_of names target.now.base) target.now.path
             (store_in names self.now) }
     {
-        match get(self.root(place.base), &place.path) {
+        match get(self.root(target.base), &target.path) {
             Some(value) => value,
             None => &self.null,
         }
     }
 
     /// Whether something stands at a place, be it null; a root always does.
-    pub fn is_there(&self, place: &Place) -> bool
-        requires base { IsKnown (count_of self.now) place.now.base }
+    pub fn is_there(&self, target: &TargetPath) -> bool
+        requires base { IsKnown (count_of self.now) target.now.base }
         ensures { (names : Names) → AreNames names self.now
-            → result ≡ spec.is_there (root_of names place.now.base) place.now.path (store_in names self.now) }
+            → result ≡ spec.is_there (root_of names target.now.base) target.now.path (store_in names self.now) }
     {
-        exists(self.root(place.base), &place.path)
+        exists(self.root(target.base), &target.path)
     }
 
     /// Writes a value at a place. `TooDeep`: the root would be nested too deeply; `Memory`: want of
     /// memory. At both the store stays as it was, and the value is gone.
-    pub fn write(&mut self, alloc: Global, place: &Place, value: Value) -> Result<(), SetFault>
-        requires base { IsKnown (count_of self.old) place.now.base }
-        requires writable { IsWritable place.now.path }
+    pub fn write(
+        &mut self,
+        alloc: Global,
+        target: &TargetPath,
+        value: Value,
+    ) -> Result<(), SetFault>
+        requires base { IsKnown (count_of self.old) target.now.base }
+        requires writable { IsWritable target.now.path }
         ensures written { (names : Names) → AreNames names self.old
-            → IsWritten (root_of names place.now.base) place.now.path (tree_of value) (store_in names self.old)
+            → IsWritten (root_of names target.now.base) target.now.path (tree_of value) (store_in names self.old)
             (store_in names self.new) result }
         ensures want { result ≡ Err SetFault.Memory → (names : Names) → AreNames names self.old
             → IsTrue (spec.is_within
-            (spec.root_with (root_of names place.now.base) place.now.path (tree_of value) (store_in names self.old))) }
+            (spec.root_with (root_of names target.now.base) target.now.path (tree_of value) (store_in names self.old))) }
         ensures front { IsFront (present_of self.old) (present_of self.new) }
         ensures as_many { count_of self.new ≡ count_of self.old }
     {
-        match place.base {
+        match target.base {
             Base::Event => {
-                set_in(alloc, &mut self.event, self.is_shallow, &place.path, value)?;
+                set_in(alloc, &mut self.event, self.is_shallow, &target.path, value)?;
                 self.is_shallow = true;
                 Ok(())
             }
-            Base::Variable(number) => self.write_variable(alloc, number, &place.path, value),
+            Base::Variable(number) => self.write_variable(alloc, number, &target.path, value),
         }
     }
 
@@ -276,23 +281,23 @@ impl Store {
     /// Takes out what stands at a place, and gives it; null where nothing does. Of the event's root
     /// an empty object is left, and of a variable's null. `Memory`: want of memory; the store stays
     /// as it was.
-    pub fn take(&mut self, alloc: Global, place: &Place) -> Result<Value, Memory>
-        requires base { IsKnown (count_of self.old) place.now.base }
-        requires plain { IsPlain place.now.path }
+    pub fn take(&mut self, alloc: Global, target: &TargetPath) -> Result<Value, Memory>
+        requires base { IsKnown (count_of self.old) target.now.base }
+        requires plain { IsPlain target.now.path }
         ensures value { IfOk result (λ value. (names : Names) → AreNames names self.old
-            → tree_of value ≡ spec.read_in (root_of names place.now.base) place.now.path (store_in names self.old)) }
+            → tree_of value ≡ spec.read_in (root_of names target.now.base) target.now.path (store_in names self.old)) }
         ensures removed { OnOk result ((names : Names) → AreNames names self.old
-            → store_in names self.new ≡ spec.removed (root_of names place.now.base) place.now.path
+            → store_in names self.new ≡ spec.removed (root_of names target.now.base) target.now.path
             (store_in names self.old)) }
         ensures same { OnErr result ((names : Names) → AreNames names self.old
             → store_in names self.new ≡ store_in names self.old) }
         ensures front { IsFront (present_of self.old) (present_of self.new) }
         ensures as_many { count_of self.new ≡ count_of self.old }
     {
-        if place.path.as_slice().is_empty() {
-            return self.take_root(alloc, place.base);
+        if target.path.as_slice().is_empty() {
+            return self.take_root(alloc, target.base);
         }
-        Ok(self.take_part(place.base, &place.path))
+        Ok(self.take_part(target.base, &target.path))
     }
 
     // Takes out a whole root.

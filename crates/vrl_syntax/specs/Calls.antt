@@ -1,5 +1,5 @@
--- What the text of a call says by itself: the functions that are forms of the language, and what an argument
--- is as it is written.
+-- What the text of a call says by itself: the functions that are forms of the language, and what an
+-- argument is as it is written.
 use Rattle.std.specs.Prelude.{ℕ, Bool, true, false, ◌||◌, ◌&&◌, not, nat_eq, List, [], ◌∷◌, length, Option, Some, None, codes, bytes_eq, if◌then◌else◌}
 use Rattle.std.specs.List.{list_any}
 use Rattle.vrl_value.specs.Tree.{Tree}
@@ -75,7 +75,8 @@ abbrev pub has_equal : List (List ℕ) → Bool
 has_equal [] = false
 has_equal (x ∷ names) = list_any (bytes_eq x) names || has_equal names
 
--- a closure with these names is one for the function: there are as many as it asks for, and none but `_` stands twice
+-- a closure with these names is one for the function: there are as many as it asks for, and none
+-- but `_` stands twice
 abbrev pub has_shape : CallForm → List (List ℕ) → Bool
 has_shape f names =
     nat_eq (length names) (length (for_names {A = Unit {0}} f tt tt)) && not (has_equal (hidden_by names))

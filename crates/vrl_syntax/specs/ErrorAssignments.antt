@@ -1,8 +1,9 @@
--- The error assignments `ok, err = e` of a part of a script, and the values that they write at an error.
+-- The error assignments `ok, err = e` of a part of a script, and the values that they write at an
+-- error.
 --
--- The tags of these values are a list, one for each error assignment, in the order in which a walk of the
--- tree meets them: an outer one before those in it. A part takes its own from the list's front, so what
--- stands behind the part has the list without so many.
+-- The tags of these values are a list, one for each error assignment, in the order in which a walk
+-- of the tree meets them: an outer one before those in it. A part takes its own from the list's
+-- front, so what stands behind the part has the list without so many.
 use Rattle.std.specs.Prelude.{ℕ, suc, ◌+◌, false, pos, List, [], ◌∷◌, drop}
 use Rattle.vrl_value.specs.Tree.{Tree, string, integer, boolean, null, timestamp, array as items, no_items, object as members, no_members}
 use Rattle.vrl_value.specs.declared.value.Tag.{Tag}
@@ -60,8 +61,8 @@ abbrev mutual
   in_message no_message = 0
   in_message (message e) = in_expr e
 
--- the tags that are left behind an expression, behind a list of them, behind the predicates and blocks of an
--- `if`, and behind the arguments of a call
+-- the tags that are left behind an expression, behind a list of them, behind the predicates and
+-- blocks of an `if`, and behind the arguments of a call
 abbrev pub behind : Expr → List Tag → List Tag
 behind e tags = drop (in_expr e) tags
 

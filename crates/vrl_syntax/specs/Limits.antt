@@ -22,8 +22,8 @@ is_too_large (Field name) = false
 is_too_large (Place (pos i)) = nat_lt last_place i
 is_too_large (Place (negsuc i)) = false
 
--- what is wrong with the path that stands there: a negative index, else one above the greatest place or more
--- steps than a value is deep
+-- what is wrong with the path that stands there: a negative index, else one above the greatest
+-- place or more steps than a value is deep
 abbrev pub fault_at : Span → List Step → Option Diagnostic
 fault_at span path =
     if list_any is_negative path then Some (record { code = 1007; span = span }) else

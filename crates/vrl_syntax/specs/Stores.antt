@@ -62,8 +62,8 @@ abbrev pub values_back : List (List ℕ) → Values → Values → Values
 values_back [] before values = values
 values_back (x ∷ names) before values = value_back x (map.get before x) (values_back names before values)
 
--- behind a closure's body: what the store held where it began, and in it the hidden names with the values
--- that they had there; where none is hidden that is the end of a block
+-- behind a closure's body: what the store held where it began, and in it the hidden names with the
+-- values that they had there; where none is hidden that is the end of a block
 abbrev pub store_back : List (List ℕ) → Store → Store → Store
 store_back hidden before after =
     record after { variables = values_back hidden before.variables (store_kept before after).variables }

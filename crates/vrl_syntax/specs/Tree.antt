@@ -1,5 +1,5 @@
--- A script as a tree: expressions, each with the place where it stands. The forms are those of the VRL
--- reference in Vector's documentation.
+-- A script as a tree: expressions, each with the place where it stands. The forms are those of the
+-- VRL reference in Vector's documentation.
 use Rattle.std.specs.Prelude.{ℕ, Bool, List, Option}
 use Rattle.vrl_value.specs.Tree.{Tree}
 use Rattle.vrl_path.specs.declared.path.Step.{Step}

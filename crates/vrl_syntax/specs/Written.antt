@@ -1,5 +1,6 @@
--- The roots that a part of a script writes: those of its assignments' targets, and those of the paths and
--- names that it deletes with `del`. What stands in a block, an argument or a closure inside counts too.
+-- The roots that a part of a script writes: those of its assignments' targets, and those of the
+-- paths and names that it deletes with `del`. What stands in a block, an argument or a closure
+-- inside counts too.
 use Rattle.std.specs.Prelude.{List, [], ◌∷◌, ◌++◌, Option, Some, None, if◌then◌else◌}
 use Rattle.vrl_path.specs.declared.path.Step.{Step}
 use Rattle.vrl_syntax.specs.Tree.{Expr, expr, Form, literal, array, object, read, query, group, block, conditional, negation, binary, assign, merge, both, call, return_of, abort_with, Exprs, no_exprs, exprs, Pairs, no_pairs, pair, Arms, no_arms, arm, Else, no_else, else_block, Args, no_args, arg, Closure, no_closure, closure, Message, no_message, message}
@@ -27,8 +28,8 @@ abbrev pub argument_roots : Args → List Root
 argument_roots no_args = []
 argument_roots (arg name span e gs) = path_roots e ++ argument_roots gs
 
--- in the order of the script, but that what is deleted comes before what is written in arguments; each as
--- often as it is written
+-- in the order of the script, but that what is deleted comes before what is written in arguments;
+-- each as often as it is written
 abbrev mutual
   pub expr_writes : Expr → List Root
   expr_writes (expr span f) = form_writes f

@@ -5,7 +5,8 @@ ghost use Rattle.vrl_syntax.specs.Stores.{hidden_by};
 
 use vrl_value::{Chars, Names};
 
-/// A function that is a form of the language: what it does isn't told by the values of its arguments alone.
+/// A function that is a form of the language: what it does isn't told by the values of its
+/// arguments alone.
 #[derive(Clone, Copy, Debug, PartialEq, Eq)]
 pub enum CallForm {
     /// `del`, which removes what stands at a path.
@@ -76,8 +77,8 @@ pub(crate) fn is_del(name: &str) -> bool
     }
 }
 
-/// Whether a closure with these names is one for the function: there are as many as it asks for, and none but
-/// `_` stands twice. It takes no memory.
+/// Whether a closure with these names is one for the function: there are as many as it asks for,
+/// and none but `_` stands twice. It takes no memory.
 pub fn has_shape(form: CallForm, names: &Names) -> bool
     ensures { result ≡ has_shape form names.now }
 {

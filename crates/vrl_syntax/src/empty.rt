@@ -6,7 +6,8 @@ use std::alloc::Global;
 use std::collections::BTreeMap;
 use vrl_value::{Chars, Fields, Items, Moment, Tag, Value};
 
-/// The empty value of a tag, which an error assignment writes at an error; a regex and absent stand for null.
+/// The empty value of a tag, which an error assignment writes at an error; a regex and absent stand
+/// for null.
 pub fn empty_value(alloc: Global, tag: Tag) -> Value
     ensures { tree_of result ≡ value_of tag }
 {

@@ -11,9 +11,10 @@ use vrl_diag::{Diagnostic, Diagnostics, Span, code};
 use vrl_path::{DEPTH_LIMIT, PLACE_LIMIT, Path, Step};
 use vrl_value::Memory;
 
-/// What is wrong with the paths that these items write or delete, in the order of the script: 1007 for one with a
-/// negative index, else 1012 for one with an index above 65,535 or more than 128 steps. An assignment writes its
-/// targets' paths, and `del` deletes those of its arguments that are paths or names.
+/// What is wrong with the paths that these items write or delete, in the order of the script: 1007
+/// for one with a negative index, else 1012 for one with an index above 65,535 or more than 128
+/// steps. An assignment writes its targets' paths, and `del` deletes those of its arguments that
+/// are paths or names.
 ///
 /// # Errors
 ///

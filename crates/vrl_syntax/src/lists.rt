@@ -42,9 +42,9 @@ impl Roots {
     }
 }
 
-/// The tags of empty values, one for each error assignment of a script, in the order in which a walk of the tree
-/// meets them: an outer one before those in it. [`Tag::Pattern`] and [`Tag::Absent`] stand for null. A contract
-/// sees their list.
+/// The tags of empty values, one for each error assignment of a script, in the order in which a
+/// walk of the tree meets them: an outer one before those in it. [`Tag::Pattern`] and
+/// [`Tag::Absent`] stand for null. A contract sees their list.
 #[derive(Drop)]
 pub struct Empties {
     tags: Vec<Tag>,

@@ -12,8 +12,8 @@ use vrl_value::{Chars, Names, Value};
 /// An expression. A contract sees `expr_of` it.
 #[cycle(syntax)]
 pub struct Expr {
-    /// From its first character to its last one: a group with its parentheses, a block with its braces, a call
-    /// with its closure.
+    /// From its first character to its last one: a group with its parentheses, a block with its
+    /// braces, a call with its closure.
     pub span: Span,
     /// What it is.
     pub form: Form,
@@ -75,7 +75,8 @@ pub enum Form {
     Group(Box<Expr>),
     /// Items between braces.
     Block(Exprs),
-    /// `if`, with its predicates and blocks in order and the block behind a last `else`, where there is one.
+    /// `if`, with its predicates and blocks in order and the block behind a last `else`, where
+    /// there is one.
     If(Arms, Option<Exprs>),
     /// `!a`.
     Not(Box<Expr>),

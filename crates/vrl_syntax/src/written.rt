@@ -9,10 +9,10 @@ use crate::tree::{Args, Arms, Call, Expr, Exprs, Form, Pairs};
 use std::alloc::Global;
 use vrl_value::Memory;
 
-/// The roots that a body writes: those of the targets of its assignments, error assignments too, and those of each
-/// argument of a `del` that is a path or a name. What stands in blocks, arguments and closures inside counts too. They
-/// stand in the order of the script, but that what a `del` deletes comes before what is written in its arguments;
-/// each comes as often as it is written.
+/// The roots that a body writes: those of the targets of its assignments, error assignments too,
+/// and those of each argument of a `del` that is a path or a name. What stands in blocks, arguments
+/// and closures inside counts too. They stand in the order of the script, but that what a `del`
+/// deletes comes before what is written in its arguments; each comes as often as it is written.
 ///
 /// # Errors
 ///

@@ -71,7 +71,7 @@ pub fn apply(
     setting: &Setting<'_, '_>,
 ) -> Applied
     requires arguments { AreArguments (row_of function) (arguments_of arguments.now) }
-    requires regexes { IsTrue (arguments_below (length setting.now.patterns.now) (arguments_of arguments.now)) }
+    requires regexes { IsTrue (arguments_below (length setting.now.searches.now) (arguments_of arguments.now)) }
     ensures { Applies (uses_memory function (arguments_of arguments.now))
         ((row_of function).means (arguments_of arguments.now) (setting_of setting.now)) result }
 {

@@ -5,8 +5,9 @@ use vrl_batch::{Batch, BatchFault, Lines};
 use vrl_io::{MemoryClock, MemorySource};
 use vrl_value::Memory;
 
-// An input is so many lines, each of which has this text and then so many of this byte, and then the last text. It comes behind so many bytes that are counted as taken, in pieces of
-// this size, and the take with this number fails.
+// An input is so many lines, each of which has this text and then so many of this byte, and then
+// the last text. It comes behind so many bytes that are counted as taken, in pieces of this size,
+// and the take with this number fails.
 #[derive(Clone, Copy)]
 struct Input {
     text: &'static str,
@@ -30,8 +31,8 @@ const NONE: Input = Input {
     failing: None,
 };
 
-// What is told of each batch: its first and last number, how many lines it has, how many bytes these keep, and how many are too
-// long; then of the end or the fault, and of one call more.
+// What is told of each batch: its first and last number, how many lines it has, how many bytes
+// these keep, and how many are too long; then of the end or the fault, and of one call more.
 const ROWS: [(Input, &str); 24] = [
     (NONE, "end end "),
     (Input { last: "{}", ..NONE }, "1-1 1 2 0|end end "),

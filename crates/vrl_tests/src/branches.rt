@@ -288,8 +288,8 @@ fn blocks_end_with_their_names(rt: HostRuntime) -> Result<(), Memory> {
     expect_blocks(&rt, rt.alloc(), End::BranchLeft, &BLOCKS)
 }
 
-// Words before a branch and a block, words of the branch, words in the block, and what is known behind the block
-// where it took over at its end what is known at the end of the branch.
+// Words before a branch and a block, words of the branch, words in the block, and what is known
+// behind the block where it took over at its end what is known at the end of the branch.
 const REPLACEMENTS: [(&str, &str, &str, &str); 5] = [
     (
         "x=integer",
@@ -329,7 +329,8 @@ fn bindings_told(
     binding_told(alloc, &mut state, &kind, inside)
 }
 
-// Words before a scope that binds `x`, its kind, words in it, and what is known at its end and behind it.
+// Words before a scope that binds `x`, its kind, words in it, and what is known at its end and
+// behind it.
 const BINDINGS: [(&str, &str, &str, &str, &str); 4] = [
     ("", "integer", "", ".={..json}; x=integer", ".={..json}"),
     (

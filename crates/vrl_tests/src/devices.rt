@@ -19,7 +19,8 @@ fn take_piece<'a, S: Source>(source: &mut S, buffer: &'a mut [u8]) -> Option<&'a
     Some(&buffer[..count])
 }
 
-/// Asserts what takes of up to four bytes give in turn, and that a take of none gives nothing before each.
+/// Asserts what takes of up to four bytes give in turn, and that a take of none gives nothing
+/// before each.
 fn expect_pieces<S: Source>(rt: &impl Abort, source: &mut S, rows: &[Option<&[u8]>]) {
     for row in rows {
         assert!(rt; take_piece(source, &mut []) == Some(b"".as_slice()));
@@ -69,7 +70,8 @@ fn memory_sink_keeps_what_is_given(rt: HostRuntime) -> Result<(), Fail> {
     Ok(())
 }
 
-/// Asserts how a sink that takes so many bytes at a call, and fails at the second, takes each of these in turn, and what it holds then.
+/// Asserts how a sink that takes so many bytes at a call, and fails at the second, takes each of
+/// these in turn, and what it holds then.
 fn expect_parts(
     rt: &impl Abort,
     alloc: Global,
@@ -194,8 +196,8 @@ fn memory_clock_tells_its_moments(rt: HostRuntime) -> Result<(), Memory> {
     Ok(())
 }
 
-/// A device whose calls have these outcomes: the number of bytes that it takes or gives, each the letter
-/// `x`, or how it fails; after the last it is at its end.
+/// A device whose calls have these outcomes: the number of bytes that it takes or gives, each the
+/// letter `x`, or how it fails; after the last it is at its end.
 #[derive(Drop)]
 struct Scripted {
     outcomes: IntoIter<Result<usize, ErrorKind>>,

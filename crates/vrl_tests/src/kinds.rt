@@ -317,7 +317,8 @@ fn kinds_are_changed(rt: HostRuntime) -> Result<(), Memory> {
     expect_within(&rt, rt.alloc(), Change::WithoutNull, &words)
 }
 
-// The objects of one kind with the fields of those of another put over their own, where both have some.
+// The objects of one kind with the fields of those of another put over their own, where both have
+// some.
 fn objects_over(alloc: Global, lower: &Kind, upper: &Kind) -> Result<Kind, Memory> {
     if !has(lower, Tag::Object) {
         return Ok(Kind::never());

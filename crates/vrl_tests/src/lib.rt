@@ -1,5 +1,7 @@
-//! The tests of the libraries below the functions: values, paths, lines, devices and batches of lines; kinds, what is at a path of one, the files that
-//! declare them, and states. They stand in a crate of their own, since a library with a test is proved twice. And what other crates of tests use.
+//! The tests of the libraries below the functions: values, paths, lines, devices and batches of
+//! lines; kinds, what is at a path of one, the files that declare them, and states. They stand in a
+//! crate of their own, since a library with a test is proved twice. And what other crates of tests
+//! use.
 #![tactic(auto)]
 
 #[cfg(test)]

@@ -1,8 +1,8 @@
 use std::sync::atomic::{AtomicU64, Ordering};
 use vrl_batch::Gate;
 
-/// A gate at which place 0 and place 32 meet: each notes that it has come, and then waits for the other one, for so many turns. It notes a miss where
-/// that doesn't come.
+/// A gate at which place 0 and place 32 meet: each notes that it has come, and then waits for the
+/// other one, for so many turns. It notes a miss where that doesn't come.
 #[derive(Drop)]
 pub struct Meeting {
     first: AtomicU64,

@@ -76,8 +76,8 @@ fn remove(alloc: Global, words: &str, path: &Path) -> Result<Kind, Memory>
     Ok(kind)
 }
 
-// The kind of words after the kind of new words is written at a path of it, or, if there are none, after
-// what stands there is removed.
+// The kind of words after the kind of new words is written at a path of it, or, if there are none,
+// after what stands there is removed.
 fn changed(alloc: Global, words: &str, path: &Path, new: Option<&str>) -> Result<Kind, Memory>
     requires writable { IsWritable path.now }
     requires plain { IsPlain path.now }

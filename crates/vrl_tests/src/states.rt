@@ -22,7 +22,8 @@ fn halves(path: &str) -> (&str, &str) {
     }
 }
 
-// The root of a path: the event where the path begins with a point, else the variable before the point.
+// The root of a path: the event where the path begins with a point, else the variable before the
+// point.
 fn root_of(alloc: Global, path: &str) -> Result<Root, Memory> {
     if path.starts_with('.') {
         return Ok(Root::Event);
@@ -98,7 +99,8 @@ fn forget(alloc: Global, state: &mut State, path: &str) -> Result<(), Memory>
     state.forget(&one_root(alloc, path)?)
 }
 
-// One word: `!` makes the state dead, `-path` removes, `~root` flattens, `?root` forgets, and `path=kind` writes.
+// One word: `!` makes the state dead, `-path` removes, `~root` flattens, `?root` forgets, and
+// `path=kind` writes.
 fn write(alloc: Global, state: &mut State, word: &str) -> Result<(), Memory>
     ensures { state.new.scopes ≡ state.old.scopes }
 {
@@ -294,7 +296,8 @@ fn look_aside(alloc: Global, state: &mut State) -> Result<(), Memory>
     Ok(())
 }
 
-// `x` as an integer; behind a mark `x` as a string and `y` as null; what is shared once that was taken back.
+// `x` as an integer; behind a mark `x` as a string and `y` as null; what is shared once that was
+// taken back.
 fn shared_behind(alloc: Global, path: &str) -> Result<Chars, Memory> {
     let mut state = state_after(alloc, "x=integer")?;
     let _branch = branch_of(alloc, &mut state, "x=string;y=null")?;
@@ -352,7 +355,8 @@ fn goes_back(state: &mut State, times: usize) -> bool {
 
 const TWENTY: &str = "a b c d e f g h i j k l m n o p q r s t";
 
-// A mark copies pointers alone: with each allocation refused in turn (`trials/refusals.py`) none wants memory.
+// A mark copies pointers alone: with each allocation refused in turn (`trials/refusals.py`) none
+// wants memory.
 #[test]
 fn marks_take_no_memory(rt: HostRuntime) -> Result<(), Memory> {
     let mut state = state_after(rt.alloc(), "")?;

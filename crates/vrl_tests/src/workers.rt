@@ -29,7 +29,9 @@ impl Work for Copies {
 
 // The line, and its number as the count of events.
 fn copied(alloc: Global, line: &Line) -> Result<LineOut, Memory>
-    ensures { IfOk result (λ out. out ≡ record { output = line.now.bytes; report = line.now.bytes; kept = line.now.number; outcome = Fine }) }
+    ensures { IfOk result
+        (λ out. out
+        ≡ record { output = line.now.bytes; report = line.now.bytes; kept = line.now.number; outcome = Fine }) }
 {
     Ok(LineOut {
         output: Bytes::new(line.bytes.as_slice().to_vec(alloc)?),
@@ -115,7 +117,8 @@ fn one_worker_meets_nobody(rt: HostRuntime) -> Result<(), Memory> {
     Ok(())
 }
 
-// How many lines have passed, and whether a line passed or was worked on out of turn: each passes, and then the work on it is done.
+// How many lines have passed, and whether a line passed or was worked on out of turn: each passes,
+// and then the work on it is done.
 #[derive(Drop)]
 struct Turns {
     passed: AtomicU64,

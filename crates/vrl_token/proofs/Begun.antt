@@ -17,24 +17,24 @@ use Rattle.vrl_token.specs.Words.{BeginsRaw, BeginsWith, BeginsWithToken, IsCall
 use Rattle.vrl_token.specs.Pieces.{Begins}
 use Rattle.vrl_token.specs.Faults.{IsBehindCharacter, IsFault, IsStray, unclosed_text, unclosed_raw, unknown_escape, template, many_regexes, no_moment, float, joined_number, large_number, event_path, name_path, suffix, division, remainder, coalescing_assignment, stray as stray_character}
 use Rattle.vrl_token.proofs.SegmentLemmas.{closed_not_unclosed}
-use Rattle.vrl_token.proofs.Only.{Outcome, fault, finish, first, piece, second}
+use Rattle.vrl_token.proofs.Only.{Lexed, fault, finish, first, piece, second}
 use Rattle.vrl_token.proofs.Unique.{digits_begin}
 use Rattle.vrl_token.proofs.Starts.{FreeWay, IsBangCall, IsSuffixed, NameWay, NumeralWay, RawWay, Start, StepsWay, TextWay, Way, WayOf, ampersand, blank, digit, dot, keyword_of, letter, only_start, question, square, start_blank, start_digit, start_letter, start_of, start_stray, stray}
 
 -- what the definitions say that the text begins with
-abbrev pub Reads : List Piece → List ℕ → Outcome → Type 0
+abbrev pub Reads : List Piece → List ℕ → Lexed → Type 0
 Reads before text (piece p rest) = Begins before p text rest
 Reads before text (fault code rest) = IsFault before text code rest
 Reads before text finish = text ≡ []
 
 -- what its first byte says
-pub record Started (before : List Piece) (text : List ℕ) (a : Outcome) : Type 0 where
+pub record Started (before : List Piece) (text : List ℕ) (a : Lexed) : Type 0 where
   pub way : WayOf before text a
 
-at_start : {before : List Piece} {text : List ℕ} {a : Outcome} (s : Start) (b : ℕ) (bs : List ℕ) → text ≡ b ∷ bs → start_of b ≡ s → Way s before b bs a → Started before text a
+at_start : {before : List Piece} {text : List ℕ} {a : Lexed} (s : Start) (b : ℕ) (bs : List ℕ) → text ≡ b ∷ bs → start_of b ≡ s → Way s before b bs a → Started before text a
 at_start {before} {text} {a} s b bs parts is way = record { way = subst (λ t. WayOf before t a) (sym parts) (subst (λ k. Way k before b bs a) (sym is) way) }
 
-at : {before : List Piece} {text : List ℕ} {a : Outcome} (b : ℕ) (bs : List ℕ) → text ≡ b ∷ bs → Way (start_of b) before b bs a → Started before text a
+at : {before : List Piece} {text : List ℕ} {a : Lexed} (b : ℕ) (bs : List ℕ) → text ≡ b ∷ bs → Way (start_of b) before b bs a → Started before text a
 at {before} {text} {a} b bs parts way = at_start (start_of b) b bs parts refl way
 
 -- ---- first bytes
@@ -52,21 +52,21 @@ same_fault {code} {other} {rest} {last} one two = ap (λ c. fault c rest) one �
 
 -- ---- quotes
 
-text_way : {before : List Piece} {a : Outcome} {text rest : List ℕ} {cs : List Character} → IsTextSpelling text cs rest → TextWay cs rest a → Started before text a
+text_way : {before : List Piece} {a : Lexed} {text rest : List ℕ} {cs : List Character} → IsTextSpelling text cs rest → TextWay cs rest a → Started before text a
 text_way {before} {a} {text} {rest} {cs} is way =
     at 34 is.behind is.parts (second (λ un. closed_not_unclosed (λ h. omega (arith, h)) is.is_quoted un) (record { value = (cs, rest); cut = is.is_quoted; gives = way }))
 
 raw_letter_starts : (b : ℕ) → IsRawLetter b → start_of b ≡ letter
 raw_letter_starts b is = start_letter b (elim is [ inl s ↦ inl (inl (omega (arith, s), omega (arith, s))) | inr (inl r) ↦ inl (inl (omega (arith, r), omega (arith, r))) | inr (inr t) ↦ inl (inl (omega (arith, t), omega (arith, t))) ])
 
-raw_way : {before : List Piece} {a : Outcome} {text rest : List ℕ} {cs : List Character} (b : ℕ) → IsRawLetter b → IsRaw b text cs rest → RawWay before b cs rest a → Started before text a
+raw_way : {before : List Piece} {a : Lexed} {text rest : List ℕ} {cs : List Character} (b : ℕ) → IsRawLetter b → IsRaw b text cs rest → RawWay before b cs rest a → Started before text a
 raw_way {before} {a} {text} {rest} {cs} b raw is way =
     at_start letter b (39 ∷ is.behind) is.parts (raw_letter_starts b raw)
     (first (raw, refl) (record { value = is.behind; cut = refl; gives = second (λ un. closed_not_unclosed (λ h. omega (arith, h)) is.is_quoted un) (record { value = (cs, rest); cut = is.is_quoted; gives = way }) }))
 
 -- ---- numbers
 
-sign_way : (before : List Piece) (text rest : List ℕ) (a : Outcome) (negative : Bool) (digits : List ℕ) → MayHaveSign before negative → (unsigned : List ℕ) → IsBehindSign negative text unsigned → unsigned ≡ digits ++ rest → IsDigits digits → ¬ DigitsGoOn rest
+sign_way : (before : List Piece) (text rest : List ℕ) (a : Lexed) (negative : Bool) (digits : List ℕ) → MayHaveSign before negative → (unsigned : List ℕ) → IsBehindSign negative text unsigned → unsigned ≡ digits ++ rest → IsDigits digits → ¬ DigitsGoOn rest
     → NumeralWay negative digits rest a → Started before text a
 sign_way before text rest a true digits may unsigned sign parts is ends way =
     let begins : BeginsInside IsDigit unsigned = subst (BeginsInside IsDigit) (sym parts) (digits_begin digits rest is) in
@@ -79,7 +79,7 @@ sign_way before text rest a false (d ∷ ds) may unsigned sign parts is ends way
     at_start {before = before} {text = text} {a = a} digit d (ds ++ rest) (sign ∙ parts) (start_digit d (digits_begin (d ∷ ds) [] is))
     (record { value = (d ∷ ds, rest); cut = record { unsigned = d ∷ (ds ++ rest); sign = refl; parts = refl; is_digits = is; ends = ends }; gives = way })
 
-numeral_way : {before : List Piece} {a : Outcome} {text digits rest : List ℕ} (negative : Bool) → MayHaveSign before negative → IsNumeral negative text digits rest → NumeralWay negative digits rest a → Started before text a
+numeral_way : {before : List Piece} {a : Lexed} {text digits rest : List ℕ} (negative : Bool) → MayHaveSign before negative → IsNumeral negative text digits rest → NumeralWay negative digits rest a → Started before text a
 numeral_way {before} {a} {text} {digits} {rest} negative may is way = sign_way before text rest a negative digits may is.unsigned is.sign is.parts is.is_digits is.ends way
 
 -- ---- names
@@ -89,7 +89,7 @@ one_letter [] text rest is run raw = absurd is
 one_letter (b ∷ []) text rest is run raw = (refl, (subst BeginsRaw run.parts raw).1)
 one_letter (b ∷ c ∷ cs) text rest is run raw = let mark = (subst BeginsRaw run.parts raw).1 in let part = is.1.0 in absurd (grind (arith, mark, part))
 
-named_way : {before : List Piece} {a : Outcome} {text rest : List ℕ} (name : List ℕ) → IsName name → IsLongestRun IsNamePart text name rest → ¬ BeginsRaw text → NameWay name rest a → Started before text a
+named_way : {before : List Piece} {a : Lexed} {text rest : List ℕ} (name : List ℕ) → IsName name → IsLongestRun IsNamePart text name rest → ¬ BeginsRaw text → NameWay name rest a → Started before text a
 named_way [] is run none way = absurd is
 named_way {before} {a} {text} {rest} (b ∷ bs) is run none way =
     at_start letter b (bs ++ rest) run.parts (start_letter b is.0)
@@ -101,7 +101,7 @@ keyword_way {before} {text} {rest} name t is long has run =
     named_way name run.is_name run.run (λ raw. long (one_letter name text rest run.is_name run.run raw).0) (first has (ap (λ k. piece (Word k) rest) (sym is)))
 
 -- a name that is no keyword, with no quote behind it
-free_way : {before : List Piece} {a : Outcome} {text name rest : List ℕ} → IsFreeName text name rest → ¬ BeginsWith 39 rest → FreeWay name rest a → Started before text a
+free_way : {before : List Piece} {a : Lexed} {text name rest : List ℕ} → IsFreeName text name rest → ¬ BeginsWith 39 rest → FreeWay name rest a → Started before text a
 free_way {before} {a} {text} {name} {rest} free none way = named_way name free.is_name free.run (λ raw. none (one_letter name text rest free.is_name free.run raw).1) (second free.free way)
 
 paren_calls : (text : List ℕ) → BeginsWith 40 text → IsCallRest text
@@ -138,7 +138,7 @@ flaw_way : (make : List Step → Token) (segments : List Segment) (code : ℕ) (
 flaw_way make segments code rest (inl escape) = second escape.1 (same_fault escape.0 refl)
 flaw_way make segments code rest (inr range) = first range.1 (second range.2 (same_fault range.0 refl))
 
-name_path_way : {before : List Piece} {a : Outcome} {text behind rest : List ℕ} (name : List ℕ) (segments : List Segment) → IsFreeName text name behind → Segments behind segments rest → IsNonempty segments
+name_path_way : {before : List Piece} {a : Lexed} {text behind rest : List ℕ} (name : List ℕ) (segments : List Segment) → IsFreeName text name behind → Segments behind segments rest → IsNonempty segments
     → StepsWay (λ path. token.NamePath name path) segments rest a → Started before text a
 name_path_way {before} {a} {text} {behind} {rest} name segments free walk some way =
     let begins = path_begins behind segments rest walk some in
@@ -147,7 +147,7 @@ name_path_way {before} {a} {text} {behind} {rest} name segments free walk some w
     (second (λ bang. inside_apart (λ b. (b ≡ 46) ⊎ (b ≡ 91)) (λ b. b ≡ 33) behind (λ b one two. grind (arith, one, two)) begins (bang_begins behind bang))
     (second (some_segment behind segments rest walk some) (record { value = (segments, rest); cut = walk; gives = way }))))
 
-suffix_way : {before : List Piece} {a : Outcome} (text : List ℕ) {rest : List ℕ} (segments : List Segment) → closes_before before ≡ true → Segments text segments rest → IsNonempty segments → StepsWay (λ path. token.Suffix path) segments rest a → Started before text a
+suffix_way : {before : List Piece} {a : Lexed} (text : List ℕ) {rest : List ℕ} (segments : List Segment) → closes_before before ≡ true → Segments text segments rest → IsNonempty segments → StepsWay (λ path. token.Suffix path) segments rest a → Started before text a
 suffix_way [] {rest} segments closes walk some way = absurd (path_begins [] segments rest walk some)
 suffix_way {before} {a} (b ∷ bs) {rest} segments closes walk some way =
     elim (path_begins (b ∷ bs) segments rest walk some) [
@@ -163,7 +163,7 @@ event_begins : (text : List ℕ) (segments : List Segment) (rest : List ℕ) →
 event_begins text [] rest walk = subst (BeginsWith 46) (sym walk.0) refl
 event_begins text (s ∷ ss) rest walk = subst (BeginsWith 46) (sym walk.2) refl
 
-event_way : {before : List Piece} {a : Outcome} (text : List ℕ) {rest : List ℕ} (segments : List Segment) → EventSegments text segments rest → NoSuffix before text → StepsWay (λ path. token.EventPath path) segments rest a → Started before text a
+event_way : {before : List Piece} {a : Lexed} (text : List ℕ) {rest : List ℕ} (segments : List Segment) → EventSegments text segments rest → NoSuffix before text → StepsWay (λ path. token.EventPath path) segments rest a → Started before text a
 event_way [] {rest} segments walk none way = absurd (event_begins [] segments rest walk)
 event_way {before} {a} (b ∷ bs) {rest} segments walk none way =
     at_start dot b bs refl (ap start_of (event_begins (b ∷ bs) segments rest walk)) (second (no_suffix before (b ∷ bs) none) (record { value = (segments, rest); cut = walk; gives = way }))
@@ -272,11 +272,11 @@ fault_started {before} {text} {rest} (coalescing_assignment is code) =
     at 63 (63 ∷ 61 ∷ rest) is (first refl (record { value = 61 ∷ rest; cut = refl; gives = first refl (record { value = rest; cut = refl; gives = same_fault code refl }) }))
 fault_started (stray_character is behind code) = stray_way behind (subst IsStray behind.parts is) code
 
-started : (before : List Piece) (text : List ℕ) (a : Outcome) → Reads before text a → WayOf before text a
+started : (before : List Piece) (text : List ℕ) (a : Lexed) → Reads before text a → WayOf before text a
 started before text (piece p rest) is = (piece_started before p text rest is).way
 started before text (fault code rest) is = (fault_started is).way
 started before text finish is = subst (λ t. WayOf before t finish) (sym is) refl
 
 -- a text begins with one piece, or one fault, or it is at its end
-pub one_start : MomentsReadBack → (before : List Piece) (text : List ℕ) (a b : Outcome) → Reads before text a → Reads before text b → a ≡ b
+pub one_start : MomentsReadBack → (before : List Piece) (text : List ℕ) (a b : Lexed) → Reads before text a → Reads before text b → a ≡ b
 one_start law before text a b one two = only_start law before text a b (started before text a one) (started before text b two)

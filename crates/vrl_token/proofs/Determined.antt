@@ -10,7 +10,7 @@ use Rattle.vrl_token.specs.Division.{IsDivision, IsFirstFault, Leads, kept, piec
 use Rattle.vrl_token.specs.Laws.{TokensAreDetermined}
 use Rattle.vrl_token.specs.Nesting.{IsTooDeep}
 use Rattle.vrl_token.specs.Reading.{HasTokens, IsTokenized, IsTextFault, backwards}
-use Rattle.vrl_token.proofs.Only.{Outcome, fault, finish, piece}
+use Rattle.vrl_token.proofs.Only.{Lexed, fault, finish, piece}
 use Rattle.vrl_token.proofs.Begun.{Reads, one_start}
 
 -- how pieces end: at the end of the text, or at a fault
@@ -18,16 +18,16 @@ data End : Type 0 where
   whole : End
   wrong : ℕ → List ℕ → End
 
-abbrev outcome_of : End → Outcome
-outcome_of whole = finish
-outcome_of (wrong code rest) = fault code rest
+abbrev lexed_of : End → Lexed
+lexed_of whole = finish
+lexed_of (wrong code rest) = fault code rest
 
 -- a piece stands where the pieces don't end
-no_piece : (e : End) (p : Piece) (rest : List ℕ) → ¬ (outcome_of e ≡ piece p rest)
+no_piece : (e : End) (p : Piece) (rest : List ℕ) → ¬ (lexed_of e ≡ piece p rest)
 no_piece whole p rest same = cc
 no_piece (wrong code last) p rest same = cc
 
-same_end : (e f : End) → outcome_of e ≡ outcome_of f → e ≡ f
+same_end : (e f : End) → lexed_of e ≡ lexed_of f → e ≡ f
 same_end whole whole same = refl
 same_end whole (wrong code rest) same = cc
 same_end (wrong code rest) whole same = cc
@@ -42,7 +42,7 @@ same_lexeme p q front back = ap (λ x. let l : Lexeme = record { piece = x; span
 -- pieces of a text that end so
 record Divides (total : ℕ) (before : List Piece) (text : List ℕ) (ps : List Lexeme) (place : List ℕ) (e : End) : Type 0 where
   pub leads : Leads total before text ps place
-  pub ends : Reads (pieces_behind before ps) place (outcome_of e)
+  pub ends : Reads (pieces_behind before ps) place (lexed_of e)
 
 record Same (ps qs : List Lexeme) (place other : List ℕ) (e f : End) : Type 0 where
   pub pieces : ps ≡ qs
@@ -54,19 +54,19 @@ same_division law total before text [] [] place other e f one two =
     record {
       pieces = refl;
       places = sym one.leads ∙ two.leads;
-      ends = same_end e f (one_start law before text (outcome_of e) (outcome_of f) (subst (λ t. Reads before t (outcome_of e)) (sym one.leads) one.ends) (subst (λ t. Reads before t (outcome_of f)) (sym two.leads) two.ends));
+      ends = same_end e f (one_start law before text (lexed_of e) (lexed_of f) (subst (λ t. Reads before t (lexed_of e)) (sym one.leads) one.ends) (subst (λ t. Reads before t (lexed_of f)) (sym two.leads) two.ends));
     }
 same_division law total before text [] (q ∷ qs) place other e f one two =
-    absurd (no_piece e q.piece two.leads.0 (one_start law before text (outcome_of e) (piece q.piece two.leads.0) (subst (λ t. Reads before t (outcome_of e)) (sym one.leads) one.ends) two.leads.1))
+    absurd (no_piece e q.piece two.leads.0 (one_start law before text (lexed_of e) (piece q.piece two.leads.0) (subst (λ t. Reads before t (lexed_of e)) (sym one.leads) one.ends) two.leads.1))
 same_division law total before text (p ∷ ps) [] place other e f one two =
-    absurd (no_piece f p.piece one.leads.0 (one_start law before text (outcome_of f) (piece p.piece one.leads.0) (subst (λ t. Reads before t (outcome_of f)) (sym two.leads) two.ends) one.leads.1))
+    absurd (no_piece f p.piece one.leads.0 (one_start law before text (lexed_of f) (piece p.piece one.leads.0) (subst (λ t. Reads before t (lexed_of f)) (sym two.leads) two.ends) one.leads.1))
 same_division law total before text (p ∷ ps) (q ∷ qs) place other e f one two =
     let same : piece p.piece one.leads.0 ≡ piece q.piece two.leads.0 = one_start law before text (piece p.piece one.leads.0) (piece q.piece two.leads.0) one.leads.1 two.leads.1 in
     let pieces_same : p.piece ≡ q.piece = cc (same) in
     let rests_same : one.leads.0 ≡ two.leads.0 = cc (same) in
     let lexemes_same = same_lexeme p q pieces_same (one.leads.2 ∙ ap (λ t. span_between total text t) rests_same ∙ sym two.leads.2) in
     let leads : Leads total (q.piece ∷ before) two.leads.0 ps place = subst (λ t. Leads total (q.piece ∷ before) t ps place) rests_same (subst (λ x. Leads total (x ∷ before) one.leads.0 ps place) pieces_same one.leads.3) in
-    let ends : Reads (pieces_behind (q.piece ∷ before) ps) place (outcome_of e) = subst (λ x. Reads (pieces_behind (x ∷ before) ps) place (outcome_of e)) pieces_same one.ends in
+    let ends : Reads (pieces_behind (q.piece ∷ before) ps) place (lexed_of e) = subst (λ x. Reads (pieces_behind (x ∷ before) ps) place (lexed_of e)) pieces_same one.ends in
     let more = same_division law total (q.piece ∷ before) two.leads.0 ps qs place other e f (record { leads = leads; ends = ends }) (record { leads = two.leads.3; ends = two.ends }) in
     record { pieces = ap (λ x. x ∷ ps) lexemes_same ∙ ap (λ xs. q ∷ xs) more.pieces; places = more.places; ends = more.ends }
 

@@ -12,7 +12,7 @@ mod Leading
 mod Nestings
 mod Only
 mod OpenBrackets
-mod Outcomes
+mod Tested
 mod PathCuts
 pub mod Placed
 mod Quotes

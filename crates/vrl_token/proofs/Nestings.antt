@@ -4,10 +4,10 @@ use Rattle.std.proofs.lemmas.Bool.{cases_lt}
 use Rattle.std.proofs.lemmas.List.{length-map, length-reverse, length-take-le, map-append, reverse-append, reverse-reverse, take-append-drop, take-map, take_more}
 use Rattle.std.proofs.lemmas.Grind.{get_or_default_zero}
 use Rattle.std.proofs.Math.Seq.{take-append_seam}
-use Rattle.vrl_token.specs.declared.nesting.Place.{Place}
+use Rattle.vrl_token.specs.declared.nesting.Progress.{Progress}
 use Rattle.vrl_token.specs.declared.token.Spanned.{Spanned}
 use Rattle.vrl_token.specs.declared.token.Token.{Token}
-use Rattle.vrl_token.specs.Depths.{AreCounts, IsPlace, behind_first, first_of, held, nesting_behind, nesting_inside, nestings_of}
+use Rattle.vrl_token.specs.Depths.{AreCounts, IsProgress, behind_first, first_of, held, nesting_behind, nesting_inside, nestings_of}
 use Rattle.vrl_token.specs.Brackets.{closes}
 use Rattle.vrl_token.specs.Nesting.{IsDeepAt, IsTooDeep, count_in, nesting_in, opens, parts, stretches_behind, stretches_from, with_innermost, without_innermost}
 use Rattle.vrl_token.specs.Reading.{backwards}
@@ -87,22 +87,22 @@ shallow_all tokens shallow deep =
     shallow (length deep.before) front.0 (subst (IsDeepAt (backwards tokens)) front.1 deep.deep)
 
 -- at this place and before it the tokens aren't nested too deeply
-pub record IsShallow (tokens : List Spanned) (i : ℕ) (place : Place) : Type 0 where
-  pub place_is : IsPlace (backwards tokens) (backwards (take i tokens)) place
+pub record IsShallow (tokens : List Spanned) (i : ℕ) (progress : Progress) : Type 0 where
+  pub progress_is : IsProgress (backwards tokens) (backwards (take i tokens)) progress
   pub shallow : (k : ℕ) → k ≤ i → ¬ IsDeepAt (backwards tokens) (backwards (take k tokens))
 
-pub shallow_first : (tokens : List Spanned) (place : Place) → IsPlace (backwards tokens) [] place → ¬ IsDeepAt (backwards tokens) [] → IsShallow tokens 0 place
-shallow_first tokens place is not = record {
-  place_is = is;
+pub shallow_first : (tokens : List Spanned) (progress : Progress) → IsProgress (backwards tokens) [] progress → ¬ IsDeepAt (backwards tokens) [] → IsShallow tokens 0 progress
+shallow_first tokens progress is not = record {
+  progress_is = is;
   shallow = λ k first. let none : 0 ≡ k = omega arith in subst (λ (n : ℕ). ¬ IsDeepAt (backwards tokens) (backwards (take n tokens))) none not;
 }
 
-pub shallow_more : (tokens : List Spanned) (i : ℕ) (x : Spanned) (old new : Place) → i < length tokens → x ≡ get_or tokens i x → IsShallow tokens i old
-    → IsPlace (backwards tokens) (x.token ∷ backwards (take i tokens)) new → ¬ IsDeepAt (backwards tokens) (x.token ∷ backwards (take i tokens)) → IsShallow tokens (i + 1) new
-shallow_more tokens i x old new within item was place not =
+pub shallow_more : (tokens : List Spanned) (i : ℕ) (x : Spanned) (old new : Progress) → i < length tokens → x ≡ get_or tokens i x → IsShallow tokens i old
+    → IsProgress (backwards tokens) (x.token ∷ backwards (take i tokens)) new → ¬ IsDeepAt (backwards tokens) (x.token ∷ backwards (take i tokens)) → IsShallow tokens (i + 1) new
+shallow_more tokens i x old new within item was progress not =
     let more = sym (backwards_more tokens i x within item) in
     record {
-      place_is = subst (λ (before : List Token). IsPlace (backwards tokens) before new) more place;
+      progress_is = subst (λ (before : List Token). IsProgress (backwards tokens) before new) more progress;
       shallow = λ k upto. elim (cases_lt k (i + 1)) [
         | inl before ↦ was.shallow k (omega arith)
         | inr past ↦

@@ -19,18 +19,18 @@ use Rattle.vrl_token.specs.Context.{closes_before, operand_before, regexes_befor
 use Rattle.vrl_token.specs.Words.{BeginsRaw, BeginsWith, IsNameRun, NoSegment}
 use Rattle.vrl_token.specs.Faults.{IsContinuation, IsStart}
 use Rattle.vrl_token.proofs.Runs.{same_longest_run}
-use Rattle.vrl_token.proofs.Only.{Branch, Is, OnlyOne, Outcome, With, fault, finish, only_branch, only_is, only_with, piece, same_pair}
+use Rattle.vrl_token.proofs.Only.{Branch, Is, OnlyOne, Lexed, With, fault, finish, only_branch, only_is, only_with, piece, same_pair}
 use Rattle.vrl_token.proofs.Unique.{same_event, same_float, same_numeral, same_quoted, same_segments, tails}
 
-abbrev word : Token → List ℕ → Outcome
+abbrev word : Token → List ℕ → Lexed
 word t rest = piece (Word t) rest
 
 -- ---- texts
 
-abbrev pub TextWay : List Character → List ℕ → Outcome → Type 0
+abbrev pub TextWay : List Character → List ℕ → Lexed → Type 0
 TextWay cs rest = Branch (AllByRecursion IsKnown cs) (Branch (HasTemplate (text_of cs)) (Is (fault 1016 rest)) (Is (word (token.Text (text_of cs)) rest))) (Is (fault 203 rest))
 
-abbrev pub QuoteWay : List ℕ → Outcome → Type 0
+abbrev pub QuoteWay : List ℕ → Lexed → Type 0
 QuoteWay behind = Branch (IsUnclosed 34 behind) (Is (fault 203 [])) (With (List Character × List ℕ) (λ c. IsQuoted 34 behind c.0 c.1) (λ c. TextWay c.0 c.1))
 
 only_quoted : (quote : ℕ) (behind : List ℕ) → quote ≢ 92 → (c d : List Character × List ℕ) → IsQuoted quote behind c.0 c.1 → IsQuoted quote behind d.0 d.1 → c ≡ d
@@ -47,13 +47,13 @@ only_quote behind = only_branch _ _ _ (only_is _) (only_with _ _ _ (only_quoted 
 abbrev pub HasMoment : List Character → Type 0
 HasMoment cs = (moment : ℤ) × IsReading (raw_of cs) moment
 
-abbrev pub RawWay : List Piece → ℕ → List Character → List ℕ → Outcome → Type 0
+abbrev pub RawWay : List Piece → ℕ → List Character → List ℕ → Lexed → Type 0
 RawWay before letter cs rest =
     Branch (letter ≡ 115) (Is (word (token.RawText (raw_of cs)) rest))
     (Branch (letter ≡ 114) (Branch (regexes_before before < 256) (Is (word (token.Regex (raw_of cs)) rest)) (Is (fault 1016 rest)))
     (Branch (HasMoment cs) (With ℤ (IsReading (raw_of cs)) (λ m. Is (word (token.Timestamp m) rest))) (Is (fault 1014 rest))))
 
-abbrev pub ClosedWay : List Piece → ℕ → List ℕ → Outcome → Type 0
+abbrev pub ClosedWay : List Piece → ℕ → List ℕ → Lexed → Type 0
 ClosedWay before letter behind = Branch (IsUnclosed 39 behind) (Is (fault 203 [])) (With (List Character × List ℕ) (λ c. IsQuoted 39 behind c.0 c.1) (λ c. RawWay before letter c.0 c.1))
 
 only_raw : MomentsReadBack → (before : List Piece) (letter : ℕ) (c : List Character × List ℕ) → OnlyOne (RawWay before letter c.0 c.1)
@@ -67,19 +67,19 @@ only_closed law before letter behind = only_branch _ _ _ (only_is _) (only_with 
 
 -- ---- paths
 
-abbrev pub StepsWay : (List Step → Token) → List Segment → List ℕ → Outcome → Type 0
+abbrev pub StepsWay : (List Step → Token) → List Segment → List ℕ → Lexed → Type 0
 StepsWay make ss rest = Branch (AllByRecursion IsReadable ss) (Branch (AllByRecursion IsInRange ss) (Is (word (make (steps_of ss)) rest)) (Is (fault 1002 rest))) (Is (fault 203 rest))
 
 only_steps : (make : List Step → Token) (c : List Segment × List ℕ) → OnlyOne (StepsWay make c.0 c.1)
 only_steps make c = only_branch _ _ _ (only_branch _ _ _ (only_is _) (only_is _)) (only_is _)
 
-abbrev pub PathWay : (List Step → Token) → List ℕ → Outcome → Type 0
+abbrev pub PathWay : (List Step → Token) → List ℕ → Lexed → Type 0
 PathWay make text = With (List Segment × List ℕ) (λ c. Segments text c.0 c.1) (λ c. StepsWay make c.0 c.1)
 
 only_path : (make : List Step → Token) (text : List ℕ) → OnlyOne (PathWay make text)
 only_path make text = only_with _ _ _ (λ c d one two. let same = same_segments text c.0 d.0 c.1 d.1 one two in same_pair c d same.0 same.1) (only_steps make)
 
-abbrev pub EventWay : List ℕ → Outcome → Type 0
+abbrev pub EventWay : List ℕ → Lexed → Type 0
 EventWay text = With (List Segment × List ℕ) (λ c. EventSegments text c.0 c.1) (λ c. StepsWay (λ path. token.EventPath path) c.0 c.1)
 
 only_event : (text : List ℕ) → OnlyOne (EventWay text)
@@ -89,7 +89,7 @@ only_event text = only_with _ _ _ (λ c d one two. let same = same_event text c.
 abbrev pub IsSuffixed : List Piece → List ℕ → Type 0
 IsSuffixed before text = (closes_before before ≡ true) × (¬ NoSegment text)
 
-abbrev pub SuffixWay : List ℕ → Outcome → Type 0
+abbrev pub SuffixWay : List ℕ → Lexed → Type 0
 SuffixWay text = PathWay (λ path. token.Suffix path) text
 
 -- ---- names
@@ -103,16 +103,16 @@ abbrev pub IsBangCall : List ℕ → Type 0
 IsBangCall [] = ⊥
 IsBangCall (b ∷ bs) = (b ≡ 33) × BeginsWith 40 bs
 
-abbrev pub FreeWay : List ℕ → List ℕ → Outcome → Type 0
+abbrev pub FreeWay : List ℕ → List ℕ → Lexed → Type 0
 FreeWay name behind =
     Branch (BeginsWith 40 behind) (Is (word (token.Function name) behind))
     (Branch (IsBangCall behind) (With (List ℕ) (λ t. behind ≡ 33 ∷ t) (λ t. Is (word (token.BangFunction name) t)))
     (Branch (NoSegment behind) (Is (word (token.Name name) behind)) (PathWay (λ path. token.NamePath name path) behind)))
 
-abbrev pub NameWay : List ℕ → List ℕ → Outcome → Type 0
+abbrev pub NameWay : List ℕ → List ℕ → Lexed → Type 0
 NameWay name rest = Branch (Contains keywords name) (Is (word (keyword_of name) rest)) (FreeWay name rest)
 
-abbrev pub NamedWay : List ℕ → Outcome → Type 0
+abbrev pub NamedWay : List ℕ → Lexed → Type 0
 NamedWay text = With (List ℕ × List ℕ) (λ c. IsNameRun text c.0 c.1) (λ c. NameWay c.0 c.1)
 
 same_tail : (b : ℕ) (behind : List ℕ) (t u : List ℕ) → behind ≡ b ∷ t → behind ≡ b ∷ u → t ≡ u
@@ -127,7 +127,7 @@ only_free name behind =
 only_named : (text : List ℕ) → OnlyOne (NamedWay text)
 only_named text = only_with _ _ _ (λ c d one two. let same = same_longest_run one.run two.run in same_pair c d same.0 same.1) (λ c. only_branch _ _ _ (only_is _) (only_free c.0 c.1))
 
-abbrev pub LetterWay : List Piece → ℕ → List ℕ → Outcome → Type 0
+abbrev pub LetterWay : List Piece → ℕ → List ℕ → Lexed → Type 0
 LetterWay before letter behind = Branch (BeginsRaw (letter ∷ behind)) (With (List ℕ) (λ t. behind ≡ 39 ∷ t) (ClosedWay before letter)) (NamedWay (letter ∷ behind))
 
 only_letter : MomentsReadBack → (before : List Piece) (letter : ℕ) (behind : List ℕ) → OnlyOne (LetterWay before letter behind)
@@ -141,13 +141,13 @@ HasFloat behind = (last : List ℕ) × IsFloat behind last
 abbrev pub HasNumber : Bool → List ℕ → Type 0
 HasNumber negative digits = (number : ℤ) × IsNumber negative digits number
 
-abbrev pub NumeralWay : Bool → List ℕ → List ℕ → Outcome → Type 0
+abbrev pub NumeralWay : Bool → List ℕ → List ℕ → Lexed → Type 0
 NumeralWay negative digits behind =
     Branch (HasFloat behind) (With (List ℕ) (IsFloat behind) (λ t. Is (fault 1001 t)))
     (Branch (BeginsInside IsNameStart behind) (Is (fault 203 behind))
     (Branch (HasNumber negative digits) (With ℤ (IsNumber negative digits) (λ n. Is (word (token.Number n) behind))) (Is (fault 1002 behind))))
 
-abbrev pub NumberWay : Bool → List ℕ → Outcome → Type 0
+abbrev pub NumberWay : Bool → List ℕ → Lexed → Type 0
 NumberWay negative unsigned = With (List ℕ × List ℕ) (λ c. IsNumeral false unsigned c.0 c.1) (λ c. NumeralWay negative c.0 c.1)
 
 only_numeral : (negative : Bool) (c : List ℕ × List ℕ) → OnlyOne (NumeralWay negative c.0 c.1)
@@ -162,31 +162,31 @@ only_number negative unsigned = only_with _ _ _ (λ c d one two. let same = same
 -- ---- signs
 
 -- the text goes on with this byte, or it doesn't
-abbrev pub NextWay : ℕ → (List ℕ → Outcome → Type 0) → (Outcome → Type 0) → List ℕ → Outcome → Type 0
+abbrev pub NextWay : ℕ → (List ℕ → Lexed → Type 0) → (Lexed → Type 0) → List ℕ → Lexed → Type 0
 NextWay b P Q behind = Branch (BeginsWith b behind) (With (List ℕ) (λ t. behind ≡ b ∷ t) P) Q
 
-only_next : (b : ℕ) (P : List ℕ → Outcome → Type 0) (Q : Outcome → Type 0) (behind : List ℕ) → ((t : List ℕ) → OnlyOne (P t)) → OnlyOne Q → OnlyOne (NextWay b P Q behind)
+only_next : (b : ℕ) (P : List ℕ → Lexed → Type 0) (Q : Lexed → Type 0) (behind : List ℕ) → ((t : List ℕ) → OnlyOne (P t)) → OnlyOne Q → OnlyOne (NextWay b P Q behind)
 only_next b P Q behind p q = only_branch _ _ _ (only_with _ _ _ (same_tail b behind) p) q
 
-abbrev pub StrayWay : List ℕ → Outcome → Type 0
+abbrev pub StrayWay : List ℕ → Lexed → Type 0
 StrayWay behind = With (List ℕ × List ℕ) (λ c. IsLongestRun IsContinuation behind c.0 c.1) (λ c. Is (fault 203 c.1))
 
-abbrev pub JoinWay : Token → Token → List ℕ → Outcome → Type 0
+abbrev pub JoinWay : Token → Token → List ℕ → Lexed → Type 0
 JoinWay joined alone behind = NextWay 61 (λ t. Is (word joined t)) (Is (word alone behind)) behind
 
-abbrev pub BarWay : List ℕ → Outcome → Type 0
+abbrev pub BarWay : List ℕ → Lexed → Type 0
 BarWay behind = NextWay 61 (λ t. Is (word token.MergeAssign t)) (NextWay 124 (λ t. Is (word token.Or t)) (Is (piece Bar behind)) behind) behind
 
-abbrev pub QuestionWay : List ℕ → Outcome → Type 0
+abbrev pub QuestionWay : List ℕ → Lexed → Type 0
 QuestionWay behind = NextWay 63 (λ t. NextWay 61 (λ u. Is (fault 1003 u)) (Is (word token.Coalesce t)) t) (StrayWay behind) behind
 
-abbrev pub AmpersandWay : List ℕ → Outcome → Type 0
+abbrev pub AmpersandWay : List ℕ → Lexed → Type 0
 AmpersandWay behind = NextWay 38 (λ t. Is (word token.And t)) (StrayWay behind) behind
 
 abbrev pub IsOperator : List Piece → List ℕ → Type 0
 IsOperator before behind = (operand_before before ≡ true) ⊎ BeginsOutside IsDigit behind
 
-abbrev pub MinusWay : List Piece → List ℕ → Outcome → Type 0
+abbrev pub MinusWay : List Piece → List ℕ → Lexed → Type 0
 MinusWay before behind = NextWay 62 (λ t. Is (word token.Arrow t)) (Branch (IsOperator before behind) (Is (word token.Minus behind)) (NumberWay true behind)) behind
 
 only_run : (P : ℕ → Type 0) (text : List ℕ) (c d : List ℕ × List ℕ) → IsLongestRun P text c.0 c.1 → IsLongestRun P text d.0 d.1 → c ≡ d
@@ -218,7 +218,7 @@ pub data Start : Type 0 where
   single : Token → Start
   joins : Token → Token → Start
 
-abbrev pub Way : Start → List Piece → ℕ → List ℕ → Outcome → Type 0
+abbrev pub Way : Start → List Piece → ℕ → List ℕ → Lexed → Type 0
 Way blank before b bs = With (List ℕ × List ℕ) (λ c. IsLongestRun IsBlank (b ∷ bs) c.0 c.1) (λ c. Is (piece Blank c.1))
 Way newline before b bs = Is (piece Newline bs)
 Way remark before b bs = With (List ℕ × List ℕ) (λ c. IsLongestRun (λ x. x ≢ 10) bs c.0 c.1) (λ c. Is (piece Comment c.1))
@@ -317,7 +317,7 @@ start_blank b is = elim is [ inl space ↦ ap start_of space | inr (inl tab) ↦
 
 -- ---- all
 
-abbrev pub WayOf : List Piece → List ℕ → Outcome → Type 0
+abbrev pub WayOf : List Piece → List ℕ → Lexed → Type 0
 WayOf before [] = Is finish
 WayOf before (b ∷ bs) = Way (start_of b) before b bs
 

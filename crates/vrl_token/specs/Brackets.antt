@@ -1,5 +1,5 @@
--- Brackets and newlines: what `{`, `|` and a newline are among the tokens. The tokens before a place are
--- listed from the nearest on; a newline that doesn't part items is none of them.
+-- Brackets and newlines: what `{`, `|` and a newline are among the tokens. The tokens before a
+-- place are listed from the nearest on; a newline that doesn't part items is none of them.
 use Rattle.std.specs.Prelude.{ℕ, suc, Bool, true, false, ◌&&◌, ◌||◌, not, if◌then◌else◌, List, [], ◌∷◌, Option, Some, None}
 use Rattle.std.specs.List.{list_any}
 use Rattle.vrl_diag.specs.declared.diagnostic.Span.{Span}
@@ -78,7 +78,8 @@ abbrev pub behind_first : List Lexeme → List Lexeme
 behind_first [] = []
 behind_first (p ∷ ps) = ps
 
--- a line that begins with the piece goes on with the item of the line before: `??`, `||`, `&&`, `|` and `else`
+-- a line that begins with the piece goes on with the item of the line before: `??`, `||`, `&&`, `|`
+-- and `else`
 abbrev pub joins_piece : Piece → Bool
 joins_piece Bar = true
 joins_piece (Word token.Coalesce) = true
@@ -176,12 +177,13 @@ abbrev pub bar_token : List Token → Token
 bar_token before = if arrow_before before then token.OpenBars
     else if list_any is_bars (open_behind before) then token.CloseBars else token.Merge
 
--- A newline parts items unless it stands in a bracket that encloses it, behind a token where the item goes
--- on, or before a piece that joins lines.
+-- A newline parts items unless it stands in a bracket that encloses it, behind a token where the
+-- item goes on, or before a piece that joins lines.
 abbrev pub newline_parts : List Token → List Lexeme → Bool
 newline_parts before behind = not (encloses (open_behind before)) && (not (goes_on_behind before) && not (joins behind))
 
--- the token that a piece is between the tokens before it and the pieces behind it; some pieces are none
+-- the token that a piece is between the tokens before it and the pieces behind it; some pieces are
+-- none
 abbrev pub token_of : List Token → Piece → List Lexeme → Option Token
 token_of before Blank behind = None
 token_of before Comment behind = None

@@ -12,7 +12,8 @@ spelling_of [] = []
 spelling_of (plain b ∷ cs) = b ∷ spelling_of cs
 spelling_of (escaped b ∷ cs) = 92 ∷ b ∷ spelling_of cs
 
--- The character may stand between these quotes: neither the quote nor a backslash stands there for itself.
+-- The character may stand between these quotes: neither the quote nor a backslash stands there for
+-- itself.
 abbrev pub IsInside : ℕ → Character → Type 0
 IsInside quote (plain b) = (b ≢ quote) × (b ≢ 92)
 IsInside quote (escaped b) = Unit {0}

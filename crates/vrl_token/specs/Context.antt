@@ -1,4 +1,5 @@
--- What the pieces before a place say about what may stand there. They are listed from the nearest on.
+-- What the pieces before a place say about what may stand there. They are listed from the nearest
+-- on.
 use Rattle.std.specs.Prelude.{ℕ, suc, Bool, true, false, List, [], ◌∷◌}
 use Rattle.vrl_token.specs.declared.piece.Piece.{Piece}
 use Rattle.vrl_token.specs.declared.piece.Piece.TheVariants.{Blank, Comment, Newline, Brace, Bar, Word}

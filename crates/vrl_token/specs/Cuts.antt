@@ -1,4 +1,5 @@
--- Words of the code for cutting off one piece; the pieces are those of `Pieces`, and the faults those of `Faults`.
+-- Words of the code for cutting off one piece; the pieces are those of `Pieces`, and the faults
+-- those of `Faults`.
 use Rattle.std.specs.Prelude.{◌≡◌, ◌≢◌, ℕ, ◌-◌, ◌<◌, ◌⊎◌, true, List, ◌∷◌, length, codes, Option, MatchOption}
 use denote.Ref.{Bor}
 use Rattle.vrl_token.specs.declared.context.Context.{Context}
@@ -77,7 +78,8 @@ pub record LeavesBehind (text : List ℕ) (left : ℕ) : Type 0 where
   pub run : IsLongestRun IsContinuation text others rest
   pub length_is : left ≡ length rest
 
--- a byte with which a sign begins, or none: no blank, newline, comment, literal, name, path or square bracket does
+-- a byte with which a sign begins, or none: no blank, newline, comment, literal, name, path or
+-- square bracket does
 abbrev pub IsNoOther : ℕ → Type 0
 IsNoOther b =
     (b < 128) × ¬ IsBlank b × ¬ IsDigit b × ¬ IsNameStart b × (b ≢ 10) × (b ≢ 35) × (b ≢ 34) × (b ≢ 46) × (b ≢ 91)

@@ -1,5 +1,5 @@
--- The division of a text into pieces: they join to the text, each is a spelling of its sort behind the pieces
--- before it, and none could be longer.
+-- The division of a text into pieces: they join to the text, each is a spelling of its sort behind
+-- the pieces before it, and none could be longer.
 use Rattle.std.specs.Prelude.{◌≡◌, ℕ, ◌-◌, Bool, true, false, List, [], ◌∷◌, length, filter}
 use Rattle.vrl_diag.specs.declared.diagnostic.Diagnostic.{Diagnostic}
 use Rattle.vrl_diag.specs.declared.diagnostic.Span.{Span}
@@ -18,8 +18,8 @@ abbrev pub pieces_behind : List Piece → List Lexeme → List Piece
 pieces_behind before [] = before
 pieces_behind before (p ∷ ps) = pieces_behind (p.piece ∷ before) ps
 
--- Behind the pieces before it, the text is these pieces and a rest. Spans are told in the whole text, which
--- has so many bytes.
+-- Behind the pieces before it, the text is these pieces and a rest. Spans are told in the whole
+-- text, which has so many bytes.
 abbrev pub Leads : ℕ → List Piece → List ℕ → List Lexeme → List ℕ → Type 0
 Leads total before text [] rest = text ≡ rest
 Leads total before text (p ∷ ps) rest = (next : List ℕ) × Begins before p.piece text next

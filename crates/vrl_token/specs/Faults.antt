@@ -11,8 +11,8 @@ use Rattle.vrl_token.specs.Paths.{EventSegments, HasFlaw, Segment, Segments}
 use Rattle.vrl_token.specs.Context.{closes_before, regexes_before}
 use Rattle.vrl_token.specs.Words.{BeginsWithout, IsFreeName, IsNonempty, IsNumberToken, IsRaw, IsRawLetter, IsTextSpelling, MayHaveSign, NoSuffix}
 
--- newline, `#`, `"`, `.`, `=`, `|`, `!`, `<`, `>`, `+`, `-`, `*`, `?`, `&`, `(`, `)`, `[`, `]`, `{`, `}`,
--- `,`, `:`, `;`, `/` or `%`
+-- newline, `#`, `"`, `.`, `=`, `|`, `!`, `<`, `>`, `+`, `-`, `*`, `?`, `&`, `(`, `)`, `[`, `]`,
+-- `{`, `}`, `,`, `:`, `;`, `/` or `%`
 abbrev pub IsMark : ℕ → Type 0
 IsMark b = (b ≡ 10) ⊎ (b ≡ 35) ⊎ (b ≡ 34) ⊎ (b ≡ 46) ⊎ (b ≡ 61) ⊎ (b ≡ 124) ⊎ (b ≡ 33) ⊎ (b ≡ 60) ⊎ (b ≡ 62) ⊎ (b ≡ 43)
     ⊎ (b ≡ 45) ⊎ (b ≡ 42) ⊎ (b ≡ 63) ⊎ (b ≡ 38) ⊎ (b ≡ 40) ⊎ (b ≡ 41)
@@ -69,7 +69,8 @@ pub data IsFault (before : List Piece) (text : List ℕ) (code : ℕ) (rest : Li
   large_number : (negative : Bool) (digits : List ℕ) → IsNumberToken before text digits rest negative
       → BeginsOutside IsNameStart rest → ((number : ℤ) → ¬ IsNumber negative digits number) → code ≡ 1002
       → IsFault before text code rest
-  -- a path of the event, a path behind a name, or a suffix, with an unknown escape or an index of more than 64 bits
+  -- a path of the event, a path behind a name, or a suffix, with an unknown escape or an index of
+  -- more than 64 bits
   event_path : (segments : List Segment) → EventSegments text segments rest → NoSuffix before text
       → HasFlaw segments code → IsFault before text code rest
   name_path : (name behind : List ℕ) (segments : List Segment) → IsFreeName text name behind

@@ -1,5 +1,5 @@
--- How deep tokens are nested. Tokens are listed from the last one on, so that the tokens before a place are
--- the end of such a list.
+-- How deep tokens are nested. Tokens are listed from the last one on, so that the tokens before a
+-- place are the end of such a list.
 use Rattle.std.specs.Prelude.{◌≡◌, ℕ, ◌+◌, ◌<◌, ◌==◌, ◌⊎◌, Bool, true, false, ◌&&◌, if◌then◌else◌, List, [], ◌∷◌, ◌++◌, length}
 use Rattle.vrl_token.specs.declared.token.Token.{Token}
 use Rattle.vrl_token.specs.declared.token.Token.TheVariants as token
@@ -51,15 +51,15 @@ parts token.Comma = true
 parts token.Else = true
 parts _ = false
 
--- the stretches behind a token: a bracket begins one inside, a closing bracket goes back to the one around
--- it, and separators, commas and `else` begin one at the same level
+-- the stretches behind a token: a bracket begins one inside, a closing bracket goes back to the one
+-- around it, and separators, commas and `else` begin one at the same level
 abbrev pub stretches_from : Token → ℕ → List ℕ → List ℕ
 stretches_from t n around =
     if opens t then n ∷ around else if closes t then without_innermost around
     else if parts t then with_innermost n around else around
 
--- the stretches that go on behind these tokens, the innermost first; each is named by how many tokens stand
--- before its start
+-- the stretches that go on behind these tokens, the innermost first; each is named by how many
+-- tokens stand before its start
 abbrev pub stretches_behind : List Token → List ℕ
 stretches_behind [] = 0 ∷ []
 stretches_behind (t ∷ ts) = stretches_from t (length (t ∷ ts)) (stretches_behind ts)
@@ -73,14 +73,15 @@ abbrev pub count_in : ℕ → List Token → ℕ
 count_in s [] = 0
 count_in s (t ∷ ts) = (if is_counted t && is_innermost s (stretches_behind ts) then 1 else 0) + count_in s ts
 
--- the nesting of the innermost of stretches that hold one another: its count, and where it stands in a
--- bracket one more and the nesting of the stretch that holds the bracket
+-- the nesting of the innermost of stretches that hold one another: its count, and where it stands
+-- in a bracket one more and the nesting of the stretch that holds the bracket
 abbrev pub nesting_in : List Token → List ℕ → ℕ
 nesting_in all [] = 0
 nesting_in all (s ∷ []) = count_in s all
 nesting_in all (s ∷ r ∷ rs) = count_in s all + (1 + nesting_in all (r ∷ rs))
 
--- behind these of all the tokens a nesting is over 64, or more than four bodies of closures are open
+-- behind these of all the tokens a nesting is over 64, or more than four bodies of closures are
+-- open
 abbrev pub IsDeepAt : List Token → List Token → Type 0
 IsDeepAt all before = (64 < nesting_in all (stretches_behind before)) ⊎ (4 < bodies_in (open_behind before))
 

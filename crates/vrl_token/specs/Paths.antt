@@ -58,8 +58,8 @@ abbrev pub Segments : List ℕ → List Segment → List ℕ → Type 0
 Segments text [] rest = (text ≡ rest) × ((segment : Segment) (behind : List ℕ) → ¬ BeginsDotted text segment behind)
 Segments text (segment ∷ segments) rest = (next : List ℕ) × BeginsDotted text segment next × Segments next segments rest
 
--- The text is the segments of a path of the event, and a rest. Behind the dot that such a path begins with,
--- the first segment has no dot of its own; the dot alone is the whole event.
+-- The text is the segments of a path of the event, and a rest. Behind the dot that such a path
+-- begins with, the first segment has no dot of its own; the dot alone is the whole event.
 abbrev pub EventSegments : List ℕ → List Segment → List ℕ → Type 0
 EventSegments text [] rest =
     (text ≡ 46 ∷ rest) × ((segment : Segment) (behind : List ℕ) → ¬ BeginsUndotted rest segment behind)
@@ -95,7 +95,8 @@ pub record HasSteps (segments : List Segment) (steps : List Step) : Type 0 where
   pub in_range : AllByRecursion IsInRange segments
   pub gives : steps ≡ steps_of segments
 
--- the code of what is wrong with segments: an escape that isn't known (203), else an index out of range (1002)
+-- the code of what is wrong with segments: an escape that isn't known (203), else an index out of
+-- range (1002)
 abbrev pub HasFlaw : List Segment → ℕ → Type 0
 HasFlaw segments code = ((code ≡ 203) × ¬ AllByRecursion IsReadable segments)
     ⊎ ((code ≡ 1002) × AllByRecursion IsReadable segments × ¬ AllByRecursion IsInRange segments)

@@ -1,5 +1,5 @@
--- The pieces that a text is cut into: blanks, comments, newlines and tokens. What `{` and `|` are is told by
--- the tokens around them.
+-- The pieces that a text is cut into: blanks, comments, newlines and tokens. What `{` and `|` are
+-- is told by the tokens around them.
 use Rattle.std.specs.Prelude.{◌≡◌, ◌≢◌, ℕ, ◌<◌, List, ◌∷◌, length}
 use Rattle.vrl_token.specs.declared.piece.Piece.{Piece}
 use Rattle.vrl_token.specs.declared.piece.Piece.TheVariants.{Blank, Comment, Newline, Brace, Bar, Word}

@@ -1,5 +1,5 @@
--- Words of the code for cutting a text at its closing quote, and for reading its escapes; the characters are
--- those of `Characters`.
+-- Words of the code for cutting a text at its closing quote, and for reading its escapes; the
+-- characters are those of `Characters`.
 use Rattle.std.specs.Prelude.{◌≡◌, ◌≢◌, ℕ, ◌⊎◌, List, [], ◌∷◌, length}
 use Rattle.std.specs.List.{AllByRecursion}
 use Rattle.vrl_token.specs.Characters.{Character, IsInside, IsQuoted, spelling_of}
@@ -17,7 +17,8 @@ pub record IsCut (quote : ℕ) (text inner rest : List ℕ) : Type 0 where
   pub is_quoted : IsQuoted quote text characters rest
   pub spelled : inner ≡ spelling_of characters
 
--- what the start of a text that stands behind a backslash means with it, and what goes on behind that
+-- what the start of a text that stands behind a backslash means with it, and what goes on behind
+-- that
 abbrev pub RawPair : List ℕ → List ℕ → List ℕ → Type 0
 RawPair escaped meaning behind =
     ((escaped ≡ 39 ∷ behind) × (meaning ≡ 39 ∷ []))

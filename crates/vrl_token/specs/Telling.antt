@@ -1,4 +1,5 @@
--- Words of the code for telling what brackets, bars and newlines are; the rules are those of `Brackets`.
+-- Words of the code for telling what brackets, bars and newlines are; the rules are those of
+-- `Brackets`.
 use Rattle.std.specs.Prelude.{◌≡◌, Bool, true, false, if◌then◌else◌, List, [], ◌∷◌, reverse, ℕ, suc}
 use Rattle.vrl_token.specs.declared.ahead.Ahead.{Ahead}
 use Rattle.vrl_token.specs.declared.ahead.Ready.{Ready}

@@ -1,4 +1,5 @@
--- The spellings of tokens: how a text that begins with a token goes on. No spelling could be longer.
+-- The spellings of tokens: how a text that begins with a token goes on. No spelling could be
+-- longer.
 use Rattle.std.specs.Prelude.{◌≡◌, ℕ, ◌<◌, ◌⊎◌, Bool, true, false, Contains, List, [], ◌∷◌, codes}
 use Rattle.std.specs.List.{AllByRecursion}
 use Rattle.vrl_value.specs.Rfc3339.{IsReading}

@@ -212,7 +212,8 @@ impl Before {
         )
     }
 
-    /// The token that a piece is here. `None`: a newline that parts no items, or a blank or a comment.
+    /// The token that a piece is here. `None`: a newline that parts no items, or a blank or a
+    /// comment.
     pub(crate) fn token_of(&self, piece: Piece, ahead: Ahead) -> Option<Token>
         ensures { (before : List SpecToken) (behind : List SpecLexeme) → IsBefore before self.now
             → IsAhead behind ahead → result ≡ token_of before piece behind }

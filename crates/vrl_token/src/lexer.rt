@@ -13,8 +13,8 @@ use std::alloc::Global;
 use vrl_diag::{Diagnostic, Span};
 use vrl_value::Memory;
 
-// What stands between the place behind which `from` bytes stand and the one behind which `left` bytes stand,
-// in a text of `total` bytes.
+// What stands between the place behind which `from` bytes stand and the one behind which `left`
+// bytes stand, in a text of `total` bytes.
 fn span_between(total: usize, from: usize, left: usize) -> Span
     requires fits { total ≤ script_limit }
     requires starts { from ≤ total }
@@ -50,8 +50,8 @@ fn push_kept(found: &mut Vec<Lexeme>, lexeme: Lexeme) -> Result<(), Memory>
     Ok(())
 }
 
-/// The pieces of a text but its blanks and comments, in order. `Fault`: the first fault of its spellings.
-/// `Memory`: want of memory.
+/// The pieces of a text but its blanks and comments, in order. `Fault`: the first fault of its
+/// spellings. `Memory`: want of memory.
 pub(crate) fn lexemes(alloc: Global, text: &str) -> Result<Vec<Lexeme>, SyntaxFault>
     requires { length text.now ≤ script_limit }
     ensures ok { IfOk result (λ found. (pieces : List SpecLexeme) × IsDivision text.now pieces

@@ -2,11 +2,12 @@
 //! (vector.dev/docs/reference/vrl).
 //!
 //! Files: `reading.rt` (`script_text`, `tokens`) calls `lexer.rt`, which cuts a text into pieces
-//! (`piece.rt`): `cut.rt`, with `literals.rt`, `names.rt` and `signs.rt` over `scan.rt`, `number.rt`,
-//! `quoted.rt`, `segment.rt` and `path.rt`, and what stands before in `context.rt`. Then `telling.rt` says
-//! what braces, bars and newlines are, by what stands behind (`ahead.rt`) and before (`before.rt`, with the
-//! open brackets of `bracket.rt`), and `nesting.rt` how deep tokens are nested. `token.rt` has the tokens,
-//! `fault.rt` why there are none, and `laws.rt` that a text has one list of them.
+//! (`piece.rt`): `cut.rt`, with `literals.rt`, `names.rt` and `signs.rt` over `scan.rt`,
+//! `number.rt`, `quoted.rt`, `segment.rt` and `path.rt`, and what stands before in `context.rt`.
+//! Then `telling.rt` says what braces, bars and newlines are, by what stands behind (`ahead.rt`)
+//! and before (`before.rt`, with the open brackets of `bracket.rt`), and `nesting.rt` how deep
+//! tokens are nested. `token.rt` has the tokens, `fault.rt` why there are none, and `laws.rt` that
+//! a text has one list of them.
 #![tactic(auto)]
 
 mod ahead;

@@ -70,7 +70,8 @@ pub(crate) fn cut_text(alloc: Global, behind: &str) -> Result<Cut<'_>, Memory>
     Ok(cut_read(unescaped(alloc, inner)?, rest))
 }
 
-// The token of what stands between the quotes of a raw text, a regex or a timestamp, which begins with this letter.
+// The token of what stands between the quotes of a raw text, a regex or a timestamp, which begins
+// with this letter.
 fn cut_value<'a>(letter: u8, value: Chars, rest: &'a str, regexes_left: usize) -> Cut<'a>
     requires { IsRawLetter letter }
     ensures { (before : List SpecPiece) (text : List ℕ) (characters : List Character)
@@ -105,7 +106,8 @@ pub(crate) fn cut_raw<'a>(
     Ok(cut_value(letter, raw(alloc, inner)?, rest, regexes_left))
 }
 
-/// The number whose digits a text begins with. Where the flag says so a minus stands before them and belongs to it.
+/// The number whose digits a text begins with. Where the flag says so a minus stands before them
+/// and belongs to it.
 pub(crate) fn cut_number(negative: bool, unsigned: &str) -> Cut<'_>
     requires { BeginsInside IsDigit unsigned.now }
     ensures { (before : List SpecPiece) (text : List ℕ) → MayHaveSign before negative

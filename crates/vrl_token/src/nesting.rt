@@ -1,5 +1,5 @@
 ghost use Rattle.std.specs.Prelude.{◌≡◌, ◌↔◌, ◌+◌, ◌∷◌, [], IfOk, IsTrue, List, OnOk, get_or, length, reverse, set, suc};
-ghost use Rattle.vrl_token.specs.Depths.{AreCounts, IsPlace, IsTally, first_of, held, levels_of, nesting_behind, nesting_inside, numbers_of};
+ghost use Rattle.vrl_token.specs.Depths.{AreCounts, IsProgress, IsTally, first_of, held, levels_of, nesting_behind, nesting_inside, numbers_of};
 ghost use Rattle.vrl_token.specs.Nesting.{IsDeepAt, IsTooDeep, count_in, is_counted, parts, stretches_from, without_innermost};
 ghost use Rattle.vrl_token.specs.Reading.{backwards};
 ghost use Rattle.vrl_token.specs.declared.token.Token.{Token as SpecToken};
@@ -121,7 +121,8 @@ impl Stretches {
         Ok(())
     }
 
-    // With nestings as numbers: the nesting of a stretch that begins behind the token and has this count.
+    // With nestings as numbers: the nesting of a stretch that begins behind the token and has this
+    // count.
     fn nesting_behind(&self, token: &Token, count: usize) -> usize
         ensures { result ≡ nesting_behind token.now count (numbers_of self.now) }
     {
@@ -225,28 +226,29 @@ fn counts_of(alloc: Global, tokens: &[Spanned]) -> Result<Vec<usize>, Memory>
     Ok(tally.into_counts())
 }
 
-// A place among tokens: how deep the stretches are nested that go on there, and what the tokens before it say.
-struct Place {
+// How far a walk over tokens has come: how deep the stretches are nested that go on there, and what
+// the tokens before it say.
+struct Progress {
     nestings: Stretches,
     before: Before,
 }
 
-// Written out, so that a place is let go by one call.
-impl Drop for Place {
+// Written out, so that it is let go by one call.
+impl Drop for Progress {
     fn drop(self) {
-        let Place {
+        let Progress {
             nestings: _,
             before: _,
         } = self;
     }
 }
 
-impl Place {
+impl Progress {
     // Before all tokens; the stretch there has this count.
-    fn start(alloc: Global, count: usize) -> Place
-        ensures { (all : List SpecToken) → count ≡ held (count_in 0 all) → IsPlace all [] result }
+    fn start(alloc: Global, count: usize) -> Progress
+        ensures { (all : List SpecToken) → count ≡ held (count_in 0 all) → IsProgress all [] result }
     {
-        Place {
+        Progress {
             nestings: Stretches::new(alloc, count),
             before: Before::start(alloc),
         }
@@ -255,7 +257,7 @@ impl Place {
     // Behind one more token; a stretch that begins there has this count.
     fn add(&mut self, token: &Token, count: usize) -> Result<(), Memory>
         ensures { OnOk result ((all before : List SpecToken) → count ≡ held (count_in (suc (length before)) all)
-            → IsPlace all before self.old → IsPlace all (token.now ∷ before) self.new) }
+            → IsProgress all before self.old → IsProgress all (token.now ∷ before) self.new) }
     {
         let nesting = self.nestings.nesting_behind(token, count);
         self.nestings.add(token, nesting)?;
@@ -265,25 +267,26 @@ impl Place {
 
     // Whether the tokens are nested too deeply here.
     fn is_deep(&self) -> bool
-        ensures { (all before : List SpecToken) → IsPlace all before self.now → IsTrue result ↔ IsDeepAt all before }
+        ensures { (all before : List SpecToken) → IsProgress all before self.now → IsTrue result ↔ IsDeepAt all before }
     {
         self.nestings.innermost > DEPTH || self.before.bodies() > BODIES
     }
 }
 
-/// Whether tokens are nested too deeply: a nesting over 64, or more than four open bodies of closures. Goes
-/// over the tokens twice, since the count of a stretch takes in its tokens behind an inner bracket.
+/// Whether tokens are nested too deeply: a nesting over 64, or more than four open bodies of
+/// closures. Goes over the tokens twice, since the count of a stretch takes in its tokens behind an
+/// inner bracket.
 pub(crate) fn is_nested_too_deeply(alloc: Global, tokens: &[Spanned]) -> Result<bool, Memory>
     ensures { IfOk result (λ deep. IsTrue deep ↔ IsTooDeep (backwards tokens.now)) }
 {
     let counts = counts_of(alloc, tokens)?;
-    let mut place = Place::start(alloc, counts[0]);
-    if place.is_deep() {
+    let mut progress = Progress::start(alloc, counts[0]);
+    if progress.is_deep() {
         return Ok(true);
     }
     for (before, spanned) in tokens.iter().enumerate() {
-        place.add(&spanned.token, counts[before + 1])?;
-        if place.is_deep() {
+        progress.add(&spanned.token, counts[before + 1])?;
+        if progress.is_deep() {
             return Ok(true);
         }
     }

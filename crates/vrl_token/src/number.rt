@@ -7,7 +7,8 @@ ghost use Rattle.vrl_token.specs.Numerals.{IsDigitsCut, NoPowerLetter, PowerLett
 
 use crate::scan::{Class, begins_in, split_run, strip_mark};
 
-// The value of digits with one more of them; `_` counts for nothing. `None`: it has more than 64 bits.
+// The value of digits with one more of them; `_` counts for nothing. `None`: it has more than 64
+// bits.
 fn with_digit(value: u64, byte: u8) -> Option<u64>
     ensures { SomeIff result (value_with value byte < 2 ^ 64) (value_with value byte) }
 {
@@ -30,8 +31,8 @@ fn magnitude(digits: &str) -> Option<u64>
     Some(value)
 }
 
-/// The number that digits stand for behind a minus, where the flag says so. `None`: it has more than 64 bits
-/// with its sign.
+/// The number that digits stand for behind a minus, where the flag says so. `None`: it has more
+/// than 64 bits with its sign.
 pub(crate) fn number_of(negative: bool, digits: &str) -> Option<i64>
     ensures { let number = signed negative (decimal_value 0 digits.now) in SomeIff result
         (FitsSigned w64 number) number }
@@ -44,8 +45,8 @@ pub(crate) fn number_of(negative: bool, digits: &str) -> Option<i64>
     }
 }
 
-// Whether a text that follows digits goes on with them: with a digit, or with `_` and a digit. Then, what
-// stands behind the `_`.
+// Whether a text that follows digits goes on with them: with a digit, or with `_` and a digit.
+// Then, what stands behind the `_`.
 fn behind_underscore(text: &str) -> Option<&str>
     ensures { MatchOption result
         ((behind : List ℕ) → text.now ≡ 95 ∷ behind → BeginsOutside IsDigit behind)
@@ -67,7 +68,8 @@ fn behind_digits(text: &str) -> &str
     rest
 }
 
-/// Cuts a text behind the digits that it begins with, with single `_` between them, as many as can be.
+/// Cuts a text behind the digits that it begins with, with single `_` between them, as many as can
+/// be.
 pub(crate) fn split_digits(text: &str) -> (&str, &str)
     requires { BeginsInside IsDigit text.now }
     ensures parts { text.now ≡ result.0.now ++ result.1.now }
@@ -129,8 +131,8 @@ fn behind_fraction(text: &str) -> Option<&str>
     Some(rest)
 }
 
-/// What stands behind the rest of a float that the text behind its first digits begins with. `None` where it
-/// begins with none.
+/// What stands behind the rest of a float that the text behind its first digits begins with. `None`
+/// where it begins with none.
 pub(crate) fn behind_float(text: &str) -> Option<&str>
     ensures { MatchOption result ((rest : List ℕ) → ¬ IsFloat text.now rest) (λ rest. IsFloat text.now rest.now) }
 {

@@ -27,7 +27,8 @@ impl Gathering {
         }
     }
 
-    // Notes what is wrong with one more segment; an unknown escape goes before an index out of range.
+    // Notes what is wrong with one more segment; an unknown escape goes before an index out of
+    // range.
     fn note(&mut self, flaw: Flaw)
         ensures steps { self.new.steps ≡ self.old.steps }
         ensures flaw { Keeps self.old.flaw flaw self.new.flaw }
@@ -65,7 +66,8 @@ impl Gathering {
         Ok(rest)
     }
 
-    /// Takes the segments of the path of the event whose dot stands before a text, and gives what stands behind them.
+    /// Takes the segments of the path of the event whose dot stands before a text, and gives what
+    /// stands behind them.
     pub(crate) fn gather_event<'a>(
         &mut self,
         alloc: Global,

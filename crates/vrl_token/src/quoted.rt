@@ -7,7 +7,8 @@ use crate::scan::{split_at_mark, split_byte, strip_mark};
 use std::alloc::Global;
 use vrl_value::{Chars, Memory};
 
-// How many bytes stand before the closing quote of the text behind an opening one. `None` where it isn't closed.
+// How many bytes stand before the closing quote of the text behind an opening one. `None` where it
+// isn't closed.
 fn closing_quote(text: &str, quote: u8) -> Option<usize>
     requires { quote ≢ 92 }
     ensures { MatchOption result (IsUnclosed quote text.now) (IsClosedAt quote text.now) }
@@ -27,8 +28,8 @@ fn closing_quote(text: &str, quote: u8) -> Option<usize>
     None
 }
 
-/// Cuts a text that stands behind an opening quote into what stands before its closing quote, and what stands
-/// behind that. `None` where it isn't closed.
+/// Cuts a text that stands behind an opening quote into what stands before its closing quote, and
+/// what stands behind that. `None` where it isn't closed.
 pub(crate) fn split_quoted(text: &str, quote: u8) -> Option<(&str, &str)>
     requires ascii { quote < 128 }
     requires other { quote ≢ 92 }
@@ -40,7 +41,8 @@ pub(crate) fn split_quoted(text: &str, quote: u8) -> Option<(&str, &str)>
     Some((inner, rest))
 }
 
-// What the letter behind a backslash stands for, in a text or a quoted field. `None` where it stands for nothing.
+// What the letter behind a backslash stands for, in a text or a quoted field. `None` where it
+// stands for nothing.
 fn escape(letter: u8) -> Option<&'static str>
     ensures { MatchOption result (¬ IsEscape letter) (λ meaning. IsEscape letter
         × (meaning.now ≡ escape_of letter ∷ [])) }
@@ -57,7 +59,8 @@ fn escape(letter: u8) -> Option<&'static str>
     }
 }
 
-/// The text that the characters between `"` stand for. `None` where an escape is none that the language has.
+/// The text that the characters between `"` stand for. `None` where an escape is none that the
+/// language has.
 pub(crate) fn unescaped(alloc: Global, inner: &str) -> Result<Option<Chars>, Memory>
     ensures { IfOk result (λ found. MatchOption found
         ((characters : List Character) → IsInner 34 inner.now characters → ¬ AllByRecursion IsKnown characters)
@@ -81,8 +84,8 @@ pub(crate) fn unescaped(alloc: Global, inner: &str) -> Result<Option<Chars>, Mem
     Ok(Some(Chars::new(text)))
 }
 
-// What the start of a text that stands behind a backslash stands for in a raw text, with the backslash, and
-// what goes on behind that.
+// What the start of a text that stands behind a backslash stands for in a raw text, with the
+// backslash, and what goes on behind that.
 fn raw_pair(escaped: &str) -> (&'static str, &str)
     ensures { RawPair escaped.now result.0.now result.1.now }
 {

@@ -33,8 +33,8 @@ fn too_deep() -> SyntaxFault
     SyntaxFault::Fault(of_all(code::NESTED_TOO_DEEPLY))
 }
 
-/// The text of a script. `Err`: 1009 at 0..0, where there are over 65,536 bytes or they are not UTF-8 (RFC
-/// 3629). Takes no memory.
+/// The text of a script. `Err`: 1009 at 0..0, where there are over 65,536 bytes or they are not
+/// UTF-8 (RFC 3629). Takes no memory.
 pub fn script_text(bytes: &[u8]) -> Result<&str, Diagnostic>
     ensures text { IfOk result (λ text. text.now ≡ bytes.now) }
     ensures ok { IfOk result (λ text. (length text.now ≤ script_limit) × IsUtf8 text.now) }
@@ -50,12 +50,13 @@ pub fn script_text(bytes: &[u8]) -> Result<&str, Diagnostic>
     }
 }
 
-/// The tokens of a text of at most 65,536 bytes. The text is scanned once, and its tokens are gone over a few times.
+/// The tokens of a text of at most 65,536 bytes. The text is scanned once, and its tokens are gone
+/// over a few times.
 ///
-/// `Fault`: the first of its spellings that is at fault, by place: 203 for what is no spelling, 1001 for a
-/// float, 1002 for a number out of range, 1003 for an operator that is left out, 1014 for a timestamp that
-/// RFC 3339 doesn't read, and 1016 for a template or a 257th regex literal; and where none is, 1008 for
-/// tokens that are nested too deeply. `Memory`: want of memory.
+/// `Fault`: the first of its spellings that is at fault, by place: 203 for what is no spelling,
+/// 1001 for a float, 1002 for a number out of range, 1003 for an operator that is left out, 1014
+/// for a timestamp that RFC 3339 doesn't read, and 1016 for a template or a 257th regex literal;
+/// and where none is, 1008 for tokens that are nested too deeply. `Memory`: want of memory.
 pub fn tokens(alloc: Global, text: &str) -> Result<Tokens, SyntaxFault>
     requires { length text.now ≤ script_limit }
     ensures ok { IfOk result (λ found. IsTokenized text.now found.tokens) }

@@ -70,7 +70,8 @@ pub(crate) fn split_line(text: &str) -> (&str, &str)
     text.split_at(line_length(text))
 }
 
-/// Cuts off the first byte of a text, where it is an ASCII character. `None` where it is none, or the text is empty.
+/// Cuts off the first byte of a text, where it is an ASCII character. `None` where it is none, or
+/// the text is empty.
 pub(crate) fn split_byte(text: &str) -> Option<(u8, &str)>
     ensures { MatchOption result (HasNoByte text.now) (λ cut. (text.now ≡ cut.0 ∷ cut.1.now) × (cut.0 < 128)) }
 {
@@ -85,7 +86,8 @@ pub(crate) fn split_byte(text: &str) -> Option<(u8, &str)>
     Some((first, rest))
 }
 
-/// What stands behind the ASCII character that a text begins with. `None` where it doesn't begin with it.
+/// What stands behind the ASCII character that a text begins with. `None` where it doesn't begin
+/// with it.
 pub(crate) fn strip_mark(text: &str, mark: char) -> Option<&str>
     requires { mark < 128 }
     ensures { MatchOption result

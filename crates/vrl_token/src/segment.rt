@@ -62,8 +62,8 @@ fn split_field(text: &str) -> Option<(Segment<'_>, &str)>
     Some((Segment::Quoted(inner), rest))
 }
 
-/// The segment that a text behind the dot of a path begins with, and what stands behind it. `None` where it
-/// begins with none.
+/// The segment that a text behind the dot of a path begins with, and what stands behind it. `None`
+/// where it begins with none.
 pub(crate) fn split_undotted(text: &str) -> Option<(Segment<'_>, &str)>
     ensures { CutsUndotted text.now result }
 {
@@ -73,8 +73,8 @@ pub(crate) fn split_undotted(text: &str) -> Option<(Segment<'_>, &str)>
     }
 }
 
-/// The segment, with the dot before a field, that a text begins with, and what stands behind it. `None` where
-/// it begins with none.
+/// The segment, with the dot before a field, that a text begins with, and what stands behind it.
+/// `None` where it begins with none.
 pub(crate) fn split_dotted(text: &str) -> Option<(Segment<'_>, &str)>
     ensures { CutsDotted text.now result }
 {

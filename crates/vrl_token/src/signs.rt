@@ -11,7 +11,8 @@ use crate::scan::strip_mark;
 use crate::token::Token;
 use vrl_diag::code;
 
-// A sign that may go on with `=`: the token alone, or joined with it. The sign's first byte stands before the text.
+// A sign that may go on with `=`: the token alone, or joined with it. The sign's first byte stands
+// before the text.
 fn cut_equals(alone: Token, joined: Token, behind: &str) -> Cut<'_>
     ensures { IsEqualsCut behind.now alone joined result }
 {
@@ -34,8 +35,8 @@ fn cut_bar(behind: &str) -> Cut<'_>
     }
 }
 
-// `??`, the operator `??=` that is left out, or a `?` that is part of no spelling. Its first byte stands
-// before the text.
+// `??`, the operator `??=` that is left out, or a `?` that is part of no spelling. Its first byte
+// stands before the text.
 fn cut_question(behind: &str) -> Cut<'_>
     ensures { (before : List SpecPiece) → IsCutOf before (63 ∷ behind.now) result }
 {

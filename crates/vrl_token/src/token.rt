@@ -11,8 +11,8 @@ pub enum Token {
     Text(Chars),
     /// `s'..'`, where `\'` is a quote and every other backslash stands for itself.
     RawText(Chars),
-    /// `r'..'`, a regular expression: its source, in which `\'` is a quote and every other backslash stands
-    /// for itself.
+    /// `r'..'`, a regular expression: its source, in which `\'` is a quote and every other
+    /// backslash stands for itself.
     Regex(Chars),
     /// `t'..'`, a date and time of RFC 3339.
     Timestamp(Moment),
@@ -36,7 +36,8 @@ pub enum Token {
     Name(Chars),
     /// The name of a function directly before `(`: `f` of `f(`.
     Function(Chars),
-    /// The name of a function and a bang directly before `(`: `f!` of `f!(`. The text lacks the bang.
+    /// The name of a function and a bang directly before `(`: `f!` of `f!(`. The text lacks the
+    /// bang.
     BangFunction(Chars),
     /// A path of the event: `.`, `.a`, `.a[0]`. For `.` alone it has no steps.
     EventPath(Path),
@@ -137,7 +138,8 @@ pub struct Spanned {
     pub span: Span,
 }
 
-/// Tokens in the order in which they stand, and where their text ends. A contract sees their list and that place.
+/// Tokens in the order in which they stand, and where their text ends. A contract sees their list
+/// and that place.
 #[derive(Drop)]
 pub struct Tokens {
     tokens: Vec<Spanned>,

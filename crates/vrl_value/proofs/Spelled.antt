@@ -86,19 +86,19 @@ number_again (suc k) n rest h =
     let whole : n / 10 * 10 + (48 + n % 10 - 48) ≡ n = omega arith in
     rw (digits-last k n rest, number_again k (n / 10) ((48 + n % 10) ∷ rest) (omega (arith, h, pow-suc 10 k)), test, whole)
 
--- ---- behind a mark
+-- ---- behind a sign
 
-pub behind_takes : (mark n : ℕ) (text rest : List ℕ) → behind mark text ≡ Some (n, rest) → (text ≡ mark ∷ (digits 2 n ++ rest)) × (n < 100)
+pub behind_takes : (sign n : ℕ) (text rest : List ℕ) → behind sign text ≡ Some (n, rest) → (text ≡ sign ∷ (digits 2 n ++ rest)) × (n < 100)
 unfolding behind
-behind_takes mark n [] rest e = absurd cc
-behind_takes mark n (b ∷ text) rest e =
-    let test = passed (eqb b mark) (number_at 2 text) (n, rest) e in
+behind_takes sign n [] rest e = absurd cc
+behind_takes sign n (b ∷ text) rest e =
+    let test = passed (eqb b sign) (number_at 2 text) (n, rest) e in
     let number = number_takes 2 n text rest test.1 in
-    (rw (eqb-true b mark test.0, number.0), omega (arith, number.1))
+    (rw (eqb-true b sign test.0, number.0), omega (arith, number.1))
 
-pub behind_again : (mark n : ℕ) (rest : List ℕ) → n < 100 → behind mark (mark ∷ (digits 2 n ++ rest)) ≡ Some (n, rest)
+pub behind_again : (sign n : ℕ) (rest : List ℕ) → n < 100 → behind sign (sign ∷ (digits 2 n ++ rest)) ≡ Some (n, rest)
 unfolding behind
-behind_again mark n rest h = let same = eq-eqb mark mark refl in rw (same, number_again 2 n rest (omega arith))
+behind_again sign n rest h = let same = eq-eqb sign sign refl in rw (same, number_again 2 n rest (omega arith))
 
 letter_is : (b : ℕ) → (eqb b 84 || eqb b 116) ≡ true → IsLetter 84 b
 letter_is b e = grind (arith, nat_tests)

@@ -2,7 +2,8 @@
 use Rattle.std.specs.Prelude.{ℕ, suc, max}
 use Rattle.vrl_value.specs.Tree.{Tree, string, integer, boolean, null, timestamp, regex, array, object, Items, no_items, item, Members, no_members, member}
 
--- 0 for a scalar; 1 and the greatest depth of the parts for an array and an object, and 1 where they are empty
+-- 0 for a scalar; 1 and the greatest depth of the parts for an array and an object, and 1 where
+-- they are empty
 abbrev mutual
   pub depth_of : Tree → ℕ
   depth_of (string s) = 0

@@ -1,5 +1,5 @@
--- Paths into a tree, and what look-up finds at them, as a JSON Pointer (RFC 6901) finds a value: a name leads into an object and a
--- place into an array.
+-- Paths into a tree, and what look-up finds at them, as a JSON Pointer (RFC 6901) finds a value: a
+-- name leads into an object and a place into an array.
 use Rattle.std.specs.Prelude.{ℕ, zero, suc, List, [], ◌∷◌, Option, Some, None, ⊤}
 use Rattle.vrl_value.specs.Tag.{tag_of}
 use Rattle.vrl_value.specs.Tree.{Tree, string, integer, boolean, null, timestamp, regex, array, object, Items, no_items, item, no_members, find}

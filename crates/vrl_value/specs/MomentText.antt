@@ -42,8 +42,10 @@ stamp_on day clock =
 
 -- the timestamp of an instant, in UTC
 unfoldable pub stamp_of : ℤ → Stamp
-stamp_of nanos = stamp_on (int_div_euclid nanos (pos 86_400_000_000_000)) (unsigned_abs (int_rem_euclid nanos (pos 86_400_000_000_000)))
+stamp_of nanos = stamp_on (int_div_euclid nanos (pos 86_400_000_000_000))
+    (unsigned_abs (int_rem_euclid nanos (pos 86_400_000_000_000)))
 
--- `YYYY-MM-DDThh:mm:ssZ`, with `.` and three, six or nine digits before `Z` where the fraction isn't zero
+-- `YYYY-MM-DDThh:mm:ssZ`, with `.` and three, six or nine digits before `Z` where the fraction
+-- isn't zero
 unfoldable pub moment_text : ℤ → List ℕ
 moment_text nanos = stamp_text (stamp_of nanos)

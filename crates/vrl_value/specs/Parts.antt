@@ -36,9 +36,11 @@ without_item (suc i) (item t ts) = item t (without_item i ts)
 -- the members with t in place of what stands at the key k, where something does
 abbrev pub replace : List ℕ → Tree → Members → Members
 replace k t no_members = no_members
-replace k t (member l u ms) = match_ordering (slice_cmp nat_cmp k l) (member l u (replace k t ms)) (member l t ms) (member l u (replace k t ms))
+replace k t (member l u ms) =
+    match_ordering (slice_cmp nat_cmp k l) (member l u (replace k t ms)) (member l t ms) (member l u (replace k t ms))
 
 -- the members without what stands at the key k
 abbrev pub without : List ℕ → Members → Members
 without k no_members = no_members
-without k (member l u ms) = match_ordering (slice_cmp nat_cmp k l) (member l u (without k ms)) (without k ms) (member l u (without k ms))
+without k (member l u ms) =
+    match_ordering (slice_cmp nat_cmp k l) (member l u (without k ms)) (without k ms) (member l u (without k ms))

@@ -1,4 +1,5 @@
--- Timestamps as texts, by RFC 3339, section 5.6, without leap seconds. Dates are those of jiff's calendar.
+-- Timestamps as texts, by RFC 3339, section 5.6, without leap seconds. Dates are those of jiff's
+-- calendar.
 use Rattle.std.specs.Prelude.{◌≡◌, ℕ, zero, suc, ◌+◌, ◌-◌, ◌*◌, ◌/◌, ◌%◌, ◌^◌, ◌<◌, ◌≤◌, ◌==◌, if◌then◌else◌, ◌⊎◌, List, [], ◌∷◌, ◌++◌, ℤ, pos, neg_ℤ, ◌+ℤ◌, ◌-ℤ◌, ◌*ℤ◌}
 use Rattle.jiff.specs.Words.{nanos_of_seconds, IsDate, IsTime}
 use Rattle.jiff_core.specs.Calendar.{days_from_civil}
@@ -46,7 +47,9 @@ zone_text (behind hours minutes) = offset_text 45 hours minutes
 
 -- `hh:mm:ss`, a fraction where there is one, and the zone
 abbrev pub clock_text : Stamp → List ℕ
-clock_text s = digits 2 s.hour ++ 58 ∷ (digits 2 s.minute ++ 58 ∷ (digits 2 s.second ++ (fraction_text s.places s.fraction ++ zone_text s.zone)))
+clock_text s =
+    digits 2 s.hour ++ 58 ∷ (digits 2 s.minute ++ 58 ∷
+    (digits 2 s.second ++ (fraction_text s.places s.fraction ++ zone_text s.zone)))
 
 -- `YYYY-MM-DDThh:mm:ss`, a fraction where there is one, and the zone
 unfoldable pub stamp_text : Stamp → List ℕ
@@ -65,7 +68,8 @@ IsZone (behind hours minutes) = (hours ≤ 23) × (minutes ≤ 59)
 abbrev pub subsecond : Stamp → ℕ
 subsecond s = s.fraction * 10 ^ (9 - s.places)
 
--- the calendar has the date, a clock shows the time, and each part is written with its digits or letters
+-- the calendar has the date, a clock shows the time, and each part is written with its digits or
+-- letters
 pub record IsStamp (s : Stamp) : Type 0 where
   pub date : IsDate (pos s.year) (pos s.month) (pos s.day)
   pub time : IsTime (pos s.hour) (pos s.minute) (pos s.second) (pos (subsecond s))

@@ -1,5 +1,5 @@
--- How the reader of timestamps goes over a text, part by part: each answers what it read and what is left. Only private functions answer
--- by these; what a timestamp is says `Rfc3339`.
+-- How the reader of timestamps goes over a text, part by part: each answers what it read and what
+-- is left. Only private functions answer by these; what a timestamp is says `Rfc3339`.
 use Rattle.std.specs.Prelude.{◌≡◌, ℕ, zero, suc, ◌+◌, ◌-◌, ◌*◌, ◌^◌, ◌==◌, nat_lt, ◌&&◌, ◌||◌, not, if◌then◌else◌, List, [], ◌∷◌, length, Option, Some, None, ℤ, pos, neg_ℤ, ◌<◌, ◌+ℤ◌, ◌-ℤ◌, ◌*ℤ◌, position}
 use Rattle.std.specs.Char.{is_ascii_digit}
 use Rattle.jiff.specs.Words.{nanos_of_seconds, IsBetween, IsDate, IsTime}
@@ -55,7 +55,8 @@ unfoldable pub offset_at : List ℕ → Option ℕ
 offset_at text = do
   hours ← number_at 2 text
   minutes ← behind 58 hours.1
-  if nat_lt 23 hours.0 || nat_lt 59 minutes.0 || not (length minutes.1 == 0) then None else Some (hours.0 * 3600 + minutes.0 * 60)
+  if nat_lt 23 hours.0 || nat_lt 59 minutes.0 || not (length minutes.1 == 0) then None
+      else Some (hours.0 * 3600 + minutes.0 * 60)
 
 -- the whole text as a zone
 unfoldable pub zone_at : List ℕ → Option ℤ
@@ -100,7 +101,8 @@ pub record IsSmall (w : Written) : Type 0 where
 
 -- the calendar has the date, and a clock shows the time
 abbrev pub IsOnClock : Written → Type 0
-IsOnClock w = IsDate (pos w.year) (pos w.month) (pos w.day) × IsTime (pos w.hour) (pos w.minute) (pos w.second) (pos w.nanosecond)
+IsOnClock w =
+    IsDate (pos w.year) (pos w.month) (pos w.day) × IsTime (pos w.hour) (pos w.minute) (pos w.second) (pos w.nanosecond)
 
 -- the nanoseconds since 1970-01-01T00:00:00 that the clock shows
 abbrev pub written_clock : Written → ℤ

@@ -29,7 +29,8 @@ mutual
 -- the members with t at the key k, and at every other key what was there
 abbrev pub put : List ℕ → Tree → Members → Members
 put k t no_members = member k t no_members
-put k t (member l u ms) = match_ordering (slice_cmp nat_cmp k l) (member k t (member l u ms)) (member l t ms) (member l u (put k t ms))
+put k t (member l u ms) =
+    match_ordering (slice_cmp nat_cmp k l) (member k t (member l u ms)) (member l t ms) (member l u (put k t ms))
 
 -- the members ms with each of the others put at its key
 abbrev pub put_all : Members → Members → Members
@@ -41,7 +42,8 @@ abbrev pub find : List ℕ → Members → Option Tree
 find k no_members = None
 find k (member l u ms) = match_ordering (slice_cmp nat_cmp k l) (find k ms) (Some u) (find k ms)
 
--- the tree has neither a timestamp nor a regex in it, so JSON reads and writes each part of it as it is
+-- the tree has neither a timestamp nor a regex in it, so JSON reads and writes each part of it as
+-- it is
 abbrev mutual
   pub is_json : Tree → Bool
   is_json (string s) = true

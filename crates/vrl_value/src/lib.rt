@@ -1,9 +1,12 @@
-//! The values of events: texts, whole numbers, booleans, null, moments, patterns, arrays and objects.
+//! The values of events: texts, whole numbers, booleans, null, moments, patterns, arrays and
+//! objects.
 //!
 //! A contract sees a [`Value`] as its tree, by the one function `tree_of`.
 //!
-//! Files: `value.rt` has the values, their parts and tags, `lists.rt` texts and names, `moment.rt` the range of moments, `reading.rt` the timestamps
-//! that are read, `moment_text.rt` and `padding.rt` the text that is written, `memory.rt` want of memory, and `laws.rt` the laws of trees.
+//! Files: `value.rt` has the values, their parts and tags, `lists.rt` texts and names, `moment.rt`
+//! the range of moments, `reading.rt` the timestamps that are read, `moment_text.rt` and
+//! `padding.rt` the text that is written, `memory.rt` want of memory, and `laws.rt` the laws of
+//! trees.
 #![tactic(auto)]
 
 mod laws;

@@ -33,8 +33,8 @@ impl Chars {
         Chars { text }
     }
 
-    /// A text of these bytes, which it keeps. `Err`: the bytes are not UTF-8 (RFC 3629); here they are
-    /// again.
+    /// A text of these bytes, which it keeps. `Err`: the bytes are not UTF-8 (RFC 3629); here they
+    /// are again.
     pub fn from_utf8(bytes: Vec<u8>) -> Result<Chars, Vec<u8>>
         ensures { MatchResult result (λ c. c ≡ bytes.items) (λ b. (b.items ≡ bytes.items) × ¬ IsUtf8 bytes.items) }
     {

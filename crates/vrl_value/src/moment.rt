@@ -42,8 +42,8 @@ impl Moment {
         Moment { nanos: GREATEST }
     }
 
-    /// The moment that is this many nanoseconds after 1970-01-01T00:00:00Z, or before it, where the number
-    /// is negative. `None`: the number is out of the range.
+    /// The moment that is this many nanoseconds after 1970-01-01T00:00:00Z, or before it, where the
+    /// number is negative. `None`: the number is out of the range.
     pub fn new(nanos: i128) -> Option<Moment>
         ensures range { IsSome result ↔ IsInRange nanos }
         ensures value { IfSome result (λ m. m ≡ nanos) }

@@ -14,9 +14,9 @@ use jiff::tz::Offset;
 use std::alloc::Global;
 
 impl Moment {
-    /// The text of RFC 3339 in UTC: `YYYY-MM-DDThh:mm:ssZ`, with `.` and three, six or nine digits before
-    /// `Z` where the fraction of the second isn't zero, the fewest that lose nothing. `Memory`: want of
-    /// memory.
+    /// The text of RFC 3339 in UTC: `YYYY-MM-DDThh:mm:ssZ`, with `.` and three, six or nine digits
+    /// before `Z` where the fraction of the second isn't zero, the fewest that lose nothing.
+    /// `Memory`: want of memory.
     pub fn text(&self, alloc: Global) -> Result<Chars, Memory>
         ensures { IfOk result (λ text. text ≡ moment_text self.now) }
     {

@@ -3,8 +3,8 @@ ghost use Rattle.std.specs.Prelude.{◌≡◌, ◌++◌, ◌-◌, ◌≤◌, OnE
 use crate::memory::Memory;
 use crate::value::Value;
 
-/// Puts a value at a place behind the last one, with nulls in between. `Memory`: want of memory; the values
-/// stay as they were.
+/// Puts a value at a place behind the last one, with nulls in between. `Memory`: want of memory;
+/// the values stay as they were.
 pub fn push_at(values: &mut Vec<Value>, place: usize, value: Value) -> Result<(), Memory>
     requires { vec_len values.old ≤ place }
     ensures ok { OnOk result (values.new.items
@@ -19,7 +19,8 @@ pub fn push_at(values: &mut Vec<Value>, place: usize, value: Value) -> Result<()
     outcome
 }
 
-// Puts a value at a place behind the last one. `Memory`: want of memory; some nulls may stand behind.
+// Puts a value at a place behind the last one. `Memory`: want of memory; some nulls may stand
+// behind.
 fn push_padded(values: &mut Vec<Value>, place: usize, value: Value) -> Result<(), Memory>
     requires { vec_len values.old ≤ place }
     ensures ok { OnOk result (values.new.items
@@ -34,7 +35,8 @@ fn push_padded(values: &mut Vec<Value>, place: usize, value: Value) -> Result<()
 // Adds nulls up to a length. `Memory`: want of memory; some nulls may stand behind.
 fn pad(values: &mut Vec<Value>, length: usize) -> Result<(), Memory>
     requires { vec_len values.old ≤ length }
-    ensures ok { OnOk result (values.new.items ≡ values.old.items ++ replicate (length - vec_len values.old) Value.Null) }
+    ensures ok { OnOk result
+        (values.new.items ≡ values.old.items ++ replicate (length - vec_len values.old) Value.Null) }
     ensures kept { take (vec_len values.old) values.new.items ≡ values.old.items }
 {
     for _place in values.len()..length {

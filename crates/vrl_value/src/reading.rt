@@ -9,7 +9,8 @@ use crate::moment::Moment;
 use jiff::civil::{Date, DateTime, Time};
 use jiff::tz::Offset;
 
-// What a timestamp writes: the numbers of its parts, and how many seconds its clock is ahead of UTC.
+// What a timestamp writes: the numbers of its parts, and how many seconds its clock is ahead of
+// UTC.
 #[derive(Clone, Copy)]
 struct Written {
     year: u32,
@@ -41,14 +42,14 @@ fn number(text: &[u8], digits: usize) -> Option<(u32, &[u8])>
     Some((number, rest))
 }
 
-// The number of two digits behind a mark.
+// The number of two digits behind a sign.
 #[tactic(auto, unfolding(crate::specs::Scan::behind))]
-fn number_behind(text: &[u8], mark: u8) -> Option<(u32, &[u8])>
-    ensures value { Gives (λ n. (n.0, n.1.now)) result (behind mark text.now) }
+fn number_behind(text: &[u8], sign: u8) -> Option<(u32, &[u8])>
+    ensures value { Gives (λ n. (n.0, n.1.now)) result (behind sign text.now) }
     ensures bound { IfSome result (λ n. n.0 < 100) }
 {
     let (first, rest) = text.split_first()?;
-    if *first == mark {
+    if *first == sign {
         number(rest, 2)
     } else {
         None
@@ -195,10 +196,10 @@ fn moment_of(parts: Written) -> Option<Moment>
 }
 
 impl Moment {
-    /// The moment that a text names by RFC 3339: `YYYY-MM-DD`, `T` or `t`, `hh:mm:ss`, where there is one a
-    /// fraction of `.` and one to nine digits, and then `Z`, `z` or a sign and `hh:mm`. Hours end at 23, and
-    /// minutes and seconds at 59. `None`: the text has another form, or the calendar doesn't have the date,
-    /// or the moment is out of the range.
+    /// The moment that a text names by RFC 3339: `YYYY-MM-DD`, `T` or `t`, `hh:mm:ss`, where there
+    /// is one a fraction of `.` and one to nine digits, and then `Z`, `z` or a sign and `hh:mm`.
+    /// Hours end at 23, and minutes and seconds at 59. `None`: the text has another form, or the
+    /// calendar doesn't have the date, or the moment is out of the range.
     pub fn read(text: &str) -> Option<Moment>
         ensures some { IfSome result (λ moment. IsReading text.now moment) }
         ensures none { IfNone result ((nanos : ℤ) → ¬ (IsReading text.now nanos)) }

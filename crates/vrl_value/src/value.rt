@@ -17,8 +17,8 @@ use std::alloc::Global;
 use std::cmp::Ordering;
 use std::collections::BTreeMap;
 
-/// A value of an event, a variable or an expression: one of VRL's value types but the float, which the
-/// profile of whole numbers leaves out. A contract sees `tree_of` it.
+/// A value of an event, a variable or an expression: one of VRL's value types but the float, which
+/// the profile of whole numbers leaves out. A contract sees `tree_of` it.
 #[cycle(value)]
 #[derive(Drop)]
 pub enum Value {
@@ -57,8 +57,9 @@ impl Value {
         }
     }
 
-    /// How deep the value nests: 0 for one without parts; for an array or an object 1 and the greatest depth of
-    /// its parts, or 1 where it is empty. 2^64 - 1 where it is deeper than that. It looks at each part once.
+    /// How deep the value nests: 0 for one without parts; for an array or an object 1 and the
+    /// greatest depth of its parts, or 1 where it is empty. 2^64 - 1 where it is deeper than that.
+    /// It looks at each part once.
     #[cycle(depth)]
     pub fn depth(&self) -> u64
         ensures depth { result ≡ min (depth_of (tree_of self.now)) u64.MAX }
@@ -72,8 +73,8 @@ impl Value {
         }
     }
 
-    /// Whether two values are equal, with all that is in them. Regexes are where their numbers are. It looks
-    /// at each part at most once.
+    /// Whether two values are equal, with all that is in them. Regexes are where their numbers are.
+    /// It looks at each part at most once.
     #[cycle(same)]
     pub fn same(&self, other: &Value) -> bool
         ensures { IsTrue result ↔ (tree_of self.now ≡ tree_of other.now) }
@@ -91,8 +92,8 @@ impl Value {
         }
     }
 
-    /// The order of two integers, of two strings by their bytes, or of two timestamps. `None`: the values are
-    /// another pair.
+    /// The order of two integers, of two strings by their bytes, or of two timestamps. `None`: the
+    /// values are another pair.
     pub fn compare(&self, other: &Value) -> Option<Ordering>
         ensures { result ≡ order_of (tree_of self.now) (tree_of other.now) }
     {
@@ -104,8 +105,8 @@ impl Value {
         }
     }
 
-    /// An equal value, with all that is in it. `Memory`: want of memory, which a text, an array or an object may
-    /// meet alone.
+    /// An equal value, with all that is in it. `Memory`: want of memory, which a text, an array or
+    /// an object may meet alone.
     #[cycle(copy)]
     pub fn copy(&self, alloc: Global) -> Result<Value, Memory>
         ensures equal { IfOk result (λ copy. tree_of copy ≡ tree_of self.now) }
@@ -218,7 +219,8 @@ impl Items {
         self.items.get(place)
     }
 
-    /// The value at a place, counted from 0, to be changed in place. `None` from the number of values on.
+    /// The value at a place, counted from 0, to be changed in place. `None` from the number of
+    /// values on.
     pub fn get_mut(&mut self, place: usize) -> Option<&mut Value>
         ensures* writes_back { sem 𝓛 (LendsItem self.entry place result) }
         ensures value { option_map (λ value. tree_of value.now) result ≡ item_at place (items_of self.old) }
@@ -226,8 +228,8 @@ impl Items {
         self.items.get_mut(place)
     }
 
-    /// Puts a value at a place behind the last one, counted from 0, with nulls in between. `Memory`: want of
-    /// memory; the values stay as they were, and the new one is gone.
+    /// Puts a value at a place behind the last one, counted from 0, with nulls in between.
+    /// `Memory`: want of memory; the values stay as they were, and the new one is gone.
     pub fn push_at(&mut self, place: usize, value: Value) -> Result<(), Memory>
         requires { count_of (items_of self.old) ≤ place }
         ensures ok { OnOk result (items_of self.new ≡ put_item place (tree_of value) (items_of self.old)) }
@@ -236,8 +238,9 @@ impl Items {
         padding::push_at(&mut self.items, place, value)
     }
 
-    /// Takes out the value at a place, counted from 0; those behind it move down by one. `None` from the
-    /// number of values on; they stay as they were. It takes time linear in the number of values behind.
+    /// Takes out the value at a place, counted from 0; those behind it move down by one. `None`
+    /// from the number of values on; they stay as they were. It takes time linear in the number of
+    /// values behind.
     pub fn remove(&mut self, place: usize) -> Option<Value>
         ensures value { option_map tree_of result ≡ item_at place (items_of self.old) }
         ensures rest { items_of self.new ≡ without_item place (items_of self.old) }
@@ -359,7 +362,8 @@ impl Fields {
         self.map.get_mut(name)
     }
 
-    /// Takes out the value at a name. `None` where no field has the name; the fields stay as they were.
+    /// Takes out the value at a name. `None` where no field has the name; the fields stay as they
+    /// were.
     pub fn remove(&mut self, name: &str) -> Option<Value>
         ensures value { option_map tree_of result ≡ find name.now (members_of self.old) }
         ensures rest { members_of self.new ≡ without name.now (members_of self.old) }
@@ -411,8 +415,9 @@ impl Fields {
         Ok(Fields::new(copies))
     }
 
-    /// Puts a value at a name, in place of what stood there. `Memory`: want of memory, which a name that is there
-    /// never meets; the fields stay as they were, and the name and the value are gone.
+    /// Puts a value at a name, in place of what stood there. `Memory`: want of memory, which a name
+    /// that is there never meets; the fields stay as they were, and the name and the value are
+    /// gone.
     pub fn insert(&mut self, name: Chars, value: Value) -> Result<(), Memory>
         ensures ok { OnOk result (members_of self.new ≡ put name (tree_of value) (members_of self.old)) }
         ensures err { OnErr result (members_of self.new ≡ members_of self.old) }
@@ -425,8 +430,8 @@ impl Fields {
         Ok(())
     }
 
-    /// Puts a copy of each of the others' fields, in place of what stood at its name. `Memory`: want of memory;
-    /// some are put by then.
+    /// Puts a copy of each of the others' fields, in place of what stood at its name. `Memory`:
+    /// want of memory; some are put by then.
     pub fn put_copies(&mut self, alloc: Global, others: &Fields) -> Result<(), Memory>
         ensures { OnOk result (members_of self.new ≡ put_all (members_of others.now) (members_of self.old)) }
     {

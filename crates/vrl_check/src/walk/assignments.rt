@@ -8,7 +8,7 @@ ghost use Rattle.vrl_syntax.specs.View.{expr_of};
 use crate::walk::expr;
 use crate::walk::operators::merge_into;
 use vrl_diag::{Span, code};
-use vrl_judge::{Checker, Outcome};
+use vrl_judge::{Checker, Finding};
 use vrl_syntax::{Expr, Target};
 use vrl_value::{Memory, Tag};
 
@@ -19,11 +19,11 @@ pub(super) fn assignment(
     span: Span,
     target: &Target,
     value: &Expr,
-) -> Result<Outcome, Memory>
+) -> Result<Finding, Memory>
     requires target { target_faults target.now ≡ [] }
     requires value { ExprCanBeJudged checker.old.patterns.now (expr_of value.now) }
     ensures { IfOk result
-        (λ outcome. IsGivenAs span (assign_form target.now (expr_of value.now)) checker.old checker.new outcome) }
+        (λ finding. IsGivenAs span (assign_form target.now (expr_of value.now)) checker.old checker.new finding) }
 {
     let part = expr(checker, value)?;
     checker.assigned(span, target, part)
@@ -36,11 +36,11 @@ pub(super) fn merge_assignment(
     span: Span,
     target: &Target,
     value: &Expr,
-) -> Result<Outcome, Memory>
+) -> Result<Finding, Memory>
     requires target { target_faults target.now ≡ [] }
     requires value { ExprCanBeJudged checker.old.patterns.now (expr_of value.now) }
     ensures { IfOk result
-        (λ outcome. IsGivenAs span (merge_form target.now (expr_of value.now)) checker.old checker.new outcome) }
+        (λ finding. IsGivenAs span (merge_form target.now (expr_of value.now)) checker.old checker.new finding) }
 {
     match target {
         Target::Nowhere => {
@@ -64,12 +64,12 @@ pub(super) fn error_assignment(
     ok: &Target,
     err: &Target,
     value: &Expr,
-) -> Result<Outcome, Memory>
+) -> Result<Finding, Memory>
     requires ok { target_faults ok.now ≡ [] }
     requires err { target_faults err.now ≡ [] }
     requires value { ExprCanBeJudged checker.old.patterns.now (expr_of value.now) }
     ensures { IfOk result
-        (λ outcome. IsGivenAs span (both_form ok.now err.now (expr_of value.now)) checker.old checker.new outcome) }
+        (λ finding. IsGivenAs span (both_form ok.now err.now (expr_of value.now)) checker.old checker.new finding) }
 {
     let place = checker.empties.len();
     checker.empties.push(Tag::Null)?;

@@ -8,7 +8,7 @@ ghost use Rattle.vrl_syntax.specs.declared.root.Op.TheVariants as ops;
 
 use crate::walk::{block, expr};
 use vrl_diag::{Span, code};
-use vrl_judge::{Checker, Outcome, Ways, scalar};
+use vrl_judge::{Checker, Finding, Ways, scalar};
 use vrl_syntax::{Arm, Arms, Expr, Exprs};
 use vrl_value::{Memory, Tag};
 
@@ -18,12 +18,12 @@ pub(super) fn conjunction(
     checker: &mut Checker<'_>,
     left: &Expr,
     right: &Expr,
-) -> Result<Outcome, Memory>
+) -> Result<Finding, Memory>
     requires left { ExprCanBeJudged checker.old.patterns.now (expr_of left.now) }
     requires right { ExprCanBeJudged checker.old.patterns.now (expr_of right.now) }
     ensures { IfOk result
-        (λ outcome. IsAnywhereAs
-        (binary_form ops.And (expr_of left.now) (expr_of right.now)) checker.old checker.new outcome) }
+        (λ finding. IsAnywhereAs
+        (binary_form ops.And (expr_of left.now) (expr_of right.now)) checker.old checker.new finding) }
 {
     let part = expr(checker, left)?;
     let side = checker.left_of_and(part)?;
@@ -38,12 +38,12 @@ pub(super) fn disjunction(
     checker: &mut Checker<'_>,
     left: &Expr,
     right: &Expr,
-) -> Result<Outcome, Memory>
+) -> Result<Finding, Memory>
     requires left { ExprCanBeJudged checker.old.patterns.now (expr_of left.now) }
     requires right { ExprCanBeJudged checker.old.patterns.now (expr_of right.now) }
     ensures { IfOk result
-        (λ outcome. IsAnywhereAs
-        (binary_form ops.Or (expr_of left.now) (expr_of right.now)) checker.old checker.new outcome) }
+        (λ finding. IsAnywhereAs
+        (binary_form ops.Or (expr_of left.now) (expr_of right.now)) checker.old checker.new finding) }
 {
     let part = expr(checker, left)?;
     let side = checker.left_of_or(part)?;
@@ -59,12 +59,12 @@ pub(super) fn coalescing(
     span: Span,
     left: &Expr,
     right: &Expr,
-) -> Result<Outcome, Memory>
+) -> Result<Finding, Memory>
     requires left { ExprCanBeJudged checker.old.patterns.now (expr_of left.now) }
     requires right { ExprCanBeJudged checker.old.patterns.now (expr_of right.now) }
     ensures { IfOk result
-        (λ outcome. IsGivenAs span
-        (binary_form ops.Coalesce (expr_of left.now) (expr_of right.now)) checker.old checker.new outcome) }
+        (λ finding. IsGivenAs span
+        (binary_form ops.Coalesce (expr_of left.now) (expr_of right.now)) checker.old checker.new finding) }
 {
     let part = expr(checker, left)?;
     let needless = part.ends.is_needless();
@@ -80,13 +80,13 @@ pub(super) fn conditional(
     checker: &mut Checker<'_>,
     arms: &Arms,
     otherwise: &Option<Exprs>,
-) -> Result<Outcome, Memory>
+) -> Result<Finding, Memory>
     requires arms { ArmsCanBeJudged checker.old.patterns.now (arms_of arms.now) }
     requires otherwise { ElseCanBeJudged checker.old.patterns.now (else_of (option_map exprs_of otherwise.now)) }
     ensures { IfOk result
-        (λ outcome. IsAnywhereAs
+        (λ finding. IsAnywhereAs
         (conditional_form (arms_of arms.now)
-        (else_of (option_map exprs_of otherwise.now))) checker.old checker.new outcome) }
+        (else_of (option_map exprs_of otherwise.now))) checker.old checker.new finding) }
 {
     let mut ways = Ways::none(checker.alloc)?;
     for arm in arms.as_slice() {
@@ -113,10 +113,10 @@ fn add_arm(checker: &mut Checker<'_>, ways: &mut Ways, arm: &Arm) -> Result<(), 
 
 // A missing `else` gives null.
 #[cycle(judge)]
-fn last_way(checker: &mut Checker<'_>, otherwise: &Option<Exprs>) -> Result<Outcome, Memory>
+fn last_way(checker: &mut Checker<'_>, otherwise: &Option<Exprs>) -> Result<Finding, Memory>
     requires { ElseCanBeJudged checker.old.patterns.now (else_of (option_map exprs_of otherwise.now)) }
     ensures { IfOk result
-        (λ outcome. IsElseAs (else_of (option_map exprs_of otherwise.now)) checker.old checker.new outcome) }
+        (λ finding. IsElseAs (else_of (option_map exprs_of otherwise.now)) checker.old checker.new finding) }
 {
     match otherwise {
         Some(items) => block(checker, items),
@@ -124,9 +124,9 @@ fn last_way(checker: &mut Checker<'_>, otherwise: &Option<Exprs>) -> Result<Outc
     }
 }
 
-fn missing_else(checker: &mut Checker<'_>) -> Result<Outcome, Memory>
-    ensures { IfOk result (λ outcome. IsElseAs no_else checker.old checker.new outcome) }
+fn missing_else(checker: &mut Checker<'_>) -> Result<Finding, Memory>
+    ensures { IfOk result (λ finding. IsElseAs no_else checker.old checker.new finding) }
 {
     let kind = scalar(checker.alloc, Tag::Null)?;
-    checker.settled(Outcome::value(kind))
+    checker.settled(Finding::value(kind))
 }

@@ -18,7 +18,7 @@ use crate::laws::third_tries_are_stable;
 use crate::passing::pass_items;
 use crate::walk::block;
 use vrl_diag::Span;
-use vrl_judge::{Checker, Outcome, SharedKind};
+use vrl_judge::{Checker, Finding, SharedKind};
 use vrl_state::Branch;
 use vrl_syntax::{Call, CallForm, Closure, Roots, written_roots};
 use vrl_value::Memory;
@@ -32,21 +32,21 @@ pub(super) fn closure_call(
     form: CallForm,
     call: &Call,
     arguments: Arguments,
-) -> Result<Outcome, Memory>
+) -> Result<Finding, Memory>
     requires form { form_named (call_name call.now) ≡ Some form }
     requires four { is_closure_form (Some form) ≡ true }
     requires can { FormCanBeJudged checker.old.patterns.now (call_of call.now) }
     requires told { IsTold (call_args call.now) arguments.parts.items }
     requires ends { AreEnds checker.old.state.scopes arguments.ends }
     ensures { IfOk result
-        (λ outcome. IsCalledAs span (call_of call.now) (call_args call.now) arguments checker.old checker.new outcome) }
+        (λ finding. IsCalledAs span (call_of call.now) (call_args call.now) arguments checker.old checker.new finding) }
 {
     let mut arguments = arguments;
     let wrong = is_wrong_call(checker, span, form, call, &mut arguments)?;
     match right_closure(call, wrong) {
         Some(closure) => {
-            let outcome = iterated(checker, form, closure, arguments)?;
-            checker.banged(span, call.bang, outcome)
+            let finding = iterated(checker, form, closure, arguments)?;
+            checker.banged(span, call.bang, finding)
         }
         None => passed_call(checker, span, call, arguments),
     }
@@ -60,11 +60,11 @@ fn iterated(
     form: CallForm,
     closure: &Closure,
     arguments: Arguments,
-) -> Result<Outcome, Memory>
+) -> Result<Finding, Memory>
     requires shape { has_shape form (closure_names closure.now) ≡ true }
     requires items { ItemsCanBeJudged checker.old.patterns.now (closure_items closure.now) }
     requires ends { AreEnds checker.old.state.scopes arguments.ends }
-    ensures { IfOk result (λ outcome. IsIteratedAs form closure.now arguments checker.old checker.new outcome) }
+    ensures { IfOk result (λ finding. IsIteratedAs form closure.now arguments checker.old checker.new finding) }
 {
     let collection = collection_of(checker, form, arguments)?;
     let names = name_kinds(checker.alloc, form, &collection.kind)?;
@@ -190,10 +190,10 @@ fn body(
     checker: &mut Checker<'_>,
     closure: &Closure,
     kinds: &[SharedKind],
-) -> Result<Outcome, Memory>
+) -> Result<Finding, Memory>
     requires { BodyCanBeJudged checker.old.patterns.now closure.now kinds.now }
     ensures { IfOk result
-        (λ outcome. (runs : Bool) → IsBodyAs (body_in closure.now kinds.now runs) checker.old checker.new outcome) }
+        (λ finding. (runs : Bool) → IsBodyAs (body_in closure.now kinds.now runs) checker.old checker.new finding) }
 {
     if checker.state.is_dead() {
         return pass_items(checker, &closure.body);
@@ -202,7 +202,7 @@ fn body(
     checker.inside = true;
     checker.enter_body(&closure.names, kinds)?;
     let part = block(checker, &closure.body)?;
-    let outcome = checker.end_body(part)?;
+    let finding = checker.end_body(part)?;
     checker.inside = inside;
-    Ok(outcome)
+    Ok(finding)
 }

@@ -12,7 +12,7 @@ ghost use Rattle.vrl_syntax.specs.declared.root.Op.TheVariants as ops;
 use crate::walk::branches::{coalescing, conjunction, disjunction};
 use crate::walk::{expr, read};
 use vrl_diag::Span;
-use vrl_judge::{Checker, Operands, Outcome, Table, is_chained};
+use vrl_judge::{Checker, Finding, Operands, Table, is_chained};
 use vrl_path::Path;
 use vrl_syntax::{Expr, Op, Root};
 use vrl_value::{Memory, Tag};
@@ -25,12 +25,12 @@ pub(super) fn binary(
     op: Op,
     left: &Expr,
     right: &Expr,
-) -> Result<Outcome, Memory>
+) -> Result<Finding, Memory>
     requires left { ExprCanBeJudged checker.old.patterns.now (expr_of left.now) }
     requires right { ExprCanBeJudged checker.old.patterns.now (expr_of right.now) }
     ensures { IfOk result
-        (λ outcome. IsGivenAs span
-        (binary_form op (expr_of left.now) (expr_of right.now)) checker.old checker.new outcome) }
+        (λ finding. IsGivenAs span
+        (binary_form op (expr_of left.now) (expr_of right.now)) checker.old checker.new finding) }
 {
     match op {
         Op::Coalesce => coalescing(checker, span, left, right),
@@ -52,10 +52,10 @@ pub(super) fn negation(
     checker: &mut Checker<'_>,
     span: Span,
     inner: &Expr,
-) -> Result<Outcome, Memory>
+) -> Result<Finding, Memory>
     requires { ExprCanBeJudged checker.old.patterns.now (expr_of inner.now) }
     ensures { IfOk result
-        (λ outcome. IsGivenAs span (negation_form (expr_of inner.now)) checker.old checker.new outcome) }
+        (λ finding. IsGivenAs span (negation_form (expr_of inner.now)) checker.old checker.new finding) }
 {
     let part = expr(checker, inner)?;
     checker.negated(span, part)
@@ -74,7 +74,7 @@ fn operands(checker: &mut Checker<'_>, left: &Expr, right: &Expr) -> Result<Oper
 
 // The same where the left one was judged last.
 #[cycle(judge)]
-fn beside(checker: &mut Checker<'_>, left: Outcome, right: &Expr) -> Result<Operands, Memory>
+fn beside(checker: &mut Checker<'_>, left: Finding, right: &Expr) -> Result<Operands, Memory>
     requires right { ExprCanBeJudged checker.old.patterns.now (expr_of right.now) }
     requires ends { AreEnds checker.old.state.scopes left.ends }
     ensures { IfOk result (λ parts. IsBesideAs (expr_of right.now) left checker.old checker.new parts) }
@@ -91,13 +91,13 @@ fn equality(
     op: Op,
     left: &Expr,
     right: &Expr,
-) -> Result<Outcome, Memory>
+) -> Result<Finding, Memory>
     requires op { is_equality op ≡ true }
     requires left { ExprCanBeJudged checker.old.patterns.now (expr_of left.now) }
     requires right { ExprCanBeJudged checker.old.patterns.now (expr_of right.now) }
     ensures { IfOk result
-        (λ outcome. IsGivenAs span
-        (binary_form op (expr_of left.now) (expr_of right.now)) checker.old checker.new outcome) }
+        (λ finding. IsGivenAs span
+        (binary_form op (expr_of left.now) (expr_of right.now)) checker.old checker.new finding) }
 {
     let parts = operands(checker, left, right)?;
     checker.equated(span, is_chained(op, left, right), parts)
@@ -111,25 +111,25 @@ fn of_table(
     table: Table,
     left: &Expr,
     right: &Expr,
-) -> Result<Outcome, Memory>
+) -> Result<Finding, Memory>
     requires op { table_of op ≡ Some (table_rule table) }
     requires left { ExprCanBeJudged checker.old.patterns.now (expr_of left.now) }
     requires right { ExprCanBeJudged checker.old.patterns.now (expr_of right.now) }
     ensures { IfOk result
-        (λ outcome. IsGivenAs span
-        (binary_form op (expr_of left.now) (expr_of right.now)) checker.old checker.new outcome) }
+        (λ finding. IsGivenAs span
+        (binary_form op (expr_of left.now) (expr_of right.now)) checker.old checker.new finding) }
 {
     let parts = operands(checker, left, right)?;
     checker.combined(span, table, is_chained(op, left, right), parts)
 }
 
 #[cycle(judge)]
-fn merge(checker: &mut Checker<'_>, left: &Expr, right: &Expr) -> Result<Outcome, Memory>
+fn merge(checker: &mut Checker<'_>, left: &Expr, right: &Expr) -> Result<Finding, Memory>
     requires left { ExprCanBeJudged checker.old.patterns.now (expr_of left.now) }
     requires right { ExprCanBeJudged checker.old.patterns.now (expr_of right.now) }
     ensures { IfOk result
-        (λ outcome. IsAnywhereAs
-        (binary_form ops.Merge (expr_of left.now) (expr_of right.now)) checker.old checker.new outcome) }
+        (λ finding. IsAnywhereAs
+        (binary_form ops.Merge (expr_of left.now) (expr_of right.now)) checker.old checker.new finding) }
 {
     let parts = operands(checker, left, right)?;
     checker.merged(parts, left.span, right.span)
@@ -143,13 +143,13 @@ pub(super) fn merge_into(
     root: &Root,
     path: &Path,
     value: &Expr,
-) -> Result<Outcome, Memory>
+) -> Result<Finding, Memory>
     requires { ExprCanBeJudged checker.old.patterns.now (expr_of value.now) }
     ensures given { IfOk result
-        (λ outcome. IsAnywhereAs
+        (λ finding. IsAnywhereAs
         (binary_form ops.Merge (expr_form place (read_form root.now path.now))
-        (expr_of value.now)) checker.old checker.new outcome) }
-    ensures judged { IfOk result (λ outcome. (j : Judgement) × HasJudged checker.old checker.new outcome j) }
+        (expr_of value.now)) checker.old checker.new finding) }
+    ensures judged { IfOk result (λ finding. (j : Judgement) × HasJudged checker.old checker.new finding j) }
 {
     let read = read(checker, place, root, path)?;
     let left = checker.settled(read)?;

@@ -8,7 +8,7 @@ ghost use Rattle.vrl_resolve.specs.Walking.{meant, names_in, store_at, EndsAsked
 use crate::node::Node;
 use crate::steps::{asked_copy, at_target, both_values, write_to};
 use crate::walk::{Context, beside, eval};
-use vrl_store::{Place, Stop, Store};
+use vrl_store::{Stop, Store, TargetPath};
 use vrl_syntax::Op;
 use vrl_value::{Tag, Value};
 
@@ -17,7 +17,7 @@ pub(super) fn assign(
     store: &mut Store,
     context: &Context<'_, '_>,
     is_asked: bool,
-    target: &Option<Place>,
+    target: &Option<TargetPath>,
     part: &Node,
 ) -> Result<Value, Stop>
     requires ready { IsReadyStore context.now store.old }
@@ -40,7 +40,7 @@ pub(super) fn merge(
     store: &mut Store,
     context: &Context<'_, '_>,
     is_asked: bool,
-    target: &Option<Place>,
+    target: &Option<TargetPath>,
     part: &Node,
 ) -> Result<Value, Stop>
     requires ready { IsReadyStore context.now store.old }
@@ -81,8 +81,8 @@ pub(super) fn both(
     store: &mut Store,
     context: &Context<'_, '_>,
     is_asked: bool,
-    ok: &Option<Place>,
-    err: &Option<Place>,
+    ok: &Option<TargetPath>,
+    err: &Option<TargetPath>,
     tag: Tag,
     part: &Node,
 ) -> Result<Value, Stop>

@@ -6,7 +6,7 @@ use Rattle.fn_search.proofs.find.place_behind.Goals as goal
 
 pub returns-clause-value : goal.returns-clause-value
 returns-clause-value c = λ text within is.
-    let sources = c.args.patterns.now in
+    let sources = c.args.searches.now in
     let pattern = tree_of c.args.pattern.now in
     let start = c.args.start in
     c.number_of.ensures

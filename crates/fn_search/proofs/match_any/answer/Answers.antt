@@ -10,6 +10,6 @@ use Rattle.fn_search.proofs.match_any.answer.Goals as goal
 pub returns-in-None : goal.returns-in-None
 returns-in-None c =
     let ts = items_view c.args.items.now in
-    let found = some_matches c.args.patterns.now c.args.text.now ts in
+    let found = some_matches c.args.searches.now c.args.text.now ts in
     let none : first_other regexes ts ≡ None = search rules in
     none_other (codes "match_any") (first_other regexes ts) (boolean found) c.boolean.result none (c.boolean.ensures.value found c.some_matches.ensures)

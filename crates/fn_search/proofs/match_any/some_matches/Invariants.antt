@@ -6,8 +6,8 @@ use Rattle.fn_search.proofs.match_any.some_matches.Given as goal
 
 abbrev pub invariant-loop-first : goal.invariant-loop-first
 invariant-loop-first l =
-    (some_matches l.patterns l.text (items_view l.left) ≡ some_matches l.patterns l.text (items_view l.items))
-    × IsTrue (items_regexes_below (length l.patterns) (items_view l.left))
+    (some_matches l.searches l.text (items_view l.left) ≡ some_matches l.searches l.text (items_view l.items))
+    × IsTrue (items_regexes_below (length l.searches) (items_view l.left))
 
 abbrev pub decreases-loop-first : goal.decreases-loop-first
 decreases-loop-first l = length l.left

@@ -10,7 +10,7 @@ use Rattle.fn_search.proofs.parse_regex.objects_of.Goals as goal
 pub returns : goal.returns
 returns c =
     let text = c.args.text.now in
-    let source = source_at c.args.number c.args.patterns.now in
+    let source = source_at c.args.number c.args.searches.now in
     let names = c.as_slice.ensures ∙ c.in_ok-names.ensures in
     let matches = c.as_slice-2.ensures ∙ c.in_ok-matches.ensures.found in
     IfOk-weaker c.objects.result _ _

@@ -11,9 +11,9 @@ use Rattle.fn_search.proofs.parse_regex.parsed.Goals as goal
 pub returns-in-Some : goal.returns-in-Some
 returns-in-Some c =
     let text = c.args.text.now in
-    let source = source_at c.in-Some.number c.args.patterns.now in
+    let source = source_at c.in-Some.number c.args.searches.now in
     let make = match_object source c.args.numbered text in
     let first = first_match source text in
-    subst (λ number. Applies true (named (codes "parse_regex") (parsed c.args.patterns.now number c.args.numbered text)) c.answer_of_first.result) (sym c.in-Some.is)
+    subst (λ number. Applies true (named (codes "parse_regex") (parsed c.args.searches.now number c.args.numbered text)) c.answer_of_first.result) (sym c.in-Some.is)
     (subst (λ answer. Applies true (named (codes "parse_regex") answer) c.answer_of_first.result) (told_so make (codes "no match") first)
     (c.answer_of_first.ensures.answer (option_map make first) (IfOk-weaker c.objects_of.result _ _ (λ objects is. is ∙ ap (map make) (first_of_all source text) ∙ map_listed make first) c.objects_of.ensures)))

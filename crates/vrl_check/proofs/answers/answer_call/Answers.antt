@@ -29,9 +29,9 @@ returns-in-Function c =
     let after = c.answered.new.checker in
     let codes = subst (λ n. HasCodes n gs (call_closure x) c.args.arguments c.args.bound.now) c.in-Function.is c.requires.codes in
     IfOk-weaker c.answered.result _ _
-    (λ outcome answers span. subst (λ n. IsBoundCallAs n span (call_of x) (call_bang x) gs (call_closure x) c.args.arguments c.args.checker.now after outcome) (sym c.in-Function.is)
-    (subst (λ form. IsBoundCallAs (callee.Function f) span form (call_bang x) gs (call_closure x) c.args.arguments c.args.checker.now after outcome) (sym (call_seen x))
-    (function_judged f (call_name x) (out-Call x).name_span span (call_bang x) gs (call_closure x) c.args.arguments c.args.bound.now c.args.checker.now after outcome (subst (IsNamed (call_name x)) c.in-Function.is c.requires.name)
+    (λ finding answers span. subst (λ n. IsBoundCallAs n span (call_of x) (call_bang x) gs (call_closure x) c.args.arguments c.args.checker.now after finding) (sym c.in-Function.is)
+    (subst (λ form. IsBoundCallAs (callee.Function f) span form (call_bang x) gs (call_closure x) c.args.arguments c.args.checker.now after finding) (sym (call_seen x))
+    (function_judged f (call_name x) (out-Call x).name_span span (call_bang x) gs (call_closure x) c.args.arguments c.args.bound.now c.args.checker.now after finding (subst (IsNamed (call_name x)) c.in-Function.is c.requires.name)
     codes.places_are answers c.answered.ensures.checker)))
     c.answered.ensures.answered
 
@@ -41,9 +41,9 @@ returns-in-Deletion c =
     let gs = call_args x in
     let after = c.deleted.new.checker in
     IfOk-weaker c.deleted.result _ _
-    (λ outcome deletes span. subst (λ n. IsBoundCallAs n span (call_of x) (call_bang x) gs (call_closure x) c.args.arguments c.args.checker.now after outcome) (sym c.in-Deletion.is)
-    (subst (λ form. IsBoundCallAs callee.Deletion span form (call_bang x) gs (call_closure x) c.args.arguments c.args.checker.now after outcome) (sym (call_seen x))
-    (deletion_judged (call_name x) (out-Call x).name_span span (call_bang x) gs (call_closure x) c.args.arguments c.args.checker.now after outcome (subst (IsNamed (call_name x)) c.in-Deletion.is c.requires.name) deletes)))
+    (λ finding deletes span. subst (λ n. IsBoundCallAs n span (call_of x) (call_bang x) gs (call_closure x) c.args.arguments c.args.checker.now after finding) (sym c.in-Deletion.is)
+    (subst (λ form. IsBoundCallAs callee.Deletion span form (call_bang x) gs (call_closure x) c.args.arguments c.args.checker.now after finding) (sym (call_seen x))
+    (deletion_judged (call_name x) (out-Call x).name_span span (call_bang x) gs (call_closure x) c.args.arguments c.args.checker.now after finding (subst (IsNamed (call_name x)) c.in-Deletion.is c.requires.name) deletes)))
     c.deleted.ensures
 
 pub returns-in-Existence : goal.returns-in-Existence
@@ -51,8 +51,8 @@ returns-in-Existence c =
     let x = c.args.call.now in
     let gs = call_args x in
     by_both c.existing.result _ _ _
-    (λ outcome kind same span. subst (λ n. IsBoundCallAs n span (call_of x) (call_bang x) gs (call_closure x) c.args.arguments c.args.checker.now c.args.checker.now outcome) (sym c.in-Existence.is)
-    (subst (λ form. IsBoundCallAs callee.Existence span form (call_bang x) gs (call_closure x) c.args.arguments c.args.checker.now c.args.checker.now outcome) (sym (call_seen x))
-    (existence_judged (call_name x) (out-Call x).name_span span (call_bang x) gs (call_closure x) c.args.arguments c.args.checker.now outcome (subst (IsNamed (call_name x)) c.in-Existence.is c.requires.name)
+    (λ finding kind same span. subst (λ n. IsBoundCallAs n span (call_of x) (call_bang x) gs (call_closure x) c.args.arguments c.args.checker.now c.args.checker.now finding) (sym c.in-Existence.is)
+    (subst (λ form. IsBoundCallAs callee.Existence span form (call_bang x) gs (call_closure x) c.args.arguments c.args.checker.now c.args.checker.now finding) (sym (call_seen x))
+    (existence_judged (call_name x) (out-Call x).name_span span (call_bang x) gs (call_closure x) c.args.arguments c.args.checker.now finding (subst (IsNamed (call_name x)) c.in-Existence.is c.requires.name)
     kind same)))
     c.existing.ensures.kind c.existing.ensures.ends

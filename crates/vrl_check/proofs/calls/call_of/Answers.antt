@@ -20,8 +20,8 @@ returns c =
     let gs = call_args c.args.call.now in
     let closure = call_closure c.args.call.now in
     IfOk-weaker c.banged.result _ _
-    (λ outcome bangs before known js j alive judged passed.
+    (λ finding bangs before known js j alive judged passed.
     let ready = call_bound c.args.callee c.args.span before c.args.checker.now c.bound.new.checker gs closure c.args.arguments c.bound.new.arguments js j passed (c.in_ok-bound.ensures.reported js passed.told) c.bound.ensures.parts in
-    let k = c.in_ok-outcome.ensures c.args.span before known js j alive judged ready in
+    let k = c.in_ok-finding.ensures c.args.span before known js j alive judged ready in
     (banged c.args.span (call_bang c.args.call.now) k.0, k.1, bangs before k.0 k.2))
     c.banged.ensures

@@ -13,6 +13,6 @@ returns c =
     let cl = call_closure c.args.call.now in
     let passed = c.in_ok-pass_closure.ensures in
     IfOk-weaker c.banged.result _ _
-    (λ outcome bangs before j ends has. bangs before (passing_closure cl (nulls (in_closure cl)) (record j { kind = any_kind }))
+    (λ finding bangs before j ends has. bangs before (passing_closure cl (nulls (in_closure cl)) (record j { kind = any_kind }))
     (passed_judged cl before c.pass_closure.new.checker c.in_ok-kind.kind c.args.arguments.ends j c.in_ok-kind.ensures.tree ends (closure_gathered before c.args.checker.now c.pass_closure.new.checker cl j has passed.empties passed.loops passed.others)))
     c.banged.ensures

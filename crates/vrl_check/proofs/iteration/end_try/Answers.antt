@@ -11,7 +11,7 @@ pub returns-then-stable : goal.returns-then-stable
 returns-then-stable c = record {
   within = c.within-stable.ensures.0 c.if-stable.true;
   back = ap (λ s. record c.args.checker.now { state = s }) (c.back-behind.ensures.state ∙ c.into_mark.ensures);
-  outcome = refl;
+  finding = refl;
   wrong = λ before j has. c.is_wrong_body-wrong.ensures before j has;
 }
 

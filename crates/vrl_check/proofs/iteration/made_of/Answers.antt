@@ -6,7 +6,7 @@ use Rattle.vrl_judge.proofs.Joining.{common, no_return}
 use Rattle.vrl_check.proofs.iteration.made_of.Goals as goal
 
 pub absorb-requires : goal.absorb-requires
-absorb-requires c = common c.args.checker.now.state.scopes c.args.collection.ends c.args.run.outcome.ends c.requires.ends c.requires.run
+absorb-requires c = common c.args.checker.now.state.scopes c.args.collection.ends c.args.run.finding.ends c.requires.ends c.requires.run
 
 pub add_fail-requires : goal.add_fail-requires
 add_fail-requires c =

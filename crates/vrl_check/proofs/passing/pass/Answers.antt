@@ -10,5 +10,5 @@ pub returns : goal.returns
 returns c =
     let e = expr_of c.args.expr.now in
     by_both c.nothing.result _ _ _
-    (λ outcome. part_passed (in_expr e) (closures_in_expr e) c.args.checker.now _ outcome refl refl refl refl c.in_ok-add_expr.ensures c.in_ok-add_expr-2.ensures)
+    (λ finding. part_passed (in_expr e) (closures_in_expr e) c.args.checker.now _ finding refl refl refl refl c.in_ok-add_expr.ensures c.in_ok-add_expr-2.ensures)
     c.nothing.ensures.kind c.nothing.ensures.ends

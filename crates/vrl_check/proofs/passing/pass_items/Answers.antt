@@ -10,5 +10,5 @@ pub returns : goal.returns
 returns c =
     let es = exprs_of c.args.items.now in
     by_both c.nothing.result _ _ _
-    (λ outcome. part_passed (in_exprs es) (closures_in_exprs es) c.args.checker.now _ outcome refl refl refl refl c.in_ok-add_exprs.ensures c.in_ok-add_exprs-2.ensures)
+    (λ finding. part_passed (in_exprs es) (closures_in_exprs es) c.args.checker.now _ finding refl refl refl refl c.in_ok-add_exprs.ensures c.in_ok-add_exprs-2.ensures)
     c.nothing.ensures.kind c.nothing.ensures.ends

@@ -28,4 +28,4 @@ loop-item-preserved c =
 pub returns : goal.returns
 returns c =
     let l = c.loop-item in
-    IfOk-weaker c.settled.result _ _ (λ outcome settles. script_end _ _ _ _ _ outcome (no_item_left c.as_slice-item-items.result.now l.item-index c.loop-item-test.false) l.invariant settles) c.settled.ensures
+    IfOk-weaker c.settled.result _ _ (λ finding settles. script_end _ _ _ _ _ finding (no_item_left c.as_slice-item-items.result.now l.item-index c.loop-item-test.false) l.invariant settles) c.settled.ensures

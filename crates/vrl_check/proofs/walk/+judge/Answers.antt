@@ -46,20 +46,20 @@ expr-form-requires t c =
 
 pub expr-returns-then-is_dead : goal.expr-returns-then-is_dead
 expr-returns-then-is_dead t c =
-    IfOk-weaker c.pass.result _ _ (λ outcome has. expr_passed (expr_of c.args.expr.now) _ _ outcome (c.is_dead.ensures.0 c.if-is_dead.true) has) c.pass.ensures
+    IfOk-weaker c.pass.result _ _ (λ finding has. expr_passed (expr_of c.args.expr.now) _ _ finding (c.is_dead.ensures.0 c.if-is_dead.true) has) c.pass.ensures
 
 pub expr-returns : goal.expr-returns
 expr-returns t c =
     let e = c.args.expr.now in
     let is : expr_of e ≡ expr e.span (form_of e.form) = search (rules, the_lemmas) in
     IfOk-weaker c.settled.result _ _
-    (λ outcome settles. expr_reached (expr_of e) e.span (form_of e.form) _ _ c.in_ok-outcome.outcome outcome is (λ dead. true≢false (sym (c.is_dead.ensures.1 dead) ∙ c.if-is_dead.false)) c.in_ok-outcome.ensures settles)
+    (λ finding settles. expr_reached (expr_of e) e.span (form_of e.form) _ _ c.in_ok-finding.finding finding is (λ dead. true≢false (sym (c.is_dead.ensures.1 dead) ∙ c.if-is_dead.false)) c.in_ok-finding.ensures settles)
     c.settled.ensures
 
 pub form-returns-in-Literal : goal.form-returns-in-Literal
 form-returns-in-Literal t c =
     let is : form_of c.args.form.now ≡ literal (tree_of c.in-Literal.value) = search (rules, the_lemmas) in
-    rw is (IfOk-weaker c.literal.result _ _ (λ outcome given. given c.args.span) c.literal.ensures)
+    rw is (IfOk-weaker c.literal.result _ _ (λ finding given. given c.args.span) c.literal.ensures)
 
 pub form-array-requires : goal.form-array-requires
 form-array-requires t c =
@@ -69,7 +69,7 @@ form-array-requires t c =
 pub form-returns-in-Array : goal.form-returns-in-Array
 form-returns-in-Array t c =
     let is : form_of c.args.form.now ≡ array (exprs_of c.in-Array.exprs) = search (rules, the_lemmas) in
-    rw is (IfOk-weaker c.array.result _ _ (λ outcome given. given c.args.span) c.array.ensures)
+    rw is (IfOk-weaker c.array.result _ _ (λ finding given. given c.args.span) c.array.ensures)
 
 pub form-object-requires : goal.form-object-requires
 form-object-requires t c =
@@ -79,7 +79,7 @@ form-object-requires t c =
 pub form-returns-in-Map : goal.form-returns-in-Map
 form-returns-in-Map t c =
     let is : form_of c.args.form.now ≡ object (pairs_of c.in-Map.pairs) = search (rules, the_lemmas) in
-    rw is (IfOk-weaker c.object.result _ _ (λ outcome given. given c.args.span) c.object.ensures)
+    rw is (IfOk-weaker c.object.result _ _ (λ finding given. given c.args.span) c.object.ensures)
 
 pub form-returns-in-Read : goal.form-returns-in-Read
 form-returns-in-Read t c =
@@ -94,7 +94,7 @@ form-query-requires t c =
 pub form-returns-in-Query : goal.form-returns-in-Query
 form-returns-in-Query t c =
     let is : form_of c.args.form.now ≡ query (expr_of c.deref.result.now) c.in-Query.path = search (rules, the_lemmas) in
-    rw is (IfOk-weaker c.query.result _ _ (λ outcome given. given c.args.span) c.query.ensures)
+    rw is (IfOk-weaker c.query.result _ _ (λ finding given. given c.args.span) c.query.ensures)
 
 pub form-expr-requires : goal.form-expr-requires
 form-expr-requires t c =
@@ -104,7 +104,7 @@ form-expr-requires t c =
 pub form-returns-in-Group : goal.form-returns-in-Group
 form-returns-in-Group t c =
     let is : form_of c.args.form.now ≡ group (expr_of c.deref-in-Group.result.now) = search (rules, the_lemmas) in
-    rw is (IfOk-weaker c.expr.result _ _ (λ outcome judged. group_given (expr_of c.deref-in-Group.result.now) c.args.checker.now c.expr.new.checker outcome judged c.args.span) c.expr.ensures)
+    rw is (IfOk-weaker c.expr.result _ _ (λ finding judged. group_given (expr_of c.deref-in-Group.result.now) c.args.checker.now c.expr.new.checker finding judged c.args.span) c.expr.ensures)
 
 pub form-block-requires : goal.form-block-requires
 form-block-requires t c =
@@ -114,7 +114,7 @@ form-block-requires t c =
 pub form-returns-in-Block : goal.form-returns-in-Block
 form-returns-in-Block t c =
     let is : form_of c.args.form.now ≡ block (exprs_of c.in-Block.items) = search (rules, the_lemmas) in
-    rw is (IfOk-weaker c.block.result _ _ (λ outcome judged. block_given (exprs_of c.in-Block.items) c.args.checker.now c.block.new.checker outcome judged c.args.span) c.block.ensures)
+    rw is (IfOk-weaker c.block.result _ _ (λ finding judged. block_given (exprs_of c.in-Block.items) c.args.checker.now c.block.new.checker finding judged c.args.span) c.block.ensures)
 
 pub form-conditional-requires : goal.form-conditional-requires
 form-conditional-requires t c =
@@ -124,7 +124,7 @@ form-conditional-requires t c =
 pub form-returns-in-If : goal.form-returns-in-If
 form-returns-in-If t c =
     let is : form_of c.args.form.now ≡ conditional (arms_of c.in-If.arms) (else_of (option_map exprs_of c.in-If.otherwise)) = search (rules, the_lemmas) in
-    rw is (IfOk-weaker c.conditional.result _ _ (λ outcome given. given c.args.span) c.conditional.ensures)
+    rw is (IfOk-weaker c.conditional.result _ _ (λ finding given. given c.args.span) c.conditional.ensures)
 
 pub form-negation-requires : goal.form-negation-requires
 form-negation-requires t c =
@@ -189,7 +189,7 @@ form-returns-in-Return t c =
 pub form-returns-in-Abort-None : goal.form-returns-in-Abort-None
 form-returns-in-Abort-None t c =
     let is : form_of c.args.form.now ≡ abort_with no_message = search (rules, the_lemmas) in
-    rw is (IfOk-weaker c.abort.result _ _ (λ outcome given. given c.args.span) c.abort.ensures)
+    rw is (IfOk-weaker c.abort.result _ _ (λ finding given. given c.args.span) c.abort.ensures)
 
 pub form-abort_with-requires : goal.form-abort_with-requires
 form-abort_with-requires t c =
@@ -199,7 +199,7 @@ form-abort_with-requires t c =
 pub form-returns-in-Abort-Some : goal.form-returns-in-Abort-Some
 form-returns-in-Abort-Some t c =
     let is : form_of c.args.form.now ≡ abort_with (message (expr_of c.deref-in-Abort-Some.result.now)) = search (rules, the_lemmas) in
-    rw is (IfOk-weaker c.abort_with.result _ _ (λ outcome given. given c.args.span) c.abort_with.ensures)
+    rw is (IfOk-weaker c.abort_with.result _ _ (λ finding given. given c.args.span) c.abort_with.ensures)
 
 pub form-call-requires : goal.form-call-requires
 form-call-requires t c =
@@ -270,11 +270,11 @@ object-returns t c =
 
 pub query-returns : goal.query-returns
 query-returns t c =
-    IfOk-weaker c.read_off.result _ _ (λ outcome off. query_given (expr_of c.args.inner.now) c.args.path.now c.args.checker.now c.expr.new.checker c.in_ok-part.part outcome c.in_ok-part.ensures off) c.read_off.ensures
+    IfOk-weaker c.read_off.result _ _ (λ finding off. query_given (expr_of c.args.inner.now) c.args.path.now c.args.checker.now c.expr.new.checker c.in_ok-part.part finding c.in_ok-part.ensures off) c.read_off.ensures
 
 pub block-returns-then-is_dead : goal.block-returns-then-is_dead
 block-returns-then-is_dead t c =
-    IfOk-weaker c.pass_items.result _ _ (λ outcome has. block_passed (exprs_of c.args.items.now) _ _ outcome (c.is_dead.ensures.0 c.if-is_dead.true) has) c.pass_items.ensures
+    IfOk-weaker c.pass_items.result _ _ (λ finding has. block_passed (exprs_of c.args.items.now) _ _ finding (c.is_dead.ensures.0 c.if-is_dead.true) has) c.pass_items.ensures
 
 pub block-end_block-requires : goal.block-end_block-requires
 block-end_block-requires t c =
@@ -283,7 +283,7 @@ block-end_block-requires t c =
 pub block-returns : goal.block-returns
 block-returns t c =
     IfOk-weaker c.end_block.result _ _
-    (λ outcome ends. block_reached (exprs_of c.args.items.now) c.args.checker.now _ _ _ c.in_ok-part.part outcome (λ dead. true≢false (sym (c.is_dead.ensures.1 dead) ∙ c.if-is_dead.false)) c.in_ok-enter.ensures.entered refl refl refl refl refl c.in_ok-part.ensures ends)
+    (λ finding ends. block_reached (exprs_of c.args.items.now) c.args.checker.now _ _ _ c.in_ok-part.part finding (λ dead. true≢false (sym (c.is_dead.ensures.1 dead) ∙ c.if-is_dead.false)) c.in_ok-enter.ensures.entered refl refl refl refl refl c.in_ok-part.ensures ends)
     c.end_block.ensures
 
 pub sequence-loop-item-init : goal.sequence-loop-item-init
@@ -320,20 +320,20 @@ operators::binary-returns-in-Coalesce t c =
 
 pub operators::binary-returns-in-Or : goal.operators::binary-returns-in-Or
 operators::binary-returns-in-Or t c =
-    rw c.in-Or.is (IfOk-weaker c.disjunction.result _ _ (λ outcome given. given c.args.span) c.disjunction.ensures)
+    rw c.in-Or.is (IfOk-weaker c.disjunction.result _ _ (λ finding given. given c.args.span) c.disjunction.ensures)
 
 pub operators::binary-returns-in-And : goal.operators::binary-returns-in-And
 operators::binary-returns-in-And t c =
-    rw c.in-And.is (IfOk-weaker c.conjunction.result _ _ (λ outcome given. given c.args.span) c.conjunction.ensures)
+    rw c.in-And.is (IfOk-weaker c.conjunction.result _ _ (λ finding given. given c.args.span) c.conjunction.ensures)
 
 pub operators::binary-returns-in-Merge : goal.operators::binary-returns-in-Merge
 operators::binary-returns-in-Merge t c =
-    rw c.in-Merge.is (IfOk-weaker c.merge.result _ _ (λ outcome given. given c.args.span) c.merge.ensures)
+    rw c.in-Merge.is (IfOk-weaker c.merge.result _ _ (λ finding given. given c.args.span) c.merge.ensures)
 
 pub operators::negation-returns : goal.operators::negation-returns
 operators::negation-returns t c =
     IfOk-weaker c.negated.result _ _
-    (λ outcome negates. negation_given c.args.span (expr_of c.args.inner.now) c.args.checker.now c.expr.new.checker c.negated.new.self c.in_ok-part.part outcome c.in_ok-part.ensures negates)
+    (λ finding negates. negation_given c.args.span (expr_of c.args.inner.now) c.args.checker.now c.expr.new.checker c.negated.new.self c.in_ok-part.part finding c.in_ok-part.ensures negates)
     c.negated.ensures
 
 pub operators::operands-beside-requires : goal.operators::operands-beside-requires
@@ -359,7 +359,7 @@ operators::beside-returns t c =
 pub operators::equality-returns : goal.operators::equality-returns
 operators::equality-returns t c =
     IfOk-weaker c.equated.result _ _
-    (λ outcome equates. equality_given c.args.span c.args.op (expr_of c.args.left.now) (expr_of c.args.right.now) c.args.checker.now c.operands.new.checker c.equated.new.self c.is_chained.result c.in_ok-parts.parts outcome c.requires.op c.is_chained.ensures c.in_ok-parts.ensures equates)
+    (λ finding equates. equality_given c.args.span c.args.op (expr_of c.args.left.now) (expr_of c.args.right.now) c.args.checker.now c.operands.new.checker c.equated.new.self c.is_chained.result c.in_ok-parts.parts finding c.requires.op c.is_chained.ensures c.in_ok-parts.ensures equates)
     c.equated.ensures
 
 pub operators::of_table-combined-requires : goal.operators::of_table-combined-requires
@@ -369,7 +369,7 @@ operators::of_table-combined-requires t c =
 pub operators::of_table-returns : goal.operators::of_table-returns
 operators::of_table-returns t c =
     IfOk-weaker c.combined.result _ _
-    (λ outcome combines. table_given c.args.span c.args.op c.args.table (expr_of c.args.left.now) (expr_of c.args.right.now) c.args.checker.now c.operands.new.checker c.combined.new.self c.is_chained.result c.in_ok-parts.parts outcome c.requires.op c.is_chained.ensures c.in_ok-parts.ensures combines)
+    (λ finding combines. table_given c.args.span c.args.op c.args.table (expr_of c.args.left.now) (expr_of c.args.right.now) c.args.checker.now c.operands.new.checker c.combined.new.self c.is_chained.result c.in_ok-parts.parts finding c.requires.op c.is_chained.ensures c.in_ok-parts.ensures combines)
     c.combined.ensures
 
 pub operators::merge-returns : goal.operators::merge-returns
@@ -377,7 +377,7 @@ operators::merge-returns t c =
     let left_is : c.args.left.now.span ≡ span_of (expr_of c.args.left.now) = search (rules, the_lemmas) in
     let right_is : c.args.right.now.span ≡ span_of (expr_of c.args.right.now) = search (rules, the_lemmas) in
     IfOk-weaker c.merged.result _ _
-    (λ outcome merges. merge_given (expr_of c.args.left.now) (expr_of c.args.right.now) c.args.left.now.span c.args.right.now.span c.args.checker.now c.operands.new.checker c.merged.new.self c.in_ok-parts.parts outcome left_is right_is c.in_ok-parts.ensures merges)
+    (λ finding merges. merge_given (expr_of c.args.left.now) (expr_of c.args.right.now) c.args.left.now.span c.args.right.now.span c.args.checker.now c.operands.new.checker c.merged.new.self c.in_ok-parts.parts finding left_is right_is c.in_ok-parts.ensures merges)
     c.merged.ensures
 
 pub operators::merge_into-beside-requires : goal.operators::merge_into-beside-requires
@@ -388,13 +388,13 @@ pub operators::merge_into-returns-clause-given : goal.operators::merge_into-retu
 operators::merge_into-returns-clause-given t c =
     let right_is : c.args.value.now.span ≡ span_of (expr_of c.args.value.now) = search (rules, the_lemmas) in
     IfOk-weaker c.merged.result _ _
-    (λ outcome merges. merge_into_given (expr_of c.args.value.now) c.args.place c.args.value.now.span c.args.root.now c.args.path.now c.args.checker.now c.read.new.checker c.beside.new.checker c.merged.new.self c.in_ok-read.read c.in_ok-left.left c.in_ok-parts.parts outcome right_is c.in_ok-read.ensures.given c.in_ok-left.ensures c.in_ok-parts.ensures merges)
+    (λ finding merges. merge_into_given (expr_of c.args.value.now) c.args.place c.args.value.now.span c.args.root.now c.args.path.now c.args.checker.now c.read.new.checker c.beside.new.checker c.merged.new.self c.in_ok-read.read c.in_ok-left.left c.in_ok-parts.parts finding right_is c.in_ok-read.ensures.given c.in_ok-left.ensures c.in_ok-parts.ensures merges)
     c.merged.ensures
 
 pub operators::merge_into-returns-clause-judged : goal.operators::merge_into-returns-clause-judged
 operators::merge_into-returns-clause-judged t c =
     IfOk-weaker c.merged.result _ _
-    (λ outcome merges. merge_into_judged (expr_of c.args.value.now) c.args.place c.args.value.now.span c.args.checker.now c.read.new.checker c.beside.new.checker c.merged.new.self c.in_ok-read.read c.in_ok-left.left c.in_ok-parts.parts outcome c.in_ok-read.ensures.judged.0 c.in_ok-read.ensures.judged.1 c.in_ok-left.ensures c.in_ok-parts.ensures merges)
+    (λ finding merges. merge_into_judged (expr_of c.args.value.now) c.args.place c.args.value.now.span c.args.checker.now c.read.new.checker c.beside.new.checker c.merged.new.self c.in_ok-read.read c.in_ok-left.left c.in_ok-parts.parts finding c.in_ok-read.ensures.judged.0 c.in_ok-read.ensures.judged.1 c.in_ok-left.ensures c.in_ok-parts.ensures merges)
     c.merged.ensures
 
 pub branches::conjunction-left_of_and-requires : goal.branches::conjunction-left_of_and-requires
@@ -416,7 +416,7 @@ branches::conjunction-conjoined-requires t c =
 pub branches::conjunction-returns : goal.branches::conjunction-returns
 branches::conjunction-returns t c =
     IfOk-weaker c.conjoined.result _ _
-    (λ outcome last. conjunction_judged (expr_of c.args.left.now) (expr_of c.args.right.now) c.args.checker.now c.expr.new.checker c.left_of_and.new.self c.expr-2.new.checker c.conjoined.new.self c.in_ok-part.part c.in_ok-other.other outcome c.in_ok-side.side
+    (λ finding last. conjunction_judged (expr_of c.args.left.now) (expr_of c.args.right.now) c.args.checker.now c.expr.new.checker c.left_of_and.new.self c.expr-2.new.checker c.conjoined.new.self c.in_ok-part.part c.in_ok-other.other finding c.in_ok-side.side
     c.in_ok-part.ensures c.in_ok-side.ensures.side c.in_ok-side.ensures.ends c.in_ok-other.ensures last)
     c.conjoined.ensures
 
@@ -439,7 +439,7 @@ branches::disjunction-disjoined-requires t c =
 pub branches::disjunction-returns : goal.branches::disjunction-returns
 branches::disjunction-returns t c =
     by_both c.disjoined.result _ _ _
-    (λ outcome. disjunction_judged (expr_of c.args.left.now) (expr_of c.args.right.now) c.args.checker.now c.expr.new.checker c.left_of_or.new.self c.expr-2.new.checker c.disjoined.new.self c.in_ok-part.part c.in_ok-other.other outcome c.in_ok-side.side
+    (λ finding. disjunction_judged (expr_of c.args.left.now) (expr_of c.args.right.now) c.args.checker.now c.expr.new.checker c.left_of_or.new.self c.expr-2.new.checker c.disjoined.new.self c.in_ok-part.part c.in_ok-other.other finding c.in_ok-side.side
     c.in_ok-part.ensures c.in_ok-side.ensures.side c.in_ok-side.ensures.part c.in_ok-other.ensures)
     c.disjoined.ensures.kind c.disjoined.ensures.sides
 
@@ -462,8 +462,8 @@ branches::coalescing-coalesced-requires t c =
 pub branches::coalescing-returns : goal.branches::coalescing-returns
 branches::coalescing-returns t c =
     by_both c.reported.result _ _ _
-    (λ outcome same reported. subst (IsGivenAs c.args.span (binary ops.Coalesce (expr_of c.args.left.now) (expr_of c.args.right.now)) c.args.checker.now c.reported.new.self) (sym same)
-    (coalescing_judged c.args.span (expr_of c.args.left.now) (expr_of c.args.right.now) c.args.checker.now c.expr.new.checker c.left_of_coalescing.new.self c.expr-2.new.checker c.coalesced.new.self c.reported.new.self c.in_ok-part.part c.in_ok-other.other c.in_ok-both.both c.in_ok-side.side outcome.ends c.is_needless-needless.result
+    (λ finding same reported. subst (IsGivenAs c.args.span (binary ops.Coalesce (expr_of c.args.left.now) (expr_of c.args.right.now)) c.args.checker.now c.reported.new.self) (sym same)
+    (coalescing_judged c.args.span (expr_of c.args.left.now) (expr_of c.args.right.now) c.args.checker.now c.expr.new.checker c.left_of_coalescing.new.self c.expr-2.new.checker c.coalesced.new.self c.reported.new.self c.in_ok-part.part c.in_ok-other.other c.in_ok-both.both c.in_ok-side.side finding.ends c.is_needless-needless.result
     c.in_ok-part.ensures c.is_needless-needless.ensures c.in_ok-side.ensures.side c.in_ok-side.ensures.part c.in_ok-other.ensures c.in_ok-both.ensures.kind c.in_ok-both.ensures.sides reported))
     c.reported.ensures.same c.reported.ensures.reported
 
@@ -504,7 +504,7 @@ branches::conditional-returns t c =
     let behind_all = else_of (option_map exprs_of c.args.otherwise.now) in
     let items = c.as_slice-arm-items.result.now in
     IfOk-weaker c.add_last.result _ _
-    (λ outcome behind. conditional_judged whole behind_all c.args.checker.now l.checker c.last_way.new.checker c.add_last.new.self l.ways c.in_ok-last.last outcome
+    (λ finding behind. conditional_judged whole behind_all c.args.checker.now l.checker c.last_way.new.checker c.add_last.new.self l.ways c.in_ok-last.last finding
     (subst (λ rest. AreJudged whole behind_all rest c.args.checker.now l.checker l.ways) (no_arm_left items l.arm-index c.loop-arm-test.false) l.invariant) c.in_ok-last.ensures behind)
     c.add_last.ensures
 
@@ -572,7 +572,7 @@ return_with-returned-requires t c =
 pub return_with-returns : goal.return_with-returns
 return_with-returns t c =
     IfOk-weaker c.returned.result _ _
-    (λ outcome last. return_judged c.args.span (expr_of c.args.value.now) c.args.checker.now c.expr.new.checker c.returned.new.self c.in_ok-part.part outcome c.in_ok-part.ensures last)
+    (λ finding last. return_judged c.args.span (expr_of c.args.value.now) c.args.checker.now c.expr.new.checker c.returned.new.self c.in_ok-part.part finding c.in_ok-part.ensures last)
     c.returned.ensures
 
 pub abort_with-aborted-requires : goal.abort_with-aborted-requires
@@ -583,7 +583,7 @@ pub abort_with-returns : goal.abort_with-returns
 abort_with-returns t c =
     let span_is : c.args.message.now.span ≡ span_of (expr_of c.args.message.now) = search (rules, the_lemmas) in
     IfOk-weaker c.aborted.result _ _
-    (λ outcome last. abort_judged (expr_of c.args.message.now) c.args.message.now.span c.args.checker.now c.expr.new.checker c.aborted.new.self c.in_ok-part.part outcome span_is c.in_ok-part.ensures last)
+    (λ finding last. abort_judged (expr_of c.args.message.now) c.args.message.now.span c.args.checker.now c.expr.new.checker c.aborted.new.self c.in_ok-part.part finding span_is c.in_ok-part.ensures last)
     c.aborted.ensures
 
 pub assignments::assignment-assigned-requires-clause-present : goal.assignments::assignment-assigned-requires-clause-present
@@ -593,14 +593,14 @@ assignments::assignment-assigned-requires-clause-present t c =
 pub assignments::assignment-returns : goal.assignments::assignment-returns
 assignments::assignment-returns t c =
     IfOk-weaker c.assigned.result _ _
-    (λ outcome assigned. assignment_judged c.args.span c.args.target.now (expr_of c.args.value.now) c.args.checker.now c.expr.new.checker c.assigned.new.self c.in_ok-part.part outcome c.in_ok-part.ensures assigned)
+    (λ finding assigned. assignment_judged c.args.span c.args.target.now (expr_of c.args.value.now) c.args.checker.now c.expr.new.checker c.assigned.new.self c.in_ok-part.part finding c.in_ok-part.ensures assigned)
     c.assigned.ensures
 
 pub assignments::merge_assignment-returns-in_ok-part-in-Nowhere : goal.assignments::merge_assignment-returns-in_ok-part-in-Nowhere
 assignments::merge_assignment-returns-in_ok-part-in-Nowhere t c =
     by_both c.reported.result _ _ _
-    (λ outcome same reported. subst (IsGivenAs c.args.span (merge c.args.target.now (expr_of c.args.value.now)) c.args.checker.now c.reported.new.self) (sym same)
-    (nowhere_judged c.args.span c.args.target.now (expr_of c.args.value.now) c.args.checker.now c.expr.new.checker c.reported.new.self c.in_ok-part-in-Nowhere.part outcome.ends c.in-Nowhere.is c.in_ok-part-in-Nowhere.ensures reported))
+    (λ finding same reported. subst (IsGivenAs c.args.span (merge c.args.target.now (expr_of c.args.value.now)) c.args.checker.now c.reported.new.self) (sym same)
+    (nowhere_judged c.args.span c.args.target.now (expr_of c.args.value.now) c.args.checker.now c.expr.new.checker c.reported.new.self c.in_ok-part-in-Nowhere.part finding.ends c.in-Nowhere.is c.in_ok-part-in-Nowhere.ensures reported))
     c.reported.ensures.same c.reported.ensures.reported
 
 pub assignments::merge_assignment-assigned-requires-clause-present : goal.assignments::merge_assignment-assigned-requires-clause-present
@@ -610,7 +610,7 @@ assignments::merge_assignment-assigned-requires-clause-present t c =
 pub assignments::merge_assignment-returns-in_ok-merged-in-Place : goal.assignments::merge_assignment-returns-in_ok-merged-in-Place
 assignments::merge_assignment-returns-in_ok-merged-in-Place t c =
     IfOk-weaker c.assigned.result _ _
-    (λ outcome assigned. merge_judged c.args.span c.in-Place.place c.in-Place.root c.in-Place.path c.args.target.now (expr_of c.args.value.now) c.args.checker.now c.merge_into.new.checker c.assigned.new.self c.in_ok-whole-in-Place.whole c.in_ok-merged-in-Place.merged outcome c.in-Place.is c.in_ok-whole-in-Place.ensures.given c.in_ok-merged-in-Place.ensures assigned)
+    (λ finding assigned. merge_judged c.args.span c.in-Place.place c.in-Place.root c.in-Place.path c.args.target.now (expr_of c.args.value.now) c.args.checker.now c.merge_into.new.checker c.assigned.new.self c.in_ok-whole-in-Place.whole c.in_ok-merged-in-Place.merged finding c.in-Place.is c.in_ok-whole-in-Place.ensures.given c.in_ok-merged-in-Place.ensures assigned)
     c.assigned.ensures
 
 pub assignments::error_assignment-both_assigned-requires-clause-kind : goal.assignments::error_assignment-both_assigned-requires-clause-kind
@@ -630,7 +630,7 @@ pub assignments::error_assignment-returns : goal.assignments::error_assignment-r
 assignments::error_assignment-returns t c =
     let counted : vec_len c.args.checker.now.empties ≡ length c.args.checker.now.empties.items = search rules in
     IfOk-weaker c.both_assigned.result _ _
-    (λ outcome last. error_judged c.args.span c.args.ok.now c.args.err.now (expr_of c.args.value.now) c.args.checker.now _ c.expr.new.checker c.both_assigned.new.self c.len-place.result c.in_ok-part.part outcome refl refl refl refl refl c.in_ok-push.ensures.items (c.len-place.ensures ∙ counted) c.in_ok-part.ensures last)
+    (λ finding last. error_judged c.args.span c.args.ok.now c.args.err.now (expr_of c.args.value.now) c.args.checker.now _ c.expr.new.checker c.both_assigned.new.self c.len-place.result c.in_ok-part.part finding refl refl refl refl refl c.in_ok-push.ensures.items (c.len-place.ensures ∙ counted) c.in_ok-part.ensures last)
     c.both_assigned.ensures
 
 pub call-arguments-requires : goal.call-arguments-requires
@@ -666,14 +666,14 @@ pub call-returns-in-Some : goal.call-returns-in-Some
 call-returns-in-Some t c =
     let a = out-Call c.args.call.now in
     IfOk-weaker c.closure_call.result _ _
-    (λ outcome called. call_given c.args.span (call_of c.args.call.now) (args_of a.args) c.args.checker.now c.arguments.new.checker c.closure_call.new.checker c.in_ok-arguments.arguments outcome c.in_ok-arguments.ensures called)
+    (λ finding called. call_given c.args.span (call_of c.args.call.now) (args_of a.args) c.args.checker.now c.arguments.new.checker c.closure_call.new.checker c.in_ok-arguments.arguments finding c.in_ok-arguments.ensures called)
     c.closure_call.ensures
 
 pub call-returns-in-None : goal.call-returns-in-None
 call-returns-in-None t c =
     let a = out-Call c.args.call.now in
     IfOk-weaker c.called.result _ _
-    (λ outcome called. call_given c.args.span (call_of c.args.call.now) (args_of a.args) c.args.checker.now c.arguments.new.checker c.called.new.checker c.in_ok-arguments.arguments outcome c.in_ok-arguments.ensures called)
+    (λ finding called. call_given c.args.span (call_of c.args.call.now) (args_of a.args) c.args.checker.now c.arguments.new.checker c.called.new.checker c.in_ok-arguments.arguments finding c.in_ok-arguments.ensures called)
     c.called.ensures
 
 pub closures::closure_call-iterated-requires : goal.closures::closure_call-iterated-requires
@@ -693,24 +693,24 @@ closures::closure_call-iterated-requires t c =
       ),
     )
 
-pub closures::closure_call-returns-in_ok-outcome-in-Some : goal.closures::closure_call-returns-in_ok-outcome-in-Some
-closures::closure_call-returns-in_ok-outcome-in-Some t c =
+pub closures::closure_call-returns-in_ok-finding-in-Some : goal.closures::closure_call-returns-in_ok-finding-in-Some
+closures::closure_call-returns-in_ok-finding-in-Some t c =
     let x = c.args.call.now in
     let gs = call_args x in
     let cl = c.in-Some.closure.now in
     let there = c.in-Some.ensures.1 in
     let is = call_seen x ∙ ap (call (call_name x) (out-Call x).name_span (call_bang x) gs) (closure_called x cl there) in
     IfOk-weaker c.banged.result _ _
-    (λ outcome bangs before known js j alive judged has.
+    (λ finding bangs before known js j alive judged has.
     let same = keywords_told gs js has.told.written_are in
     let none = no_code _ (sym (c.in_ok-wrong.ensures.wrong js has.told) ∙ c.in-Some.ensures.0) in
     let right = right_call c.args.form c.args.span (call_closure x) (keywords_of gs) js (binding (collection_parameters c.args.form) (keywords_of gs)) refl same none in
-    subst (λ f. (k : Judgement) × Gives (language_rules before.patterns.now) before.inside known c.args.span f k × HasJudged before c.banged.new.self outcome k) (sym is)
+    subst (λ f. (k : Judgement) × Gives (language_rules before.patterns.now) before.inside known c.args.span f k × HasJudged before c.banged.new.self finding k) (sym is)
     (closure_call_judged c.args.form (call_name x) (out-Call x).name_span c.args.span (call_bang x) gs (closure_names cl) (closure_items cl) (closure_span cl) before c.args.checker.now c.is_wrong_call.new.checker c.iterated.new.checker c.banged.new.self known
-    c.args.arguments c.is_wrong_call.new.arguments c.in_ok-outcome-in-Some.outcome outcome js j c.requires.form c.requires.four judged has
+    c.args.arguments c.is_wrong_call.new.arguments c.in_ok-finding-in-Some.finding finding js j c.requires.form c.requires.four judged has
     (subst (λ z. IsReported (of_closure_call c.args.form c.args.span gs z js) c.args.checker.now c.is_wrong_call.new.checker c.args.arguments.ends c.is_wrong_call.new.arguments.ends) (closure_called x cl there) (c.in_ok-wrong.ensures.reported js has.told))
     c.is_wrong_call.ensures.parts (subst (λ z. of_closure_call c.args.form c.args.span gs z js ≡ []) (closure_called x cl there) none) (right.0, right.1)
-    (λ g ready. c.in_ok-outcome-in-Some.ensures before gs g j ready) (λ k made. bangs before k made)))
+    (λ g ready. c.in_ok-finding-in-Some.ensures before gs g j ready) (λ k made. bangs before k made)))
     c.banged.ensures
 
 pub closures::closure_call-returns-in-None : goal.closures::closure_call-returns-in-None
@@ -718,11 +718,11 @@ closures::closure_call-returns-in-None t c =
     let x = c.args.call.now in
     let gs = call_args x in
     IfOk-weaker c.passed_call.result _ _
-    (λ outcome passes before known js j alive judged has.
+    (λ finding passes before known js j alive judged has.
     let same = keywords_told gs js has.told.written_are in
     let some = wrong_code c.args.form c.args.span (call_closure x) (keywords_of gs) js c.in_ok-wrong.wrong same (c.in_ok-wrong.ensures.wrong js has.told) (wrong_or_none x c.in_ok-wrong.wrong c.in-None.ensures) in
-    subst (λ f. (k : Judgement) × Gives (language_rules before.patterns.now) before.inside known c.args.span f k × HasJudged before c.passed_call.new.checker outcome k) (sym (call_seen x))
-    (wrong_call_judged c.args.form (call_name x) (out-Call x).name_span c.args.span (call_bang x) gs (call_closure x) before c.args.checker.now c.is_wrong_call.new.checker c.passed_call.new.checker known c.args.arguments c.is_wrong_call.new.arguments outcome js j
+    subst (λ f. (k : Judgement) × Gives (language_rules before.patterns.now) before.inside known c.args.span f k × HasJudged before c.passed_call.new.checker finding k) (sym (call_seen x))
+    (wrong_call_judged c.args.form (call_name x) (out-Call x).name_span c.args.span (call_bang x) gs (call_closure x) before c.args.checker.now c.is_wrong_call.new.checker c.passed_call.new.checker known c.args.arguments c.is_wrong_call.new.arguments finding js j
     c.requires.form c.requires.four judged has (c.in_ok-wrong.ensures.reported js has.told) some (λ k ends gathered. passes before k ends gathered)))
     c.passed_call.ensures
 
@@ -751,7 +751,7 @@ closures::iterated-made_of-requires-clause-fail t c =
 pub closures::iterated-made_of-requires-clause-run : goal.closures::iterated-made_of-requires-clause-run
 closures::iterated-made_of-requires-clause-run t c =
     let run = c.in_ok-run.ensures in
-    subst (λ s. AreEnds s c.in_ok-run.run'.outcome.ends) (sym run.judged.gathered.scopes) run.judged.ends.are
+    subst (λ s. AreEnds s c.in_ok-run.run'.finding.ends) (sym run.judged.gathered.scopes) run.judged.ends.are
 
 pub closures::iterated-returns : goal.closures::iterated-returns
 closures::iterated-returns t c =
@@ -759,7 +759,7 @@ closures::iterated-returns t c =
     let names = c.in_ok-names.ensures in
     let still = c.collection_of.ensures.checker in
     IfOk-weaker c.made_of.result _ _
-    (λ outcome made before gs g j has. iterated_judged c.args.form cl c.in_ok-names.names.kinds.items c.in_ok-names.names.runs before c.args.checker.now c.all_runs.new.checker c.made_of.new.checker c.args.arguments c.in_ok-collection.collection c.in_ok-run.run' outcome gs g j has
+    (λ finding made before gs g j has. iterated_judged c.args.form cl c.in_ok-names.names.kinds.items c.in_ok-names.names.runs before c.args.checker.now c.all_runs.new.checker c.made_of.new.checker c.args.arguments c.in_ok-collection.collection c.in_ok-run.run' finding gs g j has
     (c.in_ok-collection.ensures.taken g has.told.parts_are) names (subst (λ x. AreRuns c.args.form (body_in cl c.in_ok-names.names.kinds.items c.in_ok-names.names.runs) x c.all_runs.new.checker c.in_ok-run.run') still
     (subst (λ Ks. AreRuns c.args.form (body_in cl Ks c.in_ok-names.names.runs) c.collection_of.new.checker c.all_runs.new.checker c.in_ok-run.run') c.deref.ensures.value c.in_ok-run.ensures)) made)
     c.made_of.ensures
@@ -858,7 +858,7 @@ closures::one_try-returns t c =
 
 pub closures::body-returns-then-is_dead : goal.closures::body-returns-then-is_dead
 closures::body-returns-then-is_dead t c =
-    IfOk-weaker c.pass_items.result _ _ (λ outcome has runs. body_passed (body_in c.args.closure.now c.args.kinds.now runs) _ _ outcome (c.is_dead.ensures.0 c.if-is_dead.true) has) c.pass_items.ensures
+    IfOk-weaker c.pass_items.result _ _ (λ finding has runs. body_passed (body_in c.args.closure.now c.args.kinds.now runs) _ _ finding (c.is_dead.ensures.0 c.if-is_dead.true) has) c.pass_items.ensures
 
 pub closures::body-enter_body-requires-clause-count : goal.closures::body-enter_body-requires-clause-count
 closures::body-enter_body-requires-clause-count t c = c.requires.count
@@ -876,7 +876,7 @@ closures::body-end_body-requires t c =
 
 pub closures::body-returns : goal.closures::body-returns
 closures::body-returns t c runs =
-    body_reached (body_in c.args.closure.now c.args.kinds.now runs) c.args.checker.now _ c.enter_body.new.self c.block.new.checker c.end_body.new.self _ c.in_ok-part.part c.in_ok-outcome.outcome (λ dead. true≢false (sym (c.is_dead.ensures.1 dead) ∙ c.if-is_dead.false)) refl c.in_ok-enter_body.ensures c.in_ok-part.ensures c.in_ok-outcome.ensures refl
+    body_reached (body_in c.args.closure.now c.args.kinds.now runs) c.args.checker.now _ c.enter_body.new.self c.block.new.checker c.end_body.new.self _ c.in_ok-part.part c.in_ok-finding.finding (λ dead. true≢false (sym (c.is_dead.ensures.1 dead) ∙ c.if-is_dead.false)) refl c.in_ok-enter_body.ensures c.in_ok-part.ensures c.in_ok-finding.ensures refl
 
 pub arguments-loop-arg-init : goal.arguments-loop-arg-init
 arguments-loop-arg-init t c =

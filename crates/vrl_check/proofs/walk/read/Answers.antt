@@ -18,7 +18,7 @@ returns-in_ok-read_root-in-Some-clause-judged c =
 pub returns-in-None-clause-given : goal.returns-in-None-clause-given
 returns-in-None-clause-given c =
     let known = ap (option_map (λ k. k.value)) (sym c.in-None.is) ∙ c.in_ok-found.ensures.kind in
-    IfOk-weaker c.unknown.result _ _ (λ outcome has. unknown_given c.args.span c.args.root.now c.args.path.now c.args.checker.now _ outcome known has) c.unknown.ensures
+    IfOk-weaker c.unknown.result _ _ (λ finding has. unknown_given c.args.span c.args.root.now c.args.path.now c.args.checker.now _ finding known has) c.unknown.ensures
 
 pub returns-in-None-clause-judged : goal.returns-in-None-clause-judged
-returns-in-None-clause-judged c = IfOk-weaker c.unknown.result _ _ (λ outcome has. (_, has)) c.unknown.ensures
+returns-in-None-clause-judged c = IfOk-weaker c.unknown.result _ _ (λ finding has. (_, has)) c.unknown.ensures

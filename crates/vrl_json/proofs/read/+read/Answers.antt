@@ -9,8 +9,8 @@ use Rattle.serde_json.specs.Read.{converted, of_json}
 use Rattle.vrl_value.specs.Tree.{array, boolean, is_json, items_are_json, members_are_json, null, object, string}
 use Rattle.vrl_value.specs.View.{items_of, items_view, members_of, members_view, tree_of}
 use Rattle.vrl_value.specs.declared.value.Value.{Bool, List, Null, Object, Text, the_lemmas}
-use Rattle.vrl_json.specs.Marked.{marked_items, marked_members, marked_tree, TellsMarks}
-use Rattle.vrl_json.proofs.Reading.{joined, joined-no_items, marked_items-pushed, marked_members-put, none_yet, number_read, number_refused, one_more, joined_json, told_more}
+use Rattle.vrl_json.specs.Drafts.{draft_items, draft_members, draft_tree, TellsStandIns}
+use Rattle.vrl_json.proofs.Reading.{joined, joined-no_items, draft_items-pushed, draft_members-put, none_yet, number_read, number_refused, one_more, joined_json, told_more}
 use Rattle.vrl_json.proofs.Turns.{as_array, as_object, item_read, item_refused, items_over, key_refused, member_read, member_refused, members_over}
 use Rattle.vrl_json.proofs.read.+read.Goals as goal
 
@@ -53,10 +53,10 @@ read_fields-members-preserved t c =
     let named : read_key l.reader ≡ Some (Some name, behind) = grind arith in
     let read = c.in_ok-value.ensures.ok in
     let key_passed = read_key-shorter l.reader (Some name) behind named in
-    let put_so : members_of c.insert.new.self ≡ marked_members (json.put name read.0 ms) =
-    rw (c.in_ok-name-2.ensures, read.2, was.found) at c.in_ok-insert.ensures.ok ∙ sym (marked_members-put name read.0 ms) in
-    let stays : IsTrue (is_json (marked_tree read.0)) → IsTrue (members_are_json (marked_members ms)) →
-    IsTrue (members_are_json (marked_members (json.put name read.0 ms))) =
+    let put_so : members_of c.insert.new.self ≡ draft_members (json.put name read.0 ms) =
+    rw (c.in_ok-name-2.ensures, read.2, was.found) at c.in_ok-insert.ensures.ok ∙ sym (draft_members-put name read.0 ms) in
+    let stays : IsTrue (is_json (draft_tree read.0)) → IsTrue (members_are_json (draft_members ms)) →
+    IsTrue (members_are_json (draft_members (json.put name read.0 ms))) =
     λ part parts.
     let value_so = subst (λ tree. IsTrue (is_json tree)) (sym read.2) part in
     let members_so = subst (λ all. IsTrue (members_are_json all)) (sym was.found) parts in
@@ -68,7 +68,7 @@ read_fields-members-preserved t c =
         enough = omega (arith, was.enough);
         whole = was.whole ∙ member_read (value c.args.depth) turns ms name l.reader behind c.read_value.new.reader read.0 (omega (arith, was.enough)) named read.1;
         found = put_so;
-        told = told_more _ _ _ (is_json (marked_tree read.0)) (members_are_json (marked_members ms)) _ stays was.told read.3;
+        told = told_more _ _ _ (is_json (draft_tree read.0)) (members_are_json (draft_members ms)) _ stays was.told read.3;
         shorter = omega (arith, was.shorter);
       },
     )
@@ -119,8 +119,8 @@ read_items-items-preserved t c =
       record {
         enough = omega (arith, was.enough);
         whole = was.whole ∙ ap (parse_map (joined ds)) turn ∙ one_more ds read.0 _;
-        found = ap items_view c.in_ok-push.ensures ∙ marked_items-pushed ds read.0 l.found.items c.in_ok-value.value was.found read.2;
-        told = told_more _ _ _ (is_json (marked_tree read.0)) (items_are_json (marked_items ds)) _ (joined_json ds read.0)
+        found = ap items_view c.in_ok-push.ensures ∙ draft_items-pushed ds read.0 l.found.items c.in_ok-value.value was.found read.2;
+        told = told_more _ _ _ (is_json (draft_tree read.0)) (items_are_json (draft_items ds)) _ (joined_json ds read.0)
             was.told read.3;
         shorter = omega (arith, was.shorter);
       },
@@ -180,8 +180,8 @@ read_value-returns-in-Some-number_in-clause-ok t c =
     let read = number_read c.args.depth c.in-Number.text.now c.next.new.self c.in-Some-number_in.number (c.number_in.ensures ∙ c.in-Some-number_in.is) in (
       read.0,
       ap (λ tokens. converted of_json (value c.args.depth tokens)) is ∙ read.1,
-      c.marked.ensures.value ∙ read.2,
-      subst (λ tree. TellsMarks c.args.has_marks.now c.marked.new.has_marks (is_json tree)) read.2 c.marked.ensures.told,
+      c.draft.ensures.value ∙ read.2,
+      subst (λ tree. TellsStandIns c.args.has_stand_ins.now c.draft.new.has_stand_ins (is_json tree)) read.2 c.draft.ensures.told,
     )
 
 pub read_value-returns-in-None-clause-not_json : goal.read_value-returns-in-None-clause-not_json

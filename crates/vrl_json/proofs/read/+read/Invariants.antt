@@ -4,7 +4,7 @@ use Rattle.serde_json.specs.Data as json
 use Rattle.serde_json.specs.Read.{of_items, of_members, converted}
 use Rattle.vrl_value.specs.Tree.{items_are_json, members_are_json}
 use Rattle.vrl_value.specs.View.{items_view, members_of}
-use Rattle.vrl_json.specs.Marked.{marked_items, marked_members, TellsMarks}
+use Rattle.vrl_json.specs.Drafts.{draft_items, draft_members, TellsStandIns}
 use Rattle.vrl_json.proofs.Reading.{joined}
 use Rattle.vrl_json.proofs.read.+read.Given as goal
 
@@ -29,8 +29,8 @@ invariant-read_items-items l =
     (turns : ℕ) × (ds : json.Items) × record {
       enough : length l.reader ≤ turns;
       whole : converted of_items (items (value l.depth) (length l.initial.reader) l.initial.reader) ≡ parse_map (joined ds) (converted of_items (items (value l.depth) turns l.reader));
-      found : items_view l.found.items ≡ marked_items ds;
-      told : TellsMarks l.initial.has_marks l.has_marks (items_are_json (marked_items ds));
+      found : items_view l.found.items ≡ draft_items ds;
+      told : TellsStandIns l.initial.has_stand_ins l.has_stand_ins (items_are_json (draft_items ds));
       shorter : length l.reader ≤ length l.initial.reader;
     }
 
@@ -40,7 +40,7 @@ invariant-read_fields-members l =
     (turns : ℕ) × (ms : json.Members) × record {
       enough : length l.reader ≤ turns;
       whole : converted (λ all. of_members all json.no_members) (members (value l.depth) (length l.initial.reader) l.initial.reader) ≡ converted (λ later. of_members later ms) (members (value l.depth) turns l.reader);
-      found : members_of l.found ≡ marked_members ms;
-      told : TellsMarks l.initial.has_marks l.has_marks (members_are_json (marked_members ms));
+      found : members_of l.found ≡ draft_members ms;
+      told : TellsStandIns l.initial.has_stand_ins l.has_stand_ins (members_are_json (draft_members ms));
       shorter : length l.reader ≤ length l.initial.reader;
     }

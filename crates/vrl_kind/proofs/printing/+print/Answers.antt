@@ -46,7 +46,7 @@ push_places-push_kind-requires t c = (omega (arith, c.decreases, place_nodes _ _
 pub push_places-loop-kind-preserved : goal.push_places-loop-kind-preserved
 push_places-loop-kind-preserved t c = (
   search rules,
-  place_words_next _ _ _ _ _ _ _ _ _ _ _ (add-one c.loop-kind.kind-index) c.loop-kind-test.true c.kind-item.is c.mark.ensures c.in_ok-push_behind.ensures c.in_ok-push_kind.ensures c.loop-kind.invariant.1,
+  place_words_next _ _ _ _ _ _ _ _ _ _ _ (add-one c.loop-kind.kind-index) c.loop-kind-test.true c.kind-item.is c.optional_mark.ensures c.in_ok-push_behind.ensures c.in_ok-push_kind.ensures c.loop-kind.invariant.1,
 )
 
 pub push_places-returns : goal.push_places-returns

@@ -11,7 +11,7 @@ pub arguments-requires-clause-readable : goal.arguments-requires-clause-readable
 arguments-requires-clause-readable c =
     let nodes = map linked_of c.args.args.now in
     let names = c.args.context.now.names.now in
-    let readable : AreReadable (length names) nodes = readable_are (length names) (length c.args.context.now.setting.patterns.now) nodes c.requires.fits in
+    let readable : AreReadable (length names) nodes = readable_are (length names) (length c.args.context.now.setting.searches.now) nodes c.requires.fits in
     subst (λ count. AreReadable count nodes) (sym c.requires.names.as_many) readable
 
 pub answer-requires-clause-arguments : goal.answer-requires-clause-arguments

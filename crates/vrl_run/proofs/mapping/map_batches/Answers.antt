@@ -1,7 +1,8 @@
 use Rattle.std.proofs.Common.{◌∙◌, ap, arith, refl, subst}
 use Rattle.vrl_run.specs.Mapping.{TellsMore}
 use Rattle.vrl_run.specs.Request.{run_of}
-use Rattle.vrl_run.proofs.MappingLemmas.{fewer, has_mapped-begin, has_mapped-more, of_ok}
+use Rattle.vrl_run.proofs.BatchLemmas.{fewer, has_mapped-begin, has_mapped-more}
+use Rattle.vrl_run.proofs.MappingLemmas.{of_ok}
 use Rattle.vrl_run.proofs.mapping.map_batches.Goals as goal
 
 pub loop-init : goal.loop-init

@@ -7,7 +7,7 @@ use Rattle.std.proofs.Common.{◌∙◌, Err, ap, map, rules}
 use Rattle.vrl_batch.specs.Reads.{stream}
 use Rattle.vrl_run.specs.Mapping.{run_at}
 use Rattle.vrl_run.specs.Request.{run_of}
-use Rattle.vrl_run.proofs.MappingLemmas.{stops_writing, tells_more, wrote}
+use Rattle.vrl_run.proofs.BatchLemmas.{stops_writing, tells_more, wrote}
 use Rattle.vrl_run.proofs.mapping.map_next.Goals as goal
 
 pub returns-clause-batch : goal.returns-clause-batch

@@ -3,7 +3,7 @@ use Rattle.std.specs.Int.{w64}
 use Rattle.std.specs.Prelude.{FitsSigned}
 use Rattle.vrl_token.specs.Faults.{float, joined_number, large_number}
 use Rattle.vrl_token.specs.Lexical.{IsNameStart}
-use Rattle.vrl_token.proofs.Outcomes.{outside_of}
+use Rattle.vrl_token.proofs.Tested.{outside_of}
 use Rattle.vrl_token.proofs.literals.cut_number.Goals as goal
 
 pub returns-in-Some : goal.returns-in-Some

@@ -1,7 +1,7 @@
 use Rattle.std.proofs.Common.{[], refl}
 use Rattle.vrl_token.specs.Faults.{unclosed_text}
 use Rattle.vrl_token.specs.Quoted.{IsInner}
-use Rattle.vrl_token.proofs.Outcomes.{weaker}
+use Rattle.vrl_token.proofs.Tested.{weaker}
 use Rattle.vrl_token.proofs.literals.cut_text.Goals as goal
 
 pub returns-in_default : goal.returns-in_default

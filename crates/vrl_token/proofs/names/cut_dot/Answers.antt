@@ -1,7 +1,7 @@
 use Rattle.std.proofs.Common.{subst, sym}
 use Rattle.vrl_token.specs.Cuts.{IsCutOf}
 use Rattle.vrl_token.specs.Words.{NoSuffix}
-use Rattle.vrl_token.proofs.Outcomes.{ok_weaker}
+use Rattle.vrl_token.proofs.Tested.{ok_weaker}
 use Rattle.vrl_token.proofs.names.cut_dot.Goals as goal
 
 pub returns-in-Some : goal.returns-in-Some

@@ -1,4 +1,4 @@
-use Rattle.vrl_token.proofs.Outcomes.{name_of_run, ok_weaker}
+use Rattle.vrl_token.proofs.Tested.{name_of_run, ok_weaker}
 use Rattle.vrl_token.proofs.names.cut_word.Goals as goal
 
 pub returns-in-Some-2 : goal.returns-in-Some-2

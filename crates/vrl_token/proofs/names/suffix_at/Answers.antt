@@ -1,5 +1,5 @@
 use Rattle.std.proofs.Common.{◌∙◌, inl, inr, sym}
-use Rattle.vrl_token.proofs.Outcomes.{not_false, not_true, ok_weaker, option_weaker}
+use Rattle.vrl_token.proofs.Tested.{not_false, not_true, ok_weaker, option_weaker}
 use Rattle.vrl_token.proofs.names.suffix_at.Goals as goal
 
 pub returns-then-not-context : goal.returns-then-not-context

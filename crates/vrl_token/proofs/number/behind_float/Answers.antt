@@ -1,5 +1,5 @@
 use Rattle.std.proofs.Common.{inl}
-use Rattle.vrl_token.proofs.Outcomes.{weaker}
+use Rattle.vrl_token.proofs.Tested.{weaker}
 use Rattle.vrl_token.proofs.Floats.{no_float}
 use Rattle.vrl_token.proofs.number.behind_float.Goals as goal
 

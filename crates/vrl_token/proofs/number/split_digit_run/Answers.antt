@@ -1,5 +1,5 @@
 use Rattle.vrl_token.proofs.Floats.{no_digit_run}
-use Rattle.vrl_token.proofs.Outcomes.{is_zero}
+use Rattle.vrl_token.proofs.Tested.{is_zero}
 use Rattle.vrl_token.proofs.number.split_digit_run.Goals as goal
 
 pub returns-then-is_empty : goal.returns-then-is_empty

@@ -1,6 +1,6 @@
 use Rattle.std.proofs.Common.{◌≢◌}
 use Rattle.std.proofs.lemmas.Str.Pattern.{split_parts}
-use Rattle.vrl_token.proofs.Outcomes.{weaker}
+use Rattle.vrl_token.proofs.Tested.{weaker}
 use Rattle.vrl_token.proofs.Runs.{passes-all, run_before_mark}
 use Rattle.vrl_token.proofs.scan.split_at_mark.Goals as goal
 

@@ -1,5 +1,5 @@
 use Rattle.std.proofs.Common.{length, sym, subst, ◌<◌}
-use Rattle.vrl_token.proofs.Outcomes.{is_more}
+use Rattle.vrl_token.proofs.Tested.{is_more}
 use Rattle.vrl_token.proofs.Quotes.{boundary_one}
 use Rattle.vrl_token.proofs.scan.split_byte.Goals as goal
 

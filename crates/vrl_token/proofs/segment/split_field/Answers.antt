@@ -2,7 +2,7 @@ use Rattle.std.proofs.Common.{◌∷◌, refl, subst, sym, ◌∙◌, ap}
 use Rattle.vrl_token.specs.Characters.{IsUnclosed}
 use Rattle.vrl_token.specs.Lexical.{IsFieldPart, IsLongestRun}
 use Rattle.vrl_token.specs.Paths.{quoted}
-use Rattle.vrl_token.proofs.Outcomes.{is_empty_list, is_zero}
+use Rattle.vrl_token.proofs.Tested.{is_empty_list, is_zero}
 use Rattle.vrl_token.proofs.SegmentLemmas.{no_field, same_behind}
 use Rattle.vrl_token.proofs.segment.split_field.Goals as goal
 

@@ -6,5 +6,5 @@ use Rattle.fn_search.proofs.matches.MatchOneTag.apply.Goals as goal
 
 pub is_match-requires : goal.is_match-requires
 is_match-requires c =
-    let count = length c.args.setting.now.patterns.now in
+    let count = length c.args.setting.now.searches.now in
     subst (λ v. IsTrue (regexes_below count v)) (sym c.value.ensures) (value_below count 1 (arguments_of c.args.arguments.now) c.requires.regexes)

@@ -5,5 +5,5 @@ use Rattle.fn_search.proofs.parse_regex.ParseRegexBuiltin.apply.Goals as goal
 
 pub parsed-requires : goal.parsed-requires
 parsed-requires c =
-    let count = length c.args.setting.now.patterns.now in
+    let count = length c.args.setting.now.searches.now in
     subst (λ number. IfSome number (λ n. n < count)) (sym c.optional_regex-pattern.ensures) (regex_below count 1 (arguments_of c.args.arguments.now) c.requires.regexes)

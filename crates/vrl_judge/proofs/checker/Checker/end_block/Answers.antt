@@ -12,5 +12,5 @@ leave-requires-2 c = (c.requires.scope, c.requires.scopes, c.requires.ends)
 pub returns : goal.returns
 returns c =
     IfOk-weaker c.settled.result _ _
-    (λ outcome settles. block_ended c.args.self.now _ c.args.part outcome c.leave-2.new.self c.in_ok-leave.ensures.left refl refl refl refl refl c.in_ok-leave-2.ensures settles)
+    (λ finding settles. block_ended c.args.self.now _ c.args.part finding c.leave-2.new.self c.in_ok-leave.ensures.left refl refl refl refl refl c.in_ok-leave-2.ensures settles)
     c.settled.ensures

@@ -4,7 +4,7 @@ use Rattle.vrl_resolve.specs.Linking.{path_called}
 use Rattle.vrl_resolve.proofs.Links.{numbers_weaker}
 use Rattle.vrl_resolve.proofs.link.Linker.existence.Goals as goal
 
-pub returns-in_ok-place-in-Some : goal.returns-in_ok-place-in-Some
-returns-in_ok-place-in-Some c =
+pub returns-in_ok-target_path-in-Some : goal.returns-in_ok-target_path-in-Some
+returns-in_ok-target_path-in-Some c =
     numbers_weaker (λ names is. record { known = is.begins.known; same = ap₂ called.existence is.begins.same (is.steps ∙ c.in_ok-path-in-Some.ensures) ∙ ap (path_called called.existence) c.in-Some.ensures })
-    c.in_ok-place-in-Some.ensures
+    c.in_ok-target_path-in-Some.ensures

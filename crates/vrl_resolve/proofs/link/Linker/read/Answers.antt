@@ -9,5 +9,5 @@ use Rattle.vrl_resolve.proofs.link.Linker.read.Goals as goal
 
 pub returns : goal.returns
 returns c =
-    let is : linked_of c.of.result ≡ linked.read c.in_ok-place.place = search (rules, the_lemmas) in
-    links_weaker (λ names place. subst (IsLinkedForm names c.args.self.now.tags.left.now (read c.args.root c.args.path)) (sym is) (a_read place)) (links_numbers c.in_ok-place.ensures)
+    let is : linked_of c.of.result ≡ linked.read c.in_ok-target.target = search (rules, the_lemmas) in
+    links_weaker (λ names place. subst (IsLinkedForm names c.args.self.now.tags.left.now (read c.args.root c.args.path)) (sym is) (a_read place)) (links_numbers c.in_ok-target.ensures)

@@ -1,5 +1,5 @@
 use Rattle.std.proofs.Common.{[], ◌∷◌, refl}
-use Rattle.vrl_token.proofs.Outcomes.{ok_weaker}
+use Rattle.vrl_token.proofs.Tested.{ok_weaker}
 use Rattle.vrl_token.proofs.path.Gathering.gather_event.Goals as goal
 
 pub returns-in_ok-add-in-Some : goal.returns-in_ok-add-in-Some

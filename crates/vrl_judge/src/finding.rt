@@ -9,28 +9,28 @@ use std::alloc::Global;
 use vrl_value::Memory;
 
 /// What an expression was judged to be.
-pub struct Outcome {
+pub struct Finding {
     /// The kind of its value; never where it can't end with one, and any where it is poisoned.
     pub kind: SharedKind,
     /// Its other ends.
     pub ends: Ends,
 }
 
-// Written out, so that an outcome is let go by one call.
-impl Drop for Outcome {
+// Written out, so that a finding is let go by one call.
+impl Drop for Finding {
     fn drop(self) {
-        let Outcome { kind: _, ends: _ } = self;
+        let Finding { kind: _, ends: _ } = self;
     }
 }
 
-impl Outcome {
+impl Finding {
     /// A value of this kind, and nothing else.
-    pub fn value(kind: SharedKind) -> Outcome
+    pub fn value(kind: SharedKind) -> Finding
         ensures kind { result.kind ≡ kind }
         ensures ends { result.ends ≡ no_ends }
     {
         let ends = Ends::none();
-        Outcome { kind, ends }
+        Finding { kind, ends }
     }
 
     /// The kind of its value, and its other ends.
@@ -38,16 +38,16 @@ impl Outcome {
         ensures kind { result.0 ≡ self.kind }
         ensures ends { result.1 ≡ self.ends }
     {
-        let Outcome { kind, ends } = self;
+        let Finding { kind, ends } = self;
         (kind, ends)
     }
 
     /// Nothing can happen. `Memory`: want of memory.
-    pub fn nothing(alloc: Global) -> Result<Outcome, Memory>
-        ensures kind { IfOk result (λ outcome. outcome.kind ≡ never_kind) }
-        ensures ends { IfOk result (λ outcome. outcome.ends ≡ no_ends) }
+    pub fn nothing(alloc: Global) -> Result<Finding, Memory>
+        ensures kind { IfOk result (λ finding. finding.kind ≡ never_kind) }
+        ensures ends { IfOk result (λ finding. finding.ends ≡ no_ends) }
     {
-        Ok(Outcome::value(SharedKind::never(alloc)?))
+        Ok(Finding::value(SharedKind::never(alloc)?))
     }
 
     /// Whether it may end with an error.

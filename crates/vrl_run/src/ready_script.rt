@@ -11,9 +11,9 @@ use vrl_kind::Kind;
 use vrl_resolve::Program;
 use vrl_value::{Bytes, Memory, Names};
 
-/// An accepted script.
+/// An accepted script, ready to run.
 #[derive(Drop)]
-pub struct Script {
+pub struct ReadyScript {
     /// The bytes of its text.
     pub text: Bytes,
     /// The program that it is run as.
@@ -28,7 +28,7 @@ pub struct Script {
     pub warnings: Diagnostics,
 }
 
-impl Script {
+impl ReadyScript {
     // What is done with each line.
     pub(crate) fn work(&self) -> LineWork<'_>
         requires { IsReadyScript self.now }

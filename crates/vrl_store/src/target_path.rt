@@ -11,7 +11,7 @@ pub enum Base {
 
 /// A path from the event or from a variable.
 #[derive(Drop)]
-pub struct Place {
+pub struct TargetPath {
     /// Where it begins.
     pub base: Base,
     /// The steps from there.
