@@ -4,6 +4,7 @@ use Rattle.std.proofs.Common.{arith, ◌≡◌, ◌≤◌, ◌+◌, ℕ, zero, s
 use Rattle.std.proofs.lemmas.List.{append_assoc}
 use Rattle.vrl_diag.specs.declared.diagnostic.Span.{Span}
 use Rattle.vrl_path.specs.declared.path.Step.{Step}
+use Rattle.vrl_syntax.specs.Stores.{metadata}
 use Rattle.vrl_syntax.specs.Tree.{Exprs}
 use Rattle.vrl_syntax.specs.declared.root.Root.{Root}
 use Rattle.vrl_syntax.specs.declared.root.Root.TheVariants as root
@@ -118,6 +119,7 @@ path_target : (t : Token) (s : Span) {x : Root × List Step} → path_of t ≡ S
 path_target (token.Name n) s e = (if bytes_eq n (codes "_") then target.Nowhere else target.Place s (root.Name n) [], refl)
 path_target (token.NamePath n path) s e = (target.Place s (root.Name n) path, refl)
 path_target (token.EventPath path) s e = (target.Place s root.Event path, refl)
+path_target (token.MetadataPath path) s e = (target.Place s metadata path, refl)
 path_target t s e = let nothing : ⊥ = cc in absurd nothing
 
 eats_target : (r : Rule) {p : Said target_word → Span → Program (Meaning r)} → Eats r path_word (take target_word p refuse)

@@ -2,6 +2,7 @@
 use Rattle.std.proofs.Common.{arith, ◌≡◌, ℕ, suc, ◌<◌, ◌≤◌, ◌⊎◌, inl, inr, Bool, true, false, Option, Some, None, List, [], ◌∷◌, ◌++◌, refl, sym, ap, ◌∙◌, subst}
 use Rattle.vrl_path.specs.declared.path.Step.{Step}
 use Rattle.vrl_diag.specs.declared.diagnostic.Span.{Span}
+use Rattle.vrl_syntax.specs.Stores.{metadata}
 use Rattle.vrl_syntax.specs.Tree.{Expr, Exprs}
 use Rattle.vrl_syntax.specs.declared.root.Op.{Op}
 use Rattle.vrl_syntax.specs.declared.root.Root.{Root}
@@ -34,6 +35,7 @@ abbrev pub opening : Token → Opening
 opening (token.Name n) = path_opens
 opening (token.NamePath n path) = path_opens
 opening (token.EventPath path) = path_opens
+opening (token.MetadataPath path) = path_opens
 opening (token.Text s) = operand_opens
 opening (token.RawText s) = operand_opens
 opening (token.Regex s) = operand_opens
@@ -112,6 +114,7 @@ pub target_path : (t : Token) (s : Span) {x : Target} → target_at t s ≡ Some
 target_path (token.Name n) s e = ((root.Name n, []), refl)
 target_path (token.NamePath n path) s e = ((root.Name n, path), refl)
 target_path (token.EventPath path) s e = ((root.Event, path), refl)
+target_path (token.MetadataPath path) s e = ((metadata, path), refl)
 target_path t s e = let nothing : ⊥ = cc in absurd nothing
 
 -- ---- what stands behind an expression

@@ -99,6 +99,7 @@ operand_of token.If = an_if
 operand_of (token.Name n) = a_path
 operand_of (token.NamePath n path) = a_path
 operand_of (token.EventPath path) = a_path
+operand_of (token.MetadataPath path) = a_path
 operand_of t = a_literal
 
 abbrev pub operand_at : List Word → Operand

@@ -95,6 +95,7 @@ impl<'a> Parser<'a> {
             Token::Name(_) => Operand::Path,
             Token::NamePath(..) => Operand::Path,
             Token::EventPath(_) => Operand::Path,
+            Token::MetadataPath(_) => Operand::Path,
             _ => Operand::Literal,
         }
     }

@@ -1,5 +1,5 @@
 -- What stands in the event and the variables while a script runs.
-use Rattle.std.specs.Prelude.{ℕ, List, [], ◌∷◌, Option, Some, None, bytes_eq, codes, if◌then◌else◌}
+use Rattle.std.specs.Prelude.{ℕ, Bool, false, List, [], ◌∷◌, Option, Some, None, bytes_eq, codes, if◌then◌else◌}
 use Rattle.std.specs.Cmp.Lexicographic.{slice_cmp}
 use Rattle.std.specs.FinMap as map
 use Rattle.std.specs.Ordering.{nat_cmp}
@@ -11,14 +11,25 @@ use Rattle.vrl_syntax.specs.declared.root.Root.TheVariants.{Event, Name}
 abbrev pub Values : Type 0
 Values = map.FinMap (slice_cmp nat_cmp) Tree
 
--- the event and the variables
+-- the name of the metadata, which no name in a script is spelt as
+abbrev pub metadata_name : List ℕ
+metadata_name = codes "%"
+
+abbrev pub metadata : Root
+metadata = Name metadata_name
+
+abbrev pub is_metadata : Root → Bool
+is_metadata Event = false
+is_metadata (Name x) = bytes_eq x metadata_name
+
+-- the event, and the variables with the metadata among them
 pub record Store : Type 0 where
   pub event : Tree
   pub variables : Values
 
--- the store that a run starts with: no variable is there
-abbrev pub store_of : Tree → Store
-store_of event = record { event = event; variables = map.empty }
+-- the store that a run starts with: the metadata is there, and no other variable
+abbrev pub store_of : Tree → Tree → Store
+store_of event beside = record { event = event; variables = map.insert map.empty metadata_name beside }
 
 -- what stands in a root; none in a variable that isn't there
 abbrev pub value_of : Root → Store → Option Tree
@@ -29,10 +40,11 @@ abbrev pub with_value : Root → Tree → Store → Store
 with_value Event v store = record store { event = v }
 with_value (Name x) v store = record store { variables = map.insert store.variables x v }
 
--- what is left in a root that is removed: an empty object of the event, and null in a variable
+-- what is left in a root that is removed: an empty object of the event and of the metadata, and
+-- null in any other variable
 abbrev pub left_in : Root → Tree
 left_in Event = object no_members
-left_in (Name x) = null
+left_in (Name x) = if bytes_eq x metadata_name then object no_members else null
 
 -- behind a block only what the store held where it began
 abbrev pub store_kept : Store → Store → Store

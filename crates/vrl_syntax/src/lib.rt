@@ -22,6 +22,6 @@ pub use call_form::{CallForm, has_shape};
 pub use empty::empty_value;
 pub use limits::limit_faults;
 pub use lists::{Empties, Roots};
-pub use root::{Op, Root, Target};
+pub use root::{METADATA, Op, Root, Target};
 pub use tree::{Arg, Args, Arm, Arms, Call, Closure, Expr, Exprs, Form, Pairs, Script};
 pub use written::written_roots;

@@ -1,4 +1,5 @@
 ghost use Rattle.std.specs.Prelude.{◌≡◌, IfOk};
+ghost use Rattle.vrl_syntax.specs.Stores.{is_metadata, metadata};
 ghost use Rattle.vrl_syntax.specs.Written.{target_path};
 
 use std::alloc::Global;
@@ -6,11 +7,14 @@ use vrl_diag::Span;
 use vrl_path::Path;
 use vrl_value::{Chars, Memory};
 
+/// The name of the metadata among the variables. No name in a script is spelt so.
+pub const METADATA: &str = "%";
+
 /// Where a path begins.
 pub enum Root {
     /// The event, written `.`.
     Event,
-    /// The variable of this name.
+    /// The variable of this name; the metadata, written `%`, is that of [`METADATA`].
     Name(Chars),
 }
 
@@ -25,6 +29,23 @@ impl Drop for Root {
 }
 
 impl Root {
+    /// The root of the metadata. [`Memory`]: want of memory.
+    pub fn metadata(alloc: Global) -> Result<Root, Memory>
+        ensures { IfOk result (λ root. root ≡ metadata) }
+    {
+        Ok(Root::Name(Chars::copy_of(alloc, METADATA)?))
+    }
+
+    /// Whether it is the metadata.
+    pub fn is_metadata(&self) -> bool
+        ensures { result ≡ is_metadata self.now }
+    {
+        match self {
+            Root::Event => false,
+            Root::Name(name) => name.as_str() == METADATA,
+        }
+    }
+
     /// An equal root. [`Memory`]: want of memory.
     pub fn copy(&self, alloc: Global) -> Result<Root, Memory>
         ensures { IfOk result (λ copy. copy ≡ self.now) }

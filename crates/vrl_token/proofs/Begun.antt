@@ -11,15 +11,15 @@ use Rattle.vrl_token.specs.declared.token.Token.TheVariants as token
 use Rattle.vrl_token.specs.Lexical.{BeginsInside, BeginsOutside, IsBlank, IsDigit, IsLongestRun, IsName, IsNamePart, IsNameStart, keywords}
 use Rattle.vrl_token.specs.Characters.{Character, HasTemplate}
 use Rattle.vrl_token.specs.Numbers.{DigitsGoOn, IsBehindSign, IsDigits, IsNumeral}
-use Rattle.vrl_token.specs.Paths.{BeginsDotted, EventSegments, HasFlaw, HasSteps, Segment, Segments, field, index, quoted}
+use Rattle.vrl_token.specs.Paths.{BeginsDotted, HasFlaw, HasSteps, RootSegments, Segment, Segments, field, index, quoted}
 use Rattle.vrl_token.specs.Context.{closes_before}
 use Rattle.vrl_token.specs.Words.{BeginsRaw, BeginsWith, BeginsWithToken, IsCallRest, IsFreeName, IsNameRun, IsNonempty, IsRaw, IsRawLetter, IsTextSpelling, MayHaveSign, NoSegment, NoSuffix}
 use Rattle.vrl_token.specs.Pieces.{Begins}
-use Rattle.vrl_token.specs.Faults.{IsBehindCharacter, IsFault, IsStray, unclosed_text, unclosed_raw, unknown_escape, template, many_regexes, no_moment, float, joined_number, large_number, event_path, name_path, suffix, division, remainder, coalescing_assignment, stray as stray_character}
+use Rattle.vrl_token.specs.Faults.{IsBehindCharacter, IsFault, IsStray, unclosed_text, unclosed_raw, unknown_escape, template, many_regexes, no_moment, float, joined_number, large_number, event_path, metadata_path, name_path, suffix, division, coalescing_assignment, stray as stray_character}
 use Rattle.vrl_token.proofs.SegmentLemmas.{closed_not_unclosed}
 use Rattle.vrl_token.proofs.Only.{Lexed, fault, finish, first, piece, second}
 use Rattle.vrl_token.proofs.Unique.{digits_begin}
-use Rattle.vrl_token.proofs.Starts.{FreeWay, IsBangCall, IsSuffixed, NameWay, NumeralWay, RawWay, Start, StepsWay, TextWay, Way, WayOf, ampersand, blank, digit, dot, keyword_of, letter, only_start, question, square, start_blank, start_digit, start_letter, start_of, start_stray, stray}
+use Rattle.vrl_token.proofs.Starts.{FreeWay, IsBangCall, IsSuffixed, NameWay, NumeralWay, RawWay, Start, StepsWay, TextWay, Way, WayOf, ampersand, blank, digit, dot, keyword_of, letter, only_start, percent, question, square, start_blank, start_digit, start_letter, start_of, start_stray, stray}
 
 -- what the definitions say that the text begins with
 abbrev pub Reads : List Piece → List ℕ → Lexed → Type 0
@@ -159,14 +159,19 @@ no_suffix : (before : List Piece) (text : List ℕ) → NoSuffix before text →
 no_suffix before text (inl open_operand) suffixed = let wrong : true ≡ false = sym suffixed.0 ∙ open_operand in cc
 no_suffix before text (inr none) suffixed = suffixed.1 none
 
-event_begins : (text : List ℕ) (segments : List Segment) (rest : List ℕ) → EventSegments text segments rest → BeginsWith 46 text
-event_begins text [] rest walk = subst (BeginsWith 46) (sym walk.0) refl
-event_begins text (s ∷ ss) rest walk = subst (BeginsWith 46) (sym walk.2) refl
+root_begins : (sign : ℕ) (text : List ℕ) (segments : List Segment) (rest : List ℕ) → RootSegments sign text segments rest → BeginsWith sign text
+root_begins sign text [] rest walk = subst (BeginsWith sign) (sym walk.0) refl
+root_begins sign text (s ∷ ss) rest walk = subst (BeginsWith sign) (sym walk.2) refl
 
-event_way : {before : List Piece} {a : Lexed} (text : List ℕ) {rest : List ℕ} (segments : List Segment) → EventSegments text segments rest → NoSuffix before text → StepsWay (λ path. token.EventPath path) segments rest a → Started before text a
-event_way [] {rest} segments walk none way = absurd (event_begins [] segments rest walk)
+event_way : {before : List Piece} {a : Lexed} (text : List ℕ) {rest : List ℕ} (segments : List Segment) → RootSegments 46 text segments rest → NoSuffix before text → StepsWay (λ path. token.EventPath path) segments rest a → Started before text a
+event_way [] {rest} segments walk none way = absurd (root_begins 46 [] segments rest walk)
 event_way {before} {a} (b ∷ bs) {rest} segments walk none way =
-    at_start dot b bs refl (ap start_of (event_begins (b ∷ bs) segments rest walk)) (second (no_suffix before (b ∷ bs) none) (record { value = (segments, rest); cut = walk; gives = way }))
+    at_start dot b bs refl (ap start_of (root_begins 46 (b ∷ bs) segments rest walk)) (second (no_suffix before (b ∷ bs) none) (record { value = (segments, rest); cut = walk; gives = way }))
+
+metadata_way : {before : List Piece} {a : Lexed} (text : List ℕ) {rest : List ℕ} (segments : List Segment) → RootSegments 37 text segments rest → StepsWay (λ path. token.MetadataPath path) segments rest a → Started before text a
+metadata_way [] {rest} segments walk way = absurd (root_begins 37 [] segments rest walk)
+metadata_way {before} {a} (b ∷ bs) {rest} segments walk way =
+    at_start percent b bs refl (ap start_of (root_begins 37 (b ∷ bs) segments rest walk)) (record { value = (segments, rest); cut = walk; gives = way })
 
 -- ---- tokens
 
@@ -190,6 +195,7 @@ token_started before (token.Function name) text rest is = free_way is.0 (inside_
 token_started before (token.BangFunction name) text rest is =
     free_way is.0 (λ h. omega (arith, h)) (second (λ h. omega (arith, h)) (first (refl, is.1) (record { value = rest; cut = refl; gives = refl })))
 token_started before (token.EventPath p) text rest is = event_way text is.0 is.1 is.3 (steps_way (λ path. token.EventPath path) is.0 p rest is.2)
+token_started before (token.MetadataPath p) text rest is = metadata_way text is.0 is.1 (steps_way (λ path. token.MetadataPath path) is.0 p rest is.2)
 token_started before (token.NamePath name p) text rest is = name_path_way name is.1 is.2 is.3 is.4 (steps_way (λ path. token.NamePath name path) is.1 p rest is.5)
 token_started before (token.Suffix p) text rest is = suffix_way text is.0 is.1 is.2 is.3 (steps_way (λ path. token.Suffix path) is.0 p rest is.4)
 token_started before token.Assign text rest is = at 61 rest is.0 (second (not_inside (λ b. b ≡ 61) rest is.1) refl)
@@ -264,10 +270,10 @@ fault_started (joined_number negative digits is joined code) = numeral_way negat
 fault_started {before} {text} {rest} (large_number negative digits is apart large code) =
     numeral_way negative is.sign is.numeral (second (λ f. is.whole f.0 f.1) (second (not_inside IsNameStart rest apart) (second (λ h. large h.0 h.1) (same_fault code refl))))
 fault_started {before} {text} {rest} {code} (event_path segments walk apart flaw) = event_way text segments walk apart (flaw_way (λ path. token.EventPath path) segments code rest flaw)
+fault_started {before} {text} {rest} {code} (metadata_path segments walk flaw) = metadata_way text segments walk (flaw_way (λ path. token.MetadataPath path) segments code rest flaw)
 fault_started {before} {text} {rest} {code} (name_path name behind segments free walk some flaw) = name_path_way name segments free walk some (flaw_way (λ path. token.NamePath name path) segments code rest flaw)
 fault_started {before} {text} {rest} {code} (suffix segments closes walk some flaw) = suffix_way text segments closes walk some (flaw_way (λ path. token.Suffix path) segments code rest flaw)
 fault_started {before} {text} {rest} (division is code) = at 47 rest is (same_fault code refl)
-fault_started {before} {text} {rest} (remainder is code) = at 37 rest is (same_fault code refl)
 fault_started {before} {text} {rest} (coalescing_assignment is code) =
     at 63 (63 ∷ 61 ∷ rest) is (first refl (record { value = 61 ∷ rest; cut = refl; gives = first refl (record { value = rest; cut = refl; gives = same_fault code refl }) }))
 fault_started (stray_character is behind code) = stray_way behind (subst IsStray behind.parts is) code

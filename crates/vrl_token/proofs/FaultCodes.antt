@@ -6,7 +6,7 @@ use Rattle.vrl_token.specs.declared.fault.SyntaxFault.TheVariants.{Fault, Memory
 use Rattle.vrl_token.specs.declared.piece.Piece.{Piece}
 use Rattle.vrl_token.specs.declared.token.Spanned.{Spanned}
 use Rattle.vrl_token.specs.Division.{IsFirstFault}
-use Rattle.vrl_token.specs.Faults.{IsFault, spelling_codes, unclosed_text, unclosed_raw, unknown_escape, template, many_regexes, no_moment, float, joined_number, large_number, event_path, name_path, suffix, division, remainder, coalescing_assignment, stray}
+use Rattle.vrl_token.specs.Faults.{IsFault, spelling_codes, unclosed_text, unclosed_raw, unknown_escape, template, many_regexes, no_moment, float, joined_number, large_number, event_path, metadata_path, name_path, suffix, division, coalescing_assignment, stray}
 use Rattle.vrl_token.specs.Laws.{TokensAreDetermined}
 use Rattle.vrl_token.specs.OnFault.{OnFault}
 use Rattle.vrl_token.specs.Paths.{HasFlaw, Segment}
@@ -47,10 +47,10 @@ fault_code (float negative digits behind may is tail code) = is_1001 code
 fault_code (joined_number negative digits is joined code) = is_203 code
 fault_code (large_number negative digits is apart large code) = is_1002 code
 fault_code (event_path segments walk apart flaw) = flaw_code segments flaw
+fault_code (metadata_path segments walk flaw) = flaw_code segments flaw
 fault_code (name_path name behind segments free walk some flaw) = flaw_code segments flaw
 fault_code (suffix segments closes walk some flaw) = flaw_code segments flaw
 fault_code (division is code) = is_1003 code
-fault_code (remainder is code) = is_1003 code
 fault_code (coalescing_assignment is code) = is_1003 code
 fault_code (stray is behind code) = is_203 code
 

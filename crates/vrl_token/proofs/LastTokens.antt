@@ -29,6 +29,7 @@ agrees_at (token.Name s) ts = record { wants = refl; goes = refl; arrow = refl; 
 agrees_at (token.Function s) ts = record { wants = refl; goes = refl; arrow = refl; block = refl }
 agrees_at (token.BangFunction s) ts = record { wants = refl; goes = refl; arrow = refl; block = refl }
 agrees_at (token.EventPath p) ts = record { wants = refl; goes = refl; arrow = refl; block = refl }
+agrees_at (token.MetadataPath p) ts = record { wants = refl; goes = refl; arrow = refl; block = refl }
 agrees_at (token.NamePath s p) ts = record { wants = refl; goes = refl; arrow = refl; block = refl }
 agrees_at (token.Suffix p) ts = record { wants = refl; goes = refl; arrow = refl; block = refl }
 agrees_at token.Assign ts = record { wants = refl; goes = refl; arrow = refl; block = refl }

@@ -14,13 +14,13 @@ use Rattle.vrl_token.specs.declared.token.Token.TheVariants as token
 use Rattle.vrl_token.specs.Lexical.{BeginsInside, BeginsOutside, IsBlank, IsDigit, IsLongestRun, IsNameStart, keywords}
 use Rattle.vrl_token.specs.Characters.{Character, HasTemplate, IsKnown, IsQuoted, IsUnclosed, raw_of, text_of}
 use Rattle.vrl_token.specs.Numbers.{IsFloat, IsNumber, IsNumeral}
-use Rattle.vrl_token.specs.Paths.{EventSegments, IsInRange, IsReadable, Segment, Segments, steps_of}
+use Rattle.vrl_token.specs.Paths.{IsInRange, IsReadable, RootSegments, Segment, Segments, steps_of}
 use Rattle.vrl_token.specs.Context.{closes_before, operand_before, regexes_before}
 use Rattle.vrl_token.specs.Words.{BeginsRaw, BeginsWith, IsNameRun, NoSegment}
 use Rattle.vrl_token.specs.Faults.{IsContinuation, IsStart}
 use Rattle.vrl_token.proofs.Runs.{same_longest_run}
 use Rattle.vrl_token.proofs.Only.{Branch, Is, OnlyOne, Lexed, With, fault, finish, only_branch, only_is, only_with, piece, same_pair}
-use Rattle.vrl_token.proofs.Unique.{same_event, same_float, same_numeral, same_quoted, same_segments, tails}
+use Rattle.vrl_token.proofs.Unique.{same_float, same_numeral, same_quoted, same_root, same_segments, tails}
 
 abbrev word : Token → List ℕ → Lexed
 word t rest = piece (Word t) rest
@@ -79,11 +79,17 @@ PathWay make text = With (List Segment × List ℕ) (λ c. Segments text c.0 c.1
 only_path : (make : List Step → Token) (text : List ℕ) → OnlyOne (PathWay make text)
 only_path make text = only_with _ _ _ (λ c d one two. let same = same_segments text c.0 d.0 c.1 d.1 one two in same_pair c d same.0 same.1) (only_steps make)
 
-abbrev pub EventWay : List ℕ → Lexed → Type 0
-EventWay text = With (List Segment × List ℕ) (λ c. EventSegments text c.0 c.1) (λ c. StepsWay (λ path. token.EventPath path) c.0 c.1)
+abbrev pub RootWay : ℕ → (List Step → Token) → List ℕ → Lexed → Type 0
+RootWay sign make text = With (List Segment × List ℕ) (λ c. RootSegments sign text c.0 c.1) (λ c. StepsWay make c.0 c.1)
 
-only_event : (text : List ℕ) → OnlyOne (EventWay text)
-only_event text = only_with _ _ _ (λ c d one two. let same = same_event text c.0 d.0 c.1 d.1 one two in same_pair c d same.0 same.1) (only_steps (λ path. token.EventPath path))
+only_root : (sign : ℕ) (make : List Step → Token) (text : List ℕ) → OnlyOne (RootWay sign make text)
+only_root sign make text = only_with _ _ _ (λ c d one two. let same = same_root sign text c.0 d.0 c.1 d.1 one two in same_pair c d same.0 same.1) (only_steps make)
+
+abbrev pub EventWay : List ℕ → Lexed → Type 0
+EventWay text = RootWay 46 (λ path. token.EventPath path) text
+
+abbrev pub MetadataWay : List ℕ → Lexed → Type 0
+MetadataWay text = RootWay 37 (λ path. token.MetadataPath path) text
 
 -- a suffix begins here
 abbrev pub IsSuffixed : List Piece → List ℕ → Type 0
@@ -209,6 +215,7 @@ pub data Start : Type 0 where
   digit : Start
   minus : Start
   dot : Start
+  percent : Start
   square : Start
   question : Start
   ampersand : Start
@@ -229,6 +236,7 @@ Way letter before b bs = LetterWay before b bs
 Way digit before b bs = NumberWay false (b ∷ bs)
 Way minus before b bs = MinusWay before bs
 Way dot before b bs = Branch (IsSuffixed before (b ∷ bs)) (SuffixWay (b ∷ bs)) (EventWay (b ∷ bs))
+Way percent before b bs = MetadataWay (b ∷ bs)
 Way square before b bs = Branch (IsSuffixed before (b ∷ bs)) (SuffixWay (b ∷ bs)) (Is (word token.OpenBracket bs))
 Way question before b bs = QuestionWay bs
 Way ampersand before b bs = AmpersandWay bs
@@ -247,7 +255,8 @@ only_way law quote before b bs = only_quote bs
 only_way law letter before b bs = only_letter law before b bs
 only_way law digit before b bs = only_number false (b ∷ bs)
 only_way law minus before b bs = only_next _ _ _ _ (λ t. only_is _) (only_branch _ _ _ (only_is _) (only_number true bs))
-only_way law dot before b bs = only_branch _ _ _ (only_path (λ path. token.Suffix path) (b ∷ bs)) (only_event (b ∷ bs))
+only_way law dot before b bs = only_branch _ _ _ (only_path (λ path. token.Suffix path) (b ∷ bs)) (only_root 46 (λ path. token.EventPath path) (b ∷ bs))
+only_way law percent before b bs = only_root 37 (λ path. token.MetadataPath path) (b ∷ bs)
 only_way law square before b bs = only_branch _ _ _ (only_path (λ path. token.Suffix path) (b ∷ bs)) (only_is _)
 only_way law question before b bs = only_next _ _ _ _ (λ t. only_next _ _ _ _ (λ u. only_is _) (only_is _)) (only_stray bs)
 only_way law ampersand before b bs = only_next _ _ _ _ (λ t. only_is _) (only_stray bs)
@@ -267,7 +276,7 @@ is_digit b = ltb 47 b && ltb b 58
 abbrev pub marks : List (ℕ × Start)
 marks = (32, blank) ∷ (9, blank) ∷ (13, blank) ∷ (10, newline) ∷ (35, remark) ∷ (34, quote) ∷ (46, dot) ∷ (61, joins token.Equal token.Assign) ∷ (124, bar) ∷ (33, joins token.Unequal token.Not) ∷ (60, joins token.AtMost token.Less)
     ∷ (62, joins token.AtLeast token.More) ∷ (43, single token.Plus) ∷ (45, minus) ∷ (42, single token.Times) ∷ (63, question) ∷ (38, ampersand) ∷ (40, single token.OpenParenthesis) ∷ (41, single token.CloseParenthesis) ∷ (91, square)
-    ∷ (93, single token.CloseBracket) ∷ (123, brace) ∷ (125, single token.CloseBrace) ∷ (44, single token.Comma) ∷ (58, single token.Colon) ∷ (59, single token.Separator) ∷ (47, refused) ∷ (37, refused) ∷ []
+    ∷ (93, single token.CloseBracket) ∷ (123, brace) ∷ (125, single token.CloseBrace) ∷ (44, single token.Comma) ∷ (58, single token.Colon) ∷ (59, single token.Separator) ∷ (47, refused) ∷ (37, percent) ∷ []
 
 abbrev pub start_in : ℕ → List (ℕ × Start) → Start
 start_in b [] = stray

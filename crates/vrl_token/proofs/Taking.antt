@@ -9,10 +9,10 @@ use Rattle.vrl_token.specs.declared.token.Token.TheVariants as token
 use Rattle.vrl_token.specs.Lexical.{IsLongestRun, IsName}
 use Rattle.vrl_token.specs.Characters.{Character, IsQuoted, spelling_of}
 use Rattle.vrl_token.specs.Numbers.{IsBehindSign, IsDigits, IsExponent, IsFloat, IsNumeral}
-use Rattle.vrl_token.specs.Paths.{EventSegments, Segment, Segments}
+use Rattle.vrl_token.specs.Paths.{RootSegments, Segment, Segments}
 use Rattle.vrl_token.specs.Words.{BeginsWithToken, IsNonempty, IsRaw, IsTextSpelling}
 use Rattle.vrl_token.specs.Pieces.{Begins}
-use Rattle.vrl_token.specs.Faults.{IsFault, unclosed_text, unclosed_raw, unknown_escape, template, many_regexes, no_moment, float, joined_number, large_number, event_path, name_path, suffix, division, remainder, coalescing_assignment, stray}
+use Rattle.vrl_token.specs.Faults.{IsFault, unclosed_text, unclosed_raw, unknown_escape, template, many_regexes, no_moment, float, joined_number, large_number, event_path, metadata_path, name_path, suffix, division, coalescing_assignment, stray}
 use Rattle.vrl_token.proofs.Ends.{EndsWith, Takes, ends_on, first_byte, front_of, goes_to, is_end, one_byte, same_end, takes_on, two_bytes}
 use Rattle.vrl_token.proofs.Walks.{begins_takes, segments_end, undotted_takes}
 
@@ -59,11 +59,11 @@ path_takes : (segments : List Segment) (text rest : List ℕ) → Segments text 
 path_takes [] text rest walk some = absurd some
 path_takes (s ∷ ss) text rest walk some = takes_on (begins_takes s walk.1) (segments_end ss walk.0 rest walk.2)
 
-event_takes : (segments : List Segment) (text rest : List ℕ) → EventSegments text segments rest → Takes text rest
-event_takes [] text rest walk = one_byte 46 walk.0
-event_takes (s ∷ ss) text rest walk =
+root_takes : (sign : ℕ) (segments : List Segment) (text rest : List ℕ) → RootSegments sign text segments rest → Takes text rest
+root_takes sign [] text rest walk = one_byte sign walk.0
+root_takes sign (s ∷ ss) text rest walk =
     let first : Takes walk.0 walk.1 = subst (λ t. Takes t walk.1) (sym walk.3.parts) (undotted_takes s walk.1 walk.3.is_segment) in
-    takes_on (one_byte 46 walk.2) (ends_on (is_end first) (segments_end ss walk.1 rest walk.4))
+    takes_on (one_byte sign walk.2) (ends_on (is_end first) (segments_end ss walk.1 rest walk.4))
 
 token_takes : (before : List Piece) (t : Token) (text rest : List ℕ) → BeginsWithToken before t text rest → Takes text rest
 token_takes before (token.Text v) text rest is = text_takes is.1
@@ -74,7 +74,8 @@ token_takes before (token.Number n) text rest is = numeral_takes is.2.numeral
 token_takes before (token.Name name) text rest is = name_takes name text rest is.0.is_name is.0.run.parts
 token_takes before (token.Function name) text rest is = name_takes name text rest is.0.is_name is.0.run.parts
 token_takes before (token.BangFunction name) text rest is = takes_on (name_takes name text (33 ∷ rest) is.0.is_name is.0.run.parts) (is_end (first_byte 33 rest))
-token_takes before (token.EventPath p) text rest is = event_takes is.0 text rest is.1
+token_takes before (token.EventPath p) text rest is = root_takes 46 is.0 text rest is.1
+token_takes before (token.MetadataPath p) text rest is = root_takes 37 is.0 text rest is.1
 token_takes before (token.NamePath name p) text rest is = takes_on (name_takes name text is.0 is.2.is_name is.2.run.parts) (is_end (path_takes is.1 is.0 rest is.3 is.4))
 token_takes before (token.Suffix p) text rest is = path_takes is.0 text rest is.2 is.3
 token_takes before token.True text rest is = name_takes (codes "true") text rest is.is_name is.run.parts
@@ -137,10 +138,10 @@ fault_end (no_moment cs is none code) = is_end (raw_takes is)
 fault_end (float negative digits behind may is tail code) = ends_on (is_end (numeral_takes is)) (float_end behind _ tail)
 fault_end (joined_number negative digits is joined code) = is_end (numeral_takes is.numeral)
 fault_end (large_number negative digits is apart large code) = is_end (numeral_takes is.numeral)
-fault_end (event_path segments walk apart flaw) = is_end (event_takes segments _ _ walk)
+fault_end (event_path segments walk apart flaw) = is_end (root_takes 46 segments _ _ walk)
+fault_end (metadata_path segments walk flaw) = is_end (root_takes 37 segments _ _ walk)
 fault_end (name_path name behind segments free walk some flaw) = ends_on (is_end (name_takes name _ behind free.is_name free.run.parts)) (is_end (path_takes segments _ _ walk some))
 fault_end (suffix segments closes walk some flaw) = is_end (path_takes segments _ _ walk some)
 fault_end (division is code) = is_end (one_byte 47 is)
-fault_end (remainder is code) = is_end (one_byte 37 is)
 fault_end (coalescing_assignment is code) = ends_on (is_end (two_bytes 63 63 is)) (is_end (first_byte 61 _))
 fault_end (stray is behind code) = ends_on (is_end (one_byte behind.first behind.parts)) (run_end behind.run)

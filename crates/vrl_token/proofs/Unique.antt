@@ -4,7 +4,7 @@ use Rattle.std.specs.List.{AllByRecursion}
 use Rattle.vrl_token.specs.Lexical.{BeginsInside, IsDigit, IsFieldPart}
 use Rattle.vrl_token.specs.Characters.{Character, IsInside, IsQuoted, escaped, plain, spelling_of}
 use Rattle.vrl_token.specs.Numbers.{DigitsGoOn, GoesOnFrom, IsDigitRun, IsDigits, IsExponent, IsFloat, IsFraction, IsNumeral, IsPowerSign}
-use Rattle.vrl_token.specs.Paths.{BeginsDotted, BeginsUndotted, Ends, EventSegments, IsSegment, Segment, Segments, dotted, field, index, quoted, undotted}
+use Rattle.vrl_token.specs.Paths.{BeginsDotted, BeginsUndotted, Ends, IsSegment, RootSegments, Segment, Segments, dotted, field, index, quoted, undotted}
 use Rattle.vrl_token.proofs.Floats.{no_sign, same_digit_run}
 use Rattle.vrl_token.proofs.Runs.{heads, same_cut}
 
@@ -183,11 +183,11 @@ same_segments text (s ∷ ss) (t ∷ ts) rest last one two =
     let more = same_segments two.0 ss ts rest last (subst (λ n. Segments n ss rest) same.1 one.2) two.2 in
     (ap (λ r. r ∷ ss) same.0 ∙ ap (λ r. t ∷ r) more.0, more.1)
 
-pub same_event : (text : List ℕ) (ss ts : List Segment) (rest last : List ℕ) → EventSegments text ss rest → EventSegments text ts last → (ss ≡ ts) × (rest ≡ last)
-same_event text [] [] rest last one two = (refl, tails (sym one.0 ∙ two.0))
-same_event text [] (t ∷ ts) rest last one two = absurd (one.1 t two.1 (subst (λ b. BeginsUndotted b t two.1) (tails (sym two.2 ∙ one.0)) two.3))
-same_event text (s ∷ ss) [] rest last one two = absurd (two.1 s one.1 (subst (λ b. BeginsUndotted b s one.1) (tails (sym one.2 ∙ two.0)) one.3))
-same_event text (s ∷ ss) (t ∷ ts) rest last one two =
+pub same_root : (sign : ℕ) (text : List ℕ) (ss ts : List Segment) (rest last : List ℕ) → RootSegments sign text ss rest → RootSegments sign text ts last → (ss ≡ ts) × (rest ≡ last)
+same_root sign text [] [] rest last one two = (refl, tails (sym one.0 ∙ two.0))
+same_root sign text [] (t ∷ ts) rest last one two = absurd (one.1 t two.1 (subst (λ b. BeginsUndotted b t two.1) (tails (sym two.2 ∙ one.0)) two.3))
+same_root sign text (s ∷ ss) [] rest last one two = absurd (two.1 s one.1 (subst (λ b. BeginsUndotted b s one.1) (tails (sym one.2 ∙ two.0)) one.3))
+same_root sign text (s ∷ ss) (t ∷ ts) rest last one two =
     let same = same_undotted s t (subst (λ b. BeginsUndotted b s one.1) (tails (sym one.2 ∙ two.2)) one.3) two.3 in
     let more = same_segments two.1 ss ts rest last (subst (λ n. Segments n ss rest) same.1 one.4) two.4 in
     (ap (λ r. r ∷ ss) same.0 ∙ ap (λ r. t ∷ r) more.0, more.1)

@@ -18,6 +18,7 @@ ends_operand token.True = true
 ends_operand token.False = true
 ends_operand token.Null = true
 ends_operand (token.EventPath p) = true
+ends_operand (token.MetadataPath p) = true
 ends_operand (token.NamePath s p) = true
 ends_operand (token.Suffix p) = true
 ends_operand token.CloseParenthesis = true

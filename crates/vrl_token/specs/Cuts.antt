@@ -83,3 +83,4 @@ pub record LeavesBehind (text : List ℕ) (left : ℕ) : Type 0 where
 abbrev pub IsNoOther : ℕ → Type 0
 IsNoOther b =
     (b < 128) × ¬ IsBlank b × ¬ IsDigit b × ¬ IsNameStart b × (b ≢ 10) × (b ≢ 35) × (b ≢ 34) × (b ≢ 46) × (b ≢ 91)
+    × (b ≢ 37)

@@ -7,7 +7,7 @@ use Rattle.vrl_token.specs.declared.piece.Piece.{Piece}
 use Rattle.vrl_token.specs.Lexical.{BeginsInside, BeginsOutside, IsBlank, IsDigit, IsLongestRun, IsNameStart}
 use Rattle.vrl_token.specs.Characters.{Character, HasTemplate, IsKnown, IsUnclosed, raw_of, text_of}
 use Rattle.vrl_token.specs.Numbers.{IsFloat, IsNumber, IsNumeral}
-use Rattle.vrl_token.specs.Paths.{EventSegments, HasFlaw, Segment, Segments}
+use Rattle.vrl_token.specs.Paths.{HasFlaw, RootSegments, Segment, Segments}
 use Rattle.vrl_token.specs.Context.{closes_before, regexes_before}
 use Rattle.vrl_token.specs.Words.{BeginsWithout, IsFreeName, IsNonempty, IsNumberToken, IsRaw, IsRawLetter, IsTextSpelling, MayHaveSign, NoSuffix}
 
@@ -69,17 +69,18 @@ pub data IsFault (before : List Piece) (text : List ℕ) (code : ℕ) (rest : Li
   large_number : (negative : Bool) (digits : List ℕ) → IsNumberToken before text digits rest negative
       → BeginsOutside IsNameStart rest → ((number : ℤ) → ¬ IsNumber negative digits number) → code ≡ 1002
       → IsFault before text code rest
-  -- a path of the event, a path behind a name, or a suffix, with an unknown escape or an index of
-  -- more than 64 bits
-  event_path : (segments : List Segment) → EventSegments text segments rest → NoSuffix before text
+  -- a path of the event or of the metadata, a path behind a name, or a suffix, with an unknown
+  -- escape or an index of more than 64 bits
+  event_path : (segments : List Segment) → RootSegments 46 text segments rest → NoSuffix before text
       → HasFlaw segments code → IsFault before text code rest
+  metadata_path : (segments : List Segment) → RootSegments 37 text segments rest → HasFlaw segments code
+      → IsFault before text code rest
   name_path : (name behind : List ℕ) (segments : List Segment) → IsFreeName text name behind
       → Segments behind segments rest → IsNonempty segments → HasFlaw segments code → IsFault before text code rest
   suffix : (segments : List Segment) → closes_before before ≡ true → Segments text segments rest → IsNonempty segments
       → HasFlaw segments code → IsFault before text code rest
   -- operators that the language has and this compiler leaves out
   division : text ≡ 47 ∷ rest → code ≡ 1003 → IsFault before text code rest
-  remainder : text ≡ 37 ∷ rest → code ≡ 1003 → IsFault before text code rest
   coalescing_assignment : text ≡ 63 ∷ 63 ∷ 61 ∷ rest → code ≡ 1003 → IsFault before text code rest
   -- a character that is part of no spelling
   stray : IsStray text → IsBehindCharacter text rest → code ≡ 203 → IsFault before text code rest

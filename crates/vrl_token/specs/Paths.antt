@@ -58,12 +58,12 @@ abbrev pub Segments : List ℕ → List Segment → List ℕ → Type 0
 Segments text [] rest = (text ≡ rest) × ((segment : Segment) (behind : List ℕ) → ¬ BeginsDotted text segment behind)
 Segments text (segment ∷ segments) rest = (next : List ℕ) × BeginsDotted text segment next × Segments next segments rest
 
--- The text is the segments of a path of the event, and a rest. Behind the dot that such a path
--- begins with, the first segment has no dot of its own; the dot alone is the whole event.
-abbrev pub EventSegments : List ℕ → List Segment → List ℕ → Type 0
-EventSegments text [] rest =
-    (text ≡ 46 ∷ rest) × ((segment : Segment) (behind : List ℕ) → ¬ BeginsUndotted rest segment behind)
-EventSegments text (segment ∷ segments) rest = (behind : List ℕ) × (next : List ℕ) × (text ≡ 46 ∷ behind)
+-- The text is a sign, the segments of a path from the root that the sign stands for, and a rest.
+-- Behind the sign the first segment has no dot of its own; the sign alone is the whole root.
+abbrev pub RootSegments : ℕ → List ℕ → List Segment → List ℕ → Type 0
+RootSegments sign text [] rest =
+    (text ≡ sign ∷ rest) × ((segment : Segment) (behind : List ℕ) → ¬ BeginsUndotted rest segment behind)
+RootSegments sign text (segment ∷ segments) rest = (behind : List ℕ) × (next : List ℕ) × (text ≡ sign ∷ behind)
     × BeginsUndotted behind segment next × Segments next segments rest
 
 -- ---- steps

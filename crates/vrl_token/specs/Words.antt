@@ -9,7 +9,7 @@ use Rattle.vrl_token.specs.declared.token.Token.TheVariants as token
 use Rattle.vrl_token.specs.Lexical.{BeginsInside, BeginsOutside, IsDigit, IsLongestRun, IsName, IsNamePart, IsNameStart, keywords}
 use Rattle.vrl_token.specs.Characters.{Character, HasTemplate, IsKnown, IsQuoted, raw_of, text_of}
 use Rattle.vrl_token.specs.Numbers.{IsFloat, IsNumber, IsNumeral}
-use Rattle.vrl_token.specs.Paths.{BeginsDotted, EventSegments, HasSteps, Segment, Segments}
+use Rattle.vrl_token.specs.Paths.{BeginsDotted, HasSteps, RootSegments, Segment, Segments}
 use Rattle.vrl_token.specs.Context.{closes_before, operand_before, regexes_before}
 
 abbrev pub BeginsWith : ℕ → List ℕ → Type 0
@@ -106,7 +106,9 @@ BeginsWithToken before (token.Name name) text rest =
 BeginsWithToken before (token.Function name) text rest = IsFreeName text name rest × BeginsWith 40 rest
 BeginsWithToken before (token.BangFunction name) text rest = IsFreeName text name (33 ∷ rest) × BeginsWith 40 rest
 BeginsWithToken before (token.EventPath path) text rest =
-    (segments : List Segment) × EventSegments text segments rest × HasSteps segments path × NoSuffix before text
+    (segments : List Segment) × RootSegments 46 text segments rest × HasSteps segments path × NoSuffix before text
+BeginsWithToken before (token.MetadataPath path) text rest =
+    (segments : List Segment) × RootSegments 37 text segments rest × HasSteps segments path
 BeginsWithToken before (token.NamePath name path) text rest = (behind : List ℕ) × (segments : List Segment)
     × IsFreeName text name behind × Segments behind segments rest × IsNonempty segments × HasSteps segments path
 BeginsWithToken before (token.Suffix path) text rest = (segments : List Segment) × (closes_before before ≡ true)

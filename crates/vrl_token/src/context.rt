@@ -37,6 +37,7 @@ pub(crate) fn ends_with_operand(token: &Token) -> bool
             | Token::False
             | Token::Null
             | Token::EventPath(_)
+            | Token::MetadataPath(_)
             | Token::NamePath(_, _)
             | Token::Suffix(_)
             | Token::CloseParenthesis

@@ -6,7 +6,7 @@ ghost use Rattle.vrl_token.specs.declared.piece.Piece.{Piece as SpecPiece};
 
 use crate::context::Context;
 use crate::literals::{cut_number, cut_raw, cut_text};
-use crate::names::{cut_dot, cut_square, cut_word};
+use crate::names::{cut_dot, cut_metadata, cut_square, cut_word};
 use crate::piece::Piece;
 use crate::scan::{Class, begins_in, split_byte, split_line, split_run, strip_mark};
 use crate::signs::{cut_sign, cut_stray};
@@ -92,6 +92,7 @@ pub(crate) fn cut_first(alloc: Global, text: &str, context: Context) -> Result<C
         b'0'..=b'9' => Ok(cut_number(false, text)),
         b'-' => Ok(cut_minus(behind, context)),
         b'.' => cut_dot(alloc, text, behind, context),
+        b'%' => cut_metadata(alloc, behind),
         b'[' => cut_square(alloc, text, behind, context),
         b'a'..=b'z' | b'A'..=b'Z' | b'_' => cut_letter(alloc, text, first, behind, context),
         _ => Ok(cut_sign(first, behind)),

@@ -2,6 +2,7 @@ ghost use Rattle.std.specs.Prelude.{◌≡◌, ◌∷◌, true, Contains, List, 
 ghost use Rattle.vrl_token.specs.Cuts.{IsContext, IsCutOf, IsKeyword, IsPathCut};
 ghost use Rattle.vrl_token.specs.Context.{closes_before};
 ghost use Rattle.vrl_token.specs.Lexical.{BeginsInside, IsNameStart, keywords};
+ghost use Rattle.vrl_token.specs.Paths.{HasFlaw, HasSteps, RootSegments, Segment};
 ghost use Rattle.vrl_token.specs.Words.{BeginsRaw, IsCallRest, IsFreeName, NoSegment, NoSuffix};
 ghost use Rattle.vrl_token.specs.declared.piece.Piece.{Piece as SpecPiece};
 
@@ -12,6 +13,7 @@ use crate::piece::Piece;
 use crate::scan::{Class, begins_with, split_run, strip_mark};
 use crate::token::Token;
 use std::alloc::Global;
+use vrl_path::Path;
 use vrl_value::{Chars, Memory};
 
 // The keyword of this spelling. `None` where it is no keyword.
@@ -105,15 +107,34 @@ fn cut_suffix(alloc: Global, text: &str) -> Result<Option<Cut<'_>>, Memory>
     Ok(Some(path_cut(Token::Suffix(path), fault, rest)))
 }
 
+// The path whose `.` or `%` stands before a text, the code of what is wrong with it, and what stands
+// behind it.
+fn split_root<'a>(alloc: Global, behind: &'a str) -> Result<(Path, Option<u16>, &'a str), Memory>
+    ensures { IfOk result (λ found. (sign : ℕ) → (segments : List Segment)
+        × RootSegments sign (sign ∷ behind.now) segments found.2.now
+        × MatchOption found.1 (HasSteps segments found.0) (HasFlaw segments)) }
+{
+    let mut found = Gathering::new(alloc);
+    let rest = found.gather_root(alloc, behind)?;
+    let (path, fault) = found.into_path();
+    Ok((path, fault, rest))
+}
+
 // The path of the event whose dot stands before a text.
 fn cut_event<'a>(alloc: Global, behind: &'a str) -> Result<Cut<'a>, Memory>
     ensures { IfOk result (λ cut. (before : List SpecPiece) → NoSuffix before (46 ∷ behind.now)
         → IsCutOf before (46 ∷ behind.now) cut) }
 {
-    let mut found = Gathering::new(alloc);
-    let rest = found.gather_event(alloc, behind)?;
-    let (path, fault) = found.into_path();
+    let (path, fault, rest) = split_root(alloc, behind)?;
     Ok(path_cut(Token::EventPath(path), fault, rest))
+}
+
+/// The path of the metadata whose `%` stands before a text.
+pub(crate) fn cut_metadata<'a>(alloc: Global, behind: &'a str) -> Result<Cut<'a>, Memory>
+    ensures { IfOk result (λ cut. (before : List SpecPiece) → IsCutOf before (37 ∷ behind.now) cut) }
+{
+    let (path, fault, rest) = split_root(alloc, behind)?;
+    Ok(path_cut(Token::MetadataPath(path), fault, rest))
 }
 
 // The suffix that a text begins with at this place. `None` where none begins here.

@@ -1,6 +1,6 @@
-ghost use Rattle.std.specs.Prelude.{◌≡◌, [], ◌∷◌, ◌++◌, List, IfOk, MatchOption, OnOk, option_map};
+ghost use Rattle.std.specs.Prelude.{◌≡◌, [], ◌∷◌, ◌++◌, List, IfOk, MatchOption, OnOk, option_map, ℕ};
 ghost use Rattle.vrl_token.specs.Gathering.{code_of as flaw_code, IsGathered, Keeps};
-ghost use Rattle.vrl_token.specs.Paths.{EventSegments, HasFlaw, HasSteps, Segment as Spelled, Segments};
+ghost use Rattle.vrl_token.specs.Paths.{HasFlaw, HasSteps, RootSegments, Segment as Spelled, Segments};
 ghost use Rattle.vrl_token.specs.Segments.{IsSaid};
 
 use crate::segment::{Flaw, Segment, split_dotted, split_undotted};
@@ -66,15 +66,15 @@ impl Gathering {
         Ok(rest)
     }
 
-    /// Takes the segments of the path of the event whose dot stands before a text, and gives what
-    /// stands behind them.
-    pub(crate) fn gather_event<'a>(
+    /// Takes the segments of the path whose `.` or `%` stands before a text, and gives what stands
+    /// behind them.
+    pub(crate) fn gather_root<'a>(
         &mut self,
         alloc: Global,
         text: &'a str,
     ) -> Result<&'a str, Memory>
-        ensures { IfOk result (λ rest. IsGathered [] self.old → (segments : List Spelled)
-            × EventSegments (46 ∷ text.now) segments rest.now × IsGathered segments self.new) }
+        ensures { IfOk result (λ rest. (sign : ℕ) → IsGathered [] self.old → (segments : List Spelled)
+            × RootSegments sign (sign ∷ text.now) segments rest.now × IsGathered segments self.new) }
     {
         match split_undotted(text) {
             Some((first, next)) => {

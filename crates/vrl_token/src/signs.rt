@@ -146,7 +146,6 @@ pub(crate) fn cut_sign(first: u8, behind: &str) -> Cut<'_>
         b'-' => cut_dash(behind),
         b'{' => Cut::Piece(Piece::Brace, behind),
         b'/' => Cut::Fault(code::OPERATOR_LEFT_OUT, behind.len()),
-        b'%' => Cut::Fault(code::OPERATOR_LEFT_OUT, behind.len()),
         _ => match single(first) {
             Some(sign) => Cut::Piece(Piece::Word(sign), behind),
             None => Cut::Fault(

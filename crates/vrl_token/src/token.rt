@@ -41,6 +41,8 @@ pub enum Token {
     BangFunction(Chars),
     /// A path of the event: `.`, `.a`, `.a[0]`. For `.` alone it has no steps.
     EventPath(Path),
+    /// A path of the metadata: `%`, `%a`, `%[0]`. For `%` alone it has no steps.
+    MetadataPath(Path),
     /// A name that is no keyword, with a path of at least one step directly behind: `a.b`, `a[0]`.
     NamePath(Chars, Path),
     /// A path of at least one step directly behind `)` or `]`: `.a[0]` of `f().a[0]`.
@@ -114,7 +116,7 @@ impl Drop for Token {
             Token::True | Token::False | Token::Null => {}
             Token::If | Token::Else | Token::Abort | Token::Return => {}
             Token::Name(_name) | Token::Function(_name) | Token::BangFunction(_name) => {}
-            Token::EventPath(_path) | Token::Suffix(_path) => {}
+            Token::EventPath(_path) | Token::MetadataPath(_path) | Token::Suffix(_path) => {}
             Token::NamePath(_name, _path) => {}
             Token::Assign | Token::MergeAssign | Token::Coalesce | Token::Or | Token::And => {}
             Token::Equal | Token::Unequal | Token::Less | Token::AtMost => {}

@@ -3,6 +3,7 @@ use Rattle.std.specs.Prelude.{ℕ, ◌+◌, ◌-◌, Bool, true, false, List, []
 use Rattle.vrl_value.specs.Tree.{Tree, string, integer, boolean, null, timestamp, regex}
 use Rattle.vrl_path.specs.declared.path.Step.{Step}
 use Rattle.vrl_diag.specs.declared.diagnostic.Span.{Span}
+use Rattle.vrl_syntax.specs.Stores.{metadata}
 use Rattle.vrl_syntax.specs.declared.root.Op.{Op}
 use Rattle.vrl_syntax.specs.declared.root.Op.TheVariants as op
 use Rattle.vrl_syntax.specs.declared.root.Root.{Root}
@@ -60,6 +61,7 @@ abbrev pub path_of : Token → Option (Root × List Step)
 path_of (token.Name n) = Some (root.Name n, [])
 path_of (token.NamePath n path) = Some (root.Name n, path)
 path_of (token.EventPath path) = Some (root.Event, path)
+path_of (token.MetadataPath path) = Some (metadata, path)
 path_of t = None
 
 -- where an assignment to a path or a name that stands there writes: a bare `_` takes nothing
@@ -67,6 +69,7 @@ abbrev pub target_at : Token → Span → Option Target
 target_at (token.Name n) s = Some (if bytes_eq n (codes "_") then target.Nowhere else target.Place s (root.Name n) [])
 target_at (token.NamePath n path) s = Some (target.Place s (root.Name n) path)
 target_at (token.EventPath path) s = Some (target.Place s root.Event path)
+target_at (token.MetadataPath path) s = Some (target.Place s metadata path)
 target_at t s = None
 
 abbrev pub target_of : Word → Option Target

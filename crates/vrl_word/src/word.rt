@@ -25,7 +25,7 @@ pub fn is_path(token: &Token) -> bool
 {
     matches!(
         token,
-        Token::Name(_) | Token::NamePath(..) | Token::EventPath(_)
+        Token::Name(_) | Token::NamePath(..) | Token::EventPath(_) | Token::MetadataPath(_)
     )
 }
 
@@ -44,6 +44,7 @@ pub fn path_of(alloc: Global, token: &Token) -> Result<Option<(Root, Path)>, Mem
             Ok(Some((Root::Name(name), path.copy(alloc)?)))
         }
         Token::EventPath(path) => Ok(Some((Root::Event, path.copy(alloc)?))),
+        Token::MetadataPath(path) => Ok(Some((Root::metadata(alloc)?, path.copy(alloc)?))),
         _ => Ok(None),
     }
 }

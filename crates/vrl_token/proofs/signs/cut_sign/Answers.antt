@@ -15,5 +15,5 @@ returns-in-38 c = λ before minus. rw c.in-38.is (c.cut_ampersand.ensures before
 pub returns-in-None : goal.returns-in-None
 returns-in-None c = λ before minus.
     stray_fault before c.args.first c.args.behind.now c.left_behind_character.result
-    (inl (no_start c.args.first c.requires (stray_sign c.args.first c.requires c.in-None.ensures (λ e. omega arith) (λ e. omega arith) (λ e. omega arith) (λ e. omega arith) (λ e. omega arith) (λ e. omega arith) (λ e. omega arith) (λ e. omega arith) (λ e. omega arith) (λ e. omega arith) (λ e. omega arith))))
+    (inl (no_start c.args.first c.requires (stray_sign c.args.first c.requires c.in-None.ensures (λ e. omega arith) (λ e. omega arith) (λ e. omega arith) (λ e. omega arith) (λ e. omega arith) (λ e. omega arith) (λ e. omega arith) (λ e. omega arith) (λ e. omega arith) (λ e. omega arith))))
     (subst (λ t. LeavesBehind t c.left_behind_character.result) c.as_bytes.ensures.value c.left_behind_character.ensures)
