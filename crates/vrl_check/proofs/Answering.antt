@@ -3,7 +3,7 @@ use Rattle.std.proofs.Common.{◌≡◌, List, [], ◌∷◌, ◌++◌, map, All
 use Rattle.std.proofs.lemmas.List.Elements.{All-append, All-cons, All-nil}
 use Rattle.vrl_kind.specs.KindTree.{KindTree}
 use Rattle.vrl_state.specs.Known.{known_as, HaveRootKinds}
-use Rattle.vrl_state.specs.States.{IsEither, IsJoined, IsRootKind, IsStart, RootMap, State}
+use Rattle.vrl_state.specs.States.{IsEither, IsJoined, IsRootKind, RootMap, State}
 use Rattle.vrl_state.specs.declared.known.Known.{Known}
 use Rattle.vrl_state.specs.declared.known.Known.TheVariants.{Dead}
 use Rattle.vrl_syntax.specs.Tree.{Exprs}
@@ -11,7 +11,7 @@ use Rattle.vrl_check.specs.Answer.{outside, IsEnding, IsJudged}
 use Rattle.vrl_judge.specs.Returns.{return_kind, return_state, returning}
 use Rattle.vrl_judge.specs.Closures.{loops_told}
 use Rattle.vrl_judge.specs.Rules.{Judgement, Loop, settle}
-use Rattle.vrl_check.specs.Judgement.{JudgesScript, a_script}
+use Rattle.vrl_check.specs.Judgement.{IsScriptStart, JudgesScript, a_script}
 use Rattle.vrl_judge.specs.Judging.{branches_known, known_on, loops_known, AreEnds, IsWay}
 use Rattle.vrl_check.specs.Walking.{IsScriptAs}
 use Rattle.vrl_judge.specs.Ordered.{AreOrdered}
@@ -67,7 +67,7 @@ told_as [] = refl
 told_as (None ∷ loops) = ap (λ ls. Dead ∷ ls) (told_as loops)
 told_as (Some loop ∷ loops) = ap (λ ls. known_as loop.known ∷ ls) (told_as loops)
 
-pub script_judged : (start : KindTree) (es : Exprs) (before after : Checker) (finding : Finding) (judged : Judged) → IsStart start before.state → before.diagnostics.items ≡ [] → before.empties.items ≡ [] → before.loops.items ≡ [] → IsScriptAs es before after finding
+pub script_judged : (start : KindTree) (es : Exprs) (before after : Checker) (finding : Finding) (judged : Judged) → IsScriptStart start before.state → before.diagnostics.items ≡ [] → before.empties.items ≡ [] → before.loops.items ≡ [] → IsScriptAs es before after finding
     → AreAnswered after.state finding judged → judged.empties ≡ after.empties.items → judged.loops ≡ map known_as (branches_known after.loops.items) → All HaveRootKinds judged.loops → AreOrdered after.diagnostics.items judged.diagnostics
     → (j : Judgement) × JudgesScript (language_rules before.patterns.now) start es j × IsJudged j judged
 script_judged start es before after finding judged starts no_codes no_tags no_loops is answered empties loops roots ordered =

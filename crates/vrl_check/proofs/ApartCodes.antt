@@ -15,14 +15,15 @@ use Rattle.vrl_syntax.specs.declared.root.Target.TheVariants.{Nowhere, Place}
 use Rattle.vrl_binding.specs.Binding.{path_parameters}
 use Rattle.vrl_table.specs.Table.{row_of, ParametersAreToldApart}
 use Rattle.vrl_judge.specs.Closures.{ClosureBody, Try, of_body}
-use Rattle.vrl_judge.specs.Rules.{Argument, Judgement, Loop, is_alive, is_comparison, is_compared, is_event, is_fallible, is_known, is_message_wrong, is_needless, is_no_event, is_nowhere, is_other, is_equality, at, chained, no_objects, of_assignment, of_error_assignment, of_message, of_predicate, when, with_codes}
+use Rattle.vrl_judge.specs.Rules.{Argument, Judgement, Loop, is_comparison, is_compared, is_fallible, is_message_wrong, is_needless, is_nowhere, is_other, is_equality, at, chained, no_objects, of_assignment, of_error_assignment, of_message, of_predicate, puts_misfit, when, with_codes, writes_misfit}
 use Rattle.vrl_check.specs.Apart.{arguments_at, at_place, closure_blocks_at, expressions_at, names_at, nothing_weighs, one_if, same_span, weigh_args, weigh_arms, weigh_closure, weigh_else, weigh_expr, weigh_exprs, weigh_form, weigh_message, weigh_pairs, weigh_target, AreApart, NoCodeStandsTwice, Weights}
 use Rattle.vrl_check.specs.Judgement.{deleted_kind, of_item, pair_values, passing_closure, table_of, wants_literal, wants_path}
 use Rattle.vrl_check.specs.Judgement.{Judges, unreached, reached, Gives, a_literal, an_array, an_object, a_known_root, an_unknown_root, a_query, a_group, a_block, a_conditional, a_negation, an_equality, of_table, a_merge, a_conjunction, a_disjunction, a_coalescing, an_assignment, a_merge_into_nothing, a_merge_assignment, an_error_assignment, a_call_of_nothing, a_call, a_deletion, an_existence, a_wrong_closure_call, a_closure_call, a_return, an_abort, an_abort_with, JudgesBoth, operands, JudgesAll, no_more, one_more, JudgesArguments, no_more_arguments, one_more_argument, JudgesBlock, unreached_block, reached_block, JudgesArms, an_arm, an_else, a_missing_else, JudgesBody, unreached_body, reached_body, JudgesTries, a_stable_try, an_unstable_try, JudgesRuns, by_tries, by_what_is_given, JudgesItems, no_more_items, one_more_item, JudgesScript, a_script}
 use Rattle.vrl_check.specs.OpenRules.{OpenRules}
-use Rattle.vrl_check.proofs.CountedCodes.{assigned, behind_counted, both_assigned, both_counted, call_counted, counted, none_counted, one, one_counted, own, own_640, own_650, own_651, own_660, own_701, own_1004, part, part_100, part_652, part_1011, predicate, run_counted, spans, three_counted, two_counted, values, weights, when_counted, wrong_counted}
+use Rattle.vrl_check.proofs.CountedCodes.{assigned, behind_counted, both_assigned, both_counted, call_counted, counted, four_counted, none_counted, one, one_counted, own, own_640, own_650, own_651, own_660, own_701, own_1004, part, part_100, part_652, part_1011, predicate, run_counted, spans, two_counted, values, weights, when_counted, wrong_counted}
 use Rattle.vrl_value.specs.declared.value.Tag.TheVariants as tag
 use Rattle.vrl_syntax.specs.declared.root.Op.TheVariants as op
+use Rattle.vrl_judge.specs.declared.prefix.Prefix.TheVariants as prefix
 
 no_merge_and : op.And ≡ op.Merge → ⊥
 no_merge_and is = cc
@@ -69,7 +70,7 @@ module _ (rules : OpenRules) (names_apart : ParametersAreToldApart) (code : ℕ)
       count (whole.codes ++ no_objects (span_of l) (span_of r) j k) ≤ weigh_expr w l + weigh_expr w r
   merged_light l r j k whole few =
       let all = both_counted code here whole.codes (no_objects (span_of l) (span_of r) j k) in
-      let more = two_counted code here (is_other tag.Object j) (is_other tag.Object k) 652 (span_of l) (span_of r) in
+      let more = two_counted code here (is_other tag.Object j) (is_other tag.Object k) 652 652 (span_of l) (span_of r) in
       let first = part_652 code here (span_of l) in
       let second = part_652 code here (span_of r) in
       omega (arith, few, all, more, first, second)
@@ -77,7 +78,7 @@ module _ (rules : OpenRules) (names_apart : ParametersAreToldApart) (code : ℕ)
   assignment_light : (span : Span) (t : Target) (j : Judgement) → count (j.codes ++ of_assignment span t j) ≤ count j.codes + at_own span
   assignment_light span t j =
       let all = both_counted code here j.codes (of_assignment span t j) in
-      let more = three_counted code here (is_fallible j) (is_nowhere t) (is_known j && is_no_event t j.kind) 103 640 1006 span in
+      let more = four_counted code here (is_fallible j) (is_nowhere t) (puts_misfit t j prefix.Event) (puts_misfit t j prefix.Metadata) 103 640 1006 1017 span in
       let its = assigned code here span in
       omega (arith, all, more, its)
 
@@ -149,7 +150,7 @@ module _ (rules : OpenRules) (names_apart : ParametersAreToldApart) (code : ℕ)
     gives_light (an_error_assignment {span = span} {t = t} {u = u} {e = e} {j = j} empty {K = K} given given_both failed failed_both judged may cut either null text one two three four joins) =
         let few = judges_light judged in
         let all = both_counted code here j.codes (of_error_assignment span t u j K) in
-        let more = three_counted code here (is_needless j) (is_nowhere t && is_nowhere u) ((is_alive j.ok || is_alive j.fail) && ((not j.poisoned && is_no_event t K) || is_event u)) 104 640 1006 span in
+        let more = four_counted code here (is_needless j) (is_nowhere t && is_nowhere u) (writes_misfit t u j K prefix.Event) (writes_misfit t u j K prefix.Metadata) 104 640 1006 1017 span in
         let its = both_assigned code here span in
         omega (arith, few, all, more, its)
     gives_light (a_call_of_nothing {span = span} {s = s} {gs = gs} {c = c} {js = js} {j = j} unknown other arguments allowed) =
@@ -396,7 +397,7 @@ module _ (code : ℕ) (here : Span) where
   at_one_place : (span : Span) → own code here span + part code here span ≤ one_if (same_span span here)
   unfolding own part
   at_one_place span =
-      let all = one_of_them (100 ∷ 102 ∷ 103 ∷ 104 ∷ 106 ∷ 107 ∷ 110 ∷ 620 ∷ 630 ∷ 640 ∷ 650 ∷ 651 ∷ 652 ∷ 660 ∷ 701 ∷ 1004 ∷ 1005 ∷ 1006 ∷ 1010 ∷ 1011 ∷ 1013 ∷ []) span refl in
+      let all = one_of_them (100 ∷ 102 ∷ 103 ∷ 104 ∷ 106 ∷ 107 ∷ 110 ∷ 620 ∷ 630 ∷ 640 ∷ 650 ∷ 651 ∷ 652 ∷ 660 ∷ 701 ∷ 1004 ∷ 1005 ∷ 1006 ∷ 1010 ∷ 1011 ∷ 1013 ∷ 1017 ∷ []) span refl in
       omega (arith, all)
 
 -- 105 stands at the name of a call alone, 108 at an argument, and 1015 at the block of a closure

@@ -25,7 +25,7 @@ module _ (code : ℕ) (here : Span) where
 
   -- the codes that a form gives at its own place, and those that it gives at the place of a part
   unfoldable pub own : Span → ℕ
-  own span = one 103 span + (one 104 span + (one 106 span + (one 107 span + (one 620 span + (one 640 span + (one 650 span + (one 651 span + (one 660 span + (one 701 span + (one 1004 span + (one 1006 span + one 1010 span)))))))))))
+  own span = one 103 span + (one 104 span + (one 106 span + (one 107 span + (one 620 span + (one 640 span + (one 650 span + (one 651 span + (one 660 span + (one 701 span + (one 1004 span + (one 1006 span + (one 1010 span + one 1017 span))))))))))))
 
   unfoldable pub part : Span → ℕ
   part span = one 100 span + (one 102 span + (one 110 span + (one 630 span + (one 652 span + (one 1005 span + (one 1011 span + one 1013 span))))))
@@ -55,28 +55,28 @@ module _ (code : ℕ) (here : Span) where
   when_counted true k span = one_counted k span
   when_counted false k span = let none = none_counted in omega (arith, none)
 
-  pub two_counted : (a b : Bool) (k : ℕ) (span other : Span) → counted (when a (at k span) ++ when b (at k other)) ≤ one k span + one k other
-  two_counted a b k span other =
-      let both = both_counted (when a (at k span)) (when b (at k other)) in
+  pub two_counted : (a b : Bool) (k l : ℕ) (span other : Span) → counted (when a (at k span) ++ when b (at l other)) ≤ one k span + one l other
+  two_counted a b k l span other =
+      let both = both_counted (when a (at k span)) (when b (at l other)) in
       let first = when_counted a k span in
-      let second = when_counted b k other in
+      let second = when_counted b l other in
       omega (arith, both, first, second)
 
   -- the codes of an assignment
-  pub three_counted : (a b c : Bool) (k l m : ℕ) (span : Span) → counted (when a (at k span) ++ (when b (at l span) ++ when c (at m span))) ≤ one k span + (one l span + one m span)
-  three_counted a b c k l m span =
-      let both = both_counted (when a (at k span)) (when b (at l span) ++ when c (at m span)) in
-      let others = both_counted (when b (at l span)) (when c (at m span)) in
+  pub four_counted : (a b c d : Bool) (k l m n : ℕ) (span : Span) → counted (when a (at k span) ++ (when b (at l span) ++ (when c (at m span) ++ when d (at n span)))) ≤ one k span + (one l span + (one m span + one n span))
+  four_counted a b c d k l m n span =
+      let all = both_counted (when a (at k span)) (when b (at l span) ++ (when c (at m span) ++ when d (at n span))) in
+      let others = both_counted (when b (at l span)) (when c (at m span) ++ when d (at n span)) in
       let first = when_counted a k span in
       let second = when_counted b l span in
-      let third = when_counted c m span in
-      omega (arith, both, others, first, second, third)
+      let last = two_counted c d m n span span in
+      omega (arith, all, others, first, second, last)
 
-  pub assigned : (span : Span) → one 103 span + (one 640 span + one 1006 span) ≤ own span
+  pub assigned : (span : Span) → one 103 span + (one 640 span + (one 1006 span + one 1017 span)) ≤ own span
   unfolding own
   assigned span = omega arith
 
-  pub both_assigned : (span : Span) → one 104 span + (one 640 span + one 1006 span) ≤ own span
+  pub both_assigned : (span : Span) → one 104 span + (one 640 span + (one 1006 span + one 1017 span)) ≤ own span
   unfolding own
   both_assigned span = omega arith
 

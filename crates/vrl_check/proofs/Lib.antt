@@ -28,6 +28,7 @@ pub mod Iterated
 pub mod Partway
 pub mod Passed
 pub mod Repeated
+pub mod Starting
 pub mod Steady
 pub mod SteadyRoots
 pub mod Told

@@ -9,6 +9,7 @@
 -- The judgement is told for every way in which the open rules may be given; that of the language is
 -- the one at `language_rules`. `inside` says whether the part stands in the body of a closure.
 use Rattle.std.specs.Prelude.{◌≡◌, ◌≢◌, ◌↔◌, ℕ, suc, Bool, true, false, ◌||◌, ◌&&◌, not, List, [], ◌∷◌, ◌++◌, length, map as map_list, slice_get, Option, Some, None, is_some, IsTrue, if◌then◌else◌}
+use Rattle.std.specs.FinMap as map
 use Rattle.std.specs.List.{list_all}
 use Rattle.std.specs.Option.{option_map_or}
 use Rattle.std.specs.declared.result.Result.{Result}
@@ -20,18 +21,20 @@ use Rattle.vrl_diag.specs.declared.diagnostic.Diagnostic.{Diagnostic}
 use Rattle.vrl_syntax.specs.Tree.{Expr, expr, Form, literal, array, object, read, query, group, block, conditional, negation, binary, assign, merge, both, call, return_of, abort_with, Exprs, no_exprs, exprs, Pairs, Arms, no_arms, arm, Else, no_else, else_block, Args, no_args, arg, Closure, no_closure, closure, no_message, message, no_pairs, pair, span_of}
 use Rattle.vrl_syntax.specs.Calls.{for_names, form_named, is_closure_form, is_exists, literal_of, path_of, is_del}
 use Rattle.vrl_syntax.specs.ErrorAssignments.{empty_value, in_closure, in_expr, in_exprs}
+use Rattle.vrl_syntax.specs.Stores.{metadata_name}
 use Rattle.vrl_syntax.specs.declared.call_form.CallForm.{CallForm}
 use Rattle.vrl_syntax.specs.declared.root.Op.{Op}
 use Rattle.vrl_syntax.specs.declared.root.Root.{Root}
 use Rattle.vrl_syntax.specs.declared.root.Target.{Target}
 use Rattle.vrl_syntax.specs.declared.root.Target.TheVariants.{Nowhere, Place}
 use Rattle.vrl_kind.specs.Canonical.{IsCanonical, any_kind, never_kind}
+use Rattle.vrl_kind.specs.Cut.{IsCut}
 use Rattle.vrl_kind.specs.KindTree.{KindTree}
 use Rattle.vrl_kind.specs.Kinds.{found_at, root_tags, tags_at}
 use Rattle.vrl_kind.specs.PartSets.{parts_at}
 use Rattle.vrl_kind.specs.Sets.{SameSets}
 use Rattle.vrl_place.specs.Sets.{is_alone}
-use Rattle.vrl_state.specs.States.{RootMap, State, kind_of, with_names, IsCutOf, IsEither, IsJoined, IsKnownWithin, IsStart}
+use Rattle.vrl_state.specs.States.{RootMap, State, json_object, kind_of, with_names, IsCutOf, IsEither, IsJoined, IsKnownWithin}
 use Rattle.vrl_builtin.specs.CutDown.{cut_to}
 use Rattle.vrl_builtin.specs.Rows.{GivenTree, ParameterRow, Row}
 use Rattle.vrl_builtin.specs.declared.tags.Tags.{Tags as TagSet}
@@ -533,8 +536,17 @@ pub data JudgesItems (rules : OpenRules) : Judgement → Exprs → Judgement →
       → JudgesItems rules middle es after
       → JudgesItems rules before (exprs e es) after
 
+-- the state that a script is judged from: the event has the declared kind, cut; beside it only the
+-- metadata is known, an object of JSON; no block is open
+pub record IsScriptStart (K : KindTree) (state : State) : Type 0 where
+  pub roots : RootMap
+  pub known : state.known ≡ Some roots
+  pub event : IsCut K roots.event
+  pub variables : roots.variables ≡ map.insert map.empty metadata_name json_object
+  pub scopes : state.scopes ≡ []
+
 -- a script over events of a kind; an empty one gives null
 pub data JudgesScript (rules : OpenRules) : KindTree → Exprs → Judgement → Type 0 where
   a_script : {start N : KindTree} {state : State} {es : Exprs} {j : Judgement}
-      → IsStart start state → IsScalar tag.Null N → JudgesItems rules (gives N state.known) es j
+      → IsScriptStart start state → IsScalar tag.Null N → JudgesItems rules (gives N state.known) es j
       → JudgesScript rules start es (settle j)

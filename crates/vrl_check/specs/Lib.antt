@@ -6,4 +6,5 @@ pub mod Iterating
 pub mod Judgement
 pub mod Loops
 pub mod OpenRules
+pub mod Starts
 pub mod Walking

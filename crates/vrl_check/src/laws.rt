@@ -1,8 +1,9 @@
 ghost use Rattle.vrl_check.specs.Apart.{NoCodeStandsTwice};
 ghost use Rattle.vrl_check.specs.Determined.{EmptiesAreCounted, JudgementsAreDetermined, LoopsAreCounted, PoisonsHaveCauses, StatesThatHoldCanBeGiven, ThirdTriesAreStable};
+ghost use Rattle.vrl_check.specs.Starts.{ScriptStartsFit};
 
 use vrl_kind::equal_tags_are_one_kind;
-use vrl_state::{forgetting_widens, root_kinds_join_themselves};
+use vrl_state::{forgetting_widens, root_kinds_join_themselves, starts_fit};
 use vrl_table::{
     forms_are_no_functions, functions_are_found, parameters_are_told_apart, results_are_present,
 };
@@ -60,4 +61,12 @@ pub fn no_code_stands_twice()
     ensures { NoCodeStandsTwice }
 {
     parameters_are_told_apart();
+}
+
+/// A store whose event is of the declared kind, and whose metadata is an object of JSON, fits the
+/// state that a script is judged from. This takes no time: it is a law about the definitions.
+pub fn script_starts_fit()
+    ensures { ScriptStartsFit }
+{
+    starts_fit();
 }

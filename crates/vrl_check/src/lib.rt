@@ -29,6 +29,6 @@ mod walk;
 pub use judged::{Ending, Judged};
 pub use laws::{
     empties_are_counted, judgements_are_determined, loops_are_counted, no_code_stands_twice,
-    poisons_have_causes, states_that_hold_can_be_given, third_tries_are_stable,
+    poisons_have_causes, script_starts_fit, states_that_hold_can_be_given, third_tries_are_stable,
 };
 pub use script::{check, ending};

@@ -1,11 +1,12 @@
 ghost use Rattle.std.specs.Prelude.{false, length, map, true, unwrap_or, ◌≡◌, All, IfOk, None};
 ghost use Rattle.vrl_check.specs.Answer.{outside, IsEnding, IsJudged};
-ghost use Rattle.vrl_check.specs.Judgement.{JudgesScript};
+ghost use Rattle.vrl_check.specs.Judgement.{IsScriptStart, JudgesScript};
 ghost use Rattle.vrl_check.specs.Walking.{ExprCanBeJudged, IsItemAs, IsScriptAs, ItemsCanBeJudged};
 ghost use Rattle.vrl_judge.specs.Judging.{branches_known, known_on};
 ghost use Rattle.vrl_judge.specs.Rules.{Judgement};
 ghost use Rattle.vrl_kind.specs.Canonical.{allows_absent};
 ghost use Rattle.vrl_state.specs.Known.{known_as, HaveRootKinds};
+ghost use Rattle.vrl_state.specs.States.{IsPresent};
 ghost use Rattle.vrl_syntax.specs.Limits.{KeepsLimits};
 ghost use Rattle.vrl_syntax.specs.Regexes.{exprs_regexes_below};
 ghost use Rattle.vrl_syntax.specs.View.{expr_of, exprs_of};
@@ -16,10 +17,11 @@ use crate::walk::expr;
 use std::alloc::Global;
 use vrl_diag::{Diagnostics, code};
 use vrl_judge::{Checker, Finding, SharedKind, either, ordered, scalar};
-use vrl_kind::Kind;
+use vrl_kind::{Kind, equal_tags_are_one_kind};
+use vrl_path::Path;
 use vrl_pattern::Patterns;
-use vrl_state::{Branch, Known, Knowns, State};
-use vrl_syntax::{Empties, Expr, Exprs, Script};
+use vrl_state::{Branch, Known, Knowns, State, json_object};
+use vrl_syntax::{Empties, Expr, Exprs, Root, Script};
 use vrl_value::{Memory, Tag};
 
 /// Judges a script over events of a kind. `patterns` are its regex literals, one for each of its
@@ -40,7 +42,7 @@ pub fn check(
         (λ judged. (j : Judgement) × JudgesScript (language_rules patterns.now) start.now (exprs_of script.now.items) j
         × IsJudged j judged) }
 {
-    let state = State::start(alloc, start)?;
+    let state = script_start(alloc, start)?;
     let mut checker = Checker {
         alloc,
         patterns,
@@ -67,6 +69,22 @@ pub fn check(
         loops,
         diagnostics: Diagnostics::new(diagnostics),
     })
+}
+
+// The state that a script is judged from: the event has this kind, and the metadata is an object of
+// JSON. `Memory`: want of memory.
+fn script_start(alloc: Global, start: &Kind) -> Result<State, Memory>
+    requires { IsPresent start.now }
+    ensures { IfOk result (λ state. IsScriptStart start.now state) }
+{
+    equal_tags_are_one_kind();
+    let mut state = State::start(alloc, start)?;
+    let object = json_object(alloc)?;
+    let shared = SharedKind::new(alloc, object)?;
+    let root = Root::metadata(alloc)?;
+    let whole = Path::new(Vec::new(alloc));
+    state.assign(&root, &whole, shared.as_shared())?;
+    Ok(state)
 }
 
 // Judges the items of a script. `Memory`: want of memory.

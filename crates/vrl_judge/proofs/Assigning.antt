@@ -1,5 +1,5 @@
 -- Assignments behind their expressions.
-use Rattle.std.proofs.Common.{◌≡◌, ℕ, Bool, false, not, ◌||◌, ◌&&◌, List, [], ◌++◌, Option, None, is_some, slice_set, refl, sym, ap, ◌∙◌, subst}
+use Rattle.std.proofs.Common.{◌≡◌, ℕ, Bool, false, not, ◌||◌, ◌&&◌, List, [], ◌++◌, Option, None, is_some, slice_set, refl, sym, ap, ap₂, ◌∙◌, subst}
 use Rattle.std.specs.List.{list_any}
 use Rattle.vrl_value.specs.Tree.{Tree}
 use Rattle.vrl_value.specs.declared.value.Tag.{Tag}
@@ -13,7 +13,7 @@ use Rattle.vrl_state.specs.States.{IsCutOf, IsEither, IsPresent, RootMap}
 use Rattle.vrl_judge.specs.Assigning.{AreAssigned}
 use Rattle.vrl_syntax.specs.ErrorAssignments.{empty_value}
 use Rattle.vrl_diag.specs.Refusal.{is_error}
-use Rattle.vrl_judge.specs.Rules.{Judgement, at, empty_tag, is_no_event, is_nowhere, of_assignment, of_error_assignment, when, with_codes, IsTargetWritten}
+use Rattle.vrl_judge.specs.Rules.{Judgement, at, empty_tag, is_misfit, is_nowhere, of_assignment, of_error_assignment, when, with_codes, IsTargetWritten}
 use Rattle.vrl_judge.specs.Judging.{known_on, AreBothWritten, AreEnds, HasEnds, HasJudged, IsAssignedAs, IsMoved, IsReported, IsWay}
 use Rattle.vrl_judge.specs.Seen.{seen}
 use Rattle.vrl_judge.specs.declared.checker.Checker.{Checker}
@@ -23,6 +23,7 @@ use Rattle.vrl_judge.proofs.Parts.{gathered_moved, reported_judged, reported_mor
 use Rattle.vrl_judge.proofs.RootKinds.{value_root}
 use Rattle.vrl_judge.proofs.Joining.{branch_alive}
 use Rattle.vrl_judge.proofs.Told.{as_seen, seen_ends}
+use Rattle.vrl_judge.specs.declared.prefix.Prefix.TheVariants as prefix
 
 -- what is never absent at its root
 pub not_absent : (K : KindTree) → IsPresent K → allows_absent K ≡ false
@@ -42,42 +43,48 @@ pub written_at : (target : Target) (K L : KindTree) (a a' b : Option RootMap) �
 written_at target K L a a' b same before is = subst (λ M. IsTargetWritten target M a' b) same (subst (λ s. IsTargetWritten target K s b) before is)
 
 -- the codes of an assignment, by what the walk tests
-pub codes_of : Span → Target → Bool → Bool → List Diagnostic
-codes_of span target fallible no_event = when fallible (at 103 span) ++ (when (is_nowhere target) (at 640 span) ++ when no_event (at 1006 span))
+pub codes_of : Span → Target → Bool → Bool → Bool → List Diagnostic
+codes_of span target fallible no_event no_metadata =
+    when fallible (at 103 span) ++ (when (is_nowhere target) (at 640 span) ++ (when no_event (at 1006 span) ++ when no_metadata (at 1017 span)))
 
-pub codes_are : (span : Span) (target : Target) (before now : Checker) (part : Finding) (j : Judgement) (fallible no_event : Bool) → HasJudged before now part j → fallible ≡ is_some part.ends.fail
-    → no_event ≡ ((is_some now.state.known && not part.ends.poisoned) && is_no_event target part.kind) → codes_of span target fallible no_event ≡ of_assignment span target j
+pub codes_are : (span : Span) (target : Target) (before now : Checker) (part : Finding) (j : Judgement) (fallible no_event no_metadata : Bool) → HasJudged before now part j → fallible ≡ is_some part.ends.fail
+    → no_event ≡ ((is_some now.state.known && not part.ends.poisoned) && is_misfit prefix.Event target part.kind)
+    → no_metadata ≡ ((is_some now.state.known && not part.ends.poisoned) && is_misfit prefix.Metadata target part.kind)
+    → codes_of span target fallible no_event no_metadata ≡ of_assignment span target j
 unfolding codes_of
-codes_are span target before now part j fallible no_event has is event =
-    ap (λ b. codes_of span target b no_event) (is ∙ branch_alive before.state.scopes part.ends.fail has.ends.are.fail)
-    ∙ ap (λ b. codes_of span target (is_some (known_on part.ends.fail)) b) event
+codes_are span target before now part j fallible no_event no_metadata has is event metadata =
+    ap (λ b. codes_of span target b no_event no_metadata) (is ∙ branch_alive before.state.scopes part.ends.fail has.ends.are.fail)
+    ∙ ap₂ (λ b c. codes_of span target (is_some (known_on part.ends.fail)) b c) event metadata
     ∙ ap (λ k. of_assignment span target k) (sym (as_seen before now part j has))
 
-pub assigned_told : (span : Span) (target : Target) (now told after : Checker) (part : Finding) (ends : Ends) (fallible no_event : Bool) → fallible ≡ is_some part.ends.fail
-    → no_event ≡ ((is_some now.state.known && not part.ends.poisoned) && is_no_event target part.kind)
-    → IsReported (when fallible (at 103 span) ++ (when (is_nowhere target) (at 640 span) ++ when no_event (at 1006 span))) now told part.ends ends
+pub assigned_told : (span : Span) (target : Target) (now told after : Checker) (part : Finding) (ends : Ends) (fallible no_event no_metadata : Bool) → fallible ≡ is_some part.ends.fail
+    → no_event ≡ ((is_some now.state.known && not part.ends.poisoned) && is_misfit prefix.Event target part.kind)
+    → no_metadata ≡ ((is_some now.state.known && not part.ends.poisoned) && is_misfit prefix.Metadata target part.kind)
+    → IsReported (when fallible (at 103 span) ++ (when (is_nowhere target) (at 640 span) ++ (when no_event (at 1006 span) ++ when no_metadata (at 1017 span)))) now told part.ends ends
     → IsTargetWritten target part.kind told.state.known after.state.known → IsMoved told after
     → IsAssignedAs span target part now after (record { kind = part.kind; ends = ends })
 unfolding codes_of
-assigned_told span target now told after part ends fallible no_event is event reported written moved = λ before j has.
+assigned_told span target now told after part ends fallible no_event no_metadata is event metadata reported written moved = λ before j has.
     let ds = of_assignment span target j in
-    let told_so = subst (λ es. IsReported es now told part.ends ends) (codes_are span target before now part j fallible no_event has is event) reported in
+    let told_so = subst (λ es. IsReported es now told part.ends ends) (codes_are span target before now part j fallible no_event no_metadata has is event metadata) reported in
     let judged = reported_judged ds before now told part (record { kind = part.kind; ends = ends }) j told_so refl has in (
       after.state.known,
       written_at target part.kind j.kind told.state.known j.ok after.state.known has.kind (ap (λ s. s.known) reported.state ∙ has.gathered.ok) written,
       moved_judged before told after (record { kind = part.kind; ends = ends }) (with_codes ds j) judged moved,
     )
 
--- behind its three codes
-pub assigned_judged : (span : Span) (target : Target) (now b c told after : Checker) (part : Finding) (first second ends : Ends) (fallible nowhere no_event : Bool) → fallible ≡ is_some part.ends.fail → nowhere ≡ is_nowhere target
-    → no_event ≡ ((is_some now.state.known && not part.ends.poisoned) && is_no_event target part.kind)
-    → IsReported (when fallible (at 103 span)) now b part.ends first → IsReported (when nowhere (at 640 span)) b c first second → IsReported (when no_event (at 1006 span)) c told second ends
+-- behind its codes
+pub assigned_judged : (span : Span) (target : Target) (now b c told after : Checker) (part : Finding) (first second ends : Ends) (fallible nowhere no_event no_metadata : Bool) → fallible ≡ is_some part.ends.fail → nowhere ≡ is_nowhere target
+    → no_event ≡ ((is_some now.state.known && not part.ends.poisoned) && is_misfit prefix.Event target part.kind)
+    → no_metadata ≡ ((is_some now.state.known && not part.ends.poisoned) && is_misfit prefix.Metadata target part.kind)
+    → IsReported (when fallible (at 103 span)) now b part.ends first → IsReported (when nowhere (at 640 span)) b c first second → IsReported (when no_event (at 1006 span) ++ when no_metadata (at 1017 span)) c told second ends
     → IsTargetWritten target part.kind told.state.known after.state.known → IsMoved told after
     → IsAssignedAs span target part now after (record { kind = part.kind; ends = ends })
-assigned_judged span target now b c told after part first second ends fallible nowhere no_event is none event one two three written moved =
-    assigned_told span target now told after part ends fallible no_event is event
-    (reported_more (when fallible (at 103 span)) (when (is_nowhere target) (at 640 span) ++ when no_event (at 1006 span)) now b told part.ends first ends one
-    (reported_more (when (is_nowhere target) (at 640 span)) (when no_event (at 1006 span)) b c told first second ends (subst (λ n. IsReported (when n (at 640 span)) b c first second) none two) three))
+assigned_judged span target now b c told after part first second ends fallible nowhere no_event no_metadata is none event metadata one two three written moved =
+    let misfits = when no_event (at 1006 span) ++ when no_metadata (at 1017 span) in
+    assigned_told span target now told after part ends fallible no_event no_metadata is event metadata
+    (reported_more (when fallible (at 103 span)) (when (is_nowhere target) (at 640 span) ++ misfits) now b told part.ends first ends one
+    (reported_more (when (is_nowhere target) (at 640 span)) misfits b c told first second ends (subst (λ n. IsReported (when n (at 640 span)) b c first second) none two) three))
     written moved
 
 -- ---- behind the expression of an error assignment

@@ -1,8 +1,8 @@
 -- What stands at a path is taken out.
-use Rattle.std.proofs.Common.{◌≡◌, false, List, [], Option, Some, None, ⊎_elim, refl, sym, ap, ◌∙◌, subst, arith, ◌∷◌, length}
+use Rattle.std.proofs.Common.{◌≡◌, Bool, true, false, bytes_eq, if◌then◌else◌, List, [], Option, Some, None, ⊎_elim, refl, sym, ap, ◌∙◌, subst, arith, ◌∷◌, length}
 use Rattle.std.proofs.lemmas.Bool.{cases_lt}
 use Rattle.vrl_value.specs.Look.{Step}
-use Rattle.vrl_value.specs.Tree.{Tree}
+use Rattle.vrl_value.specs.Tree.{Tree, no_members, null, object}
 use Rattle.vrl_path.specs.declared.path.Step.{Step as CodeStep}
 use Rattle.vrl_syntax.specs.declared.root.Root.{Root}
 use Rattle.vrl_kind.specs.Canonical.{IsCanonical}
@@ -11,7 +11,7 @@ use Rattle.vrl_kind.specs.Cut.{IsCut, flat, level_limit, node_limit}
 use Rattle.vrl_kind.specs.KindTree.{KindTree}
 use Rattle.vrl_kind.specs.Kinds.{found_at, tags_at}
 use Rattle.vrl_state.specs.States.{IsWritten, RootMap}
-use Rattle.vrl_syntax.specs.Stores.{left_in}
+use Rattle.vrl_syntax.specs.Stores.{left_in, metadata_name}
 use Rattle.vrl_judge.specs.Rules.{IsDeleted}
 use Rattle.vrl_value.specs.declared.value.Tag.TheVariants as tag
 use Rattle.vrl_syntax.specs.declared.root.Root.TheVariants as root
@@ -35,9 +35,13 @@ left_over r K (Some roots) after canonical tags is =
     (is.0, record { whole = M.whole; canonical = M.canonical; tags = λ p t. M.tags p t ∙ ap (λ T. T t) (tags p); cut = M.cut }, is.2)
 
 -- what is left in a root is never absent
+either_present : (b : Bool) → found_at (if b then object no_members else null) [] tag.Absent ≡ false
+either_present true = refl
+either_present false = refl
+
 pub left_present : (r : Root) → found_at (left_in r) [] tag.Absent ≡ false
 left_present root.Event = refl
-left_present (root.Name x) = refl
+left_present (root.Name x) = either_present (bytes_eq x metadata_name)
 
 pub root_present : (r : Root) (v : Tree) (K : KindTree) → v ≡ left_in r → ((p : List Step) → tags_at K p ≡ found_at v p) → tags_at K [] tag.Absent ≡ false
 root_present r v K left tags = ap (λ T. T tag.Absent) (tags []) ∙ ap (λ u. found_at u [] tag.Absent) left ∙ left_present r

@@ -9,7 +9,7 @@ use Rattle.vrl_value.specs.declared.value.Tag.{Tag}
 use Rattle.vrl_diag.specs.declared.diagnostic.Span.{Span}
 use Rattle.vrl_diag.specs.declared.diagnostic.Diagnostic.{Diagnostic}
 use Rattle.vrl_diag.specs.Refusal.{is_error}
-use Rattle.vrl_syntax.specs.Stores.{left_in}
+use Rattle.vrl_syntax.specs.Stores.{is_metadata, left_in}
 use Rattle.vrl_syntax.specs.Tree.{Expr, expr, binary}
 use Rattle.vrl_syntax.specs.declared.root.Op.{Op}
 use Rattle.vrl_syntax.specs.declared.root.Root.{Root}
@@ -27,11 +27,13 @@ use Rattle.vrl_place.specs.Sets.{is_alone}
 use Rattle.vrl_state.specs.States.{RootMap, with_kind, IsCutOf, IsEither, IsJoined}
 use Rattle.vrl_builtin.specs.TagSets.{allows}
 use Rattle.vrl_builtin.specs.declared.tags.Tags.{Tags as TagSet}
+use Rattle.vrl_judge.specs.declared.prefix.Prefix.{Prefix}
 use Rattle.std.specs.FinMap as map
 use Rattle.vrl_value.specs.declared.value.Tag.TheVariants as tag
 use Rattle.vrl_path.specs.declared.path.Step as steps
 use Rattle.vrl_syntax.specs.declared.root.Op.TheVariants as op
 use Rattle.vrl_syntax.specs.declared.root.Root.TheVariants as root
+use Rattle.vrl_judge.specs.declared.prefix.Prefix.TheVariants as prefix
 use Rattle.vrl_place.specs.Read as places
 use Rattle.vrl_state.specs.States as states
 
@@ -313,22 +315,41 @@ abbrev pub IsTargetWritten : Target → KindTree → Option RootMap → Option R
 IsTargetWritten Nowhere K before after = after ≡ before
 IsTargetWritten (Place span root path) K before after = states.IsWritten root path K before after
 
-abbrev pub is_event : Target → Bool
-is_event (Place span root.Event []) = true
-is_event t = false
-
 abbrev pub is_nowhere : Target → Bool
 is_nowhere Nowhere = true
 is_nowhere (Place span root path) = false
 
--- the event's root is written with a kind that can't stand there: 1006
-abbrev pub is_no_event : Target → KindTree → Bool
-is_no_event target K = is_event target && not (root_tags K tag.List || root_tags K tag.Object)
+-- the root is the event, or the metadata
+abbrev pub is_prefix_of : Prefix → Root → Bool
+is_prefix_of prefix.Event root.Event = true
+is_prefix_of prefix.Event (root.Name x) = false
+is_prefix_of prefix.Metadata r = is_metadata r
+
+-- the target is the root itself
+abbrev pub is_whole : Prefix → Target → Bool
+is_whole p (Place span r []) = is_prefix_of p r
+is_whole p t = false
+
+-- the event takes an object or an array, the metadata an object
+abbrev pub takes : Prefix → KindTree → Bool
+takes prefix.Event K = root_tags K tag.List || root_tags K tag.Object
+takes prefix.Metadata K = root_tags K tag.Object
+
+-- the root itself is written with a kind that it doesn't take
+abbrev pub is_misfit : Prefix → Target → KindTree → Bool
+is_misfit p target K = is_whole p target && not (takes p K)
+
+-- of the event that is 1006, of the metadata 1017
+abbrev pub of_misfits : Span → (Prefix → Bool) → List Diagnostic
+of_misfits span misfit = when (misfit prefix.Event) (at 1006 span) ++ when (misfit prefix.Metadata) (at 1017 span)
+
+abbrev pub puts_misfit : Target → Judgement → Prefix → Bool
+puts_misfit target j p = is_known j && is_misfit p target j.kind
 
 -- `t = e`: an expression that may fail is 103, and a target that takes nothing 640
 abbrev pub of_assignment : Span → Target → Judgement → List Diagnostic
 of_assignment span target j = when (is_fallible j) (at 103 span) ++
-    (when (is_nowhere target) (at 640 span) ++ when (is_known j && is_no_event target j.kind) (at 1006 span))
+    (when (is_nowhere target) (at 640 span) ++ of_misfits span (puts_misfit target j))
 
 -- the tag of the empty value of a kind; null for a regex, for several tags and for none
 abbrev pub empty_tag : KindTree → Tag
@@ -336,14 +357,16 @@ empty_tag K = unwrap_or
     (find (λ t. is_alone (root_tags K) t)
     (tag.Text ∷ tag.Int ∷ tag.Bool ∷ tag.Object ∷ tag.List ∷ tag.Time ∷ [])) tag.Null
 
--- `ok, err = e`: an expression that can't fail is 104, and two targets that take nothing are 640.
--- What is written to `err`, a text or null, is no event; no code stands twice at one place.
+-- What is written to `ok` is of this kind; neither root takes what is written to `err`, a text or
+-- null. No code stands twice at one place.
+abbrev pub writes_misfit : Target → Target → Judgement → KindTree → Prefix → Bool
+writes_misfit ok err j value p =
+    (is_alive j.ok || is_alive j.fail) && ((not j.poisoned && is_misfit p ok value) || is_whole p err)
+
+-- `ok, err = e`: an expression that can't fail is 104, and two targets that take nothing are 640
 abbrev pub of_error_assignment : Span → Target → Target → Judgement → KindTree → List Diagnostic
-of_error_assignment span ok err j value =
-    when (is_needless j) (at 104 span) ++
-    (when (is_nowhere ok && is_nowhere err) (at 640 span) ++
-    when ((is_alive j.ok || is_alive j.fail) && ((not j.poisoned && is_no_event ok value) || is_event err))
-    (at 1006 span))
+of_error_assignment span ok err j value = when (is_needless j) (at 104 span) ++
+    (when (is_nowhere ok && is_nowhere err) (at 640 span) ++ of_misfits span (writes_misfit ok err j value))
 
 -- ---- ends
 

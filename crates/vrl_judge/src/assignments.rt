@@ -1,7 +1,7 @@
-ghost use Rattle.std.specs.Prelude.{[], false, is_some, length, not, slice_set, ◌&&◌, ◌<◌, ◌||◌, ◌≡◌, IfOk, OnOk};
+ghost use Rattle.std.specs.Prelude.{[], false, is_some, length, not, slice_set, ◌&&◌, ◌++◌, ◌<◌, ◌||◌, ◌≡◌, IfOk, OnOk};
 ghost use Rattle.vrl_judge.specs.Assigning.{AreAssigned};
 ghost use Rattle.vrl_judge.specs.Judging.{known_on, AreBothWritten, AreEnds, AreWritten, AreWrittenBeside, HasEnds, IsAssignedAs, IsMoved, IsReported, IsWay};
-ghost use Rattle.vrl_judge.specs.Rules.{is_event as is_event_itself, is_no_event as is_no_event_at, is_nowhere as takes_nothing, of_error_assignment, IsTargetWritten, Judgement};
+ghost use Rattle.vrl_judge.specs.Rules.{at, is_misfit, is_nowhere as takes_nothing, is_whole, of_error_assignment, when, IsTargetWritten, Judgement};
 ghost use Rattle.vrl_kind.specs.Canonical.{allows_absent};
 ghost use Rattle.vrl_kind.specs.Kinds.{found_at};
 ghost use Rattle.vrl_state.specs.States.{IsCutOf, IsRootKind};
@@ -11,12 +11,13 @@ ghost use Rattle.vrl_syntax.specs.Limits.{target_faults};
 use crate::checker::Checker;
 use crate::ends::Ends;
 use crate::finding::Finding;
-use crate::kinds::{cut_kind_of, either, empty_tag, may_be_event, scalar};
+use crate::kinds::{cut_kind_of, either, empty_tag, scalar};
+use crate::prefix::Prefix;
 use crate::shared_kind::SharedKind;
 use std::alloc::Global;
 use vrl_diag::{Span, code};
 use vrl_state::Branch;
-use vrl_syntax::{Root, Target, empty_value};
+use vrl_syntax::{Target, empty_value};
 use vrl_value::{Memory, Tag};
 
 impl Checker<'_> {
@@ -35,7 +36,8 @@ impl Checker<'_> {
     }
 
     /// An assignment, behind its expression: one that may fail is 103, a target that takes nothing
-    /// 640, and an event that is neither an object nor an array 1006. `Memory`: want of memory.
+    /// 640, an event that is neither an object nor an array 1006, and metadata that is no object
+    /// 1017. `Memory`: want of memory.
     pub fn assigned(
         &mut self,
         span: Span,
@@ -48,7 +50,8 @@ impl Checker<'_> {
     {
         let mut part = part;
         let fallible = part.is_fallible();
-        let no_event = self.puts_no_event(target, &part);
+        let no_event = self.puts_misfit(Prefix::Event, target, &part);
+        let no_metadata = self.puts_misfit(Prefix::Metadata, target, &part);
         self.report(
             &mut part.ends,
             fallible,
@@ -61,22 +64,34 @@ impl Checker<'_> {
             code::NO_OP_ASSIGNMENT,
             span,
         )?;
-        self.report(
-            &mut part.ends,
-            no_event,
-            code::EVENT_ASSIGNED_NO_CONTAINER,
-            span,
-        )?;
+        self.report_misfits(&mut part.ends, no_event, no_metadata, span)?;
         self.write(target, &part.kind)?;
         Ok(part)
     }
 
-    // Whether the event gets a value that can't stand there.
-    fn puts_no_event(&self, target: &Target, part: &Finding) -> bool
+    // Whether the event, or the metadata, gets a value that it doesn't take.
+    fn puts_misfit(&self, prefix: Prefix, target: &Target, part: &Finding) -> bool
         ensures { result ≡
-            (is_some self.now.state.known && not part.now.ends.poisoned && is_no_event_at target.now part.now.kind) }
+            (is_some self.now.state.known && not part.now.ends.poisoned && is_misfit prefix target.now part.now.kind) }
     {
-        self.is_known(part) && is_no_event(target, &part.kind)
+        self.is_known(part) && prefix.is_misfit(target, &part.kind)
+    }
+
+    // An event that is neither an object nor an array is 1006, and metadata that is no object 1017.
+    // `Memory`: want of memory.
+    fn report_misfits(
+        &mut self,
+        ends: &mut Ends,
+        no_event: bool,
+        no_metadata: bool,
+        span: Span,
+    ) -> Result<(), Memory>
+        ensures { OnOk result
+            (IsReported (when no_event (at 1006 span) ++ when no_metadata (at 1017 span))
+            self.old self.new ends.old ends.new) }
+    {
+        self.report(ends, no_event, code::EVENT_ASSIGNED_NO_CONTAINER, span)?;
+        self.report(ends, no_metadata, code::METADATA_ASSIGNED_NO_OBJECT, span)
     }
 
     /// An error assignment, behind its expression, with the place of its empty value: behind a
@@ -123,7 +138,7 @@ impl Checker<'_> {
     }
 
     // An expression that can't fail is 104, and two targets that take nothing are 640. An event
-    // that is neither an object nor an array is 1006, once.
+    // that is neither an object nor an array is 1006, once, and metadata that is no object 1017.
     fn error_codes(
         &mut self,
         span: Span,
@@ -136,20 +151,29 @@ impl Checker<'_> {
             → IsReported (of_error_assignment span ok.now err.now j kind.now) self.old self.new ends.old ends.new) }
     {
         let needless = ends.is_needless();
-        let no_event = self.writes_no_event(ok, err, ends, kind);
+        let no_event = self.writes_misfit(Prefix::Event, ok, err, ends, kind);
+        let no_metadata = self.writes_misfit(Prefix::Metadata, ok, err, ends, kind);
         self.report(ends, needless, code::UNNECESSARY_ERROR_ASSIGNMENT, span)?;
         self.report(ends, are_nowhere(ok, err), code::NO_OP_ASSIGNMENT, span)?;
-        self.report(ends, no_event, code::EVENT_ASSIGNED_NO_CONTAINER, span)
+        self.report_misfits(ends, no_event, no_metadata, span)
     }
 
-    // Whether the event may get a value that can't stand there, where the assignment is reached.
-    fn writes_no_event(&self, ok: &Target, err: &Target, ends: &Ends, kind: &SharedKind) -> bool
+    // Whether the event, or the metadata, may get a value that it doesn't take, where the
+    // assignment is reached.
+    fn writes_misfit(
+        &self,
+        prefix: Prefix,
+        ok: &Target,
+        err: &Target,
+        ends: &Ends,
+        kind: &SharedKind,
+    ) -> bool
         ensures { result ≡ ((is_some self.now.state.known || is_some ends.now.fail)
-            && ((not ends.now.poisoned && is_no_event_at ok.now kind.now) || is_event_itself err.now)) }
+            && ((not ends.now.poisoned && is_misfit prefix ok.now kind.now) || is_whole prefix err.now)) }
     {
         let reached = self.is_alive() || ends.fail.is_some();
-        let no_event = (!ends.poisoned && is_no_event(ok, kind)) || is_event(err);
-        reached && no_event
+        let misfit = (!ends.poisoned && prefix.is_misfit(ok, kind)) || prefix.is_whole(err);
+        reached && misfit
     }
 
     // Writes both targets behind a value, and behind an error, and joins what is known then.
@@ -244,21 +268,4 @@ fn is_nowhere(target: &Target) -> bool
     ensures { result ≡ takes_nothing target.now }
 {
     matches!(target, Target::Nowhere)
-}
-
-// Whether a target is the event itself.
-fn is_event(target: &Target) -> bool
-    ensures { result ≡ is_event_itself target.now }
-{
-    match target {
-        Target::Place(_, Root::Event, path) => path.as_slice().is_empty(),
-        _ => false,
-    }
-}
-
-// Whether a target is the event itself, and the kind neither an array nor an object.
-fn is_no_event(target: &Target, kind: &SharedKind) -> bool
-    ensures { result ≡ is_no_event_at target.now kind.now }
-{
-    is_event(target) && !may_be_event(kind)
 }

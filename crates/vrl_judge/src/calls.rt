@@ -99,6 +99,7 @@ fn left_tag(root: &Root) -> Tag
 {
     match root {
         Root::Event => Tag::Object,
+        Root::Name(_) if root.is_metadata() => Tag::Object,
         Root::Name(_) => Tag::Null,
     }
 }

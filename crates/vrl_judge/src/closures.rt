@@ -1,4 +1,4 @@
-ghost use Rattle.std.specs.Prelude.{[], bytes_eq, codes, length, ◌≢◌, ◌≡◌, All, IfOk, OnOk, Option};
+ghost use Rattle.std.specs.Prelude.{[], bytes_eq, codes, length, true, ◌≢◌, ◌≡◌, All, IfOk, IsOk, OnOk, Option};
 ghost use Rattle.vrl_builtin.specs.Containers.{object_of as objects_of};
 ghost use Rattle.vrl_judge.specs.Bodies.{AreBound, IsBound};
 ghost use Rattle.vrl_judge.specs.ChangedParts.{kept_field, kept_place, put_part, put_place, with_places, AreFieldsMade, ArePlacesMade};
@@ -7,10 +7,11 @@ ghost use Rattle.vrl_judge.specs.Judging.{HasJudged, IsInBlock, IsMoved};
 ghost use Rattle.vrl_judge.specs.Rules.{scalars_at, Judgement};
 ghost use Rattle.vrl_judge.specs.declared.checker.Checker.{Checker as SpecChecker};
 ghost use Rattle.vrl_kind.specs.KindTree.{exact};
-ghost use Rattle.vrl_kind.specs.Kinds.{rest_at, tags_at};
+ghost use Rattle.vrl_kind.specs.Kinds.{rest_at, root_tags, tags_at};
 ghost use Rattle.vrl_kind.specs.PartSets.{parts_at};
 ghost use Rattle.vrl_kind.specs.Sets.{SameSets};
 ghost use Rattle.vrl_kind.specs.View.{rest_of};
+ghost use Rattle.vrl_place.specs.Sets.{is_alone};
 ghost use Rattle.vrl_state.specs.States.{IsCutOf, IsPresent, IsRootKind, RootMap};
 ghost use Rattle.vrl_syntax.specs.Written.{exprs_write};
 
@@ -202,7 +203,8 @@ fn mapped_rest(alloc: Global, rest: &Rest, body: &Kind) -> Result<Rest, Memory>
 // Such a value in place of a part: one that is never there stays so, and one that may be absent
 // still may.
 fn mapped_part(alloc: Global, part: &Kind, body: &Kind) -> Result<Kind, Memory>
-    ensures { IfOk result (λ kind. SameSets (tags_at kind) (put_part body.now part.now)) }
+    ensures put { IfOk result (λ kind. SameSets (tags_at kind) (put_part body.now part.now)) }
+    ensures none { is_alone (root_tags part.now) Tag.Absent ≡ true → IsOk result }
 {
     if has_alone(part, Tag::Absent) {
         return Ok(Kind::of(alloc, Tag::Absent));

@@ -119,14 +119,6 @@ pub(crate) fn may_be_no_truth(kind: &SharedKind) -> bool
     TAGS.iter().any(|tag| has(kind, *tag) && !(*tag == Tag::Bool || *tag == Tag::Null))
 }
 
-// Whether the kind allows an array or an object, which an event may be.
-pub(crate) fn may_be_event(kind: &SharedKind) -> bool
-    ensures { result ≡ (root_tags kind.now tags.List || root_tags kind.now tags.Object) }
-{
-    let kind = kind.as_kind();
-    has(kind, Tag::List) || has(kind, Tag::Object)
-}
-
 // The tag of the empty value of a kind; that of null for a regex, for several tags and for none.
 pub(crate) fn empty_tag(kind: &SharedKind) -> Tag
     ensures { result ≡ tag_of_empty kind.now }

@@ -12,8 +12,8 @@
 //! gave, and `shared_kind.rt` its kind. `values.rt`, `operators.rt`, `branches.rt`,
 //! `assignments.rt`, `items.rt` and `calls.rt` make of parts that were judged what their form
 //! gives, and `closures.rt` has the steps at a closure and the kinds of its call; `tables.rt` has
-//! the pairs of tags that operators take, `kinds.rt` kinds that are cut, and `ordering.rt` the
-//! order of the codes.
+//! the pairs of tags that operators take, `kinds.rt` kinds that are cut, `prefix.rt` what may stand
+//! in the event and in the metadata, and `ordering.rt` the order of the codes.
 #![tactic(auto)]
 
 mod assignments;
@@ -27,6 +27,7 @@ mod items;
 mod kinds;
 mod operators;
 mod ordering;
+mod prefix;
 mod shared_kind;
 mod tables;
 mod values;
@@ -40,6 +41,7 @@ pub use finding::Finding;
 pub use kinds::{cut, cut_kind_of, either, read_root, scalar};
 pub use operators::Operands;
 pub use ordering::ordered;
+pub use prefix::Prefix;
 pub use shared_kind::SharedKind;
 pub use tables::{Table, is_chained};
 pub use values::{add_field, array_kind, object_kind};

@@ -5,7 +5,7 @@ use Rattle.std.specs.FinMap as map
 use Rattle.std.specs.FinSet as set
 use Rattle.vrl_kind.specs.KindCode.{kind_code}
 use Rattle.vrl_kind.specs.KindTree.{KindTree}
-use Rattle.vrl_state.specs.States.{Names, RootMap, Scope, State, Variables}
+use Rattle.vrl_state.specs.States.{NameSet, RootMap, Scope, State, Variables}
 
 abbrev pub variables_code : Coded Variables
 variables_code = map.code (coded_list coded_ℕ) kind_code
@@ -14,11 +14,11 @@ abbrev pub root_map_code : Coded RootMap
 root_map_code = code_by (KindTree × Variables) (coded× kind_code variables_code) (λ r. (r.event, r.variables))
     (λ p. record { event = p.0; variables = p.1 }) (λ _. refl)
 
-abbrev pub names_code : Coded Names
+abbrev pub names_code : Coded NameSet
 names_code = set.code (coded_list coded_ℕ)
 
 abbrev pub scope_code : Coded Scope
-scope_code = code_by (Names × Variables) (coded× names_code variables_code) (λ s. (s.known, s.hidden))
+scope_code = code_by (NameSet × Variables) (coded× names_code variables_code) (λ s. (s.known, s.hidden))
     (λ p. record { known = p.0; hidden = p.1 }) (λ _. refl)
 
 abbrev pub state_code : Coded State

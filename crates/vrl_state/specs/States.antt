@@ -15,9 +15,10 @@ use Rattle.vrl_syntax.specs.declared.root.Root.TheVariants.{Event, Name}
 use Rattle.vrl_kind.specs.Canonical.{IsCanonical, any_kind}
 use Rattle.vrl_kind.specs.Count.{nodes, levels}
 use Rattle.vrl_kind.specs.Cut.{flat, IsCut, level_limit, node_limit}
-use Rattle.vrl_kind.specs.KindTree.{KindTree}
+use Rattle.vrl_kind.specs.KindTree.{KindTree, json_rest, no_fields}
 use Rattle.vrl_kind.specs.Kinds as kinds
 use Rattle.vrl_kind.specs.Kinds.{tags_at}
+use Rattle.vrl_kind.specs.Make.{object_kind}
 use Rattle.vrl_kind.specs.Sets.{Sets, SameSets}
 use Rattle.vrl_place.specs.Remove.{remove}
 use Rattle.vrl_place.specs.Write.{write}
@@ -34,13 +35,13 @@ pub record RootMap : Type 0 where
   pub variables : Variables
 
 -- names of variables, by their bytes
-abbrev pub Names : Type 0
-Names = set.FinSet (slice_cmp nat_cmp)
+abbrev pub NameSet : Type 0
+NameSet = set.FinSet (slice_cmp nat_cmp)
 
 -- a block, or the body of a closure, that is open
 pub record Scope : Type 0 where
   -- the names of the variables that were known where it began
-  pub known : Names
+  pub known : NameSet
   -- those of them that it hides, with the kinds that they get back where it ends
   pub hidden : Variables
 
@@ -93,6 +94,10 @@ IsRootKindIf (Some K) = IsRootKind K
 pub record HasRootKinds (roots : RootMap) : Type 0 where
   pub event : IsRootKind roots.event
   pub variables : (x : List ℕ) → IsRootKindIf (map.get roots.variables x)
+
+-- objects of which nothing is known but that they are JSON
+abbrev pub json_object : KindTree
+json_object = object_kind no_fields json_rest
 
 -- ---- the state at the start of a script, whose event is of this kind
 pub record IsStart (K : KindTree) (state : State) : Type 0 where
@@ -171,7 +176,7 @@ AreScopesJoined (Some a) None ss ts us = us ≡ ss
 AreScopesJoined (Some a) (Some b) ss ts us = IsEachScopeJoined ss ts us
 
 -- the names that a scope knows, and those that it hides
-abbrev pub scope_names : Scope → Names × List (List ℕ)
+abbrev pub scope_names : Scope → NameSet × List (List ℕ)
 scope_names scope = (scope.known, map.keys scope.hidden)
 
 -- both stand in the same scopes: these know the same names and hide the same names. The hidden

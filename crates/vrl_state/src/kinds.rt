@@ -5,11 +5,14 @@ ghost use Rattle.vrl_kind.specs.Cut.{flat, IsCut};
 ghost use Rattle.vrl_kind.specs.Kinds.{tags_at, IsWithin};
 ghost use Rattle.vrl_place.specs.Remove.{remove};
 ghost use Rattle.vrl_place.specs.Write.{write};
-ghost use Rattle.vrl_state.specs.States.{IsCutOf, IsEither, IsRootKind};
+ghost use Rattle.vrl_state.specs.States.{json_object, IsCutOf, IsEither, IsRootKind};
 
 use std::alloc::Global;
 use std::rc::Rc;
-use vrl_kind::{Kind, LEVEL_LIMIT, NODE_LIMIT, flatten, join, kind_is_canonical, levels, nodes};
+use vrl_kind::{
+    Kind, LEVEL_LIMIT, NODE_LIMIT, Rest, equal_tags_are_one_kind, flatten, join, kind_is_canonical,
+    levels, nodes,
+};
 use vrl_path::Path;
 use vrl_place::{remove_kind, write_kind};
 use vrl_value::Memory;
@@ -19,6 +22,17 @@ fn share(alloc: Global, kind: Kind) -> Result<Rc<Kind>, Memory>
     ensures { IfOk result (λ shared. shared.value ≡ kind) }
 {
     Ok(Rc::new(alloc, kind)?)
+}
+
+/// The kind of an object whose fields are any of JSON: that of the metadata, and that of an event
+/// which nothing else is said of. `Memory`: want of memory.
+pub fn json_object(alloc: Global) -> Result<Kind, Memory>
+    ensures { IfOk result (λ kind. kind ≡ json_object) }
+{
+    equal_tags_are_one_kind();
+    let kind = Kind::object(alloc, Vec::new(alloc), Rest::Json)?;
+    kind_is_canonical(&kind);
+    Ok(kind)
 }
 
 // The kind of every value. `Memory`: want of memory.

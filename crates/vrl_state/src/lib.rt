@@ -25,7 +25,7 @@ mod variables;
 mod walks;
 
 pub use branch::{Branch, Mark};
-pub use kinds::cut;
+pub use kinds::{cut, json_object};
 pub use known::{Known, Knowns, RootKind, RootKinds};
 pub use laws::{
     blocks_give_nothing_back, blocks_keep_fits, blocks_keep_held_names, bodies_keep_fits,

@@ -10,8 +10,8 @@ use Rattle.vrl_check.proofs.Answering.{script_judged, AreAnswered}
 use Rattle.vrl_judge.proofs.Joining.{is_present}
 use Rattle.vrl_check.proofs.script.check.Goals as goal
 
-pub start-requires : goal.start-requires
-start-requires c = is_present c.args.start.now c.requires.present
+pub script_start-requires : goal.script_start-requires
+script_start-requires c = is_present c.args.start.now c.requires.present
 
 pub returns : goal.returns
 returns c =
@@ -24,5 +24,5 @@ returns c =
     let ret = c.into_parts-fail.ensures.ret ∙ ap (λ es. es.ret) parts.ends in
     let answered : AreAnswered after.state finding judged = record { kind = c.in_ok-kind.ensures ∙ parts.kind; ok = c.in_ok-ok.ensures; fail = c.in_ok-fail.ensures ∙ ap (λ way. unwrap_or way (outside None)) fail; ret = ret } in
     let listed = c.in_ok-loops.ensures.loops ∙ ap (λ bs. map known_as (branches_known bs)) c.deref.ensures.value in
-    script_judged c.args.start.now (exprs_of c.args.script.now.items) before after finding judged c.in_ok-state.ensures.state c.new.ensures.items c.new-2.ensures.items c.new-3.ensures.items c.in_ok-finding.ensures
+    script_judged c.args.start.now (exprs_of c.args.script.now.items) before after finding judged c.in_ok-state.ensures c.new.ensures.items c.new-2.ensures.items c.new-3.ensures.items c.in_ok-finding.ensures
     answered c.new-4.ensures listed c.in_ok-loops.ensures.roots (subst (AreOrdered after.diagnostics.items) (sym c.new-5.ensures) c.in_ok-diagnostics.ensures)

@@ -10,4 +10,4 @@ loop-place-preserved c =
     let f = put_part c.args.body.now in
     let i = c.loop-place.place-index in
     subst (ArePlacesMade f (take (i + 1) c.args.places.now)) (sym c.in_ok-push.ensures.items)
-    (all_zip_more (λ K L. SameSets (tags_at L) (f K)) c.args.places.now c.loop-place.kinds.items i c.place-item.result c.in_ok-kind.kind c.loop-place-test.true c.place-item.is c.loop-place.invariant c.in_ok-kind.ensures)
+    (all_zip_more (λ K L. SameSets (tags_at L) (f K)) c.args.places.now c.loop-place.kinds.items i c.place-item.result c.in_ok-kind.kind c.loop-place-test.true c.place-item.is c.loop-place.invariant c.in_ok-kind.ensures.put)
