@@ -79,6 +79,11 @@ begins_more {Z} keys more key is = by (list_any (string_eq key) keys) is where
   by true same = ([], ap (map string_bytes) same ∙ sym (append-nil (map string_bytes keys)))
   by false same = (string_bytes key ∷ [], ap (map string_bytes) same ∙ onto keys)
 
+-- the first name
+pub alone_named : {Z : Type 0} (keys more : List (String Z)) (key : String Z) (x : List ℕ) → keys ≡ [] → more ≡ (if list_any (string_eq key) keys then keys else keys ++ key ∷ []) → string_bytes key ≡ x → map string_bytes more ≡ x ∷ []
+alone_named keys more key x none is named =
+    ap (map string_bytes) (is ∙ ap (λ ks. if list_any (string_eq key) ks then ks else ks ++ key ∷ []) none) ∙ ap (λ k. k ∷ []) named
+
 -- ---- no name stands twice
 
 apart : {Z : Type 0} (key : String Z) (keys : List (String Z)) → AllByRecursion (λ other. string_eq key other ≡ false) keys → is_among (string_bytes key) (map string_bytes keys) ≡ false

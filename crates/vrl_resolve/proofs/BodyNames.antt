@@ -7,7 +7,7 @@ use Rattle.vrl_value.specs.Tree.{Tree, null}
 use Rattle.vrl_value.specs.declared.value.Value.{Value}
 use Rattle.vrl_syntax.specs.Stores.{Store, Values, store_back, store_kept, value_back, value_of, values_back, with_value}
 use Rattle.vrl_syntax.specs.declared.root.Root.TheVariants.{Name}
-use Rattle.vrl_store.specs.Kept.{is_one_of}
+use Rattle.vrl_store.specs.Kept.{is_held}
 use Rattle.vrl_store.specs.Outcomes.{Ended, ends}
 use Rattle.vrl_store.specs.StoreView.{count_of, hidden_tree, is_among, left_with, name_at, present_of, store_in, AreNames, IsFront, Names}
 use Rattle.vrl_store.specs.WellFormed.{IsWellFormed, IsWellFormedStore}
@@ -173,7 +173,7 @@ count_within before middle count stays counted =
 
 pub may_be_given_back : (slot : Option ℕ) (hidden : Option HiddenValue) (before : CodeStore) (numbers : List ℕ) → IsHiddenBy slot hidden before → numbers ≡ present_of before → MayBeGivenBack slot hidden numbers
 may_be_given_back None hidden before numbers is same = tt
-may_be_given_back (Some number) hidden before numbers is same = subst (λ ns. IfSome hidden (λ v. IsTrue (is_one_of number ns))) (sym same) is.1
+may_be_given_back (Some number) hidden before numbers is same = subst (λ ns. IfSome hidden (λ v. IsTrue (is_held number ns))) (sym same) is.1
 
 pub stays_again : (before middle after : CodeStore) (count : ℕ) → Stays before middle → count ≡ length (present_of before) → present_of after ≡ take count (present_of middle)
     → length after.variables.items ≡ length middle.variables.items → Stays before after

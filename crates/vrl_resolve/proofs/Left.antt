@@ -15,10 +15,11 @@ use Rattle.vrl_resolve.specs.declared.ran.Ended.TheVariants as code
 use Rattle.vrl_resolve.specs.declared.ran.Ran.{Ran}
 
 -- nothing is told of the value
-pub untold : (asked : Bool) (v : Tree) (store : Store) (ran : Ran) → asked ≡ false → IsEarly (code.Value None) store.event ran → IsValued asked v store ran
+pub untold : (asked : Bool) (v : Tree) (store : Store) (ran : Ran) → asked ≡ false → IsEarly (code.Value None) store ran → IsValued asked v store ran
 untold asked v store ran unasked is = record {
   end = subst (λ c. IsEnd asked (ended v) store c) (sym is.ended) unasked;
   event = is.event;
+  metadata = is.metadata;
   told = subst AreToldIn (sym is.ended) tt;
 }
 
@@ -31,9 +32,9 @@ any_value v w store (code.Banged text) is = absurd is
 any_value v w store code.Deep is = absurd is
 
 pub value_left : (asked : Bool) (m : Ended) (v : Value) (store : Store) (ran : Ran) → IsValued asked (tree_of v) store ran → EndsAsked asked m store (Ok v) → IsRan asked m ran
-value_left true m v store ran is came = subst (λ e. IsRan true e ran) (sym came) (record { end = is.end; event = is.event })
+value_left true m v store ran is came = subst (λ e. IsRan true e ran) (sym came) (record { end = is.end; event = is.event; metadata = is.metadata })
 value_left false m v store ran is came =
-    subst (λ e. IsRan false e ran) (sym came.1) (record { end = any_value (tree_of v) came.0 store ran.ended is.end; event = is.event })
+    subst (λ e. IsRan false e ran) (sym came.1) (record { end = any_value (tree_of v) came.0 store ran.ended is.end; event = is.event; metadata = is.metadata })
 
 pub returned_left : (asked : Bool) (m : Ended) (v : Tree) (store : Store) (ran : Ran) → IsValued asked v store ran → m ≡ ends (returned v) store → IsRan asked m ran
-returned_left asked m v store ran is came = subst (λ e. IsRan asked e ran) (sym came) (record { end = is.end; event = is.event })
+returned_left asked m v store ran is came = subst (λ e. IsRan asked e ran) (sym came) (record { end = is.end; event = is.event; metadata = is.metadata })

@@ -1,14 +1,13 @@
 -- A run starts with a well-formed store, and what it leaves is well-formed.
-use Rattle.std.proofs.Common.{◌≡◌, Bool, ℕ, List, Option, Some, None, IsTrue, sym, subst}
+use Rattle.std.proofs.Common.{◌≡◌, Bool, ℕ, List, Option, Some, None, sym, subst}
 use Rattle.std.specs.Cmp.Lexicographic.{slice_cmp}
 use Rattle.std.specs.FinMap as finite
 use Rattle.std.specs.Ordering.{nat_cmp}
 use Rattle.std.specs.Prelude.{IfOk, IfSome}
 use Rattle.std.specs.declared.result.Result.{Result}
 use Rattle.std.specs.declared.result.Result.TheVariants.{Ok, Err}
-use Rattle.vrl_value.specs.Regexes.{regexes_below}
-use Rattle.vrl_value.specs.Tree.{Tree, IsOrdered}
-use Rattle.vrl_syntax.specs.Stores.{Store, store_of}
+use Rattle.vrl_value.specs.Tree.{Tree}
+use Rattle.vrl_syntax.specs.Stores.{Store, metadata, metadata_name, store_of}
 use Rattle.vrl_value.specs.declared.memory.Memory.{Memory}
 use Rattle.vrl_store.specs.Outcomes.{Ended, Outcome, value, error, aborted, returned, banged, deep}
 use Rattle.vrl_store.specs.WellFormed.{IsWellFormed, IsWellFormedEnded, IsWellFormedOutcome, IsWellFormedStore}
@@ -19,12 +18,14 @@ use Rattle.vrl_resolve.specs.declared.ran.Ended.{Ended as CodeEnded}
 use Rattle.vrl_resolve.specs.declared.ran.Ended.TheVariants as code
 use Rattle.vrl_resolve.specs.declared.ran.Produced.{Produced}
 use Rattle.vrl_resolve.specs.declared.ran.Ran.{Ran}
+use Rattle.vrl_resolve.proofs.WellFormedEnds.{with_value_is}
 
-pub start_is : (count : ℕ) (event : Tree) (store : Store) → store ≡ store_of event → IsOrdered event → IsTrue (regexes_below count event) → IsWellFormedStore count store
-start_is count event store is ordered below = subst (IsWellFormedStore count) (sym is) (record {
-  event = record { ordered = ordered; below = below };
-  variables = λ x. subst (λ found. IfSome found (IsWellFormed count)) (sym (finite.get-empty (slice_cmp nat_cmp) x)) tt;
-})
+pub start_is : (count : ℕ) (event beside : Tree) (store : Store) → store ≡ store_of event beside → IsWellFormed count event → IsWellFormed count beside → IsWellFormedStore count store
+start_is count event beside store is event_is beside_is =
+    subst (IsWellFormedStore count) (sym is) (with_value_is count metadata beside (record { event = event; variables = finite.empty }) beside_is (record {
+      event = event_is;
+      variables = λ x. subst (λ found. IfSome found (IsWellFormed count)) (sym (finite.get-empty (slice_cmp nat_cmp) x)) tt;
+    }))
 
 given_is : (count : ℕ) (asked : Bool) (v : Tree) (store : Store) (given : Option Produced) → IsProduced asked v store given → AreToldIn (code.Value given) → IsWellFormed count v → IsWellFormedStore count store → IsWellFormedEnd count (code.Value given)
 given_is count asked v store (Some given) is told well formed =
@@ -44,6 +45,7 @@ run_is : (count : ℕ) (asked : Bool) (meant : Ended) (ran : Ran) → IsRan aske
 run_is count asked meant ran is told well = record {
   end = end_is count asked meant.outcome meant.store ran.ended is.end told well.0 well.1;
   event = subst (IsWellFormed count) (sym is.event) well.1.event;
+  metadata = subst (λ found. IfSome found (IsWellFormed count)) is.metadata (well.1.variables metadata_name);
 }
 
 -- what is left of a run, told of each meaning that it has

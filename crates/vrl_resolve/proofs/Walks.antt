@@ -42,7 +42,7 @@ stays_then s t u first second = record {
 }
 
 pub names_after : (names : Names) (s t : CodeStore) → AreNames names s → Stays s t → AreNames names t
-names_after names s t are stays = record { as_many = stays.as_many ∙ are.as_many; distinct = are.distinct }
+names_after names s t are stays = record { as_many = stays.as_many ∙ are.as_many; distinct = are.distinct; first = are.first }
 
 -- a root that is known is one that the store has
 pub known_base : (x : Context) (s : CodeStore) (b : Base) → AreNames (names_in x) s → IsKnown (length (names_in x)) b → IsKnown (count_of s) b

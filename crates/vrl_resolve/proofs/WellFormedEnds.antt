@@ -14,7 +14,7 @@ use Rattle.vrl_value.specs.declared.value.Tag.{Tag}
 use Rattle.vrl_value.specs.declared.value.Tag.TheVariants as tag
 use Rattle.vrl_path.specs.declared.path.Step.{Step}
 use Rattle.vrl_syntax.specs.ErrorAssignments.{empty_value}
-use Rattle.vrl_syntax.specs.Stores.{Store, Values, bound_to, store_back, store_kept, value_back, value_of, values_back, with_value}
+use Rattle.vrl_syntax.specs.Stores.{Store, Values, bound_to, left_in, metadata_name, store_back, store_kept, value_back, value_of, values_back, with_value}
 use Rattle.vrl_syntax.specs.declared.root.Op.{Op}
 use Rattle.vrl_syntax.specs.declared.root.Op.TheVariants as op
 use Rattle.vrl_syntax.specs.declared.root.Root.{Root}
@@ -157,9 +157,16 @@ without : (laws : Laws) (count : ℕ) (root : Root) (path : List Step) (v : Opti
 without laws count root path None store there is = is
 without laws count root path (Some v) store there is = with_value_is count root _ store (remove_is laws count path v there) is
 
+object_or_null : (count : ℕ) (b : Bool) → IsWellFormed count (if b then object no_members else null)
+object_or_null count true = no_members_is count
+object_or_null count false = null_is count
+
+left_is : (count : ℕ) (root : Root) → IsWellFormed count (left_in root)
+left_is count Event = no_members_is count
+left_is count (Name x) = object_or_null count (bytes_eq x metadata_name)
+
 pub removed_is : (laws : Laws) (count : ℕ) (root : Root) (path : List Step) (store : Store) → IsWellFormedStore count store → IsWellFormedStore count (removed root path store)
-removed_is laws count Event [] store is = with_value_is count Event _ store (no_members_is count) is
-removed_is laws count (Name x) [] store is = with_value_is count (Name x) _ store (null_is count) is
+removed_is laws count root [] store is = with_value_is count root (left_in root) store (left_is count root) is
 removed_is laws count root (s ∷ path) store is = without laws count root (s ∷ path) (value_of root store) store (root_is count root store is) is
 
 -- ---- what follows

@@ -1,13 +1,14 @@
 -- The loops over a collection: what the run for a part binds, and what is made of the parts that
 -- are left, behind what was made so far.
 use Rattle.std.specs.Prelude.{◌≡◌, ℕ, Bool, true, false, List, [], ◌∷◌, ◌++◌, Option, Some, None, option_map, IfSome, IsTrue, ⊤}
-use Rattle.vrl_value.specs.Tree.{Tree, null, array as items, object as members, Items, item, Members, member, put_all}
+use Rattle.vrl_value.specs.Tree.{Tree, null, string as text, array as items, object as members, Items, item, Members, member, put_all}
 use Rattle.vrl_value.specs.View.{items_of_trees, members_of, tree_of}
 use Rattle.vrl_value.specs.declared.value.Value.{Value}
 use Rattle.vrl_syntax.specs.Calls.{for_names}
 use Rattle.vrl_syntax.specs.Stores.{Store, value_of, with_value}
 use Rattle.vrl_syntax.specs.declared.root.Root.TheVariants.{Name}
-use Rattle.vrl_store.specs.Kept.{is_one_of}
+use Rattle.vrl_store.specs.Kept.{is_held}
+use Rattle.vrl_store.specs.Operators.{is_true}
 use Rattle.vrl_store.specs.Outcomes.{Outcome, value, error}
 use Rattle.vrl_store.specs.StoreView.{hidden_tree, name_at, present_of, store_in, AreNames, Names}
 use Rattle.vrl_store.specs.declared.hidden_value.HiddenValue.{HiddenValue}
@@ -58,12 +59,12 @@ IsHiddenBy None hidden before = ⊤
 IsHiddenBy (Some number) hidden before =
     ((names : Names) → AreNames names before
     → option_map hidden_tree hidden ≡ value_of (Name (name_at names number)) (store_in names before))
-    × IfSome hidden (λ v. IsTrue (is_one_of number (present_of before)))
+    × IfSome hidden (λ v. IsTrue (is_held number (present_of before)))
 
 -- a value that is given back is that of a variable that is there
 abbrev pub MayBeGivenBack : Option ℕ → Option HiddenValue → List ℕ → Type 0
 MayBeGivenBack None hidden numbers = ⊤
-MayBeGivenBack (Some number) hidden numbers = IfSome hidden (λ v. IsTrue (is_one_of number numbers))
+MayBeGivenBack (Some number) hidden numbers = IfSome hidden (λ v. IsTrue (is_held number numbers))
 
 abbrev pub given_back : Names → Option ℕ → Option Tree → Store → Store
 given_back names None hidden store = store
@@ -105,6 +106,13 @@ abbrev pub TakesItem : Loop → List Tree → List Tree → Option Value → Tre
 TakesItem f before after kept r = (t : Tree) → IsItemHeld f t kept → (ts : Items) (rs : List Tree)
     → made_items f after ts rs ≡ made_items f before (item t ts) (r ∷ rs)
 
+-- what the run for an item gave, or the item, is put behind the others
+abbrev pub adds_item : Loop → Tree → Bool
+adds_item (loops.ForEach key v) r = false
+adds_item (loops.Filter key v) r = is_true r
+adds_item (loops.MapValues v) r = true
+adds_item (loops.MapKeys key) r = false
+
 -- ---- objects
 
 abbrev pub made_fields : Loop → Bool → Members → Members → List Tree → Outcome
@@ -136,3 +144,15 @@ TakesField before after kept r = (f : Loop) (k : List ℕ) (t : Tree) → IsFiel
 abbrev pub TakesName : MadeFields → MadeFields → Tree → Tree → Type 0
 TakesName before after r t = (key : Option ℕ) (k : List ℕ) (ms : Members) (rs : List Tree)
     → made_in (loops.MapKeys key) after ms rs ≡ made_in (loops.MapKeys key) before (member k t ms) (r ∷ rs)
+
+-- only a text names a field
+abbrev pub is_name : Tree → Bool
+is_name (text k) = true
+is_name r = false
+
+-- a field is put among the others
+abbrev pub adds_field : Held → Tree → Bool
+adds_field held.Nothing r = false
+adds_field (held.Field k v) r = is_true r
+adds_field (held.Name k) r = true
+adds_field (held.Part v) r = is_name r

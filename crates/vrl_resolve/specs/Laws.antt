@@ -14,10 +14,10 @@ use Rattle.vrl_resolve.specs.Linked.{Arms, Else, Linked, Pairs, Parts}
 use Rattle.vrl_resolve.specs.LinkedMeaning.{all_mean, arms_mean, body_means, else_means, items_mean, means, pairs_mean}
 use Rattle.vrl_resolve.specs.Meaning.{eval, eval_body, eval_items, run_script}
 
--- a script without items gives null, and leaves the event as it is
+-- a script without items gives null, and leaves the event and the metadata as they are
 abbrev pub EmptyScriptsGiveNull : Type 0
-EmptyScriptsGiveNull = (setting : SettingTree) (tags : List Tag) (event : Tree)
-    → run_script setting tags no_exprs event ≡ ends (value null) (store_of event)
+EmptyScriptsGiveNull = (setting : SettingTree) (tags : List Tag) (event beside : Tree)
+    → run_script setting tags no_exprs event beside ≡ ends (value null) (store_of event beside)
 
 -- a run of a closure's body ends well-formed where the values that it is given and the store are
 abbrev pub KeepsWellFormed : ℕ → Body → Type 0

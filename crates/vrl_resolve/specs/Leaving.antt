@@ -5,7 +5,8 @@ use Rattle.std.specs.declared.result.Result.TheVariants.{Ok, Err}
 use Rattle.vrl_value.specs.Tree.{Tree}
 use Rattle.vrl_value.specs.View.{members_of, tree_of}
 use Rattle.vrl_value.specs.declared.value.Value.{Value}
-use Rattle.vrl_syntax.specs.Stores.{Store}
+use Rattle.vrl_syntax.specs.Stores as stores
+use Rattle.vrl_syntax.specs.Stores.{Store, value_of}
 use Rattle.vrl_store.specs.Told.{AreToldByMap}
 use Rattle.vrl_store.specs.declared.stop.Stop.{Stop}
 use Rattle.vrl_store.specs.declared.stop.Stop.TheVariants as stop
@@ -27,12 +28,14 @@ AreTold ran = AreToldIn ran.ended
 pub record IsValued (asked : Bool) (v : Tree) (store : Store) (ran : Ran) : Type 0 where
   pub end : IsEnd asked (ended v) store ran.ended
   pub event : tree_of ran.event ≡ store.event
+  pub metadata : value_of stores.metadata store ≡ Some (tree_of ran.metadata)
   pub told : AreTold ran
 
--- so, and with this event
-pub record IsEarly (end : Ended) (left : Tree) (ran : Ran) : Type 0 where
+-- so, and with what this store has
+pub record IsEarly (end : Ended) (store : Store) (ran : Ran) : Type 0 where
   pub ended : ran.ended ≡ end
-  pub event : tree_of ran.event ≡ left
+  pub event : tree_of ran.event ≡ store.event
+  pub metadata : value_of stores.metadata store ≡ Some (tree_of ran.metadata)
 
 -- with no error that is left unhandled
 abbrev pub IsHandledStop : Stop → Type 0

@@ -161,9 +161,9 @@ end_of (returned v) = ended v
 end_of (banged text) = ended_banged text
 end_of deep = ended_deep
 
--- how the items of a script end over an event
-abbrev pub run_script : SettingTree → List Tag → Exprs → Tree → Ended
-run_script setting tags es event = eval_items setting tags null es (store_of event)
+-- how the items of a script end over an event with its metadata beside it
+abbrev pub run_script : SettingTree → List Tag → Exprs → Tree → Tree → Ended
+run_script setting tags es event beside = eval_items setting tags null es (store_of event beside)
 
 abbrev pub IsUnhandled : Outcome → Type 0
 IsUnhandled (error text) = Unit {0}

@@ -2,7 +2,7 @@
 --
 -- No two proofs of it differ, as is shown here part by part: so a program may hold one.
 use Rattle.std.specs.Prelude.{ℕ, Bool, true, false, List, [], ◌∷◌, length, All, Option, Some, None, IsTrue, pos, negsuc}
-use Rattle.std.specs.Coded.{coded_bool, le_prop, ×_prop, Coded-set, Unit-prop}
+use Rattle.std.specs.Coded.{coded_bool, coded_list, coded_option, coded_ℕ, le_prop, ×_prop, Coded-set, Unit-prop}
 use Rattle.std.specs.Ordering.{Ordering-set}
 use Rattle.vrl_value.specs.Tree.{Tree, string, integer, boolean, null, timestamp, regex, array as items, object as fields, Items, no_items, item, Members, no_members, member, IsBefore, IsOrdered, ItemsAreOrdered, MembersAreOrdered}
 use Rattle.vrl_path.specs.Steps.{IsPlainStep, IsWritableStep}
@@ -11,7 +11,7 @@ use Rattle.vrl_path.specs.declared.path.Step.TheVariants.{Field, Place as Index}
 use Rattle.vrl_builtin.specs.Conditions.{IsThere}
 use Rattle.vrl_builtin.specs.Rows.{ParameterRow}
 use Rattle.vrl_table.specs.Table.{row_of}
-use Rattle.vrl_store.specs.StoreView.{is_among, AreDistinct, IsKnown, Names}
+use Rattle.vrl_store.specs.StoreView.{is_among, AreDistinct, BeginWithMetadata, IsKnown, Names}
 use Rattle.vrl_store.specs.WellFormed.{IsWellFormed}
 use Rattle.vrl_store.specs.declared.target_path.Base.{Base}
 use Rattle.vrl_store.specs.declared.target_path.Base.TheVariants as base
@@ -22,9 +22,11 @@ use Rattle.vrl_resolve.specs.LinkedMeaning.{slots_in}
 use Rattle.vrl_resolve.specs.declared.node.Callee.{Callee}
 use Rattle.vrl_resolve.specs.declared.node.Callee.TheVariants as callee
 
--- no name of a variable stands twice, and the items fit so many variables and regexes
+-- no name of a variable stands twice, that of the metadata is the first, and the items fit so many
+-- variables and regexes
 pub record IsReady (names : Names) (items : Parts) (sources : ℕ) : Type 0 where
   pub distinct : AreDistinct names
+  pub first : BeginWithMetadata names
   pub fits : AllFit (length names) sources items
 
 -- ---- that there is one proof
@@ -174,6 +176,7 @@ mutual
 pub ready-prop : (names : Names) (items : Parts) (sources : ℕ) → IsProp (IsReady names items sources)
 ready-prop names ns sources x y = λ i. record {
   distinct = distinct-prop names x.distinct y.distinct i;
+  first = Coded-set (coded_option (coded_list coded_ℕ)) _ _ x.first y.first i;
   fits = all_fit-prop
       (length names) sources ns x.fits y.fits i;
 }

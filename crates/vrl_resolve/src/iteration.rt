@@ -1,4 +1,4 @@
-ghost use Rattle.std.specs.Prelude.{◌≡◌, ◌≤◌, ◌<◌, ◌^◌, ◌++◌, ◌∷◌, [], codes, length, map, option_map, pos, take, true, if◌then◌else◌, IfOk, OnOk};
+ghost use Rattle.std.specs.Prelude.{◌≡◌, ◌≢◌, ◌≤◌, ◌<◌, ◌^◌, ◌++◌, ◌∷◌, [], codes, false, length, map, option_map, pos, take, true, if◌then◌else◌, IfOk, IsOk, OnOk};
 ghost use Rattle.vrl_value.specs.Look.{item_at};
 ghost use Rattle.vrl_value.specs.Tree.{array, integer, no_items, no_members, put, string, Tree};
 ghost use Rattle.vrl_value.specs.View.{items_of, items_of_trees, items_view, members_of, tree_of};
@@ -8,7 +8,7 @@ ghost use Rattle.vrl_store.specs.Results.{Gives};
 ghost use Rattle.vrl_store.specs.StoreView.{count_of, hidden_tree, left_with, present_of, store_in, AreNames, IsFront, Names};
 ghost use Rattle.vrl_resolve.specs.Calls.{argument_text};
 ghost use Rattle.vrl_resolve.specs.Fits.{IsKnownSlot};
-ghost use Rattle.vrl_resolve.specs.Iterating.{bound_slot, given_back, is_body_asked, made_in, made_items, Binds, IsFieldHeld, IsHiddenBy, IsItemHeld, MayBeGivenBack, TakesField, TakesItem, TakesName, takes_arrays};
+ghost use Rattle.vrl_resolve.specs.Iterating.{adds_field, adds_item, bound_slot, given_back, is_body_asked, is_name, made_in, made_items, Binds, IsFieldHeld, IsHiddenBy, IsItemHeld, MayBeGivenBack, TakesField, TakesItem, TakesName, takes_arrays};
 ghost use Rattle.vrl_resolve.specs.LinkedMeaning.{form_in};
 
 use crate::calls::{argument_text, within_limit};
@@ -207,8 +207,9 @@ pub(crate) fn push_item(
     held: Option<Value>,
     given: Value,
 ) -> Result<(), Memory>
-    ensures { OnOk result
+    ensures taken { OnOk result
         (TakesItem function (map tree_of made.old.items) (map tree_of made.new.items) held (tree_of given)) }
+    ensures none { adds_item function (tree_of given) ≡ false → IsOk result }
 {
     match function {
         Loop::ForEach(_, _) => Ok(()),
@@ -223,10 +224,11 @@ pub(crate) fn push_item(
 
 // Puts an item behind others, where it is kept. `Memory`: want of memory.
 fn push_kept(made: &mut Vec<Value>, held: Option<Value>, is_kept: bool) -> Result<(), Memory>
-    ensures { OnOk result
+    ensures kept { OnOk result
         ((t : Tree) → option_map tree_of held ≡ Some t
         → map tree_of made.new.items ≡
         (if is_kept then map tree_of made.old.items ++ t ∷ [] else map tree_of made.old.items)) }
+    ensures none { is_kept ≡ false → IsOk result }
 {
     if let Some(item) = held {
         if is_kept {
@@ -238,7 +240,8 @@ fn push_kept(made: &mut Vec<Value>, held: Option<Value>, is_kept: bool) -> Resul
 
 /// What is made of the items of an array in the end. `Deep`: it is nested too deeply.
 pub(crate) fn finish_items(function: Loop, made: Vec<Value>) -> Result<Value, Stop>
-    ensures { Gives (made_items function (map tree_of made.items) no_items []) result }
+    ensures gives { Gives (made_items function (map tree_of made.items) no_items []) result }
+    ensures no_want { result ≢ Err Stop.Memory }
 {
     match function {
         Loop::ForEach(_, _) => Ok(Value::Null),
@@ -297,7 +300,8 @@ pub(crate) fn no_fields(alloc: Global) -> MadeFields
 
 /// Takes the value that the run for a field gave. `Memory`: want of memory.
 pub(crate) fn put_field(made: &mut MadeFields, held: Held, given: Value) -> Result<(), Memory>
-    ensures { OnOk result (TakesField made.old made.new held (tree_of given)) }
+    ensures taken { OnOk result (TakesField made.old made.new held (tree_of given)) }
+    ensures none { adds_field held (tree_of given) ≡ false → IsOk result }
 {
     match held {
         Held::Nothing => Ok(()),
@@ -309,9 +313,10 @@ pub(crate) fn put_field(made: &mut MadeFields, held: Held, given: Value) -> Resu
 
 // Puts a field among others, where it is kept. `Memory`: want of memory.
 fn put_kept(fields: &mut Fields, name: Chars, part: Value, is_kept: bool) -> Result<(), Memory>
-    ensures { OnOk result
+    ensures kept { OnOk result
         (members_of fields.new ≡
         (if is_kept then put name (tree_of part) (members_of fields.old) else members_of fields.old)) }
+    ensures none { is_kept ≡ false → IsOk result }
 {
     if is_kept {
         fields.insert(name, part)?;
@@ -321,7 +326,8 @@ fn put_kept(fields: &mut Fields, name: Chars, part: Value, is_kept: bool) -> Res
 
 // Puts a value at a new name, where that is a text. `Memory`: want of memory.
 fn put_renamed(made: &mut MadeFields, name: Value, part: Value) -> Result<(), Memory>
-    ensures { OnOk result (TakesName made.old made.new (tree_of name) (tree_of part)) }
+    ensures taken { OnOk result (TakesName made.old made.new (tree_of name) (tree_of part)) }
+    ensures none { is_name (tree_of name) ≡ false → IsOk result }
 {
     match name {
         Value::Text(name) => made.fields.insert(name, part),
@@ -335,7 +341,8 @@ fn put_renamed(made: &mut MadeFields, name: Value, part: Value) -> Result<(), Me
 /// What is made of the fields of an object in the end. `Deep`: it is nested too deeply; `Error`: a
 /// new name is no text.
 pub(crate) fn finish_fields(alloc: Global, function: Loop, made: MadeFields) -> Result<Value, Stop>
-    ensures { Gives (made_in function made no_members []) result }
+    ensures gives { Gives (made_in function made no_members []) result }
+    ensures no_want { result ≢ Err Stop.Memory }
 {
     let MadeFields { fields, are_named } = made;
     match function {

@@ -4,8 +4,8 @@ use vrl_kind::any_holds_all;
 use vrl_table::functions_keep_law;
 use vrl_value::{regexes_stay_below, trees_stay_in_order};
 
-/// A script without items gives null, and leaves the event as it is. This takes no time: it is a
-/// law about the definitions.
+/// A script without items gives null, and leaves the event and the metadata as they are. This
+/// takes no time: it is a law about the definitions.
 pub fn empty_scripts_give_null()
     ensures { EmptyScriptsGiveNull }
 {}

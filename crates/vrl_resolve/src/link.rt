@@ -1,5 +1,6 @@
-ghost use Rattle.std.specs.Prelude.{◌≡◌, [], map, option_map, IfOk, OnOk, ⊤};
+ghost use Rattle.std.specs.Prelude.{◌≡◌, [], ◌∷◌, map, option_map, IfOk, OnOk, ⊤};
 ghost use Rattle.vrl_syntax.specs.ErrorAssignments.{first_tag, in_args, in_arms, in_closure, in_else, in_expr, in_exprs, other_tags};
+ghost use Rattle.vrl_syntax.specs.Stores.{metadata_name};
 ghost use Rattle.vrl_syntax.specs.Tree.{abort_with, array, assign, binary, block, both, conditional, literal, merge, negation, object, query, read, return_of};
 ghost use Rattle.vrl_syntax.specs.View.{arg_of, args_of, arms_of, call_of, closure_in, closure_of, else_of, expr_of, exprs_of, message_of, pairs_of};
 ghost use Rattle.vrl_syntax.specs.declared.root.Root.TheVariants.{Name};
@@ -16,7 +17,7 @@ use vrl_path::Path;
 use vrl_store::{Base, EmptyTags, TargetPath};
 use vrl_syntax::{
     Arg, Args, Arm as SyntaxArm, Arms, Call as SyntaxCall, Closure, Expr, Exprs,
-    Form as SyntaxForm, Op, Pairs, Root, Target,
+    Form as SyntaxForm, METADATA, Op, Pairs, Root, Target,
 };
 use vrl_value::{Chars, Memory, Names, Tag, Value};
 
@@ -30,16 +31,18 @@ pub(crate) struct Linker<'a> {
 }
 
 impl<'a> Linker<'a> {
-    /// One that knows no name yet.
-    pub(crate) fn new(alloc: Global, tags: &'a [Tag]) -> Linker<'a>
-        ensures names { names_in result ≡ [] }
-        ensures tags { result.tags.left.now ≡ tags.now }
+    /// One that knows the name of the metadata alone. `Memory`: out of memory.
+    pub(crate) fn new(alloc: Global, tags: &'a [Tag]) -> Result<Linker<'a>, Memory>
+        ensures names { IfOk result (λ linker. names_in linker ≡ metadata_name ∷ []) }
+        ensures tags { IfOk result (λ linker. linker.tags.left.now ≡ tags.now) }
     {
-        Linker {
+        let mut names = IndexSet::new(alloc);
+        names.insert_full(String::from_str(alloc, METADATA)?)?;
+        Ok(Linker {
             alloc,
-            names: IndexSet::new(alloc),
+            names,
             tags: EmptyTags { left: tags },
-        }
+        })
     }
 }
 
@@ -97,7 +100,8 @@ impl Linker<'_> {
 
     // A path from a root. `Memory`: want of memory.
     pub(crate) fn target_path(&mut self, root: &Root, path: Path) -> Result<TargetPath, Memory>
-        ensures { IfOk result (λ target. Numbers self.old self.new (λ names. IsTargetPathOf names root.now path target)) }
+        ensures { IfOk result
+            (λ target. Numbers self.old self.new (λ names. IsTargetPathOf names root.now path target)) }
     {
         let base = self.base(root)?;
         Ok(TargetPath { base, path })

@@ -28,7 +28,7 @@ impl Program {
         ensures { IfOk result
             (λ program. program_of program ≡ script_program (exprs_of script.items) empties.now patterns) }
     {
-        let mut linker = Linker::new(alloc, empties.as_slice());
+        let mut linker = Linker::new(alloc, empties.as_slice())?;
         let Script { items, patterns: _ } = script;
         let items = linker.items(items)?;
         let names = linker.into_names()?;

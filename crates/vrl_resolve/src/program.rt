@@ -10,7 +10,7 @@ use vrl_value::Names;
 #[derive(Drop)]
 pub struct Program {
     pub(crate) items: Vec<Node>,
-    // The variables, in the order of their numbers.
+    // The variables, in the order of their numbers, with the metadata first.
     pub(crate) names: Names,
     pub(crate) patterns: Patterns,
     ghost ready: { IsReady names (parts_view items.items) (length patterns) } by { ready-prop names

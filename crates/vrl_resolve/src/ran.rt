@@ -18,7 +18,7 @@ pub enum Ended {
 pub struct Produced {
     /// The value of its last item, or of a `return`.
     pub value: Value,
-    /// The variables that were there at its end.
+    /// The variables that were there at its end, the metadata among them.
     pub variables: Fields,
 }
 
@@ -29,4 +29,6 @@ pub struct Ran {
     pub ended: Ended,
     /// The event as it left it.
     pub event: Value,
+    /// The metadata as it left it.
+    pub metadata: Value,
 }

@@ -4,8 +4,9 @@ ghost use Rattle.vrl_value.specs.Tree.{IsOrdered};
 ghost use Rattle.vrl_value.specs.View.{tree_of};
 ghost use Rattle.vrl_store.specs.Kept.{IsShallow};
 ghost use Rattle.vrl_store.specs.Outcomes as meaning;
-ghost use Rattle.vrl_store.specs.StoreView.{event_of, store_in, AreNames};
+ghost use Rattle.vrl_store.specs.StoreView.{store_in, AreNames, Names as VariableNames};
 ghost use Rattle.vrl_store.specs.Results.{Stops};
+ghost use Rattle.vrl_store.specs.WellFormed.{IsWellFormed};
 ghost use Rattle.vrl_resolve.specs.Leaving.{AreTold, IsEarly, IsHandled, IsHandledStop, IsValued, MayWant, MayWantAt};
 ghost use Rattle.vrl_resolve.specs.Meaning.{IsUnhandled};
 ghost use Rattle.vrl_resolve.specs.Program.{ended_over, program_of, IsRan, IsWellFormedRan};
@@ -33,48 +34,74 @@ impl Program {
     }
 }
 
-/// Runs a program over an event, at a moment, from which it ends with no error that it doesn't
-/// handle. The value and the variables that it gives are gathered only where they are asked for,
-/// since this takes time and memory. Each regex in the event is one of the program's, and
-/// `searches` are [`Program::searches`]. `Memory`: out of memory; the event is gone then.
+/// Runs a program over an event with its metadata, at a moment, from which it ends with no error
+/// that it doesn't handle. The value and the variables that it gives are gathered only where they
+/// are asked for, since this takes time and memory. Each regex in the event and in the metadata is
+/// one of the program's, and `searches` are [`Program::searches`]. `Memory`: out of memory; the
+/// event and the metadata are gone then.
 pub fn run(
     alloc: Global,
     program: &Program,
     searches: &Searches<'_>,
     event: Value,
+    metadata: Value,
     moment: Moment,
     is_asked: bool,
 ) -> Result<Ran, Memory>
     requires searches { searches.now ≡ (program_of program.now).sources }
-    requires handled { ¬ IsUnhandled (ended_over (program_of program.now) moment (tree_of event)).outcome }
+    requires handled { ¬ IsUnhandled
+        (ended_over (program_of program.now) moment (tree_of event) (tree_of metadata)).outcome }
     requires event { IsTrue (regexes_below (length (program_of program.now).sources) (tree_of event)) }
-    ensures ran { IfOk result (IsRan is_asked (ended_over (program_of program.now) moment (tree_of event))) }
+    requires metadata { IsTrue (regexes_below (length (program_of program.now).sources) (tree_of metadata)) }
+    ensures ran { IfOk result
+        (IsRan is_asked (ended_over (program_of program.now) moment (tree_of event) (tree_of metadata))) }
     ensures below { IfOk result (IsWellFormedRan (length (program_of program.now).sources)) }
 {
-    let is_shallow = event.depth() <= DEPTH_LIMIT;
+    let are_shallow = are_within(&event, &metadata);
     run_measured(
-        alloc, program, searches, event, is_shallow, moment, is_asked,
+        alloc,
+        program,
+        searches,
+        event,
+        metadata,
+        are_shallow,
+        moment,
+        is_asked,
     )
 }
 
-/// As [`run`], over an event whose members are known to be in order, and which is known to be
-/// nested at most 128 deep where the flag says so. It isn't walked to find this out.
+// Whether both are nested at most 128 deep. What is in memory is in order.
+fn are_within(event: &Value, metadata: &Value) -> bool
+    ensures shallow { IsTrue result → IsShallow (tree_of event.now) × IsShallow (tree_of metadata.now) }
+    ensures ordered { IsOrdered (tree_of event.now) × IsOrdered (tree_of metadata.now) }
+{
+    let is_first_within = event.depth() <= DEPTH_LIMIT;
+    let is_second_within = metadata.depth() <= DEPTH_LIMIT;
+    is_first_within && is_second_within
+}
+
+/// As [`run`], over an event and metadata whose members are known to be in order, and which are
+/// known to be nested at most 128 deep where the flag says so. They aren't walked to find this
+/// out.
 #[tactic(auto, unfolding(crate::specs::Program::program_of))]
 pub fn run_measured(
     alloc: Global,
     program: &Program,
     searches: &Searches<'_>,
     event: Value,
-    is_shallow: bool,
+    metadata: Value,
+    are_shallow: bool,
     moment: Moment,
     is_asked: bool,
 ) -> Result<Ran, Memory>
     requires searches { searches.now ≡ (program_of program.now).sources }
-    requires handled { ¬ IsUnhandled (ended_over (program_of program.now) moment (tree_of event)).outcome }
-    requires event { IsTrue (regexes_below (length (program_of program.now).sources) (tree_of event)) }
-    requires ordered { IsOrdered (tree_of event) }
-    requires shallow { IsTrue is_shallow → IsShallow (tree_of event) }
-    ensures ran { IfOk result (IsRan is_asked (ended_over (program_of program.now) moment (tree_of event))) }
+    requires handled { ¬ IsUnhandled
+        (ended_over (program_of program.now) moment (tree_of event) (tree_of metadata)).outcome }
+    requires event { IsWellFormed (length (program_of program.now).sources) (tree_of event) }
+    requires metadata { IsWellFormed (length (program_of program.now).sources) (tree_of metadata) }
+    requires shallow { IsTrue are_shallow → IsShallow (tree_of event) × IsShallow (tree_of metadata) }
+    ensures ran { IfOk result
+        (IsRan is_asked (ended_over (program_of program.now) moment (tree_of event) (tree_of metadata))) }
     ensures below { IfOk result (IsWellFormedRan (length (program_of program.now).sources)) }
 {
     meanings_stay_well_formed();
@@ -83,7 +110,8 @@ pub fn run_measured(
         setting: Setting { moment, searches },
         names: &program.names,
     };
-    let mut store = Store::start(alloc, event, is_shallow, program.names.as_slice().len())?;
+    let count = program.names.as_slice().len();
+    let mut store = Store::start(alloc, event, metadata, are_shallow, count)?;
     let end = items(&mut store, &context, is_asked, &program.items);
     left(alloc, &program.names, store, is_asked, end)
 }
@@ -127,10 +155,11 @@ fn valued(
     if !is_asked {
         return Ok(early(store, Ended::Value(None)));
     }
-    let (event, variables) = store.into_parts(alloc, names)?;
+    let (event, metadata, variables) = store.into_parts(alloc, names)?;
     Ok(Ran {
         ended: Ended::Value(Some(Produced { value, variables })),
         event,
+        metadata,
     })
 }
 
@@ -160,12 +189,14 @@ fn stopped(
     }
 }
 
-// What a run leaves of which nothing but the event is told.
+// What a run leaves of which nothing but the event and the metadata is told.
 fn early(store: Store, ended: Ended) -> Ran
-    ensures { IsEarly ended (event_of store) result }
+    ensures { (names : VariableNames) → AreNames names store → IsEarly ended (store_in names store) result }
 {
+    let (event, metadata) = store.into_roots();
     Ran {
         ended,
-        event: store.into_event(),
+        event,
+        metadata,
     }
 }

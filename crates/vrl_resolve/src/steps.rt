@@ -1,5 +1,6 @@
-ghost use Rattle.std.specs.Prelude.{◌≡◌, ◌≢◌, true, Err, IfOk, IsErr};
+ghost use Rattle.std.specs.Prelude.{◌≡◌, ◌≢◌, true, Err, IfOk, IsErr, IsOk, None};
 ghost use Rattle.vrl_value.specs.View.{tree_of};
+ghost use Rattle.vrl_path.specs.Read.{read_at};
 ghost use Rattle.vrl_syntax.specs.Stores.{Store as StoreTree};
 ghost use Rattle.vrl_store.specs.Outcomes.{Ended};
 ghost use Rattle.vrl_store.specs.Places as spec;
@@ -55,9 +56,10 @@ pub(crate) fn at_target(
     target: &Option<TargetPath>,
 ) -> Result<Value, Memory>
     requires target { IsTarget (count_of store.now) target.now }
-    ensures { IfOk result
+    ensures value { IfOk result
         (λ value. (names : Names) → AreNames names store.now
         → tree_of value ≡ spec.target_value (target_of names target.now) (store_in names store.now)) }
+    ensures none { target.now ≡ None → IsOk result }
 {
     match target {
         Some(place) => store.read(place).copy(context.alloc),
@@ -67,7 +69,8 @@ pub(crate) fn at_target(
 
 /// What stands at a path of a value; null where nothing does. `Memory`: want of memory.
 pub(crate) fn part_of(alloc: Global, value: &Value, path: &Path) -> Result<Value, Memory>
-    ensures { IfOk result (λ part. tree_of part ≡ spec.part_of (tree_of value.now) path.now) }
+    ensures part { IfOk result (λ part. tree_of part ≡ spec.part_of (tree_of value.now) path.now) }
+    ensures none { read_at (tree_of value.now) path.now ≡ None → IsOk result }
 {
     match get(value, path) {
         Some(part) => part.copy(alloc),

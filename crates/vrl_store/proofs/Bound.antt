@@ -1,10 +1,10 @@
 -- A variable that a name of a closure binds, and one that gets its value back.
-use Rattle.std.proofs.Common.{◌≡◌, ℕ, ◌<◌, true, false, List, [], ◌++◌, length, Option, Some, None, is_some, option_map, refl, sym, ◌∙◌, append-nil, arith}
+use Rattle.std.proofs.Common.{◌≡◌, ℕ, ◌<◌, true, false, List, [], ◌∷◌, ◌++◌, length, Option, Some, None, is_some, option_map, refl, sym, ◌∙◌, append-nil, arith}
 use Rattle.std.specs.Prelude.{IfSome}
 use Rattle.vrl_value.specs.Tree.{Tree}
 use Rattle.vrl_value.specs.View.{tree_of}
 use Rattle.vrl_value.specs.declared.value.Value.{Value}
-use Rattle.vrl_store.specs.Kept.{is_numbered, is_one_of, trees_of}
+use Rattle.vrl_store.specs.Kept.{is_held, is_numbered, trees_of}
 use Rattle.vrl_store.specs.StoreView.{IsFront}
 use Rattle.vrl_store.specs.declared.hidden_value.HiddenValue.{HiddenValue}
 use Rattle.vrl_store.specs.declared.store.Store.{Store as CodeStore}
@@ -29,10 +29,10 @@ same_front {xs} {ys} same = ([], same_end) where
   same_end = same ∙ sym (append-nil xs)
 
 -- a number that is among those present is that of a variable that is there
-pub number_there : (s : CodeStore) (n : ℕ) → is_one_of n s.present.items ≡ true → is_numbered (trees_of s.variables.items) n ≡ true
-number_there s n is = present_numbered (trees_of s.variables.items) n s.present.items s.kept.present is
+pub number_there : (s : CodeStore) (n : ℕ) → is_held n s.present.items ≡ true → is_numbered (trees_of s.variables.items) n ≡ true
+number_there s n is = present_numbered (trees_of s.variables.items) n (0 ∷ s.present.items) s.kept.present is
 
-pub number_within : (s : CodeStore) (n : ℕ) → is_one_of n s.present.items ≡ true → n < length s.variables.items
+pub number_within : (s : CodeStore) (n : ℕ) → is_held n s.present.items ≡ true → n < length s.variables.items
 number_within s n is =
     let within = numbered_within (trees_of s.variables.items) n (number_there s n is) in
     let mapped = length_map s.variables.items in

@@ -1,7 +1,6 @@
 -- What a block leaves behind: the variables that were there before it.
 use Rattle.std.proofs.Common.{◌≡◌, ℕ, zero, suc, ◌<◌, ◌==◌, Bool, true, false, cond, ◌||◌, List, [], ◌∷◌, ◌++◌, length, map, take, Option, Some, None, is_eq, is_some, refl, sym, ap, ◌∙◌, subst, true≢false, arith}
-use Rattle.std.specs.Cmp.{eq_by_cmp_equiv, unsigned_Decides}
-use Rattle.std.proofs.lemmas.Cmp.{nat_list_cmp_total}
+use Rattle.std.specs.Cmp.{unsigned_Decides}
 use Rattle.std.specs.FinMap as finite
 use Rattle.vrl_value.specs.Tree.{Tree}
 use Rattle.vrl_syntax.specs.Stores.{store_kept}
@@ -9,7 +8,7 @@ use Rattle.vrl_store.specs.Kept.{is_numbered, is_one_of, trees_of, AreCounted, A
 use Rattle.vrl_store.specs.StoreView.{is_among, left_with, name_at, store_in, variables_of, AreDistinct, AreNames, IsFront, Names, Stay, Variables}
 use Rattle.vrl_store.specs.declared.store.Store.{Store as CodeStore}
 use Rattle.vrl_store.proofs.StoreReads.{length_map}
-use Rattle.vrl_store.proofs.Variables.{apart_at, found_at, itself, named_so, none_among, one_map, tied, variable_at}
+use Rattle.vrl_store.proofs.Variables.{apart_at, found_at, itself, named_so, none_among, one_map, tied, tied_swapped, variable_at}
 
 -- ---- numbers of names
 
@@ -34,9 +33,6 @@ next_number i j = chosen (j == i) refl where
   chosen : (b : Bool) → (j == i) ≡ b → b ≡ (suc j == suc i)
   chosen true one = sym (same_number (suc i) (suc j) (ap suc (sym ((unsigned_Decides j i).0 one))))
   chosen false one = other_number (suc i) (suc j) (suc j == suc i) refl (λ same. let equal : i ≡ j = omega arith in let wrong : true ≡ false = sym (same_number i j equal) ∙ one in true≢false wrong)
-
-tied_swapped : (x y : List ℕ) → tied x y ≡ tied y x
-tied_swapped x y = (eq_by_cmp_equiv nat_list_cmp_total).symm x y
 
 -- two names are one where their numbers are
 tied_at : (names : Names) (i j : ℕ) → AreDistinct names → i < length names → j < length names → tied (name_at names i) (name_at names j) ≡ (j == i)
@@ -125,7 +121,7 @@ front_left names before after store = λ i. record { event = (store_in names aft
   ws = variables_of names (trees_of after.variables.items)
 
   left : List ℕ → Bool
-  left x = is_among x (map (name_at names) before.present.items)
+  left x = is_among x (map (name_at names) (0 ∷ before.present.items))
 
   there : List ℕ → Bool
   there x = finite.contains_key (variables_of names vs) x
@@ -134,8 +130,8 @@ front_left names before after store = λ i. record { event = (store_in names aft
   at_index i within =
       let as_many = store.as_many in
       let mapped = length_map before.variables.items in
-      among_names names vs i before.present.items store.distinct (omega arith) within before.kept.present
-      ∙ sym (numbered_present vs i before.present.items (is_numbered vs i) (is_one_of i before.present.items) before.kept.present before.kept.counted refl refl)
+      among_names names vs i (0 ∷ before.present.items) store.distinct (omega arith) within before.kept.present
+      ∙ sym (numbered_present vs i (0 ∷ before.present.items) (is_numbered vs i) (is_one_of i (0 ∷ before.present.items)) before.kept.present before.kept.counted refl refl)
       ∙ ap is_some (sym (variable_at names vs i store.distinct within (omega arith)))
 
   at : (x : List ℕ) (b : Bool) → is_among x names ≡ b → cond (left x) (finite.get ws x) None ≡ cond (there x) (finite.get ws x) None

@@ -1,5 +1,6 @@
 pub mod Bound
 pub mod Equality
+pub mod FirstVariable
 pub mod Kept
 pub mod LastEnded
 pub mod Left

@@ -8,7 +8,7 @@ use Rattle.vrl_value.specs.declared.value.Value.TheVariants as value
 use Rattle.vrl_path.specs.Trees.{remove_tree}
 use Rattle.vrl_path.specs.Write.{depth_limit}
 use Rattle.vrl_path.specs.declared.path.Step.{Step}
-use Rattle.vrl_syntax.specs.Stores.{with_value}
+use Rattle.vrl_syntax.specs.Stores.{left_in, with_value}
 use Rattle.vrl_store.specs.Places.{part_of, read_in, removed, root_without}
 use Rattle.vrl_store.specs.Kept.{IsShallow}
 use Rattle.vrl_store.specs.StoreView.{root_of, store_in, AreNames, Names}
@@ -66,6 +66,7 @@ same_absent names s n (step ∷ path) x are part within is none =
 
 -- ---- a whole root
 
-pub null_there : (names : Names) (s : CodeStore) (items : List (Option Value)) (n : ℕ) → AreNames names s → n < length s.variables.items → items ≡ set s.variables.items n (Some value.Null)
-    → seen names s.event items ≡ with_value (root_of names (base.Variable n)) null (store_in names s)
-null_there names s items n are within made = variable_given names s items n value.Null are within made ∙ ap (λ v. with_value (root_of names (base.Variable n)) v (store_in names s)) null_tree
+pub root_left : (names : Names) (s : CodeStore) (items : List (Option Value)) (n : ℕ) (u : Value) → AreNames names s → n < length s.variables.items → items ≡ set s.variables.items n (Some u)
+    → tree_of u ≡ left_in (root_of names (base.Variable n)) → seen names s.event items ≡ removed (root_of names (base.Variable n)) [] (store_in names s)
+root_left names s items n u are within made left =
+    variable_given names s items n u are within made ∙ ap (λ v. with_value (root_of names (base.Variable n)) v (store_in names s)) left

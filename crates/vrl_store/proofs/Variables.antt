@@ -24,6 +24,9 @@ is_equal Greater same = cc
 pub named_so : (x y : List ℕ) → tied x y ≡ true → x ≡ y
 named_so x y is = one_name x y (is_equal (slice_cmp nat_cmp x y) is)
 
+pub tied_swapped : (x y : List ℕ) → tied x y ≡ tied y x
+tied_swapped x y = (eq_by_cmp_equiv nat_list_cmp_total).symm x y
+
 pub itself : (x : List ℕ) → tied x x ≡ true
 itself x = ap is_eq (tied_itself nat_list_cmp_total x)
 
@@ -109,5 +112,5 @@ variable_at (x ∷ names) (Some w ∷ vs) zero distinct named within = inserted 
 variable_at (x ∷ names) (None ∷ vs) (suc i) distinct named within = variable_at names vs i distinct.1 (omega arith) (omega arith)
 variable_at (x ∷ names) (Some w ∷ vs) (suc i) distinct named within =
     inserted (variables_of names vs) x w (name_at names i)
-    ∙ ap (λ b. cond b (Some w) (finite.get (variables_of names vs) (name_at names i))) ((eq_by_cmp_equiv nat_list_cmp_total).symm (name_at names i) x ∙ apart_at x names i distinct.0 (omega arith))
+    ∙ ap (λ b. cond b (Some w) (finite.get (variables_of names vs) (name_at names i))) (tied_swapped (name_at names i) x ∙ apart_at x names i distinct.0 (omega arith))
     ∙ variable_at names vs i distinct.1 (omega arith) (omega arith)

@@ -37,8 +37,12 @@ AreCounted vs numbers = (number : ℕ) → IsTrue (is_numbered vs number) → Is
 abbrev pub is_one_of : ℕ → List ℕ → Bool
 is_one_of number numbers = list_any (λ n. n == number) numbers
 
--- the variables that are there have these numbers, and where they are marked so, they are within
--- the limit of depth
+-- the number is the metadata's, or one of these
+abbrev pub is_held : ℕ → List ℕ → Bool
+is_held number numbers = is_one_of number (0 ∷ numbers)
+
+-- the variables that are there have these numbers, and where the flag says so, they are
+-- within the limit of depth
 pub record AreKept (are_shallow : Bool) (vs : List (Option Tree)) (numbers : List ℕ) : Type 0 where
   pub present : ArePresent vs numbers
   pub counted : AreCounted vs numbers

@@ -12,7 +12,7 @@ use Rattle.vrl_value.specs.View.{tree_of}
 use Rattle.vrl_path.specs.declared.fault.SetFault.{SetFault}
 use Rattle.vrl_path.specs.declared.fault.SetFault.TheVariants as fault
 use Rattle.vrl_path.specs.declared.path.Step.{Step}
-use Rattle.vrl_syntax.specs.Stores.{Store, with_value}
+use Rattle.vrl_syntax.specs.Stores.{Store, metadata_name, with_value}
 use Rattle.vrl_syntax.specs.declared.root.Root.{Root}
 use Rattle.vrl_syntax.specs.declared.root.Root.TheVariants.{Event, Name}
 use Rattle.vrl_store.specs.Kept.{trees_of}
@@ -55,7 +55,7 @@ store_in names s = record { event = tree_of s.event; variables = variables_of na
 abbrev pub event_of : CodeStore → Tree
 event_of s = tree_of s.event
 
--- the numbers of the variables that are there, in the order in which they came
+-- the numbers of the variables that are there beside the metadata, in the order in which they came
 abbrev pub present_of : CodeStore → List ℕ
 present_of s = s.present.items
 
@@ -77,10 +77,15 @@ abbrev pub AreDistinct : Names → Type 0
 AreDistinct [] = ⊤
 AreDistinct (x ∷ names) = (is_among x names ≡ false) × AreDistinct names
 
--- the names of the variables, of which no two are equal
+-- the first of the names is that of the metadata
+abbrev pub BeginWithMetadata : Names → Type 0
+BeginWithMetadata names = slice_get names 0 ≡ Some metadata_name
+
+-- the names of the variables, of which no two are equal, with the metadata first
 pub record AreNames (names : Names) (s : CodeStore) : Type 0 where
   pub as_many : count_of s ≡ length names
   pub distinct : AreDistinct names
+  pub first : BeginWithMetadata names
 
 -- ---- what the calls of a store say of it, whatever names the numbers stand for
 
@@ -102,10 +107,11 @@ IsWritten root path v before after (Err fault.TooDeep) =
     (is_within (root_with root path v before) ≡ false) × (after ≡ before)
 IsWritten root path v before after (Err fault.Memory) = after ≡ before
 
--- only the variables with these numbers are left
+-- only the metadata and the variables with these numbers are left
 abbrev pub left_with : Names → List ℕ → Store → Store
-left_with names numbers store =
-    record store { variables = finite.retain_keys store.variables (λ x. is_among x (map (name_at names) numbers)) }
+left_with names numbers store = record store {
+  variables = finite.retain_keys store.variables (λ x. is_among x (map (name_at names) (0 ∷ numbers)));
+}
 
 -- the variables with these numbers stay as they were
 abbrev pub Stay : List (Option Tree) → List (Option Tree) → List ℕ → Type 0

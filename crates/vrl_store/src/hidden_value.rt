@@ -10,7 +10,7 @@ pub struct HiddenValue {
     pub(crate) value: Value,
     // The value is known to be within the limit of depth.
     pub(crate) is_shallow: bool,
-    // Where it is marked so, it is.
+    // Where the flag says so, it is.
     ghost within: { IsTrue is_shallow → IsShallow (tree_of value) },
 }
 

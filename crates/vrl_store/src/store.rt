@@ -1,4 +1,4 @@
-ghost use Rattle.std.specs.Prelude.{◌≡◌, ◌+◌, ◌-◌, ◌<◌, ◌≤◌, ◌↔◌, ◌&&◌, [], false, true, length, option_map, slice_get, slice_set as set, take, unwrap_or, IfOk, IfSome, IsTrue, OnErr, OnOk};
+ghost use Rattle.std.specs.Prelude.{◌≡◌, ◌+◌, ◌-◌, ◌<◌, ◌≤◌, ◌↔◌, ◌&&◌, [], ◌∷◌, false, true, length, option_map, slice_get, slice_set as set, take, unwrap_or, IfOk, IfSome, IsTrue, OnErr, OnOk};
 ghost use Rattle.std.specs.Coded.{Coded-set};
 ghost use Rattle.vrl_value.specs.Depth.{depth_of};
 ghost use Rattle.vrl_value.specs.Tree.{null};
@@ -7,12 +7,13 @@ ghost use Rattle.vrl_value.specs.declared.value.Value.TheVariants as value;
 ghost use Rattle.vrl_path.specs.Steps.{IsPlain, IsWritable};
 ghost use Rattle.vrl_path.specs.Trees.{remove_tree, set_tree};
 ghost use Rattle.vrl_path.specs.Write.{depth_limit};
-ghost use Rattle.vrl_syntax.specs.Stores.{store_of, value_of, with_value};
+ghost use Rattle.vrl_syntax.specs.Stores.{metadata, store_of, value_of, with_value};
 ghost use Rattle.vrl_syntax.specs.declared.root.Root.TheVariants.{Name};
-ghost use Rattle.vrl_store.specs.Kept.{kept-prop, is_numbered, is_one_of, trees_of, AreKept, IsShallow};
+ghost use Rattle.vrl_store.specs.Kept.{kept-prop, is_held, is_numbered, trees_of, AreKept, IsShallow};
 ghost use Rattle.vrl_store.specs.Places as spec;
 
 use crate::hidden_value::HiddenValue;
+use crate::metadata::{METADATA, empty_object, left_of, metadata_of};
 use crate::naming::named;
 use crate::target_path::{Base, TargetPath};
 use std::alloc::Global;
@@ -23,7 +24,8 @@ use vrl_path::{
 };
 use vrl_value::{Fields, Memory, Names, Value};
 
-/// The event and the variables of a run. A variable that isn't there has no value.
+/// The event and the variables of a run. The metadata is the first of the variables, and always
+/// there. Another variable that isn't there has no value.
 #[derive(Drop)]
 pub struct Store {
     event: Value,
@@ -32,45 +34,50 @@ pub struct Store {
     variables: Vec<Option<Value>>,
     // Each variable is known to be within it.
     are_shallow: bool,
-    // The numbers of the variables that are there, in the order in which they came.
+    // The numbers of the variables that are there beside the metadata, in the order in which they
+    // came.
     present: Vec<usize>,
     // Null, which is lent where nothing stands.
     null: Value,
-    // The variables that are there have these numbers, each once, and where they are marked so,
-    // they are within the limit of depth.
-    ghost kept: { AreKept are_shallow (trees_of variables.items) present.items } by { kept-prop are_shallow
-        (trees_of variables.items) present.items },
-    // Where the event is marked so, it is within the limit.
+    // The metadata and the variables with these numbers are there, and no others; each number
+    // stands once. Where the flag says so, the variables are within the limit of depth.
+    ghost kept: { AreKept are_shallow (trees_of variables.items) (0 ∷ present.items) } by { kept-prop are_shallow
+        (trees_of variables.items) (0 ∷ present.items) },
+    // Where the flag says so, the event is within the limit.
     ghost within: { IsTrue is_shallow → IsShallow (tree_of event) },
     ghost nothing: { null ≡ value.Null } by { Coded-set null-code null value.Null },
 }
 
 impl Store {
-    ghost use Rattle.vrl_store.specs.StoreView.{count_of, event_of, hidden_tree, left_with, map_of, name_at, present_of, root_of, store_in, AreDistinct, AreNames, IsFront, IsKnown, IsWritten, Names, Stay};
+    ghost use Rattle.vrl_store.specs.StoreView.{count_of, event_of, hidden_tree, left_with, map_of, name_at, present_of, root_of, store_in, AreDistinct, AreNames, BeginWithMetadata, IsFront, IsKnown, IsWritten, Names, Stay};
     ghost use Rattle.vrl_store.specs.Told.{AreToldByMap};
 
-    /// The store that a run of so many variables starts with: none is there yet. The event is known
-    /// to be within the limit of depth where the flag says so; else its depth is measured at the
-    /// first write. `Memory`: out of memory.
+    /// The store that a run of so many variables starts with, the metadata among them: no other is
+    /// there yet. The event and the metadata are known to be within the limit of depth where the
+    /// flag says so; else the depth of each is measured where it is written to. `Memory`: out of
+    /// memory.
     pub fn start(
         alloc: Global,
         event: Value,
-        is_shallow: bool,
+        metadata: Value,
+        are_shallow: bool,
         count: usize,
     ) -> Result<Store, Memory>
-        requires { IsTrue is_shallow → IsShallow (tree_of event) }
+        requires { IsTrue are_shallow → IsShallow (tree_of event) × IsShallow (tree_of metadata) }
         ensures { IfOk result (λ store. (names : Names) → length names ≡ count → AreDistinct names
-            → (store_in names store ≡ store_of (tree_of event)) × AreNames names store) }
+            → BeginWithMetadata names
+            → (store_in names store ≡ store_of (tree_of event) (tree_of metadata)) × AreNames names store) }
     {
         let mut variables = Vec::with_capacity(alloc, count)?;
-        for _ in 0..count {
+        variables.push(Some(metadata))?;
+        for _ in 1..count {
             variables.push(None)?;
         }
         Ok(Store {
             event,
-            is_shallow,
+            is_shallow: are_shallow,
             variables,
-            are_shallow: true,
+            are_shallow,
             present: Vec::new(alloc),
             null: Value::Null,
         })
@@ -128,7 +135,8 @@ impl Store {
             (store_in names self.new) result }
         ensures want { result ≡ Err SetFault.Memory → (names : Names) → AreNames names self.old
             → IsTrue (spec.is_within
-            (spec.root_with (root_of names target.now.base) target.now.path (tree_of value) (store_in names self.old))) }
+            (spec.root_with (root_of names target.now.base) target.now.path (tree_of value)
+            (store_in names self.old))) }
         ensures front { IsFront (present_of self.old) (present_of self.new) }
         ensures as_many { count_of self.new ≡ count_of self.old }
     {
@@ -250,7 +258,7 @@ impl Store {
         ensures hidden { IfOk result (λ hidden. (names : Names) → AreNames names self.old
             → option_map hidden_tree hidden ≡ value_of (Name (name_at names number)) (store_in names self.old)) }
         ensures there { IfOk result
-            (λ hidden. IfSome hidden (λ value. IsTrue (is_one_of number (present_of self.old)))) }
+            (λ hidden. IfSome hidden (λ value. IsTrue (is_held number (present_of self.old)))) }
         ensures same { OnErr result ((names : Names) → AreNames names self.old
             → store_in names self.new ≡ store_in names self.old) }
         ensures front { IsFront (present_of self.old) (present_of self.new) }
@@ -267,7 +275,7 @@ impl Store {
     /// Gives a variable that is there the value back that a name of a closure hid, behind the end
     /// of the body. It takes no memory.
     pub fn give_back(&mut self, number: usize, hidden: HiddenValue)
-        requires { IsTrue (is_one_of number (present_of self.old)) }
+        requires { IsTrue (is_held number (present_of self.old)) }
         ensures back { (names : Names) → AreNames names self.old
             → store_in names self.new ≡ with_value (Name (name_at names number)) (hidden_tree hidden)
             (store_in names self.old) }
@@ -279,8 +287,8 @@ impl Store {
     }
 
     /// Takes out what stands at a place, and gives it; null where nothing does. Of the event's root
-    /// an empty object is left, and of a variable's null. `Memory`: want of memory; the store stays
-    /// as it was.
+    /// and of the metadata's an empty object is left, and of another variable's null. `Memory`: want
+    /// of memory; the store stays as it was.
     pub fn take(&mut self, alloc: Global, target: &TargetPath) -> Result<Value, Memory>
         requires base { IsKnown (count_of self.old) target.now.base }
         requires plain { IsPlain target.now.path }
@@ -313,17 +321,17 @@ impl Store {
         ensures as_many { length self.new.variables.items ≡ length self.old.variables.items }
     {
         match base {
-            Base::Event => {
-                let left = Value::Object(Fields::new(BTreeMap::new(alloc)));
-                Ok(std::mem::replace(&mut self.event, left))
-            }
-            Base::Variable(number) => match &mut self.variables[number] {
-                Some(variable) => Ok(std::mem::replace(variable, Value::Null)),
-                None => {
-                    self.begin(number, Value::Null, true)?;
-                    Ok(Value::Null)
+            Base::Event => Ok(std::mem::replace(&mut self.event, empty_object(alloc))),
+            Base::Variable(number) => {
+                let left = left_of(alloc, number);
+                match &mut self.variables[number] {
+                    Some(variable) => Ok(std::mem::replace(variable, left)),
+                    None => {
+                        self.begin(number, left, true)?;
+                        Ok(Value::Null)
+                    }
                 }
-            },
+            }
         }
     }
 
@@ -348,14 +356,15 @@ impl Store {
         }
     }
 
-    /// How many variables are there.
+    /// How many variables are there beside the metadata.
     pub fn count(&self) -> usize
         ensures { result ≡ length (present_of self.now) }
     {
         self.present.len()
     }
 
-    /// Ends a block before which so many variables were there: those that came in it go.
+    /// Ends a block before which so many variables were there beside the metadata: those that came
+    /// in it go.
     pub fn leave(&mut self, count: usize)
         requires within { count ≤ length (present_of self.old) }
         ensures left { (names : Names) → AreNames names self.old
@@ -373,7 +382,7 @@ impl Store {
         requires some { 0 < length self.old.present.items }
         ensures present { self.new.present.items ≡ take (length self.old.present.items - 1) self.old.present.items }
         ensures stay { Stay (trees_of self.old.variables.items)
-            (trees_of self.new.variables.items) self.new.present.items }
+            (trees_of self.new.variables.items) (0 ∷ self.new.present.items) }
         ensures event { self.new.event ≡ self.old.event }
         ensures as_many { length self.new.variables.items ≡ length self.old.variables.items }
     {
@@ -382,13 +391,17 @@ impl Store {
         }
     }
 
-    /// The event, and the variables that are there with their names. `Memory`: want of memory.
-    pub fn into_parts(self, alloc: Global, names: &Names) -> Result<(Value, Fields), Memory>
+    /// The event, the metadata, and the variables that are there with their names, among them the
+    /// metadata once more. `Memory`: out of memory.
+    pub fn into_parts(self, alloc: Global, names: &Names) -> Result<(Value, Value, Fields), Memory>
         requires { AreNames names.now self }
         ensures event { IfOk result (λ parts. tree_of parts.0 ≡ event_of self) }
-        ensures variables { IfOk result (λ parts. map_of (members_of parts.1) ≡ (store_in names.now self).variables) }
-        ensures told { IfOk result (λ parts. AreToldByMap (members_of parts.1)) }
+        ensures metadata { IfOk result
+            (λ parts. value_of metadata (store_in names.now self) ≡ Some (tree_of parts.1)) }
+        ensures variables { IfOk result (λ parts. map_of (members_of parts.2) ≡ (store_in names.now self).variables) }
+        ensures told { IfOk result (λ parts. AreToldByMap (members_of parts.2)) }
     {
+        let beside = self.root(Base::Variable(METADATA)).copy(alloc)?;
         let Store {
             event,
             is_shallow: _,
@@ -398,14 +411,24 @@ impl Store {
             null: _,
         } = self;
         let fields = named(alloc, variables, names)?;
-        Ok((event, fields))
+        Ok((event, beside, fields))
     }
 
-    /// The event alone.
-    pub fn into_event(self) -> Value
-        ensures { tree_of result ≡ event_of self }
+    /// The event and the metadata alone.
+    pub fn into_roots(self) -> (Value, Value)
+        ensures event { tree_of result.0 ≡ event_of self }
+        ensures metadata { (names : Names) → AreNames names self
+            → value_of metadata (store_in names self) ≡ Some (tree_of result.1) }
     {
-        self.event
+        let Store {
+            event,
+            is_shallow: _,
+            variables,
+            are_shallow: _,
+            present: _,
+            null: _,
+        } = self;
+        (event, metadata_of(variables))
     }
 }
 

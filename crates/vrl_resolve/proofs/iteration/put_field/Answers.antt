@@ -3,5 +3,5 @@ use Rattle.vrl_resolve.proofs.FieldTurns.{part_kept}
 use Rattle.vrl_resolve.proofs.Turns.{on_ok}
 use Rattle.vrl_resolve.proofs.iteration.put_field.Goals as goal
 
-pub returns-in-Part : goal.returns-in-Part
-returns-in-Part c = rw c.in-Part.is (on_ok c.put_renamed.result (λ takes. part_kept c.in-Part.part (tree_of c.args.given) c.args.made.now c.put_renamed.new.made takes) c.put_renamed.ensures)
+pub returns-in-Part-clause-taken : goal.returns-in-Part-clause-taken
+returns-in-Part-clause-taken c = rw c.in-Part.is (on_ok c.put_renamed.result (λ takes. part_kept c.in-Part.part (tree_of c.args.given) c.args.made.now c.put_renamed.new.made takes) c.put_renamed.ensures.taken)

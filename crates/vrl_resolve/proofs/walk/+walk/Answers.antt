@@ -711,7 +711,7 @@ assignments::merge-returns-clause-ended t c =
     let x = c.args.context.now in
     let T = target_of (names_in x) c.args.target.now in
     let given = meant x (linked_of c.args.part.now) c.args.store.now in
-    let current = c.in_ok-current.ensures (names_in x) c.requires.ready.names in
+    let current = c.in_ok-current.ensures.value (names_in x) c.requires.ready.names in
     let made = subst (λ v. on_value given (λ w end. ends (applied ops.Merge v w) end) ≡ ends (value (tree_of c.in_ok-value.value)) (store_at x c.beside.new.store)) current c.in_ok-value.ensures.ended in
     let are = names_after (names_in x) c.args.store.now c.beside.new.store c.requires.ready.names c.in_ok-value.ensures.stays in
     assigned_ends c.args.is_asked T (combined ops.Merge (ends (value (target_value T (store_at x c.args.store.now))) (store_at x c.args.store.now)) (λ end. means (names_in x) (setting_in x) (linked_of c.args.part.now) end)) (tree_of c.in_ok-value.value) c.in_ok-copy.copy (store_at x c.beside.new.store) (store_at x c.write_to.new.store) made c.in_ok-copy.ensures.copy (c.in_ok-write_to.ensures.written (names_in x) are)
@@ -721,7 +721,7 @@ assignments::merge-returns-in_err-value-clause-ended t c =
     let x = c.args.context.now in
     let T = target_of (names_in x) c.args.target.now in
     let given = meant x (linked_of c.args.part.now) c.args.store.now in
-    let current = c.in_ok-current.ensures (names_in x) c.requires.ready.names in
+    let current = c.in_ok-current.ensures.value (names_in x) c.requires.ready.names in
     let made = subst (λ v. Stops (on_value given (λ w end. ends (applied ops.Merge v w) end)) (store_at x c.beside.new.store) c.in_err-value.field-0.0) current c.in_err-value.ensures.ended in
     let told : Stops (meant x (merge c.args.target.now (linked_of c.args.part.now)) c.args.store.now) (store_at x c.beside.new.store) c.in_err-value.field-0.0 =
     after_stop (combined ops.Merge (ends (value (target_value T (store_at x c.args.store.now))) (store_at x c.args.store.now)) (λ end. means (names_in x) (setting_in x) (linked_of c.args.part.now) end)) (λ v after. writes_to T v after (λ end. ends (value v) end)) (store_at x c.beside.new.store) c.in_err-value.field-0.0 made in
@@ -732,7 +732,7 @@ assignments::merge-returns-in_err-write_to-clause-ended t c =
     let x = c.args.context.now in
     let T = target_of (names_in x) c.args.target.now in
     let given = meant x (linked_of c.args.part.now) c.args.store.now in
-    let current = c.in_ok-current.ensures (names_in x) c.requires.ready.names in
+    let current = c.in_ok-current.ensures.value (names_in x) c.requires.ready.names in
     let made = subst (λ v. on_value given (λ w end. ends (applied ops.Merge v w) end) ≡ ends (value (tree_of c.in_ok-value.value)) (store_at x c.beside.new.store)) current c.in_ok-value.ensures.ended in
     let are = names_after (names_in x) c.args.store.now c.beside.new.store c.requires.ready.names c.in_ok-value.ensures.stays in
     let told : Stops (meant x (merge c.args.target.now (linked_of c.args.part.now)) c.args.store.now) (store_at x c.write_to.new.store) c.in_err-write_to.field-0.0 =
@@ -892,7 +892,7 @@ closures::over_fields-loop-name-preserved t c =
     let binds = subst (λ name. Binds f (string name) part c.in_ok-bindings.bindings) c.new.ensures c.in_ok-bindings.ensures.binds in
     let kept = subst (λ name. IsFieldHeld f name part c.in_ok-bindings.held) c.new.ensures c.in_ok-bindings.ensures.held in
     fields_turn c.meanings_stay_well_formed.ensures x f (parts_view c.args.body.now) c.args.store.now l.store c.run.new.store (members_view l.name-iterator) (members_view left) k part c.in_ok-given.given c.is_body_asked.result l.made c.put_field.new.made _
-    c.in_ok-bindings.bindings c.in_ok-bindings.held c.requires.fits l.invariant (ap members_view c.in-Some.ensures.steps) binds c.is_body_asked.ensures c.in_ok-given.ensures.ended c.in_ok-given.ensures.stays kept c.in_ok-put_field.ensures
+    c.in_ok-bindings.bindings c.in_ok-bindings.held c.requires.fits l.invariant (ap members_view c.in-Some.ensures.steps) binds c.is_body_asked.ensures c.in_ok-given.ensures.ended c.in_ok-given.ensures.stays kept c.in_ok-put_field.ensures.taken
 
 pub closures::over_fields-returns-clause-stays : goal.closures::over_fields-returns-clause-stays
 closures::over_fields-returns-clause-stays t c = c.loop-name.invariant.so_far.stays
@@ -913,7 +913,7 @@ closures::over_fields-returns-clause-ended t c =
     let none : l.name-iterator ≡ [] = search rules in
     let made = made_in c.args.function l.made no_members [] in
     let whole = fields_end x c.args.function (parts_view c.args.body.now) c.args.store.now l.store (members_view l.name-iterator) l.made _ l.invariant (ap members_view none) in
-    subst (λ e. Ends e (store_at x l.store) c.finish_fields.result) (sym whole) (gives_ends made (store_at x l.store) c.finish_fields.result c.finish_fields.ensures)
+    subst (λ e. Ends e (store_at x l.store) c.finish_fields.result) (sym whole) (gives_ends made (store_at x l.store) c.finish_fields.result c.finish_fields.ensures.gives)
 
 pub closures::over_fields-returns-in_err-given-clause-ended : goal.closures::over_fields-returns-in_err-given-clause-ended
 closures::over_fields-returns-in_err-given-clause-ended t c =
@@ -982,7 +982,7 @@ closures::over_items-loop-item-preserved t c =
     record {
       so_far = items_turn c.meanings_stay_well_formed.ensures x c.args.function ns c.args.store.now l.store c.run.new.store l.place (l.place + 1) _ (items_view left) (tree_of c.in-Some.item) c.in_ok-given.given c.is_body_asked.result (map tree_of l.made.items)
           (map tree_of c.push_item.new.made.items) _ c.in_ok-bindings.bindings c.in_ok-bindings.held c.requires.fits l.invariant.so_far (ap items_view steps.0) (omega arith) c.in_ok-bindings.ensures.binds c.is_body_asked.ensures c.in_ok-given.ensures.ended c.in_ok-given.ensures.stays
-          c.in_ok-bindings.ensures.held c.in_ok-push_item.ensures;
+          c.in_ok-bindings.ensures.held c.in_ok-push_item.ensures.taken;
       as_many = one_gone (into_iter_items l.item-iterator) left c.in-Some.item _ _ steps.0 steps.1 l.invariant.as_many;
       small = omega (arith, l.invariant.small, longer);
     }
@@ -1009,7 +1009,7 @@ closures::over_items-returns-clause-ended t c =
     let none = none_left (into_iter_items l.item-iterator) _ l.invariant.as_many c.in-None.ensures.steps.0 in
     let made = made_items c.args.function (map tree_of l.made.items) no_items [] in
     let whole = items_end x c.args.function (parts_view c.args.body.now) c.args.store.now l.store l.place _ (map tree_of l.made.items) _ l.invariant.so_far (ap items_view none) in
-    subst (λ e. Ends e (store_at x l.store) c.finish_items.result) (sym whole) (gives_ends made (store_at x l.store) c.finish_items.result c.finish_items.ensures)
+    subst (λ e. Ends e (store_at x l.store) c.finish_items.result) (sym whole) (gives_ends made (store_at x l.store) c.finish_items.result c.finish_items.ensures.gives)
 
 pub closures::over_items-returns-in_err-given-clause-ended : goal.closures::over_items-returns-in_err-given-clause-ended
 closures::over_items-returns-in_err-given-clause-ended t c =

@@ -1,4 +1,4 @@
-use Rattle.std.proofs.Common.{◌≡◌, true, get_or, set, option_map, rules, sym, ap, ◌∙◌, subst}
+use Rattle.std.proofs.Common.{◌≡◌, true, ◌∷◌, get_or, set, option_map, rules, sym, ap, ◌∙◌, subst}
 use Rattle.std.specs.Prelude.{IfSome}
 use Rattle.vrl_value.specs.View.{tree_of}
 use Rattle.vrl_store.specs.Kept.{trees_of, AreKept, IsShallow}
@@ -31,9 +31,9 @@ invariant_of-self c =
     let items = s.variables.items in
     let n = c.args.number in
     let marked : c.both-self.result ≡ true → (s.are_shallow ≡ true) × (c.args.is_shallow ≡ true) = λ now. both_marked s.are_shallow c.args.is_shallow c.both-self.result c.both-self.ensures now in
-    let kept = kept_set s.are_shallow c.both-self.result items s.present.items n c.args.value (λ now. (marked now).0) s.kept c.requires.there (λ now. c.requires.shallow (marked now).1) in
+    let kept = kept_set s.are_shallow c.both-self.result items (0 ∷ s.present.items) n c.args.value (λ now. (marked now).0) s.kept c.requires.there (λ now. c.requires.shallow (marked now).1) in
     record {
-      kept = subst (λ x. AreKept c.both-self.result (trees_of (set items n x)) s.present.items) (sym c.replace-hidden.ensures.after) kept;
+      kept = subst (λ x. AreKept c.both-self.result (trees_of (set items n x)) (0 ∷ s.present.items)) (sym c.replace-hidden.ensures.after) kept;
       within = s.within;
       nothing = s.nothing;
     }

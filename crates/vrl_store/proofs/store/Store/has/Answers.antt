@@ -1,4 +1,4 @@
-use Rattle.std.proofs.Common.{◌≡◌, get_or, rules, sym, ◌∙◌, is_some}
+use Rattle.std.proofs.Common.{◌≡◌, get_or, rules, sym, ◌∙◌}
 use Rattle.vrl_store.proofs.Bound.{there_some}
 use Rattle.vrl_store.proofs.Written.{numbered_at}
 use Rattle.vrl_store.proofs.store.Store.has.Goals as goal

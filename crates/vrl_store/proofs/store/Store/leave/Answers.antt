@@ -1,4 +1,4 @@
-use Rattle.std.proofs.Common.{◌≡◌, length, map, take, ap, ◌∙◌, arith}
+use Rattle.std.proofs.Common.{◌≡◌, ◌∷◌, length, map, take, ap, ◌∙◌, arith}
 use Rattle.std.proofs.lemmas.Grind.{common_steps}
 use Rattle.std.specs.FinMap as finite
 use Rattle.vrl_value.specs.View.{tree_of}
@@ -19,8 +19,8 @@ returns-clause-left c = λ names are.
     let mapped_after = length_map after.variables.items in
     let counted : length after.present.items ≡ c.args.count = omega arith in
     let present : after.present.items ≡ take c.args.count before.present.items = c.loop-self.invariant.present ∙ ap (λ n. take n before.present.items) counted in
-    let left = left_names names (trees_of before.variables.items) (trees_of after.variables.items) after.present.items are.distinct (omega arith) (omega arith) kept.present kept.counted c.loop-self.invariant.stay in
-    let all = left ∙ ap (λ ps. finite.retain_keys (variables_of names (trees_of before.variables.items)) (λ x. is_among x (map (name_at names) ps))) present in
+    let left = left_names names (trees_of before.variables.items) (trees_of after.variables.items) (0 ∷ after.present.items) are.distinct (omega arith) (omega arith) kept.present kept.counted c.loop-self.invariant.stay in
+    let all = left ∙ ap (λ ps. finite.retain_keys (variables_of names (trees_of before.variables.items)) (λ x. is_among x (map (name_at names) (0 ∷ ps)))) present in
     let event = ap tree_of c.loop-self.invariant.event in
     λ i. record { event = event i; variables = all i }
 

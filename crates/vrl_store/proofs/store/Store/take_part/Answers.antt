@@ -1,4 +1,4 @@
-use Rattle.std.proofs.Common.{◌≡◌, ◌<◌, true, length, get_or, Some, None, rules, ◌∙◌}
+use Rattle.std.proofs.Common.{◌≡◌, ◌<◌, true, ◌∷◌, length, get_or, Some, None, rules, ◌∙◌}
 use Rattle.vrl_value.specs.View.{tree_of}
 use Rattle.vrl_store.specs.Kept.{IsShallow}
 use Rattle.vrl_store.proofs.Taken.{left_there, nothing_there, part_there, same_absent, shallow_left}
@@ -50,4 +50,4 @@ invariant_of-self-in-Some c =
     let is : Some c.in-Some.variable ≡ get_or s.variables.items n (Some c.in-Some.variable) = search rules in
     let shallow : s.are_shallow ≡ true → IsShallow (tree_of c.take_from-in-Some.new.value) =
     λ marked. shallow_left c.in-Some.variable c.take_from-in-Some.new.value c.args.path.now (shallow_at s.variables.items n c.in-Some.variable within is (s.kept.shallow marked)) c.take_from-in-Some.ensures.rest in
-    record { kept = kept_there s.are_shallow s.variables.items s.present.items n c.in-Some.variable c.take_from-in-Some.new.value s.kept within is shallow; within = s.within; nothing = s.nothing }
+    record { kept = kept_there s.are_shallow s.variables.items (0 ∷ s.present.items) n c.in-Some.variable c.take_from-in-Some.new.value s.kept within is shallow; within = s.within; nothing = s.nothing }

@@ -1,4 +1,4 @@
-use Rattle.std.proofs.Common.{◌≡◌, true, get_or, set, Some, None, rules, ap, ◌∙◌}
+use Rattle.std.proofs.Common.{◌≡◌, true, ◌∷◌, get_or, set, Some, None, rules, ap, ◌∙◌}
 use Rattle.vrl_value.specs.View.{tree_of}
 use Rattle.vrl_store.specs.Kept.{is_numbered, trees_of, IsShallow}
 use Rattle.vrl_store.proofs.Written.{kept_there, numbered_at, set_same, shallow_at, shallow_written, within_there, written_in}
@@ -37,4 +37,4 @@ invariant_of-self c =
     let before : s.are_shallow ≡ true → IsShallow (tree_of c.in-Some.variable) = λ marked. shallow_at s.variables.items c.args.number c.in-Some.variable c.requires.known is (s.kept.shallow marked) in
     let shallow : s.are_shallow ≡ true → IsShallow (tree_of c.set_in.new.root) =
     λ marked. shallow_written (tree_of c.in-Some.variable) (tree_of c.set_in.new.root) c.set_in.result (before marked) c.set_in.ensures.within c.set_in.ensures.err in
-    record { kept = kept_there s.are_shallow s.variables.items s.present.items c.args.number c.in-Some.variable c.set_in.new.root s.kept c.requires.known is shallow; within = s.within; nothing = s.nothing }
+    record { kept = kept_there s.are_shallow s.variables.items (0 ∷ s.present.items) c.args.number c.in-Some.variable c.set_in.new.root s.kept c.requires.known is shallow; within = s.within; nothing = s.nothing }
