@@ -2,6 +2,7 @@
 -- with no single part of its own.
 use Rattle.std.proofs.Common.{◌≡◌, ℕ, suc, ◌+◌, ◌<◌, ◌≤◌, Bool, true, false, List, [], ◌∷◌, ◌++◌, Option, Some, if◌then◌else◌, length, bytes_eq, codes, subst, arith}
 use Rattle.vrl_diag.specs.declared.diagnostic.Span.{Span}
+use Rattle.vrl_syntax.specs.Stores.{metadata}
 use Rattle.vrl_syntax.specs.Tree.{Args, Arms, Closure, Else, Expr, expr, Exprs, Form, Pairs, literal, array, object, read, query, group, block, conditional, negation, binary, assign, merge, both, call, return_of, abort_with, no_message, message, no_closure, span_of}
 use Rattle.vrl_syntax.specs.declared.root.Root.TheVariants as root
 use Rattle.vrl_syntax.specs.declared.root.Target.{Target}
@@ -161,6 +162,7 @@ module _ (x y a : ℕ) (w : Weights) (small : a ≤ 1)
   target_counts (token.Name n) span t is some = name_target (bytes_eq n (codes "_")) t (Place span (root.Name n) []) span some is (place_counts span some)
   target_counts (token.NamePath n path) span t is some = let same : Place span (root.Name n) path ≡ t = cc in subst (λ v. Count x y (weigh_target w v) (span.start + a) span.end) same (place_counts span some)
   target_counts (token.EventPath path) span t is some = let same : Place span root.Event path ≡ t = cc in subst (λ v. Count x y (weigh_target w v) (span.start + a) span.end) same (place_counts span some)
+  target_counts (token.MetadataPath path) span t is some = let same : Place span metadata path ≡ t = cc in subst (λ v. Count x y (weigh_target w v) (span.start + a) span.end) same (place_counts span some)
   target_counts k span t is some = let wrong : ⊥ = cc in absurd wrong
 
   -- two operands, or a target and what is merged into it

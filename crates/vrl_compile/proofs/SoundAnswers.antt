@@ -1,6 +1,7 @@
 -- What soundness says of the answers of `compile`.
 use Rattle.std.proofs.Common.{◌≡◌, ℕ, List, [], Option, Some, None, Result, Ok, Err, IfOk, inl, inr, length, refl, sym, ap, ◌∙◌, subst}
 use Rattle.std.proofs.lemmas.Bool.{false≢true}
+use Rattle.vrl_value.specs.Tree.{Tree}
 use Rattle.vrl_value.specs.declared.memory.Memory.{Memory as WantOfMemory}
 use Rattle.vrl_kind.specs.KindTree.{KindTree}
 use Rattle.vrl_state.specs.Laws.{EitherHoldsBoth, JoinsKeepFits}
@@ -41,10 +42,10 @@ soundly_ended either joins ends ended came =
     record { handled = is_handled ends ended.outcome ended.store came; came = came; joined = of_either either joins ends ended.outcome ended.store came }
 
 pub accepted_scripts_are_sound : ScriptsAreSound → EitherHoldsBoth → JoinsKeepFits → AcceptedScriptsAreSound
-accepted_scripts_are_sound sound either joins declared text script j is moment event of_kind formed =
+accepted_scripts_are_sound sound either joins declared text script j is moment event beside of_kind beside_is formed formed_beside =
     let formed_items = literals_are_well_formed is.tokens script is.is_script.reads in
     let nothing_given : GiveWhatHolds (language_rules script.patterns) = λ loop given. absurd (false≢true given) in
-    soundly_ended either joins (ends_of j) (ended_over (program_for script j) moment event) (sound moment (language_rules script.patterns) nothing_given declared script.items j is.judges is.no_error formed_items event of_kind formed)
+    soundly_ended either joins (ends_of j) (ended_over (program_for script j) moment event beside) (sound moment (language_rules script.patterns) nothing_given declared script.items j is.judges is.no_error formed_items event beside of_kind beside_is formed formed_beside)
 
 -- ---- what `compile` answers
 
@@ -62,7 +63,8 @@ told_ends j judged is =
 pub sound_answer : AcceptedScriptsAreSound → (declared : KindTree) (text : List ℕ) (r : Result Compiled WantOfMemory) → IfOk r (IsAnswer declared text) → IfOk r (IsSoundAnswer declared)
 sound_answer sound declared text (Err e) is = is
 sound_answer sound declared text (Ok (compiled.Refused diagnostics)) is = tt
-sound_answer sound declared text (Ok (compiled.Accepted answer)) is = λ moment event of_kind formed.
-    let ended = sound declared text is.script is.judgement is.accepted moment event of_kind (subst (λ sources. IsWellFormed (length sources) event) is.sources formed) in
-    let same_ends = subst (λ ends. IsSoundlyEnded ends (ended_over (program_for is.script is.judgement) moment event)) (sym (told_ends is.judgement answer.judged is.judged)) ended in
-    subst (λ program. IsSoundlyEnded (ends_told answer.judged) (ended_over program moment event)) (sym is.program) same_ends
+sound_answer sound declared text (Ok (compiled.Accepted answer)) is = λ moment event beside of_kind beside_is formed formed_beside.
+    let formed_by : (v : Tree) → IsWellFormed (length answer.sources) v → IsWellFormed (length is.script.patterns) v = λ v. subst (λ sources. IsWellFormed (length sources) v) is.sources in
+    let ended = sound declared text is.script is.judgement is.accepted moment event beside of_kind beside_is (formed_by event formed) (formed_by beside formed_beside) in
+    let same_ends = subst (λ ends. IsSoundlyEnded ends (ended_over (program_for is.script is.judgement) moment event beside)) (sym (told_ends is.judgement answer.judged is.judged)) ended in
+    subst (λ program. IsSoundlyEnded (ends_told answer.judged) (ended_over program moment event beside)) (sym is.program) same_ends

@@ -1,24 +1,24 @@
 -- Scripts: an item that may fail has a code, so a script without an error code handles each of its errors.
-use Rattle.std.proofs.Common.{◌≡◌, ℕ, ℤ, length, Bool, true, false, not, List, [], ◌∷◌, append-nil, Option, Some, None, is_some, refl, sym, ◌∙◌, subst}
-use Rattle.std.specs.Cmp.Lexicographic.{slice_cmp}
+use Rattle.std.proofs.Common.{◌≡◌, ℕ, ℤ, length, Bool, true, false, not, List, [], ◌∷◌, append-nil, Option, Some, None, IsSomeAnd, is_some, refl, sym, ◌∙◌, subst}
 use Rattle.std.specs.FinMap as map
-use Rattle.std.specs.Ordering.{nat_cmp}
 use Rattle.std.proofs.lemmas.Bool.{true≢false}
+use Rattle.std.proofs.lemmas.Cmp.{nat_list_cmp_total}
 use Rattle.vrl_value.specs.Tree.{Tree, null}
 use Rattle.vrl_diag.specs.declared.diagnostic.Diagnostic.{Diagnostic}
 use Rattle.vrl_diag.specs.declared.diagnostic.Span.{Span}
-use Rattle.vrl_syntax.specs.Stores.{store_of}
+use Rattle.vrl_syntax.specs.Stores.{metadata, metadata_name, store_of, value_of}
 use Rattle.vrl_syntax.specs.Tree.{Expr, Exprs, span_of}
 use Rattle.vrl_kind.specs.KindTree.{KindTree}
-use Rattle.vrl_state.specs.States.{IsJoined, RootMap}
+use Rattle.vrl_kind.specs.Kinds.{Inhabits}
+use Rattle.vrl_state.specs.States.{json_object, IsJoined, RootMap}
 use Rattle.vrl_state.specs.Stores.{FitsKnown, Store}
 use Rattle.vrl_builtin.specs.Rows.{SettingTree}
 use Rattle.vrl_store.specs.Outcomes.{Outcome, value, error, aborted, returned, banged, deep, Ended}
-use Rattle.vrl_store.specs.WellFormed.{IsWellFormed, IsWellFormedStore}
 use Rattle.vrl_judge.specs.Rules.{Judgement, at, if_state, settle, when, with_codes}
 use Rattle.vrl_check.specs.Judgement.{of_item}
 use Rattle.vrl_check.specs.Judgement.{JudgesItems, no_more_items, one_more_item, a_script}
 use Rattle.vrl_resolve.specs.Meaning.{run_script}
+use Rattle.vrl_resolve.proofs.RunsWellFormed.{start_is}
 use Rattle.vrl_compile.specs.Sound.{ComesTo, ExpressionsAreSound, HasNoError, IsSoundOutcome, ScriptsAreSound, ends_of, setting_of}
 use Rattle.vrl_check.specs.Determined.{EmptiesAreCounted}
 use Rattle.vrl_check.specs.OpenRules.{GiveWhatHolds, OpenRules}
@@ -70,22 +70,22 @@ run_outcome j (aborted m) store fail sound = tt
 run_outcome j (banged text) store fail sound = tt
 run_outcome j deep store fail sound = tt
 
--- the store that a run starts with
-start_is_well_formed : (count : ℕ) (event : Tree) → IsWellFormed count event → IsWellFormedStore count (store_of event)
-start_is_well_formed count event well = record { event = well; variables = λ x. rw (map.get-empty {X = Tree} (slice_cmp nat_cmp) x) tt }
+-- the metadata in the store that a run starts with
+start_holds : (event beside : Tree) (P : Tree → Type 0) → P beside → IsSomeAnd (value_of metadata (store_of event beside)) P
+start_holds event beside P holds = subst (λ found. IsSomeAnd found P) (sym (map.get-insert nat_list_cmp_total map.empty metadata_name beside metadata_name)) holds
 
 still_dead : (test : Bool) (known : Option RootMap) → known ≡ None → if_state test known ≡ None
 still_dead true known is = is
 still_dead false known is = refl
 
 pub script_is_sound : Laws → ExpressionsAreSound → ScriptsAreSound
-script_is_sound laws each moment rules holds declared items j (a_script {N = N} {state = state} {j = k} start null_kind judges) none well event of_kind well_event =
+script_is_sound laws each moment rules holds declared items j (a_script {N = N} {state = state} {j = k} start null_kind judges) none well event beside of_kind beside_is well_event well_beside =
     run_outcome (settle k) ended.outcome ended.store (still_dead (not k.poisoned) k.fail (items_never_fail judges refl none))
     (sound_settled k ended (laws.causes.items _ _ _ _ judges refl ∙ none)
-    ((sound_told k ended).1 (items_sound laws setting (items_in_order laws.counted each moment rules holds judges).1 none well [] k.empties (sym (append-nil k.empties)) null (store_of event)
-    (start_is_well_formed (length rules.sources) event well_event) (laws.starts declared state (store_of event) start of_kind) (scalar_is laws.cuts null N (λ s. refl) null_kind)))) where
+    ((sound_told k ended).1 (items_sound laws setting (items_in_order laws.counted each moment rules holds judges).1 none well [] k.empties (sym (append-nil k.empties)) null (store_of event beside)
+    (start_is (length rules.sources) event beside (store_of event beside) refl well_event well_beside) (laws.starts declared state (store_of event beside) start of_kind (start_holds event beside (λ v. Inhabits v json_object) beside_is)) (scalar_is laws.cuts null N (λ s. refl) null_kind)))) where
       setting : SettingTree
       setting = setting_of moment rules
 
       ended : Ended
-      ended = run_script setting k.empties items event
+      ended = run_script setting k.empties items event beside

@@ -15,7 +15,7 @@ use Rattle.vrl_word.specs.Words.{regex_of}
 use Rattle.vrl_kind.specs.KindTree.{KindTree}
 use Rattle.vrl_kind.specs.Kinds.{Inhabits}
 use Rattle.vrl_pattern.specs.Malformed.{is_malformed}
-use Rattle.vrl_state.specs.States.{IsEither, IsJoined, RootMap}
+use Rattle.vrl_state.specs.States.{json_object, IsEither, IsJoined, RootMap}
 use Rattle.vrl_store.specs.Outcomes.{Ended}
 use Rattle.vrl_store.specs.WellFormed.{IsWellFormed}
 use Rattle.vrl_check.specs.Answer.{IsJudged}
@@ -146,17 +146,19 @@ pub record IsSoundlyEnded (ends : Ends) (ended : Ended) : Type 0 where
       → IsJoined ends.ok ends.ret known
       → ComesTo (record { kind = K; ok = known; returned = K; ret = known }) ended.outcome ended.store
 
--- so ends every script that is accepted, over every well-formed event of the declared kind, at
--- every moment
+-- so ends every script that is accepted, over every event of the declared kind and every metadata
+-- that is an object of JSON, both well-formed, at every moment
 abbrev pub AcceptedScriptsAreSound : Type 0
 AcceptedScriptsAreSound = (declared : KindTree) (text : List ℕ) (script : Script) (j : Judgement)
-    → IsAccepted declared text script j → (moment : ℤ) (event : Tree) → Inhabits event declared
-    → IsWellFormed (length script.patterns) event
-    → IsSoundlyEnded (ends_of j) (ended_over (program_for script j) moment event)
+    → IsAccepted declared text script j → (moment : ℤ) (event beside : Tree)
+    → Inhabits event declared → Inhabits beside json_object
+    → IsWellFormed (length script.patterns) event → IsWellFormed (length script.patterns) beside
+    → IsSoundlyEnded (ends_of j) (ended_over (program_for script j) moment event beside)
 
 -- the same of what `compile` answers
 abbrev pub IsSoundAnswer : KindTree → Compiled → Type 0
-IsSoundAnswer declared (Accepted answer) = (moment : ℤ) (event : Tree) → Inhabits event declared
-    → IsWellFormed (length answer.sources) event
-    → IsSoundlyEnded (ends_told answer.judged) (ended_over (program_of answer.program) moment event)
+IsSoundAnswer declared (Accepted answer) = (moment : ℤ) (event beside : Tree)
+    → Inhabits event declared → Inhabits beside json_object
+    → IsWellFormed (length answer.sources) event → IsWellFormed (length answer.sources) beside
+    → IsSoundlyEnded (ends_told answer.judged) (ended_over (program_of answer.program) moment event beside)
 IsSoundAnswer declared (Refused diagnostics) = ⊤

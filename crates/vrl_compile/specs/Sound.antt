@@ -12,7 +12,7 @@ use Rattle.vrl_syntax.specs.declared.call_form.CallForm.{CallForm}
 use Rattle.vrl_kind.specs.KindTree.{KindTree}
 use Rattle.vrl_kind.specs.Kinds.{Inhabits}
 use Rattle.vrl_kind.specs.PartSets.{parts_at}
-use Rattle.vrl_state.specs.States.{IsCutOf, RootMap}
+use Rattle.vrl_state.specs.States.{json_object, IsCutOf, RootMap}
 use Rattle.vrl_state.specs.Stores.{AreOfKinds, FitsKnown, Store}
 use Rattle.vrl_builtin.specs.Rows.{SettingTree}
 use Rattle.vrl_builtin.specs.TagSets.{allows}
@@ -128,18 +128,19 @@ ComesTo ends (returned v) store = Inhabits v ends.returned × FitsKnown store en
 ComesTo ends (error text) store = ⊥
 ComesTo ends other store = ⊤
 
--- the run of a script over an event, with the empty values of its judgement, comes to one of the
--- ends that were judged
-abbrev pub IsSoundOver : SettingTree → Judgement → Exprs → Tree → Type 0
-IsSoundOver setting j items event =
-    let ended = run_script setting j.empties items event in ComesTo (ends_of j) ended.outcome ended.store
+-- the run of a script over an event and its metadata, with the empty values of its judgement, comes
+-- to one of the ends that were judged
+abbrev pub IsSoundOver : SettingTree → Judgement → Exprs → (event beside : Tree) → Type 0
+IsSoundOver setting j items event beside =
+    let ended = run_script setting j.empties items event beside in ComesTo (ends_of j) ended.outcome ended.store
 
 -- so it is of every script of well-formed literals that is judged without an error code, by
 -- whatever the rules leave open, where each state of a closure that they give holds, over every
--- well-formed event of the declared kind
+-- event of the declared kind and every metadata that is an object of JSON, both well-formed
 abbrev pub ScriptsAreSound : Type 0
 ScriptsAreSound = (moment : ℤ) (rules : OpenRules) → GiveWhatHolds rules
     → (declared : KindTree) (items : Exprs) (j : Judgement) → JudgesScript rules declared items j → HasNoError j.codes
     → AreWellFormedExprs (length rules.sources) items
-    → (event : Tree) → Inhabits event declared → IsWellFormed (length rules.sources) event
-    → IsSoundOver (setting_of moment rules) j items event
+    → (event beside : Tree) → Inhabits event declared → Inhabits beside json_object
+    → IsWellFormed (length rules.sources) event → IsWellFormed (length rules.sources) beside
+    → IsSoundOver (setting_of moment rules) j items event beside

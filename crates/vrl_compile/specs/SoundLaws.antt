@@ -3,8 +3,9 @@ use Rattle.vrl_value.specs.Laws.{MembersAreMaps}
 use Rattle.vrl_path.specs.Laws.{RemovedTreesAreRemovals, SetTreesAreSets}
 use Rattle.vrl_kind.specs.PartSets.{PartsAreAllowed}
 use Rattle.vrl_place.specs.Laws.{ReadsAreOfTheirCut}
-use Rattle.vrl_state.specs.Laws.{BodiesKeepFits, CutsHoldTheAllowed, EitherHoldsBoth, FlatteningKeepsFits, ForgettingKeepsFits, JoinsKeepFits, NamesKeepFits, RemovalsKeepFits, StartsFit, WithinKeepsFits, WritesKeepFits}
+use Rattle.vrl_state.specs.Laws.{BodiesKeepFits, CutsHoldTheAllowed, EitherHoldsBoth, FlatteningKeepsFits, ForgettingKeepsFits, JoinsKeepFits, NamesKeepFits, RemovalsKeepFits, WithinKeepsFits, WritesKeepFits}
 use Rattle.vrl_check.specs.Determined.{EmptiesAreCounted, PoisonsHaveCauses}
+use Rattle.vrl_check.specs.Starts.{ScriptStartsFit}
 use Rattle.vrl_table.specs.Table.{FunctionsAreFound, FunctionsKeepLaw}
 use Rattle.vrl_resolve.specs.Laws.{EvaluationsStayWellFormed}
 
@@ -17,7 +18,6 @@ pub record Laws : Type 0 where
   pub reads : ReadsAreOfTheirCut
   pub cuts : CutsHoldTheAllowed
   pub either : EitherHoldsBoth
-  pub starts : StartsFit
   pub writes : WritesKeepFits
   pub removals : RemovalsKeepFits
   pub joins : JoinsKeepFits
@@ -32,6 +32,7 @@ pub record Laws : Type 0 where
   pub found : FunctionsAreFound
   pub lawful : FunctionsKeepLaw
   -- the judgement
+  pub starts : ScriptStartsFit
   pub counted : EmptiesAreCounted
   pub causes : PoisonsHaveCauses
   -- the meaning

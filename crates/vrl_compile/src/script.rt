@@ -50,7 +50,7 @@ pub enum Compiled {
 }
 
 /// Reads a script of at most 65,536 bytes and judges it over events of the declared kind, which
-/// isn't absent, before any event is there.
+/// isn't absent, before any event is there. Of the metadata it knows that it is an object of JSON.
 ///
 /// The first of these steps that finds something wrong gives all the diagnostics, and each of the
 /// first four gives one: the first spelling at fault; tokens that are nested too deeply (1008);
@@ -62,9 +62,10 @@ pub enum Compiled {
 /// The script is accepted where none of its diagnostics is an error; those that are left are
 /// warnings. Else it is refused, with all its diagnostics, one of which at least is an error.
 ///
-/// An accepted script handles each of its errors: over a well-formed event of the declared kind, at
-/// any moment, it never ends with one. Where it ends with a value, that value is of the kind that
-/// was judged, and the event and the variables are of theirs.
+/// An accepted script handles each of its errors: over an event of the declared kind and metadata
+/// that is an object of JSON, both well-formed, at any moment, it never ends with one. Where it ends
+/// with a value, that value is of the kind that was judged, and the event and the variables, the
+/// metadata among them, are of theirs.
 ///
 /// # Errors
 ///
