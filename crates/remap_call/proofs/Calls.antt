@@ -4,7 +4,7 @@ use Rattle.vrl_io.specs.declared.fault.LoadFault.{LoadFault}
 use Rattle.vrl_io.specs.declared.fault.LoadFault.TheVariants as fault
 use Rattle.vrl_run.specs.Answer.{answer_to}
 use Rattle.vrl_run.specs.Answered.{IsAnswered, IsWhole}
-use Rattle.vrl_run.specs.Devices.{Devices}
+use Rattle.vrl_run.specs.Devices.{Devices, Held}
 use Rattle.vrl_run.specs.Request.{IsSame, MayCome, ReadsLines as Reads, Request, ScriptRun, bad_kind, bad_script, bad_words, map_lines, map_made, tell_kinds}
 use Rattle.vrl_run.specs.Status.{IsAnswer, IsFinished, IsInterrupted, TellsRefusal, meaning_of}
 use Rattle.vrl_run.specs.declared.status.Status.{Status}
@@ -13,7 +13,7 @@ use Rattle.remap_words.specs.Words.{Invocation, check, generate, lines}
 use Rattle.remap_call.specs.Call.{IsCall}
 use Rattle.remap_call.specs.Laws.{Laws}
 use Rattle.remap_call.specs.Loading.{IsReady, IsUnready}
-use Rattle.remap_call.specs.Request.{AcceptedScriptsRunSoundly, Asks, AsksByScript, HasLoadedBy, Held, IsUnloaded, ReadsLines, Texts, none_failed}
+use Rattle.remap_call.specs.Request.{AcceptedScriptsRunSoundly, Asks, AsksByScript, HasLoadedBy, IsUnloaded, ReadsLines, Texts, none_failed}
 use Rattle.vrl_run.proofs.AnswerLemmas.{undone}
 use Rattle.remap_call.proofs.AnswerLemmas.{answered}
 use Rattle.remap_call.proofs.OneAnswer.{comes_of_each, one_answer}
@@ -27,7 +27,7 @@ interrupts_each (bad_kind f) s is = inr is
 interrupts_each (bad_script text ds) s is = inr is
 interrupts_each (map_lines run) s is = inr (inl is)
 interrupts_each (map_made run count seed) s is = inr is
-interrupts_each (tell_kinds text warnings K known) s is = inr is
+interrupts_each (tell_kinds text warnings K known envelope) s is = inr is
 
 comes : Laws → (invocation : Option Invocation) (texts : Texts) (s : Status) → IsInterrupted s ⊎ ((request : Request) × Asks invocation texts request × MayCome request s) → (request : Request) → Asks invocation texts request → MayCome request s
 comes laws invocation texts s (inl is) request asks = interrupts_each request s is
@@ -45,7 +45,7 @@ read_if_finished i file text (bad_kind f) input moments s mode finished is asks 
 read_if_finished i file text (bad_script told ds) input moments s mode finished is asks read = absurd (subst IsFinished is finished)
 read_if_finished i file text (map_lines run) input moments s mode finished is asks read = read tt
 read_if_finished i file text (map_made run count seed) input moments s mode finished is asks read = let wrong : lines ≡ generate count seed = sym mode ∙ asks.0 in absurd (cc)
-read_if_finished i file text (tell_kinds told warnings K known) input moments s mode finished is asks read = let wrong : lines ≡ check = sym mode ∙ asks.0 in absurd (cc)
+read_if_finished i file text (tell_kinds told warnings K known envelope) input moments s mode finished is asks read = let wrong : lines ≡ check = sym mode ∙ asks.0 in absurd (cc)
 
 -- so the input has said that it is at its end
 ended_by_script : (i : Invocation) (file : Option (List ℕ)) (text : List ℕ) (before after : Devices) (s : Status) → i.mode ≡ lines → IsFinished s → IsWhole (AsksByScript i file text) s before after → IsTrue after.ended

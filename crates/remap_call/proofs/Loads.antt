@@ -5,10 +5,11 @@ use Rattle.vrl_io.specs.declared.fault.LoadFault.{LoadFault}
 use Rattle.vrl_io.specs.declared.fault.LoadFault.TheVariants.{Failed, Memory}
 use Rattle.vrl_io.specs.Faults.{failures_after as added}
 use Rattle.vrl_token.specs.Reading.{IsNoScript}
+use Rattle.vrl_run.specs.Devices.{Held, IsLoaded, load_limit}
 use Rattle.vrl_run.specs.Request.{Request, bad_words}
 use Rattle.remap_words.specs.Words.{Invocation}
 use Rattle.remap_call.specs.Loading.{IsFileOf, IsReady, IsUnready}
-use Rattle.remap_call.specs.Request.{AsksByScript, Held, IsLoaded, IsUnloaded, Texts, kind_failed, load_limit, no_kind_file, no_script, none_failed, script_failed}
+use Rattle.remap_call.specs.Request.{AsksByScript, IsUnloaded, Texts, kind_failed, no_kind_file, no_script, none_failed, script_failed}
 use Rattle.remap_call.proofs.AnswerLemmas.{not_longer}
 
 -- the bytes that the store tells, where it tells them

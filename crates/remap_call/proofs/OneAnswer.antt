@@ -1,5 +1,5 @@
 -- What a call asks has one answer.
-use Rattle.std.proofs.Common.{◌≡◌, ◌≢◌, ℕ, List, Option, Some, None, true, false, refl, sym, ap, ◌∙◌, subst, arith}
+use Rattle.std.proofs.Common.{◌≡◌, ◌≢◌, ℕ, Bool, List, Option, Some, None, true, false, refl, sym, ap, ◌∙◌, subst, arith}
 use Rattle.std.specs.List.{list_any}
 use Rattle.std.proofs.lemmas.List.Sorted.{list_any-IsPermutation}
 use Rattle.vrl_diag.specs.Refusal.{is_error}
@@ -115,9 +115,9 @@ one_run laws i file text run other one two =
     λ n. record { text = texts n; program = programs n; declared = kinds n; options = options n; warnings = both.warnings_are n }
 
 -- what its kinds are told as is one
-one_telling : Laws → (i : Invocation) (file : Option (List ℕ)) (text : List ℕ) (warnings warned : List Diagnostic) (K L : KindTree) (known other : Known) → IsKnown i file text warnings K known → IsKnown i file text warned L other
-    → tell_kinds text warnings K known ≡ tell_kinds text warned L other
-one_telling laws i file text warnings warned K L known other one two =
+one_telling : Laws → (i : Invocation) (file : Option (List ℕ)) (text : List ℕ) (warnings warned : List Diagnostic) (K L : KindTree) (known other : Known) (envelope : Bool) → IsKnown i file text warnings K known → IsKnown i file text warned L other
+    → tell_kinds text warnings K known envelope ≡ tell_kinds text warned L other envelope
+one_telling laws i file text warnings warned K L known other envelope one two =
     let kinds : one.declared ≡ two.declared = same_kind laws.kind_files i.kind file one.declared two.declared one.is_declared two.is_declared in
     let both = accepted_once laws (subst (λ M. IsAccepted M text one.script one.judgement warnings) kinds one.accepted) two.accepted in
     let told : IsEither two.judgement.kind two.judgement.returned K = subst (λ j. IsEither j.kind j.returned K) both.judgements one.kind in
@@ -125,7 +125,7 @@ one_telling laws i file text warnings warned K L known other one two =
     let joined : IsJoined two.judgement.ok two.judgement.ret one.roots = subst (λ j. IsJoined j.ok j.ret one.roots) both.judgements one.joined in
     let roots = laws.judgements.join two.judgement.ok two.judgement.ret one.roots two.roots joined two.joined in
     let states : known ≡ other = one.known_is ∙ ap known_as roots ∙ sym two.known_is in
-    λ n. tell_kinds text (both.warnings_are n) (kind n) (states n)
+    λ n. tell_kinds text (both.warnings_are n) (kind n) (states n) envelope
 
 -- ---- requests
 
@@ -137,7 +137,7 @@ kind_alone laws i file text f (bad_script told ds) one (is, no_text none only) =
 kind_alone laws i file text f (bad_script told ds) one (is, has_error some K declared refused) = absurd (not_declared_and_refused laws.kind_files i.kind file K f declared one.1)
 kind_alone laws i file text f (map_lines run) one two = absurd (not_declared_and_refused laws.kind_files i.kind file run.declared f two.1.declared one.1)
 kind_alone laws i file text f (map_made run count seed) one two = absurd (not_declared_and_refused laws.kind_files i.kind file run.declared f two.1.declared one.1)
-kind_alone laws i file text f (tell_kinds told warnings K known) one two = absurd (not_declared_and_refused laws.kind_files i.kind file two.2.declared f two.2.is_declared one.1)
+kind_alone laws i file text f (tell_kinds told warnings K known envelope) one two = absurd (not_declared_and_refused laws.kind_files i.kind file two.3.declared f two.3.is_declared one.1)
 
 -- a script that is refused isn't run
 run_not_refused : Laws → (i : Invocation) (file : Option (List ℕ)) (text : List ℕ) (ds : List Diagnostic) (run : ScriptRun) → IsRefused i.kind file text ds → IsRun i file text run → ⊥
@@ -168,10 +168,12 @@ refused_requests : Laws → (i : Invocation) (file : Option (List ℕ)) (text to
 refused_requests laws i file text told too ds es one two =
     ap (λ t. bad_script t ds) (one.0 ∙ sym two.0) ∙ ap (bad_script too) (one_refusal laws i.kind file text ds es one.1 two.1)
 
-same_tellings : Laws → (i : Invocation) (file : Option (List ℕ)) (text told too : List ℕ) (warnings warned : List Diagnostic) (K L : KindTree) (known other : Known)
-    → AsksByScript i file text (tell_kinds told warnings K known) → AsksByScript i file text (tell_kinds too warned L other) → tell_kinds told warnings K known ≡ tell_kinds too warned L other
-same_tellings laws i file text told too warnings warned K L known other one two =
-    ap (λ t. tell_kinds t warnings K known) one.1 ∙ one_telling laws i file text warnings warned K L known other one.2 two.2 ∙ ap (λ t. tell_kinds t warned L other) (sym two.1)
+same_tellings : Laws → (i : Invocation) (file : Option (List ℕ)) (text told too : List ℕ) (warnings warned : List Diagnostic) (K L : KindTree) (known other : Known) (envelope enclosed : Bool)
+    → AsksByScript i file text (tell_kinds told warnings K known envelope) → AsksByScript i file text (tell_kinds too warned L other enclosed)
+    → tell_kinds told warnings K known envelope ≡ tell_kinds too warned L other enclosed
+same_tellings laws i file text told too warnings warned K L known other envelope enclosed one two =
+    ap (λ t. tell_kinds t warnings K known envelope) one.1 ∙ ap (tell_kinds text warnings K known) (one.2 ∙ sym two.2)
+    ∙ one_telling laws i file text warnings warned K L known other enclosed one.3 two.3 ∙ ap (λ t. tell_kinds t warned L other enclosed) (sym two.1)
 
 alike : Laws → (i : Invocation) (file : Option (List ℕ)) (text : List ℕ) (a b : Request) → AsksByScript i file text a → AsksByScript i file text b → a ≡ b
 alike laws i file text bad_words b one two = absurd one
@@ -181,25 +183,25 @@ alike laws i file text (bad_script told ds) (bad_kind f) one two = kind_alone la
 alike laws i file text (bad_script told ds) (bad_script too es) one two = refused_requests laws i file text told too ds es one two
 alike laws i file text (bad_script told ds) (map_lines run) one two = absurd (run_not_refused laws i file text ds run one.1 two.1)
 alike laws i file text (bad_script told ds) (map_made run count seed) one two = absurd (run_not_refused laws i file text ds run one.1 two.1)
-alike laws i file text (bad_script told ds) (tell_kinds too warnings K known) one two = absurd (telling_not_refused laws i file text ds warnings K known one.1 two.2)
+alike laws i file text (bad_script told ds) (tell_kinds too warnings K known envelope) one two = absurd (telling_not_refused laws i file text ds warnings K known one.1 two.3)
 alike laws i file text (map_lines run) bad_words one two = absurd two
 alike laws i file text (map_lines run) (bad_kind f) one two = kind_alone laws i file text f (map_lines run) two one
 alike laws i file text (map_lines run) (bad_script told ds) one two = absurd (run_not_refused laws i file text ds run two.1 one.1)
 alike laws i file text (map_lines run) (map_lines other) one two = ap map_lines (one_run laws i file text run other one.1 two.1)
 alike laws i file text (map_lines run) (map_made other count seed) one two = absurd (lines_not_generate one.0 two.0)
-alike laws i file text (map_lines run) (tell_kinds too warnings K known) one two = absurd (lines_not_check one.0 two.0)
+alike laws i file text (map_lines run) (tell_kinds too warnings K known envelope) one two = absurd (lines_not_check one.0 two.0)
 alike laws i file text (map_made run count seed) bad_words one two = absurd two
 alike laws i file text (map_made run count seed) (bad_kind f) one two = kind_alone laws i file text f (map_made run count seed) two one
 alike laws i file text (map_made run count seed) (bad_script told ds) one two = absurd (run_not_refused laws i file text ds run two.1 one.1)
 alike laws i file text (map_made run count seed) (map_lines other) one two = absurd (lines_not_generate two.0 one.0)
 alike laws i file text (map_made run count seed) (map_made other number start) one two = same_made laws i file text run other count seed number start one two
-alike laws i file text (map_made run count seed) (tell_kinds too warnings K known) one two = absurd (check_not_generate two.0 one.0)
-alike laws i file text (tell_kinds told warnings K known) bad_words one two = absurd two
-alike laws i file text (tell_kinds told warnings K known) (bad_kind f) one two = kind_alone laws i file text f (tell_kinds told warnings K known) two one
-alike laws i file text (tell_kinds told warnings K known) (bad_script too ds) one two = absurd (telling_not_refused laws i file text ds warnings K known two.1 one.2)
-alike laws i file text (tell_kinds told warnings K known) (map_lines run) one two = absurd (lines_not_check two.0 one.0)
-alike laws i file text (tell_kinds told warnings K known) (map_made run count seed) one two = absurd (check_not_generate one.0 two.0)
-alike laws i file text (tell_kinds told warnings K known) (tell_kinds too warned L other) one two = same_tellings laws i file text told too warnings warned K L known other one two
+alike laws i file text (map_made run count seed) (tell_kinds too warnings K known envelope) one two = absurd (check_not_generate two.0 one.0)
+alike laws i file text (tell_kinds told warnings K known envelope) bad_words one two = absurd two
+alike laws i file text (tell_kinds told warnings K known envelope) (bad_kind f) one two = kind_alone laws i file text f (tell_kinds told warnings K known envelope) two one
+alike laws i file text (tell_kinds told warnings K known envelope) (bad_script too ds) one two = absurd (telling_not_refused laws i file text ds warnings K known two.1 one.3)
+alike laws i file text (tell_kinds told warnings K known envelope) (map_lines run) one two = absurd (lines_not_check two.0 one.0)
+alike laws i file text (tell_kinds told warnings K known envelope) (map_made run count seed) one two = absurd (check_not_generate one.0 two.0)
+alike laws i file text (tell_kinds told warnings K known envelope) (tell_kinds too warned L other enclosed) one two = same_tellings laws i file text told too warnings warned K L known other envelope enclosed one two
 
 alike_asked : Laws → (invocation : Option Invocation) (text file : Option (List ℕ)) (a b : Request) → Asks invocation (record { script = text; kind_file = file }) a → Asks invocation (record { script = text; kind_file = file }) b → a ≡ b
 alike_asked laws None text file a b one two = one ∙ sym two

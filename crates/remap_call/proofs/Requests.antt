@@ -7,6 +7,7 @@ use Rattle.vrl_kind.specs.KindTree.{KindTree}
 use Rattle.vrl_kindfile.specs.Files.{IsDeclared, IsRefused as IsFileRefused}
 use Rattle.vrl_kindfile.specs.declared.fault.KindFault.{KindFault}
 use Rattle.vrl_kindfile.specs.declared.fault.KindFault.TheVariants as fault
+use Rattle.vrl_state.specs.States.{json_object}
 use Rattle.vrl_token.specs.Placing.{script_limit}
 use Rattle.vrl_token.specs.Reading.{IsNoScript}
 use Rattle.vrl_check.specs.Answer.{IsEnding}
@@ -18,7 +19,7 @@ use Rattle.vrl_run.specs.Request.{bad_kind, bad_script, request_of, tell_kinds}
 use Rattle.vrl_run.specs.declared.request.Request.{Request as Asked}
 use Rattle.remap_words.specs.Words.{Invocation, check}
 use Rattle.remap_call.specs.Loading.{IsFileOf}
-use Rattle.remap_call.specs.Request.{AsksByScript, IsDeclaredKind, IsKindRefused, event_kind, has_error, no_script_request, no_text}
+use Rattle.remap_call.specs.Request.{AsksByScript, IsDeclaredKind, IsKindRefused, has_error, no_script_request, no_text}
 use Rattle.remap_call.proofs.Accepting.{known_as_told}
 
 -- ---- the text
@@ -46,7 +47,7 @@ refused_with bytes (Err f) is = by_name where
   by_name other None of = absurd of
   by_name other (Some name) of = (other, is)
 
-pub declared_without : (K : KindTree) → K ≡ event_kind → (name : Option (List ℕ)) → IsFileOf name None
+pub declared_without : (K : KindTree) → K ≡ json_object → (name : Option (List ℕ)) → IsFileOf name None
     → IsDeclaredKind name None K
 declared_without K is None of = is
 declared_without K is (Some name) of = absurd of
@@ -88,9 +89,9 @@ module _ (i : Invocation) (file : Option (List ℕ)) (script : List ℕ) where
 pub kinds_told : (i : Invocation) {declared : KindTree} {script : List ℕ} {accepted : AcceptedScript} {told : Judged}
     (result : Result Asked Memory) → ¬ IsNoScript script → IsAcceptedAs declared script accepted
     → i.mode ≡ check → told ≡ accepted.judged
-    → IfOk result (λ request. (ending : Ending) × IsEnding told ending × (request_of request ≡ tell_kinds script told.diagnostics ending.kind ending.state))
+    → IfOk result (λ request. (ending : Ending) × IsEnding told ending × (request_of request ≡ tell_kinds script told.diagnostics ending.kind ending.state i.envelope))
     → IfOk result (λ request. (file : Option (List ℕ)) → IsDeclaredKind i.kind file declared → AsksByScript i file script (request_of request))
 kinds_told i (Err refused) is_text is mode same ends = tt
 kinds_told i {script = script} {told = told} (Ok request) is_text is mode same ends = λ file declared.
     subst (AsksByScript i file script) (sym ends.2)
-    (mode, refl, known_as_told i file ends.0 told.diagnostics is_text is declared (ap (λ j. j.diagnostics) same) (subst (λ j. IsEnding j ends.0) same ends.1))
+    (mode, refl, refl, known_as_told i file ends.0 told.diagnostics is_text is declared (ap (λ j. j.diagnostics) same) (subst (λ j. IsEnding j ends.0) same ends.1))

@@ -1,5 +1,6 @@
--- A script that was accepted handles each of its errors over each event of the declared kind.
+-- A script that was accepted handles each of its errors over each event of the declared kind and its metadata.
 use Rattle.std.proofs.Common.{◌≡◌, ℕ, List, Option, Some, None, length, inl, inr, sym, subst}
+use Rattle.vrl_value.specs.Tree.{Tree}
 use Rattle.vrl_diag.specs.declared.diagnostic.Diagnostic.{Diagnostic}
 use Rattle.vrl_kind.specs.KindTree.{KindTree}
 use Rattle.vrl_store.specs.WellFormed.{IsWellFormed}
@@ -11,6 +12,7 @@ use Rattle.vrl_compile.specs.Answer.{AcceptedScriptsAreSound, IsSoundlyEnded}
 use Rattle.vrl_compile.specs.Program.{program_for}
 use Rattle.vrl_compile.specs.Sound.{ends_of}
 use Rattle.vrl_resolve.specs.Program.{ended_over}
+use Rattle.vrl_run.specs.Laws.{IsOfLine}
 use Rattle.vrl_run.specs.LineResult.{HandlesErrors}
 use Rattle.vrl_run.specs.Request.{ScriptRun}
 use Rattle.remap_call.specs.Request.{AcceptedScriptsRunSoundly, AsksToRun, IsAccepted, IsRun, RunsSoundly, Texts}
@@ -19,18 +21,21 @@ use Rattle.remap_words.specs.Words.{Invocation}
 
 -- so it handles each of its errors
 pub accepted_handles : AcceptedScriptsAreSound → {declared : KindTree} {text : List ℕ} {script : Script} {judgement : Judgement} {warnings : List Diagnostic} → IsAccepted declared text script judgement warnings → HandlesErrors declared (program_for script judgement)
-accepted_handles sound {declared} {text} {script} {judgement} is moment event of_kind formed = (sound declared text script judgement is.accepted moment event of_kind formed).handled
+accepted_handles sound {declared} {text} {script} {judgement} is moment event beside of_kind of_object formed beside_formed = (sound declared text script judgement is.accepted moment event beside of_kind of_object formed beside_formed).handled
+
+-- what a line stands for is well-formed
+part_formed : Laws → (count : ℕ) (part : Tree) → IsOfLine part → IsWellFormed count part
+part_formed laws count part is = record { ordered = is.ordered; below = laws.below count part is.json }
 
 -- and whatever the judgement of the script is, it holds of its run over each line that stands for an event of the kind
 pub runs_soundly : Laws → AcceptedScriptsRunSoundly
-runs_soundly laws declared text script judgement warnings is s written other judges line event reading of_kind moment =
-    let json = laws.json line event reading in
-    let formed : IsWellFormed (length script.patterns) event = record { ordered = laws.ordered line event reading; below = laws.below (length script.patterns) event json } in
+runs_soundly laws declared text script judgement warnings is s written other judges envelope line event beside stands of_kind moment =
+    let parts = laws.lines envelope line (event, beside) stands in
     let same : s ≡ script = (laws.readings text written.tokens is.accepted.tokens s script written.is_script is.accepted.is_script).script_is in
     let told : JudgesScript (language_rules script.patterns) declared script.items other = subst (λ x. JudgesScript (language_rules x.patterns) declared x.items other) same judges in
     let sources = script.patterns in
-    subst (λ j. IsSoundlyEnded (ends_of j) (ended_over (program_for script judgement) moment event)) (laws.judgements.script (language_rules sources) (laws.judgements.language sources) declared script.items judgement other is.accepted.judges told)
-    (laws.sound declared text script judgement is.accepted moment event of_kind formed)
+    subst (λ j. IsSoundlyEnded (ends_of j) (ended_over (program_for script judgement) moment event beside)) (laws.judgements.script (language_rules sources) (laws.judgements.language sources) declared script.items judgement other is.accepted.judges told)
+    (laws.sound declared text script judgement is.accepted moment event beside of_kind parts.object (part_formed laws (length sources) event parts.event) (part_formed laws (length sources) beside parts.metadata))
 
 of_run : AcceptedScriptsRunSoundly → (i : Invocation) (file : Option (List ℕ)) (text : List ℕ) (run : ScriptRun) → IsRun i file text run → RunsSoundly run.declared run.text run.program
 of_run accepted i file text run is =

@@ -26,7 +26,7 @@ by_script once i file text (bad_kind fault) asks = no_diagnostic
 by_script once i file text (bad_script told diagnostics) asks = refused_once once i.kind file text diagnostics asks.1
 by_script once i file text (map_lines run) asks = accepted_once once run.declared text asks.1.script asks.1.judgement run.warnings asks.1.accepted
 by_script once i file text (map_made run count seed) asks = accepted_once once run.declared text asks.1.script asks.1.judgement run.warnings asks.1.accepted
-by_script once i file text (tell_kinds told warnings K known) asks = accepted_once once asks.2.declared text asks.2.script asks.2.judgement warnings asks.2.accepted
+by_script once i file text (tell_kinds told warnings K known envelope) asks = accepted_once once asks.3.declared text asks.3.script asks.3.judgement warnings asks.3.accepted
 
 pub told_once : DiagnosticsStandOnce → (invocation : Option Invocation) (script file : Option (List ℕ)) → AreToldOnce (Asks invocation (record { script = script; kind_file = file }))
 told_once once None script file request is = subst (λ r. StandOnce (diagnostics_in r)) (sym is) no_diagnostic

@@ -1,13 +1,13 @@
 -- What a call of the program comes to.
 use Rattle.std.specs.Prelude.{◌≡◌, ◌⊎◌, ℕ, List, Option, IfSome, IsTrue}
 use Rattle.vrl_run.specs.Answered.{IsCutOff, LeavesDevices}
-use Rattle.vrl_run.specs.Devices.{Devices}
+use Rattle.vrl_run.specs.Devices.{Devices, Held}
 use Rattle.vrl_run.specs.Request.{MayCome, Request, ScriptRun, map_lines}
 use Rattle.vrl_run.specs.Status.{IsFinished}
 use Rattle.vrl_run.specs.declared.status.Status.{Status}
 use Rattle.vrl_run.specs.declared.status.Status.TheVariants.{Memory, ReadFault, TooMuch}
 use Rattle.remap_call.specs.OneAnswer.{HasOneAnswer}
-use Rattle.remap_call.specs.Request.{AreTexts, AreToldOnce, Asks, AsksToRun, HasLoadedBy, Held, IsUnloaded, ReadsLines, RunsSoundly, Texts}
+use Rattle.remap_call.specs.Request.{AreTexts, AreToldOnce, Asks, AsksToRun, HasLoadedBy, IsUnloaded, ReadsLines, RunsSoundly, Texts}
 use Rattle.remap_words.specs.Words.{Invocation}
 
 -- A call whose words mean this, or are refused, over a store that holds this, ended with this

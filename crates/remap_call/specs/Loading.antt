@@ -2,9 +2,10 @@
 use Rattle.std.specs.Prelude.{◌≡◌, ℕ, List, Option, Some, None, IfSome, ⊤}
 use Rattle.vrl_io.specs.declared.fault.LoadFault.{LoadFault}
 use Rattle.vrl_io.specs.declared.fault.LoadFault.TheVariants.{Failed, Memory}
+use Rattle.vrl_run.specs.Devices.{Held}
 use Rattle.vrl_run.specs.Request.{Request}
 use Rattle.remap_words.specs.Words.{Invocation}
-use Rattle.remap_call.specs.Request.{AreTexts, Asks, HasLoadedBy, Held, IsUnloaded, Texts}
+use Rattle.remap_call.specs.Request.{AreTexts, Asks, HasLoadedBy, IsUnloaded, Texts}
 
 -- there are bytes of a file where one is named, and no others
 abbrev pub IsFileOf : (name file : Option (List ℕ)) → Type 0

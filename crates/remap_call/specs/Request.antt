@@ -1,16 +1,14 @@
 -- What a call asks: the words tell it, and the script and the kind file that they name.
-use Rattle.std.specs.Prelude.{◌≡◌, ◌≢◌, ◌⊎◌, ℕ, ℤ, List, [], ◌∷◌, ◌++◌, take, Option, Some, None, option_map, IfSome, IsSomeAnd, ⊤}
+use Rattle.std.specs.Prelude.{◌≡◌, ◌≢◌, ◌⊎◌, ℕ, ℤ, Bool, List, [], ◌∷◌, ◌++◌, Option, Some, None, IfSome, IsSomeAnd, ⊤}
 use Rattle.vrl_value.specs.Tree.{Tree}
 use Rattle.vrl_diag.specs.declared.diagnostic.Diagnostic.{Diagnostic}
-use Rattle.vrl_json.specs.Line.{reading_of, whole}
-use Rattle.vrl_kind.specs.KindTree.{KindTree, json_rest, no_fields}
+use Rattle.vrl_kind.specs.KindTree.{KindTree}
 use Rattle.vrl_kind.specs.Kinds.{Inhabits}
-use Rattle.vrl_kind.specs.Make.{object_kind}
 use Rattle.vrl_kindfile.specs.Files.{IsDeclared, IsRefused as IsFileRefused}
 use Rattle.vrl_kindfile.specs.declared.fault.KindFault.{KindFault}
 use Rattle.vrl_kindfile.specs.declared.fault.KindFault.TheVariants as fault
 use Rattle.vrl_state.specs.Known.{known_as}
-use Rattle.vrl_state.specs.States.{IsEither, IsJoined, RootMap}
+use Rattle.vrl_state.specs.States.{json_object, IsEither, IsJoined, RootMap}
 use Rattle.vrl_state.specs.declared.known.Known.{Known}
 use Rattle.vrl_syntax.specs.Tree.{Script}
 use Rattle.vrl_token.specs.Reading.{IsNoScript}
@@ -24,24 +22,13 @@ use Rattle.vrl_compile.specs.Once.{StandOnce}
 use Rattle.vrl_compile.specs.Program.{program_for}
 use Rattle.vrl_compile.specs.Sound.{ends_of}
 use Rattle.vrl_resolve.specs.Program.{ProgramTree, ended_over}
+use Rattle.vrl_run.specs.Devices.{Held, IsLoaded}
+use Rattle.vrl_run.specs.LineResult.{StandsFor}
 use Rattle.vrl_run.specs.Request.{Request, ScriptRun, bad_kind, bad_script, bad_words, map_lines, map_made, tell_kinds}
 use Rattle.vrl_run.specs.declared.options.Options.{Options}
 use Rattle.remap_words.specs.Words.{Invocation, check, generate, lines}
 
 -- ---- what is loaded
-
--- what a store may tell: the bytes that a name holds
-abbrev pub Held : Type 0
-Held = Option (List ℕ → Option (List ℕ))
-
--- so many bytes are loaded at most: one more than a script or a kind file may have
-abbrev pub load_limit : ℕ
-load_limit = 65537
-
--- The bytes of a name. Where the store tells what it holds, they are what it holds under the name,
--- and no more of it than the limit; a name that holds nothing has none.
-abbrev pub IsLoaded : Held → List ℕ → Option (List ℕ) → Type 0
-IsLoaded held name bytes = IfSome held (λ h. option_map (take load_limit) (h name) ≡ bytes)
 
 -- the bytes of a call's script, and those of its kind file
 pub record Texts : Type 0 where
@@ -72,13 +59,10 @@ HasLoadedBy (Some invocation) texts failures after = HasLoaded invocation texts 
 
 -- ---- the declared kind
 
--- without a kind file, events are objects whose fields are any of JSON
-abbrev pub event_kind : KindTree
-event_kind = object_kind no_fields json_rest
-
--- the kind of the events that are taken, by the kind file's name, if there is one, and its bytes
+-- the kind of the events that are taken, by the kind file's name, if there is one, and its bytes;
+-- without one they are objects of which nothing is known but that they are JSON
 abbrev pub IsDeclaredKind : (name file : Option (List ℕ)) → KindTree → Type 0
-IsDeclaredKind None file K = K ≡ event_kind
+IsDeclaredKind None file K = K ≡ json_object
 IsDeclaredKind (Some name) file K = IsSomeAnd file (λ bytes. IsDeclared bytes K)
 
 -- the kind file has no kind, for this reason
@@ -116,13 +100,15 @@ pub data IsRefused (name file : Option (List ℕ)) (text : List ℕ) (diagnostic
       → IsRefusedText declared text diagnostics → IsRefused name file text diagnostics
 
 -- the program of a text handles each of its errors over each line that stands for an event of the
--- kind, at every moment: it ends with a value, by an `abort`, by a call with a `!` or by the limit
--- of depth. The value, the variables and the event at each path are of the kinds that were judged
+-- kind and its metadata, be it an envelope or not, at every moment: it ends with a value, by an
+-- `abort`, by a call with a `!` or by the limit of depth. The value, the variables, the metadata
+-- among them, and the event at each path are of the kinds that were judged
 abbrev pub RunsSoundly : KindTree → List ℕ → ProgramTree → Type 0
 RunsSoundly declared text program = (s : Script) → IsTextOf s text → (judgement : Judgement)
     → JudgesScript (language_rules s.patterns) declared s.items judgement
-    → (line : List ℕ) (event : Tree) → reading_of line ≡ whole event → Inhabits event declared → (moment : ℤ)
-    → IsSoundlyEnded (ends_of judgement) (ended_over program moment event)
+    → (envelope : Bool) (line : List ℕ) (event beside : Tree) → StandsFor envelope line (event, beside)
+    → Inhabits event declared → (moment : ℤ)
+    → IsSoundlyEnded (ends_of judgement) (ended_over program moment event beside)
 
 -- so runs every script that is accepted
 abbrev pub AcceptedScriptsRunSoundly : Type 0
@@ -133,7 +119,11 @@ AcceptedScriptsRunSoundly = (declared : KindTree) (text : List ℕ) (script : Sc
 -- ---- the request
 
 abbrev pub options_of : Invocation → Options
-options_of invocation = record { drop_on_error = invocation.drop_on_error; keep_on_abort = invocation.keep_on_abort }
+options_of invocation = record {
+  drop_on_error = invocation.drop_on_error;
+  keep_on_abort = invocation.keep_on_abort;
+  envelope = invocation.envelope;
+}
 
 -- the script of this text is accepted, and is to run so
 pub record IsRun (invocation : Invocation) (file : Option (List ℕ)) (text : List ℕ) (run : ScriptRun) : Type 0 where
@@ -167,8 +157,8 @@ AsksByScript i file text (bad_kind fault) = ¬ IsNoScript text × IsKindRefused 
 AsksByScript i file text (bad_script told diagnostics) = (told ≡ text) × IsRefused i.kind file text diagnostics
 AsksByScript i file text (map_lines run) = (i.mode ≡ lines) × IsRun i file text run
 AsksByScript i file text (map_made run count seed) = (i.mode ≡ generate count seed) × IsRun i file text run
-AsksByScript i file text (tell_kinds told warnings K known) =
-    (i.mode ≡ check) × (told ≡ text) × IsKnown i file text warnings K known
+AsksByScript i file text (tell_kinds told warnings K known envelope) =
+    (i.mode ≡ check) × (told ≡ text) × (envelope ≡ i.envelope) × IsKnown i file text warnings K known
 
 -- what a call asks whose words mean this, or are refused, by its texts; without a script it asks
 -- nothing
@@ -202,7 +192,7 @@ diagnostics_in (bad_kind fault) = []
 diagnostics_in (bad_script told diagnostics) = diagnostics
 diagnostics_in (map_lines run) = run.warnings
 diagnostics_in (map_made run count seed) = run.warnings
-diagnostics_in (tell_kinds told warnings K known) = warnings
+diagnostics_in (tell_kinds told warnings K known envelope) = warnings
 
 -- none of them stands twice, whatever is asked
 abbrev pub AreToldOnce : (Request → Type 0) → Type 0

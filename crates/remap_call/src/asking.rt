@@ -9,16 +9,17 @@ ghost use Rattle.vrl_run.specs.Request.{bad_kind, request_of, run_of, tell_kinds
 ghost use Rattle.vrl_token.specs.Reading.{IsNoScript};
 ghost use Rattle.remap_words.specs.View.{invocation_of, IsInBounds};
 ghost use Rattle.remap_call.specs.Loading.{IsFileOf};
-ghost use Rattle.remap_call.specs.Request.{event_kind, no_script_request, options_of, AsksByScript, IsDeclaredKind, IsKindRefused};
+ghost use Rattle.remap_call.specs.Request.{no_script_request, options_of, AsksByScript, IsDeclaredKind, IsKindRefused};
 
 use remap_words::{Invocation, Mode};
 use std::alloc::Global;
 use vrl_check::{Ending, Judged, ending};
 use vrl_compile::{Accepted, Compiled, accepted_scripts_are_sound, compile};
 use vrl_diag::{Diagnostic, Diagnostics};
-use vrl_kind::{Kind, Rest, equal_tags_are_one_kind, kind_is_canonical};
+use vrl_kind::Kind;
 use vrl_kindfile::{KindFault, read_kind_file};
 use vrl_run::{Options, ReadyScript, Request};
+use vrl_state::json_object;
 use vrl_token::script_text;
 use vrl_value::{Bytes, Memory};
 
@@ -73,22 +74,11 @@ fn declared_kind(alloc: Global, file: &Option<Bytes>) -> Result<Kind, KindFault>
 {
     match file {
         Some(file) => read_kind_file(alloc, file.as_slice()),
-        None => match event_kind(alloc) {
+        None => match json_object(alloc) {
             Ok(kind) => Ok(kind),
             Err(Memory) => Err(KindFault::Memory),
         },
     }
-}
-
-// The kind of the events where no kind file says it: an object whose fields are any of JSON.
-// `Memory`: out of memory.
-fn event_kind(alloc: Global) -> Result<Kind, Memory>
-    ensures { IfOk result (λ kind. kind ≡ event_kind) }
-{
-    equal_tags_are_one_kind();
-    let kind = Kind::object(alloc, Vec::new(alloc), Rest::Json)?;
-    kind_is_canonical(&kind);
-    Ok(kind)
 }
 
 // That a kind file has no kind. `Memory`: it was for want of that.
@@ -134,7 +124,7 @@ fn accepted_asked(
             let script = script_of(invocation, script, declared, accepted);
             Ok(Request::Generate(script, count, seed))
         }
-        Mode::Check => kinds_asked(alloc, script, judged_of(accepted)),
+        Mode::Check => kinds_asked(alloc, script, judged_of(accepted), invocation.envelope),
     }
 }
 
@@ -178,13 +168,14 @@ fn diagnostics_of(judged: Judged) -> Diagnostics
     judged.diagnostics
 }
 
-// What becomes of an event over which the script ends early.
+// What a line stands for, and what becomes of an event over which the script ends early.
 fn options_of(invocation: &Invocation) -> Options
     ensures { result ≡ options_of (invocation_of invocation.now) }
 {
     Options {
         drop_on_error: invocation.drop_on_error,
         keep_on_abort: invocation.keep_on_abort,
+        envelope: invocation.envelope,
     }
 }
 
@@ -195,13 +186,20 @@ fn judged_of(accepted: Accepted) -> Judged
     accepted.judged
 }
 
-// That the kinds are told that a script may end with. `Memory`: out of memory.
-fn kinds_asked(alloc: Global, script: Bytes, judged: Judged) -> Result<Request, Memory>
+// That the kinds are told that a script may end with, that of the metadata where envelopes are asked
+// for. `Memory`: out of memory.
+fn kinds_asked(
+    alloc: Global,
+    script: Bytes,
+    judged: Judged,
+    envelope: bool,
+) -> Result<Request, Memory>
     requires { (j : Judgement) × IsJudged j judged }
     ensures asks { IfOk result (λ request. (ending : Ending) × IsEnding judged ending
-        × (request_of request ≡ tell_kinds script judged.diagnostics ending.kind ending.state)) }
+        × (request_of request ≡ tell_kinds script judged.diagnostics ending.kind ending.state envelope)) }
     ensures ready { IfOk result IsReadyRequest }
 {
     let Ending { kind, state } = ending(alloc, &judged)?;
-    Ok(Request::Check(script, diagnostics_of(judged), kind, state))
+    let warnings = diagnostics_of(judged);
+    Ok(Request::Check(script, warnings, kind, state, envelope))
 }

@@ -18,9 +18,9 @@ use vrl_compile::{
     scripts_have_one_reading,
 };
 use vrl_io::{Clock, LoadFault, Sink, Source, Store};
-use vrl_json::{json_needs_no_sources, lines_are_json, lines_are_ordered};
+use vrl_json::json_needs_no_sources;
 use vrl_kindfile::files_have_one_answer;
-use vrl_run::{Status, answer};
+use vrl_run::{Status, answer, lines_stand_for_json};
 
 /// All that the program does: reads the words, which are those behind the program's name, loads the
 /// script and the kind file that they name, and runs the script over the lines of the input, or
@@ -111,13 +111,12 @@ fn laws()
     diagnostics_stand_once();
     files_have_one_answer();
     accepted_scripts_are_sound();
-    lines_are_json();
-    lines_are_ordered();
+    lines_stand_for_json();
     json_needs_no_sources();
 }
 
 // Each script that is accepted handles each of its errors, over each event of the kind that is
-// declared. This takes no time.
+// declared with any metadata. This takes no time.
 fn accepted_run_soundly()
     ensures { AcceptedScriptsRunSoundly }
 {

@@ -1,11 +1,11 @@
 ghost use Rattle.std.specs.Prelude.{◌≡◌, ◌≤◌, ℕ, option_map, IfErr, IfOk, IfSome, IsTrue, List, OnOk, Some};
 ghost use Rattle.vrl_io.specs.Faults.{failures_after};
+ghost use Rattle.vrl_run.specs.Devices.{IsLoaded};
 ghost use Rattle.vrl_run.specs.Request.{request_of, IsReadyRequest};
 ghost use Rattle.vrl_token.specs.Reading.{IsNoScript};
 ghost use Rattle.remap_words.specs.View.{invocation_of, texts, IsInBounds};
 ghost use Rattle.remap_words.specs.Words.{words_mean};
 ghost use Rattle.remap_call.specs.Loading.{IsFileOf, IsReady, IsUnready};
-ghost use Rattle.remap_call.specs.Request.{IsLoaded};
 
 use crate::asking::asked;
 use remap_words::{Invocation, WordsFault, read_words};

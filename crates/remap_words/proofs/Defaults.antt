@@ -54,16 +54,20 @@ flag_default name rows = go (has_row name rows) refl
     go false e = at_row-new name (more_values DefaultValue (codes "false" ∷ [])) (default_row name ∷ []) rows e
 
 abbrev flags_done : List Row → List Row
-flags_done rows = with_default (with_default (with_default rows (built_flag (codes "drop-on-error"))) (built_flag (codes "keep-on-abort"))) (built_flag (codes "check"))
+flags_done rows = with_default (with_default (with_default (with_default rows (built_flag (codes "drop-on-error"))) (built_flag (codes "keep-on-abort"))) (built_flag (codes "envelope")))
+    (built_flag (codes "check"))
 
 abbrev with_flags : List Row → List Row
-with_flags rows = with_flag (codes "check") (with_flag (codes "keep-on-abort") (with_flag (codes "drop-on-error") rows))
+with_flags rows = with_flag (codes "check") (with_flag (codes "envelope") (with_flag (codes "keep-on-abort") (with_flag (codes "drop-on-error") rows)))
 
 flags_are : (rows : List Row) → flags_done rows ≡ with_flags rows
 flags_are rows =
-    ap (λ rs. with_default (with_default rs (built_flag (codes "keep-on-abort"))) (built_flag (codes "check"))) (flag_default (codes "drop-on-error") rows)
-    ∙ ap (λ rs. with_default rs (built_flag (codes "check"))) (flag_default (codes "keep-on-abort") (with_flag (codes "drop-on-error") rows))
-    ∙ flag_default (codes "check") (with_flag (codes "keep-on-abort") (with_flag (codes "drop-on-error") rows))
+    let dropped = with_flag (codes "drop-on-error") rows in
+    let kept = with_flag (codes "keep-on-abort") dropped in
+    ap (λ rs. with_default (with_default (with_default rs (built_flag (codes "keep-on-abort"))) (built_flag (codes "envelope"))) (built_flag (codes "check"))) (flag_default (codes "drop-on-error") rows)
+    ∙ ap (λ rs. with_default (with_default rs (built_flag (codes "envelope"))) (built_flag (codes "check"))) (flag_default (codes "keep-on-abort") dropped)
+    ∙ ap (λ rs. with_default rs (built_flag (codes "check"))) (flag_default (codes "envelope") kept)
+    ∙ flag_default (codes "check") (with_flag (codes "envelope") kept)
 
 pub finished_is : (h : Held) → finished table h ≡ with_flags (settled table h).rows
 unfolding table
@@ -117,32 +121,41 @@ pub record AreRead (rows : List Row) (g : Settings) : Type 0 where
   pub generate : first_of (codes "generate") rows ≡ g.generate
   pub drop_on_error : one_of (codes "drop-on-error") rows ≡ Some (flag_text g.drop_on_error)
   pub keep_on_abort : one_of (codes "keep-on-abort") rows ≡ Some (flag_text g.keep_on_abort)
+  pub envelope : one_of (codes "envelope") rows ≡ Some (flag_text g.envelope)
   pub check : one_of (codes "check") rows ≡ Some (flag_text g.check)
 
 -- the flags' defaults change no other row
-behind : (id : Text) (rows : List Row) → bytes_eq (codes "drop-on-error") id ≡ false → bytes_eq (codes "keep-on-abort") id ≡ false → bytes_eq (codes "check") id ≡ false
-    → row_at id (with_flags rows) ≡ row_at id rows
-behind id rows drops keeps checks =
-    elsewhere id (codes "check") (with_flag (codes "keep-on-abort") (with_flag (codes "drop-on-error") rows)) checks
-    ∙ elsewhere id (codes "keep-on-abort") (with_flag (codes "drop-on-error") rows) keeps ∙ elsewhere id (codes "drop-on-error") rows drops
+behind : (id : Text) (rows : List Row) → bytes_eq (codes "drop-on-error") id ≡ false → bytes_eq (codes "keep-on-abort") id ≡ false → bytes_eq (codes "envelope") id ≡ false
+    → bytes_eq (codes "check") id ≡ false → row_at id (with_flags rows) ≡ row_at id rows
+behind id rows drops keeps encloses checks =
+    let dropped = with_flag (codes "drop-on-error") rows in
+    let kept = with_flag (codes "keep-on-abort") dropped in
+    elsewhere id (codes "check") (with_flag (codes "envelope") kept) checks ∙ elsewhere id (codes "envelope") kept encloses
+    ∙ elsewhere id (codes "keep-on-abort") dropped keeps ∙ elsewhere id (codes "drop-on-error") rows drops
 
 pub flags_read : (rows : List Row) (g : Settings) → Shows rows g → AreRead (with_flags rows) g
 flags_read rows g s =
     let dropped = with_flag (codes "drop-on-error") rows in
     let kept = with_flag (codes "keep-on-abort") dropped in
+    let enclosing = with_flag (codes "envelope") kept in
     record {
-      script = value_read (codes "script") (with_flags rows) g.script (behind (codes "script") rows refl refl refl ∙ s.script);
-      kind = value_read (codes "kind") (with_flags rows) g.kind (behind (codes "kind") rows refl refl refl ∙ s.kind);
-      jobs = value_read (codes "jobs") (with_flags rows) g.jobs (behind (codes "jobs") rows refl refl refl ∙ s.jobs);
-      generate = value_read (codes "generate") (with_flags rows) g.generate (behind (codes "generate") rows refl refl refl ∙ s.generate);
+      script = value_read (codes "script") (with_flags rows) g.script (behind (codes "script") rows refl refl refl refl ∙ s.script);
+      kind = value_read (codes "kind") (with_flags rows) g.kind (behind (codes "kind") rows refl refl refl refl ∙ s.kind);
+      jobs = value_read (codes "jobs") (with_flags rows) g.jobs (behind (codes "jobs") rows refl refl refl refl ∙ s.jobs);
+      generate = value_read (codes "generate") (with_flags rows) g.generate (behind (codes "generate") rows refl refl refl refl ∙ s.generate);
       drop_on_error = flag_read (codes "drop-on-error") (with_flags rows) g.drop_on_error
-          (elsewhere (codes "drop-on-error") (codes "check") kept refl ∙ elsewhere (codes "drop-on-error") (codes "keep-on-abort") dropped refl
-          ∙ here (codes "drop-on-error") rows g.drop_on_error refl s.drop_on_error);
+          (elsewhere (codes "drop-on-error") (codes "check") enclosing refl ∙ elsewhere (codes "drop-on-error") (codes "envelope") kept refl
+          ∙ elsewhere (codes "drop-on-error") (codes "keep-on-abort") dropped refl ∙ here (codes "drop-on-error") rows g.drop_on_error refl s.drop_on_error);
       keep_on_abort = flag_read (codes "keep-on-abort") (with_flags rows) g.keep_on_abort
-          (elsewhere (codes "keep-on-abort") (codes "check") kept refl
+          (elsewhere (codes "keep-on-abort") (codes "check") enclosing refl ∙ elsewhere (codes "keep-on-abort") (codes "envelope") kept refl
           ∙ here (codes "keep-on-abort") dropped g.keep_on_abort refl (elsewhere (codes "keep-on-abort") (codes "drop-on-error") rows refl ∙ s.keep_on_abort));
-      check = flag_read (codes "check") (with_flags rows) g.check (here (codes "check") kept g.check refl
-          (elsewhere (codes "check") (codes "keep-on-abort") dropped refl ∙ elsewhere (codes "check") (codes "drop-on-error") rows refl ∙ s.check));
+      envelope = flag_read (codes "envelope") (with_flags rows) g.envelope
+          (elsewhere (codes "envelope") (codes "check") enclosing refl
+          ∙ here (codes "envelope") kept g.envelope refl (elsewhere (codes "envelope") (codes "keep-on-abort") dropped refl
+          ∙ elsewhere (codes "envelope") (codes "drop-on-error") rows refl ∙ s.envelope));
+      check = flag_read (codes "check") (with_flags rows) g.check (here (codes "check") enclosing g.check refl
+          (elsewhere (codes "check") (codes "envelope") kept refl ∙ elsewhere (codes "check") (codes "keep-on-abort") dropped refl
+          ∙ elsewhere (codes "check") (codes "drop-on-error") rows refl ∙ s.check));
     }
 
 -- ---- the faults of the end
@@ -187,7 +200,7 @@ defaults_pass = none_fails table (
       option_passes (codes "jobs"),
       (
         option_passes (codes "generate"),
-        (flag_passes (codes "drop-on-error"), (flag_passes (codes "keep-on-abort"), (flag_passes (codes "check"), tt))),
+        (flag_passes (codes "drop-on-error"), (flag_passes (codes "keep-on-abort"), (flag_passes (codes "envelope"), (flag_passes (codes "check"), tt)))),
       ),
     ),
   ),
@@ -231,7 +244,7 @@ end_is h g stands =
     ap (λ ks. or_else ks (or_else (defaults_fault rows table) (check_fault shape (finished table h) false))) stands.0
     ∙ ap (λ ks. or_else ks (check_fault shape (finished table h) false)) (defaults_pass rows) ∙ asked (finished table h)
     ∙ ap (λ rs. cond (is_given (codes "script") rs) [] (MissingRequiredArgument ∷ [])) (finished_is h)
-    ∙ ap (λ b. cond b [] (MissingRequiredArgument ∷ [])) (named (with_flags rows) g.script (behind (codes "script") rows refl refl refl ∙ stands.1.script))
+    ∙ ap (λ b. cond b [] (MissingRequiredArgument ∷ [])) (named (with_flags rows) g.script (behind (codes "script") rows refl refl refl refl ∙ stands.1.script))
 
 pub end_agrees : (h : Held) (m : Option Settings) → Stands h m → Agrees (end_fault h) (finished table h) m
 end_agrees h None stands = fault_agrees (end_fault h) (finished table h) (fault_first (settle_fault table false h) _ stands)

@@ -46,6 +46,7 @@ nothing_shown = record {
   generate = refl;
   drop_on_error = refl;
   keep_on_abort = refl;
+  envelope = refl;
   check = refl;
 }
 
@@ -67,6 +68,7 @@ matched m (Some g) agrees =
       generate = first_value-rows f (codes "generate") ∙ read.generate;
       drop_on_error = one_text-rows f (codes "drop-on-error") ∙ read.drop_on_error;
       keep_on_abort = one_text-rows f (codes "keep-on-abort") ∙ read.keep_on_abort;
+      envelope = one_text-rows f (codes "envelope") ∙ read.envelope;
       check = one_text-rows f (codes "check") ∙ read.check;
     }
 

@@ -11,7 +11,7 @@ use Rattle.clap.specs.Walk.{Text}
 use Rattle.clap.specs.declared.parser.matches.ArgMatches.{ArgMatches}
 use Rattle.remap_words.specs.Numbers.{number_in}
 use Rattle.remap_words.specs.Command.{AreMatchesOf, IsAnswer, fault_by}
-use Rattle.remap_words.specs.Uses.{Use, begins_with_hyphen, behind_equals, check, drop_on_error, flag, generate, has_short, is_equals, is_short, jobs, keep_on_abort, kind, option_spelt, option_with_value, refused, script, uses_from, uses_of, whole, word_of}
+use Rattle.remap_words.specs.Uses.{Use, begins_with_hyphen, behind_equals, check, drop_on_error, envelope, flag, generate, has_short, is_equals, is_short, jobs, keep_on_abort, kind, option_spelt, option_with_value, refused, script, uses_from, uses_of, whole, word_of}
 use Rattle.remap_words.specs.View.{IsInBounds, IsModeInBounds, invocation_of}
 use Rattle.remap_words.specs.Words as words
 use Rattle.remap_words.specs.Words.{Settings, Invocation, Mode, given_of, invocation_given, jobs_of, kind_file_of, mode_of, name_of, nothing_given, with_uses, words_mean}
@@ -76,9 +76,9 @@ long_refuses x xs rest refuses has =
     let none = refuses has in (
       ap (λ w. uses_from w rest (λ waits. uses_of waits rest)) (long_is x xs)
           ∙ picked (λ found w. uses_from w rest (λ waits. uses_of waits rest) ≡ None) (name_in x xs) (option_with_value kind (value_in x xs)) (option_with_value jobs (value_in x xs))
-          (option_with_value generate (value_in x xs)) (flag drop_on_error (value_in x xs)) (flag keep_on_abort (value_in x xs)) (flag check (value_in x xs)) refused
+          (option_with_value generate (value_in x xs)) (flag drop_on_error (value_in x xs)) (flag keep_on_abort (value_in x xs)) (flag envelope (value_in x xs)) (flag check (value_in x xs)) refused
           (by_value kind (value_in x xs) none) (by_value jobs (value_in x xs) none) (by_value generate (value_in x xs) none)
-          (by_flag drop_on_error (value_in x xs) none) (by_flag keep_on_abort (value_in x xs) none) (by_flag check (value_in x xs) none) refl,
+          (by_flag drop_on_error (value_in x xs) none) (by_flag keep_on_abort (value_in x xs) none) (by_flag envelope (value_in x xs) none) (by_flag check (value_in x xs) none) refl,
       λ given. refl,
     )
   where
@@ -185,11 +185,12 @@ made_bounds text mode is = go (number_in 7 1 1000000 (before_first words.is_colo
         let seeded : seed ≤ 4294967295 = (at_seed seed refl).1 in
         subst IsModeInBounds (ap (λ o. unwrap_or o mode) is) (counted.0, counted.1, omega (arith, seeded))
 
-mode_bounds : (checked : Bool) (text : Option Text) (mode : Mode) → mode_of checked text ≡ Some mode → IsModeInBounds mode
-mode_bounds false None mode is = subst IsModeInBounds (ap (λ o. unwrap_or o mode) is) tt
-mode_bounds true None mode is = subst IsModeInBounds (ap (λ o. unwrap_or o mode) is) tt
-mode_bounds false (Some text) mode is = made_bounds text mode is
-mode_bounds true (Some text) mode is = absurd (some≢none mode (sym is))
+mode_bounds : (checked enclosed : Bool) (text : Option Text) (mode : Mode) → mode_of checked enclosed text ≡ Some mode → IsModeInBounds mode
+mode_bounds false enclosed None mode is = subst IsModeInBounds (ap (λ o. unwrap_or o mode) is) tt
+mode_bounds true enclosed None mode is = subst IsModeInBounds (ap (λ o. unwrap_or o mode) is) tt
+mode_bounds false false (Some text) mode is = made_bounds text mode is
+mode_bounds false true (Some text) mode is = absurd (some≢none mode (sym is))
+mode_bounds true enclosed (Some text) mode is = absurd (some≢none mode (sym is))
 
 jobs_bounds : (text : Option Text) (n : ℕ) → jobs_of text ≡ Some n → (1 ≤ n) × (n ≤ 32)
 jobs_bounds None n is =
@@ -198,8 +199,8 @@ jobs_bounds None n is =
 jobs_bounds (Some text) n is = number_bounds 2 1 32 text n is
 
 given_in_bounds : (g : Settings) (i : Invocation) → invocation_given g ≡ Some i → IsInBounds i
-given_in_bounds g i is = go (option_and_then name_of g.script) (kind_file_of g.kind) (jobs_of g.jobs) (mode_of g.check g.generate)
-    (jobs_bounds g.jobs) (mode_bounds g.check g.generate) is
+given_in_bounds g i is = go (option_and_then name_of g.script) (kind_file_of g.kind) (jobs_of g.jobs) (mode_of g.check g.envelope g.generate)
+    (jobs_bounds g.jobs) (mode_bounds g.check g.envelope g.generate) is
   where
     go : (s : Option Text) (k : Option (Option Text)) (j : Option ℕ) (m : Option Mode) → ((n : ℕ) → j ≡ Some n → (1 ≤ n) × (n ≤ 32))
         → ((mode : Mode) → m ≡ Some mode → IsModeInBounds mode)
@@ -209,6 +210,7 @@ given_in_bounds g i is = go (option_and_then name_of g.script) (kind_file_of g.k
           jobs = jobs;
           drop_on_error = g.drop_on_error;
           keep_on_abort = g.keep_on_abort;
+          envelope = g.envelope;
           mode = mode;
         }) m) j) k) s ≡ Some i
         → IsInBounds i

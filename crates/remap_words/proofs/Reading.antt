@@ -7,10 +7,10 @@ use Rattle.std.specs.Str.{bytes_eq}
 use Rattle.std.proofs.lemmas.Bool.{eqb-true}
 use Rattle.clap.specs.Faults.{walk_fault}
 use Rattle.clap.specs.Walk.{Held, Text, Waiting, after_step, arg_by_long, finished, idle, option, plain_word}
-use Rattle.remap_words.specs.Uses.{begins_with_hyphen, behind_equals, check, drop_on_error, flag, generate, has_short, is_equals, is_short, jobs, keep_on_abort, kind, option_spelt, option_with_value, refused, script, uses_from, uses_of, whole, word_of}
+use Rattle.remap_words.specs.Uses.{begins_with_hyphen, behind_equals, check, drop_on_error, envelope, flag, generate, has_short, is_equals, is_short, jobs, keep_on_abort, kind, option_spelt, option_with_value, refused, script, uses_from, uses_of, whole, word_of}
 use Rattle.remap_words.specs.Words.{Settings, with_use}
 use Rattle.remap_words.proofs.Table.{by_long, generate_by_id, jobs_by_id, kind_by_id, picked, rule_named, table}
-use Rattle.remap_words.proofs.Rows.{At, check_use, drop_on_error_use, generate_use, jobs_use, keep_on_abort_use, kind_use}
+use Rattle.remap_words.proofs.Rows.{At, check_use, drop_on_error_use, envelope_use, generate_use, jobs_use, keep_on_abort_use, kind_use}
 use Rattle.remap_words.proofs.Held.{Stands, fault_first}
 use Rattle.remap_words.proofs.Turns.{IsPlain, dashes, dashes_fault, dashes_walk, long_fault_is, long_refused, long_turn, long_walk, long_walk_is, name_fault, name_walk, place, plain_fault, plain_walk, trailing_fault, trailing_walk, value_fault, value_walk}
 use Rattle.remap_words.proofs.Defaults.{Agrees, end_agrees, end_fault, fault_agrees}
@@ -150,12 +150,13 @@ long_agrees : (position : ℕ) (h : Held) (word : Text) (rest : List Text) (m : 
 long_agrees position h word rest m name value stands at both free =
     let idly = λ (p : ℕ) (n : Held) (more : Option Settings) (s : Stands n more) (t : At p more). both.0 p n more s t free in
     picked (LongAgrees position h word rest m value) name (option_with_value kind value) (option_with_value jobs value) (option_with_value generate value)
-    (flag drop_on_error value) (flag keep_on_abort value) (flag check value) refused
+    (flag drop_on_error value) (flag keep_on_abort value) (flag envelope value) (flag check value) refused
     (setting_agrees (codes "kind") kind position h word rest m value kind_setting stands at idly (both.1 free))
     (setting_agrees (codes "jobs") jobs position h word rest m value jobs_setting stands at idly (both.1 free))
     (setting_agrees (codes "generate") generate position h word rest m value generate_setting stands at idly (both.1 free))
     (flag_agrees (codes "drop-on-error") drop_on_error position h word rest m value drop_on_error_use stands at idly)
     (flag_agrees (codes "keep-on-abort") keep_on_abort position h word rest m value keep_on_abort_use stands at idly)
+    (flag_agrees (codes "envelope") envelope position h word rest m value envelope_use stands at idly)
     (flag_agrees (codes "check") check position h word rest m value check_use stands at idly)
     tt
 

@@ -38,6 +38,7 @@ pub record Shows (rows : List Row) (g : Settings) : Type 0 where
   pub generate : row_at (codes "generate") rows ≡ option_map (value_row (codes "generate")) g.generate
   pub drop_on_error : row_at (codes "drop-on-error") rows ≡ flag_row (codes "drop-on-error") g.drop_on_error
   pub keep_on_abort : row_at (codes "keep-on-abort") rows ≡ flag_row (codes "keep-on-abort") g.keep_on_abort
+  pub envelope : row_at (codes "envelope") rows ≡ flag_row (codes "envelope") g.envelope
   pub check : row_at (codes "check") rows ≡ flag_row (codes "check") g.check
 
 -- ---- rows
@@ -159,6 +160,7 @@ script_shown value rows g s none = record {
   generate = row_elsewhere (codes "generate") _ rows refl ∙ s.generate;
   drop_on_error = row_elsewhere (codes "drop-on-error") _ rows refl ∙ s.drop_on_error;
   keep_on_abort = row_elsewhere (codes "keep-on-abort") _ rows refl ∙ s.keep_on_abort;
+  envelope = row_elsewhere (codes "envelope") _ rows refl ∙ s.envelope;
   check = row_elsewhere (codes "check") _ rows refl ∙ s.check;
 }
 
@@ -171,6 +173,7 @@ kind_shown value rows g s none = record {
   generate = row_elsewhere (codes "generate") _ rows refl ∙ s.generate;
   drop_on_error = row_elsewhere (codes "drop-on-error") _ rows refl ∙ s.drop_on_error;
   keep_on_abort = row_elsewhere (codes "keep-on-abort") _ rows refl ∙ s.keep_on_abort;
+  envelope = row_elsewhere (codes "envelope") _ rows refl ∙ s.envelope;
   check = row_elsewhere (codes "check") _ rows refl ∙ s.check;
 }
 
@@ -183,6 +186,7 @@ jobs_shown value rows g s none = record {
   generate = row_elsewhere (codes "generate") _ rows refl ∙ s.generate;
   drop_on_error = row_elsewhere (codes "drop-on-error") _ rows refl ∙ s.drop_on_error;
   keep_on_abort = row_elsewhere (codes "keep-on-abort") _ rows refl ∙ s.keep_on_abort;
+  envelope = row_elsewhere (codes "envelope") _ rows refl ∙ s.envelope;
   check = row_elsewhere (codes "check") _ rows refl ∙ s.check;
 }
 
@@ -195,6 +199,7 @@ generate_shown value rows g s none = record {
   generate = row_added (codes "generate") _ rows refl none;
   drop_on_error = row_elsewhere (codes "drop-on-error") _ rows refl ∙ s.drop_on_error;
   keep_on_abort = row_elsewhere (codes "keep-on-abort") _ rows refl ∙ s.keep_on_abort;
+  envelope = row_elsewhere (codes "envelope") _ rows refl ∙ s.envelope;
   check = row_elsewhere (codes "check") _ rows refl ∙ s.check;
 }
 
@@ -207,6 +212,7 @@ drop_on_error_shown rows g s none = record {
   generate = row_elsewhere (codes "generate") _ rows refl ∙ s.generate;
   drop_on_error = row_added (codes "drop-on-error") _ rows refl none;
   keep_on_abort = row_elsewhere (codes "keep-on-abort") _ rows refl ∙ s.keep_on_abort;
+  envelope = row_elsewhere (codes "envelope") _ rows refl ∙ s.envelope;
   check = row_elsewhere (codes "check") _ rows refl ∙ s.check;
 }
 
@@ -219,6 +225,20 @@ keep_on_abort_shown rows g s none = record {
   generate = row_elsewhere (codes "generate") _ rows refl ∙ s.generate;
   drop_on_error = row_elsewhere (codes "drop-on-error") _ rows refl ∙ s.drop_on_error;
   keep_on_abort = row_added (codes "keep-on-abort") _ rows refl none;
+  envelope = row_elsewhere (codes "envelope") _ rows refl ∙ s.envelope;
+  check = row_elsewhere (codes "check") _ rows refl ∙ s.check;
+}
+
+envelope_shown : (rows : List Row) (g : Settings) → Shows rows g → has_row (codes "envelope") rows ≡ false
+    → Shows (rows ++ value_row (codes "envelope") (codes "true") ∷ []) (record g { envelope = true })
+envelope_shown rows g s none = record {
+  script = row_elsewhere (codes "script") _ rows refl ∙ s.script;
+  kind = row_elsewhere (codes "kind") _ rows refl ∙ s.kind;
+  jobs = row_elsewhere (codes "jobs") _ rows refl ∙ s.jobs;
+  generate = row_elsewhere (codes "generate") _ rows refl ∙ s.generate;
+  drop_on_error = row_elsewhere (codes "drop-on-error") _ rows refl ∙ s.drop_on_error;
+  keep_on_abort = row_elsewhere (codes "keep-on-abort") _ rows refl ∙ s.keep_on_abort;
+  envelope = row_added (codes "envelope") _ rows refl none;
   check = row_elsewhere (codes "check") _ rows refl ∙ s.check;
 }
 
@@ -231,6 +251,7 @@ check_shown rows g s none = record {
   generate = row_elsewhere (codes "generate") _ rows refl ∙ s.generate;
   drop_on_error = row_elsewhere (codes "drop-on-error") _ rows refl ∙ s.drop_on_error;
   keep_on_abort = row_elsewhere (codes "keep-on-abort") _ rows refl ∙ s.keep_on_abort;
+  envelope = row_elsewhere (codes "envelope") _ rows refl ∙ s.envelope;
   check = row_added (codes "check") _ rows refl none;
 }
 
@@ -272,6 +293,13 @@ keep_on_abort_use = record {
   made = λ rows g s. made_once (codes "keep-on-abort") (codes "true") rows _ _ (g.keep_on_abort) (record g { keep_on_abort = true })
       (flag_faults (codes "keep-on-abort") rows) refl (has_flag (codes "keep-on-abort") rows g.keep_on_abort s.keep_on_abort) (keep_on_abort_shown rows g s);
   place = λ position g at. at_unless position (g.keep_on_abort) (record g { keep_on_abort = true }) at;
+}
+
+pub envelope_use : IsUse (built_flag (codes "envelope")) [] one.envelope
+envelope_use = record {
+  made = λ rows g s. made_once (codes "envelope") (codes "true") rows _ _ (g.envelope) (record g { envelope = true })
+      (flag_faults (codes "envelope") rows) refl (has_flag (codes "envelope") rows g.envelope s.envelope) (envelope_shown rows g s);
+  place = λ position g at. at_unless position (g.envelope) (record g { envelope = true }) at;
 }
 
 pub check_use : IsUse (built_flag (codes "check")) [] one.check

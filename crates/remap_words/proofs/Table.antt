@@ -7,7 +7,7 @@ use Rattle.clap.specs.Walk.{Rule, Text, arg_by_id, arg_by_index, arg_by_long}
 use Rattle.clap.specs.declared.builder.action.ArgAction.TheVariants.{Set, SetTrue}
 use Rattle.clap.specs.declared.builder.value_parser.ValueParser.TheVariants as vp
 use Rattle.remap_words.specs.Command.{remap_app}
-use Rattle.remap_words.specs.Uses.{Word, check, drop_on_error, flag, generate, jobs, keep_on_abort, kind, option_spelt, option_with_value, refused}
+use Rattle.remap_words.specs.Uses.{Word, check, drop_on_error, envelope, flag, generate, jobs, keep_on_abort, kind, option_spelt, option_with_value, refused}
 
 abbrev pub built_option : Text → Rule
 built_option name = record (new_rule name) {
@@ -38,7 +38,7 @@ built_script = record (new_rule (codes "script")) {
 
 unfoldable pub table : List Rule
 table = built_script ∷ built_option (codes "kind") ∷ built_option (codes "jobs") ∷ built_option (codes "generate")
-    ∷ built_flag (codes "drop-on-error") ∷ built_flag (codes "keep-on-abort") ∷ built_flag (codes "check") ∷ []
+    ∷ built_flag (codes "drop-on-error") ∷ built_flag (codes "keep-on-abort") ∷ built_flag (codes "envelope") ∷ built_flag (codes "check") ∷ []
 
 abbrev pub shape : Shape
 shape = record (new_shape (codes "remap")) {
@@ -62,17 +62,17 @@ free_is = refl
 
 -- ---- the option that a word names
 
--- one of six by their tests in turn, or the last
-abbrev pub pick : {X : Type 0} → Bool → Bool → Bool → Bool → Bool → Bool → X → X → X → X → X → X → X → X
-pick a b c d e f k j g o t h n = cond a k (cond b j (cond c g (cond d o (cond e t (cond f h n)))))
+-- one of seven by their tests in turn, or the last
+abbrev pub pick : {X : Type 0} → Bool → Bool → Bool → Bool → Bool → Bool → Bool → X → X → X → X → X → X → X → X → X
+pick a b c d e f i k j g o t v h n = cond a k (cond b j (cond c g (cond d o (cond e t (cond f v (cond i h n))))))
 
-abbrev pub pick_by : {X : Type 0} → Text → X → X → X → X → X → X → X → X
+abbrev pub pick_by : {X : Type 0} → Text → X → X → X → X → X → X → X → X → X
 pick_by name = pick (bytes_eq (codes "kind") name) (bytes_eq (codes "jobs") name) (bytes_eq (codes "generate") name)
-    (bytes_eq (codes "drop-on-error") name) (bytes_eq (codes "keep-on-abort") name) (bytes_eq (codes "check") name)
+    (bytes_eq (codes "drop-on-error") name) (bytes_eq (codes "keep-on-abort") name) (bytes_eq (codes "envelope") name) (bytes_eq (codes "check") name)
 
 abbrev pub rule_named : Text → Option Rule
 rule_named name = pick_by name (Some (built_option (codes "kind"))) (Some (built_option (codes "jobs"))) (Some (built_option (codes "generate")))
-    (Some (built_flag (codes "drop-on-error"))) (Some (built_flag (codes "keep-on-abort"))) (Some (built_flag (codes "check"))) None
+    (Some (built_flag (codes "drop-on-error"))) (Some (built_flag (codes "keep-on-abort"))) (Some (built_flag (codes "envelope"))) (Some (built_flag (codes "check"))) None
 
 -- a test with no other beside it
 pub alone : (b : Bool) → (b || false) ≡ b
@@ -87,31 +87,34 @@ by_long name = rw (
   alone (bytes_eq (codes "generate") name),
   alone (bytes_eq (codes "drop-on-error") name),
   alone (bytes_eq (codes "keep-on-abort") name),
+  alone (bytes_eq (codes "envelope") name),
   alone (bytes_eq (codes "check") name),
 ) refl
 
 pub by_spelling : (name : Text) (value : Option Text)
     → option_spelt (45 ∷ 45 ∷ name) value ≡ pick_by name (option_with_value kind value) (option_with_value jobs value) (option_with_value generate value)
-    (flag drop_on_error value) (flag keep_on_abort value) (flag check value) refused
+    (flag drop_on_error value) (flag keep_on_abort value) (flag envelope value) (flag check value) refused
 by_spelling name value = refl
 
 -- what holds of each option and its word holds of the rule and the word that one name has
-pub picked : (P : Option Rule → Word → Type 0) (name : Text) (k j g o t h n : Word)
+pub picked : (P : Option Rule → Word → Type 0) (name : Text) (k j g o t v h n : Word)
     → P (Some (built_option (codes "kind"))) k → P (Some (built_option (codes "jobs"))) j → P (Some (built_option (codes "generate"))) g
-    → P (Some (built_flag (codes "drop-on-error"))) o → P (Some (built_flag (codes "keep-on-abort"))) t → P (Some (built_flag (codes "check"))) h → P None n
-    → P (rule_named name) (pick_by name k j g o t h n)
-picked P name k j g o t h n at_k at_j at_g at_o at_t at_h at_n = go (bytes_eq (codes "kind") name) (bytes_eq (codes "jobs") name) (bytes_eq (codes "generate") name)
-    (bytes_eq (codes "drop-on-error") name) (bytes_eq (codes "keep-on-abort") name) (bytes_eq (codes "check") name)
+    → P (Some (built_flag (codes "drop-on-error"))) o → P (Some (built_flag (codes "keep-on-abort"))) t → P (Some (built_flag (codes "envelope"))) v
+    → P (Some (built_flag (codes "check"))) h → P None n → P (rule_named name) (pick_by name k j g o t v h n)
+picked P name k j g o t v h n at_k at_j at_g at_o at_t at_v at_h at_n = go (bytes_eq (codes "kind") name) (bytes_eq (codes "jobs") name) (bytes_eq (codes "generate") name)
+    (bytes_eq (codes "drop-on-error") name) (bytes_eq (codes "keep-on-abort") name) (bytes_eq (codes "envelope") name) (bytes_eq (codes "check") name)
   where
-    go : (a b c d e f : Bool) → P (pick a b c d e f (Some (built_option (codes "kind"))) (Some (built_option (codes "jobs"))) (Some (built_option (codes "generate")))
-        (Some (built_flag (codes "drop-on-error"))) (Some (built_flag (codes "keep-on-abort"))) (Some (built_flag (codes "check"))) None) (pick a b c d e f k j g o t h n)
-    go true b c d e f = at_k
-    go false true c d e f = at_j
-    go false false true d e f = at_g
-    go false false false true e f = at_o
-    go false false false false true f = at_t
-    go false false false false false true = at_h
-    go false false false false false false = at_n
+    go : (a b c d e f i : Bool) → P (pick a b c d e f i (Some (built_option (codes "kind"))) (Some (built_option (codes "jobs"))) (Some (built_option (codes "generate")))
+        (Some (built_flag (codes "drop-on-error"))) (Some (built_flag (codes "keep-on-abort"))) (Some (built_flag (codes "envelope"))) (Some (built_flag (codes "check"))) None)
+        (pick a b c d e f i k j g o t v h n)
+    go true b c d e f i = at_k
+    go false true c d e f i = at_j
+    go false false true d e f i = at_g
+    go false false false true e f i = at_o
+    go false false false false true f i = at_t
+    go false false false false false true i = at_v
+    go false false false false false false true = at_h
+    go false false false false false false false = at_n
 
 -- ---- the positional
 

@@ -36,8 +36,8 @@ with_value_rules app = with_rule (with_rule (with_rule app (option_rule (codes "
     (option_rule (codes "jobs"))) (option_rule (codes "generate"))
 
 abbrev pub with_flag_rules : App → App
-with_flag_rules app = with_rule (with_rule (with_rule app (flag_rule (codes "drop-on-error")))
-    (flag_rule (codes "keep-on-abort"))) (flag_rule (codes "check"))
+with_flag_rules app = with_rule (with_rule (with_rule (with_rule app (flag_rule (codes "drop-on-error")))
+    (flag_rule (codes "keep-on-abort"))) (flag_rule (codes "envelope"))) (flag_rule (codes "check"))
 
 abbrev pub remap_app : App
 remap_app = with_flag_rules (with_value_rules (with_rule bare_app script_rule))
@@ -67,4 +67,5 @@ pub record AreMatchesOf (g : Settings) (m : ArgMatches) : Type 0 where
       ≡ Some (flag_text g.drop_on_error)
   pub keep_on_abort : one_text (found_of m) (codes "keep-on-abort")
       ≡ Some (flag_text g.keep_on_abort)
+  pub envelope : one_text (found_of m) (codes "envelope") ≡ Some (flag_text g.envelope)
   pub check : one_text (found_of m) (codes "check") ≡ Some (flag_text g.check)

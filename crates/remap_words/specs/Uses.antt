@@ -13,6 +13,7 @@ pub data Use : Type 0 where
   generate : List ℕ → Use
   drop_on_error : Use
   keep_on_abort : Use
+  envelope : Use
   check : Use
 
 -- what a word is by itself
@@ -55,6 +56,7 @@ option_spelt spelling value =
     else if bytes_eq (codes "--generate") spelling then option_with_value generate value
     else if bytes_eq (codes "--drop-on-error") spelling then flag drop_on_error value
     else if bytes_eq (codes "--keep-on-abort") spelling then flag keep_on_abort value
+    else if bytes_eq (codes "--envelope") spelling then flag envelope value
     else if bytes_eq (codes "--check") spelling then flag check value
     else refused
 

@@ -22,6 +22,7 @@ invocation_of i = record {
   jobs = i.jobs;
   drop_on_error = i.drop_on_error;
   keep_on_abort = i.keep_on_abort;
+  envelope = i.envelope;
   mode = mode_of_read i.mode;
 }
 

@@ -1,6 +1,6 @@
 -- What the words of the command line mean, those behind the program's name: `SCRIPT [--kind FILE]
--- [--jobs N] [--drop-on-error] [--keep-on-abort] [--check] [--generate COUNT:SEED]`, with the
--- options in any order.
+-- [--jobs N] [--drop-on-error] [--keep-on-abort] [--envelope] [--check] [--generate COUNT:SEED]`,
+-- with the options in any order.
 use Rattle.std.specs.Prelude.{ℕ, Bool, true, false, List, [], ◌∷◌, Option, Some, None, ◌==◌, if◌then◌else◌, is_some}
 use Rattle.std.specs.Prelude.{option_and_then, option_map}
 use Rattle.std.specs.List.{after_first, before_first}
@@ -24,6 +24,7 @@ pub record Invocation : Type 0 where
   pub jobs : ℕ
   pub drop_on_error : Bool
   pub keep_on_abort : Bool
+  pub envelope : Bool
   pub mode : Mode
 
 -- ---- each use at most once
@@ -36,6 +37,7 @@ pub record Settings : Type 0 where
   pub generate : Option (List ℕ)
   pub drop_on_error : Bool
   pub keep_on_abort : Bool
+  pub envelope : Bool
   pub check : Bool
 
 abbrev pub nothing_given : Settings
@@ -46,6 +48,7 @@ nothing_given = record {
   generate = None;
   drop_on_error = false;
   keep_on_abort = false;
+  envelope = false;
   check = false;
 }
 
@@ -60,6 +63,7 @@ with_use (one.jobs text) g = unless (is_some g.jobs) (record g { jobs = Some tex
 with_use (one.generate text) g = unless (is_some g.generate) (record g { generate = Some text })
 with_use one.drop_on_error g = unless g.drop_on_error (record g { drop_on_error = true })
 with_use one.keep_on_abort g = unless g.keep_on_abort (record g { keep_on_abort = true })
+with_use one.envelope g = unless g.envelope (record g { envelope = true })
 with_use one.check g = unless g.check (record g { check = true })
 
 abbrev pub with_uses : List Use → Settings → Option Settings
@@ -96,12 +100,13 @@ generate_of text = option_and_then (λ count.
     option_map (generate count) (number_in 10 0 4294967295 (after_first is_colon text)))
     (number_in 7 1 1000000 (before_first is_colon text))
 
--- a script is checked, or run over made lines, but not both
-abbrev pub mode_of : Bool → Option (List ℕ) → Option Mode
-mode_of false None = Some lines
-mode_of true None = Some check
-mode_of false (Some text) = generate_of text
-mode_of true (Some text) = None
+-- a script is checked, or run over made lines, but not both; made lines are no envelopes
+abbrev pub mode_of : (is_check envelope : Bool) → Option (List ℕ) → Option Mode
+mode_of false envelope None = Some lines
+mode_of true envelope None = Some check
+mode_of false false (Some text) = generate_of text
+mode_of false true (Some text) = None
+mode_of true envelope (Some text) = None
 
 abbrev pub invocation_given : Settings → Option Invocation
 invocation_given g = option_and_then (λ script. option_and_then (λ kind. option_and_then (λ jobs.
@@ -111,8 +116,9 @@ invocation_given g = option_and_then (λ script. option_and_then (λ kind. optio
       jobs = jobs;
       drop_on_error = g.drop_on_error;
       keep_on_abort = g.keep_on_abort;
+      envelope = g.envelope;
       mode = mode;
-    }) (mode_of g.check g.generate)) (jobs_of g.jobs)) (kind_file_of g.kind))
+    }) (mode_of g.check g.envelope g.generate)) (jobs_of g.jobs)) (kind_file_of g.kind))
     (option_and_then name_of g.script)
 
 -- what the words mean, or none where they are refused

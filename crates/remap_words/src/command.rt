@@ -42,7 +42,8 @@ fn with_flags<'a>(alloc: Global, command: Command<'a>) -> Result<Command<'a>, Al
 {
     let dropping = with_flag(alloc, command, "drop-on-error")?;
     let keeping = with_flag(alloc, dropping, "keep-on-abort")?;
-    with_flag(alloc, keeping, "check")
+    let enclosing = with_flag(alloc, keeping, "envelope")?;
+    with_flag(alloc, enclosing, "check")
 }
 
 /// A command whose words do not begin with the program's name, without options of its own.

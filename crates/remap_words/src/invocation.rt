@@ -27,6 +27,8 @@ pub struct Invocation<'a> {
     pub drop_on_error: bool,
     /// Whether a line at which the script aborts is written as it was.
     pub keep_on_abort: bool,
+    /// Whether a line holds an event with its metadata. Made lines hold none.
+    pub envelope: bool,
     /// What is done with the script.
     pub mode: Mode,
 }

@@ -74,13 +74,16 @@ fn invocation<'a>(matches: &ArgMatches<'a>) -> Option<Invocation<'a>>
     let script = name(matches.get_str("script")?)?;
     let kind = kind(matches.get_str("kind"))?;
     let jobs = jobs(matches.get_str("jobs"))?;
-    let mode = mode(matches.get_flag("check"), matches.get_str("generate"))?;
+    let envelope = matches.get_flag("envelope");
+    let check = matches.get_flag("check");
+    let mode = mode(check, envelope, matches.get_str("generate"))?;
     Some(Invocation {
         script,
         kind,
         jobs,
         drop_on_error: matches.get_flag("drop-on-error"),
         keep_on_abort: matches.get_flag("keep-on-abort"),
+        envelope,
         mode,
     })
 }

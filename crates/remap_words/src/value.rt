@@ -35,11 +35,15 @@ pub(crate) fn jobs(text: Option<&str>) -> Option<u32>
 }
 
 /// What is done with the script.
-pub(crate) fn mode(check: bool, text: Option<&str>) -> Option<Mode>
-    ensures { option_map mode_of_read result ≡ mode_of check (option_map (λ text. text.now) text.entry) }
+pub(crate) fn mode(check: bool, envelope: bool, text: Option<&str>) -> Option<Mode>
+    ensures { option_map mode_of_read result ≡ mode_of check envelope (option_map (λ text. text.now) text.entry) }
 {
     match text {
-        Some(text) => if check { None } else { generate(text) },
+        Some(text) => if check || envelope {
+            None
+        } else {
+            generate(text)
+        },
         None => Some(if check { Mode::Check } else { Mode::Lines }),
     }
 }

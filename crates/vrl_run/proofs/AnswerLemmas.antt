@@ -130,7 +130,7 @@ has_answer (bad_kind fault) input moments = tt
 has_answer (bad_script text diagnostics) input moments = tt
 has_answer (map_lines run) input moments = answers_if _
 has_answer (map_made run count seed) input moments = answers_if _
-has_answer (tell_kinds text warnings K known) input moments = tt
+has_answer (tell_kinds text warnings K known envelope) input moments = tt
 
 -- what comes of it
 told_comes : (request : Request) (input : List ℕ) (moments : ℕ → ℤ) (s : Status) → (s ≡ (answer_to request input moments).status) ⊎ (s ≡ WriteFault) ⊎ (s ≡ Memory) → ¬ ReadsLines request → MayCome request s
@@ -139,7 +139,7 @@ told_comes (bad_kind fault) input moments s either unread = own_or_interrupted s
 told_comes (bad_script text diagnostics) input moments s either unread = own_or_interrupted s _ (λ is. is) either
 told_comes (map_lines run) input moments s either unread = absurd (unread tt)
 told_comes (map_made run count seed) input moments s either unread = own_or_interrupted s _ (λ is. subst IsFinished (sym is) (finished_if _)) either
-told_comes (tell_kinds text warnings K known) input moments s either unread = own_or_interrupted s _ (λ is. subst IsFinished (sym is) tt) either
+told_comes (tell_kinds text warnings K known envelope) input moments s either unread = own_or_interrupted s _ (λ is. subst IsFinished (sym is) tt) either
 
 -- of which no line is run
 unread_so_far : (request : Request) (input : List ℕ) (moments : ℕ → ℤ) → ¬ ReadsLines request → answer_to request input moments ≡ answer_so_far 0 request input moments
@@ -148,7 +148,7 @@ unread_so_far (bad_kind fault) input moments unread = refl
 unread_so_far (bad_script text diagnostics) input moments unread = refl
 unread_so_far (map_lines run) input moments unread = absurd (unread tt)
 unread_so_far (map_made run count seed) input moments unread = refl
-unread_so_far (tell_kinds text warnings K known) input moments unread = refl
+unread_so_far (tell_kinds text warnings K known envelope) input moments unread = refl
 
 -- what is done once its answer was written
 pub told_answered : (request : Request) (s : Status) {left : Option (List ℕ)} {taken : ℕ} {ended : Bool} {faults : ℕ} {ahead : Option (ℕ → ℤ)} {output output_after : Option (List ℕ)} {o o_after : ℕ} {report report_after : Option (List ℕ)} {e e_after : ℕ} {Unasked : Type 0}

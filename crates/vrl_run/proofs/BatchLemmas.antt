@@ -12,9 +12,8 @@ use Rattle.vrl_batch.specs.Sinks.{Appends, AppendsFront}
 use Rattle.vrl_batch.specs.declared.line.Line.{Line}
 use Rattle.vrl_batch.specs.declared.work.LineOut.{LineOut}
 use Rattle.vrl_generate.specs.Summary.{is_marked, is_refused}
-use Rattle.vrl_run.specs.Answer.{outputs, reports, result_of}
+use Rattle.vrl_run.specs.Answer.{outputs, reports}
 use Rattle.vrl_run.specs.Mapping.{HasMapped, MapsBatch, Run, StopsMapping, TellsMore, WritesResults}
-use Rattle.vrl_run.specs.Request.{ScriptRun}
 use Rattle.vrl_run.specs.declared.status.Status.{Status}
 use Rattle.vrl_run.specs.declared.status.Status.TheVariants.{Memory, WriteFault}
 
@@ -48,38 +47,37 @@ or_false true = refl
 or_false false = refl
 
 -- no results
-writes_none : (script : ScriptRun) (now : Run) → WritesResults script [] now now
-writes_none script now = record { output = appends_none now.output; report = appends_none now.report; marked = or_false now.marked }
+writes_none : (result : Line → LineOut) (now : Run) → WritesResults result [] now now
+writes_none result now = record { output = appends_none now.output; report = appends_none now.report; marked = or_false now.marked }
 
 -- those of lines, and then those of others
-pub writes_both : (script : ScriptRun) (begin now after : Run) (lines batch : List Line) → WritesResults script lines begin now → WritesResults script batch now after → WritesResults script (lines ++ batch) begin after
-writes_both script begin now after lines batch one two =
-    let f = result_of script in
-    let all : map f (lines ++ batch) ≡ map f lines ++ map f batch = map-append f lines batch in
+pub writes_both : (result : Line → LineOut) (begin now after : Run) (lines batch : List Line) → WritesResults result lines begin now → WritesResults result batch now after → WritesResults result (lines ++ batch) begin after
+writes_both result begin now after lines batch one two =
+    let all : map result (lines ++ batch) ≡ map result lines ++ map result batch = map-append result lines batch in
     record {
-      output = subst (Appends begin.output after.output) (sym (ap outputs all ∙ flat_map-append (λ r. r.output) (map f lines) (map f batch))) (appends_both begin.output now.output after.output _ _ one.output two.output);
-      report = subst (Appends begin.report after.report) (sym (ap reports all ∙ flat_map-append (λ r. r.report) (map f lines) (map f batch))) (appends_both begin.report now.report after.report _ _ one.report two.report);
-      marked = two.marked ∙ ap (λ b. b || is_marked (map f batch)) one.marked ∙ sym (or-assoc begin.marked _ _) ∙ ap (λ b. begin.marked || b) (sym (ap is_marked all ∙ list_any-append (λ r. is_refused r.outcome) (map f lines) (map f batch)));
+      output = subst (Appends begin.output after.output) (sym (ap outputs all ∙ flat_map-append (λ r. r.output) (map result lines) (map result batch))) (appends_both begin.output now.output after.output _ _ one.output two.output);
+      report = subst (Appends begin.report after.report) (sym (ap reports all ∙ flat_map-append (λ r. r.report) (map result lines) (map result batch))) (appends_both begin.report now.report after.report _ _ one.report two.report);
+      marked = two.marked ∙ ap (λ b. b || is_marked (map result batch)) one.marked ∙ sym (or-assoc begin.marked _ _) ∙ ap (λ b. begin.marked || b) (sym (ap is_marked all ∙ list_any-append (λ r. is_refused r.outcome) (map result lines) (map result batch)));
     }
 
 -- the results of a batch
-pub wrote : (script : ScriptRun) (batch : List Line) (results : List LineOut) (before after : Run) (refused : Bool) → results ≡ map (result_of script) batch
-    → (refused ≡ is_marked results) × Appends before.output after.output (outputs results) × Appends before.report after.report (reports results) → after.marked ≡ (before.marked || refused) → WritesResults script batch before after
-wrote script batch results before after refused is written marked = record {
+pub wrote : (result : Line → LineOut) (batch : List Line) (results : List LineOut) (before after : Run) (refused : Bool) → results ≡ map result batch
+    → (refused ≡ is_marked results) × Appends before.output after.output (outputs results) × Appends before.report after.report (reports results) → after.marked ≡ (before.marked || refused) → WritesResults result batch before after
+wrote result batch results before after refused is written marked = record {
   output = subst (λ rs. Appends before.output after.output (outputs rs)) is written.1;
   report = subst (λ rs. Appends before.report after.report (reports rs)) is written.2;
   marked = marked ∙ ap (λ b. before.marked || b) (written.0 ∙ ap is_marked is);
 }
 
 -- or they were not all written
-pub stops_writing : (script : ScriptRun) (before after : Run) (results : List LineOut) (batch : List Line) (s : Status)
-    → results ≡ map (result_of script) batch
+pub stops_writing : (result : Line → LineOut) (before after : Run) (results : List LineOut) (batch : List Line) (s : Status)
+    → results ≡ map result batch
     → ReadsBatch before.stream after.stream batch → after.stream.reader.taken ≤ input_limit → (s ≡ WriteFault) ⊎ (s ≡ Memory)
     → AppendsFront before.output after.output (outputs results) × AppendsFront before.report after.report (reports results)
     → Appends before.output after.output (outputs results) ⊎ (after.report ≡ before.report)
-    → (s ≡ Memory → (after.output ≡ before.output) × (after.report ≡ before.report)) → StopsMapping script before after s
-stops_writing script before after results batch s is read within (inl fault) front order still =
-    subst (StopsMapping script before after) (sym fault)
+    → (s ≡ Memory → (after.output ≡ before.output) × (after.report ≡ before.report)) → StopsMapping result before after s
+stops_writing result before after results batch s is read within (inl fault) front order still =
+    subst (StopsMapping result before after) (sym fault)
     (record {
       batch = batch;
       read = read;
@@ -88,9 +86,9 @@ stops_writing script before after results batch s is read within (inl fault) fro
       report = subst (λ rs. AppendsFront before.report after.report (reports rs)) is front.1;
       order = subst (λ rs. Appends before.output after.output (outputs rs) ⊎ (after.report ≡ before.report)) is order;
     })
-stops_writing script before after results batch s is read within (inr wanting) front order still =
+stops_writing result before after results batch s is read within (inr wanting) front order still =
     let none = still wanting in
-    subst (StopsMapping script before after) (sym wanting) (within, record { output = none.0; report = none.1 })
+    subst (StopsMapping result before after) (sym wanting) (within, record { output = none.0; report = none.1 })
 
 pub tells_more : (batch : List Line) (empty : Bool) → empty ≡ (length batch == 0) → TellsMore (not empty) batch
 tells_more [] empty is = subst (λ b. TellsMore (not b) []) (sym is) refl
@@ -98,14 +96,14 @@ tells_more (l ∷ batch) empty is =
     let some : (length (l ∷ batch) == 0) ≡ false = grind (arith, nat_tests) in
     subst (λ b. TellsMore (not b) (l ∷ batch)) (sym (is ∙ some)) (λ none. cc)
 
-pub has_mapped-begin : RunsBegin → (script : ScriptRun) (begin : Run) → begin.stream.reader.held ≡ [] → begin.stream.reader.next ≡ 1 → begin.stream.reader.taken ≤ input_limit → HasMapped script begin begin
-has_mapped-begin begins script begin held next within = record { lines = []; read = begins begin.stream held next; writes = writes_none script begin; within = within }
+pub has_mapped-begin : RunsBegin → (result : Line → LineOut) (begin : Run) → begin.stream.reader.held ≡ [] → begin.stream.reader.next ≡ 1 → begin.stream.reader.taken ≤ input_limit → HasMapped result begin begin
+has_mapped-begin begins result begin held next within = record { lines = []; read = begins begin.stream held next; writes = writes_none result begin; within = within }
 
-pub has_mapped-more : RunsGoOn → (script : ScriptRun) (begin now after : Run) (batch : List Line) → HasMapped script begin now → MapsBatch script now after batch → HasMapped script begin after
-has_mapped-more goes script begin now after batch so one = record {
+pub has_mapped-more : RunsGoOn → (result : Line → LineOut) (begin now after : Run) (batch : List Line) → HasMapped result begin now → MapsBatch result now after batch → HasMapped result begin after
+has_mapped-more goes result begin now after batch so one = record {
   lines = so.lines ++ batch;
   read = goes begin.stream now.stream after.stream so.lines batch so.read one.read;
-  writes = writes_both script begin now after so.lines batch so.writes one.writes;
+  writes = writes_both result begin now after so.lines batch so.writes one.writes;
   within = one.within;
 }
 

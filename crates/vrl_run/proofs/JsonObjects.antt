@@ -7,13 +7,15 @@ use Rattle.std.specs.Ordering.{match_ordering, nat_cmp}
 use Rattle.std.specs.declared.cmp.Ordering.{Ordering}
 use Rattle.std.specs.declared.cmp.Ordering.TheVariants.{Less, Equal, Greater}
 use Rattle.vrl_value.specs.Look.{Found, IfThere, Step, field, found_behind, found_if, item_at, missing, no_place, part_at, place, raw_at, tag_found, there}
-use Rattle.vrl_value.specs.Tree.{Tree, string, integer, boolean, null, timestamp, regex, array, object, Items, no_items, item, Members, no_members, member, find, is_json, items_are_json, members_are_json}
+use Rattle.vrl_value.specs.Tree.{Tree, string, integer, boolean, null, timestamp, regex, array, object, Items, no_items, item, Members, no_members, member, find, is_json, is_object, items_are_json, members_are_json}
 use Rattle.vrl_value.specs.declared.value.Tag.{Tag}
-use Rattle.vrl_kind.specs.KindTree.{KindTree, kind, ListTree, object_part, RestTree, json_rest, no_fields}
+use Rattle.vrl_kind.specs.Canonical.{no_scalars}
+use Rattle.vrl_kind.specs.KindTree.{KindTree, kind, ListTree, no_list, object_part, RestTree, json_rest, no_fields}
 use Rattle.vrl_kind.specs.Kinds.{Inhabits, json_at, or_absent}
 use Rattle.vrl_kind.specs.View.{fields_view}
 use Rattle.vrl_kind.specs.declared.kind.KindField.{KindField}
 use Rattle.vrl_kind.specs.declared.scalars.Scalars.{Scalars}
+use Rattle.vrl_state.specs.States.{json_object}
 use Rattle.vrl_run.specs.JsonObjects.{are_json_objects, is_json_rest, takes_json_objects}
 
 -- ---- the parts of what is JSON
@@ -90,6 +92,11 @@ taken ms K json takes = absurd (true≢false (sym takes))
 pub object_is_taken : (t : Tree) (ms : Members) (K : KindTree) → t ≡ object ms → is_json t ≡ true
     → takes_json_objects K ≡ true → Inhabits t K
 object_is_taken t ms K is json takes = subst (λ v. Inhabits v K) (sym is) (taken ms K (subst (λ v. is_json v ≡ true) is json) takes)
+
+-- each is one of JSON
+pub is_json_object : (t : Tree) → is_object t ≡ true → is_json t ≡ true → Inhabits t json_object
+is_json_object (object ms) is json = object_is_of ms no_scalars no_list json
+is_json_object t is json = absurd (true≢false (sym is))
 
 -- ---- where a kind takes them
 

@@ -1,10 +1,12 @@
 pub mod AnswerLemmas
 pub mod BatchLemmas
+pub mod Enclosing
 pub mod Ended
 pub mod EventLines
 pub mod EventLists
 pub mod JsonObjects
 pub mod MadeLemmas
 pub mod MappingLemmas
+pub mod Opening
 pub mod Shared
 pub mod Unread

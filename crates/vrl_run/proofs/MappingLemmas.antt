@@ -10,12 +10,13 @@ use Rattle.vrl_batch.specs.Reads.{AsksAtMost, ReadsBatch, StopsReading, Takes}
 use Rattle.vrl_batch.specs.Runs.{HasReadFront, RunsAskAtMost, RunsEnd, RunsFront, RunsGoOn, RunsStop}
 use Rattle.vrl_batch.specs.Sinks.{Appends, AppendsFront}
 use Rattle.vrl_batch.specs.declared.line.Line.{Line}
+use Rattle.vrl_batch.specs.declared.work.LineOut.{LineOut}
 use Rattle.vrl_generate.specs.Summary.{is_marked}
 use Rattle.vrl_io.specs.Faults.{HasRisen}
 use Rattle.vrl_run.specs.Answer.{line_results, outputs, reports, result_of, status_if, warnings_of}
 use Rattle.vrl_run.specs.Answered.{IsAnswered, IsAsked, IsCutOff}
 use Rattle.vrl_run.specs.Devices.{IsAskedAtMost, IsWithinLimit, devices}
-use Rattle.vrl_run.specs.Mapping.{EndsMapping, HasMapped, HasStopped, IsStill, MapsBatch, Run, TellsMore, WritesResults}
+use Rattle.vrl_run.specs.Mapping.{EndsMapping, HasMapped, HasStopped, IsStill, Run, WritesResults}
 use Rattle.vrl_run.specs.Request.{IsSame, MayCome, Request, ScriptRun, map_lines}
 use Rattle.vrl_run.specs.Status.{IsAnswer, IsInterrupted, meaning_of}
 use Rattle.vrl_run.specs.declared.status.Status.{Status}
@@ -40,12 +41,12 @@ pub record IsMappedWhole (script : ScriptRun) (begin after : Run) (report : Opti
   pub within : length input ≤ input_limit
 
 pub is_mapped_whole : RunsEnd → (script : ScriptRun) (begin after : Run) (report : Option (List ℕ)) (warnings : List ℕ) → begin.marked ≡ false → begin.stream.reader.taken ≡ 0 → Appends report begin.report warnings → warnings ≡ warnings_of script
-    → EndsMapping script begin after → IsMappedWhole script begin after report
+    → EndsMapping (result_of script) begin after → IsMappedWhole script begin after report
 is_mapped_whole ends script begin after report warnings unmarked fresh told warned so =
     let all = ends begin.stream so.now.stream after.stream so.mapped.lines so.mapped.read so.last.read in
     let f = result_of script in
     let lines : so.mapped.lines ++ [] ≡ lines_by all.moments (event_lines all.input) = append-nil so.mapped.lines ∙ all.timed.lines_are in
-    let writes = subst (λ ls. WritesResults script ls begin after) lines (writes_both script begin so.now after so.mapped.lines [] so.mapped.writes so.last.writes) in
+    let writes = subst (λ ls. WritesResults (result_of script) ls begin after) lines (writes_both (result_of script) begin so.now after so.mapped.lines [] so.mapped.writes so.last.writes) in
     record {
       input = all.input;
       is_left = all.is_left;
@@ -108,7 +109,7 @@ is_front script begin after report lines read output reported =
     }
 
 -- the sinks hold just what is done
-still_front : (front : RunsFront) (script : ScriptRun) (begin now after : Run) (report : Option (List ℕ)) (warnings : List ℕ) → Appends report begin.report warnings → warnings ≡ warnings_of script → HasMapped script begin now → IsStill now after → IsMappedFront script begin after report
+still_front : (front : RunsFront) (script : ScriptRun) (begin now after : Run) (report : Option (List ℕ)) (warnings : List ℕ) → Appends report begin.report warnings → warnings ≡ warnings_of script → HasMapped (result_of script) begin now → IsStill now after → IsMappedFront script begin after report
 still_front front script begin now after report warnings told warned so still =
     is_front script begin after report so.lines (front begin.stream now.stream so.lines so.read)
     (subst (λ o. AppendsFront begin.output o (outputs (map (result_of script) so.lines))) (sym still.output) (front_of_all begin.output now.output _ so.writes.output))
@@ -116,7 +117,7 @@ still_front front script begin now after report warnings told warned so still =
     (subst (λ r. AppendsFront report r (warnings ++ reports (map (result_of script) so.lines))) (sym still.report) (front_of_all report now.report _ (appends_both report begin.report now.report warnings _ told so.writes.report))))
 
 -- or a front of what was read besides
-written_front : (front : RunsFront) → RunsGoOn → (script : ScriptRun) (begin now after : Run) (report : Option (List ℕ)) (warnings : List ℕ) (batch : List Line) → Appends report begin.report warnings → warnings ≡ warnings_of script → HasMapped script begin now
+written_front : (front : RunsFront) → RunsGoOn → (script : ScriptRun) (begin now after : Run) (report : Option (List ℕ)) (warnings : List ℕ) (batch : List Line) → Appends report begin.report warnings → warnings ≡ warnings_of script → HasMapped (result_of script) begin now
     → ReadsBatch now.stream after.stream batch → AppendsFront now.output after.output (outputs (map (result_of script) batch)) → AppendsFront now.report after.report (reports (map (result_of script) batch)) → IsMappedFront script begin after report
 written_front front goes script begin now after report warnings batch told warned so read output reported =
     let f = result_of script in
@@ -128,7 +129,7 @@ written_front front goes script begin now after report warnings batch told warne
     (front_behind report begin.report after.report warnings _ told (front_behind begin.report now.report after.report _ _ so.writes.report reported))))
 
 -- whatever it stops at
-pub is_mapped_front : RunsFront → RunsGoOn → (script : ScriptRun) (begin after : Run) (report : Option (List ℕ)) (warnings : List ℕ) (s : Status) → Appends report begin.report warnings → warnings ≡ warnings_of script → HasStopped script begin after s → IsMappedFront script begin after report
+pub is_mapped_front : RunsFront → RunsGoOn → (script : ScriptRun) (begin after : Run) (report : Option (List ℕ)) (warnings : List ℕ) (s : Status) → Appends report begin.report warnings → warnings ≡ warnings_of script → HasStopped (result_of script) begin after s → IsMappedFront script begin after report
 is_mapped_front front goes script begin after report warnings ReadFault told warned so = still_front front script begin so.now after report warnings told warned so.mapped so.stops.2
 is_mapped_front front goes script begin after report warnings TooMuch told warned so = still_front front script begin so.now after report warnings told warned so.mapped so.stops.2
 is_mapped_front front goes script begin after report warnings Memory told warned so = still_front front script begin so.now after report warnings told warned so.mapped so.stops.1
@@ -141,7 +142,7 @@ is_mapped_front front goes script begin after report warnings s told warned so =
 asked_since : RunsAskAtMost
     → (script : ScriptRun) (begin now after : Run) {report : Option (List ℕ)}
     {faults faults_after o o_after e e_after : ℕ}
-    → HasMapped script begin now → AsksAtMost now.stream after.stream
+    → HasMapped (result_of script) begin now → AsksAtMost now.stream after.stream
     → IsAskedAtMost (devices begin.stream.left begin.stream.taken begin.stream.ended faults begin.stream.ahead begin.output o report e)
     (devices after.stream.left after.stream.taken after.stream.ended faults_after after.stream.ahead after.output o_after after.report e_after)
 asked_since ask script begin now after so asks =
@@ -149,7 +150,7 @@ asked_since ask script begin now after so asks =
     record { taken = all.input; is_left = all.takes.is_left; counted = all.takes.counted; clock = all.clock }
 
 -- the bytes taken are those that were counted
-counted_since : (bytes : List ℕ) (script : ScriptRun) (begin now after : Run) → begin.stream.reader.taken ≡ 0 → HasMapped script begin now → Takes bytes now.stream after.stream → after.stream.reader.taken ≤ input_limit → after.stream.taken ≤ begin.stream.taken + input_limit
+counted_since : (bytes : List ℕ) (script : ScriptRun) (begin now after : Run) → begin.stream.reader.taken ≡ 0 → HasMapped (result_of script) begin now → Takes bytes now.stream after.stream → after.stream.reader.taken ≤ input_limit → after.stream.taken ≤ begin.stream.taken + input_limit
 counted_since bytes script begin now after fresh so takes within = omega (arith, fresh, so.read.takes.counted, so.read.takes.counted_too, takes.counted, takes.counted_too, within)
 
 longer_than_limit : (left after : Option (List ℕ)) (bytes : List ℕ) → left ≡ option_map (λ rest. bytes ++ rest) after → length bytes ≡ input_limit + 1 → IfSome left (λ told. input_limit < length told)
@@ -196,7 +197,7 @@ pub whole_answered : RunsAskAtMost → RunsEnd
     → (script : ScriptRun) (begin after : Run) {report : Option (List ℕ)} {faults faults_after o o_after e e_after : ℕ}
     {Unasked : Type 0} (warnings : List ℕ) → begin.marked ≡ false → begin.stream.reader.taken ≡ 0
     → Appends report begin.report warnings → warnings ≡ warnings_of script
-    → EndsMapping script begin after → faults_after ≡ faults → (o_after ≡ o) × (e_after ≡ e)
+    → EndsMapping (result_of script) begin after → faults_after ≡ faults → (o_after ≡ o) × (e_after ≡ e)
     → IsAnswered (IsSame (map_lines script)) (status_if after.marked) (devices begin.stream.left begin.stream.taken begin.stream.ended faults begin.stream.ahead begin.output o report e)
     (devices after.stream.left after.stream.taken after.stream.ended faults_after after.stream.ahead after.output o_after after.report e_after) Unasked
 whole_answered ask ends script begin after {report} {faults} {faults_after} {o} {o_after} {e} {e_after} warnings unmarked fresh told warned so unfailed unfaulted =
@@ -238,7 +239,7 @@ whole_answered ask ends script begin after {report} {faults} {faults_after} {o} 
     }
 
 -- cut off
-cut_off : RunsStop → (script : ScriptRun) (more : ℕ) (begin now after : Run) {report : Option (List ℕ)} {faults faults_after o o_after e e_after : ℕ} (warnings : List ℕ) → Appends report begin.report warnings → warnings ≡ warnings_of script → HasMapped script begin now → StopsReading more now.stream after.stream → IsStill now after
+cut_off : RunsStop → (script : ScriptRun) (more : ℕ) (begin now after : Run) {report : Option (List ℕ)} {faults faults_after o o_after e e_after : ℕ} (warnings : List ℕ) → Appends report begin.report warnings → warnings ≡ warnings_of script → HasMapped (result_of script) begin now → StopsReading more now.stream after.stream → IsStill now after
     → IsCutOff (IsSame (map_lines script)) more (devices begin.stream.left begin.stream.taken begin.stream.ended faults begin.stream.ahead begin.output o report e)
     (devices after.stream.left after.stream.taken after.stream.ended faults_after after.stream.ahead after.output o_after after.report e_after)
 cut_off stop script more begin now after {report} warnings told warned so stops still =
@@ -309,7 +310,7 @@ pub stopped_answered : RunsAskAtMost → RunsFront → RunsGoOn → RunsStop
     → (script : ScriptRun) (begin after : Run) {report : Option (List ℕ)} {faults faults_after o o_after e e_after : ℕ}
     {Unasked : Type 0} (warnings : List ℕ) (s : Status) → begin.stream.reader.taken ≡ 0
     → Appends report begin.report warnings → warnings ≡ warnings_of script
-    → HasStopped script begin after s → (s ≡ ReadFault → HasRisen faults faults_after) → (s ≡ WriteFault → HasRisen o o_after ⊎ HasRisen e e_after) → (s ≡ ReadFault) ⊎ (faults_after ≡ faults) → (s ≡ WriteFault) ⊎ ((o_after ≡ o) × (e_after ≡ e))
+    → HasStopped (result_of script) begin after s → (s ≡ ReadFault → HasRisen faults faults_after) → (s ≡ WriteFault → HasRisen o o_after ⊎ HasRisen e e_after) → (s ≡ ReadFault) ⊎ (faults_after ≡ faults) → (s ≡ WriteFault) ⊎ ((o_after ≡ o) × (e_after ≡ e))
     → IsAnswered (IsSame (map_lines script)) s (devices begin.stream.left begin.stream.taken begin.stream.ended faults begin.stream.ahead begin.output o report e)
     (devices after.stream.left after.stream.taken after.stream.ended faults_after after.stream.ahead after.output o_after after.report e_after) Unasked
 stopped_answered ask front goes stop script begin after {report} warnings ReadFault fresh told warned so read write read_told write_told =
@@ -398,16 +399,13 @@ warned_answered script s {left} {taken} {ended} {faults} {ahead} {output} {o} {r
 pub no_warnings : (report : Option (List ℕ)) (warnings : List ℕ) → AppendsFront report report warnings
 no_warnings report warnings = ([], warnings, refl, appends_none report)
 
--- no batch is left
-pub ends_mapping : (script : ScriptRun) (begin now after : Run) (batch : List Line) → HasMapped script begin now
-    → MapsBatch script now after batch
-    → AsksAtMost now.stream after.stream → TellsMore false batch → EndsMapping script begin after
-ends_mapping script begin now after batch so one asks none = record {
-  now = now;
-  mapped = so;
-  last = subst (MapsBatch script now after) none one;
-  asks = asks;
-}
+-- ---- two accounts of what is made of each line
+
+pub ends_by : (f g : Line → LineOut) (begin after : Run) → f ≡ g → EndsMapping f begin after → EndsMapping g begin after
+ends_by f g begin after is ends = subst (λ h. EndsMapping h begin after) is ends
+
+pub stops_by : (f g : Line → LineOut) (begin after : Run) (s : Status) → f ≡ g → HasStopped f begin after s → HasStopped g begin after s
+stops_by f g begin after s is stops = subst (λ h. HasStopped h begin after s) is stops
 
 -- ---- what an outcome tells
 

@@ -1,5 +1,5 @@
 -- What answers a request: the status, and the bytes that belong to it.
-use Rattle.std.specs.Prelude.{ℕ, ℤ, List, [], ◌∷◌, ◌++◌, map, take, Bool, if◌then◌else◌, codes}
+use Rattle.std.specs.Prelude.{ℕ, ℤ, List, [], ◌∷◌, ◌++◌, map, take, Bool, true, false, not, if◌then◌else◌, codes}
 use Rattle.std.specs.List.{flat_map}
 use Rattle.vrl_batch.specs.Lines.{event_lines}
 use Rattle.vrl_batch.specs.Moments.{lines_by}
@@ -14,6 +14,7 @@ use Rattle.vrl_kindfile.specs.Lines.{text_of}
 use Rattle.vrl_state.specs.declared.known.Known.{Known}
 use Rattle.vrl_state.specs.declared.known.Known.TheVariants.{Dead, Alive}
 use Rattle.vrl_state.specs.declared.known.RootKind.{RootKind}
+use Rattle.vrl_syntax.specs.Stores.{is_metadata}
 use Rattle.vrl_syntax.specs.declared.root.Root.{Root}
 use Rattle.vrl_syntax.specs.declared.root.Root.TheVariants.{Event, Name}
 use Rattle.vrl_run.specs.Devices.{Answer}
@@ -58,21 +59,26 @@ abbrev pub name_of : Root → List ℕ
 name_of Event = codes "."
 name_of (Name x) = x
 
-abbrev pub root_line : RootKind → List ℕ
-root_line root = kind_line (name_of root.root) root.kind
+-- the metadata is told with envelopes alone
+abbrev pub is_told : Bool → Root → Bool
+is_told true root = true
+is_told false root = not (is_metadata root)
+
+abbrev pub root_line : Bool → RootKind → List ℕ
+root_line envelope root = if is_told envelope root.root then kind_line (name_of root.root) root.kind else []
 
 -- the kind of the value that a script ends with, and that of each root which is known there; where
 -- it ends with none, nothing is
-abbrev pub kind_lines : KindTree → Known → List ℕ
-kind_lines K Dead = codes "result never" ++ (10 ∷ (codes ". never" ++ 10 ∷ []))
-kind_lines K (Alive roots) = kind_line (codes "result") K ++ flat_map root_line roots
+abbrev pub kind_lines : KindTree → Known → Bool → List ℕ
+kind_lines K Dead envelope = codes "result never" ++ (10 ∷ (codes ". never" ++ 10 ∷ []))
+kind_lines K (Alive roots) envelope = kind_line (codes "result") K ++ flat_map (root_line envelope) roots
 
 -- ---- the answer of a call
 
 abbrev pub usage_line : List ℕ
 usage_line =
-    codes "usage: remap SCRIPT [--kind FILE] [--jobs N] [--drop-on-error] [--keep-on-abort] [--check] [--generate COUNT:SEED]"
-    ++ 10 ∷ []
+    codes "usage: remap SCRIPT [--kind FILE] [--jobs N] [--drop-on-error] [--keep-on-abort] [--envelope]"
+    ++ (codes " [--check] [--generate COUNT:SEED]" ++ 10 ∷ [])
 
 -- a refusal writes no event
 abbrev pub refusal : Status → List ℕ → Answer
@@ -102,8 +108,8 @@ answer_to (bad_kind fault) input moments = refusal KindRefused (text_of fault ++
 answer_to (bad_script text diagnostics) input moments = refusal Refused (diagnostic_lines text diagnostics)
 answer_to (map_lines run) input moments = mapped (warnings_of run) (line_results run moments input)
 answer_to (map_made run count seed) input moments = summed (warnings_of run) (made_results run count seed)
-answer_to (tell_kinds text warnings K known) input moments =
-    record { status = Done; output = kind_lines K known; report = diagnostic_lines text warnings }
+answer_to (tell_kinds text warnings K known envelope) input moments =
+    record { status = Done; output = kind_lines K known envelope; report = diagnostic_lines text warnings }
 
 -- the same once so many lines were run
 abbrev pub answer_so_far : ℕ → Request → List ℕ → (ℕ → ℤ) → Answer

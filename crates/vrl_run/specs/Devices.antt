@@ -1,6 +1,6 @@
 -- What the devices of a call tell, before it and after it, by its status and by the bytes that are
 -- written. Nothing of this speaks of a script.
-use Rattle.std.specs.Prelude.{◌≡◌, ℕ, ◌+◌, ◌<◌, ◌≤◌, Bool, true, false, List, ◌++◌, length, ℤ, Option, option_map, IfSome, IsTrue, ◌⊎◌}
+use Rattle.std.specs.Prelude.{◌≡◌, ℕ, ◌+◌, ◌<◌, ◌≤◌, Bool, true, false, List, ◌++◌, length, take, ℤ, Option, option_map, IfSome, IsTrue, ◌⊎◌}
 use Rattle.vrl_io.specs.Faults.{HasRisen}
 use Rattle.vrl_value.specs.Moment.{IsInRange}
 use Rattle.vrl_batch.specs.Limits.{input_limit}
@@ -100,3 +100,18 @@ pub record HasCauses (status : Status) (before after : Devices) : Type 0 where
   pub read_told : (status ≡ ReadFault) ⊎ (after.read_faults ≡ before.read_faults)
   pub write_told : (status ≡ WriteFault)
       ⊎ ((after.output_faults ≡ before.output_faults) × (after.report_faults ≡ before.report_faults))
+
+-- ---- what is loaded
+
+-- what a store may tell: the bytes that a name holds
+abbrev pub Held : Type 0
+Held = Option (List ℕ → Option (List ℕ))
+
+-- so many bytes are loaded at most: one more than a script or a kind file may have
+abbrev pub load_limit : ℕ
+load_limit = 65537
+
+-- The bytes of a name. Where the store tells what it holds, they are what it holds under the name,
+-- and no more of it than the limit; a name that holds nothing has none.
+abbrev pub IsLoaded : Held → List ℕ → Option (List ℕ) → Type 0
+IsLoaded held name bytes = IfSome held (λ h. option_map (take load_limit) (h name) ≡ bytes)

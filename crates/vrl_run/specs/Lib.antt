@@ -1,8 +1,10 @@
 pub mod Answer
 pub mod Answered
 pub mod Devices
+pub mod Enclosed
 pub mod Joining
 pub mod JsonObjects
+pub mod Laws
 pub mod LineResult
 pub mod Mapping
 pub mod Ran

@@ -1,5 +1,5 @@
 -- What a call asks.
-use Rattle.std.specs.Prelude.{◌≡◌, ◌⊎◌, ℕ, ◌≤◌, List, ⊤}
+use Rattle.std.specs.Prelude.{◌≡◌, ◌⊎◌, ℕ, ◌≤◌, Bool, List, ⊤}
 use Rattle.vrl_diag.specs.declared.diagnostic.Diagnostic.{Diagnostic}
 use Rattle.vrl_kind.specs.KindTree.{KindTree}
 use Rattle.vrl_kindfile.specs.declared.fault.KindFault.{KindFault}
@@ -22,7 +22,7 @@ pub record ScriptRun : Type 0 where
   pub program : ProgramTree
   -- the kind of the events that it takes
   pub declared : KindTree
-  -- what becomes of an event over which it ends early
+  -- what a line stands for, and what becomes of an event over which it ends early
   pub options : Options
   pub warnings : List Diagnostic
 
@@ -38,8 +38,8 @@ pub data Request : Type 0 where
   -- it runs over so many lines, which are made from this seed
   map_made : ScriptRun → ℕ → ℕ → Request
   -- the kinds are told that a script may end with: its text, its warnings, the kind of its value,
-  -- and what is known at its end
-  tell_kinds : List ℕ → List Diagnostic → KindTree → Known → Request
+  -- what is known at its end, and whether the kind of the metadata is told, too
+  tell_kinds : List ℕ → List Diagnostic → KindTree → Known → Bool → Request
 
 -- this request, and no other
 abbrev pub IsSame : Request → Request → Type 0
@@ -62,7 +62,7 @@ request_of (asked.Kind fault) = bad_kind fault
 request_of (asked.Refused text diagnostics) = bad_script text diagnostics
 request_of (asked.Run script) = map_lines (run_of script)
 request_of (asked.Generate script count seed) = map_made (run_of script) count seed
-request_of (asked.Check text warnings K known) = tell_kinds text warnings K known
+request_of (asked.Check text warnings K known envelope) = tell_kinds text warnings K known envelope
 
 -- a script that is to run handles each of its errors, and its regex literals have these sources
 pub record IsReadyScript (script : ReadyScript) : Type 0 where
@@ -76,7 +76,7 @@ IsReadyRequest (asked.Kind fault) = ⊤
 IsReadyRequest (asked.Refused text diagnostics) = ⊤
 IsReadyRequest (asked.Run script) = IsReadyScript script
 IsReadyRequest (asked.Generate script count seed) = IsReadyScript script × (count ≤ 1000000)
-IsReadyRequest (asked.Check text warnings K known) = ⊤
+IsReadyRequest (asked.Check text warnings K known envelope) = ⊤
 
 -- ---- what may come of it
 
@@ -93,4 +93,4 @@ MayCome (bad_kind fault) status = (status ≡ KindRefused) ⊎ IsInterrupted sta
 MayCome (bad_script text diagnostics) status = (status ≡ Refused) ⊎ IsInterrupted status
 MayCome (map_lines run) status = IsFinished status ⊎ IsInterrupted status ⊎ (status ≡ TooMuch)
 MayCome (map_made run count seed) status = IsFinished status ⊎ IsInterrupted status
-MayCome (tell_kinds text warnings K known) status = IsFinished status ⊎ IsInterrupted status
+MayCome (tell_kinds text warnings K known envelope) status = IsFinished status ⊎ IsInterrupted status

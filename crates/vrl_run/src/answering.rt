@@ -23,8 +23,10 @@ use vrl_state::Known;
 use vrl_value::{Bytes, Memory};
 
 /// What is reported where the words are refused.
-const USAGE_LINE: &str =
-    "usage: remap SCRIPT [--kind FILE] [--jobs N] [--drop-on-error] [--keep-on-abort] [--check] [--generate COUNT:SEED]\n";
+const USAGE_LINE: &str = concat!(
+    "usage: remap SCRIPT [--kind FILE] [--jobs N] [--drop-on-error] [--keep-on-abort]",
+    " [--envelope] [--check] [--generate COUNT:SEED]\n",
+);
 
 /// Answers a request, with at most so many workers, 1 to 32, that pass the gate before each line.
 /// Words, a kind file and a script that are refused are reported. A script that runs over the lines
@@ -69,8 +71,12 @@ pub fn answer<R: Threads + Sync, S: Source, O: Sink, E: Sink, C: Clock, G: Gate 
                 report,
             )
         }
-        Request::Check(text, warnings, kind, known) => {
-            write_told(&kinds(alloc, text, warnings, kind, known), output, report)
+        Request::Check(text, warnings, kind, known, envelope) => {
+            write_told(
+                &kinds(alloc, text, warnings, kind, known, *envelope),
+                output,
+                report,
+            )
         }
     }
 }
@@ -141,13 +147,14 @@ fn kinds(
     warnings: &Diagnostics,
     kind: &Kind,
     known: &Known,
+    envelope: bool,
 ) -> Result<Told, Memory>
-    ensures { IfOk result (IsTold (tell_kinds text.now warnings.now kind.now known.now)) }
+    ensures { IfOk result (IsTold (tell_kinds text.now warnings.now kind.now known.now envelope)) }
 {
     let report = render_all(alloc, warnings.as_slice(), text.as_slice())?;
     Ok(Told {
         status: Status::Done,
-        output: kind_lines(alloc, kind, known)?,
+        output: kind_lines(alloc, kind, known, envelope)?,
         report,
     })
 }

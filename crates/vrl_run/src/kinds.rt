@@ -8,34 +8,55 @@ use vrl_state::{Known, RootKind};
 use vrl_syntax::Root;
 use vrl_value::Memory;
 
-// The kinds that a script may end with, a line each. `Memory`: want of memory.
-pub(crate) fn kind_lines(alloc: Global, kind: &Kind, known: &Known) -> Result<Vec<u8>, Memory>
-    ensures { IfOk result (λ lines. lines.items ≡ spec.kind_lines kind.now known.now) }
+// The kinds that a script may end with, a line each, that of the metadata with envelopes alone.
+// `Memory`: want of memory.
+pub(crate) fn kind_lines(
+    alloc: Global,
+    kind: &Kind,
+    known: &Known,
+    envelope: bool,
+) -> Result<Vec<u8>, Memory>
+    ensures { IfOk result (λ lines. lines.items ≡ spec.kind_lines kind.now known.now envelope) }
 {
     match known {
         Known::Dead => Ok("result never\n. never\n".as_bytes().to_vec(alloc)?),
-        Known::Alive(roots) => alive_lines(alloc, kind, roots.as_slice()),
+        Known::Alive(roots) => alive_lines(alloc, kind, roots.as_slice(), envelope),
     }
 }
 
 // The kind of the value, and then that of each root. `Memory`: want of memory.
-fn alive_lines(alloc: Global, kind: &Kind, roots: &[RootKind]) -> Result<Vec<u8>, Memory>
-    ensures { IfOk result
-        (λ lines. lines.items ≡ spec.kind_line (codes "result") kind.now ++ flat_map spec.root_line roots.now) }
+fn alive_lines(
+    alloc: Global,
+    kind: &Kind,
+    roots: &[RootKind],
+    envelope: bool,
+) -> Result<Vec<u8>, Memory>
+    ensures { IfOk result (λ lines. lines.items
+        ≡ spec.kind_line (codes "result") kind.now ++ flat_map (spec.root_line envelope) roots.now) }
 {
     let mut lines = kind_line(alloc, "result", kind)?;
     for root in roots {
-        let line = root_line(alloc, root)?;
+        let line = root_line(alloc, root, envelope)?;
         lines.extend_from_slice(&line)?;
     }
     Ok(lines)
 }
 
-// The kind of a root. `Memory`: want of memory.
-fn root_line(alloc: Global, root: &RootKind) -> Result<Vec<u8>, Memory>
-    ensures { IfOk result (λ line. line.items ≡ spec.root_line root.now) }
+// The kind of a root that is told. `Memory`: want of memory.
+fn root_line(alloc: Global, root: &RootKind, envelope: bool) -> Result<Vec<u8>, Memory>
+    ensures { IfOk result (λ line. line.items ≡ spec.root_line envelope root.now) }
 {
+    if !is_told(&root.root, envelope) {
+        return Ok(Vec::new(alloc));
+    }
     kind_line(alloc, name_of(&root.root), &root.kind)
+}
+
+// Whether the kind of a root is told.
+fn is_told(root: &Root, envelope: bool) -> bool
+    ensures { result ≡ spec.is_told envelope root.now }
+{
+    envelope || !root.is_metadata()
 }
 
 // What a root is told as.

@@ -17,8 +17,8 @@ use crate::status::Status;
 use std::alloc::Global;
 use std::thread::Threads;
 use vrl_batch::{
-    BatchFault, Gate, LineOut, Lines, give_all, map_batch, runs_ask_at_most, runs_begin, runs_end,
-    runs_front, runs_go_on, runs_stop,
+    BatchFault, Gate, LineOut, Lines, Work, give_all, map_batch, runs_ask_at_most, runs_begin,
+    runs_end, runs_front, runs_go_on, runs_stop,
 };
 use vrl_io::{Clock, Sink, Source};
 use vrl_value::Memory;
@@ -61,11 +61,12 @@ pub(crate) fn map_lines<R: Threads + Sync, S: Source, O: Sink, E: Sink, C: Clock
         Ok(lines) => lines,
         Err(Memory) => return Status::Memory,
     };
+    let work = script.work();
     let mut marked = false;
     match map_batches(
         rt,
         alloc,
-        script,
+        &work,
         jobs,
         &mut lines,
         &mut marked,
@@ -80,11 +81,19 @@ pub(crate) fn map_lines<R: Threads + Sync, S: Source, O: Sink, E: Sink, C: Clock
     }
 }
 
-// Runs a script over one batch after the other, to the end of the input.
-fn map_batches<R: Threads + Sync, S: Source, O: Sink, E: Sink, C: Clock, G: Gate + Sync>(
+// Does the work over one batch after the other, to the end of the input.
+fn map_batches<
+    R: Threads + Sync,
+    W: Work + Sync,
+    S: Source,
+    O: Sink,
+    E: Sink,
+    C: Clock,
+    G: Gate + Sync,
+>(
     rt: &R,
     alloc: Global,
-    script: &ReadyScript,
+    work: &W,
     jobs: u32,
     lines: &mut Lines,
     marked: &mut bool,
@@ -94,15 +103,14 @@ fn map_batches<R: Threads + Sync, S: Source, O: Sink, E: Sink, C: Clock, G: Gate
     clock: &mut C,
     gate: &G,
 ) -> Result<(), Status>
-    requires script { IsReadyScript script.now }
     requires jobs { (1 ≤ jobs) × (jobs ≤ 32) }
     requires fresh { lines.old ≡ record { bytes = record { held = []; next = 1; taken = 0 }; fault = None } }
-    ensures ends { OnOk result (EndsMapping (run_of script.now)
+    ensures ends { OnOk result (EndsMapping (W.makes work.now)
         (run_at (stream lines.old.bytes (S.left input.old) (S.taken input.old) (S.ended input.old) (C.ahead clock.old))
         (O.written output.old) (E.written report.old) marked.old)
         (run_at (stream lines.new.bytes (S.left input.new) (S.taken input.new) (S.ended input.new) (C.ahead clock.new))
         (O.written output.new) (E.written report.new) marked.new)) }
-    ensures stops { IfErr result (HasStopped (run_of script.now)
+    ensures stops { IfErr result (HasStopped (W.makes work.now)
         (run_at (stream lines.old.bytes (S.left input.old) (S.taken input.old) (S.ended input.old) (C.ahead clock.old))
         (O.written output.old) (E.written report.old) marked.old)
         (run_at (stream lines.new.bytes (S.left input.new) (S.taken input.new) (S.ended input.new) (C.ahead clock.new))
@@ -119,7 +127,7 @@ fn map_batches<R: Threads + Sync, S: Source, O: Sink, E: Sink, C: Clock, G: Gate
     runs_begin();
     runs_go_on();
     while map_next(
-        rt, alloc, script, jobs, lines, marked, input, output, report, clock, gate,
+        rt, alloc, work, jobs, lines, marked, input, output, report, clock, gate,
     )? {}
     Ok(())
 }
@@ -131,11 +139,19 @@ pub(crate) fn status_if(marked: bool) -> Status
     if marked { Status::Marked } else { Status::Done }
 }
 
-// Runs a script over one batch more, and tells whether there was one.
-fn map_next<R: Threads + Sync, S: Source, O: Sink, E: Sink, C: Clock, G: Gate + Sync>(
+// Does the work over one batch more, and tells whether there was one.
+fn map_next<
+    R: Threads + Sync,
+    W: Work + Sync,
+    S: Source,
+    O: Sink,
+    E: Sink,
+    C: Clock,
+    G: Gate + Sync,
+>(
     rt: &R,
     alloc: Global,
-    script: &ReadyScript,
+    work: &W,
     jobs: u32,
     lines: &mut Lines,
     marked: &mut bool,
@@ -145,16 +161,15 @@ fn map_next<R: Threads + Sync, S: Source, O: Sink, E: Sink, C: Clock, G: Gate + 
     clock: &mut C,
     gate: &G,
 ) -> Result<bool, Status>
-    requires script { IsReadyScript script.now }
     requires jobs { (1 ≤ jobs) × (jobs ≤ 32) }
     requires fault { lines.old.fault ≡ None }
-    ensures batch { IfOk result (λ more. (batch : List Line) × MapsBatch (run_of script.now)
+    ensures batch { IfOk result (λ more. (batch : List Line) × MapsBatch (W.makes work.now)
         (run_at (stream lines.old.bytes (S.left input.old) (S.taken input.old) (S.ended input.old) (C.ahead clock.old))
         (O.written output.old) (E.written report.old) marked.old)
         (run_at (stream lines.new.bytes (S.left input.new) (S.taken input.new) (S.ended input.new) (C.ahead clock.new))
         (O.written output.new) (E.written report.new) marked.new)
         batch × TellsMore more batch) }
-    ensures stops { IfErr result (StopsMapping (run_of script.now)
+    ensures stops { IfErr result (StopsMapping (W.makes work.now)
         (run_at (stream lines.old.bytes (S.left input.old) (S.taken input.old) (S.ended input.old) (C.ahead clock.old))
         (O.written output.old) (E.written report.old) marked.old)
         (run_at (stream lines.new.bytes (S.left input.new) (S.taken input.new) (S.ended input.new) (C.ahead clock.new))
@@ -176,8 +191,7 @@ fn map_next<R: Threads + Sync, S: Source, O: Sink, E: Sink, C: Clock, G: Gate + 
         Ok(batch) => batch,
         Err(fault) => return Err(status_of(fault)),
     };
-    let work = script.work();
-    let Ok(results) = map_batch(rt, alloc, jobs, &batch, &work, gate) else {
+    let Ok(results) = map_batch(rt, alloc, jobs, &batch, work, gate) else {
         return Err(Status::Memory);
     };
     let refused = write_results(alloc, results.as_slice(), output, report)?;

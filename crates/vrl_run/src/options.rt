@@ -1,4 +1,4 @@
-/// What becomes of an event over which the script ends early.
+/// What a line stands for, and what becomes of an event over which the script ends early.
 #[derive(Clone, Copy, Debug, PartialEq, Eq)]
 pub struct Options {
     /// An event over which a call with a `!` fails, or the limit of depth is met, is dropped, and
@@ -6,4 +6,7 @@ pub struct Options {
     pub drop_on_error: bool,
     /// An event over which the script aborts is kept as it was read, and not dropped.
     pub keep_on_abort: bool,
+    /// A line is an envelope, an object of an event and its metadata, and each event is written in
+    /// one. Without it a line is an event, whose metadata is empty and isn't written.
+    pub envelope: bool,
 }

@@ -22,7 +22,7 @@ pub struct ReadyScript {
     pub sources: Names,
     /// The kind of the events that it takes.
     pub declared: Kind,
-    /// What becomes of an event over which it ends early.
+    /// What a line stands for, and what becomes of an event over which it ends early.
     pub options: Options,
     /// The warnings about it.
     pub warnings: Diagnostics,

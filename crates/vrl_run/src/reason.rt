@@ -9,7 +9,10 @@ pub enum Reason {
     NotJson,
     /// A number of its value is not a whole number of 64 bits with a sign.
     NotWhole,
-    /// Its value is not of the declared kind.
+    /// It has to be an envelope, and its value is not an object with exactly the members `event`
+    /// and `metadata`, the latter an object.
+    NotEnvelope,
+    /// Its event is not of the declared kind.
     NotDeclared,
 }
 
@@ -24,6 +27,7 @@ impl fmt::Display for Reason {
             Reason::TooLong => write!(f, "longer than 1048576 bytes"),
             Reason::NotJson => write!(f, "not JSON"),
             Reason::NotWhole => write!(f, "not whole numbers"),
+            Reason::NotEnvelope => write!(f, "not an envelope"),
             Reason::NotDeclared => write!(f, "not of the declared kind"),
         }
     }

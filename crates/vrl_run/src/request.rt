@@ -19,6 +19,6 @@ pub enum Request {
     /// The script runs over so many lines, at most 1,000,000, which are made from a seed.
     Generate(ReadyScript, u64, u64),
     /// The kinds are told that the script of these bytes, with these warnings, may end with: that
-    /// of its value, and what is known then.
-    Check(Bytes, Diagnostics, Kind, Known),
+    /// of its value, and what is known then, in which the metadata is told where the flag says so.
+    Check(Bytes, Diagnostics, Kind, Known, bool),
 }

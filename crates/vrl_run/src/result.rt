@@ -7,33 +7,34 @@ ghost use Rattle.vrl_kind.specs.Kinds.{Inhabits};
 ghost use Rattle.vrl_kind.specs.View.{rest_of};
 ghost use Rattle.vrl_resolve.specs.Meaning.{IsUnhandled};
 ghost use Rattle.vrl_resolve.specs.Program.{ended_over, program_of};
+ghost use Rattle.vrl_run.specs.Enclosed.{parts_in};
 ghost use Rattle.vrl_run.specs.JsonObjects.{is_json_rest, takes_json_objects};
-ghost use Rattle.vrl_run.specs.LineResult.{end_report, end_result, event_result, kept_events, refused_line, result_of_line, HandlesErrors};
+ghost use Rattle.vrl_run.specs.LineResult.{end_report, end_result, event_result, kept_events, refused_line, result_of_line, result_of_reading, HandlesErrors, StandsFor};
 ghost use Rattle.vrl_run.specs.LineResult as spec;
 ghost use Rattle.vrl_run.specs.Unread.{IsReasonOf, IsUnread};
-ghost use Rattle.vrl_run.specs.Ran.{end_in};
+ghost use Rattle.vrl_run.specs.Ran.{end_in, left_in};
 
+use crate::envelope::{Parts, lines_stand_for_json, parts_of};
 use crate::kept::kept_events;
 use crate::options::Options;
 use crate::reason::Reason;
 use crate::report::{end_report, report_line};
 use std::alloc::Global;
 use vrl_batch::{Line, LineOut, Outcome};
-use vrl_json::{
-    JsonFault, Scratch, from_line, json_needs_no_sources, lines_are_json, lines_are_ordered,
-    lines_are_shallow,
-};
+use vrl_json::{JsonFault, Scratch, from_line, json_needs_no_sources, lines_are_ordered};
 use vrl_kind::{Kind, Rest, inhabits, inhabits_is_computed, object_part};
 use vrl_pattern::Searches;
 use vrl_resolve::{Ended, Program, Ran, run_measured};
 use vrl_value::{Bytes, Memory, Names, Value};
 
-/// Runs a program over the event that a line stands for. `_sources` are those of the program's
-/// regex literals, which `searches` tell too, and over no event of the declared kind does the
-/// program end with an error that it doesn't handle, as `vrl_compile` promises of each that it
-/// accepts. A line that is too long, is no JSON text or has a number that isn't whole, or whose
-/// value is not of the declared kind, is refused. `searches` are those of the program, and
-/// `scratch` is what reading needs; keep both from line to line. `Memory`: out of memory.
+/// Runs a program over the event that a line stands for, with its metadata; the options say whether
+/// the line is an envelope of both. `_sources` are those of the program's regex literals, which
+/// `searches` tell too, and over no event of the declared kind, with an object of JSON as its
+/// metadata, does the program end with an error that it doesn't handle, as `vrl_compile` promises
+/// of each that it accepts. A line that is too long, is no JSON text or has a number that isn't
+/// whole, is no envelope where it has to be one, or whose event is not of the declared kind, is
+/// refused. `searches` are those of the program, and `scratch` is what reading needs; keep both
+/// from line to line. `Memory`: out of memory.
 pub fn run_line(
     alloc: Global,
     program: &Program,
@@ -52,18 +53,43 @@ pub fn run_line(
     if line.long {
         return refused(alloc, line.number, Reason::TooLong);
     }
-    let event = match from_line(alloc, line.bytes.as_slice(), scratch) {
-        Ok(event) => event,
+    let read = match from_line(alloc, line.bytes.as_slice(), scratch) {
+        Ok(read) => read,
         Err(fault) => return unread(alloc, line.number, fault),
     };
-    lines_are_json();
+    run_read(
+        alloc, program, searches, declared, options, line, read, scratch,
+    )
+}
+
+// A line that was read. `Memory`: out of memory.
+fn run_read(
+    alloc: Global,
+    program: &Program,
+    searches: &Searches<'_>,
+    declared: &Kind,
+    options: &Options,
+    line: &Line,
+    read: Value,
+    scratch: &mut Scratch,
+) -> Result<LineOut, Memory>
+    requires searches { searches.now ≡ (program_of program.now).sources }
+    requires read { reading_of line.now.bytes ≡ whole (tree_of read) }
+    requires handled { HandlesErrors declared.now (program_of program.now) }
+    ensures { IfOk result (λ out. out ≡ result_of_reading (program_of program.now) declared.now options.now line.now
+        (whole (tree_of read))) }
+{
     inhabits_is_computed();
-    if !is_declared(&event, declared) {
+    json_needs_no_sources();
+    lines_are_ordered();
+    lines_stand_for_json();
+    let Some(parts) = parts_of(alloc, options.envelope, read) else {
+        return refused(alloc, line.number, Reason::NotEnvelope);
+    };
+    if !is_declared(&parts.event, declared) {
         return refused(alloc, line.number, Reason::NotDeclared);
     }
-    lines_are_ordered();
-    json_needs_no_sources();
-    run_event(alloc, program, searches, options, line, event, scratch)
+    run_event(alloc, program, searches, options, line, parts, scratch)
 }
 
 // Whether the event of a line is of the declared kind. An object isn't walked where the kind takes
@@ -141,20 +167,30 @@ fn run_event(
     searches: &Searches<'_>,
     options: &Options,
     line: &Line,
-    event: Value,
+    parts: Parts,
     scratch: &mut Scratch,
 ) -> Result<LineOut, Memory>
     requires searches { searches.now ≡ (program_of program.now).sources }
-    requires read { reading_of line.now.bytes ≡ whole (tree_of event) }
-    requires handled { ¬ IsUnhandled (ended_over (program_of program.now) line.now.moment (tree_of event)).outcome }
-    requires below { IsTrue (regexes_below (length searches.now) (tree_of event)) }
-    ensures { IfOk result (λ out. out ≡ event_result searches.now options.now line.now.number (tree_of event)
-        (ended_over (program_of program.now) line.now.moment (tree_of event))) }
+    requires read { StandsFor options.now.envelope line.now.bytes (parts_in parts) }
+    requires handled { ¬ IsUnhandled (ended_over (program_of program.now) line.now.moment (tree_of parts.event)
+        (tree_of parts.metadata)).outcome }
+    ensures { IfOk result (λ out. out ≡ event_result searches.now options.now line.now.number (parts_in parts)
+        (ended_over (program_of program.now) line.now.moment (tree_of parts.event) (tree_of parts.metadata))) }
 {
-    lines_are_ordered();
-    lines_are_shallow();
-    // A line nests at most 127 deep, and of what the script gives nothing is written.
-    let ran = run_measured(alloc, program, searches, event, true, line.moment, false)?;
+    json_needs_no_sources();
+    lines_stand_for_json();
+    let Parts { event, metadata } = parts;
+    // Of what the script gives nothing is written.
+    let ran = run_measured(
+        alloc,
+        program,
+        searches,
+        event,
+        metadata,
+        true,
+        line.moment,
+        false,
+    )?;
     ran_result(alloc, searches, options, line, &ran, scratch)
 }
 
@@ -168,12 +204,12 @@ fn ran_result(
     ran: &Ran,
     scratch: &mut Scratch,
 ) -> Result<LineOut, Memory>
-    requires { IsTrue (regexes_below (length searches.now) (tree_of ran.now.event)) }
-    ensures result { IfOk result (λ out. (read : Tree) → reading_of line.now.bytes ≡ whole read →
-        out ≡ end_result searches.now options.now line.now.number read (end_in ran.now.ended)
-        (tree_of ran.now.event)) }
-    ensures none { (read : Tree)
-        → kept_events options.now read (end_in ran.now.ended) (tree_of ran.now.event) ≡ []
+    requires event { IsTrue (regexes_below (length searches.now) (tree_of ran.now.event)) }
+    requires metadata { IsTrue (regexes_below (length searches.now) (tree_of ran.now.metadata)) }
+    ensures result { IfOk result (λ out. (read : Tree × Tree) → StandsFor options.now.envelope line.now.bytes read →
+        out ≡ end_result searches.now options.now line.now.number read (end_in ran.now.ended) (left_in ran.now)) }
+    ensures none { (read : Tree × Tree)
+        → kept_events options.now read (end_in ran.now.ended) (left_in ran.now) ≡ []
         → end_report line.now.number (end_in ran.now.ended) ≡ [] → IsOk result }
 {
     let kept = kept_events(alloc, searches.sources(), options, line, ran, scratch)?;

@@ -39,6 +39,10 @@ returns-in-Refused-clause-asks c =
     (subst (IsAnswer declared c.in-Ok.text.now) c.in-Refused.is c.in_ok-compiled.ensures.answer) in
     refused_asked i c.args.file c.args.script declared c.in-Refused.diagnostics is_text of_kind refused
 
+pub accepted_asked-requires-clause-text : goal.accepted_asked-requires-clause-text
+accepted_asked-requires-clause-text c =
+    subst (λ text. ¬ IsNoScript text) (c.in-Ok.ensures.text ∙ c.as_slice.ensures) (read_is_text c.in-Ok.text.now c.in-Ok.ensures.ok)
+
 pub returns-clause-asks : goal.returns-clause-asks
 returns-clause-asks c =
     let i = invocation_of c.args.invocation.now in

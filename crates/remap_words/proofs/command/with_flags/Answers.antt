@@ -6,5 +6,6 @@ use Rattle.remap_words.proofs.command.with_flags.Goals as goal
 
 pub returns : goal.returns
 returns c =
-    let before = c.in_ok-keeping.ensures ∙ ap (λ app. with_rule app (flag_rule (codes "keep-on-abort"))) c.in_ok-dropping.ensures in
-    IfOk-weaker c.with_flag-3.result _ _ (λ more is. is ∙ ap (λ app. with_rule app (flag_rule (codes "check"))) before) c.with_flag-3.ensures
+    let kept = c.in_ok-keeping.ensures ∙ ap (λ app. with_rule app (flag_rule (codes "keep-on-abort"))) c.in_ok-dropping.ensures in
+    let before = c.in_ok-enclosing.ensures ∙ ap (λ app. with_rule app (flag_rule (codes "envelope"))) kept in
+    IfOk-weaker c.with_flag-4.result _ _ (λ more is. is ∙ ap (λ app. with_rule app (flag_rule (codes "check"))) before) c.with_flag-4.ensures

@@ -32,5 +32,5 @@ returns-in-Generate g c =
 pub returns-in-Check : goal.returns-in-Check
 returns-in-Check g c =
     let told = c.write_told-in-Check.ensures in
-    let request = tell_kinds c.in-Check.text c.in-Check.warnings c.in-Check.kind c.in-Check.known in
+    let request = tell_kinds c.in-Check.text c.in-Check.warnings c.in-Check.kind c.in-Check.known c.in-Check.envelope in
     rw c.in-Check.is (told_answered request _ (λ reads. reads) (told.written request c.kinds.ensures) told.cause told.write_told (refl, refl))

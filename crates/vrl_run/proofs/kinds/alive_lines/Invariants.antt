@@ -5,4 +5,4 @@ use Rattle.vrl_run.proofs.kinds.alive_lines.Given as goal
 
 -- the lines of what is left, behind those written, are the whole
 abbrev pub invariant-loop-root : goal.invariant-loop-root
-invariant-loop-root l = l.lines.items ++ flat_map root_line (drop l.root-index l.roots) ≡ kind_line (codes "result") l.kind ++ flat_map root_line l.roots
+invariant-loop-root l = l.lines.items ++ flat_map (root_line l.envelope) (drop l.root-index l.roots) ≡ kind_line (codes "result") l.kind ++ flat_map (root_line l.envelope) l.roots

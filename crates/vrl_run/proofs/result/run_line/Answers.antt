@@ -2,7 +2,7 @@ use Rattle.std.proofs.Common.{◌≡◌, Err, ap, rules, subst}
 use Rattle.vrl_value.specs.View.{tree_of}
 use Rattle.vrl_json.specs.Line.{not_json, not_whole, reading_of}
 use Rattle.vrl_resolve.specs.Program.{program_of}
-use Rattle.vrl_run.proofs.EventLines.{of_another, of_kind}
+use Rattle.vrl_run.proofs.EventLines.{of_read}
 use Rattle.vrl_run.proofs.Unread.{unread_line}
 use Rattle.vrl_run.proofs.result.run_line.Goals as goal
 
@@ -12,10 +12,6 @@ returns-in-Err c =
     (λ is. subst (λ bytes. reading_of bytes ≡ not_json) c.as_slice.ensures (c.in-Err.ensures.not_json (ap Err is)))
     (λ is. subst (λ bytes. reading_of bytes ≡ not_whole) c.as_slice.ensures (c.in-Err.ensures.not_whole (ap Err is))) c.unread.ensures
 
-pub returns-then-not-is_declared : goal.returns-then-not-is_declared
-returns-then-not-is_declared c =
-    of_another (program_of c.args.program.now) c.args.declared.now c.args.options.now c.args.line.now (tree_of c.in-Ok.event) c.refused-then-not-is_declared.result c.inhabits_is_computed.ensures (search rules) (search rules) (search rules) c.refused-then-not-is_declared.ensures
-
 pub returns : goal.returns
 returns c =
-    of_kind (program_of c.args.program.now) c.args.declared.now c.args.options.now c.args.line.now (tree_of c.in-Ok.event) c.run_event.result c.inhabits_is_computed.ensures (search rules) (search rules) (search rules) (rw c.requires.searches at c.run_event.ensures)
+    of_read (program_of c.args.program.now) c.args.declared.now c.args.options.now c.args.line.now (tree_of c.in-Ok.read) c.run_read.result (search rules) (search rules) c.run_read.ensures
