@@ -4,7 +4,7 @@ ghost use Rattle.vrl_run.specs.LineResult.{HandlesErrors};
 ghost use Rattle.vrl_run.specs.Request.{IsReadyRequest};
 
 // Answers to requests, over devices in memory that give pieces and fail.
-use crate::running::{accepted, event_kind};
+use crate::running::accepted;
 use std::alloc::Global;
 use std::process::Abort;
 use std::thread::Threads;
@@ -14,6 +14,7 @@ use vrl_diag::{Diagnostic, Diagnostics, Span};
 use vrl_io::{MemoryClock, MemorySink, MemorySource};
 use vrl_kind::Kind;
 use vrl_run::{Options, ReadyScript, Request, Status, answer};
+use vrl_state::json_object;
 use vrl_value::{Bytes, Memory};
 
 // The size of the input's pieces, where it comes in pieces, and the number of the call that fails,
@@ -141,6 +142,7 @@ fn is_run<R: Threads + Sync>(
         options: Options {
             drop_on_error: false,
             keep_on_abort: false,
+            envelope: false,
         },
         warnings: Diagnostics::new(Vec::new(alloc)),
     });
@@ -162,7 +164,7 @@ fn is_told<R: Threads + Sync>(
     text: &str,
     row: &Row,
 ) -> Result<bool, Memory> {
-    let declared = event_kind(alloc)?;
+    let declared = json_object(alloc)?;
     match accepted(alloc, text, &declared)? {
         Some(script) => is_run(rt, alloc, text, script, declared, row),
         None => is_answered(rt, alloc, &refusal(alloc, text)?, row),
@@ -195,7 +197,7 @@ const FAULTS: [Row; 13] = [
     (None, Faults { report: Some(0), ..NONE }, Status::WriteFault, "", ""),
     // No call fails: a script is refused, and the words are.
     (Some(".x = y"), NONE, Status::Refused, "", "error[E701] 1:6 undefined variable\n"),
-    (None, NONE, Status::Usage, "", "usage: remap SCRIPT [--kind FILE] [--jobs N] [--drop-on-error] [--keep-on-abort] [--check] [--generate COUNT:SEED]\n"),
+    (None, NONE, Status::Usage, "", "usage: remap SCRIPT [--kind FILE] [--jobs N] [--drop-on-error] [--keep-on-abort] [--envelope] [--check] [--generate COUNT:SEED]\n"),
 ];
 
 #[test]

@@ -3,7 +3,7 @@
 use crate::judgement::{Asked, expect};
 use vrl_value::Memory;
 
-const FUNCTIONS: [(&str, &str); 34] = [
+const FUNCTIONS: [(&str, &str); 38] = [
     (".x = to_int(.x)", "103 1:1"),
     ("to_int(.x)", "100 1:1"),
     ("mod(1, 0)", "100 1:1"),
@@ -44,6 +44,10 @@ const FUNCTIONS: [(&str, &str); 34] = [
     ("x = object({\"a\": 1})\n.r = x.a + 1", ""),
     (".r = array([1])[0] + 1", ""),
     ("x = abs!(.a)\n.y = x + 1", ""),
+    ("%, err = to_int(.a)", "1017 1:1"),
+    ("%, err = parse_json(.a)", ""),
+    ("ok, % = parse_json(.a)", "1017 1:1"),
+    ("% = parse_json!(.a)", ""),
 ];
 
 #[test]
@@ -175,7 +179,7 @@ fn codes_of_bangs(rt: HostRuntime) -> Result<(), Memory> {
     expect(&rt, rt.alloc(), Asked::Codes, &BANGS)
 }
 
-const PATHS: [(&str, &str); 55] = [
+const PATHS: [(&str, &str); 57] = [
     ("del(.a)", ""),
     (".x = del(.a)", ""),
     ("del(value: .a)", ""),
@@ -235,6 +239,8 @@ const PATHS: [(&str, &str); 55] = [
     ("x = 1\ndel(x)\n.r = x + 1", "103 3:1"),
     ("del(.)\n.r = .a + \"t\"", ""),
     ("del(.)\n.r = .a + 1", "103 2:1"),
+    ("%a = 1\ndel(%)\n.r = %a + \"t\"", ""),
+    ("%a = 1\ndel(%)\n.r = %a + 1", "103 3:1"),
     ("x = {\"a\": 1}\nexists(x.a)\n.r = x.a + 1", ""),
     (
         "x = {\"a\": 1}\ndel(x.a) -> |v| { v }\n.r = x.a + 1",
@@ -247,54 +253,69 @@ fn codes_of_paths(rt: HostRuntime) -> Result<(), Memory> {
     expect(&rt, rt.alloc(), Asked::Codes, &PATHS)
 }
 
-const ENDS: [(&str, &str); 27] = [
-    ("is_string(.a)", "boolean; . {..json}"),
-    ("to_int!(.a)", "integer; . {..json}"),
-    ("string!(.a)", "string; . {..json}"),
-    ("bool!(.a)", "boolean; . {..json}"),
-    ("array!(.a)", "[..json]; . {..json}"),
-    ("object!(.a)", "{..json}; . {..json}"),
-    ("timestamp!(.a)", "never; . {..json}"),
-    ("int!(\"a\")", "never; . {..json}"),
-    ("array([1, \"s\"])", "[integer, string]; . {..json}"),
-    ("object({\"a\": 1})", "{\"a\": integer}; . {..json}"),
-    ("abs(-3)", "integer; . {..json}"),
-    ("abs!(.a)", "integer; . {..json}"),
-    ("format_int(1)", "string; . {..json}"),
+const ENDS: [(&str, &str); 30] = [
+    ("is_string(.a)", "boolean; . {..json}; % {..json}"),
+    ("to_int!(.a)", "integer; . {..json}; % {..json}"),
+    ("string!(.a)", "string; . {..json}; % {..json}"),
+    ("bool!(.a)", "boolean; . {..json}; % {..json}"),
+    ("array!(.a)", "[..json]; . {..json}; % {..json}"),
+    ("object!(.a)", "{..json}; . {..json}; % {..json}"),
+    ("timestamp!(.a)", "never; . {..json}; % {..json}"),
+    ("int!(\"a\")", "never; . {..json}; % {..json}"),
+    (
+        "array([1, \"s\"])",
+        "[integer, string]; . {..json}; % {..json}",
+    ),
+    (
+        "object({\"a\": 1})",
+        "{\"a\": integer}; . {..json}; % {..json}",
+    ),
+    ("abs(-3)", "integer; . {..json}; % {..json}"),
+    ("abs!(.a)", "integer; . {..json}; % {..json}"),
+    ("format_int(1)", "string; . {..json}; % {..json}"),
     (
         "x = abs(.a) ?? \"s\"",
-        "string|integer; . {..json}; x string|integer",
+        "string|integer; . {..json}; % {..json}; x string|integer",
     ),
     (
         "x = string({\"a\": 1}) ?? 1",
-        "integer; . {..json}; x integer",
+        "integer; . {..json}; % {..json}; x integer",
     ),
     (
         ".v, .e = to_int(.x)",
-        "integer; . {\"e\": string|null, \"v\": integer, ..json}",
+        "integer; . {\"e\": string|null, \"v\": integer, ..json}; % {..json}",
     ),
     ("abs(abort)", "never; dead"),
-    ("abs((return 1))", "integer; . {..json}"),
-    ("exists(.a)", "boolean; . {..json}"),
+    ("abs((return 1))", "integer; . {..json}; % {..json}"),
+    ("exists(.a)", "boolean; . {..json}; % {..json}"),
     (
         "x = {\"a\": 1}\nexists(x.a)",
-        "boolean; . {..json}; x {\"a\": integer}",
+        "boolean; . {..json}; % {..json}; x {\"a\": integer}",
     ),
-    ("del(.a)", "json; . {\"a\"?: never, ..json}"),
-    ("del(.)", "{..json}; . {}"),
-    ("x = 1\ndel(x)", "integer; . {..json}; x null"),
-    ("x = {\"a\": 1}\ndel(x.a)", "integer; . {..json}; x {}"),
+    ("del(.a)", "json; . {\"a\"?: never, ..json}; % {..json}"),
+    ("del(.)", "{..json}; . {}; % {..json}"),
+    ("del(%)", "{..json}; . {..json}; % {}"),
+    (
+        "%a = 1\ndel(%)",
+        "{\"a\": integer, ..json}; . {..json}; % {}",
+    ),
+    ("del(%)\n.r = %a", "null; . {\"r\": null, ..json}; % {}"),
+    ("x = 1\ndel(x)", "integer; . {..json}; % {..json}; x null"),
+    (
+        "x = {\"a\": 1}\ndel(x.a)",
+        "integer; . {..json}; % {..json}; x {}",
+    ),
     (
         "x = {\"a\": 1, \"b\": \"s\"}\ndel(x.a)",
-        "integer; . {..json}; x {\"b\": string}",
+        "integer; . {..json}; % {..json}; x {\"b\": string}",
     ),
     (
         "x = [1, \"s\"]\ndel(x[0])",
-        "integer; . {..json}; x [string]",
+        "integer; . {..json}; % {..json}; x [string]",
     ),
     (
         "x = [1, \"s\"]\ndel(x[1])",
-        "string; . {..json}; x [integer]",
+        "string; . {..json}; % {..json}; x [integer]",
     ),
 ];
 

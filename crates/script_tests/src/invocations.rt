@@ -10,11 +10,12 @@ const PLAIN: Invocation = Invocation {
     jobs: 1,
     drop_on_error: false,
     keep_on_abort: false,
+    envelope: false,
     mode: Mode::Lines,
 };
 
 /// Lists of words, which stand between strokes, and what they ask for.
-const READ: [(&str, Option<Invocation>); 9] = [
+const READ: [(&str, Option<Invocation>); 11] = [
     ("s", Some(PLAIN)),
     ("s|--jobs|08", Some(Invocation { jobs: 8, ..PLAIN })),
     ("--jobs=32|s", Some(Invocation { jobs: 32, ..PLAIN })),
@@ -31,6 +32,22 @@ const READ: [(&str, Option<Invocation>); 9] = [
         Some(Invocation {
             kind: Some("k"),
             keep_on_abort: true,
+            mode: Mode::Check,
+            ..PLAIN
+        }),
+    ),
+    (
+        "--envelope|s",
+        Some(Invocation {
+            envelope: true,
+            ..PLAIN
+        }),
+    ),
+    (
+        "s|--check|--envelope|--drop-on-error",
+        Some(Invocation {
+            drop_on_error: true,
+            envelope: true,
             mode: Mode::Check,
             ..PLAIN
         }),
@@ -70,7 +87,7 @@ const READ: [(&str, Option<Invocation>); 9] = [
 ];
 
 /// Lists of words that are refused.
-const REFUSED: [&str; 30] = [
+const REFUSED: [&str; 34] = [
     "",
     "--jobs=8|s|--jobs|8",
     "s|--kind",
@@ -94,6 +111,10 @@ const REFUSED: [&str; 30] = [
     "s|--jobs=",
     "s|--check|--check",
     "s|--check|--generate|1:1",
+    "s|--envelope=1",
+    "s|--envelope|--envelope",
+    "s|--envelope|--generate|1:1",
+    "--generate=1:1|--envelope|s",
     "s|--generate=1000001:1",
     "s|--generate=1:4294967296",
     "s|--generate=00000001:1",

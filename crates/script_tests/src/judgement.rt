@@ -7,7 +7,6 @@ ghost use Rattle.vrl_judge.specs.Rules.{Judgement};
 
 // Scripts without calls: what is wrong with them, the kind of what they give, and what is known
 // then.
-use crate::running::event_kind;
 use std::alloc::Global;
 use std::process::Abort;
 use vrl_check::{Judged, check, ending};
@@ -15,7 +14,7 @@ use vrl_diag::{Diagnostic, render};
 use vrl_kind::print;
 use vrl_parse::parse;
 use vrl_pattern::{BuildFault, Patterns};
-use vrl_state::{Known, RootKind};
+use vrl_state::{Known, RootKind, json_object};
 use vrl_syntax::{Root, Script};
 use vrl_token::{SyntaxFault, Tokens, tokens};
 use vrl_value::{Memory, Tag};
@@ -55,7 +54,7 @@ fn judged_script(alloc: Global, script: &Script) -> Result<Option<Judged>, Memor
 {
     match Patterns::build(alloc, &script.patterns) {
         Ok(patterns) => {
-            let event = event_kind(alloc)?;
+            let event = json_object(alloc)?;
             let judged = check(alloc, script, &event, &patterns)?;
             Ok(Some(judged))
         }
@@ -243,7 +242,7 @@ fn codes_of_operators(rt: HostRuntime) -> Result<(), Memory> {
     expect(&rt, rt.alloc(), Asked::Codes, &OPERATORS)
 }
 
-const ASSIGNMENTS: [(&str, &str); 32] = [
+const ASSIGNMENTS: [(&str, &str); 57] = [
     ("_ = 1", "640 1:1"),
     ("_ = .a + 1", "103 1:1, 640 1:1"),
     (". = 3", "1006 1:1"),
@@ -276,6 +275,31 @@ const ASSIGNMENTS: [(&str, &str); 32] = [
     ("., . = 1", "104 1:1, 1006 1:1"),
     ("., e = !1", "660 1:8"),
     ("x, . = !1", "1006 1:1, 660 1:8"),
+    ("% = 3", "1017 1:1"),
+    ("% = []", "1017 1:1"),
+    ("% = {}", ""),
+    ("% = .", ""),
+    ("% = .a", ""),
+    ("% = .a + 1", "103 1:1, 1017 1:1"),
+    ("% = !1", "660 1:5"),
+    ("% = abort", ""),
+    ("%n = 1", ""),
+    ("%n = 1\n.k = %n + 1", ""),
+    (".k = %n + 1", "103 1:1"),
+    ("{ %n = 1 }\n.k = %n + 1", ""),
+    ("% |= 1", "652 1:6"),
+    ("%a |= {}", "652 1:1"),
+    ("% |= {\"a\": 1}\n.r = %a + 1", ""),
+    ("%, e = .a + 1", "1017 1:1"),
+    ("%, e = \"a\" + 1", "1017 1:1"),
+    ("e, % = .a + 1", "1017 1:1"),
+    ("_, % = .a + 1", "1017 1:1"),
+    ("%, % = 1", "104 1:1, 1017 1:1"),
+    ("., % = .a + 1", "1006 1:1, 1017 1:1"),
+    ("%, . = .a + 1", "1006 1:1, 1017 1:1"),
+    ("%, e = abort", "104 1:1"),
+    ("%, e = !1", "660 1:8"),
+    ("x, % = !1", "1017 1:1, 660 1:8"),
 ];
 
 #[test]
@@ -358,62 +382,77 @@ fn codes_of_stops(rt: HostRuntime) -> Result<(), Memory> {
     expect(&rt, rt.alloc(), Asked::Codes, &STOPS)
 }
 
-const ENDS: [(&str, &str); 23] = [
-    ("", "null; . {..json}"),
-    (".x = 1\n.x", "integer; . {\"x\": integer, ..json}"),
-    ("x.a = 1", "integer; . {..json}; x {\"a\": integer, ..any}"),
+const ENDS: [(&str, &str); 26] = [
+    ("", "null; . {..json}; % {..json}"),
+    (
+        ".x = 1\n.x",
+        "integer; . {\"x\": integer, ..json}; % {..json}",
+    ),
+    (
+        "x.a = 1",
+        "integer; . {..json}; % {..json}; x {\"a\": integer, ..any}",
+    ),
     (
         "x = [1, \"s\"]",
-        "[integer, string]; . {..json}; x [integer, string]",
+        "[integer, string]; . {..json}; % {..json}; x [integer, string]",
     ),
     (
         "x = {\"a\": 1} | {\"b\": null}",
-        "{\"a\": integer, \"b\": null}; . {..json}; x {\"a\": integer, \"b\": null}",
+        "{\"a\": integer, \"b\": null}; . {..json}; % {..json}; x {\"a\": integer, \"b\": null}",
     ),
     (
         "x = {\"a\": 1}\nx |= {\"b\": \"s\"}",
-        "{\"a\": integer, \"b\": string}; . {..json}; x {\"a\": integer, \"b\": string}",
+        "{\"a\": integer, \"b\": string}; . {..json}; % {..json}; x {\"a\": integer, \"b\": string}",
     ),
-    (".a == .b", "boolean; . {..json}"),
-    ("null && q", "boolean; . {..json}"),
-    ("1 || q", "integer; . {..json}"),
+    (".a == .b", "boolean; . {..json}; % {..json}"),
+    ("null && q", "boolean; . {..json}; % {..json}"),
+    ("1 || q", "integer; . {..json}; % {..json}"),
     (
         "x = .a || 1",
-        "string|integer|boolean|[..json]|{..json}; . {..json}; x string|integer|boolean|[..json]|{..json}",
+        "string|integer|boolean|[..json]|{..json}; . {..json}; % {..json}; x string|integer|boolean|[..json]|{..json}",
     ),
     (
         ".x = \"s\"\ny = .a + 1 ?? 0",
-        "integer; . {\"x\": string, ..json}; y integer",
+        "integer; . {\"x\": string, ..json}; % {..json}; y integer",
     ),
     (
         "x = if .a == 1 { 1 } else { \"s\" }",
-        "string|integer; . {..json}; x string|integer",
+        "string|integer; . {..json}; % {..json}; x string|integer",
     ),
     (
         "x = if .a == 1 { 1 }",
-        "integer|null; . {..json}; x integer|null",
+        "integer|null; . {..json}; % {..json}; x integer|null",
     ),
     (
         "x = 1\nif .a == 1 { x = \"s\"; y = 1 }",
-        "integer|null; . {..json}; x string|integer",
+        "integer|null; . {..json}; % {..json}; x string|integer",
     ),
     (
         ".v, .e = .x - 1",
-        "integer; . {\"e\": string|null, \"v\": integer, ..json}",
+        "integer; . {\"e\": string|null, \"v\": integer, ..json}; % {..json}",
     ),
     (
         "x, e = .a + 1",
-        "integer; . {..json}; e string|null; x integer",
+        "integer; . {..json}; % {..json}; e string|null; x integer",
     ),
+    ("%", "{..json}; . {..json}; % {..json}"),
+    ("% = {}", "{}; . {..json}; % {}"),
+    ("%n = 1", "integer; . {..json}; % {\"n\": integer, ..json}"),
     ("abort", "never; dead"),
     ("abort\n.x = q", "never; dead"),
-    ("if .a == 1 { abort }", "null; . {..json}"),
-    (".x = 1\nreturn .x", "integer; . {\"x\": integer, ..json}"),
-    ("{ y = 1; return y }", "integer; . {..json}"),
-    ("if .a == 1 { return 1 }\n.r = 2", "integer; . {..json}"),
+    ("if .a == 1 { abort }", "null; . {..json}; % {..json}"),
+    (
+        ".x = 1\nreturn .x",
+        "integer; . {\"x\": integer, ..json}; % {..json}",
+    ),
+    ("{ y = 1; return y }", "integer; . {..json}; % {..json}"),
+    (
+        "if .a == 1 { return 1 }\n.r = 2",
+        "integer; . {..json}; % {..json}",
+    ),
     (
         "if .a == 1 { return 1 }\nreturn \"s\"",
-        "string|integer; . {..json}",
+        "string|integer; . {..json}; % {..json}",
     ),
 ];
 

@@ -3,7 +3,7 @@ ghost use Rattle.vrl_resolve.specs.Program.{program_of};
 ghost use Rattle.vrl_run.specs.LineResult.{HandlesErrors};
 
 // Lines: the events that are kept, and what is reported.
-use crate::running::{accepted, event_kind};
+use crate::running::accepted;
 use std::alloc::Global;
 use std::process::Abort;
 use vrl_batch::{Line, LineOut, Outcome};
@@ -11,12 +11,13 @@ use vrl_json::Scratch;
 use vrl_kind::Kind;
 use vrl_resolve::Program;
 use vrl_run::{Options, run_line};
+use vrl_state::json_object;
 use vrl_tests::shareable;
 use vrl_value::{Bytes, Memory, Moment, Names};
 
-// A script, the options (`drop` an event over which it fails, `keep` one over which it aborts), a
-// line's number and text (`long` is a line that is too long), the events that are kept as lines,
-// what is reported, and how the line went.
+// A script, the options (`drop` an event over which it fails, `keep` one over which it aborts,
+// `envelope` for events with their metadata), a line's number and text (`long` is a line that is too
+// long), the events that are kept as lines, what is reported, and how the line went.
 type Row = (
     &'static str,
     &'static str,
@@ -27,10 +28,20 @@ type Row = (
     Outcome,
 );
 
+fn stands_in(word: &str, words: &str) -> bool {
+    for one in words.split(' ') {
+        if one == word {
+            return true;
+        }
+    }
+    false
+}
+
 fn options_of(words: &str) -> Options {
     Options {
-        drop_on_error: words.starts_with("drop"),
-        keep_on_abort: words.ends_with("keep"),
+        drop_on_error: stands_in("drop", words),
+        keep_on_abort: stands_in("keep", words),
+        envelope: stands_in("envelope", words),
     }
 }
 
@@ -73,7 +84,7 @@ fn made_of(
 
 // What is made of a row's line by its script. `None`: the script isn't accepted.
 fn made(alloc: Global, row: &Row) -> Result<Option<LineOut>, Memory> {
-    let declared = event_kind(alloc)?;
+    let declared = json_object(alloc)?;
     match accepted(alloc, row.0, &declared)? {
         Some(script) => Ok(Some(made_of(alloc, &script.program, &script.sources, &declared, row)?)),
         None => Ok(None),
@@ -108,7 +119,7 @@ fn expect_rows(rt: &impl Abort, alloc: Global, rows: &[Row]) -> Result<(), Memor
     Ok(())
 }
 
-const LINES: [Row; 41] = [
+const LINES: [Row; 50] = [
     (".x = 1", "", 1, "{}", "{\"x\":1}\n", "", Outcome::Fine),
     (
         ".x = 1",
@@ -460,6 +471,87 @@ const LINES: [Row; 41] = [
         "long",
         "",
         "line 9: refused: longer than 1048576 bytes\n",
+        Outcome::Refused,
+    ),
+    (
+        ".m = %source",
+        "envelope",
+        1,
+        "{\"event\":{\"a\":1},\"metadata\":{\"source\":\"s\"}}",
+        "{\"event\":{\"a\":1,\"m\":\"s\"},\"metadata\":{\"source\":\"s\"}}\n",
+        "",
+        Outcome::Fine,
+    ),
+    (
+        ". = [{\"a\":%s},2]\n%n = 1",
+        "envelope",
+        1,
+        "{\"metadata\":{\"s\":3},\"event\":{}}",
+        "{\"event\":{\"a\":3},\"metadata\":{\"n\":1,\"s\":3}}\n{\"event\":2,\"metadata\":{\"n\":1,\"s\":3}}\n",
+        "",
+        Outcome::Fine,
+    ),
+    (
+        ". = []",
+        "envelope",
+        1,
+        "{\"event\":{},\"metadata\":{}}",
+        "",
+        "",
+        Outcome::Fine,
+    ),
+    (
+        "%n = 1\n.n = %n",
+        "",
+        1,
+        "{\"event\":{},\"metadata\":{}}",
+        "{\"event\":{},\"metadata\":{},\"n\":1}\n",
+        "",
+        Outcome::Fine,
+    ),
+    (
+        "%n = 1\nabort",
+        "envelope keep",
+        1,
+        "{\"event\":{\"a\":[1]},\"metadata\":{\"b\":2}}",
+        "{\"event\":{\"a\":[1]},\"metadata\":{\"b\":2}}\n",
+        "line 1: aborted\n",
+        Outcome::Aborted,
+    ),
+    (
+        "%n = to_int!(.a)",
+        "envelope",
+        1,
+        "{\"event\":{\"a\":\"q\"},\"metadata\":{\"n\":2}}",
+        "{\"event\":{\"a\":\"q\"},\"metadata\":{\"n\":2}}\n",
+        "line 1: error: \"to_int: not a whole number\"\n",
+        Outcome::Errored,
+    ),
+    (
+        "%n = to_int!(.a)",
+        "envelope drop",
+        1,
+        "{\"event\":{\"a\":\"q\"},\"metadata\":{\"n\":2}}",
+        "",
+        "line 1: error: \"to_int: not a whole number\"\n",
+        Outcome::Errored,
+    ),
+    (
+        ".x = 1",
+        "envelope",
+        4,
+        "{\"event\":{},\"metadata\":{},\"x\":1}",
+        "",
+        "line 4: refused: not an envelope\n",
+        Outcome::Refused,
+    ),
+    (
+        ".x = 1",
+        "envelope",
+        5,
+        "{\"event\":3,\"metadata\":{}}",
+        "",
+        "line 5: refused: not of the declared kind\n",
         Outcome::Refused,
     ),
 ];

@@ -122,7 +122,7 @@ fn expect_faults(rt: &(impl Abort + AllocGlobal), rows: &[(&str, u16, u32)]) {
     }
 }
 
-const SCRIPTS: [(&str, &str, u32, u32); 21] = [
+const SCRIPTS: [(&str, &str, u32, u32); 25] = [
     ("", "", 0, 0),
     (".x = 1; .y = 2", "=l =l ", 0, 6),
     (".x = 1\n.y = 2", "=l =l ", 0, 6),
@@ -139,6 +139,10 @@ const SCRIPTS: [(&str, &str, u32, u32); 21] = [
     ("a | b + c < d == e", "E<r ", 0, 18),
     ("!a.b && c", "&!r ", 0, 9),
     ("a, _ = f()", "2c ", 0, 10),
+    ("%, %a[0] = f()", "2c ", 0, 14),
+    ("% = { \"a\": %b }", "=o ", 0, 15),
+    ("%b |= %", "mr ", 0, 7),
+    ("5 - % * %2", "-l* ", 0, 10),
     ("a = b |= return c", "=m ", 0, 17),
     ("abort; abort \"a\"", "A A ", 0, 5),
     ("if a { b } else if c { d } else { e }", "i ", 0, 37),
@@ -156,7 +160,7 @@ fn scripts_of_texts(rt: HostRuntime) -> Result<(), Memory> {
     expect_scripts(&rt, &SCRIPTS)
 }
 
-const FAULTS: [(&str, u16, u32); 17] = [
+const FAULTS: [(&str, u16, u32); 22] = [
     (".x = 1 2", 203, 7),
     (".x = (1", 203, 7),
     ("if true 1", 203, 8),
@@ -170,10 +174,15 @@ const FAULTS: [(&str, u16, u32); 17] = [
     ("abort ?? 1", 203, 6),
     ("(a = 1, 2)", 203, 6),
     ("f(a, b = 1", 203, 10),
+    ("5 % 2", 203, 2),
+    ("%.a", 203, 1),
+    ("f()%a", 203, 3),
     (".a[65536] = 1", 1012, 0),
     (".a[-1] = 1", 1007, 0),
     ("b = .a[0]; .a[-1][65536] = 1", 1007, 11),
     ("del(x: .a[-1]); .b[65536] = 1", 1007, 7),
+    ("%a[-1] = 1", 1007, 0),
+    ("del(%[65536])", 1012, 4),
 ];
 
 #[test]

@@ -1,5 +1,5 @@
 // Whole scripts.
-use crate::running::{Row, expect_rows, unchanged};
+use crate::running::{Beside, Row, expect_beside, expect_rows, unchanged};
 use vrl_value::Memory;
 
 // Scripts, and what they leave.
@@ -220,4 +220,54 @@ fn scripts(rt: HostRuntime) -> Result<(), Memory> {
 #[test]
 fn depths(rt: HostRuntime) -> Result<(), Memory> {
     expect_rows(&rt, rt.alloc(), &DEPTHS)
+}
+
+// Scripts with metadata.
+const BESIDE: [Beside; 7] = [
+    (
+        ("%n = 1\n.k = %n + 1", "{}", "= 2", "{\"k\":2}", "{}"),
+        "{}",
+        "{\"n\":1}",
+    ),
+    (
+        (".m = %source", "{}", "= \"s\"", "{\"m\":\"s\"}", "{}"),
+        "{\"source\":\"s\"}",
+        "{\"source\":\"s\"}",
+    ),
+    (
+        (
+            "%a = 1\ndel(%)\n.r = %a",
+            "{}",
+            "= null",
+            "{\"r\":null}",
+            "{}",
+        ),
+        "{\"b\":2}",
+        "{}",
+    ),
+    (
+        ("{ %a = 1; x = 2 }\n%", "{}", "= {\"a\":1}", "{}", "{}"),
+        "{}",
+        "{\"a\":1}",
+    ),
+    (
+        ("x = %\nx.a = 1", "{}", "= 1", "{}", "{\"x\":{\"a\":1}}"),
+        "{}",
+        "{}",
+    ),
+    (
+        unchanged!("%n = 1\nabort", "abort"),
+        "{\"m\":2}",
+        "{\"m\":2,\"n\":1}",
+    ),
+    (
+        unchanged!("%n = to_int!(%s)", "bang to_int: not a whole number"),
+        "{\"s\":\"q\"}",
+        "{\"s\":\"q\"}",
+    ),
+];
+
+#[test]
+fn metadata(rt: HostRuntime) -> Result<(), Memory> {
+    expect_beside(&rt, rt.alloc(), &BESIDE)
 }

@@ -97,7 +97,7 @@ fn built_scripts_are_accepted(rt: HostRuntime) -> Result<(), Memory> {
 /// 65 brackets, each in the one before it.
 const NESTED: &str = "(((((((((((((((((((((((((((((((((((((((((((((((((((((((((((((((((";
 
-const REFUSED: [(&str, u16, u32, u32); 34] = [
+const REFUSED: [(&str, u16, u32, u32); 35] = [
     // Spellings at fault.
     (".x = \"a", 203, 5, 7),
     (".x = \"{{ a }}\"", 1016, 5, 14),
@@ -133,6 +133,7 @@ const REFUSED: [(&str, u16, u32, u32); 34] = [
     (".x = x.a", 701, 5, 8),
     ("_ = 1", 640, 0, 5),
     (". = 1", 1006, 0, 5),
+    ("% = 3", 1017, 0, 5),
     (".x, e = 1", 104, 0, 9),
     ("!x", 701, 1, 2),
     ("f(1)", 105, 0, 1),

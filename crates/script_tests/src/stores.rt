@@ -2,7 +2,7 @@ ghost use Rattle.std.specs.Prelude.{◌≡◌, IfOk};
 ghost use Rattle.vrl_path.specs.Steps.{IsPlain, IsWritable};
 ghost use Rattle.vrl_store.specs.StoreView.{count_of, IsKnown};
 
-// The event and two variables of a run, step by step.
+// The event, the metadata and two other variables of a run, step by step.
 use crate::running::json_of;
 use std::alloc::Global;
 use std::process::Abort;
@@ -15,6 +15,7 @@ use vrl_value::{Chars, Memory, Value};
 #[derive(Clone, Copy)]
 enum Root {
     Event,
+    Metadata,
     X,
     Y,
 }
@@ -30,8 +31,8 @@ enum Act {
 }
 
 // What is done, at which root, and at which field of it, where it is at one; what it gives, where
-// `deep` is a write that isn't done; what is read then of the event and of the two variables; and
-// how many variables are there.
+// `deep` is a write that isn't done; what is read then of the event, of the metadata and of the two
+// variables; and how many of these are there.
 type Row = (
     Act,
     Root,
@@ -40,16 +41,18 @@ type Row = (
     &'static str,
     &'static str,
     &'static str,
+    &'static str,
     usize,
 );
 
-const STEPS: [Row; 14] = [
+const STEPS: [Row; 20] = [
     (
         Act::Write("1"),
         Root::Event,
         "a",
         "null",
         "{\"a\":1}",
+        "{\"m\":1}",
         "null",
         "null",
         0,
@@ -60,6 +63,7 @@ const STEPS: [Row; 14] = [
         "b",
         "null",
         "{\"a\":1}",
+        "{\"m\":1}",
         "null",
         "{\"b\":2}",
         1,
@@ -70,6 +74,7 @@ const STEPS: [Row; 14] = [
         "b",
         "\"deep\"",
         "{\"a\":1}",
+        "{\"m\":1}",
         "null",
         "{\"b\":2}",
         1,
@@ -80,6 +85,7 @@ const STEPS: [Row; 14] = [
         "c",
         "null",
         "{\"a\":1}",
+        "{\"m\":1}",
         "null",
         "{\"b\":2,\"c\":[[null]]}",
         1,
@@ -90,6 +96,7 @@ const STEPS: [Row; 14] = [
         "c",
         "[[null]]",
         "{\"a\":1}",
+        "{\"m\":1}",
         "null",
         "{\"b\":2}",
         1,
@@ -100,6 +107,7 @@ const STEPS: [Row; 14] = [
         "b",
         "\"deep\"",
         "{\"a\":1}",
+        "{\"m\":1}",
         "null",
         "{\"b\":2}",
         1,
@@ -110,6 +118,7 @@ const STEPS: [Row; 14] = [
         "b",
         "null",
         "{\"a\":1}",
+        "{\"m\":1}",
         "null",
         "{\"b\":2}",
         1,
@@ -120,6 +129,7 @@ const STEPS: [Row; 14] = [
         "",
         "null",
         "{\"a\":1}",
+        "{\"m\":1}",
         "null",
         "{\"b\":2}",
         2,
@@ -130,6 +140,7 @@ const STEPS: [Row; 14] = [
         "",
         "null",
         "{\"a\":1}",
+        "{\"m\":1}",
         "[3]",
         "{\"b\":2}",
         2,
@@ -140,6 +151,7 @@ const STEPS: [Row; 14] = [
         "a",
         "1",
         "{}",
+        "{\"m\":1}",
         "[3]",
         "{\"b\":2}",
         2,
@@ -150,34 +162,123 @@ const STEPS: [Row; 14] = [
         "",
         "null",
         "{}",
+        "{\"m\":1}",
         "null",
         "{\"b\":2}",
         1,
     ),
-    (Act::Take, Root::Y, "", "{\"b\":2}", "{}", "null", "null", 1),
+    (
+        Act::Take,
+        Root::Y,
+        "",
+        "{\"b\":2}",
+        "{}",
+        "{\"m\":1}",
+        "null",
+        "null",
+        1,
+    ),
     (
         Act::Write("[4]"),
         Root::Event,
         "",
         "null",
         "[4]",
+        "{\"m\":1}",
         "null",
         "null",
         1,
     ),
-    (Act::Take, Root::Event, "", "[4]", "{}", "null", "null", 1),
+    (
+        Act::Take,
+        Root::Event,
+        "",
+        "[4]",
+        "{}",
+        "{\"m\":1}",
+        "null",
+        "null",
+        1,
+    ),
+    (
+        Act::Write("2"),
+        Root::Metadata,
+        "n",
+        "null",
+        "{}",
+        "{\"m\":1,\"n\":2}",
+        "null",
+        "null",
+        1,
+    ),
+    (
+        Act::WriteDeep(128),
+        Root::Metadata,
+        "n",
+        "\"deep\"",
+        "{}",
+        "{\"m\":1,\"n\":2}",
+        "null",
+        "null",
+        1,
+    ),
+    (
+        Act::Take,
+        Root::Metadata,
+        "m",
+        "1",
+        "{}",
+        "{\"n\":2}",
+        "null",
+        "null",
+        1,
+    ),
+    (
+        Act::Leave(0),
+        Root::Event,
+        "",
+        "null",
+        "{}",
+        "{\"n\":2}",
+        "null",
+        "null",
+        0,
+    ),
+    (
+        Act::Take,
+        Root::Metadata,
+        "",
+        "{\"n\":2}",
+        "{}",
+        "{}",
+        "null",
+        "null",
+        0,
+    ),
+    (
+        Act::Write("3"),
+        Root::Metadata,
+        "",
+        "null",
+        "{}",
+        "3",
+        "null",
+        "null",
+        0,
+    ),
 ];
 
 // A root, or a field of it.
 fn target_path(alloc: Global, root: Root, field: &str) -> Result<TargetPath, Memory>
-    ensures base { IfOk result (λ target. IsKnown 2 target.base) }
+    ensures base { IfOk result (λ target. IsKnown 3 target.base) }
     ensures writable { IfOk result (λ target. IsWritable target.path) }
     ensures plain { IfOk result (λ target. IsPlain target.path) }
 {
     let base = match root {
         Root::Event => Base::Event,
-        Root::X => Base::Variable(0),
-        Root::Y => Base::Variable(1),
+        Root::Metadata => Base::Variable(0),
+        Root::X => Base::Variable(1),
+        Root::Y => Base::Variable(2),
     };
     let mut steps = Vec::new(alloc);
     if !field.is_empty() {
@@ -215,8 +316,8 @@ fn done(
     root: Root,
     field: &str,
 ) -> Result<Value, Memory>
-    requires { count_of store.old ≡ 2 }
-    ensures { count_of store.new ≡ 2 }
+    requires { count_of store.old ≡ 3 }
+    ensures { count_of store.new ≡ 3 }
 {
     let target = target_path(alloc, root, field)?;
     match act {
@@ -234,7 +335,7 @@ fn done(
 
 // Whether a root, read whole, is this value.
 fn stands(alloc: Global, store: &Store, root: Root, wanted: &str) -> Result<bool, Memory>
-    requires { count_of store.now ≡ 2 }
+    requires { count_of store.now ≡ 3 }
 {
     let target = target_path(alloc, root, "")?;
     Ok(store.read(&target).same(&json_of(alloc, wanted)?))
@@ -242,23 +343,27 @@ fn stands(alloc: Global, store: &Store, root: Root, wanted: &str) -> Result<bool
 
 // Does the step of a row. Whether all is as it says.
 fn goes(alloc: Global, store: &mut Store, row: &Row) -> Result<bool, Memory>
-    requires { count_of store.old ≡ 2 }
-    ensures { count_of store.new ≡ 2 }
+    requires { count_of store.old ≡ 3 }
+    ensures { count_of store.new ≡ 3 }
 {
-    let (act, root, field, given, event, x, y, count) = row;
+    let (act, root, field, given, event, metadata, x, y, count) = row;
     let found = done(alloc, store, *act, *root, field)?;
     let is_given = found.same(&json_of(alloc, given)?);
     let is_event = stands(alloc, store, Root::Event, event)?;
+    let is_metadata = stands(alloc, store, Root::Metadata, metadata)?;
     let is_x = stands(alloc, store, Root::X, x)?;
     let is_y = stands(alloc, store, Root::Y, y)?;
-    Ok(is_given & is_event & is_x & is_y & (store.count() == *count))
+    let are_roots = is_event & is_metadata & is_x & is_y;
+    Ok(is_given & are_roots & (store.count() == *count))
 }
 
-// A store of an empty event and two variables.
+// A store of an empty event, metadata and two other variables.
 fn started(alloc: Global) -> Result<Store, Memory>
-    ensures { IfOk result (λ store. count_of store ≡ 2) }
+    ensures { IfOk result (λ store. count_of store ≡ 3) }
 {
-    Store::start(alloc, json_of(alloc, "{}")?, false, 2)
+    let event = json_of(alloc, "{}")?;
+    let metadata = json_of(alloc, "{\"m\":1}")?;
+    Store::start(alloc, event, metadata, false, 3)
 }
 
 fn expect_steps(rt: &impl Abort, alloc: Global, rows: &[Row]) -> Result<(), Memory> {

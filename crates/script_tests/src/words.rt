@@ -89,7 +89,7 @@ const WORDS: [(&str, &str); 8] = [
         "\"a\" s'b' r'c' t'2024-01-02T03:04:05Z' true null",
         "llllll",
     ),
-    (".a b c.d _", "ppp_"),
+    (".a b c.d _ % %_", "ppp_pp"),
     ("f() g!()", "f..f.."),
     ("a + b * c", "pop*p"),
     ("a ?? b == c", "popop"),
