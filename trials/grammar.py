@@ -18,7 +18,7 @@ with its span in bytes, and then
     assign TARGET NODE          merge TARGET NODE       both TARGET TARGET NODE     return NODE
     call NAME BANG [[NAME-OR-NULL, START, END, NODE] ..] CLOSURE-OR-NULL, with CLOSURE = [[NAME ..], START, END, [NODE ..]]
 
-where VALUE is nanoseconds since 1970 for a timestamp and a regex's number for a regex, ROOT is `.` or a name, STEPS holds
+where VALUE is nanoseconds since 1970 for a timestamp and a regex's number for a regex, ROOT is `.`, `%` or a name, STEPS holds
 texts and whole numbers, and TARGET is `[START, END, ROOT-OR-NULL, STEPS]`.
 
 Codes: 203 unrecognized token, 1001 float, 1002 number out of range, 1003 operator left out, 1007 negative index
@@ -97,7 +97,12 @@ ROWS = [
     ("x = 1.5x", (1001, 1, 5)), ("1e5x", (1001, 1, 1)), ("1_", (203, 1, 1)), ("1__0", (203, 1, 1)), ("12x", (203, 1, 1)),
     ("99999999999999999999x", (203, 1, 1)), ("x = s'a", (203, 1, 5)), ('.a."\\q" = 1', (203, 1, 1)), ('.a."q = 1', (203, 1, 4)),
     ("x[-0] = 1", "ok"), ("x[-1][65536] = 1", (1007, 1, 1)), ("del(a, v: .x[-1])", (1007, 1, 11)), ("_.a = 1", "ok"), ("", "ok"),
-    ("1 < 2 < 3", "ok"), ("a, b = 1", "ok"), ("abort 1", "ok"), ("abort" + NL + ".x = q", "ok"), ("5 % 2", (1003, 1, 3)),
+    ("1 < 2 < 3", "ok"), ("a, b = 1", "ok"), ("abort 1", "ok"), ("abort" + NL + ".x = q", "ok"), ("5 % 2", (203, 1, 3)),
+    ("%", "ok"), ("%a.b[0] = %", "ok"), ("%[0] = 1", "ok"), ('%"a b"@ = 1', (203, 1, 7)), ('%"a b".c = 1', "ok"), ("%@a, % = 1", "ok"), ("5%2", (203, 1, 2)), ("x = 1 -% ", "ok"), ("% - 1", "ok"),
+    ("%-1", "ok"), ("%.a", (203, 1, 2)), ("% a", (203, 1, 3)), ("%%", (203, 1, 2)), ("f()%a", (203, 1, 4)), ("[1]%", (203, 1, 4)), ("f() %a", (203, 1, 5)), ("x%", (203, 1, 2)),
+    ('%"q = 1', (203, 1, 2)), ('%"\\q" = 1', (203, 1, 1)), ("%[9223372036854775808]", (1002, 1, 1)), ("%[-1] = 1", (1007, 1, 1)), ("del(%[65536])", (1012, 1, 5)), ("%" + ".a" * 3, (203, 1, 2)),
+    ("if % == %a {}", "ok"), ("if %{}", "ok"), ("%|=%a", "ok"), ("del( % )", "ok"), ("f(%:1)", (203, 1, 4)), ("x %= 2", (203, 1, 3)), ("x /= 2", (1003, 1, 3)), ("f() -> |%| {}", (203, 1, 9)),
+    ("%if = 1", "ok"), ("%true.null = 1", "ok"), ("_, % = 1", "ok"), ("% = _", "ok"), ("%_ = 1", "ok"), ("%1 = 1", "ok"), ("% 1 = 1", (203, 1, 3)), ("!%a", "ok"), ("x[%]", (203, 1, 2)),
     ("x = {\"a\":1}" + NL + "del(x.a)" + NL + ".r = x.a", "ok"), ("x={\"a\":!true,}", "ok"), ("for_each( . )->|k,v|{}", "ok"),
     ("n = 0" + NL + "for_each(.) -> |k, v| { n = n + 1 }" + NL + ".n = n", "ok"), ("if x" + NL + "{}", (203, 1, 5)),
     ("parsed, err = parse_json(.message)" + NL + ". = . | (object(parsed) ?? {})" + NL + "del(.message)", "ok"),

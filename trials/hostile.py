@@ -23,7 +23,7 @@ from reading.runs import run_lines
 LONGEST = 65536
 LINE = 1048576
 BAD_KIND = b"kind file: bad kind at \n"
-USAGE = b"usage: remap SCRIPT [--kind FILE] [--jobs N] [--drop-on-error] [--keep-on-abort] [--check] [--generate COUNT:SEED]\n"
+USAGE = b"usage: remap SCRIPT [--kind FILE] [--jobs N] [--drop-on-error] [--keep-on-abort] [--envelope] [--check] [--generate COUNT:SEED]\n"
 
 
 def filled(piece, end=""):
@@ -40,6 +40,7 @@ def scripts():
             ("a comment", "#" + "c" * (LONGEST - 1)), ("newlines", "\n" * LONGEST), ("semicolons", ";" * LONGEST), ("opening braces", "{" * LONGEST),
             ("closing braces", "}" * LONGEST), ("opening parentheses", "(" * LONGEST), ("opening brackets", "[" * LONGEST), ("quotes", '"' * LONGEST),
             ("signs", "!" * LONGEST), ("minus signs", "-" * LONGEST), ("bars", "|" * LONGEST), ("commas", "," * LONGEST), ("dots", "." * LONGEST),
+            ("percent signs", "%" * LONGEST), ("a field of the metadata", "%" + "x" * 65531 + " = 1"), ("writes of the metadata", filled("%a=1;")), ("removals of the metadata", filled("del(%);")),
             ("backslashes", "\\" * LONGEST), ("escapes", '.x = "' + "\\\\" * 32764 + '"'), ("a raw text", ".x = s'" + "\\'" * 32764 + "'"),
             ("digits", ".x = " + "9" * 65531), ("zeros", ".x = " + "0" * 65530 + "7"), ("digits with low lines", ".x = " + "0_" * 32765 + "7"),
             ("a name", "x" * 65532 + " = 1"), ("a field", "." + "x" * 65531 + " = 1"), ("a name that isn't known", "x" * LONGEST),
@@ -85,11 +86,13 @@ def scripts():
     for size in (126, 127, 128, 129):
         yield f"a variable nested by {size} writes", "x = null\n" + "x = [x]\n" * size + ".done = true", b'{"b":1}'
         yield f"the event nested by {size} writes", 'e = {}\n' + '. = {"a": .}\n' * size, b'{"b":1}'
+        yield f"the metadata nested by {size} writes", '% = {"a": %}\n' * size + ".done = true", b'{"b":1}'
     for size in (30, 31, 32, 33, 34):
         for wrap in ("[x]", '{"a": x}'):
             yield f"{size} levels of {wrap}", "x = 1\n" + f"x = {wrap}\n" * size + "y = x" + (".a" if "a" in wrap else "[0]") * size + " + 1", b"{}"
     for size in (998, 999, 1000, 1001):
         yield f"{size} fields of the event", "\n".join(f".k{i} = 1" for i in range(size)) + "\n.k7 = .k7 + 1", b"{}"
+        yield f"{size} fields of the metadata", "\n".join(f"%k{i} = 1" for i in range(size)) + "\n.k7 = %k7 + 1", b"{}"
         yield f"{size} fields of a variable", "x = {}\n" + "\n".join(f"x.k{i} = 1" for i in range(size)) + "\ny = x.k7 + 1", b"{}"
         yield f"{size} fields of a literal", "x = {" + ",".join(f'"{i}":1' for i in range(size)) + '}\ny = x."7" + 1', b"{}"
     for number in (2 ** 63 - 1, 2 ** 63, -2 ** 63, -2 ** 63 - 1):
@@ -158,6 +161,26 @@ def lines():
     yield "two values in a line", b"{} {}"
     yield "no line", b""
     yield "blanks alone", b" \t\r"
+
+
+def envelopes():
+    """Titles, scripts and lines for `--envelope`."""
+    for size in (LINE, LINE + 1):
+        text = b'{"a":"' + b"z" * (size - len('{"event":{"a":""},"metadata":{}}')) + b'"}'
+        yield f"an envelope of {size} bytes", ".x = 1", b'{"event":' + text + b',"metadata":{}}'
+        yield f"metadata in an envelope of {size} bytes", ".x = 1", b'{"event":{},"metadata":' + text + b"}"
+    for depth in (124, 125, 126, 127):
+        inner = b'{"a":' + b"[" * depth + b"]" * depth + b"}"
+        for title, script in (("as they are", ""), ("in an array", ". = [., %]"), ("in each other", "x = .\n.b = %\n%b = x"), ("the metadata in itself", '% = {"a": {"a": {"a": %}}}'), ("as its text", ".t = encode_json(%)")):
+            yield f"an event and metadata {depth + 1} deep, {title}", script, b'{"event":' + inner + b',"metadata":' + inner + b"}"
+    many = b",".join(b'"%d":%d' % (i, i) for i in range(60000))
+    yield "metadata of 60,000 fields", "%n = length(%)", b'{"event":{},"metadata":{' + many + b"}}"
+    yield "metadata of 100 fields beside 1,000 events", ". = map_values(array!(.l)) -> |v| { {\"v\": v} }\n%k = 1", b'{"event":{"l":[' + b",".join([b"0"] * 1000) + b']},"metadata":{' + b",".join(many.split(b",")[:100]) + b"}}"
+    yield "an envelope of equal names", ".x = 1", b'{"event":{},"metadata":{},' + b",".join([b'"metadata":{"a":1}'] * 50000) + b"}"
+    yield "an envelope of 60,000 other names", ".x = 1", b'{"event":{},"metadata":{},' + many + b"}"
+    yield "an envelope in envelopes", ". = .event", b'{"event":' * 60 + b"{}" + b',"metadata":{}}' * 60
+    yield "200,000 lines that are no envelopes", ".x = 1", b"{}\n" * 200000
+    yield "a removal of a metadata of 60,000 fields", "for_each(%) -> |k, v| { del(%) }", b'{"event":{},"metadata":{' + many + b"}}"
 
 
 def described(pairs, rest="json"):
@@ -304,7 +327,7 @@ DEAR = {
 }
 
 
-def wanted_of(script, data, file):
+def wanted_of(script, data, file, envelope=False):
     """Output, report and status by the outside reading."""
     start = EVENT if file is None else kind_file(file)
     if isinstance(start, str):
@@ -312,7 +335,7 @@ def wanted_of(script, data, file):
     found = Verdict(script, start)
     if not found.accepted:
         return b"", programs.joined(found.diagnostics), 1
-    output, report, status = run_lines(found, start, data)
+    output, report, status = run_lines(found, start, data, envelope=envelope)
     return programs.joined(output), programs.joined(report), status
 
 
@@ -332,19 +355,20 @@ def main():
     with programs.Program(given.program) as program:
         program.write("one", b".x = 1")
         program.write("bad", b"q")
-        every = [(title, None, script, data, None) for title, script, data in scripts()]
-        every += [(title, None, ".x = 1", data, None) for title, data in lines()]
-        every += [(title, file, script, data, None) for title, file, script, data in kind_files()]
-        every += [(title, file, ".x = 1", b"", (b"", report, status)) for title, file, report, status in large_joins()]
-        for title, file, script, data, wanted in every:
+        every = [(title, None, script, data, False, None) for title, script, data in scripts()]
+        every += [(title, None, ".x = 1", data, False, None) for title, data in lines()]
+        every += [(title, None, script, data, True, None) for title, script, data in envelopes()]
+        every += [(title, file, script, data, False, None) for title, file, script, data in kind_files()]
+        every += [(title, file, ".x = 1", b"", False, (b"", report, status)) for title, file, report, status in large_joins()]
+        for title, file, script, data, envelope, wanted in every:
             if given.only not in title:
                 continue
-            script, more = script.encode("utf-8", "surrogateescape"), []
+            script, more = script.encode("utf-8", "surrogateescape"), ["--envelope"] * envelope
             if file is not None:
                 file = file.encode("utf-8", "surrogateescape")
-                more = ["--kind", program.write("kind.json", file)]
+                more += ["--kind", program.write("kind.json", file)]
             told = program.run(script, data, more, programs.LIMITS)
-            uses.tell(title, program.seconds, told, wanted or wanted_of(script, data, file))
+            uses.tell(title, program.seconds, told, wanted or wanted_of(script, data, file, envelope))
         for title, command, status, output, report in [*devices(), *disks(), *(big() if given.big else [])]:
             if given.only in title:
                 before = spent()

@@ -1,9 +1,10 @@
 """Random trial of lines: what each line of JSON must give.
 
-    python3 trials/json_lines.py [--seed N] [--count N] [--program PATH [--calls]] [--show N]
+    python3 trials/json_lines.py [--seed N] [--count N] [--envelope] [--program PATH [--calls]] [--show N]
 
-Lines are made at random and by a list of hard cases. For each, Python's own JSON reader and the rules below
-say what the script `.x = 1` must write for it, or why the line is refused. With --program the lines go through
+Lines are made at random and by a list of hard cases. For each, Python's own JSON reader and the rules of `reading/json_lines.py`
+say what the script `.x = 1` must write for it, or why the line is refused. With --envelope the lines are put into envelopes, most of
+them, and the program takes `--envelope`. With --program the lines go through
 `PATH SCRIPTFILE`, and output, report lines and status are compared. Without it only the program's own rows run. With
 --calls each line that is UTF-8 is a text in an event in its place, which `parse_json` reads and `encode_json` writes.
 """
@@ -21,8 +22,8 @@ import tempfile
 sys.dont_write_bytecode = True
 
 import programs
-from reading.json_lines import LONGEST, NOT_JSON, NOT_KIND, NOT_WHOLE, TOO_LONG, NotJson, NotWhole, answer, read, write
-from some_json_lines import Maker, hard_lines
+from reading.json_lines import LONGEST, NOT_ENVELOPE, NOT_JSON, NOT_KIND, NOT_WHOLE, TOO_LONG, NotJson, NotWhole, answer, read, write
+from some_json_lines import Maker, hard_envelopes, hard_lines
 
 
 def self_check():
@@ -42,16 +43,27 @@ def self_check():
         assert answer(line) == want, (line[:60], answer(line), want)
     for line, want in [(b'{"b":1,"a":2}', b'{"a":2,"b":1}'), (b'{"a":1,"a":2}', b'{"a":2}')]:
         assert answer(line, None) == (True, want), line
-    return len(rows) + 2
+    deep = lambda depth, inner: b'{"event":{"a":' + b"[" * depth + b"]" * depth + b'},"metadata":' + inner + b"}"
+    envelopes = [
+        (b'{"event":{},"metadata":{}}', (True, b'{"event":{"x":1},"metadata":{}}')), (b'{"metadata":{"b":1,"a":2},"event":{}}', (True, b'{"event":{"x":1},"metadata":{"a":2,"b":1}}')),
+        (b"{}", (False, NOT_ENVELOPE)), (b"[1]", (False, NOT_ENVELOPE)), (b"3", (False, NOT_ENVELOPE)), (b'{"event":{}}', (False, NOT_ENVELOPE)), (b'{"metadata":{}}', (False, NOT_ENVELOPE)),
+        (b'{"event":{},"metadata":[]}', (False, NOT_ENVELOPE)), (b'{"event":{},"metadata":{},"x":1}', (False, NOT_ENVELOPE)), (b'{"event":1,"metadata":{}}', (False, NOT_KIND)),
+        (b'{"event":[],"metadata":{}}', (False, NOT_KIND)), (b'{"event":{},"metadata":{"a":1.5}}', (False, NOT_WHOLE)), (b'{"event":{}', (False, NOT_JSON)), (b" ", None),
+        (b'{"\\u0065vent":{},"metadata":1,"metadata":{}}', (True, b'{"event":{"x":1},"metadata":{}}')), (b'{"event":{},"metadata":1.5,"metadata":{}}', (True, b'{"event":{"x":1},"metadata":{}}')),
+        (deep(125, b"{}"), (True, deep(125, b"{}").replace(b'},"m', b',"x":1},"m'))), (deep(126, b"{}"), (False, NOT_JSON)), (deep(126, b"[]"), (False, NOT_JSON)),
+    ]
+    for line, want in envelopes:
+        assert answer(line, envelope=True) == want, (line[:60], answer(line, envelope=True), want)
+    return len(rows) + 2 + len(envelopes)
 
 
-def compare(program, lines, show):
+def compare(program, lines, show, envelope):
     with tempfile.TemporaryDirectory() as place:
         script = os.path.join(place, "set_x.vrl")
         with open(script, "w") as file:
             file.write(".x = 1")
-        ran = subprocess.run([program, script], input=b"\n".join(lines), capture_output=True)
-    wanted = [answer(line) for line in lines]
+        ran = subprocess.run([program, script] + ["--envelope"] * envelope, input=b"\n".join(lines), capture_output=True)
+    wanted = [answer(line, envelope=envelope) for line in lines]
     outputs = ran.stdout.split(b"\n")[:-1]
     reports = {}
     strange = []
@@ -124,12 +136,15 @@ def main():
     words.add_argument("--seed", type=int, default=1)
     words.add_argument("--count", type=int, default=6000)
     words.add_argument("--program")
+    words.add_argument("--envelope", action="store_true")
     words.add_argument("--calls", action="store_true")
     words.add_argument("--show", type=int, default=10)
     given = words.parse_args()
     rows = self_check()
     rng = random.Random(given.seed)
     lines = list(hard_lines()) + [Maker(rng).line() for _ in range(given.count)]
+    if given.envelope:
+        lines = list(hard_envelopes()) + [Maker(rng).enclosed(line) for line in lines]
     rng.shuffle(lines)
     if given.calls:
         count, differences = compare_calls(given.program, lines, given.show)
@@ -137,11 +152,11 @@ def main():
         return 1 if differences else 0
     met = {}
     for line in lines:
-        want = answer(line)
+        want = answer(line, envelope=given.envelope)
         what = "blank" if want is None else "written" if want[0] else want[1]
         met[what] = met.get(what, 0) + 1
     told = ", ".join(f"{met[what]} {what}" for what in sorted(met))
-    differences = compare(given.program, lines, given.show) if given.program else 0
+    differences = compare(given.program, lines, given.show, given.envelope) if given.program else 0
     compared = f"{differences} differences" if given.program else "no program given"
     print(f"json_lines: seed {given.seed}, {rows} rows, {len(lines)} lines ({told}): {compared}")
     return 1 if differences else 0

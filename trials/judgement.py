@@ -1,14 +1,14 @@
 """Random trial of the judgement: kinds, states and codes of scripts.
 
     python3 trials/judgement.py [--seed N] [--count N] [--no-calls] [--hard] [--out FILE] [--program PATH [--words]] [--show N]
-    python3 trials/judgement.py --text FILE [--kind FILE]
+    python3 trials/judgement.py --text FILE [--kind FILE] [--envelope]
 
 The second form prints the diagnostics of a script, or its warnings and then its kinds as `--check` prints them. The
 first makes scripts at random. With --program each goes through `PATH SCRIPTFILE`, and the diagnostics on standard
-error are compared. With --words, too, the program takes `--check` and `--kind FILE`, and the kinds that it prints are
+error are compared. With --words, too, the program takes `--check`, `--kind FILE` and mostly `--envelope`, and the kinds that it prints are
 compared. With --out the scripts go to FILE, a JSON object a line:
 
-    script, kind (a kind file's value), diagnostics (their lines), result (the joined kind), end (lines `. KIND`,
+    script, kind (a kind file's value), diagnostics (their lines), result (the joined kind), end (lines `. KIND`, `% KIND`,
     `NAME KIND` of the joined state), ok, ret (such lines, or null where dead), empties (the tag of each error
     assignment's empty value, an outer one before those in it), loops (the state that each closure was judged in last)
 
@@ -97,6 +97,23 @@ ROWS = [
     ("u, e = parse_url(.m)" + NL + ".s = upcase(u.scheme)", [(103, 2, 1)]), (".t = to_int(.x) + 1 ?? 2", []),
     ("exists(q)", [(701, 1, 8)]), ("del(.)", [], ["result {..json}", ". {}"]),
     ("x = 1" + NL + "del(x)", [], ["result integer", ". {..json}", "x null"]),
+    # The metadata.
+    ("% = 3", [(1017, 1, 1)]), ("% = []", [(1017, 1, 1)]), ("% = .", []), ("% = .a", []), ("% = %a", []), ("5 % 2", [(203, 1, 3)]), ("% = !1", [(660, 1, 5)]),
+    ("abort" + NL + "% = 3", []), ("% = .a + 1", [(103, 1, 1), (1017, 1, 1)]), ("% |= 1", [(652, 1, 6)]), ("% |= {}", []), ("%a |= {}", [(652, 1, 1)]),
+    ("%, e = .a + 1", [(1017, 1, 1)]), ("x, % = .a + 1", [(1017, 1, 1)]), ("%, % = .a + 1", [(1017, 1, 1)]), ("., % = .a + 1", [(1006, 1, 1), (1017, 1, 1)]),
+    ("%, _ = 1", [(104, 1, 1), (1017, 1, 1)]), ("%, e = object(.a)", []), ("%, e = parse_json(.a)", []), ("%, e = abort", [(104, 1, 1)]), ("_, % = !1", [(1017, 1, 1), (660, 1, 8)]),
+    ("%n = 1" + NL + ".k = %n + 1", []), ("%n = .a + 1", [(103, 1, 1)]),
+]
+# A script, and what `--check --envelope` prints.
+METADATA_ROWS = [
+    ("%n = 1", ["result integer", ". {..json}", '% {"n": integer, ..json}']), ("", ["result null", ". {..json}", "% {..json}"]),
+    ("%a = 1" + NL + "del(%)" + NL + ".r = %a", ["result null", '. {"r": null, ..json}', "% {}"]), ("del(%)", ["result {..json}", ". {..json}", "% {}"]),
+    ("del(%a)", ["result json", ". {..json}", '% {"a"?: never, ..json}']), ("{ %a = 1 }", ["result integer", ". {..json}", '% {"a": integer, ..json}']),
+    ("%[0] = 1", ["result integer", ". {..json}", "% [integer]"]), ("x = exists(%)", ["result boolean", ". {..json}", "% {..json}", "x boolean"]), (". = [%]", ["result [{..json}]", ". [{..json}]", "% {..json}"]),
+    ("for_each(%) -> |k, v| { %a = v }", ["result null", ". {..json}", "% {..json}"]), ("abort", ["result never", ". never"]),
+    ("for_each([1]) -> |i, v| { %t = t'2024-01-02T03:04:05Z' }", ["result null", ". {..json}", "% {..any}"]),
+    ("if .a == 1 { % = {} } else { %b = 1 }", ["result integer|{}", ". {..json}", '% {"b"?: integer, ..json}']),
+    ("if .a == 1 { return % }" + NL + "% = {}", ["result {..json}", ". {..json}", "% {..json}"]),
 ]
 
 
@@ -106,11 +123,14 @@ def self_check():
         told = [DIAGNOSTIC.match(line).groups() for line in found.diagnostics]
         assert [tuple(int(n) for n in one) for one in told] == row[1], (row, found.diagnostics)
         if len(row) > 2:
-            assert ["result " + found.result] + found.end == row[2], (row, found.result, found.end)
+            assert found.printed() == row[2], (row, found.printed())
+    for script, printed in METADATA_ROWS:
+        found = Verdict(script.encode())
+        assert found.printed(True) == printed, (script, found.diagnostics, found.printed(True))
     known = kind_file(b'{"object":{"m":"string"},"rest":"nothing"}')
     assert Verdict(b'.m = upcase(.m) ?? "none"', known).diagnostics == ["warning[E651] 1:6 unnecessary error coalescing"]
     assert len(FUNCTIONS) == 85
-    return len(ROWS) + 2
+    return len(ROWS) + len(METADATA_ROWS) + 2
 
 
 def case_line(script, file, found):
@@ -133,6 +153,7 @@ def main():
     words.add_argument("--hard", action="store_true")
     words.add_argument("--text")
     words.add_argument("--kind")
+    words.add_argument("--envelope", action="store_true")
     words.add_argument("--show", type=int, default=10)
     given = words.parse_args()
     if given.text:
@@ -145,7 +166,7 @@ def main():
                 return 6
         with open(given.text, "rb") as file:
             found = Verdict(file.read(), start)
-        print("\n".join(found.diagnostics + (["result " + found.result] + found.end if found.accepted else [])))
+        print("\n".join(found.diagnostics + found.printed(given.envelope)))
         return 0 if found.accepted else 1
     rows = self_check()
     rng = random.Random(given.seed)
@@ -169,9 +190,10 @@ def main():
             if out:
                 out.write(case_line(script, file, found))
             if given.program:
-                printed = ["result " + found.result] + found.end if found.accepted and given.words else []
+                envelope = rng.random() < 0.7
+                printed = found.printed(envelope) if given.words else []
                 wanted = programs.joined(printed), programs.joined(found.diagnostics), 0 if found.accepted else 1
-                told = program.run(script.encode(), words=["--check", *program.words_of(file)] if given.words else ())
+                told = program.run(script.encode(), words=["--check", *program.words_of(file, envelope=envelope)] if given.words else ())
                 if told != wanted:
                     differences += 1
                     if differences <= given.show:

@@ -1,16 +1,16 @@
 """Random trial of the meaning: what accepted scripts do to lines.
 
     python3 trials/meaning.py [--seed N] [--count N] [--seconds N] [--no-calls] [--program PATH [--words] [--refused]] [--show N]
-    python3 trials/meaning.py --text FILE [--kind FILE] [--drop-on-error] [--keep-on-abort] < LINES
+    python3 trials/meaning.py --text FILE [--kind FILE] [--drop-on-error] [--keep-on-abort] [--envelope] < LINES
     python3 trials/meaning.py --text FILE --generate COUNT:SEED
 
 The second form runs a script over the lines of standard input and prints what it writes, then its report; the third
 runs it over made lines and prints the summary. The first
 makes accepted scripts and lines at random. Each run is held against the judgement of its script: it must not end with
-an error that nothing handles, its value must inhabit the script's kind, and its event and variables those of the
-joined state. With --program the bytes and the status of `PATH SCRIPTFILE < LINES` are compared. Then the script is made to write its value, the event and the variables
+an error that nothing handles, its value must inhabit the script's kind, and its event, metadata and variables those of the
+joined state. With --program the bytes and the status of `PATH SCRIPTFILE < LINES` are compared, of half of the scripts with `--envelope`. Then the script is made to write its value, the event and the variables
 into the event, at its end and at each `return`, and what the program leaves so is held against the kinds that were judged
-for the script. With --words, too, the program takes `--kind FILE` and both flags. With --refused the scripts that are
+for the script. With --words, too, the program takes `--kind FILE` and the two other flags. With --refused the scripts that are
 refused go through the program as well. It ends after --count accepted scripts, or --seconds. Where there is a program, `now` isn't called: `generate.py` does that.
 """
 
@@ -96,6 +96,30 @@ ROWS = [
     ("for_each({}) -> |k, v| { .x = q }", "{}", ["{}"], []),
     ('.r = unflatten({"a.a.a": .d})', '{"d":' + "[" * 126 + "]" * 126 + "}", ['{"d":' + "[" * 126 + "]" * 126 + "}"], ["line 1: error: nested deeper than 128"]),
     (". = . | {\"b\": 2}", '{"a":1,"b":1}', ['{"a":1,"b":2}'], []), (".r = .a[-1]", '{"a":[1,2]}', ['{"a":[1,2],"r":2}'], []),
+    # The metadata, and envelopes.
+    (".m = %source", '{"event":{"a":1},"metadata":{"source":"s"}}', ['{"event":{"a":1,"m":"s"},"metadata":{"source":"s"}}'], [], {"envelope": True}),
+    ("%n = 1" + NL + ".k = %n + 1", "{}", ['{"k":2}'], []), ("%a = 1" + NL + "del(%)" + NL + ".r = %a", "{}", ['{"r":null}'], []),
+    (".x = 1", '{"event":{}}', [], ["line 1: refused: not an envelope"], {"envelope": True}),
+    (".m = %", '{"metadata":{"b":1,"a":2},"event":{}}', ['{"event":{"m":{"a":2,"b":1}},"metadata":{"a":2,"b":1}}'], [], {"envelope": True}),
+    (". = [1, {}]" + NL + "%k = .[0]", '{"event":{},"metadata":{}}', ['{"event":1,"metadata":{"k":1}}', '{"event":{},"metadata":{"k":1}}'], [], {"envelope": True}),
+    (". = []", '{"event":{},"metadata":{}}', [], [], {"envelope": True}),
+    ("%a = 1" + NL + ".b = 2" + NL + "int!(.n)", '{"event":{"n":"q"},"metadata":{"m":0}}', ['{"event":{"n":"q"},"metadata":{"m":0}}'],
+     ['line 1: error: "int: value is string"'], {"envelope": True}),
+    ("%a = 1" + NL + "abort", '{"event":{"n":"q"},"metadata":{"m":0}}', ['{"event":{"n":"q"},"metadata":{"m":0}}'], ["line 1: aborted"], {"envelope": True, "keep": True}),
+    ("%a = 1" + NL + "if .n == 0 { return 7 }" + NL + "del(%)", '{"event":{"n":0},"metadata":{}}' + NL + '{"event":{"n":1},"metadata":{"m":0}}',
+     ['{"event":{"n":0},"metadata":{"a":1}}', '{"event":{"n":1},"metadata":{}}'], [], {"envelope": True}),
+    ("% = .a", '{"event":{"a":3},"metadata":{}}', ['{"event":{"a":3},"metadata":3}'], [], {"envelope": True}),
+    ("%t = t'2024-01-02T03:04:05Z'" + NL + "%p = r'a+'", '{"event":{},"metadata":{}}', ['{"event":{},"metadata":{"p":"a+","t":"2024-01-02T03:04:05Z"}}'], [], {"envelope": True}),
+    (".x = 1", NL.join(['{"event":3,"metadata":{}}', '{"event":{},"metadata":[]}', '{"event":{},"metadata":{},"a":1}', "[]", "{}", '{"event":{"a":1.5},"metadata":{}}', " ",
+                        '{"event":[],"metadata":{}}', '{"event":{},"metadata":{},"metadata":{"a":1}}', '{"event":{},"metadata":1,"metadata":{}}', "3"]),
+     ['{"event":{"x":1},"metadata":{"a":1}}', '{"event":{"x":1},"metadata":{}}'],
+     ["line 1: refused: not of the declared kind"] + [f"line {number}: refused: not an envelope" for number in (2, 3, 4, 5)] +
+     ["line 6: refused: not whole numbers", "line 8: refused: not of the declared kind", "line 11: refused: not an envelope"], {"envelope": True}),
+    ("k = 1" + NL + "for_each(%) -> |k, v| { .k = k; % = {}; %x = v }" + NL + ".l = k", '{"event":{},"metadata":{"a":1,"b":2}}', ['{"event":{"k":"b","l":1},"metadata":{"x":2}}'], [], {"envelope": True}),
+    ("x = {\"a\": %}" + NL + "%b = {\"a\": %}", '{"event":{},"metadata":{"d":' + "[" * 125 + "]" * 125 + "}}", ['{"event":{},"metadata":{"b":{"a":{"d":' + "[" * 125 + "]" * 125 + '}},"d":' + "[" * 125 + "]" * 125 + "}}"], [],
+     {"envelope": True}),
+    ("x = null" + NL + "for_each(array!(.l)) -> |i, v| { % = {\"a\": %} }", '{"event":{"l":[' + "0," * 127 + '0]},"metadata":{}}', ['{"event":{"l":[' + "0," * 127 + '0]},"metadata":{}}'],
+     ["line 1: error: nested deeper than 128"], {"envelope": True}),
 ]
 
 
@@ -143,6 +167,7 @@ def main():
     words.add_argument("--generate")
     words.add_argument("--drop-on-error", action="store_true")
     words.add_argument("--keep-on-abort", action="store_true")
+    words.add_argument("--envelope", action="store_true")
     words.add_argument("--show", type=int, default=10)
     given = words.parse_args()
     given.refused = given.refused and given.program
@@ -160,7 +185,7 @@ def main():
             lines, status = summary(found, start, *[int(one) for one in given.generate.split(":")])
             print("\n".join(lines + found.diagnostics))
             return status
-        output, report, status = run_lines(found, start, sys.stdin.buffer.read(), given.drop_on_error, given.keep_on_abort)
+        output, report, status = run_lines(found, start, sys.stdin.buffer.read(), given.drop_on_error, given.keep_on_abort, given.envelope)
         print("\n".join(output + report))
         return status
     rows = self_check()
@@ -187,8 +212,9 @@ def main():
                             print("difference on", repr(script), "\n  wanted", found.diagnostics, "\n  got", told)
                 continue
             made += 1
-            data = some_lines(rng, start)
             options = {"drop": rng.random() < 0.3, "keep": rng.random() < 0.3} if given.words or not given.program else {}
+            options["envelope"] = rng.random() < 0.5
+            data = some_lines(rng, start, options["envelope"])
             check = watcher(found, start)
 
             def watch(run, word, held):
@@ -211,7 +237,7 @@ def main():
                     if differences <= given.show:
                         print("difference on", repr(script), "kind", json.dumps(file), options, "lines", data, "\n  wanted", wanted, "\n  got", told)
                 elif not given.words:
-                    held, wrong = try_what_is_left(program, found, start, data)
+                    held, wrong = try_what_is_left(program, found, start, data, options["envelope"])
                     left += held
                     differences += wrong is not None
                     if wrong and differences <= given.show:

@@ -35,10 +35,10 @@ class Program:
             file.write(data)
         return path
 
-    def words_of(self, file, drop=False, keep=False):
-        """The words for a kind file of this value, none for None, and for both flags."""
+    def words_of(self, file, drop=False, keep=False, envelope=False):
+        """The words for a kind file of this value, none for None, and for the three flags."""
         more = ["--kind", self.write("kind.json", json.dumps(file).encode())] if file is not None else []
-        return more + [word for word, on in (("--drop-on-error", drop), ("--keep-on-abort", keep)) if on]
+        return more + [word for word, on in (("--drop-on-error", drop), ("--keep-on-abort", keep), ("--envelope", envelope)) if on]
 
     def run(self, script, data=b"", words=(), limits=()):
         """The bytes of output and report, and the status, of `PATH SCRIPTFILE WORDS < DATA` within these limits; for a signal its negative number."""

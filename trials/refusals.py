@@ -184,9 +184,15 @@ ROWS = [
     ("a kind file that is refused", UPCASE, b"", b'{"object":{"m":"text"}}'),
     ("messages laid over their events", OVERLAID, MESSAGE),
     ("many messages", OVERLAID, MESSAGE * 8),
+    ("metadata without envelopes", b'%n = 1\n.m = %\n%k = {"e": .}\nx = %\ndel(%n)\nfor_each(%) -> |k, v| { %l = [k, v] }\n.x = x\ndel(%)', b'{"a":1}\n{"b":{"c":[2]}}\n'),
+    ("envelopes", b'.m = %\n%k = {"e": .}\nif exists(%stop) { return . }\n. = [., %s, {"l": %k}]\n%n = length(%)',
+     b'{"event":{"a":1},"metadata":{"s":"text"}}\n{"metadata":{"stop":[{}]},"event":{"b":{}}}\n{"event":{}}\n{"event":[],"metadata":{}}\n', None, ("--envelope",)),
+    ("envelopes that are written as they were read", b'%n = [.]\n.b = %\nif .a == 1 { abort "no" }\nint!(.a)', b'{"event":{"a":1},"metadata":{"s":"text"}}\n{"event":{"a":"q"},"metadata":{"k":{"l":[]}}}\n', None,
+     ("--envelope", "--keep-on-abort")),
     ("a made line", b".x = 1", b"", None, ("--generate", "1:1")),
     ("made lines", b".x = 1", b"", None, ("--generate", "32:1")),
     ("the kinds of a script", OVERLAID, b"", None, ("--check",)),
+    ("the kinds of a script, the metadata's too", b'%n = 1\nx = {"m": %}\n. = [%]\ndel(%n)', b"", None, ("--check", "--envelope")),
     ("words that are refused", b"", b"", None, ("--generate", "0:1")),
 ]
 
@@ -201,13 +207,14 @@ def rows():
     """The examples, and the rows beside them."""
     for name in sorted(it[:-4] for it in os.listdir(EXAMPLES) if it.endswith(".vrl")):
         parts = []
-        for ending in ("vrl", "jsonl", "kind"):
+        for ending in ("vrl", "jsonl", "kind", "words"):
             place = os.path.join(EXAMPLES, f"{name}.{ending}")
             parts.append(None)
             if os.path.exists(place):
                 with open(place, "rb") as file:
                     parts[-1] = file.read()
-        yield Row(f"the example {name}", *parts)
+        words = tuple((parts.pop() or b"").decode().split("\n")[:-1])
+        yield Row(f"the example {name}", *parts, words)
     for row in ROWS:
         yield Row(*row)
 

@@ -229,7 +229,7 @@ class Trial:
         words = ["--kind", self.program.write("kind.json", file)] if file is not None else []
         output, report, status = run_lines(found, start, data)
         wanted = programs.joined(output), programs.joined(report), status
-        printed = programs.joined(["result " + found.result] + found.end), programs.joined(found.diagnostics), 0
+        printed = programs.joined(found.printed()), programs.joined(found.diagnostics), 0
         return wanted, self.program.run(script.encode(), data, words), printed, self.program.run(script.encode(), words=["--check"] + words)
 
     def some_calls(self, name, deep=False):

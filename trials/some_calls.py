@@ -9,7 +9,7 @@ LITERALS = {
     "integer": ["1", "0", "-1", "2", "16", "7"], "boolean": ["true", "false"], "null": ["null"],
     "timestamp": ["t'2024-01-02T03:04:05Z'", "t'1969-12-31T23:59:59.5Z'"], "regex": ["r'a'", r"r'(?P<k>\w)=(?P<v>\w)'", r"r'\d+'", "r'(?<c>[a-z])(x)?'"],
     "array": ["[]", "[1, 2]", '["a", "b"]', '[["a", 1]]', "[null, [1]]", "[1, \"s\"]", "[r'a']", '["a", 0]'],
-    "object": ["{}", '{"a": 1}', '{"a": "s", "b": {"a": 2}}', '{"a.b": null}', "."],
+    "object": ["{}", '{"a": 1}', '{"a": "s", "b": {"a": 2}}', '{"a.b": null}', ".", "%"],
 }
 CLOSED = ["for_each", "for_each", "filter", "map_values", "map_keys"]
 VARIANTS = {"variant": ['"SHA-256"', '"SHA-1"'], "format": ['"%+"', '"%Y-%m-%d %H:%M:%S %z"', '"%Y-%m-%d"', '"%Y"', '"%j"', '"%"'], "unit": ['"seconds"', '"nanoseconds"', '"days"']}
@@ -61,11 +61,12 @@ def call(maker, depth):
 def loop(maker):
     """Lines with a closure that takes more than one try to be kept."""
     pick = maker.rng.choice
-    value = lambda: pick(["1", '"s"', "true", "null", "{}", "[1]", ".a", "v", "k", '{"a": x}', "[y]", "x"])
+    value = lambda: pick(["1", '"s"', "true", "null", "{}", "[1]", ".a", "v", "k", '{"a": x}', "[y]", "x", "%", "%a"])
     steps = [pick(["y = x", "x = y", ".a = y", ".a = x", f"x = {value()}", f"y = {value()}", f".a = {value()}", "x.a = y", "del(x.a)", "del(.a)",
-                   "y = x; x = " + value(), "x, y = to_int(.a)", "y = .a", "if v == 1 { x = y }", ".b = x + 1 ?? 0"]) for _ in range(pick([1, 2, 3]))]
+                   "y = x; x = " + value(), "x, y = to_int(.a)", "y = .a", "if v == 1 { x = y }", ".b = x + 1 ?? 0",
+                   "%a = y", f"%a = {value()}", "%b.a = x", "x = %a", "del(%a)", "del(%)", "% = {}", f"% = {{\"a\": {value()}}}", "%a, y = to_int(.b)"]) for _ in range(pick([1, 2, 3]))]
     first = f"x = {pick(['1', 'true', '{}', '[1]', 'null'])}\ny = {pick(['1', 'true', '{}', '[1]', 'null'])}\n"
-    over = pick([".", "array!(.a)", "{\"a\": 1}", "[1, 2]", "[]", "object!(.b)"])
+    over = pick([".", "array!(.a)", "{\"a\": 1}", "[1, 2]", "[]", "object!(.b)", "%", "object!(%a)"])
     name = pick(["for_each", "for_each", "filter"])
     last = "; true" if name == "filter" else ""
     return f"{first}{name}({over}) -> |k, v| {{ {'; '.join(steps)}{last} }}"
@@ -76,7 +77,8 @@ def closure_body(maker, name, names, depth):
     items = [maker.items(min(depth - 1, 1))] if rng.random() < 0.6 else []
     if rng.random() < 0.5:
         items.append(rng.choice(["x = x + 1 ?? 0", "x = push(array(x) ?? [], %s)", ".a = %s", "x.a = %s", "del(.b)", "x = {\"a\": x}", "y = x",
-                                 "x = %s", "y = x; x = %s", "x = y; y = %s", "x = if x == 1 { \"s\" } else { x }"]).replace("%s", rng.choice(names + ["1", '"s"', "x"])))
+                                 "x = %s", "y = x; x = %s", "x = y; y = %s", "x = if x == 1 { \"s\" } else { x }",
+                                 "%a = %s", "%a = x", "del(%b)", "del(%)", "% = {\"a\": %s}", "x = %a"]).replace("%s", rng.choice(names + ["1", '"s"', "x"])))
     last = {"filter": ["true", "%s == 1", "is_string(%s)", "%s"],
             "map_keys": ['"k"', "upcase(%s)", "%s", "to_string(%s) ?? \"q\""]}.get(name, ["%s", "1", "[%s]"])
     if name != "for_each" or rng.random() < 0.3:

@@ -118,6 +118,26 @@ class Maker:
         data = text.encode("utf-8", "surrogatepass")
         return self.spoil(data) if self.rng.random() < 0.25 else data
 
+    def enclosed(self, line):
+        """The line in an envelope, or in what is almost one, or as it is."""
+        pick = self.rng.random()
+        if pick < 0.1:
+            return line
+        names = [self.spell("event"), self.spell("metadata")]
+        if pick < 0.15:
+            names[self.rng.randrange(2)] = self.spell(self.rng.choice(["Event", "metadata ", "meta", "", "event", "metadata"]))
+        inner = self.object(2) if self.rng.random() < 0.9 else self.value(2)
+        members = [names[0].encode() + b":" + line, (names[1] + self.space() + ":" + self.space() + inner).encode("utf-8", "surrogatepass")]
+        if pick < 0.25:
+            more = self.spell(self.rng.choice(["event", "metadata", "x"])) + ":" + self.value(1)
+            members.insert(self.rng.randrange(3), more.encode("utf-8", "surrogatepass"))
+        elif pick < 0.3:
+            del members[self.rng.randrange(2)]
+        if self.rng.random() < 0.3:
+            members.reverse()
+        data = b"{" + b",".join(members) + b"}"
+        return self.spoil(data) if self.rng.random() < 0.05 else data
+
     def spoil(self, data):
         for _ in range(self.rng.randrange(1, 3)):
             at = self.rng.randrange(len(data) + 1)
@@ -136,6 +156,31 @@ class Maker:
             else:
                 data = data[:at] + bytes([self.rng.randrange(256)]) + data[at + 1:]
         return data.replace(b"\n", b" ")
+
+
+def hard_envelopes():
+    """Envelopes that chance wouldn't meet."""
+    pad = LONGEST - len('{"event":{"a":""},"metadata":{}}')
+    for size in (pad, pad + 1):
+        yield b'{"event":{"a":"' + b"q" * size + b'"},"metadata":{}}'
+        yield b'{"event":{},"metadata":{"a":"' + b"q" * size + b'"}}'
+    for depth in (124, 125, 126, 127, 128):
+        for inner in (b"[" * depth + b"]" * depth, b'{"k":' * depth + b"1" + b"}" * depth):
+            yield b'{"event":{"a":' + inner + b'},"metadata":{}}'
+            yield b'{"event":{},"metadata":{"a":' + inner + b"}}"
+            yield b'{"event":' + inner + b',"metadata":' + inner + b"}"
+    for event in (b"{}", b"[]", b"[{}]", b"1", b"null", b'"{}"', b"true", b'{"x":null}', b'{"event":{},"metadata":{}}'):
+        for metadata in (b"{}", b"[]", b"1", b"null", b'"{}"', b"false", b'{"a":1}', b'{"metadata":{}}', b"1.5", b'{"a":-0}', b"{"):
+            yield b'{"event":' + event + b',"metadata":' + metadata + b"}"
+            yield b'{"metadata":' + metadata + b',"event":' + event + b"}"
+            yield b'{"event":' + event + b',"metadata":' + metadata + b',"metadata":{}}'
+            yield b'{"event":{},"metadata":' + metadata + b',"event":' + event + b"}"
+    for name in (b"", b"a", b"Event", b"event ", b"events", b"even", b"zz", b"metadata\\u0000", b"\\u006detadata", b"metadat\\u0061"):
+        yield b'{"event":{},"metadata":{},"' + name + b'":{}}'
+        yield b'{"event":{},"' + name + b'":{}}'
+        yield b'{"metadata":{},"' + name + b'":{}}'
+        yield b'{"' + name + b'":{}}'
+    yield from (b"{}", b"[]", b"{", b"", b" ", b'{"event":{}}', b'{"metadata":{}}', b'[{"event":{},"metadata":{}}]', b'{"event":{},"metadata":{}} ', b'{"event":{},"metadata":{}}{}')
 
 
 def hard_lines():

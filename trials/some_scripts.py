@@ -1,4 +1,4 @@
-"""Scripts and kind files at random for the other trials: over the event and the variables x and y, and scripts about the limits of kinds.
+"""Scripts and kind files at random for the other trials: over the event, the metadata and the variables x and y, and scripts about the limits of kinds.
 This file runs nothing by itself."""
 
 from reading.moments import read_moment
@@ -6,10 +6,10 @@ from some_texts import some_moment
 
 
 class Maker:
-    """Scripts over the event and the variables x and y."""
+    """Scripts over the event, the metadata and the variables x and y."""
 
-    PLACES = [".", ".a", ".b", ".a.b", ".a[0]", ".b[1]", "x", "y", "x.a", "x[0]", "y.a", ".a[-1]", "x.a.b"]
-    TARGETS = [".", ".a", ".b", ".a.b", ".a[0]", ".b[1]", "x", "x", "y", "x.a", "x[0]", "y.a", "x.a[1]", "_", "_.a"]
+    PLACES = [".", ".a", ".b", ".a.b", ".a[0]", ".b[1]", "x", "y", "x.a", "x[0]", "y.a", ".a[-1]", "x.a.b", "%", "%a", "%b.a", "%a[0]"]
+    TARGETS = [".", ".a", ".b", ".a.b", ".a[0]", ".b[1]", "x", "x", "y", "x.a", "x[0]", "y.a", "x.a[1]", "_", "_.a", "%", "%a", "%b", "%b.a", "%[0]"]
     LITERALS = ["1", '"s"', "true", "null", "t'2024-01-02T03:04:05Z'", "r'a'", "-2", '""', "false"]
     SIGNS = ["+", "+", "+", "-", "*", "==", "!=", "<", ">=", "|", "|", "&&", "&&", "||", "||", "??", "??", "??"]
 
@@ -59,7 +59,7 @@ class Maker:
 
     def condition(self, depth):
         test = lambda: self.pick((self.rng.choice(["true", ".a == 1", "x == .b", '.a != "s"', "!(.a == .b)", ".b == x.a", ".a < 1", "(x > 1 ?? true)",
-                                                   "1 == .a == true"]), 3),
+                                                   "1 == .a == true", "%a == 1", "% == ."]), 3),
                                  (self.expression(depth - 1), 1), ("(" + self.item(depth - 1) + ")", 0.5))
         text = f"if {test()} {{ {self.items(depth - 1)} }}"
         if self.rng.random() < 0.25:
@@ -99,13 +99,14 @@ class Maker:
     def script(self):
         lines = []
         if self.rng.random() < 0.7:
-            lines.append("x = " + self.rng.choice(["1", '"s"', "{}", '{"a": 1}', "[1]", "null", ".a", "true", "."]))
+            lines.append("x = " + self.rng.choice(["1", '"s"', "{}", '{"a": 1}', "[1]", "null", ".a", "true", ".", "%"]))
         if self.rng.random() < 0.5:
-            lines.append("y = " + self.rng.choice(["1", '"s"', "{}", '{"a": "s"}', "[]", "null", ".b", "x"]))
+            lines.append("y = " + self.rng.choice(["1", '"s"', "{}", '{"a": "s"}', "[]", "null", ".b", "x", "%a"]))
         if self.calls and self.rng.random() < 0.1:
             lines.append(self.calls.loop(self))
         if self.rng.random() < 0.08:
-            lines.append(self.rng.choice(["x = {\"a\": [.]}", ".c.a.b = .", "x = [[.a]]", ".b[1].a = .a", ". = {\"a\": {\"a\": .}}", "y = [[[.c]]]"]))
+            lines.append(self.rng.choice(["x = {\"a\": [.]}", ".c.a.b = .", "x = [[.a]]", ".b[1].a = .a", ". = {\"a\": {\"a\": .}}", "y = [[[.c]]]",
+                                          "% = {\"a\": {\"b\": %}}", "%c.a.b = .", "%c[1] = %c"]))
         lines += [self.item(self.rng.choice([1, 2, 3])) for _ in range(self.rng.randrange(1, 5))]
         return "\n".join(lines)
 

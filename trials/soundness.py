@@ -41,7 +41,7 @@ def watcher(found, start):
 
 def probed(found):
     """The script, made to write what it leaves into the event: at its end under `value`, at a `return` under `returned`, each
-    with the event and the variables that are known there. None where no way ends so."""
+    with the event and the variables that are known there, the metadata among them. None where no way ends so."""
     one, pieces = found.judged, []
     for node in walk(found.script.items):
         if node.form == "return" and one.ret is not None:
@@ -86,7 +86,7 @@ def inhabits_as_json(held, kind, sources):
     return kinds.inhabits(value, kind)
 
 
-def left_by_program(found, ends, output):
+def left_by_program(found, ends, output, envelope):
     """What isn't of the kinds judged in lines that the probe of a script wrote, as a text, or None. `ends` has the word of each run."""
     one, sources = found.judged, [token.value for token in found.script.patterns]
     lines = output.decode().split("\n")
@@ -96,7 +96,7 @@ def left_by_program(found, ends, output):
         line = lines.pop(0)
         if word != "value":
             continue
-        left = json.loads(line)
+        left = json.loads(line)["event"] if envelope else json.loads(line)
         if "returned" in left:
             state, every = one.ret, [(left["returned"], one.returned, [])]
         else:
@@ -109,16 +109,16 @@ def left_by_program(found, ends, output):
     return None
 
 
-def try_what_is_left(program, found, start, data):
+def try_what_is_left(program, found, start, data, envelope):
     """Runs the probe of an accepted script: the number of lines that were held against the kinds judged, and what differs, if anything does."""
     script = probed(found)
     probe = Verdict(script.encode(), start) if script else None
     if not probe or not probe.accepted:
         return 0, None
     ends = []
-    output, report, status = run_lines(probe, start, data, watch=lambda run, word, held: ends.append(word))
-    told = program.run(script.encode(), data)
+    output, report, status = run_lines(probe, start, data, envelope=envelope, watch=lambda run, word, held: ends.append(word))
+    told = program.run(script.encode(), data, program.words_of(None, envelope=envelope))
     if told != (programs.joined(output), programs.joined(report), status):
         return 0, f"{script!r} over {data}\n  wanted {output} {report} {status}\n  got {told}"
-    wrong = left_by_program(found, ends, told[0])
+    wrong = left_by_program(found, ends, told[0], envelope)
     return ends.count("value"), wrong and f"{script!r} over {data} left {wrong}, which isn't as judged"

@@ -4,18 +4,18 @@
 
 Tried is every list of up to N words (--most, 6 unless said) over each of the small alphabets below, and --count lists at random, of which half are words of a
 large alphabet, and half command lines with a fault or none. Each is read by the rule below alone. With --driver the lists go through a program that calls the
-reader of words: it reads a list a line, a comma before each word, and answers each by a line, `refused`, or script, kind file, workers, the two flags and the
+reader of words: it reads a list a line, a comma before each word, and answers each by a line, `refused`, or script, kind file, workers, the three flags and the
 mode, with commas between; the kind file is `none`, or stands behind `=`, and the mode is `lines`, `check` or `generate COUNT SEED`. With --program the lists
 at random are given to the built program in an empty folder: it must end with 2 and the usage line where the words are refused, and with 3 where they are read,
 since there is no script. With --out the lists are written into FILE and the answers wanted into FILE.stdout. Without any of these only the rows run.
 
 The rule:
-- The words behind the program's name are `SCRIPT [--kind FILE] [--jobs N] [--drop-on-error] [--keep-on-abort] [--check] [--generate COUNT:SEED]`, with the
-  options in any order before or after SCRIPT, and a value in the next word or behind `=`.
+- The words behind the program's name are `SCRIPT [--kind FILE] [--jobs N] [--drop-on-error] [--keep-on-abort] [--envelope] [--check] [--generate COUNT:SEED]`,
+  with the options in any order before or after SCRIPT, and a value in the next word or behind `=`.
 - Before the first `--` a word that begins with `-` must be an option spelt so; behind it every word is a SCRIPT.
 - Refused are: an unknown option; an option twice; a missing value, or one in the next word that begins with `-`; a flag with a value; no SCRIPT, or two; an
   empty name; the word `-` before `--`; N other than one or two digits of 1 to 32; COUNT other than one to seven digits of 1 to 1,000,000; SEED other than one
-  to ten digits of up to 4,294,967,295; `--check` with `--generate`.
+  to ten digits of up to 4,294,967,295; `--check` or `--envelope` with `--generate`.
 - Without `--jobs` there is one worker.
 """
 
@@ -29,8 +29,8 @@ import sys
 import tempfile
 
 VALUED = ("--kind", "--jobs", "--generate")
-FLAGS = ("--drop-on-error", "--keep-on-abort", "--check")
-USAGE = b"usage: remap SCRIPT [--kind FILE] [--jobs N] [--drop-on-error] [--keep-on-abort] [--check] [--generate COUNT:SEED]\n"
+FLAGS = ("--drop-on-error", "--keep-on-abort", "--envelope", "--check")
+USAGE = b"usage: remap SCRIPT [--kind FILE] [--jobs N] [--drop-on-error] [--keep-on-abort] [--envelope] [--check] [--generate COUNT:SEED]\n"
 
 # Each has an option with a value, options with theirs behind `=`, flags, values, names, `--`, `-` and the empty word between them.
 ALPHABETS = (
@@ -38,6 +38,7 @@ ALPHABETS = (
     ("s", "--", "--jobs", "--jobs=8", "8", "032", "--check=1", "--drop-on-error"),
     ("s", "--", "--generate", "--generate=1:1", "1:2", "--check", "-", "--jobs="),
     ("s", "t", "", "--", "-k", "--keep-on-abort", "--kind", "--kind=k=l"),
+    ("s", "--", "--envelope", "--envelope=", "--generate=1:1", "--check", "--generate", "1:2"),
 )
 
 LARGE = (
@@ -46,6 +47,7 @@ LARGE = (
     "--jobs", "--jobs=", "--jobs=0", "--jobs=1", "--jobs=01", "--jobs=9", "--jobs=10", "--jobs=32", "--jobs=33", "--jobs=99", "--jobs=032", "--jobs=+1", "--jobs=-1",
     "--jobs=1 ", "--jobs=\u0661", "--jobs=1a", "--jobs=0x1", "--jobs=18446744073709551617", "--job=1", "0", "1", "08", "32", "33", "+1", "-1", "1 ", "00",
     "--drop-on-error", "--drop-on-error=", "--drop-on-error=true", "--drop-on-errors", "--drop", "--keep-on-abort", "--keep-on-abort=1", "--keep",
+    "--envelope", "--envelope=", "--envelope=1", "--envelopes", "--Envelope", "-envelope", "envelope",
     "--check", "--check=", "--check=false", "--checks", "--generate", "--generate=", "--generate=:", "--generate=1", "--generate=1:", "--generate=:1",
     "--generate=1:1", "--generate=0:1", "--generate=1:0", "--generate=01:01", "--generate=1000000:1", "--generate=1000001:1", "--generate=0000001:0000000001",
     "--generate=00000001:1", "--generate=1:00000000001", "--generate=1:4294967295", "--generate=1:4294967296", "--generate=1:9999999999", "--generate=1:1:1",
@@ -102,33 +104,38 @@ def meaning(words):
     if "--generate" in options:
         count, colon, seed = options["--generate"].partition(":")
         count, seed = number(count, 7, 1, 1000000), number(seed, 10, 0, 4294967295)
-        if not colon or count is None or seed is None or "--check" in options:
+        if not colon or count is None or seed is None or "--check" in options or "--envelope" in options:
             return "refused"
         mode = f"generate {count} {seed}"
     elif "--check" in options:
         mode = "check"
     kind = "=" + options["--kind"] if "--kind" in options else "none"
-    flags = [str(flag in options).lower() for flag in FLAGS[:2]]
+    flags = [str(flag in options).lower() for flag in FLAGS[:3]]
     return ",".join([names[0], kind, str(jobs), *flags, mode])
 
 
 ROWS = (
-    ("s", "s,none,1,false,false,lines"),
+    ("s", "s,none,1,false,false,false,lines"),
     ("--jobs=8 s --jobs 8", "refused"),
     ("s --kind", "refused"),
     ("s --check=1", "refused"),
     ("s --generate 0:1", "refused"),
     ("s t", "refused"),
     ("-", "refused"),
-    ("--drop-on-error -- -s", "-s,none,1,true,false,lines"),
+    ("--drop-on-error -- -s", "-s,none,1,true,false,false,lines"),
     ("s --jobs 0", "refused"),
-    ("s --jobs=08", "s,none,8,false,false,lines"),
+    ("s --jobs=08", "s,none,8,false,false,false,lines"),
     ("s --jobs 032", "refused"),
-    ("s --kind=-x", "s,=-x,1,false,false,lines"),
+    ("s --kind=-x", "s,=-x,1,false,false,false,lines"),
     ("s --kind=", "refused"),
     ("s --kind --", "refused"),
     ("s --check --generate 1:1", "refused"),
-    ("--generate=1:1 s --keep-on-abort", "s,none,1,false,true,generate 1 1"),
+    ("--generate=1:1 s --keep-on-abort", "s,none,1,false,true,false,generate 1 1"),
+    ("s --check --envelope --kind=k", "s,=k,1,false,false,true,check"),
+    ("--envelope s", "s,none,1,false,false,true,lines"),
+    ("s --envelope=1", "refused"),
+    ("s --envelope --envelope", "refused"),
+    ("s --envelope --generate 1:1", "refused"),
     ("", "refused"),
 )
 

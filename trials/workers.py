@@ -2,7 +2,7 @@
 
     python3 trials/workers.py --program PATH [--seed N] [--count N] [--inputs N] [--seconds N] [--show N]
 
-Makes accepted scripts, and lines at random: a few, or some hundreds, so that there are several batches. What the program
+Makes accepted scripts, and lines at random, of half of the inputs in envelopes: a few, or some hundreds, so that there are several batches. What the program
 writes, reports and ends with over a file of them, with one worker, must come again with 1, 2, 3, 4, 8 and 32 workers over a pipe into which the lines go in
 pieces of random lengths. Few lines are held against the outside reading of the meaning, too. In some cases the pipe of the output is closed after a few bytes, of
 so many lines that not all of them can be there already: the program must end with 4. In some the input ends in the middle of a line. It ends after --count scripts, each
@@ -73,14 +73,14 @@ def over_pipe(program, words, data, rng, closed_after=None):
     return told["output"], told["report"], started.wait(SECONDS)
 
 
-def many_lines(rng, start):
+def many_lines(rng, start, envelope):
     """Lines: a few, or some hundreds made of a few kinds of them."""
-    few = some_lines(rng, start)
+    few = some_lines(rng, start, envelope)
     if rng.random() < 0.5:
         return few, True
     lines = few.split(b"\n")
     for _ in range(3):
-        lines += some_lines(rng, start).split(b"\n")
+        lines += some_lines(rng, start, envelope).split(b"\n")
     return b"\n".join(rng.choice(lines) for _ in range(rng.choice([255, 256, 257, 300, 513, 800]))) + rng.choice([b"", b"\n"]), False
 
 
@@ -108,11 +108,11 @@ def main():
             made += 1
             wrong = []
             for _ in range(given.inputs):
-                data, is_few = many_lines(rng, start)
+                options = {"drop": rng.random() < 0.3, "keep": rng.random() < 0.3, "envelope": rng.random() < 0.5}
+                data, is_few = many_lines(rng, start, options["envelope"])
                 lines += len(data.split(b"\n"))
                 inputs += 1
                 several += not is_few
-                options = {"drop": rng.random() < 0.3, "keep": rng.random() < 0.3}
                 more = program.words_of(file, **options)
                 wanted = program.run(script.encode(), data, more)
                 differ = []

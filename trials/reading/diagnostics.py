@@ -13,7 +13,7 @@ TITLES = {
     1009: "script too long or not UTF-8", 1010: "closure missing, unexpected or of the wrong shape",
     1011: "abort message fallible or not a string", 1012: "written or deleted index too large or path too long",
     1013: "literal or path argument wanted", 1014: "malformed timestamp literal", 1015: "closure result of the wrong kind",
-    1016: "string template or too many regex literals",
+    1016: "string template or too many regex literals", 1017: "metadata assigned no object",
 }
 # The line of a diagnostic: its code, and the line and the column of its place.
 DIAGNOSTIC = re.compile(r"(?:error|warning)\[E([0-9]+)\] ([0-9]+):([0-9]+) ")

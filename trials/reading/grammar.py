@@ -3,7 +3,7 @@
 from reading.brackets import arrange
 from reading.diagnostics import place_of
 from reading.tokens import Fault, tokens_of
-from reading.tree import Node, Target, root_of, walk
+from reading.tree import Node, Target, walk
 
 LEVELS = [["??"], ["||"], ["&&"], ["==", "!="], ["<", "<=", ">", ">="], ["|"], ["+", "-"], ["*"]]
 LEVEL_OF = {sign: number for number, signs in enumerate(LEVELS) for sign in signs}
@@ -102,7 +102,7 @@ class Reader:
             return Node("literal", token.start, token.end, tag=tag, value={"true": True, "false": False, "null": None}[word])
         if word in ("path", "name"):
             token = self.take(word)
-            return Node("read", token.start, token.end, root=root_of(token), steps=token.steps)
+            return Node("read", token.start, token.end, root=token.value, steps=token.steps)
         if word == "function":
             return self.call()
         if word == "[":

@@ -1,4 +1,5 @@
-"""Lines of JSON by Python's own reader: what stands in one, how it is written, and what the script `.x = 1` makes of it.
+"""Lines of JSON by Python's own reader: what stands in one, how it is written, and what the script `.x = 1` makes of it, or of
+the event in its envelope.
 
 The rules:
 - A line of spaces, tabs and carriage returns alone is counted and skipped, whatever its length.
@@ -7,8 +8,10 @@ The rules:
   great for a 64-bit float, is refused as not JSON.
 - Of equal names the last wins. Where the value that is left holds a number with a point or an exponent, beyond 64
   signed bits, or `-0`, the line is refused as not whole.
-- A value that isn't an object is refused as not of the declared kind.
-- Else the object gets `"x":1` and is written compactly, keys in the order of their bytes.
+- With envelopes a value that isn't an object with the members `event` and `metadata`, and no other, of which the latter is an
+  object, is refused as not an envelope.
+- An event that isn't an object is refused as not of the declared kind.
+- Else the object gets `"x":1` and is written compactly, keys in the order of their bytes, with envelopes in one.
 """
 
 import json
@@ -22,6 +25,7 @@ TOO_GREAT = (2 - Fraction(1, 2 ** 53)) * 2 ** 1023
 TOO_LONG = "longer than 1048576 bytes"
 NOT_JSON = "not JSON"
 NOT_WHOLE = "not whole numbers"
+NOT_ENVELOPE = "not an envelope"
 NOT_KIND = "not of the declared kind"
 
 
@@ -130,8 +134,8 @@ def write(value):
     return "{" + ",".join(text_of(k) + ":" + write(value[k]) for k in sorted(value, key=lambda k: k.encode())) + "}"
 
 
-def answer(line, x=1):
-    """None for a blank line, else (True, output line) or (False, refusal)."""
+def parts(line, envelope=False):
+    """None for a blank line, else (True, its event and its metadata) or (False, refusal)."""
     if not line.strip(b" \t\r"):
         return None
     if len(line) > LONGEST:
@@ -142,8 +146,21 @@ def answer(line, x=1):
         return False, NOT_JSON
     except NotWhole:
         return False, NOT_WHOLE
-    if not isinstance(value, dict):
+    if not envelope:
+        return True, (value, {})
+    if not isinstance(value, dict) or value.keys() != {"event", "metadata"} or not isinstance(value["metadata"], dict):
+        return False, NOT_ENVELOPE
+    return True, (value["event"], value["metadata"])
+
+
+def answer(line, x=1, envelope=False):
+    """None for a blank line, else (True, output line) or (False, refusal)."""
+    found = parts(line, envelope)
+    if found is None or not found[0]:
+        return found
+    event, metadata = found[1]
+    if not isinstance(event, dict):
         return False, NOT_KIND
     if x is not None:
-        value["x"] = x
-    return True, write(value).encode("utf-8")
+        event["x"] = x
+    return True, write({"event": event, "metadata": metadata} if envelope else event).encode("utf-8")

@@ -2,7 +2,7 @@
 
 from reading import diagnostics, functions, grammar, kinds
 from reading.function_rows import Given, cut_to, object_of
-from reading.kinds import ABSENT, ANY, EVENT, NEVER, exactly, minus, plus, root_tags, scalars
+from reading.kinds import ABSENT, ANY, EVENT, METADATA, NEVER, exactly, minus, plus, root_tags, scalars
 from reading.states import assign, ended, join_kinds, join_states, state_within, told_state
 from reading.tree import walk, written_roots
 
@@ -11,6 +11,8 @@ PAIRS = {"+": {("integer", "integer"): "integer", ("string", "string"): "string"
          "-": {("integer", "integer"): "integer"}, "*": {("integer", "integer"): "integer"}}
 for sign in ("<", "<=", ">", ">="):
     PAIRS[sign] = {(tag, tag): "boolean" for tag in ("integer", "string", "timestamp")}
+# The tags that the event and the metadata may have, and the code of a write that surely gives them another.
+WHOLE = {".": (("object", "array"), 1006), "%": (("object",), 1017)}
 
 
 class Judged:
@@ -46,6 +48,14 @@ def joined(parts, kind, ok, points=(), codes=(), ret=(), returned=()):
     return Judged(
         kind, ok, join_states(*[p.fail for p in parts], *points), join_states(*[p.ret for p in parts], *ret),
         join_kinds(*[p.returned for p in parts], *returned), frozenset().union(codes, *[p.codes for p in parts]))
+
+
+def unfit(node, target, kind):
+    """The code of a write of this kind to the event or the metadata as a whole, if there is one."""
+    if target.steps or target.root not in WHOLE:
+        return set()
+    tags, code = WHOLE[target.root]
+    return set() if may_be(kind, *tags) else {(node.start, node.end, code)}
 
 
 class Judge:
@@ -184,8 +194,8 @@ class Judge:
             codes.add((node.start, node.end, 103))
         if target.root is None:
             codes.add((node.start, node.end, 640))
-        if target.root == "." and not target.steps and value.told() and not may_be(value.kind, "object", "array"):
-            codes.add((node.start, node.end, 1006))
+        if value.told():
+            codes |= unfit(node, target, value.kind)
         return joined([value], value.kind, assign(value.ok, target, value.kind), codes=codes)
 
     def judge_assign(self, state, node):
@@ -211,10 +221,8 @@ class Judge:
         if node.ok.root is None and node.err.root is None:
             codes.add((node.start, node.end, 640))
         both = join_kinds(value.kind, empty)
-        whole = lambda target: target.root == "." and not target.steps
         if value.ok is not None or value.fail is not None:
-            if whole(node.err) or (whole(node.ok) and not value.poisoned and not may_be(both, "object", "array")):
-                codes.add((node.start, node.end, 1006))
+            codes |= unfit(node, node.ok, both) | unfit(node, node.err, scalars("string", "null"))
         well = assign(assign(value.ok, node.ok, value.kind), node.err, scalars("null"))
         ill = assign(assign(value.fail, node.ok, empty), node.err, scalars("string"))
         one = joined([value], both, join_states(well, ill), codes=codes)
@@ -283,7 +291,7 @@ class Judge:
             value = node.arguments[0].value
             kind = scalars("boolean") if node.name == "exists" else arguments[0].kind
             if node.name == "del" and ok is not None and value.root in ok:
-                left = kinds.remove(ok[value.root], value.steps) if value.steps else EMPTY_VALUES["object" if value.root == "." else "null"]
+                left = kinds.remove(ok[value.root], value.steps) if value.steps else EMPTY_VALUES["object" if value.root in WHOLE else "null"]
                 ok = {**ok, value.root: kinds.cut(left)}
         elif not broken:
             kind = row.result(given, self.sources)
@@ -362,7 +370,7 @@ def closed_kind(name, collection, body):
 
 
 class Verdict:
-    """diagnostics, accepted, result and end as `--check` prints them, the states at the end, empty values."""
+    """diagnostics, accepted, the kind of the result and the state at the end as texts, the states there, empty values."""
 
     def __init__(self, data, start=EVENT):
         self.script = grammar.read(data)
@@ -371,7 +379,7 @@ class Verdict:
             self.codes, lines = [self.script], [diagnostics.line_of(*self.script)]
         else:
             judge = self.judge = Judge(self.script.patterns)
-            self.judged = judge.script({".": start}, self.script.items)
+            self.judged = judge.script({".": start, "%": METADATA}, self.script.items)
             self.codes = sorted(self.judged.codes)
             lines = []
             for at, _, code in self.codes:
@@ -391,3 +399,7 @@ class Verdict:
     @property
     def end(self):
         return (told_state(join_states(self.judged.ok, self.judged.ret)) or [". never"]) if self.accepted else None
+
+    def printed(self, envelope=False):
+        """The lines of `--check`, without those of the warnings: with envelopes the metadata is among them."""
+        return ["result " + self.result] + [line for line in self.end if envelope or not line.startswith("% ")] if self.accepted else []

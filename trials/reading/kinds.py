@@ -32,7 +32,8 @@ NEVER = scalars()
 ANY = Kind(frozenset(SCALARS), ((), "any"), ((), "any"))
 JSON = Kind(frozenset(SCALARS[:4]), ((), "json"), ((), "json"))
 GONE = scalars(ABSENT)
-EVENT = Kind(frozenset(), None, ((), "json"))
+# The kind of an event that no kind file declares, and of the metadata.
+EVENT = METADATA = Kind(frozenset(), None, ((), "json"))
 STRING, INTEGER, BOOLEAN, TIME = (scalars(tag) for tag in ("string", "integer", "boolean", "timestamp"))
 
 

@@ -31,10 +31,10 @@ def order(value):
 
 
 class Run:
-    def __init__(self, script, empties, event, moment=0):
+    def __init__(self, script, empties, event, metadata=EMPTY["object"], moment=0):
         self.script, self.empties, self.moment = script, empties, moment
         self.sources = [token.value for token in script.patterns]
-        self.store = {".": event}
+        self.store = {".": event, "%": metadata}
 
     def eval(self, node):
         return getattr(self, "eval_" + node.form)(node)
@@ -193,7 +193,7 @@ class Run:
         if place.steps:
             self.store[place.root] = cut_out(self.store.get(place.root, NULL), place.steps)
         else:
-            self.store[place.root] = EMPTY["object"] if place.root == "." else NULL
+            self.store[place.root] = EMPTY["object"] if place.root in (".", "%") else NULL
         return value
 
     def closed(self, node, collection):

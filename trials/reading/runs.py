@@ -5,32 +5,33 @@ import hashlib
 from reading import json_lines
 from reading.kinds import inhabits
 from reading.meaning import Run
-from reading.values import plain, value_of
+from reading.values import objects, plain, value_of
 
 
-def run_lines(found, start, data, drop=False, keep=False, moments=None, watch=None):
+def run_lines(found, start, data, drop=False, keep=False, envelope=False, moments=None, watch=None):
     """What an accepted script writes and reports over these bytes, and the status."""
     output, report, marked = [], list(found.diagnostics), False
     lines = data.split(b"\n")
     for number, line in enumerate(lines[:-1] if lines[-1] == b"" else lines, 1):
-        want = json_lines.answer(line, None)
-        if want is None:
+        parts = json_lines.parts(line, envelope)
+        if parts is None:
             continue
         moment = moments.pop(0) if moments else 0
-        event = value_of(json_lines.read(line)) if want[0] else None
-        if want[0] and not inhabits(event, start):
-            want = False, json_lines.NOT_KIND
-        if not want[0]:
-            report.append(f"line {number}: refused: {want[1]}")
+        refusal = None if parts[0] else parts[1]
+        if not refusal:
+            event, metadata = [value_of(one) for one in parts[1]]
+            refusal = None if inhabits(event, start) else json_lines.NOT_KIND
+        if refusal:
+            report.append(f"line {number}: refused: {refusal}")
             marked = True
             continue
-        run = Run(found.script, found.judge.empties, event, moment)
+        run = Run(found.script, found.judge.empties, event, metadata, moment)
         word, held = run.end()
         if watch:
             watch(run, word, held)
         kept = [event]
         if word == "value":
-            after = run.store["."]
+            after, metadata = run.store["."], run.store["%"]
             kept = list(after[1]) if after[0] == "array" else [after]
         elif word == "aborted":
             kept = kept if keep else []
@@ -38,6 +39,8 @@ def run_lines(found, start, data, drop=False, keep=False, moments=None, watch=No
         else:
             kept = [] if drop else kept
             report.append(f"line {number}: error: " + ("nested deeper than 128" if word == "deep" else json_lines.text_of(held)))
+        if envelope:
+            kept = [objects({"event": one, "metadata": metadata}) for one in kept]
         output += [json_lines.write(plain(one, run.sources)) for one in kept]
     return output, report, 7 if marked else 0
 

@@ -1,4 +1,4 @@
-"""States: None where one is dead, else a map from roots to kinds; the event's root is "."."""
+"""States: None where one is dead, else a map from roots to kinds; the event's root is ".", the metadata's "%"."""
 
 from reading.kinds import ANY, NEVER, cut, join, print_kind, within, write
 

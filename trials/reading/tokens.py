@@ -13,7 +13,8 @@ class Fault(Exception):
 
 
 class Token:
-    """sort: text raw regex time number name path suffix function, a keyword, a sign, or newline."""
+    """sort: text raw regex time number name path suffix function, a keyword, a sign, or newline. The value of a name, and of a
+    path, is the root's: `.` for the event, `%` for the metadata, else the name."""
 
     def __init__(self, sort, start, end, value=None, steps=(), bang=False):
         self.sort, self.start, self.end, self.value, self.steps, self.bang = sort, start, end, value, steps, bang
@@ -37,9 +38,10 @@ RE = {name: re.compile(spelling, re.S) for name, spelling in {
     "letter": r"[A-Za-z_]",
     "name": r"[A-Za-z_][A-Za-z0-9_]*",
     "segments": SEGMENT + "+",
-    "event": r"\.(?:(?:" + FIELD + "|" + INDEX + ")" + SEGMENT + "*)?",
+    # The event or the metadata: the first segment behind the sign drops its own dot.
+    "root": r"[.%](?:(?:" + FIELD + "|" + INDEX + ")" + SEGMENT + "*)?",
     "step": r"\.?(?:(?P<field>[A-Za-z0-9_@]+)|(?P<quoted>" + QUOTED + r")|\[(?P<index>-?[0-9]+)\])",
-    "sign": r"\?\?=|->|==|!=|<=|>=|\|=|\|\||&&|\?\?|[=<>+\-*|!()\[\]{},:;/%\n]",
+    "sign": r"\?\?=|->|==|!=|<=|>=|\|=|\|\||&&|\?\?|[=<>+\-*|!()\[\]{},:;/\n]",
 }.items()}
 ESCAPES = {"n": "\n", "r": "\r", "t": "\t", "\\": "\\", '"': '"', "'": "'", "0": "\0"}
 
@@ -64,10 +66,8 @@ def small(number):
 
 
 def steps_of(spelling, start):
-    """The steps of segments as they are spelt: texts and whole numbers."""
+    """The steps of segments as they are spelt, the first perhaps without its dot: texts and whole numbers."""
     steps, at, codes = [], 0, []
-    if spelling == ".":
-        return ()
     while at < len(spelling):
         found = RE["step"].match(spelling, at)
         at = found.end()
@@ -135,9 +135,9 @@ def next_token(text, at, before, regexes):
     ends_operand = before is not None and before.sort in ENDS_OPERAND
     if here in "0123456789" or (here == "-" and after and after in "0123456789" and not ends_operand):
         return number_token(text, at)
-    if here == ".":
-        found = RE["event"].match(text, at)
-        return Token("path", at, found.end(), None, steps_of(found[0], at))
+    if here in ".%":
+        found = RE["root"].match(text, at)
+        return Token("path", at, found.end(), here, steps_of(found[0][1:], at))
     found = RE["name"].match(text, at)
     if found:
         name, end = found[0], found.end()
@@ -154,7 +154,7 @@ def next_token(text, at, before, regexes):
     found = RE["sign"].match(text, at)
     if not found:
         raise Fault(203, at)
-    if found[0] in ("/", "%", "??="):
+    if found[0] in ("/", "??="):
         raise Fault(1003, at)
     return Token("newline" if here == "\n" else found[0], at, found.end())
 

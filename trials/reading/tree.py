@@ -14,17 +14,11 @@ class Node:
 
 
 class Target:
-    """root None is the empty target, "." the event, else a variable's name."""
+    """root None is the empty target, "." the event, "%" the metadata, else a variable's name."""
 
     def __init__(self, token):
         self.start, self.end, self.steps = token.start, token.end, token.steps
-        self.root = root_of(token)
-        if token.sort == "name" and token.value == "_":
-            self.root = None
-
-
-def root_of(token):
-    return "." if token.sort == "path" and token.value is None else token.value
+        self.root = None if token.sort == "name" and token.value == "_" else token.value
 
 
 def walk(node):
