@@ -1,10 +1,10 @@
-ghost use Rattle.std.specs.Prelude.{◌≡◌, IfOk, OnOk, if◌then◌else◌, Some, true};
+ghost use Rattle.std.specs.Prelude.{◌≡◌, false, IfOk, IsOk, OnOk, if◌then◌else◌, Some, true};
 ghost use Rattle.vrl_value.specs.View.{members_of, tree_of};
 ghost use Rattle.vrl_kind.specs.Kinds.{tags_at};
 ghost use Rattle.vrl_kind.specs.Sets.{SameSets};
 ghost use Rattle.vrl_builtin.specs.Rows.{kind_at, literal_at};
 ghost use Rattle.vrl_builtin.specs.View.{givens_of};
-ghost use Rattle.vrl_value.specs.Tree.{find, put_all};
+ghost use Rattle.vrl_value.specs.Tree.{find, is_object, put_all};
 ghost use Rattle.vrl_builtin.specs.Listed.{members_in};
 ghost use Rattle.fn_object.specs.Merge.{changed, is_shallow, laid_over, lay_all, merge_kind, merged, merge_row, overlaid_kind};
 ghost use Rattle.fn_object.specs.MergeLaw.{merge-law};
@@ -74,9 +74,10 @@ fn lay_over(alloc: Global, old: &mut Value, new: &Value) -> Result<(), Memory>
     Ok(())
 }
 
-// Copies of the fields of an object; another value has none.
+// Copies of the fields of an object; another value has none, which takes no memory.
 fn fields_of(alloc: Global, value: &Value) -> Result<Fields, Memory>
-    ensures { IfOk result (λ fields. members_of fields ≡ members_in (tree_of value.now)) }
+    ensures fields { IfOk result (λ fields. members_of fields ≡ members_in (tree_of value.now)) }
+    ensures other { is_object (tree_of value.now) ≡ false → IsOk result }
 {
     match value {
         Value::Object(fields) => fields.copy(alloc),

@@ -1,6 +1,9 @@
-ghost use Rattle.std.specs.Prelude.{◌≡◌, ◌<◌, ◌^◌, codes, false, length, map, option_map, IfOk, OnOk};
+ghost use Rattle.std.specs.Prelude.{◌≡◌, ◌<◌, ◌^◌, codes, false, length, map, option_map, IfOk, IsOk, OnOk};
+ghost use Rattle.vrl_value.specs.Tag.{tag_of};
 ghost use Rattle.vrl_value.specs.Tree.{object};
 ghost use Rattle.vrl_value.specs.View.{members_of, tree_of};
+ghost use Rattle.vrl_value.specs.declared.value.Tag.TheVariants as tag;
+ghost use Rattle.vrl_kind.specs.Tags.{same_tag};
 ghost use Rattle.vrl_builtin.specs.Rows.{named};
 ghost use Rattle.vrl_builtin.specs.View.{Applies};
 ghost use Rattle.fn_object.specs.Counting.{add_count, add_counts, one_more};
@@ -38,7 +41,9 @@ fn one_more(found: Option<&Value>) -> i64
 
 // Counts a string; another value is passed over, which takes no memory. `Memory`: out of memory.
 fn add_count(alloc: Global, fields: &mut Fields, item: &Value) -> Result<(), Memory>
-    ensures { OnOk result (members_of fields.new ≡ add_count (tree_of item.now) (members_of fields.old)) }
+    ensures counts { OnOk result
+        (members_of fields.new ≡ add_count (tree_of item.now) (members_of fields.old)) }
+    ensures other { same_tag tag.Text (tag_of (tree_of item.now)) ≡ false → IsOk result }
 {
     match item {
         Value::Text(name) => {

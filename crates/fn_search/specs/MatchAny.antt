@@ -1,5 +1,5 @@
 -- `match_any`: whether one of the regexes in an array matches somewhere in a text.
-use Rattle.std.specs.Prelude.{ℕ, Bool, false, ◌||◌, List, [], ◌∷◌, codes}
+use Rattle.std.specs.Prelude.{ℕ, Bool, false, ◌||◌, List, [], ◌∷◌, codes, is_none}
 use Rattle.vrl_value.specs.Tree.{boolean, Items, no_items, item}
 use Rattle.vrl_value.specs.declared.value.Tag.TheVariants as tag
 use Rattle.vrl_builtin.specs.OneTag.{OneTagRow}
@@ -12,6 +12,11 @@ use Rattle.fn_search.specs.Sources.{is_match}
 abbrev pub some_matches : List (List ℕ) → List ℕ → Items → Bool
 some_matches sources s no_items = false
 some_matches sources s (item v ts) = is_match sources s v || some_matches sources s ts
+
+-- whether the text is searched: there are parts, and each is a regex
+abbrev pub are_tried : Items → Bool
+are_tried no_items = false
+are_tried (item v ts) = is_none (first_other regexes (item v ts))
 
 -- each part must be a regex, whatever matches before it
 abbrev pub match_any_answer : List (List ℕ) → List ℕ → Items → Answer

@@ -1,11 +1,10 @@
-ghost use Rattle.std.specs.Prelude.{◌≡◌, codes, is_none, length, IfOk, IsTrue};
+ghost use Rattle.std.specs.Prelude.{◌≡◌, codes, length, IfOk, IsOk, IsTrue};
 ghost use Rattle.vrl_value.specs.Regexes.{items_regexes_below};
+ghost use Rattle.vrl_value.specs.Tree.{no_items};
 ghost use Rattle.vrl_value.specs.View.{items_view};
 ghost use Rattle.vrl_builtin.specs.Rows.{items_at, named};
-ghost use Rattle.vrl_builtin.specs.TagSets.{regexes};
 ghost use Rattle.vrl_builtin.specs.View.{Applies};
-ghost use Rattle.vrl_builtin.specs.Words.{first_other};
-ghost use Rattle.fn_search.specs.MatchAny.{match_any_answer, match_any_row, some_matches};
+ghost use Rattle.fn_search.specs.MatchAny.{are_tried, match_any_answer, match_any_row, some_matches};
 ghost use Rattle.fn_search.specs.MatchAnyLaw.{match_any-law};
 
 use crate::sources::is_match;
@@ -30,7 +29,7 @@ static PARAMETERS: [Parameter; 2] = [
 ];
 
 // Whether one of the values is a regex that matches somewhere in the text. `Memory`: want of
-// memory.
+// memory, which takes a value to be tried.
 fn some_matches(
     alloc: Global,
     searches: &Searches<'_>,
@@ -38,7 +37,8 @@ fn some_matches(
     items: &[Value],
 ) -> Result<bool, Memory>
     requires { IsTrue (items_regexes_below (length searches.now) (items_view items.now)) }
-    ensures { IfOk result (λ found. found ≡ some_matches searches.now text.now (items_view items.now)) }
+    ensures found { IfOk result (λ found. found ≡ some_matches searches.now text.now (items_view items.now)) }
+    ensures none { items_view items.now ≡ no_items → IsOk result }
 {
     let mut left = items;
     while let Some((first, others)) = left.split_first() {
@@ -53,7 +53,7 @@ fn some_matches(
 // What the function answers to this text and these parts.
 fn answer(alloc: Global, searches: &Searches<'_>, text: &str, items: &[Value]) -> Applied
     requires { IsTrue (items_regexes_below (length searches.now) (items_view items.now)) }
-    ensures { Applies (is_none (first_other regexes (items_view items.now)))
+    ensures { Applies (are_tried (items_view items.now))
         (named (codes "match_any") (match_any_answer searches.now text.now (items_view items.now))) result }
 {
     match first_other(items, &Tags::REGEX) {
@@ -65,7 +65,7 @@ fn answer(alloc: Global, searches: &Searches<'_>, text: &str, items: &[Value]) -
 impl OneTag for MatchAny {
     ghost one_tag_row = { λ _. match_any_row };
 
-    ghost uses_memory = { λ _ arguments. is_none (first_other regexes (items_at 1 arguments)) };
+    ghost uses_memory = { λ _ arguments. are_tried (items_at 1 arguments) };
 
     fn name(&self) -> &'static str {
         "match_any"
