@@ -1,6 +1,6 @@
 """Random trial of the meaning: what accepted scripts do to lines.
 
-    python3 trials/meaning.py [--seed N] [--count N] [--seconds N] [--no-calls] [--program PATH [--words] [--refused]] [--show N]
+    python3 trials/meaning.py [--seed N] [--count N] [--seconds N] [--no-calls] [--program PATH [--words] [--refused] [--jobs N]] [--show N]
     python3 trials/meaning.py --text FILE [--kind FILE] [--drop-on-error] [--keep-on-abort] [--envelope] < LINES
     python3 trials/meaning.py --text FILE --generate COUNT:SEED
 
@@ -11,7 +11,7 @@ an error that nothing handles, its value must inhabit the script's kind, and its
 joined state. With --program the bytes and the status of `PATH SCRIPTFILE < LINES` are compared, of half of the scripts with `--envelope`. Then the script is made to write its value, the event and the variables
 into the event, at its end and at each `return`, and what the program leaves so is held against the kinds that were judged
 for the script. With --words, too, the program takes `--kind FILE` and the two other flags. With --refused the scripts that are
-refused go through the program as well. It ends after --count accepted scripts, or --seconds. Where there is a program, `now` isn't called: `generate.py` does that.
+refused go through the program as well. With --jobs each run of the program has so many workers. It ends after --count accepted scripts, or --seconds. Where there is a program, `now` isn't called: `generate.py` does that.
 """
 
 import argparse
@@ -162,6 +162,7 @@ def main():
     words.add_argument("--words", action="store_true")
     words.add_argument("--no-calls", action="store_true")
     words.add_argument("--refused", action="store_true")
+    words.add_argument("--jobs", type=int)
     words.add_argument("--text")
     words.add_argument("--kind")
     words.add_argument("--generate")
@@ -192,7 +193,8 @@ def main():
     rng = random.Random(given.seed)
     maker = some_scripts.Maker(rng, None if given.no_calls else some_calls)
     met, differences, made, refused, lines, left = {}, 0, 0, 0, 0, 0
-    with programs.Program(given.program) if given.program else contextlib.nullcontext() as program:
+    always = [f"--jobs={given.jobs}"] if given.jobs else []
+    with programs.Program(given.program, always) if given.program else contextlib.nullcontext() as program:
         if program:
             maker.names = [name for name in sorted(FUNCTIONS) if name != "now"]
         end = time.monotonic() + given.seconds

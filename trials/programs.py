@@ -13,10 +13,11 @@ LIMITS = ((resource.RLIMIT_CPU, 120), (resource.RLIMIT_AS, 4 << 30))
 
 
 class Program:
-    """A program, as a context with a folder of its own, in memory where there is such a folder."""
+    """A program, as a context with a folder of its own, in memory where there is such a folder. `always` has words of every run."""
 
-    def __init__(self, path):
+    def __init__(self, path, always=()):
         self.path = os.path.abspath(path)
+        self.always = always
         # The processor seconds of the last run.
         self.seconds = 0.0
 
@@ -41,13 +42,13 @@ class Program:
         return more + [word for word, on in (("--drop-on-error", drop), ("--keep-on-abort", keep), ("--envelope", envelope)) if on]
 
     def run(self, script, data=b"", words=(), limits=()):
-        """The bytes of output and report, and the status, of `PATH SCRIPTFILE WORDS < DATA` within these limits; for a signal its negative number."""
+        """The bytes of output and report, and the status, of `PATH SCRIPTFILE ALWAYS WORDS < DATA` within these limits; for a signal its negative number."""
         self.write("script.vrl", script)
         self.write("in", data)
         made = os.O_WRONLY | os.O_CREAT | os.O_TRUNC
         actions = [(os.POSIX_SPAWN_OPEN, 0, self.files["in"], os.O_RDONLY, 0)]
         actions += [(os.POSIX_SPAWN_OPEN, number, self.files[name], made, 0o600) for number, name in ((1, "out"), (2, "report"))]
-        started = os.posix_spawn(self.path, [self.path, self.files["script.vrl"], *words], os.environ, file_actions=actions)
+        started = os.posix_spawn(self.path, [self.path, self.files["script.vrl"], *self.always, *words], os.environ, file_actions=actions)
         for which, most in limits:
             with contextlib.suppress(ProcessLookupError):
                 resource.prlimit(started, which, (most, most))
